@@ -1,0 +1,8 @@
+pub mod Bytes
+pub mod Framed
+pub mod Parts
+pub mod Written
+pub mod Unframed
+pub mod Tagged
+pub mod Opened
+pub mod SealingLaws

@@ -1,0 +1,33 @@
+-- The laws of sealing and opening.
+use Rattle.std.proofs.Common.{◌≡◌, ◌≢◌, ◌⊎◌, inl, inr, ℕ, List, [], ◌∷◌, ◌++◌, Bool, true, false, length, refl, ap, ◌∙◌, arith, length-append}
+use Rattle.rusty_paseto_parts.specs.Section.{spelling}
+use Rattle.rusty_paseto_core.specs.Binding.{Binding}
+use Rattle.rusty_paseto_core.specs.Suite.{Design, header}
+use Rattle.rusty_paseto_core.specs.Framing.{framing, footer_part}
+use Rattle.rusty_paseto_core.specs.Sealing.{sealing, sealed_payload}
+use Rattle.rusty_paseto_core.specs.Laws.{SealingsOpen, TextsHaveTwoForms}
+
+pub sealings_open : (design : Design) → SealingsOpen design
+sealings_open design binding nonce text written sealable =
+    record { utf8 = sealable.utf8; bytes = sealable.bytes; nonce = nonce; is_nonce = sealable.is_nonce; written = written; is_sealing = refl }
+
+-- a footer's section makes a token longer
+forms_apart : (front payload footer : List ℕ) → framing front payload true footer ≢ framing front payload false footer
+unfolding framing footer_part
+forms_apart front payload footer same =
+    let longer = length-append (front ++ spelling payload) (46 ∷ spelling footer) in
+    let plain = length-append (front ++ spelling payload) [] in
+    omega (arith, ap length same, longer, plain)
+
+form_of : (design : Design) (binding : Binding) (nonce text token : List ℕ) (own : List ℕ) (written : Bool) → own ≡ nonce
+    → token ≡ sealing design binding own written text
+    → (token ≡ sealing design binding nonce true text) ⊎ (token ≡ sealing design binding nonce false text)
+form_of design binding nonce text token own true same is = inl (is ∙ ap (λ (n : List ℕ). sealing design binding n true text) same)
+form_of design binding nonce text token own false same is = inr (is ∙ ap (λ (n : List ℕ). sealing design binding n false text) same)
+
+pub texts_have_two_forms : (design : Design) → TextsHaveTwoForms design
+texts_have_two_forms design binding nonce text sealable = record {
+  both = λ written. sealings_open design binding nonce text written sealable;
+  apart = forms_apart (header design) (sealed_payload design binding nonce text) binding.footer;
+  no_other = λ token opens same. form_of design binding nonce text token opens.nonce opens.written same opens.is_sealing;
+}

@@ -1,0 +1,6 @@
+use Rattle.rusty_paseto_core.specs.Suite.V4.{v4}
+use Rattle.rusty_paseto_core.proofs.SealingLaws.{sealings_open}
+use Rattle.rusty_paseto_core.proofs.laws.sealings_open.Goals as goal
+
+pub returns : goal.returns
+returns c = record { v4 = sealings_open v4 }

@@ -1,0 +1,25 @@
+-- What a token is sealed under besides its nonce.
+use Rattle.std.specs.Prelude.{ℕ, List, [], Option}
+use Rattle.std.specs.Option.{option_map_or}
+use Rattle.rusty_paseto_parts.specs.Footer.{footer_text}
+use Rattle.rusty_paseto_parts.specs.ImplicitAssertion.{assertion_text}
+use Rattle.rusty_paseto_parts.specs.declared.texts.footer.Footer.{Footer}
+use Rattle.rusty_paseto_parts.specs.declared.texts.implicit_assertion.ImplicitAssertion.{ImplicitAssertion}
+
+-- the key, the footer and the implicit assertion
+pub record Binding : Type 0 where
+  pub key : List ℕ
+  pub footer : List ℕ
+  pub assertion : List ℕ
+
+-- an absent footer is the empty one
+abbrev pub footer_of : Option Footer → List ℕ
+footer_of footer = option_map_or footer_text footer []
+
+-- an absent implicit assertion is the empty one
+abbrev pub assertion_of : Option ImplicitAssertion → List ℕ
+assertion_of assertion = option_map_or assertion_text assertion []
+
+abbrev pub binding_of : List ℕ → Option Footer → Option ImplicitAssertion → Binding
+binding_of key footer assertion =
+    record { key = key; footer = footer_of footer; assertion = assertion_of assertion }

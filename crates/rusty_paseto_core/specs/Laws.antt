@@ -1,0 +1,42 @@
+-- Laws of sealing and opening.
+use Rattle.std.specs.Prelude.{◌≡◌, ◌≢◌, ◌⊎◌, ℕ, Bool, true, false, List, [], Option, Some, None, IsUtf8}
+use Rattle.rusty_paseto_primitives.specs.Bytes.{IsBytes}
+use Rattle.rusty_paseto_parts.specs.Footer.{footer_text}
+use Rattle.rusty_paseto_parts.specs.ImplicitAssertion.{assertion_text}
+use Rattle.rusty_paseto_parts.specs.declared.texts.footer.Footer.{Footer}
+use Rattle.rusty_paseto_parts.specs.declared.texts.implicit_assertion.ImplicitAssertion.{ImplicitAssertion}
+use Rattle.rusty_paseto_core.specs.Binding.{Binding, binding_of}
+use Rattle.rusty_paseto_core.specs.Suite.{Design, IsNonce}
+use Rattle.rusty_paseto_core.specs.Sealing.{sealing}
+use Rattle.rusty_paseto_core.specs.Opening.{Opens}
+
+-- what is to be sealed: a text, and the token's nonce
+pub record IsSealable (nonce text : List ℕ) : Type 0 where
+  pub is_nonce : IsNonce nonce
+  pub utf8 : IsUtf8 text
+  pub bytes : IsBytes text
+
+-- a sealing opens to its text, with its footer's section or without
+abbrev pub SealingsOpen : Design → Type 0
+SealingsOpen design = (binding : Binding) (nonce text : List ℕ) (written : Bool) → IsSealable nonce text
+    → Opens design (sealing design binding nonce written text) binding text
+
+-- two tokens and no more open to a text under one key, nonce, footer and assertion
+pub record HasTwoForms (design : Design) (binding : Binding) (nonce text : List ℕ) : Type 0 where
+  pub both : (written : Bool) → Opens design (sealing design binding nonce written text) binding text
+  pub apart : sealing design binding nonce true text ≢ sealing design binding nonce false text
+  pub no_other : (token : List ℕ) (opens : Opens design token binding text) → opens.nonce ≡ nonce
+      → (token ≡ sealing design binding nonce true text) ⊎ (token ≡ sealing design binding nonce false text)
+
+abbrev pub TextsHaveTwoForms : Design → Type 0
+TextsHaveTwoForms design = (binding : Binding) (nonce text : List ℕ) → IsSealable nonce text → HasTwoForms design binding nonce text
+
+-- a token is bound to an empty footer as to an absent one
+abbrev pub EmptyFooterIsAbsent : Type 0
+EmptyFooterIsAbsent = (key : List ℕ) (footer : Footer) (assertion : Option ImplicitAssertion) → footer_text footer ≡ []
+    → binding_of key (Some footer) assertion ≡ binding_of key None assertion
+
+-- a token is bound to an empty implicit assertion as to an absent one
+abbrev pub EmptyAssertionIsAbsent : Type 0
+EmptyAssertionIsAbsent = (key : List ℕ) (footer : Option Footer) (assertion : ImplicitAssertion) → assertion_text assertion ≡ []
+    → binding_of key footer (Some assertion) ≡ binding_of key footer None

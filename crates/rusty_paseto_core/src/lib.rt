@@ -1,0 +1,17 @@
+//! PASETO tokens sealed and opened. All memory is asked of the allocator that a call is handed.
+#![tactic(auto)]
+
+mod context;
+mod framing;
+pub mod laws;
+mod opening;
+mod paseto_impl;
+mod sealing;
+mod suite;
+
+pub use paseto_impl::paseto::Paseto;
+pub use rusty_paseto_parts::{
+    Footer, Header, ImplicitAssertion, ImplicitAssertionCapable, Key, Local, PasetoError,
+    PasetoNonce, PasetoSymmetricKey, Payload, PreAuthenticationEncoding, PurposeTrait, V2orV4, V4,
+    VersionTrait, from_section, split_token, to_section,
+};

@@ -1,0 +1,93 @@
+//! Version 4: BLAKE2b splits the key and makes the tag, XChaCha20 masks the text (PASETO
+//! specification, "Version 4").
+
+ghost use Rattle.std.specs.Prelude.{◌≡◌, ◌++◌, ◌≤◌, true, take, drop};
+ghost use Rattle.rusty_paseto_primitives.specs.Blake2.Keyed.{blake2b};
+ghost use Rattle.rusty_paseto_core.specs.Suite.V4.{v4};
+ghost use Rattle.rusty_paseto_core.specs.Suite.V4Laws.{v4-IsLawful, v4-binds_assertion, v4-tag_length, v4-version};
+ghost use Rattle.std.proofs.Common.{rules};
+
+use crate::suite::LocalSuite;
+use rusty_paseto_parts::V4;
+use rusty_paseto_primitives::{Blake2b, xchacha20_apply};
+
+const ENCRYPTION: &[u8; 21] = b"paseto-encryption-key";
+
+const AUTHENTICATION: &[u8; 24] = b"paseto-auth-key-for-aead";
+
+impl LocalSuite for V4 {
+    ghost design = { v4 };
+
+    ghost TAG_LENGTH = { 32 };
+
+    const TAG_LENGTH: usize = 32;
+
+    ghost BINDS_ASSERTION = { true };
+
+    const BINDS_ASSERTION: bool = true;
+
+    fn token_nonce(given: &[u8], _text: &[u8]) -> [u8; 32] {
+        let mut nonce = [0u8; 32];
+        nonce.copy_from_slice(given);
+        nonce
+    }
+
+    fn mask(key: &[u8; 32], nonce: &[u8; 32], bytes: &mut [u8]) {
+        let keys: [u8; 56] = derive(key, ENCRYPTION, nonce);
+        let encryption_key = encryption_key(&keys);
+        let start = start(&keys);
+        xchacha20_apply(&encryption_key, &start, bytes);
+    }
+
+    fn write_tag(key: &[u8; 32], nonce: &[u8; 32], pieces: &[&[u8]], tag: &mut [u8]) {
+        let authentication_key: [u8; 32] = derive(key, AUTHENTICATION, nonce);
+        let mut hasher = Blake2b::new(&authentication_key, 32);
+        hasher.update(&(pieces.len() as u64).to_le_bytes());
+        'pieces: for piece in pieces {
+            hasher.update(&(piece.len() as u64).to_le_bytes());
+            hasher.update(*piece);
+        }
+        hasher.finalize_into(tag);
+    }
+
+    ghost lawful = { v4-IsLawful };
+
+    ghost has_version = { v4-version };
+
+    ghost has_tag_length = { v4-tag_length };
+
+    ghost short_tag = { Prim.search rules };
+
+    ghost has_assertion = { v4-binds_assertion };
+}
+
+// What a separator and the nonce give under the key.
+fn derive<const N: usize>(key: &[u8; 32], separator: &[u8], nonce: &[u8; 32]) -> [u8; N]
+    requires low { 1 ≤ N }
+    requires high { N ≤ 64 }
+    ensures { result ≡ blake2b key.now N (separator.now ++ nonce.now) }
+{
+    let mut hasher = Blake2b::new(key, N);
+    hasher.update(separator);
+    hasher.update(nonce);
+    let mut derived = [0u8; N];
+    hasher.finalize_into(&mut derived);
+    derived
+}
+
+fn encryption_key(keys: &[u8; 56]) -> [u8; 32]
+    ensures { result ≡ take 32 keys.now }
+{
+    let mut key = [0u8; 32];
+    key.copy_from_slice(&keys[..32]);
+    key
+}
+
+// The nonce of the stream.
+fn start(keys: &[u8; 56]) -> [u8; 24]
+    ensures { result ≡ drop 32 keys.now }
+{
+    let mut start = [0u8; 24];
+    start.copy_from_slice(&keys[32..]);
+    start
+}

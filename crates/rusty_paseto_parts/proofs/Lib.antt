@@ -1,0 +1,4 @@
+pub mod HeaderLemmas
+pub mod PaeLemmas
+pub mod SectionLemmas
+pub mod TokenLemmas

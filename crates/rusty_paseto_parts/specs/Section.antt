@@ -1,0 +1,35 @@
+-- The sections of a token's text, and their spelling (PASETO specification, "PASETO Message Format").
+use Rattle.std.specs.Prelude.{◌≡◌, ◌≢◌, ℕ, ◌<◌, ◌==◌, List, length, ⊤, All}
+use Rattle.std.specs.List.{slice_split, join_with_byte}
+use Rattle.base64.specs.Engines.{url_safe_no_pad}
+use Rattle.base64.specs.GeneralPurpose.{IsBytes, encode_of}
+use Rattle.rusty_paseto_parts.specs.declared.error.PasetoError.{PasetoError}
+use Rattle.rusty_paseto_parts.specs.declared.error.PasetoError.TheVariants.{Memory, PayloadBase64Decode}
+
+-- the parts between the dots
+unfoldable pub sections : List ℕ → List (List ℕ)
+sections text = slice_split (λ c. c == 46) text
+
+-- no byte of the part is a dot
+abbrev pub HasNoDot : List ℕ → Type 0
+HasNoDot part = All (λ c. c ≢ 46) part
+
+-- the parts of the text between its dots: some parts with no dot in them, that dots join to the text
+pub record AreSections (text : List ℕ) (parts : List (List ℕ)) : Type 0 where
+  pub some : 0 < length parts
+  pub dotless : All HasNoDot parts
+  pub joined : join_with_byte 46 parts ≡ text
+
+-- base64url without padding (RFC 4648, section 5)
+unfoldable pub spelling : List ℕ → List ℕ
+spelling bytes = encode_of url_safe_no_pad bytes
+
+-- no list of bytes has the text as its spelling
+abbrev pub IsNoSpelling : List ℕ → Type 0
+IsNoSpelling text = (bytes : List ℕ) → IsBytes bytes → text ≢ spelling bytes
+
+-- the errors of reading a section's text, and when they come
+abbrev pub IsSectionFault : List ℕ → PasetoError → Type 0
+IsSectionFault text (Memory _) = ⊤
+IsSectionFault text (PayloadBase64Decode _) = IsNoSpelling text
+IsSectionFault text _ = ⊥

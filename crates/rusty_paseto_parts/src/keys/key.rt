@@ -1,0 +1,98 @@
+//! Bytes of a fixed number that are to be kept secret.
+
+ghost use Rattle.std.specs.Prelude.{◌≡◌, ℕ, List, Some, codes, length, replicate};
+ghost use Rattle.rusty_paseto_parts.specs.Key.{ReadsKey};
+
+use crate::error::PasetoError;
+use hex::FromHex;
+use std::fmt;
+use std::marker::Model;
+
+/// A key of `N` bytes.
+///
+/// It is not printed: its debug text is the same for all keys.
+#[derive(Drop)]
+pub struct Key<const N: usize> {
+    bytes: [u8; N],
+}
+
+impl<const N: usize> Model for Key<N> {
+    ghost Value = { List ℕ };
+
+    ghost view = { λ key. key.bytes };
+
+    ghost invariant = { λ key. length key.bytes ≡ N };
+}
+
+impl<const N: usize> Key<N> {
+    /// The key of these `N` bytes.
+    pub fn from_slice(bytes: &[u8]) -> Self
+        requires { length bytes.now ≡ N }
+        ensures { result ≡ bytes.now }
+    {
+        let mut key = [0u8; N];
+        key.copy_from_slice(bytes);
+        Key { bytes: key }
+    }
+
+    /// The bytes of the key.
+    pub fn as_bytes(&self) -> &[u8; N]
+        ensures bytes { result.now ≡ self.now }
+        ensures len { length self.now ≡ N }
+    {
+        &self.bytes
+    }
+
+    /// A key of the same bytes. No memory is taken.
+    pub fn clone(&self) -> Self
+        ensures { result ≡ self.now }
+    {
+        Key { bytes: self.bytes }
+    }
+}
+
+impl<const N: usize> Default for Key<N> {
+    ghost is_default = { λ key. key ≡ replicate N 0 };
+
+    fn default() -> Self {
+        Key { bytes: [0u8; N] }
+    }
+}
+
+impl<const N: usize> From<[u8; N]> for Key<N> {
+    ghost from_gives = { λ bytes key. key ≡ bytes };
+
+    fn from(bytes: [u8; N]) -> Self {
+        Key { bytes }
+    }
+}
+
+impl<const N: usize> From<&[u8; N]> for Key<N> {
+    ghost from_gives = { λ bytes key. key ≡ bytes.now };
+
+    fn from(bytes: &[u8; N]) -> Self {
+        Key { bytes: *bytes }
+    }
+}
+
+/// Reads exactly `2 * N` hexadecimal digits, of either case. Another text is `InvalidKey`.
+impl<const N: usize> TryFrom<&str> for Key<N> {
+    type Error = PasetoError;
+
+    ghost try_from_gives = { λ text answer. ReadsKey N text.now answer };
+
+    fn try_from(text: &str) -> Result<Self, PasetoError> {
+        match <[u8; N] as FromHex>::from_hex(text) {
+            Ok(bytes) => Ok(Key { bytes }),
+            Err(_) => Err(PasetoError::InvalidKey),
+        }
+    }
+}
+
+impl<const N: usize> fmt::Debug for Key<N> {
+    ghost debug_output = { λ _. Some (codes "!!! KEY IS PRIVATE !!!") };
+
+    fn fmt<W: fmt::Write>(&self, f: &mut fmt::Formatter<W>) -> fmt::Result {
+        f.write_str("!!! KEY IS PRIVATE !!!")
+    }
+}

@@ -1,0 +1,47 @@
+//! Nonces.
+
+ghost use Rattle.std.specs.Prelude.{◌≡◌, ℕ, List, length, IsTrue};
+
+use crate::keys::key::Key;
+use crate::purpose::local::Local;
+use crate::version::VersionTrait;
+use crate::version::v4::V4;
+use std::marker::{Model, PhantomData};
+
+/// A nonce for sealing tokens, of a length that the version has. Use each nonce once under a key.
+#[derive(Drop)]
+pub struct PasetoNonce<'a, V: VersionTrait, P> {
+    bytes: &'a [u8],
+    version: PhantomData<V>,
+    purpose: PhantomData<P>,
+}
+
+impl<'a, V: VersionTrait, P> Model for PasetoNonce<'a, V, P> {
+    ghost Value = { List ℕ };
+
+    ghost view = { λ nonce. nonce.bytes.now };
+
+    ghost invariant = { λ nonce. IsTrue (V.nonce_length (length nonce.bytes.now)) };
+}
+
+impl<'a, V: VersionTrait, P> PasetoNonce<'a, V, P> {
+    /// The bytes of the nonce.
+    pub fn as_bytes(&self) -> &[u8]
+        ensures bytes { result.now ≡ self.now }
+        ensures len { IsTrue (V.nonce_length (length self.now)) }
+    {
+        self.bytes
+    }
+}
+
+impl<'a> From<&'a Key<32>> for PasetoNonce<'a, V4, Local> {
+    ghost from_gives = { λ key nonce. nonce ≡ key.now };
+
+    fn from(key: &'a Key<32>) -> Self {
+        PasetoNonce {
+            bytes: key.as_bytes(),
+            version: PhantomData,
+            purpose: PhantomData,
+        }
+    }
+}

@@ -1,0 +1,29 @@
+//! The parts of PASETO tokens: versions and purposes, the texts that a token carries, keys and
+//! nonces, pre-authentication encoding, and the sections of a token's text.
+#![tactic(auto)]
+
+pub mod error;
+pub mod keys;
+pub mod laws;
+pub mod pre_authentication_encoding;
+pub mod purpose;
+pub mod section;
+#[cfg(test)]
+mod tests;
+pub mod texts;
+pub mod version;
+
+pub use error::PasetoError;
+pub use keys::key::Key;
+pub use keys::nonce::PasetoNonce;
+pub use keys::symmetric_key::PasetoSymmetricKey;
+pub use pre_authentication_encoding::PreAuthenticationEncoding;
+pub use purpose::PurposeTrait;
+pub use purpose::local::Local;
+pub use section::{encode_section, from_section, split_token, to_section};
+pub use texts::footer::Footer;
+pub use texts::header::Header;
+pub use texts::implicit_assertion::ImplicitAssertion;
+pub use texts::payload::Payload;
+pub use version::v4::V4;
+pub use version::{ImplicitAssertionCapable, V2orV4, VersionTrait};

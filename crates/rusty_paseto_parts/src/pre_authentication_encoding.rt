@@ -1,0 +1,63 @@
+//! Pre-authentication encoding.
+
+ghost use Rattle.std.specs.Prelude.{◌≡◌, ◌+◌, ◌*◌, ℕ, List, map, length, IfOk, IfErr, IfSome};
+ghost use Rattle.rusty_paseto_parts.specs.Error.{IsMemory};
+ghost use Rattle.rusty_paseto_parts.specs.PreAuthenticationEncoding.{pae};
+
+use crate::error::PasetoError;
+use std::alloc::{AllocError, Global};
+use std::marker::Model;
+
+/// The encoding of a list of pieces as one list of bytes, from which the pieces can be told.
+///
+/// It is the number of pieces and then, for each piece, its length and its bytes. Numbers are
+/// written in eight bytes, the least first.
+///
+/// Source: PASETO specification, "Authentication Padding".
+#[derive(Drop)]
+pub struct PreAuthenticationEncoding {
+    bytes: Vec<u8>,
+}
+
+impl Model for PreAuthenticationEncoding {
+    ghost Value = { List ℕ };
+
+    ghost view = { λ encoding. encoding.bytes.items };
+}
+
+impl PreAuthenticationEncoding {
+    /// The encoding of these pieces, in their order. It fails only by `Memory`.
+    pub fn parse(alloc: Global, pieces: &[&[u8]]) -> Result<Self, PasetoError>
+        ensures ok { IfOk result (λ encoding. encoding ≡ pae (map (λ piece. piece.now) pieces.now)) }
+        ensures err { IfErr result IsMemory }
+    {
+        let Some(len) = encoded_len(pieces) else {
+            return Err(PasetoError::Memory(AllocError));
+        };
+        let mut bytes = Vec::with_capacity(alloc, len)?;
+        bytes.extend_from_slice(&(pieces.len() as u64).to_le_bytes())?;
+        'pieces: for piece in pieces {
+            bytes.extend_from_slice(&(piece.len() as u64).to_le_bytes())?;
+            bytes.extend_from_slice(*piece)?;
+        }
+        Ok(PreAuthenticationEncoding { bytes })
+    }
+
+    /// The bytes of the encoding.
+    pub fn as_bytes(&self) -> &[u8]
+        ensures { result.now ≡ self.now }
+    {
+        self.bytes.as_slice()
+    }
+}
+
+// How many bytes the encoding has, unless no `usize` holds the number.
+fn encoded_len(pieces: &[&[u8]]) -> Option<usize>
+    ensures { IfSome result (λ len. len ≡ length (pae (map (λ piece. piece.now) pieces.now))) }
+{
+    let mut len = 8usize;
+    'pieces: for piece in pieces {
+        len = len.checked_add(8)?.checked_add(piece.len())?;
+    }
+    Some(len)
+}

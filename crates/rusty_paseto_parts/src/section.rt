@@ -1,0 +1,97 @@
+//! The sections of a token's text, and how bytes are spelled in them.
+
+ghost use Rattle.std.specs.Prelude.{◌≡◌, ◌↔◌, ◌++◌, ◌∷◌, [], ◌⊎◌, ℕ, List, length, map, IsSome, IsErr, IfOk, IfErr, IfSome, OnOk, OnErr, MatchResult};
+ghost use Rattle.std.specs.Option.{option_map_or, option_to_list};
+ghost use Rattle.std.specs.String.{string_bytes};
+ghost use Rattle.base64.specs.GeneralPurpose.{IsBytes};
+ghost use Rattle.rusty_paseto_parts.specs.Error.{IsMemory};
+ghost use Rattle.rusty_paseto_parts.specs.Section.{IsNoSpelling, IsSectionFault, sections, spelling};
+
+use crate::error::PasetoError;
+use base64::DecodeAllocError;
+use base64::engine::general_purpose::URL_SAFE_NO_PAD;
+use std::alloc::{AllocError, Global};
+
+/// The sections of a token, its parts between dots: version, purpose, payload and, where there is
+/// a fourth, the footer. `None` where the sections are not three or four.
+///
+/// Sections may be empty, and nothing else is asked of them. No memory is taken.
+///
+/// Source: PASETO specification, "PASETO Message Format".
+pub fn split_token(token: &str) -> Option<([&str; 3], Option<&str>)>
+    ensures found { IsSome result
+        ↔ ((length (sections token.now) ≡ 3) ⊎ (length (sections token.now) ≡ 4)) }
+    ensures parts { IfSome result (λ found. sections token.now
+        ≡ map (λ part. part.now) found.0 ++ map (λ part. part.now) (option_to_list found.1)) }
+    ensures three { IfSome result (λ found. length found.0 ≡ 3) }
+{
+    let (version, rest) = first_section(token);
+    let (purpose, rest) = first_section(rest?);
+    let (payload, rest) = first_section(rest?);
+    let parts = [version, purpose, payload];
+    let Some(rest) = rest else {
+        return Some((parts, None));
+    };
+    let (footer, rest) = first_section(rest);
+    match rest {
+        None => Some((parts, Some(footer))),
+        Some(_) => None,
+    }
+}
+
+// What stands before the first dot, and what stands after it where there is one.
+fn first_section(text: &str) -> (&str, Option<&str>)
+    ensures { sections text.now ≡ result.0.now ∷ option_map_or (λ rest. sections rest.now) result.1 [] }
+{
+    match text.split_once('.') {
+        Some((section, rest)) => (section, Some(rest)),
+        None => (text, None),
+    }
+}
+
+/// The spelling of bytes in a section: base64url without padding. It fails only by `Memory`.
+///
+/// Source: RFC 4648, section 5.
+pub fn to_section(alloc: Global, bytes: &[u8]) -> Result<String, PasetoError>
+    ensures ok { IfOk result (λ text. string_bytes text ≡ spelling bytes.now) }
+    ensures err { IfErr result IsMemory }
+{
+    Ok(URL_SAFE_NO_PAD.encode(alloc, bytes)?)
+}
+
+/// Appends the spelling of bytes in a section to a text. It fails only by `Memory`, and then the
+/// text is as it was.
+///
+/// Source: RFC 4648, section 5.
+pub fn encode_section(bytes: &[u8], out: &mut String) -> Result<(), PasetoError>
+    ensures ok { OnOk result (string_bytes out.new ≡ string_bytes out.old ++ spelling bytes.now) }
+    ensures same { OnErr result (string_bytes out.new ≡ string_bytes out.old) }
+    ensures err { IfErr result IsMemory }
+{
+    URL_SAFE_NO_PAD.encode_string(bytes, out)?;
+    Ok(())
+}
+
+/// The bytes of which a section's text is the spelling.
+///
+/// The reading is exact: padding, left-over bits other than zero and a length of 1 modulo 4 are
+/// refused. `PayloadBase64Decode` comes where the text is the spelling of no list of bytes, the
+/// empty one included, and `Memory` where memory is refused.
+///
+/// Source: RFC 4648, section 5.
+pub fn from_section(alloc: Global, text: &str) -> Result<Vec<u8>, PasetoError>
+    ensures ok { IfOk result (λ bytes. text.now ≡ spelling bytes.items) }
+    ensures bytes { IfOk result (λ bytes. IsBytes bytes.items) }
+    ensures read { (bytes : List ℕ) → IsBytes bytes → text.now ≡ spelling bytes
+        → MatchResult result (λ found. found.items ≡ bytes) IsMemory }
+    ensures none { IsNoSpelling text.now → IsErr result }
+    ensures err { IfErr result (IsSectionFault text.now) }
+{
+    match URL_SAFE_NO_PAD.decode(alloc, text.as_bytes()) {
+        Ok(bytes) => Ok(bytes),
+        Err(DecodeAllocError::DecodeError(source)) => {
+            Err(PasetoError::PayloadBase64Decode { source })
+        }
+        Err(DecodeAllocError::OutOfMemory) => Err(PasetoError::Memory(AllocError)),
+    }
+}

@@ -1,0 +1,26 @@
+//! The versions of PASETO, as types.
+
+ghost use Rattle.std.specs.Prelude.{◌≡◌, ℕ, List, Bool};
+
+use std::fmt::Display;
+
+pub mod v4;
+
+/// A version of PASETO.
+pub trait VersionTrait: Display + Default + Drop {
+    // The text of the version, as a token begins with it.
+    ghost text: { List ℕ };
+
+    // Whether a nonce of the version may have so many bytes.
+    ghost nonce_length: { ℕ → Bool };
+
+    /// The version as a token begins with it, for example `v4`.
+    fn as_str(&self) -> &str
+        ensures { result.now ≡ text };
+}
+
+/// A version whose tokens are bound to an implicit assertion: 3 and 4.
+pub trait ImplicitAssertionCapable: VersionTrait {}
+
+/// A version of the Sodium family: 2 and 4.
+pub trait V2orV4: VersionTrait {}

@@ -1,0 +1,34 @@
+//! Version 4.
+
+ghost use Rattle.std.specs.Prelude.{codes, Some, ◌==◌};
+
+use crate::version::{ImplicitAssertionCapable, V2orV4, VersionTrait};
+use std::fmt;
+
+/// Version 4, Sodium Modern: BLAKE2b and XChaCha20 for local tokens, whose nonces have 32 bytes.
+///
+/// Source: PASETO specification, "Version 4".
+#[derive(Clone, Copy, Debug, Default)]
+pub struct V4;
+
+impl VersionTrait for V4 {
+    ghost text = { codes "v4" };
+
+    ghost nonce_length = { λ n. n == 32 };
+
+    fn as_str(&self) -> &str {
+        "v4"
+    }
+}
+
+impl ImplicitAssertionCapable for V4 {}
+
+impl V2orV4 for V4 {}
+
+impl fmt::Display for V4 {
+    ghost output = { λ _. Some (codes "v4") };
+
+    fn fmt<W: fmt::Write>(&self, f: &mut fmt::Formatter<W>) -> fmt::Result {
+        f.write_str(self.as_str())
+    }
+}

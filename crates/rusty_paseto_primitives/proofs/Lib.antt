@@ -1,0 +1,9 @@
+pub mod BlockBytes
+pub mod ChaChaFacts
+pub mod Masking
+pub mod StreamBlocks
+pub mod Blake2Blocks
+pub mod Blake2Facts
+pub mod Blake2Hashers
+pub mod Blake2Lengths
+pub mod Blake2Rows

@@ -1,0 +1,135 @@
+-- Masking by a keystream: laws of it, and the steps of a loop over bytes and over blocks.
+use Rattle.std.proofs.Common.{◌≡◌, ℕ, ◌+◌, ◌*◌, ◌<◌, ◌≤◌, List, [], ◌∷◌, ◌++◌, zero, suc, length, take, drop, bit_xor, slice_index, refl, sym, ap, ap₂, ◌∙◌, arith, append_assoc, append-nil, add-zero, zero-add, mul_comm}
+use Rattle.std.proofs.Math.ListN.{set}
+use Rattle.std.proofs.lemmas.List.{drop_more, take_more, get_or_at, set_at, length-take, length-take-le, drop-drop, take_at, drop_at, take_all, drop_all}
+use Rattle.std.proofs.lemmas.Nat.{div-mul-add, mod-mul-add, xor_lt}
+use Rattle.std.proofs.Math.Seq.{take-add}
+use lib.Bits.{xor_assoc, xor_self, xor_zero_r}
+use Rattle.rusty_paseto_primitives.specs.Bytes.{IsBytes}
+use Rattle.rusty_paseto_primitives.specs.Keystream.{masked, masked_from, stream_of_blocks}
+
+length-masked_from : (s : ℕ → ℕ) (i : ℕ) (b : List ℕ) → length (masked_from s i b) ≡ length b
+unfolding masked_from
+length-masked_from s i [] = refl
+length-masked_from s i (x ∷ xs) = ap suc (length-masked_from s (i + 1) xs)
+
+pub length-masked : (s : ℕ → ℕ) (b : List ℕ) → length (masked s b) ≡ length b
+unfolding masked
+length-masked s b = length-masked_from s 0 b
+
+-- two streams that agree along the data mask it alike
+masked_from-agree : (s t : ℕ → ℕ) (i j : ℕ) (b : List ℕ) → ((k : ℕ) → k < length b → s (i + k) ≡ t (j + k))
+    → masked_from s i b ≡ masked_from t j b
+unfolding masked_from
+masked_from-agree s t i j [] same = refl
+masked_from-agree s t i j (x ∷ xs) same =
+    let here : s i ≡ t j = ap s (sym (add-zero i)) ∙ same 0 (omega arith) ∙ ap t (add-zero j) in
+    let rest : (k : ℕ) → k < length xs → s (i + 1 + k) ≡ t (j + 1 + k) =
+    λ k h. let e : i + 1 + k ≡ i + suc k = omega arith in
+    let f : j + 1 + k ≡ j + suc k = omega arith in
+    ap s e ∙ same (suc k) (omega arith) ∙ sym (ap t f) in
+    ap₂ ◌∷◌ (ap (bit_xor x) here) (masked_from-agree s t (i + 1) (j + 1) xs rest)
+
+masked_from-append : (s : ℕ → ℕ) (i : ℕ) (xs ys : List ℕ)
+    → masked_from s i (xs ++ ys) ≡ masked_from s i xs ++ masked_from s (i + length xs) ys
+unfolding masked_from
+masked_from-append s i [] ys = ap (λ (n : ℕ). masked_from s n ys) (omega arith)
+masked_from-append s i (x ∷ xs) ys =
+    let e : i + 1 + length xs ≡ i + suc (length xs) = omega arith in
+    ap (λ (t : List ℕ). bit_xor x (s i) ∷ t)
+    (masked_from-append s (i + 1) xs ys ∙ ap (λ (n : ℕ). masked_from s (i + 1) xs ++ masked_from s n ys) e)
+
+masked_from-twice : (s : ℕ → ℕ) (i : ℕ) (b : List ℕ) → masked_from s i (masked_from s i b) ≡ b
+unfolding masked_from
+masked_from-twice s i [] = refl
+masked_from-twice s i (x ∷ xs) =
+    ap₂ ◌∷◌ (xor_assoc x (s i) (s i) ∙ ap (bit_xor x) (xor_self (s i)) ∙ xor_zero_r x) (masked_from-twice s (i + 1) xs)
+
+-- masking twice gives the bytes back
+pub masked-masked : (s : ℕ → ℕ) (b : List ℕ) → masked s (masked s b) ≡ b
+unfolding masked
+masked-masked s b = masked_from-twice s 0 b
+
+IsBytes-masked_from : (s : ℕ → ℕ) (i : ℕ) (b : List ℕ) → ((k : ℕ) → s k < 256) → IsBytes b → IsBytes (masked_from s i b)
+unfolding masked_from
+IsBytes-masked_from s i [] fits bytes k = bytes k
+IsBytes-masked_from s i (x ∷ xs) fits bytes zero = xor_lt 8 x (s i) (bytes 0) (fits i)
+IsBytes-masked_from s i (x ∷ xs) fits bytes (suc k) = IsBytes-masked_from s (i + 1) xs fits (λ j. bytes (suc j)) k
+
+-- bytes under a keystream of bytes are bytes
+pub IsBytes-masked : (s : ℕ → ℕ) (b : List ℕ) → ((k : ℕ) → s k < 256) → IsBytes b → IsBytes (masked s b)
+unfolding masked
+IsBytes-masked s b fits bytes = IsBytes-masked_from s 0 b fits bytes
+
+-- the data `now` is `old` with its first n bytes masked
+abbrev pub IsMaskedTo : (ℕ → ℕ) → ℕ → List ℕ → List ℕ → Type 0
+IsMaskedTo s n old now = now ≡ masked s (take n old) ++ drop n old
+
+pub masked_to_none : (s : ℕ → ℕ) (old : List ℕ) → IsMaskedTo s 0 old old
+unfolding masked masked_from
+masked_to_none s old = refl
+
+pub masked_to_all : (s : ℕ → ℕ) (n : ℕ) (old now : List ℕ) → IsMaskedTo s n old now → length old ≤ n → now ≡ masked s old
+masked_to_all s n old now done le =
+    done ∙ rw (take_all n old le, drop_all n old le) (append-nil (masked s old))
+
+length-masked_to : (s : ℕ → ℕ) (n : ℕ) (old : List ℕ) → n ≤ length old → length (masked s (take n old)) ≡ n
+length-masked_to s n old le = length-masked s (take n old) ∙ length-take-le n old le
+
+-- the step of a loop over bytes
+pub masked_to_byte : (s : ℕ → ℕ) (n : ℕ) (old now : List ℕ) → IsMaskedTo s n old now → n < length old
+    → IsMaskedTo s (n + 1) old (set now n (bit_xor (slice_index now n) (s n)))
+unfolding masked masked_from
+masked_to_byte s n old now done lt =
+    let front : length (masked s (take n old)) ≡ n = length-masked_to s n old (omega arith) in
+    let rest : drop n old ≡ slice_index old n ∷ drop (n + 1) old = drop_more old n 0 lt in
+    let now-is : now ≡ masked s (take n old) ++ slice_index old n ∷ drop (n + 1) old =
+    done ∙ ap (λ (r : List ℕ). masked s (take n old) ++ r) rest in
+    let byte : slice_index now n ≡ slice_index old n =
+    ap (λ (r : List ℕ). slice_index r n) now-is ∙ get_or_at (masked s (take n old)) (slice_index old n) (drop (n + 1) old) 0 n front in
+    let more : masked s (take (n + 1) old) ≡ masked s (take n old) ++ bit_xor (slice_index old n) (s n) ∷ [] =
+    ap (masked s) (take_more old n 0 lt) ∙ masked_from-append s 0 (take n old) (slice_index old n ∷ [])
+    ∙ ap (λ (i : ℕ). masked s (take n old) ++ bit_xor (slice_index old n) (s i) ∷ []) (omega (arith, length-take-le n old (omega arith))) in
+    ap (λ (r : List ℕ). set r n (bit_xor (slice_index now n) (s n))) now-is
+    ∙ set_at (masked s (take n old)) (slice_index old n) (drop (n + 1) old) (bit_xor (slice_index now n) (s n)) n front
+    ∙ ap (λ (b : ℕ). masked s (take n old) ++ bit_xor b (s n) ∷ drop (n + 1) old) byte
+    ∙ sym (ap (λ (r : List ℕ). r ++ drop (n + 1) old) more ∙ append_assoc (masked s (take n old)) (bit_xor (slice_index old n) (s n) ∷ []) (drop (n + 1) old))
+
+-- a stretch of k bytes from place a on, by a stream t that agrees with s there
+pub masked_to_part : (s t : ℕ → ℕ) (a k m : ℕ) (old now part : List ℕ) → IsMaskedTo s a old now → m ≡ a + k → m ≤ length old
+    → ((i : ℕ) → i < k → t i ≡ s (a + i)) → part ≡ masked t (take k (drop a now))
+    → IsMaskedTo s m old (take a now ++ (part ++ drop k (drop a now)))
+unfolding masked
+masked_to_part s t a k m old now part done m-is le same part-is =
+    let front : length (masked s (take a old)) ≡ a = length-masked_to s a old (omega arith) in
+    let taken : take a now ≡ masked s (take a old) = ap (take a) done ∙ take_at (masked s (take a old)) (drop a old) a front in
+    let dropped : drop a now ≡ drop a old = ap (drop a) done ∙ drop_at (masked s (take a old)) (drop a old) a front in
+    let short : length (take k (drop a old)) ≤ k = omega (arith, length-take k (drop a old)) in
+    let agree : masked t (take k (drop a old)) ≡ masked_from s a (take k (drop a old)) =
+    masked_from-agree t s 0 a (take k (drop a old)) (λ i h. ap t (zero-add i) ∙ same i (omega arith)) in
+    let here : part ≡ masked_from s a (take k (drop a old)) =
+    part-is ∙ ap (λ (r : List ℕ). masked t (take k r)) dropped ∙ agree in
+    let place : 0 + length (take a old) ≡ a = omega (arith, length-take-le a old (omega arith)) in
+    let more : masked s (take m old) ≡ masked s (take a old) ++ masked_from s a (take k (drop a old)) =
+    ap (λ (n : ℕ). masked s (take n old)) m-is ∙ ap (masked s) (take-add a k old)
+    ∙ masked_from-append s 0 (take a old) (take k (drop a old))
+    ∙ ap (λ (n : ℕ). masked s (take a old) ++ masked_from s n (take k (drop a old))) place in
+    let rest : drop k (drop a now) ≡ drop m old =
+    ap (drop k) dropped ∙ drop-drop k a old ∙ ap (λ (n : ℕ). drop n old) (sym m-is) in
+    rw (taken, here, rest, more) (sym (append_assoc (masked s (take a old)) (masked_from s a (take k (drop a old))) (drop m old)))
+
+-- the keystream within block n
+pub stream_of_blocks-at : (size : ℕ) (block : ℕ → List ℕ) (n i : ℕ) → i < size
+    → stream_of_blocks size block (size * n + i) ≡ slice_index (block n) i
+stream_of_blocks-at size block n i lt =
+    let turned : size * n + i ≡ n * size + i = ap (λ (p : ℕ). p + i) (mul_comm size n) in
+    rw (turned, div-mul-add n size i lt, mod-mul-add n size i lt) refl
+
+-- the step of a loop over blocks of any size: block n, or its first k bytes
+pub masked_to_block : (size : ℕ) (block : ℕ → List ℕ) (n k m : ℕ) (keystream old now part : List ℕ)
+    → IsMaskedTo (stream_of_blocks size block) (size * n) old now → keystream ≡ block n → k ≤ size
+    → m ≡ size * n + k → m ≤ length old → part ≡ masked (slice_index keystream) (take k (drop (size * n) now))
+    → IsMaskedTo (stream_of_blocks size block) m old (take (size * n) now ++ (part ++ drop k (drop (size * n) now)))
+masked_to_block size block n k m keystream old now part done block-is within m-is le part-is =
+    masked_to_part (stream_of_blocks size block) (slice_index keystream) (size * n) k m old now part done m-is le
+    (λ i h. ap (λ (b : List ℕ). slice_index b i) block-is ∙ sym (stream_of_blocks-at size block n i (omega arith))) part-is

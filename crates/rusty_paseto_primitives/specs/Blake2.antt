@@ -1,0 +1,4 @@
+pub mod Block
+pub mod Chain
+pub mod Hasher
+pub mod Keyed

@@ -1,0 +1,4 @@
+pub mod Bytes
+pub mod Keystream
+pub mod Blake2
+pub mod ChaCha

@@ -1,0 +1,8 @@
+//! BLAKE2b (RFC 7693), with a key or without one.
+
+mod block;
+mod chain;
+pub mod hasher;
+pub mod keyed;
+#[cfg(test)]
+mod tests;

@@ -1,0 +1,11 @@
+// ChaCha20, HChaCha20 and XChaCha20 (RFC 8439, draft-irtf-cfrg-xchacha).
+
+mod block;
+mod stream;
+mod subkey;
+#[cfg(test)]
+mod tests;
+
+pub use block::{chacha20_block, quarter_round};
+pub use stream::xchacha20_apply;
+pub use subkey::hchacha20;
