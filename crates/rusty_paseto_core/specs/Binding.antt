@@ -20,6 +20,7 @@ footer_of footer = option_map_or footer_text footer []
 abbrev pub assertion_of : Option ImplicitAssertion → List ℕ
 assertion_of assertion = option_map_or assertion_text assertion []
 
+-- what a key, a footer and an assertion bind a token to
 abbrev pub binding_of : List ℕ → Option Footer → Option ImplicitAssertion → Binding
 binding_of key footer assertion =
     record { key = key; footer = footer_of footer; assertion = assertion_of assertion }

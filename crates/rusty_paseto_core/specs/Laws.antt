@@ -28,6 +28,7 @@ pub record HasTwoForms (design : Design) (binding : Binding) (nonce text : List 
   pub no_other : (token : List ℕ) (opens : Opens design token binding text) → opens.nonce ≡ nonce
       → (token ≡ sealing design binding nonce true text) ⊎ (token ≡ sealing design binding nonce false text)
 
+-- each text that can be sealed has its two forms
 abbrev pub TextsHaveTwoForms : Design → Type 0
 TextsHaveTwoForms design = (binding : Binding) (nonce text : List ℕ) → IsSealable nonce text → HasTwoForms design binding nonce text
 

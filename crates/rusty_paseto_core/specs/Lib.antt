@@ -4,3 +4,11 @@ pub mod Framing
 pub mod Sealing
 pub mod Opening
 pub mod Laws
+pub use Rattle.rusty_paseto_parts.specs.Error
+pub use Rattle.rusty_paseto_parts.specs.Header
+pub use Rattle.rusty_paseto_parts.specs.Payload
+pub use Rattle.rusty_paseto_parts.specs.Footer
+pub use Rattle.rusty_paseto_parts.specs.ImplicitAssertion
+pub use Rattle.rusty_paseto_parts.specs.Key
+pub use Rattle.rusty_paseto_parts.specs.PreAuthenticationEncoding
+pub use Rattle.rusty_paseto_parts.specs.Section

@@ -2,7 +2,7 @@
 
 use super::*;
 use base64::DecodeError;
-use std::alloc::{AllocError, Global};
+use std::alloc::AllocError;
 use std::test::Fail;
 
 // The bytes of which `ABC..Zabc..z012..9-_` is the spelling: their groups of six bits are 0 to 63.
@@ -11,50 +11,6 @@ const ALL_SYMBOLS: [u8; 48] = [
     0x55, 0x97, 0x61, 0x96, 0x9b, 0x71, 0xd7, 0x9f, 0x82, 0x18, 0xa3, 0x92, 0x59, 0xa7, 0xa2, 0x9a,
     0xab, 0xb2, 0xdb, 0xaf, 0xc3, 0x1c, 0xb3, 0xd3, 0x5d, 0xb7, 0xe3, 0x9e, 0xbb, 0xf3, 0xdf, 0xbf,
 ];
-
-fn encoding_in_hex(alloc: Global, pieces: &[&[u8]]) -> Result<String, Fail> {
-    let encoding = PreAuthenticationEncoding::parse(alloc, pieces)?;
-    Ok(hex::encode(alloc, encoding.as_bytes())?)
-}
-
-#[test]
-fn encodes_pieces(rt: HostRuntime) -> Result<(), Fail> {
-    let alloc = rt.alloc();
-    let none = encoding_in_hex(alloc, &[])?;
-    assert_eq!(rt; none.as_str(), "0000000000000000");
-    let empty = encoding_in_hex(alloc, &["".as_bytes()])?;
-    assert_eq!(rt; empty.as_str(), "01000000000000000000000000000000");
-    let test = encoding_in_hex(alloc, &["test".as_bytes()])?;
-    assert_eq!(rt; test.as_str(), "0100000000000000040000000000000074657374");
-    let two = encoding_in_hex(alloc, &["a".as_bytes(), "b".as_bytes()])?;
-    assert_eq!(rt;
-        two.as_str(),
-        "0200000000000000010000000000000061010000000000000062"
-    );
-    let one = encoding_in_hex(alloc, &["ab".as_bytes()])?;
-    assert_eq!(rt; one.as_str(), "010000000000000002000000000000006162");
-    laws::equal_encodings(&["a".as_bytes(), "b".as_bytes()], &["ab".as_bytes()]);
-    Ok(())
-}
-
-#[test]
-fn reads_keys(rt: HostRuntime) -> Result<(), Fail> {
-    for text in ["0aff", "0AFF", "0aFf"] {
-        let key = Key::<2>::try_from(text)?;
-        assert_eq!(rt;
-            key.as_bytes().as_slice(),
-            [10, 255].as_slice(),
-            "of {text}"
-        );
-    }
-    for text in ["", "0a", "0afg", "0aff0", "0aff00", " 0aff", "0x0a"] {
-        assert!(rt;
-            matches!(&Key::<2>::try_from(text), Err(PasetoError::InvalidKey)),
-            "of {text}"
-        );
-    }
-    Ok(())
-}
 
 #[test]
 fn keeps_keys(rt: HostRuntime) -> Result<(), Fail> {

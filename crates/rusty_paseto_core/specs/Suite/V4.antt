@@ -9,12 +9,15 @@ use Rattle.rusty_paseto_core.specs.Suite.{Design}
 abbrev pub split : List ℕ → List ℕ → List ℕ
 split key nonce = blake2b key 56 (codes "paseto-encryption-key" ++ nonce)
 
+-- the key of the stream
 abbrev pub encryption_key : List ℕ → List ℕ → List ℕ
 encryption_key key nonce = take 32 (split key nonce)
 
+-- the nonce of the stream
 abbrev pub start : List ℕ → List ℕ → List ℕ
 start key nonce = drop 32 (split key nonce)
 
+-- the key of the tag
 abbrev pub authentication_key : List ℕ → List ℕ → List ℕ
 authentication_key key nonce = blake2b key 32 (codes "paseto-auth-key-for-aead" ++ nonce)
 

@@ -1,0 +1,48 @@
+//! Pre-authentication encodings.
+
+use crate::hexadecimal::bytes_of;
+use rusty_paseto_core::PreAuthenticationEncoding;
+use std::alloc::Global;
+use std::process::Abort;
+use std::test::Fail;
+
+fn check(rt: &impl Abort, alloc: Global, pieces: &[&[u8]], expected: &str) -> Result<(), Fail> {
+    let encoding = PreAuthenticationEncoding::parse(alloc, pieces)?;
+    assert_eq!(rt;
+        encoding.as_bytes(),
+        bytes_of(alloc, expected)?.as_slice(),
+        "{expected}"
+    );
+    Ok(())
+}
+
+// The examples of the PASETO specification, and two lists that only their lengths tell apart.
+#[test]
+fn encodings(rt: HostRuntime) -> Result<(), Fail> {
+    let alloc = rt.alloc();
+    check(&rt, alloc, &[], "0000000000000000")?;
+    check(
+        &rt,
+        alloc,
+        &["".as_bytes()],
+        "01000000000000000000000000000000",
+    )?;
+    check(
+        &rt,
+        alloc,
+        &["test".as_bytes()],
+        "0100000000000000040000000000000074657374",
+    )?;
+    check(
+        &rt,
+        alloc,
+        &["a".as_bytes(), "b".as_bytes()],
+        "0200000000000000010000000000000061010000000000000062",
+    )?;
+    check(
+        &rt,
+        alloc,
+        &["ab".as_bytes()],
+        "010000000000000002000000000000006162",
+    )
+}

@@ -1,0 +1,14 @@
+//! Known answers: values from outside this repository, and the calls that have to give them. They
+//! test what no proof can see: that the definitions are the standards', and that calls succeed.
+#![tactic(auto)]
+
+#[cfg(test)]
+mod encoding;
+#[cfg(test)]
+mod hexadecimal;
+#[cfg(test)]
+mod keys;
+#[cfg(test)]
+mod primitives;
+#[cfg(test)]
+mod v4_local;
