@@ -1,0 +1,4 @@
+pub mod WordLemmas
+pub mod Transfers
+pub mod Reasons
+pub mod Refusals

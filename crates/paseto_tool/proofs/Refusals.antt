@@ -1,0 +1,89 @@
+-- Words that are refused, and what is written for those that are not.
+use Rattle.std.proofs.Common.{◌≡◌, ℕ, List, [], ◌⊎◌, inl, inr, Option, None, Some, IfSome, Result, Ok, Err, IfErr, OnOk, OnErr, is_ok, refl, subst}
+use Rattle.std.specs.Io.KnownBytes.{Appends}
+use Rattle.paseto_tool.specs.declared.error.ToolError.{ToolError}
+use Rattle.paseto_tool.specs.declared.error.ToolError.TheVariants.{Usage, Refused, InputOrOutput, Memory}
+use Rattle.paseto_tool.specs.Error.{status_of}
+use Rattle.paseto_tool.specs.Arguments.{IsDigits}
+use Rattle.paseto_tool.specs.Arguments.{AsksToSeal, AsksToOpen, IsUsageFault}
+use Rattle.paseto_tool.specs.Output.{IsCutShort}
+use Rattle.paseto_tool.specs.Seal.{IsSealingReason}
+use Rattle.paseto_tool.specs.Open.{IsOpeningReason}
+use Rattle.paseto_tool.specs.Run.{Prints, PrintsNothing, HasBadKey, bad_key, bad_nonce, bad_opening_key, IsReason, sealing, opening, Writes}
+use Rattle.paseto_tool.proofs.WordLemmas.{AsksToSeal-open, AsksToSeal-key, AsksToOpen-key}
+
+-- words with a bad key are no fault of usage
+pub HasBadKey-usage : (words : List (List ℕ)) → HasBadKey words → IsUsageFault words → ⊥
+HasBadKey-usage words (bad_key key nonce footer assertion asks h) fault = fault.no_seal key nonce footer assertion asks
+HasBadKey-usage words (bad_nonce key nonce footer assertion asks h) fault = fault.no_seal key nonce footer assertion asks
+HasBadKey-usage words (bad_opening_key key footer assertion asks h) fault = fault.no_open key footer assertion asks
+
+pub HasBadKey-seal : (words : List (List ℕ)) (key nonce : List ℕ) (footer assertion : Option (List ℕ)) → HasBadKey words → AsksToSeal words key nonce footer assertion
+    → (¬ IsDigits key) ⊎ (¬ IsDigits nonce)
+HasBadKey-seal words key nonce footer assertion (bad_key key2 nonce2 footer2 assertion2 asks2 h) asks =
+    inl (subst (λ (k : List ℕ). ¬ IsDigits k) (AsksToSeal-key words key2 nonce2 footer2 assertion2 key nonce footer assertion asks2 asks).0 h)
+HasBadKey-seal words key nonce footer assertion (bad_nonce key2 nonce2 footer2 assertion2 asks2 h) asks =
+    inr (subst (λ (k : List ℕ). ¬ IsDigits k) (AsksToSeal-key words key2 nonce2 footer2 assertion2 key nonce footer assertion asks2 asks).1 h)
+HasBadKey-seal words key nonce footer assertion (bad_opening_key key2 footer2 assertion2 asks2 h) asks =
+    absurd (AsksToSeal-open words key nonce footer assertion key2 footer2 assertion2 asks asks2)
+
+pub HasBadKey-open : (words : List (List ℕ)) (key : List ℕ) (footer assertion : Option (List ℕ)) → HasBadKey words → AsksToOpen words key footer assertion
+    → ¬ IsDigits key
+HasBadKey-open words key footer assertion (bad_key key2 nonce2 footer2 assertion2 asks2 h) asks =
+    absurd (AsksToSeal-open words key2 nonce2 footer2 assertion2 key footer assertion asks2 asks)
+HasBadKey-open words key footer assertion (bad_nonce key2 nonce2 footer2 assertion2 asks2 h) asks =
+    absurd (AsksToSeal-open words key2 nonce2 footer2 assertion2 key footer assertion asks2 asks)
+HasBadKey-open words key footer assertion (bad_opening_key key2 footer2 assertion2 asks2 h) asks =
+    subst (λ (k : List ℕ). ¬ IsDigits k) (AsksToOpen-key words key2 footer2 assertion2 key footer assertion asks2 asks) h
+
+-- a reason not to seal, or not to open, is one to print nothing
+sealing_reason : (words : List (List ℕ)) (key nonce : List ℕ) (footer assertion : Option (List ℕ)) (bytes : List ℕ) (error : ToolError)
+    → AsksToSeal words key nonce footer assertion → IsSealingReason key nonce bytes error → IsReason words bytes error
+sealing_reason words key nonce footer assertion bytes Usage asks h = absurd h
+sealing_reason words key nonce footer assertion bytes (Refused error) asks h = sealing key nonce footer assertion asks h
+sealing_reason words key nonce footer assertion bytes InputOrOutput asks h = tt
+sealing_reason words key nonce footer assertion bytes (Memory source) asks h = tt
+
+opening_reason : (words : List (List ℕ)) (key : List ℕ) (footer assertion : Option (List ℕ)) (bytes : List ℕ) (error : ToolError)
+    → AsksToOpen words key footer assertion → IsOpeningReason key footer assertion bytes error → IsReason words bytes error
+opening_reason words key footer assertion bytes Usage asks h = absurd h
+opening_reason words key footer assertion bytes (Refused error) asks h = opening key footer assertion asks h
+opening_reason words key footer assertion bytes InputOrOutput asks h = tt
+opening_reason words key footer assertion bytes (Memory source) asks h = tt
+
+pub IsReason-seal : {T : Type 0} (result : Result T ToolError) (known : Option (List ℕ)) (words : List (List ℕ)) (key nonce : List ℕ) (footer assertion : Option (List ℕ))
+    → AsksToSeal words key nonce footer assertion → IfErr result (λ error. IfSome known (λ bytes. IsSealingReason key nonce bytes error))
+    → IfErr result (λ error. IfSome known (λ bytes. IsReason words bytes error))
+IsReason-seal (Ok x) known words key nonce footer assertion asks h = tt
+IsReason-seal (Err error) None words key nonce footer assertion asks h = tt
+IsReason-seal (Err error) (Some bytes) words key nonce footer assertion asks h = sealing_reason words key nonce footer assertion bytes error asks h
+
+pub IsReason-open : {T : Type 0} (result : Result T ToolError) (known : Option (List ℕ)) (words : List (List ℕ)) (key : List ℕ) (footer assertion : Option (List ℕ))
+    → AsksToOpen words key footer assertion → IfErr result (λ error. IfSome known (λ bytes. IsOpeningReason key footer assertion bytes error))
+    → IfErr result (λ error. IfSome known (λ bytes. IsReason words bytes error))
+IsReason-open (Ok x) known words key footer assertion asks h = tt
+IsReason-open (Err error) None words key footer assertion asks h = tt
+IsReason-open (Err error) (Some bytes) words key footer assertion asks h = opening_reason words key footer assertion bytes error asks h
+
+-- what was written of an output is the whole where no write failed, and is else cut short
+pub Writes-made : {T E : Type 0} (result : Result T E) (before after known : Option (List ℕ)) (words : List (List ℕ)) (made : List ℕ)
+    → OnOk result (Appends before after made) → OnErr result ((written : List ℕ) × IsCutShort made written × Appends before after written)
+    → IfSome known (λ bytes. Prints words bytes made)
+    → (written : List ℕ) × Appends before after written × IfSome known (λ bytes. Writes words bytes (is_ok result) written)
+Writes-made (Ok x) before after None words made ok err prints = (made, ok, tt)
+Writes-made (Ok x) before after (Some bytes) words made ok err prints = (made, ok, prints)
+Writes-made (Err e) before after None words made ok err prints = (err.0, err.2, tt)
+Writes-made (Err e) before after (Some bytes) words made ok err prints = (err.0, err.2, inr (made, prints, err.1))
+
+-- where there is an output, the words are not refused
+pub PrintsNothing-made : (known : Option (List ℕ)) (words : List (List ℕ)) (made : List ℕ) (P : Type 0)
+    → IfSome known (λ bytes. Prints words bytes made) → IfSome known (λ bytes. PrintsNothing words bytes → P)
+PrintsNothing-made None words made P prints = tt
+PrintsNothing-made (Some bytes) words made P prints = λ nothing. absurd (nothing made prints)
+
+-- the status of an error that is no fault of usage
+pub status_of-other : (error : ToolError) → (error ≡ Usage → ⊥) → status_of error ≡ 1
+status_of-other Usage h = absurd (h refl)
+status_of-other (Refused error) h = refl
+status_of-other InputOrOutput h = refl
+status_of-other (Memory source) h = refl

@@ -1,0 +1,41 @@
+-- The words of a list, one by one, and what they ask for.
+use Rattle.std.proofs.Common.{◌≡◌, ℕ, ◌-◌, ◌≤◌, List, [], ◌∷◌, length, get_or, take, drop, map, Option, arith, sym, ap, ◌∙◌, codes, eqb}
+use Rattle.std.proofs.lemmas.Bool.{false≢true}
+use Rattle.std.proofs.lemmas.List.{take_rest}
+use Rattle.paseto_tool.specs.Arguments.{AsksToSeal, AsksToOpen}
+
+-- the first three, and the rest
+pub map-three : {A B : Type 0} (f : A → B) (xs : List A) (x y z : A) (c d e : B) → 3 ≤ length xs
+    → x ≡ get_or xs 0 x → y ≡ get_or xs 1 y → z ≡ get_or xs 2 z → c ≡ f x → d ≡ f y → e ≡ f z
+    → c ∷ d ∷ e ∷ map f (take (length xs - 3) (drop 3 xs)) ≡ map f xs
+map-three f [] x y z c d e n p q r s t u = absurd (omega arith)
+map-three f (a ∷ []) x y z c d e n p q r s t u = absurd (omega arith)
+map-three f (a ∷ b ∷ []) x y z c d e n p q r s t u = absurd (omega arith)
+map-three f (a ∷ b ∷ k ∷ xs) x y z c d e n p q r s t u = rw (take_rest, s, t, u, p, q, r)
+
+-- the first, and the rest
+pub map-one : {A B : Type 0} (f : A → B) (xs : List A) (x : A) (c : B) → 1 ≤ length xs → x ≡ get_or xs 0 x → c ≡ f x
+    → map f xs ≡ c ∷ map f (take (length xs - 1) (drop 1 xs))
+map-one f [] x c n p q = absurd (omega arith)
+map-one f (a ∷ xs) x c n p q = rw (take_rest, q, p)
+
+-- words that ask to seal do not ask to open
+pub AsksToSeal-open : (words : List (List ℕ)) (key nonce : List ℕ) (footer assertion : Option (List ℕ)) (key2 : List ℕ) (footer2 assertion2 : Option (List ℕ))
+    → AsksToSeal words key nonce footer assertion → AsksToOpen words key2 footer2 assertion2 → ⊥
+AsksToSeal-open words key nonce footer assertion key2 footer2 assertion2 a b =
+    let commands : codes "seal" ≡ codes "open" = ap (λ (l : List (List ℕ)). get_or l 0 []) (sym a.words_are ∙ b.words_are) in
+    let letters : 115 ≡ 111 = ap (λ (l : List ℕ). get_or l 0 0) commands in
+    absurd (false≢true (sym (ap (eqb 115) letters)))
+
+-- words ask to seal under one key and one nonce
+pub AsksToSeal-key : (words : List (List ℕ)) (key nonce : List ℕ) (footer assertion : Option (List ℕ)) (key2 nonce2 : List ℕ) (footer2 assertion2 : Option (List ℕ))
+    → AsksToSeal words key nonce footer assertion → AsksToSeal words key2 nonce2 footer2 assertion2 → (key ≡ key2) × (nonce ≡ nonce2)
+AsksToSeal-key words key nonce footer assertion key2 nonce2 footer2 assertion2 a b =
+    let same = sym a.words_are ∙ b.words_are in
+    (ap (λ (l : List (List ℕ)). get_or l 2 []) same, ap (λ (l : List (List ℕ)). get_or l 3 []) same)
+
+-- words ask to open under one key
+pub AsksToOpen-key : (words : List (List ℕ)) (key : List ℕ) (footer assertion : Option (List ℕ)) (key2 : List ℕ) (footer2 assertion2 : Option (List ℕ))
+    → AsksToOpen words key footer assertion → AsksToOpen words key2 footer2 assertion2 → key ≡ key2
+AsksToOpen-key words key footer assertion key2 footer2 assertion2 a b =
+    ap (λ (l : List (List ℕ)). get_or l 2 []) (sym a.words_are ∙ b.words_are)

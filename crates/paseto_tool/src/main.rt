@@ -1,0 +1,38 @@
+//! Seals and opens PASETO tokens.
+#![tactic(auto)]
+
+mod arguments;
+mod error;
+mod input;
+mod open;
+mod output;
+mod run;
+mod seal;
+
+use error::ToolError;
+use run::run;
+use std::env;
+use std::io::Write;
+use std::process::ExitCode;
+
+fn main(rt: HostRuntime) -> ExitCode {
+    let mut errors = rt.stderr();
+    match words(&rt) {
+        Ok(words) => {
+            let (mut input, mut output) = (rt.stdin(), rt.stdout());
+            let status = run(rt.alloc(), &words, &mut input, &mut output, &mut errors);
+            ExitCode::from(status)
+        }
+        Err(error) => {
+            // A fault of the error writer changes no status.
+            let _ = errors.writeln(&error);
+            ExitCode::from(error.status())
+        }
+    }
+}
+
+/// The words after the program's name.
+fn words(rt: &HostRuntime) -> Result<Vec<String>, ToolError> {
+    let words = env::args(rt)?.skip(1).collect(rt.alloc())?;
+    Ok(words)
+}

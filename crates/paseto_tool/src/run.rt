@@ -1,0 +1,84 @@
+//! The program, over any input and outputs.
+
+ghost use Rattle.std.specs.Prelude.{◌≡◌, ◌≢◌, ◌≤◌, ◌==◌, ◌↔◌, ◌⊎◌, ℕ, List, IfOk, IfErr, IfSome, IsErr, Err, is_ok, string_bytes};
+ghost use Rattle.std.specs.Io.KnownBytes.{Appends};
+ghost use Rattle.paseto_tool.specs.Arguments.{words_of, IsUsageFault};
+ghost use Rattle.paseto_tool.specs.Run.{Prints, PrintsNothing, HasBadKey, IsReason, Writes};
+
+use crate::arguments::Command;
+use crate::error::ToolError;
+use crate::output::write_whole;
+use std::alloc::Global;
+use std::io::{Read, Write};
+
+#[cfg(test)]
+mod tests;
+
+/// Does what the words after the program's name ask for, and returns the status.
+pub fn run<R: Read, W: Write, E: Write>(
+    alloc: Global,
+    args: &[String],
+    input: &mut R,
+    output: &mut W,
+    errors: &mut E,
+) -> u8
+    ensures status { result ≤ 2 }
+    ensures usage { (result ≡ 2) ↔ IsUsageFault (words_of args.now) }
+    ensures written { (written : List ℕ) × Appends (W.contents output.old) (W.contents output.new) written
+        × IfSome (R.remaining input.old) (λ bytes. Writes (words_of args.now) bytes (result == 0) written) }
+    ensures refused { IfSome (R.remaining input.old) (λ bytes. PrintsNothing (words_of args.now) bytes
+        → (result ≢ 0) × (output.new ≡ output.old)) }
+    ensures bad_key { HasBadKey (words_of args.now) → result ≡ 1 }
+    ensures unread { IsUsageFault (words_of args.now) ⊎ HasBadKey (words_of args.now)
+        → (input.new ≡ input.old) × (output.new ≡ output.old) }
+    ensures quiet { result ≡ 0 → errors.new ≡ errors.old }
+{
+    match print(alloc, args, input, output) {
+        Ok(()) => 0,
+        Err(error) => {
+            // A fault of the error writer changes no status.
+            let _ = errors.writeln(&error);
+            error.status()
+        }
+    }
+}
+
+/// Writes the output, which is made whole before its first byte is written.
+fn print<R: Read, W: Write>(
+    alloc: Global,
+    args: &[String],
+    input: &mut R,
+    output: &mut W,
+) -> Result<(), ToolError>
+    ensures written { (written : List ℕ) × Appends (W.contents output.old) (W.contents output.new) written
+        × IfSome (R.remaining input.old) (λ bytes. Writes (words_of args.now) bytes (is_ok result) written) }
+    ensures reason { IfErr result (λ error. IfSome (R.remaining input.old) (λ bytes.
+        IsReason (words_of args.now) bytes error)) }
+    ensures refused { IfSome (R.remaining input.old) (λ bytes. PrintsNothing (words_of args.now) bytes
+        → IsErr result × (output.new ≡ output.old)) }
+    ensures usage { (result ≡ Err ToolError.Usage) ↔ IsUsageFault (words_of args.now) }
+    ensures bad_key { HasBadKey (words_of args.now) → IsErr result }
+    ensures unread { IsUsageFault (words_of args.now) ⊎ HasBadKey (words_of args.now)
+        → (input.new ≡ input.old) × (output.new ≡ output.old) }
+{
+    let made = make(alloc, args, input)?;
+    write_whole(output, made.as_str().as_bytes())
+}
+
+/// The output of the words and the input.
+fn make<R: Read>(alloc: Global, args: &[String], input: &mut R) -> Result<String, ToolError>
+    ensures printed { IfOk result (λ made. IfSome (R.remaining input.old) (λ bytes.
+        Prints (words_of args.now) bytes (string_bytes made))) }
+    ensures reason { IfErr result (λ error. IfSome (R.remaining input.old) (λ bytes.
+        IsReason (words_of args.now) bytes error)) }
+    ensures usage { (result ≡ Err ToolError.Usage) ↔ IsUsageFault (words_of args.now) }
+    ensures bad_key { HasBadKey (words_of args.now) → IsErr result }
+    ensures unread { IsUsageFault (words_of args.now) ⊎ HasBadKey (words_of args.now)
+        → input.new ≡ input.old }
+{
+    match Command::parse(args) {
+        Some(Command::Seal(command)) => command.line(alloc, input),
+        Some(Command::Open(command)) => command.text(alloc, input),
+        None => Err(ToolError::Usage),
+    }
+}

@@ -1,0 +1,468 @@
+use super::run;
+use std::alloc::{AllocError, Global};
+use std::io;
+use std::io::{ErrorKind, Read, Write};
+use std::process::Abort;
+use std::test::Fail;
+
+const KEY: &str = "77756262616c7562626164756264756277756262616c75626261647562647562";
+
+const UPPER_KEY: &str = "77756262616C7562626164756264756277756262616C75626261647562647562";
+
+const OTHER_KEY: &str = "87756262616c7562626164756264756277756262616c75626261647562647562";
+
+const SHORT_KEY: &str = "7756262616c7562626164756264756277756262616c75626261647562647562";
+
+const LONG_KEY: &str = "077756262616c7562626164756264756277756262616c75626261647562647562";
+
+const NO_KEY: &str = "g7756262616c7562626164756264756277756262616c75626261647562647562";
+
+const ZERO: &str = "0000000000000000000000000000000000000000000000000000000000000000";
+
+// Tokens under KEY and ZERO, made by an independent implementation.
+const OF_NOTHING: &str =
+    "v4.local.AAAAAAAAAAAAAAAAAAAAAAAAAAAAAAAAAAAAAAAAAAAbOgN0OVjqz2vTDD02NopmW7deH56O2K4vACTMJ5F11A";
+
+const OF_NOTHING_WITH_X: &str =
+    "v4.local.AAAAAAAAAAAAAAAAAAAAAAAAAAAAAAAAAAAAAAAAAACCFSST9aMcS0D8VsRV2UMF7g9nBE9tBfhlLYqN4Ui1yQ";
+
+const OF_A: &str =
+    "v4.local.AAAAAAAAAAAAAAAAAAAAAAAAAAAAAAAAAAAAAAAAAADIhkPqrPPbiL9vRJYCPdoY41ZuM8kZrYlIV9d6tL_npow";
+
+const OF_A_WITH_FOOTER: &str =
+    "v4.local.AAAAAAAAAAAAAAAAAAAAAAAAAAAAAAAAAAAAAAAAAADIxerjdEEPnnVreBtrbfiEKHXnweVj4sLrj0g1CWYOMVE.Zm9vdGVy";
+
+const OF_A_WITH_BOTH: &str =
+    "v4.local.AAAAAAAAAAAAAAAAAAAAAAAAAAAAAAAAAAAAAAAAAADIQWEk6PIIil-8RadblwXfRbOBiSpqx68T35bH8naoAV4.eyJraWQiOiJrMSJ9";
+
+const USAGE: &str =
+    "usage: paseto_tool inspect TOKEN | seal VERSION KEY NONCE [FOOTER [ASSERTION]] | open VERSION KEY [FOOTER [ASSERTION]]\n";
+
+const BAD_KEY: &str = "Key was not in the correct format\n";
+
+const NOT_UTF8: &str = "A Utf8 parsing error occurred\n";
+
+const CRYPTION: &str = "An unspecified cryption error occured\n";
+
+const NOT_BASE64: &str = "A base64 decode error occurred\n";
+
+const BAD_FOOTER: &str = "The provided footer is invalid\n";
+
+const INPUT_OR_OUTPUT: &str = "input or output failed\n";
+
+/// Gives at most `step` bytes a call, and then is at its end or fails.
+#[derive(Drop)]
+struct Source<'a> {
+    rest: &'a [u8],
+    step: usize,
+    fails: bool,
+    was_read: bool,
+}
+
+impl<'a> Source<'a> {
+    fn whole(bytes: &'a [u8]) -> Self {
+        Source {
+            rest: bytes,
+            step: usize::MAX,
+            fails: false,
+            was_read: false,
+        }
+    }
+}
+
+impl Read for Source<'_> {
+    fn read(&mut self, buf: &mut [u8]) -> io::Result<usize> {
+        self.was_read = true;
+        let rest = self.rest;
+        if rest.is_empty() && self.fails {
+            return Err(io::Error::from(ErrorKind::BrokenPipe));
+        }
+        let count = rest.len().min(self.step).min(buf.len());
+        buf[..count].copy_from_slice(&rest[..count]);
+        self.rest = &rest[count..];
+        Ok(count)
+    }
+}
+
+/// Takes at most `step` bytes a call and `room` bytes in all, and then fails or takes none.
+#[derive(Drop)]
+struct Sink {
+    taken: Vec<u8>,
+    room: usize,
+    step: usize,
+    fails: bool,
+}
+
+impl Sink {
+    fn whole(alloc: Global) -> Self {
+        Sink {
+            taken: Vec::new(alloc),
+            room: usize::MAX,
+            step: usize::MAX,
+            fails: true,
+        }
+    }
+
+    fn with_room(alloc: Global, room: usize) -> Self {
+        Sink {
+            taken: Vec::new(alloc),
+            room,
+            step: usize::MAX,
+            fails: true,
+        }
+    }
+}
+
+impl Write for Sink {
+    fn write(&mut self, buf: &[u8]) -> io::Result<usize> {
+        if self.room == 0 && self.fails {
+            return Err(io::Error::from(ErrorKind::BrokenPipe));
+        }
+        let count = buf.len().min(self.step).min(self.room);
+        self.taken.extend_from_slice(&buf[..count])?;
+        self.room = self.room.saturating_sub(count);
+        Ok(count)
+    }
+
+    fn flush(&mut self) -> io::Result<()> {
+        Ok(())
+    }
+}
+
+fn strings(alloc: Global, words: &[&str]) -> Result<Vec<String>, AllocError> {
+    let mut strings = Vec::new(alloc);
+    'words: for word in words {
+        strings.push(String::from_str(alloc, word)?)?;
+    }
+    Ok(strings)
+}
+
+/// Runs the words over a source and sinks that work, and asserts what is left.
+fn expect(
+    rt: &(impl Abort + Eprint),
+    alloc: Global,
+    words: &[&str],
+    input: &[u8],
+    status: u8,
+    output: &str,
+    errors: &str,
+) -> Result<(), Fail> {
+    let args = strings(alloc, words)?;
+    let (mut printed, mut said) = (Sink::whole(alloc), Sink::whole(alloc));
+    let left = run(
+        alloc,
+        &args,
+        &mut Source::whole(input),
+        &mut printed,
+        &mut said,
+    );
+    assert_eq!(rt; said.taken.as_slice(), errors.as_bytes());
+    assert_eq!(rt; printed.taken.as_slice(), output.as_bytes());
+    assert_eq!(rt; left, status);
+    Ok(())
+}
+
+/// The text and a line feed.
+fn line(alloc: Global, text: &str) -> Result<String, AllocError> {
+    format!(in alloc; "{text}\n")
+}
+
+#[test]
+fn seals_the_whole_input(rt: HostRuntime) -> Result<(), Fail> {
+    let alloc = rt.alloc();
+    let with_dot = format!(in alloc; "{OF_NOTHING}.")?;
+    let with_dot_and_x = format!(in alloc; "{OF_NOTHING_WITH_X}.")?;
+    let kid = "{\"kid\":\"k1\"}";
+    let both = ["seal", "v4", KEY, ZERO, kid, "some assertion"];
+    let rows: [(&[&str], &str, &str); 6] = [
+        (&both[..4], "", OF_NOTHING),
+        (&["seal", "v4", UPPER_KEY, ZERO], "a", OF_A),
+        (&["seal", "v4", KEY, ZERO, "footer"], "a", OF_A_WITH_FOOTER),
+        (&both, "a", OF_A_WITH_BOTH),
+        (&["seal", "v4", KEY, ZERO, ""], "", with_dot.as_str()),
+        (
+            &["seal", "v4", KEY, ZERO, "", "x"],
+            "",
+            with_dot_and_x.as_str(),
+        ),
+    ];
+    'rows: for (words, text, token) in rows {
+        let printed = line(alloc, token)?;
+        expect(&rt, alloc, words, text.as_bytes(), 0, printed.as_str(), "")?;
+    }
+    Ok(())
+}
+
+#[test]
+fn opens_with_or_without_a_line_feed(rt: HostRuntime) -> Result<(), Fail> {
+    let alloc = rt.alloc();
+    let kid = "{\"kid\":\"k1\"}";
+    let rows: [(&[&str], &str, &str); 7] = [
+        (&["open", "v4", KEY], OF_NOTHING, ""),
+        (&["open", "v4", UPPER_KEY], OF_A, "a"),
+        (&["open", "v4", KEY, ""], OF_A, "a"),
+        (&["open", "v4", KEY, "", ""], OF_A, "a"),
+        (&["open", "v4", KEY, "footer"], OF_A_WITH_FOOTER, "a"),
+        (
+            &["open", "v4", KEY, kid, "some assertion"],
+            OF_A_WITH_BOTH,
+            "a",
+        ),
+        (&["open", "v4", KEY, "", "x"], OF_NOTHING_WITH_X, ""),
+    ];
+    'rows: for (words, token, text) in rows {
+        expect(&rt, alloc, words, token.as_bytes(), 0, text, "")?;
+        expect(
+            &rt,
+            alloc,
+            words,
+            line(alloc, token)?.as_bytes(),
+            0,
+            text,
+            "",
+        )?;
+    }
+    Ok(())
+}
+
+#[test]
+fn refuses_with_the_errors_text(rt: HostRuntime) -> Result<(), Fail> {
+    let alloc = rt.alloc();
+    let twice = format!(in alloc; "{OF_NOTHING}\n\n")?;
+    let carriage = format!(in alloc; "{OF_NOTHING}\r\n")?;
+    let with_footer_twice = format!(in alloc; "{OF_NOTHING}.\n\n")?;
+    let open = ["open", "v4", KEY];
+    let count = "This string has an incorrect number of parts and cannot be parsed into a token\n";
+    let rows: [(&[&str], &str, &str); 11] = [
+        (&["open", "v4", OTHER_KEY], OF_NOTHING, CRYPTION),
+        (&["open", "v4", KEY, "other"], OF_A_WITH_FOOTER, BAD_FOOTER),
+        (
+            &["open", "v4", KEY, "footer", "x"],
+            OF_A_WITH_FOOTER,
+            CRYPTION,
+        ),
+        (&open, OF_A_WITH_FOOTER, BAD_FOOTER),
+        (&open, OF_NOTHING_WITH_X, CRYPTION),
+        (&open, "v4.local", count),
+        (&open, "", count),
+        (&open, "v3.local.AAAA", "The token header is invalid\n"),
+        (&open, twice.as_str(), NOT_BASE64),
+        (&open, carriage.as_str(), NOT_BASE64),
+        (&open, with_footer_twice.as_str(), BAD_FOOTER),
+    ];
+    'rows: for (words, token, error) in rows {
+        expect(&rt, alloc, words, token.as_bytes(), 1, "", error)?;
+    }
+    expect(
+        &rt,
+        alloc,
+        &["seal", "v4", KEY, ZERO],
+        b"a\xff",
+        1,
+        "",
+        NOT_UTF8,
+    )?;
+    expect(&rt, alloc, &open, b"\xff\n", 1, "", NOT_UTF8)
+}
+
+/// Runs words that are refused before the input is read, and asserts what is left.
+fn expect_unread(
+    rt: &(impl Abort + Eprint),
+    alloc: Global,
+    words: &[&str],
+    status: u8,
+    errors: &str,
+) -> Result<(), Fail> {
+    let args = strings(alloc, words)?;
+    let mut input = Source::whole(b"\xff");
+    let (mut printed, mut said) = (Sink::whole(alloc), Sink::whole(alloc));
+    let left = run(alloc, &args, &mut input, &mut printed, &mut said);
+    assert_eq!(rt; left, status);
+    assert_eq!(rt; said.taken.as_slice(), errors.as_bytes());
+    assert!(rt; printed.taken.is_empty());
+    assert!(rt; !input.was_read);
+    Ok(())
+}
+
+#[test]
+fn other_words_are_a_fault_of_usage(rt: HostRuntime) -> Result<(), Fail> {
+    let alloc = rt.alloc();
+    let seal = ["seal", "v4", KEY, ZERO, "footer", "x", "y"];
+    'seals: for words in [&seal[..0], &seal[..1], &seal[..2], &seal[..3], &seal] {
+        expect_unread(&rt, alloc, words, 2, USAGE)?;
+    }
+    let open = ["open", "v4", KEY, "footer", "x", "y"];
+    'opens: for words in [&open[..1], &open[..2], &open] {
+        expect_unread(&rt, alloc, words, 2, USAGE)?;
+    }
+    let rows: [&[&str]; 7] = [
+        &["inspect", "v4.local.payload"],
+        &["inspect", "v4", KEY, ZERO],
+        &["SEAL", "v4", KEY, ZERO],
+        &["seal", "v1", KEY, ZERO],
+        &["seal", "v2", SHORT_KEY, ZERO],
+        &["open", "v3", KEY],
+        &["open", "v40", KEY],
+    ];
+    'rows: for words in rows {
+        expect_unread(&rt, alloc, words, 2, USAGE)?;
+    }
+    Ok(())
+}
+
+#[test]
+fn a_bad_key_or_nonce_is_refused_before_the_input_is_read(rt: HostRuntime) -> Result<(), Fail> {
+    let alloc = rt.alloc();
+    let rows: [&[&str]; 8] = [
+        &["seal", "v4", SHORT_KEY, ZERO],
+        &["seal", "v4", LONG_KEY, ZERO],
+        &["seal", "v4", NO_KEY, ZERO],
+        &["seal", "v4", KEY, SHORT_KEY],
+        &["seal", "v4", KEY, LONG_KEY],
+        &["seal", "v4", KEY, NO_KEY, "footer"],
+        &["open", "v4", SHORT_KEY],
+        &["open", "v4", ""],
+    ];
+    'rows: for words in rows {
+        expect_unread(&rt, alloc, words, 1, BAD_KEY)?;
+    }
+    Ok(())
+}
+
+#[test]
+fn reads_to_the_end(rt: HostRuntime) -> Result<(), Fail> {
+    let alloc = rt.alloc();
+    let open = strings(alloc, &["open", "v4", KEY])?;
+    'steps: for step in [1, 2, 7, 95] {
+        let mut input = Source {
+            rest: OF_A.as_bytes(),
+            step,
+            fails: false,
+            was_read: false,
+        };
+        let (mut printed, mut said) = (Sink::whole(alloc), Sink::whole(alloc));
+        assert_eq!(rt; run(alloc, &open, &mut input, &mut printed, &mut said), 0);
+        assert_eq!(rt; printed.taken.as_slice(), b"a".as_slice());
+        assert!(rt; said.taken.is_empty());
+    }
+    'lengths: for length in [0, 1, 40] {
+        let mut input = Source {
+            rest: &OF_A.as_bytes()[..length],
+            step: usize::MAX,
+            fails: true,
+            was_read: false,
+        };
+        let (mut printed, mut said) = (Sink::whole(alloc), Sink::whole(alloc));
+        assert_eq!(rt; run(alloc, &open, &mut input, &mut printed, &mut said), 1);
+        assert_eq!(rt; said.taken.as_slice(), INPUT_OR_OUTPUT.as_bytes());
+        assert!(rt; printed.taken.is_empty());
+    }
+    Ok(())
+}
+
+#[test]
+fn a_long_text_comes_back(rt: HostRuntime) -> Result<(), Fail> {
+    let alloc = rt.alloc();
+    let text = vec![in alloc; b'x'; 10_000]?;
+    let seal = strings(alloc, &["seal", "v4", KEY, ZERO, "footer"])?;
+    let (mut token, mut said) = (Sink::whole(alloc), Sink::whole(alloc));
+    assert_eq!(rt;
+        run(
+            alloc,
+            &seal,
+            &mut Source::whole(&text),
+            &mut token,
+            &mut said
+        ),
+        0
+    );
+    // The header, 10,064 bytes in base64, the footer's section and the line feed.
+    assert_eq!(rt; token.taken.len(), 9 + 13_419 + 9 + 1);
+    let open = strings(alloc, &["open", "v4", KEY, "footer"])?;
+    let mut opened = Sink::whole(alloc);
+    let mut input = Source::whole(&token.taken);
+    assert_eq!(rt; run(alloc, &open, &mut input, &mut opened, &mut said), 0);
+    assert_eq!(rt; opened.taken.as_slice(), text.as_slice());
+    assert!(rt; said.taken.is_empty());
+    Ok(())
+}
+
+#[test]
+fn a_writer_that_stops_has_a_beginning(rt: HostRuntime) -> Result<(), Fail> {
+    let alloc = rt.alloc();
+    let seal = strings(alloc, &["seal", "v4", KEY, ZERO])?;
+    let whole = line(alloc, OF_NOTHING)?;
+    assert_eq!(rt; whole.len(), 96);
+    'rooms: for room in 0..97usize {
+        let (status, error) = if room < 96 {
+            (1, INPUT_OR_OUTPUT)
+        } else {
+            (0, "")
+        };
+        'ways: for fails in [true, false] {
+            let mut printed = Sink::with_room(alloc, room);
+            printed.fails = fails;
+            let mut said = Sink::whole(alloc);
+            let left = run(
+                alloc,
+                &seal,
+                &mut Source::whole(b""),
+                &mut printed,
+                &mut said,
+            );
+            assert_eq!(rt; left, status);
+            assert_eq!(rt; printed.taken.len(), room);
+            assert!(rt; whole.as_bytes().starts_with(&printed.taken));
+            assert_eq!(rt; said.taken.as_slice(), error.as_bytes());
+        }
+    }
+    Ok(())
+}
+
+#[test]
+fn a_writer_may_take_a_byte_a_call(rt: HostRuntime) -> Result<(), Fail> {
+    let alloc = rt.alloc();
+    let seal = strings(alloc, &["seal", "v4", KEY, ZERO])?;
+    let (mut printed, mut said) = (Sink::whole(alloc), Sink::whole(alloc));
+    printed.step = 1;
+    assert_eq!(rt;
+        run(
+            alloc,
+            &seal,
+            &mut Source::whole(b""),
+            &mut printed,
+            &mut said
+        ),
+        0
+    );
+    assert_eq!(rt;
+        printed.taken.as_slice(),
+        line(alloc, OF_NOTHING)?.as_bytes()
+    );
+    assert!(rt; said.taken.is_empty());
+    Ok(())
+}
+
+#[test]
+fn a_fault_of_the_error_writer_changes_no_status(rt: HostRuntime) -> Result<(), Fail> {
+    let alloc = rt.alloc();
+    'rooms: for room in [0, 5, usize::MAX] {
+        'rows: for (words, status) in [
+            (["seal", "v4", SHORT_KEY, ZERO], 1),
+            (["seal", "v2", KEY, ZERO], 2),
+        ] {
+            let args = strings(alloc, &words)?;
+            let (mut printed, mut said) = (Sink::whole(alloc), Sink::with_room(alloc, room));
+            let left = run(
+                alloc,
+                &args,
+                &mut Source::whole(b""),
+                &mut printed,
+                &mut said,
+            );
+            assert_eq!(rt; left, status);
+            assert!(rt; printed.taken.is_empty());
+        }
+    }
+    Ok(())
+}
