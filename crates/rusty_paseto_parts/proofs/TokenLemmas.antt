@@ -1,12 +1,11 @@
--- A token's text and its sections: a header, and what follows it.
-use Rattle.std.proofs.Common.{◌≡◌, ℕ, ◌==◌, Bool, true, ◌||◌, not, List, [], ◌∷◌, ◌++◌, codes, nat_eq, refl, sym, ap, ◌∙◌, inl, inr, append_assoc}
+-- The header of a known version and purpose, and that their texts have no dot.
+use Rattle.std.proofs.Common.{◌≡◌, ℕ, ◌==◌, Bool, true, ◌||◌, not, List, [], ◌∷◌, ◌++◌, codes, nat_eq, refl, sym, inl, inr}
 use Rattle.std.specs.Cmp.Lexicographic.{pointwise, same_text}
-use Rattle.std.specs.List.{join_with_byte, list_all}
+use Rattle.std.specs.List.{list_all}
 use Rattle.std.proofs.lemmas.Bool.{cases_Bool}
 use Rattle.std.proofs.lemmas.List.Sums.{AllPass-from_list_all}
 use Rattle.rusty_paseto_parts.specs.Header.{header_text, is_purpose, is_version}
-use Rattle.rusty_paseto_parts.specs.Section.{HasNoDot, sections, spelling}
-use Rattle.rusty_paseto_parts.proofs.SectionLemmas.{AreSections-sections, HasNoDot-spelling, sections-dot, sections-dotless}
+use Rattle.rusty_paseto_parts.specs.Section.{HasNoDot}
 
 -- a header of a known version and purpose
 pub header_text-known : (version purpose : List ℕ) → is_version version ≡ true → is_purpose purpose ≡ true
@@ -40,31 +39,3 @@ pub HasNoDot-purpose : (purpose : List ℕ) → is_purpose purpose ≡ true → 
 HasNoDot-purpose purpose known =
     one_of purpose (codes "local") _ (HasNoDot-from_test (codes "local") refl)
     (λ last. let is : purpose ≡ codes "public" = same_text purpose (codes "public") (sym last) in rw is (HasNoDot-from_test (codes "public") refl)) known
-
--- the sections of a text that begins with a header
-pub sections-header : (version purpose rest : List ℕ) → is_version version ≡ true → is_purpose purpose ≡ true
-    → sections (header_text version purpose ++ rest) ≡ version ∷ purpose ∷ sections rest
-sections-header version purpose rest known_version known_purpose =
-    let whole : header_text version purpose ++ rest ≡ version ++ (46 ∷ (purpose ++ (46 ∷ rest))) =
-    rw (header_text-known version purpose known_version known_purpose) (simp append_assoc) in
-    ap sections whole
-    ∙ sections-dot version (purpose ++ 46 ∷ rest) (HasNoDot-version version known_version)
-    ∙ ap (λ parts. version ∷ parts) (sections-dot purpose rest (HasNoDot-purpose purpose known_purpose))
-
-pub sections-spelling : (bytes : List ℕ) → sections (spelling bytes) ≡ spelling bytes ∷ []
-sections-spelling bytes = sections-dotless (spelling bytes) (HasNoDot-spelling bytes)
-
-pub sections-spelling_footer : (bytes footer : List ℕ) → sections (spelling bytes ++ 46 ∷ spelling footer) ≡ spelling bytes ∷ spelling footer ∷ []
-sections-spelling_footer bytes footer =
-    sections-dot (spelling bytes) (spelling footer) (HasNoDot-spelling bytes) ∙ ap (λ parts. spelling bytes ∷ parts) (sections-spelling footer)
-
--- a text is its sections, joined by dots
-pub sections-joined : (text : List ℕ) (parts : List (List ℕ)) → sections text ≡ parts → text ≡ join_with_byte 46 parts
-sections-joined text parts e = sym (AreSections-sections text).joined ∙ ap (join_with_byte 46) e
-
--- a text whose first two sections make a header begins with it
-pub header-from_sections : (text version purpose part : List ℕ) (parts : List (List ℕ)) → is_version version ≡ true → is_purpose purpose ≡ true
-    → sections text ≡ version ∷ purpose ∷ part ∷ parts → text ≡ header_text version purpose ++ join_with_byte 46 (part ∷ parts)
-header-from_sections text version purpose part parts known_version known_purpose e =
-    sections-joined text (version ∷ purpose ∷ part ∷ parts) e
-    ∙ sym (rw (header_text-known version purpose known_version known_purpose) (simp append_assoc))
