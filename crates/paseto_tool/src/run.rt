@@ -15,6 +15,12 @@ use std::io::{Read, Write};
 mod tests;
 
 /// Does what the words after the program's name ask for, and returns the status.
+///
+/// It is 0 where the whole output was written, 2 where the words ask for nothing that the program
+/// does, and 1 where something was refused, where memory was, or where a read or a write failed; then
+/// the error's text and a line feed go to `errors`. Judged are, in this order, the words (their
+/// number, the command, the version), KEY, NONCE, and the input, which is read whole. What is refused
+/// writes nothing to `output`, and a write that fails leaves a beginning of the output there.
 pub fn run<R: Read, W: Write, E: Write>(
     alloc: Global,
     args: &[String],
