@@ -2,3 +2,4 @@ pub mod WordLemmas
 pub mod Transfers
 pub mod Reasons
 pub mod Refusals
+pub mod Inspections

@@ -1,15 +1,16 @@
 -- Words that are refused, and what is written for those that are not.
-use Rattle.std.proofs.Common.{◌≡◌, ℕ, List, [], ◌⊎◌, inl, inr, Option, None, Some, IfSome, Result, Ok, Err, IfErr, OnOk, OnErr, is_ok, refl, subst}
+use Rattle.std.proofs.Common.{◌≡◌, ℕ, List, ◌⊎◌, inl, inr, Option, None, Some, IfSome, Result, Ok, Err, IfOk, IfErr, OnOk, OnErr, is_ok, refl, subst}
 use Rattle.std.specs.Io.KnownBytes.{Appends}
 use Rattle.paseto_tool.specs.declared.error.ToolError.{ToolError}
 use Rattle.paseto_tool.specs.declared.error.ToolError.TheVariants.{Usage, Refused, InputOrOutput, Memory}
 use Rattle.paseto_tool.specs.Error.{status_of}
 use Rattle.paseto_tool.specs.Arguments.{IsDigits}
-use Rattle.paseto_tool.specs.Arguments.{AsksToSeal, AsksToOpen, IsUsageFault}
+use Rattle.paseto_tool.specs.Arguments.{AsksToInspect, AsksToSeal, AsksToOpen, IsUsageFault}
 use Rattle.paseto_tool.specs.Output.{IsCutShort}
+use Rattle.paseto_tool.specs.Inspect.{Inspects, IsInspectionReason}
 use Rattle.paseto_tool.specs.Seal.{IsSealingReason}
 use Rattle.paseto_tool.specs.Open.{IsOpeningReason}
-use Rattle.paseto_tool.specs.Run.{Prints, PrintsNothing, HasBadKey, bad_key, bad_nonce, bad_opening_key, IsReason, sealing, opening, Writes}
+use Rattle.paseto_tool.specs.Run.{Prints, PrintsNothing, HasBadKey, bad_key, bad_nonce, bad_opening_key, IsReason, inspection, sealing, opening, Writes}
 use Rattle.paseto_tool.proofs.WordLemmas.{AsksToSeal-open, AsksToSeal-key, AsksToOpen-key}
 
 -- words with a bad key are no fault of usage
@@ -64,6 +65,42 @@ pub IsReason-open : {T : Type 0} (result : Result T ToolError) (known : Option (
 IsReason-open (Ok x) known words key footer assertion asks h = tt
 IsReason-open (Err error) None words key footer assertion asks h = tt
 IsReason-open (Err error) (Some bytes) words key footer assertion asks h = opening_reason words key footer assertion bytes error asks h
+
+-- a reason to print no lines is one to print nothing, whatever the input is
+inspection_reason : (words : List (List ℕ)) (token bytes : List ℕ) (error : ToolError)
+    → AsksToInspect words token → IsInspectionReason token error → IsReason words bytes error
+inspection_reason words token bytes Usage asks h = absurd h
+inspection_reason words token bytes (Refused error) asks h = inspection token asks h
+inspection_reason words token bytes InputOrOutput asks h = absurd h
+inspection_reason words token bytes (Memory source) asks h = tt
+
+pub IsReason-inspect : {T : Type 0} (result : Result T ToolError) (known : Option (List ℕ)) (words : List (List ℕ)) (token : List ℕ)
+    → AsksToInspect words token → IfErr result (IsInspectionReason token)
+    → IfErr result (λ error. IfSome known (λ bytes. IsReason words bytes error))
+IsReason-inspect (Ok x) known words token asks h = tt
+IsReason-inspect (Err error) None words token asks h = tt
+IsReason-inspect (Err error) (Some bytes) words token asks h = inspection_reason words token bytes error asks h
+
+-- an inspection fails by no fault of usage
+pub IsInspectionReason-usage : {T : Type 0} (result : Result T ToolError) (token : List ℕ) → IfErr result (IsInspectionReason token) → result ≡ Err Usage → ⊥
+IsInspectionReason-usage result token h e = rw e at h
+
+-- what is printed for every input
+pub Prints-lines : {T E : Type 0} (result : Result T E) (known : Option (List ℕ)) (words : List (List ℕ)) (output : T → List ℕ) (token : List ℕ)
+    → AsksToInspect words token → IfOk result (λ made. Inspects token (output made))
+    → IfOk result (λ made. IfSome known (λ bytes. Prints words bytes (output made)))
+Prints-lines (Err error) known words output token asks h = tt
+Prints-lines (Ok made) None words output token asks h = tt
+Prints-lines (Ok made) (Some bytes) words output token asks h = inl (record { token = token; asks = asks; inspects = h })
+
+-- what is printed for the input that is known
+pub Prints-known : {T E : Type 0} (result : Result T E) (known : Option (List ℕ)) (words : List (List ℕ)) (output : T → List ℕ) (P : List ℕ → List ℕ → Type 0)
+    → ((bytes made : List ℕ) → P bytes made → Prints words bytes made)
+    → IfOk result (λ made. IfSome known (λ bytes. P bytes (output made)))
+    → IfOk result (λ made. IfSome known (λ bytes. Prints words bytes (output made)))
+Prints-known (Err error) known words output P step h = tt
+Prints-known (Ok made) None words output P step h = tt
+Prints-known (Ok made) (Some bytes) words output P step h = step bytes (output made) h
 
 -- what was written of an output is the whole where no write failed, and is else cut short
 pub Writes-made : {T E : Type 0} (result : Result T E) (before after known : Option (List ℕ)) (words : List (List ℕ)) (made : List ℕ)

@@ -13,6 +13,14 @@ map-three f (a ∷ []) x y z c d e n p q r s t u = absurd (omega arith)
 map-three f (a ∷ b ∷ []) x y z c d e n p q r s t u = absurd (omega arith)
 map-three f (a ∷ b ∷ k ∷ xs) x y z c d e n p q r s t u = rw (take_rest, s, t, u, p, q, r)
 
+-- the first two, and the rest
+pub map-two : {A B : Type 0} (f : A → B) (xs : List A) (x y : A) (c d : B) → 2 ≤ length xs
+    → x ≡ get_or xs 0 x → y ≡ get_or xs 1 y → c ≡ f x → d ≡ f y
+    → c ∷ d ∷ map f (take (length xs - 2) (drop 2 xs)) ≡ map f xs
+map-two f [] x y c d n p q s t = absurd (omega arith)
+map-two f (a ∷ []) x y c d n p q s t = absurd (omega arith)
+map-two f (a ∷ b ∷ xs) x y c d n p q s t = rw (take_rest, s, t, p, q)
+
 -- the first, and the rest
 pub map-one : {A B : Type 0} (f : A → B) (xs : List A) (x : A) (c : B) → 1 ≤ length xs → x ≡ get_or xs 0 x → c ≡ f x
     → map f xs ≡ c ∷ map f (take (length xs - 1) (drop 1 xs))

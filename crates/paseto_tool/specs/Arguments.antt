@@ -1,5 +1,5 @@
 -- What the words after the program's name ask for.
-use Rattle.std.specs.Prelude.{◌≡◌, ℕ, List, ◌∷◌, ◌++◌, Option, IsSome, option_map, option_to_list, codes, Ok, map, string_bytes}
+use Rattle.std.specs.Prelude.{◌≡◌, ℕ, List, [], ◌∷◌, ◌++◌, Option, IsSome, option_map, option_to_list, codes, Ok, map, string_bytes}
 use Rattle.std.specs.declared.alloc.Global.{Global}
 use Rattle.std.specs.declared.string.String.{String}
 use Rattle.hex.specs.Hex.{decode_of}
@@ -8,7 +8,7 @@ use Rattle.rusty_paseto_parts.specs.Footer.{footer_text}
 use Rattle.rusty_paseto_parts.specs.ImplicitAssertion.{assertion_text}
 use Rattle.paseto_tool.specs.declared.arguments.Attachments.{Attachments}
 use Rattle.paseto_tool.specs.declared.arguments.Command.{Command}
-use Rattle.paseto_tool.specs.declared.arguments.Command.TheVariants.{Seal, Open}
+use Rattle.paseto_tool.specs.declared.arguments.Command.TheVariants.{Inspect, Seal, Open}
 
 -- the texts of the words
 abbrev pub words_of : List (String Global) → List (List ℕ)
@@ -28,6 +28,10 @@ pub record AreLast (words : List (List ℕ)) (footer assertion : Option (List �
   pub words_are : words ≡ option_to_list footer ++ option_to_list assertion
   pub in_order : IsSome assertion → IsSome footer
 
+-- `inspect TOKEN`
+abbrev pub AsksToInspect : List (List ℕ) → List ℕ → Type 0
+AsksToInspect words token = words ≡ codes "inspect" ∷ token ∷ []
+
 -- `seal v4 KEY NONCE [FOOTER [ASSERTION]]`
 pub record AsksToSeal (words : List (List ℕ)) (key nonce : List ℕ) (footer assertion : Option (List ℕ)) : Type 0 where
   pub last : List (List ℕ)
@@ -42,6 +46,7 @@ pub record AsksToOpen (words : List (List ℕ)) (key : List ℕ) (footer asserti
 
 -- the words ask for nothing that the program does
 pub record IsUsageFault (words : List (List ℕ)) : Type 0 where
+  pub no_inspect : (token : List ℕ) → ¬ AsksToInspect words token
   pub no_seal : (key nonce : List ℕ) (footer assertion : Option (List ℕ)) → ¬ AsksToSeal words key nonce footer assertion
   pub no_open : (key : List ℕ) (footer assertion : Option (List ℕ)) → ¬ AsksToOpen words key footer assertion
 
@@ -54,6 +59,7 @@ given_assertion attachments = option_map assertion_text attachments.implicit_ass
 
 -- the words ask for this command
 abbrev pub Asks : List (List ℕ) → Command → Type 0
+Asks words (Inspect command) = AsksToInspect words command.token.now
 Asks words (Seal command) =
     AsksToSeal words command.key.now command.nonce.now (given_footer command.attachments) (given_assertion command.attachments)
 Asks words (Open command) =

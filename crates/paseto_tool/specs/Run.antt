@@ -3,11 +3,20 @@ use Rattle.std.specs.Prelude.{◌≡◌, ℕ, List, [], ◌⊎◌, Option, Bool,
 use Rattle.rusty_paseto_parts.specs.declared.error.PasetoError.{PasetoError}
 use Rattle.paseto_tool.specs.declared.error.ToolError.{ToolError}
 use Rattle.paseto_tool.specs.declared.error.ToolError.TheVariants.{Usage, Refused, InputOrOutput, Memory}
-use Rattle.paseto_tool.specs.Arguments.{AsksToSeal, AsksToOpen, IsUsageFault}
+use Rattle.paseto_tool.specs.Arguments.{AsksToInspect, AsksToSeal, AsksToOpen, IsUsageFault}
 use Rattle.paseto_tool.specs.Arguments.{IsDigits}
 use Rattle.paseto_tool.specs.Output.{IsCutShort}
+use Rattle.rusty_paseto_parts.specs.Section.{sections}
+use Rattle.rusty_paseto_parts.specs.UntrustedToken.{IsTokenFooterFault}
+use Rattle.paseto_tool.specs.Inspect.{Inspects}
 use Rattle.paseto_tool.specs.Seal.{Seals, RefusesSealing}
 use Rattle.paseto_tool.specs.Open.{OpensTo, RefusesOpening}
+
+-- an inspection is asked for, and the output is its lines, whatever the input is
+pub record PrintsLines (words : List (List ℕ)) (output : List ℕ) : Type 0 where
+  pub token : List ℕ
+  pub asks : AsksToInspect words token
+  pub inspects : Inspects token output
 
 -- a sealing of the input is asked for, and the output is its line
 pub record PrintsToken (words : List (List ℕ)) (input output : List ℕ) : Type 0 where
@@ -28,7 +37,7 @@ pub record PrintsText (words : List (List ℕ)) (input output : List ℕ) : Type
 
 -- the words and the input have this output
 abbrev pub Prints : List (List ℕ) → List ℕ → List ℕ → Type 0
-Prints words input output = PrintsToken words input output ⊎ PrintsText words input output
+Prints words input output = PrintsLines words output ⊎ PrintsToken words input output ⊎ PrintsText words input output
 
 -- the words and the input have no output
 abbrev pub PrintsNothing : List (List ℕ) → List ℕ → Type 0
@@ -42,6 +51,7 @@ pub data HasBadKey (words : List (List ℕ)) : Type 0 where
 
 -- the error refuses what the words ask for
 pub data Refuses (words : List (List ℕ)) (input : List ℕ) (error : PasetoError) : Type 0 where
+  inspection : (token : List ℕ) → AsksToInspect words token → IsTokenFooterFault (sections token) error → Refuses words input error
   sealing : (key nonce : List ℕ) (footer assertion : Option (List ℕ)) → AsksToSeal words key nonce footer assertion
       → RefusesSealing key nonce input error → Refuses words input error
   opening : (key : List ℕ) (footer assertion : Option (List ℕ)) → AsksToOpen words key footer assertion

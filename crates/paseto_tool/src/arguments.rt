@@ -1,8 +1,9 @@
 //! What the words after the program's name ask for.
 
-ghost use Rattle.std.specs.Prelude.{◌≡◌, ◌<◌, ◌↔◌, ◌∷◌, codes, length, MatchOption, IfSome, IsNone};
+ghost use Rattle.std.specs.Prelude.{◌≡◌, ◌<◌, ◌↔◌, ◌∷◌, codes, length, MatchOption, IfSome, IsNone, IsTrue};
 ghost use Rattle.paseto_tool.specs.Arguments.{words_of, AreLast, IsUsageFault, Asks, given_footer, given_assertion};
 
+use crate::inspect::Inspection;
 use crate::open::Opening;
 use crate::seal::Sealing;
 use rusty_paseto_core::{Footer, ImplicitAssertion};
@@ -13,6 +14,8 @@ const VERSION: &str = "v4";
 /// What the words ask for.
 #[derive(Clone, Copy)]
 pub enum Command<'a> {
+    /// `inspect TOKEN`
+    Inspect(Inspection<'a>),
     /// `seal VERSION KEY NONCE [FOOTER [ASSERTION]]`
     Seal(Sealing<'a>),
     /// `open VERSION KEY [FOOTER [ASSERTION]]`
@@ -26,29 +29,42 @@ impl<'a> Command<'a> {
         ensures asked { IfSome result (Asks (words_of words.now)) }
         ensures fault { IsNone result ↔ IsUsageFault (words_of words.now) }
     {
-        let [command, version, key, rest @ ..] = words else {
+        let [command, rest @ ..] = words else {
             return None;
         };
-        if version.as_str() != VERSION {
-            return None;
-        }
         match command.as_str() {
-            "seal" => Command::sealing(key, rest),
-            "open" => Command::opening(key, rest),
+            "inspect" => Command::inspection(rest),
+            "seal" => Command::sealing(rest),
+            "open" => Command::opening(rest),
             _ => None,
         }
     }
 
-    /// A sealing under the key, of the words after it.
-    fn sealing(key: &'a str, words: &'a [String]) -> Option<Command<'a>>
-        ensures asked { IfSome result (Asks (codes "seal" ∷ codes "v4" ∷ key.now ∷ words_of words.now)) }
-        ensures fault { IsNone result ↔ IsUsageFault (codes "seal" ∷ codes "v4" ∷ key.now ∷ words_of words.now) }
+    /// An inspection, of the words after `inspect`.
+    fn inspection(words: &'a [String]) -> Option<Command<'a>>
+        ensures asked { IfSome result (Asks (codes "inspect" ∷ words_of words.now)) }
+        ensures fault { IsNone result ↔ IsUsageFault (codes "inspect" ∷ words_of words.now) }
     {
-        let [nonce, rest @ ..] = words else {
+        let [token] = words else {
             return None;
         };
+        let token = token.as_str();
+        Some(Command::Inspect(Inspection { token }))
+    }
+
+    /// A sealing, of the words after `seal`.
+    fn sealing(words: &'a [String]) -> Option<Command<'a>>
+        ensures asked { IfSome result (Asks (codes "seal" ∷ words_of words.now)) }
+        ensures fault { IsNone result ↔ IsUsageFault (codes "seal" ∷ words_of words.now) }
+    {
+        let [version, key, nonce, rest @ ..] = words else {
+            return None;
+        };
+        if !is_version(version) {
+            return None;
+        }
         let attachments = Attachments::parse(rest)?;
-        let nonce = nonce.as_str();
+        let (key, nonce) = (key.as_str(), nonce.as_str());
         Some(Command::Seal(Sealing {
             key,
             nonce,
@@ -56,14 +72,28 @@ impl<'a> Command<'a> {
         }))
     }
 
-    /// An opening under the key, of the words after it.
-    fn opening(key: &'a str, words: &'a [String]) -> Option<Command<'a>>
-        ensures asked { IfSome result (Asks (codes "open" ∷ codes "v4" ∷ key.now ∷ words_of words.now)) }
-        ensures fault { IsNone result ↔ IsUsageFault (codes "open" ∷ codes "v4" ∷ key.now ∷ words_of words.now) }
+    /// An opening, of the words after `open`.
+    fn opening(words: &'a [String]) -> Option<Command<'a>>
+        ensures asked { IfSome result (Asks (codes "open" ∷ words_of words.now)) }
+        ensures fault { IsNone result ↔ IsUsageFault (codes "open" ∷ words_of words.now) }
     {
-        let attachments = Attachments::parse(words)?;
+        let [version, key, rest @ ..] = words else {
+            return None;
+        };
+        if !is_version(version) {
+            return None;
+        }
+        let attachments = Attachments::parse(rest)?;
+        let key = key.as_str();
         Some(Command::Open(Opening { key, attachments }))
     }
+}
+
+/// Whether the word is a version that the program seals and opens.
+fn is_version(word: &str) -> bool
+    ensures { IsTrue result ↔ (word.now ≡ codes "v4") }
+{
+    word == VERSION
 }
 
 /// The footer and the implicit assertion, where they are given.

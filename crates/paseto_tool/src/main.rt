@@ -1,9 +1,10 @@
-//! Seals and opens PASETO tokens.
+//! Looks at, seals and opens PASETO tokens.
 #![tactic(auto)]
 
 mod arguments;
 mod error;
 mod input;
+mod inspect;
 mod open;
 mod output;
 mod run;

@@ -2,7 +2,7 @@
 
 ghost use Rattle.std.specs.Prelude.{◌≡◌, ◌≢◌, ◌≤◌, ◌==◌, ◌↔◌, ◌⊎◌, ℕ, List, IfOk, IfErr, IfSome, IsErr, Err, is_ok, string_bytes};
 ghost use Rattle.std.specs.Io.KnownBytes.{Appends};
-ghost use Rattle.paseto_tool.specs.Arguments.{words_of, IsUsageFault};
+ghost use Rattle.paseto_tool.specs.Arguments.{words_of, AsksToInspect, IsUsageFault};
 ghost use Rattle.paseto_tool.specs.Run.{Prints, PrintsNothing, HasBadKey, IsReason, Writes};
 
 use crate::arguments::Command;
@@ -19,8 +19,9 @@ mod tests;
 /// It is 0 where the whole output was written, 2 where the words ask for nothing that the program
 /// does, and 1 where something was refused, where memory was, or where a read or a write failed; then
 /// the error's text and a line feed go to `errors`. Judged are, in this order, the words (their
-/// number, the command, the version), KEY, NONCE, and the input, which is read whole. What is refused
-/// writes nothing to `output`, and a write that fails leaves a beginning of the output there.
+/// number, the command, the version), KEY, NONCE, and the input, which is read whole, save that
+/// `inspect` reads none of it. What is refused writes nothing to `output`, and a write that fails
+/// leaves a beginning of the output there.
 pub fn run<R: Read, W: Write, E: Write>(
     alloc: Global,
     args: &[String],
@@ -37,6 +38,7 @@ pub fn run<R: Read, W: Write, E: Write>(
     ensures bad_key { HasBadKey (words_of args.now) → result ≡ 1 }
     ensures unread { IsUsageFault (words_of args.now) ⊎ HasBadKey (words_of args.now)
         → (input.new ≡ input.old) × (output.new ≡ output.old) }
+    ensures untouched { (token : List ℕ) → AsksToInspect (words_of args.now) token → input.new ≡ input.old }
     ensures quiet { result ≡ 0 → errors.new ≡ errors.old }
 {
     match print(alloc, args, input, output) {
@@ -66,6 +68,7 @@ fn print<R: Read, W: Write>(
     ensures bad_key { HasBadKey (words_of args.now) → IsErr result }
     ensures unread { IsUsageFault (words_of args.now) ⊎ HasBadKey (words_of args.now)
         → (input.new ≡ input.old) × (output.new ≡ output.old) }
+    ensures untouched { (token : List ℕ) → AsksToInspect (words_of args.now) token → input.new ≡ input.old }
 {
     let made = make(alloc, args, input)?;
     write_whole(output, made.as_str().as_bytes())
@@ -81,8 +84,10 @@ fn make<R: Read>(alloc: Global, args: &[String], input: &mut R) -> Result<String
     ensures bad_key { HasBadKey (words_of args.now) → IsErr result }
     ensures unread { IsUsageFault (words_of args.now) ⊎ HasBadKey (words_of args.now)
         → input.new ≡ input.old }
+    ensures untouched { (token : List ℕ) → AsksToInspect (words_of args.now) token → input.new ≡ input.old }
 {
     match Command::parse(args) {
+        Some(Command::Inspect(command)) => command.lines(alloc),
         Some(Command::Seal(command)) => command.line(alloc, input),
         Some(Command::Open(command)) => command.text(alloc, input),
         None => Err(ToolError::Usage),

@@ -4,10 +4,10 @@ use Rattle.std.proofs.lemmas.List.{append-nil}
 use Rattle.std.specs.List.{join_with_byte}
 use Rattle.std.proofs.lemmas.List.Splits.{join_with_byte-slice_split}
 use Rattle.rusty_paseto_primitives.specs.Bytes.{IsBytes}
-use Rattle.rusty_paseto_parts.specs.Section.{spelling, sections}
+use Rattle.rusty_paseto_parts.specs.Section.{HasCount, spelling, sections}
 use Rattle.rusty_paseto_parts.specs.declared.error.PasetoError.{PasetoError}
 use Rattle.rusty_paseto_parts.specs.declared.error.PasetoError.TheVariants.{IncorrectSize, WrongHeader, FooterInvalid, PayloadBase64Decode}
-use Rattle.rusty_paseto_core.specs.Framing.{IsHeader, footer_part, framing, HasCount, HasFooter, HasHeader, Spells, IsFramed, IsFramingFault}
+use Rattle.rusty_paseto_core.specs.Framing.{IsHeader, footer_part, framing, HasFooter, HasHeader, Spells, IsFramed, IsFramingFault}
 use Rattle.rusty_paseto_parts.proofs.SectionLemmas.{HasNoDot-spelling, spelling-injective, sections-dot, sections-dotless}
 
 regroup : (version purpose section rest : List ℕ)

@@ -2,10 +2,10 @@
 use Rattle.std.proofs.Common.{◌≡◌, ℕ, List, [], ◌∷◌, length, map, Bor, Option, Some, None, slice_index_or, IfSome, Result, Ok, Err, IfErr, ◌⊎◌, inl, inr, Bool, false, IsTrue, ◌↔◌, refl, arith, lit≤}
 use Rattle.std.specs.Option.{option_to_list}
 use Rattle.rusty_paseto_parts.specs.Error.{IsMemory}
-use Rattle.rusty_paseto_parts.specs.Section.{IsSectionFault, sections, spelling}
+use Rattle.rusty_paseto_parts.specs.Section.{HasCount, IsSectionFault, sections, spelling}
 use Rattle.rusty_paseto_parts.specs.declared.error.PasetoError.{PasetoError}
 use Rattle.rusty_paseto_parts.specs.declared.error.PasetoError.TheVariants.{Memory, PayloadBase64Decode}
-use Rattle.rusty_paseto_core.specs.Framing.{HasCount, HasFooter, HasHeader, IsFramingFault}
+use Rattle.rusty_paseto_core.specs.Framing.{HasFooter, HasHeader, IsFramingFault}
 
 -- the texts that are lent
 abbrev pub texts : List (Bor (List ℕ)) → List (List ℕ)

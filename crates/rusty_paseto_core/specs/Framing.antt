@@ -1,9 +1,9 @@
 -- The framing of a token, which is the same for all versions and purposes: sections between dots,
 -- of which the first two are the header's texts, the third spells the payload, and a fourth, where
 -- there is one, spells the footer.
-use Rattle.std.specs.Prelude.{◌≡◌, ℕ, ◌≤◌, Bool, true, false, List, [], ◌∷◌, ◌++◌, length}
+use Rattle.std.specs.Prelude.{◌≡◌, ℕ, Bool, true, false, List, [], ◌∷◌, ◌++◌}
 use Rattle.rusty_paseto_primitives.specs.Bytes.{IsBytes}
-use Rattle.rusty_paseto_parts.specs.Section.{HasNoDot, sections, spelling}
+use Rattle.rusty_paseto_parts.specs.Section.{HasCount, HasNoDot, sections, spelling}
 use Rattle.rusty_paseto_parts.specs.declared.error.PasetoError.{PasetoError}
 use Rattle.rusty_paseto_parts.specs.declared.error.PasetoError.TheVariants.{IncorrectSize, WrongHeader, FooterInvalid, PayloadBase64Decode}
 
@@ -21,10 +21,6 @@ pub record IsHeader (version purpose header : List ℕ) : Type 0 where
   pub plain_version : HasNoDot version
   pub plain_purpose : HasNoDot purpose
   pub text : header ≡ version ++ (46 ∷ (purpose ++ (46 ∷ [])))
-
--- there are three sections or four
-abbrev pub HasCount : List (List ℕ) → Type 0
-HasCount parts = (3 ≤ length parts) × (length parts ≤ 4)
 
 -- a fourth section, where there is one, is the expected footer's
 abbrev pub HasFooter : List ℕ → List (List ℕ) → Type 0

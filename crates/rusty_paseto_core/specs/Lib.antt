@@ -12,3 +12,4 @@ pub use Rattle.rusty_paseto_parts.specs.ImplicitAssertion
 pub use Rattle.rusty_paseto_parts.specs.Key
 pub use Rattle.rusty_paseto_parts.specs.PreAuthenticationEncoding
 pub use Rattle.rusty_paseto_parts.specs.Section
+pub use Rattle.rusty_paseto_parts.specs.UntrustedToken

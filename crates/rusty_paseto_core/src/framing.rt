@@ -4,9 +4,9 @@
 ghost use Rattle.std.specs.Prelude.{◌≡◌, ◌↔◌, ℕ, List, [], ◌∷◌, ◌⊎◌, IsTrue, IfOk, IfErr, OnOk, IfSome, is_some};
 ghost use Rattle.std.specs.String.{string_bytes};
 ghost use Rattle.rusty_paseto_parts.specs.Error.{IsMemory};
-ghost use Rattle.rusty_paseto_parts.specs.Section.{sections, spelling};
+ghost use Rattle.rusty_paseto_parts.specs.Section.{HasCount, sections, spelling};
 ghost use Rattle.rusty_paseto_core.specs.Binding.{footer_of};
-ghost use Rattle.rusty_paseto_core.specs.Framing.{HasCount, IsFramed, IsFramingFault, framing};
+ghost use Rattle.rusty_paseto_core.specs.Framing.{IsFramed, IsFramingFault, framing};
 
 use rusty_paseto_parts::{
     Footer, PasetoError, PurposeTrait, VersionTrait, encode_section, from_section, split_token,

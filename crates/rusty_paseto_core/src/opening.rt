@@ -3,8 +3,7 @@
 ghost use Rattle.std.specs.Prelude.{◌≡◌, ◌↔◌, ◌+◌, ◌≤◌, ℕ, List, ◌⊎◌, IsTrue, IsUtf8, IfOk, IfErr, MatchResult, length, take, drop, vec_len};
 ghost use Rattle.std.specs.String.{string_bytes};
 ghost use Rattle.rusty_paseto_parts.specs.Error.{IsMemory};
-ghost use Rattle.rusty_paseto_parts.specs.Section.{sections};
-ghost use Rattle.rusty_paseto_core.specs.Framing.{HasCount};
+ghost use Rattle.rusty_paseto_parts.specs.Section.{HasCount, sections};
 ghost use Rattle.rusty_paseto_core.specs.Opening.{HasRoom, HasTag, HoldsText, IsFault, IsSealedFault, Opens};
 
 use crate::context::Context;

@@ -6,3 +6,4 @@ pub mod ImplicitAssertion
 pub mod Key
 pub mod PreAuthenticationEncoding
 pub mod Section
+pub mod UntrustedToken

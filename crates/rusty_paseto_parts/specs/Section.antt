@@ -1,5 +1,5 @@
 -- The sections of a token's text, and their spelling (PASETO specification, "PASETO Message Format").
-use Rattle.std.specs.Prelude.{◌≡◌, ◌≢◌, ℕ, ◌<◌, ◌==◌, List, length, ⊤, All}
+use Rattle.std.specs.Prelude.{◌≡◌, ◌≢◌, ℕ, ◌<◌, ◌≤◌, ◌==◌, List, length, ⊤, All}
 use Rattle.std.specs.List.{slice_split, join_with_byte}
 use Rattle.base64.specs.Engines.{url_safe_no_pad}
 use Rattle.base64.specs.GeneralPurpose.{IsBytes, encode_of}
@@ -19,6 +19,10 @@ pub record AreSections (text : List ℕ) (parts : List (List ℕ)) : Type 0 wher
   pub some : 0 < length parts
   pub dotless : All HasNoDot parts
   pub joined : join_with_byte 46 parts ≡ text
+
+-- there are three sections or four
+abbrev pub HasCount : List (List ℕ) → Type 0
+HasCount parts = (3 ≤ length parts) × (length parts ≤ 4)
 
 -- base64url without padding (RFC 4648, section 5)
 unfoldable pub spelling : List ℕ → List ℕ

@@ -1,5 +1,6 @@
 //! The parts of PASETO tokens: versions and purposes, the texts that a token carries, keys and
-//! nonces, pre-authentication encoding, and the sections of a token's text.
+//! nonces, pre-authentication encoding, the sections of a token's text, and what a token says before
+//! it is opened.
 #![tactic(auto)]
 
 pub mod error;
@@ -11,6 +12,7 @@ pub mod section;
 #[cfg(test)]
 mod tests;
 pub mod texts;
+pub mod untrusted_token;
 pub mod version;
 
 pub use error::PasetoError;
@@ -25,5 +27,6 @@ pub use texts::footer::Footer;
 pub use texts::header::Header;
 pub use texts::implicit_assertion::ImplicitAssertion;
 pub use texts::payload::Payload;
+pub use untrusted_token::UntrustedToken;
 pub use version::v4::V4;
 pub use version::{ImplicitAssertionCapable, V2orV4, VersionTrait};

@@ -1,11 +1,11 @@
 //! The sections of a token's text, and how bytes are spelled in them.
 
-ghost use Rattle.std.specs.Prelude.{◌≡◌, ◌↔◌, ◌++◌, ◌∷◌, [], ◌⊎◌, ℕ, List, length, map, IsSome, IsErr, IfOk, IfErr, IfSome, OnOk, OnErr, MatchResult};
+ghost use Rattle.std.specs.Prelude.{◌≡◌, ◌↔◌, ◌++◌, ◌∷◌, [], ℕ, List, length, map, IsSome, IsErr, IfOk, IfErr, IfSome, OnOk, OnErr, MatchResult};
 ghost use Rattle.std.specs.Option.{option_map_or, option_to_list};
 ghost use Rattle.std.specs.String.{string_bytes};
 ghost use Rattle.base64.specs.GeneralPurpose.{IsBytes};
 ghost use Rattle.rusty_paseto_parts.specs.Error.{IsMemory};
-ghost use Rattle.rusty_paseto_parts.specs.Section.{IsNoSpelling, IsSectionFault, sections, spelling};
+ghost use Rattle.rusty_paseto_parts.specs.Section.{HasCount, IsNoSpelling, IsSectionFault, sections, spelling};
 
 use crate::error::PasetoError;
 use base64::DecodeAllocError;
@@ -19,8 +19,7 @@ use std::alloc::{AllocError, Global};
 ///
 /// Source: PASETO specification, "PASETO Message Format".
 pub fn split_token(token: &str) -> Option<([&str; 3], Option<&str>)>
-    ensures found { IsSome result
-        ↔ ((length (sections token.now) ≡ 3) ⊎ (length (sections token.now) ≡ 4)) }
+    ensures found { IsSome result ↔ HasCount (sections token.now) }
     ensures parts { IfSome result (λ found. sections token.now
         ≡ map (λ part. part.now) found.0 ++ map (λ part. part.now) (option_to_list found.1)) }
     ensures three { IfSome result (λ found. length found.0 ≡ 3) }

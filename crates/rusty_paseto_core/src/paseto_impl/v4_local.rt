@@ -4,9 +4,8 @@ ghost use Rattle.std.specs.Prelude.{◌≡◌, ℕ, List, ◌⊎◌, IfOk, IfErr
 ghost use Rattle.std.specs.String.{string_bytes};
 ghost use Rattle.rusty_paseto_parts.specs.Error.{IsMemory};
 ghost use Rattle.rusty_paseto_parts.specs.Payload.{payload_text};
-ghost use Rattle.rusty_paseto_parts.specs.Section.{sections};
+ghost use Rattle.rusty_paseto_parts.specs.Section.{HasCount, sections};
 ghost use Rattle.rusty_paseto_core.specs.Binding.{binding_of};
-ghost use Rattle.rusty_paseto_core.specs.Framing.{HasCount};
 ghost use Rattle.rusty_paseto_core.specs.Sealing.{sealing};
 ghost use Rattle.rusty_paseto_core.specs.Suite.V4.{v4};
 ghost use Rattle.rusty_paseto_core.specs.Opening.{IsFault, Opens};

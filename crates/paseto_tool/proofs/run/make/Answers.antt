@@ -1,6 +1,28 @@
-use Rattle.std.proofs.Common.{inl, inr}
-use Rattle.paseto_tool.proofs.Refusals.{HasBadKey-seal, HasBadKey-open, IsReason-seal, IsReason-open}
+use Rattle.std.proofs.Common.{inl, inr, string_bytes}
+use Rattle.paseto_tool.proofs.Refusals.{HasBadKey-seal, HasBadKey-open, IsReason-inspect, IsReason-seal, IsReason-open, Prints-lines, Prints-known}
 use Rattle.paseto_tool.proofs.run.make.Goals as goal
+
+pub returns-in-Some-Inspect-clause-reason : goal.returns-in-Some-Inspect-clause-reason
+returns-in-Some-Inspect-clause-reason g c =
+    IsReason-inspect c.lines.result _ _ _ (rw c.in-Some-Inspect.field-0-is at c.in-Some-Inspect.ensures.asked) c.lines.ensures.refused
+
+pub returns-in-Some-Inspect-clause-printed : goal.returns-in-Some-Inspect-clause-printed
+returns-in-Some-Inspect-clause-printed g c =
+    Prints-lines c.lines.result _ _ string_bytes _ (rw c.in-Some-Inspect.field-0-is at c.in-Some-Inspect.ensures.asked) c.lines.ensures.printed
+
+pub returns-in-Some-Seal-clause-printed : goal.returns-in-Some-Seal-clause-printed
+returns-in-Some-Seal-clause-printed g c =
+    let asks = rw c.in-Some-Seal.field-0-is at c.in-Some-Seal.ensures.asked in
+    Prints-known c.line.result _ _ string_bytes _
+    (λ bytes made seals. inr (inl (record { key = _; nonce = _; footer = _; assertion = _; asks = asks; seals = seals })))
+    c.line.ensures.printed
+
+pub returns-in-Some-Open-clause-printed : goal.returns-in-Some-Open-clause-printed
+returns-in-Some-Open-clause-printed g c =
+    let asks = rw c.in-Some-Open.field-0-is at c.in-Some-Open.ensures.asked in
+    Prints-known c.text.result _ _ string_bytes _
+    (λ bytes made opens. inr (inr (record { key = _; footer = _; assertion = _; asks = asks; opens = opens })))
+    c.text.ensures.printed
 
 pub returns-in-Some-Seal-clause-bad_key : goal.returns-in-Some-Seal-clause-bad_key
 returns-in-Some-Seal-clause-bad_key g c = λ bad.

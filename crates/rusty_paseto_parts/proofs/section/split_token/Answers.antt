@@ -1,4 +1,4 @@
-use Rattle.std.proofs.Common.{◌≡◌, ◌+◌, ◌<◌, length, arith, inl, inr}
+use Rattle.std.proofs.Common.{◌≡◌, ◌+◌, ◌<◌, length, arith}
 use Rattle.rusty_paseto_parts.specs.Section.{sections}
 use Rattle.rusty_paseto_parts.proofs.SectionLemmas.{more_sections, some_section}
 use Rattle.rusty_paseto_parts.proofs.section.split_token.Goals as goal
@@ -10,4 +10,4 @@ returns-in-Some-rest-clause-found c =
     let three : length (sections c.in_ok-rest-2.field-0.now) ≡ length (sections c.in-Some.rest.now) + 1 = more_sections _ _ _ _ c.first_section-3.ensures c.in-Some.is in
     let four : length (sections c.in-Some.rest.now) ≡ length (sections c.in-Some-rest.field-0.now) + 1 = more_sections _ _ _ _ c.first_section-4.ensures c.in-Some-rest.is in
     let five : 0 < length (sections c.in-Some-rest.field-0.now) = some_section c.in-Some-rest.field-0.now in
-    (λ h. cc h, λ h. elim h [ inl is ↦ absurd (omega arith) | inr is ↦ absurd (omega arith) ])
+    (λ h. cc h, λ h. absurd (omega (arith, h.1)))

@@ -1,0 +1,108 @@
+//! A token's sections, before the token is opened.
+
+ghost use Rattle.std.specs.Prelude.{◌≡◌, ◌↔◌, ℕ, List, Option, Some, option_map, IsOk, IfOk, IfErr, MatchResult};
+ghost use Rattle.std.specs.String.{string_bytes};
+ghost use Rattle.rusty_paseto_parts.specs.Error.{IsMemory};
+ghost use Rattle.rusty_paseto_parts.specs.Section.{HasCount, sections};
+ghost use Rattle.rusty_paseto_parts.specs.UntrustedToken.{AreKept, HasFooterBytes, HasFooterText, IsFooterFault, IsFooterTextFault, footer_section, purpose_section, version_section};
+
+use crate::error::PasetoError;
+use crate::section::{from_section, split_token};
+use std::alloc::Global;
+
+/// What a token says of itself before it is opened, so that a service can choose a key for it.
+///
+/// Nothing of it is to be trusted: no key, tag or signature has been looked at, and anyone can
+/// write such a text.
+///
+/// ```ignore
+/// let untrusted = UntrustedToken::try_parse("v4.local.payload.Zm9vdGVy")?;
+/// assert_eq!(untrusted.version(), "v4");
+/// assert_eq!(untrusted.footer_base64(), Some("Zm9vdGVy"));
+/// ```
+#[derive(Clone, Copy, Debug)]
+pub struct UntrustedToken<'a> {
+    version: &'a str,
+    purpose: &'a str,
+    footer: Option<&'a str>,
+}
+
+impl<'a> UntrustedToken<'a> {
+    /// Keeps the sections of a token, which are lent and not copied: no memory is taken.
+    ///
+    /// `IncorrectSize` comes exactly where the sections are not three or four. They may be empty,
+    /// and nothing else is asked of them.
+    pub fn try_parse(token: &'a str) -> Result<UntrustedToken<'a>, PasetoError>
+        ensures kept { IfOk result (AreKept (sections token.now)) }
+        ensures count { IsOk result ↔ HasCount (sections token.now) }
+        ensures err { IfErr result (λ error. error ≡ PasetoError.IncorrectSize) }
+    {
+        let Some(parts) = split_token(token) else {
+            return Err(PasetoError::IncorrectSize);
+        };
+        let required = parts.0;
+        Ok(UntrustedToken {
+            version: required[0],
+            purpose: required[1],
+            footer: parts.1,
+        })
+    }
+
+    /// The first section, whatever it is. In a token it is the version's text, as `v4`.
+    pub fn version(&self) -> &'a str
+        ensures { result.now ≡ version_section self.now }
+    {
+        self.version
+    }
+
+    /// The second section, whatever it is. In a token it is the purpose's text, as `local`.
+    pub fn purpose(&self) -> &'a str
+        ensures { result.now ≡ purpose_section self.now }
+    {
+        self.purpose
+    }
+
+    /// The fourth section as it stands in the token, or `None` where there are three.
+    pub fn footer_base64(&self) -> Option<&'a str>
+        ensures { option_map (λ section. section.now) result ≡ footer_section self.now }
+    {
+        self.footer
+    }
+
+    /// The bytes of the footer, or `None` where there is no fourth section.
+    ///
+    /// `PayloadBase64Decode` comes exactly where the fourth section is the spelling of no list of
+    /// bytes, the empty one included.
+    pub fn footer_decoded(&self, alloc: Global) -> Result<Option<Vec<u8>>, PasetoError>
+        ensures ok { IfOk result (λ found. HasFooterBytes (footer_section self.now) (option_map (λ bytes. bytes.items) found)) }
+        ensures read { (footer : Option (List ℕ)) → HasFooterBytes (footer_section self.now) footer
+            → MatchResult result (λ found. option_map (λ bytes. bytes.items) found ≡ footer) IsMemory }
+        ensures err { IfErr result (IsFooterFault (footer_section self.now)) }
+    {
+        match self.footer {
+            Some(section) => Ok(Some(from_section(alloc, section)?)),
+            None => Ok(None),
+        }
+    }
+
+    /// The text of the footer, or `None` where there is no fourth section.
+    ///
+    /// `PayloadBase64Decode` comes exactly where the fourth section is the spelling of no list of
+    /// bytes, and `Utf8Error` exactly where it is the spelling of bytes that are not UTF-8.
+    pub fn footer_str(&self, alloc: Global) -> Result<Option<String>, PasetoError>
+        ensures ok { IfOk result (λ found. HasFooterText (footer_section self.now) (option_map string_bytes found)) }
+        ensures read { (text : Option (List ℕ)) → HasFooterText (footer_section self.now) text
+            → MatchResult result (λ found. option_map string_bytes found ≡ text) IsMemory }
+        ensures err { IfErr result (IsFooterTextFault (footer_section self.now)) }
+    {
+        let Some(bytes) = self.footer_decoded(alloc)? else {
+            return Ok(None);
+        };
+        match String::from_utf8(bytes) {
+            Ok(text) => Ok(Some(text)),
+            Err(error) => Err(PasetoError::Utf8Error {
+                source: error.utf8_error(),
+            }),
+        }
+    }
+}
