@@ -1,12 +1,11 @@
 -- How the output of an expansion is filled, block by block.
-use Rattle.std.proofs.Common.{◌≡◌, ℕ, zero, suc, ◌+◌, ◌-◌, ◌*◌, ◌<◌, ◌≤◌, List, [], ◌∷◌, ◌++◌, ⊎_elim, length, take, drop, refl, sym, ap, ◌∙◌, arith, length-append, length-drop, add-one, append-nil}
+use Rattle.std.proofs.Common.{◌≡◌, ℕ, zero, suc, ◌+◌, ◌-◌, ◌*◌, ◌<◌, ◌≤◌, List, [], ◌++◌, ⊎_elim, length, take, drop, refl, sym, ap, ◌∙◌, arith, length-append, length-drop, add-one, append-nil}
 use Rattle.std.proofs.lemmas.Bool.{cases_lt}
 use Rattle.std.proofs.lemmas.List.{drop-take, drop_at, length-take-le, nil_from_length, take_all, take_at}
 use Rattle.std.proofs.Math.Seq.{take-append-add, take-nil}
 use Rattle.std.specs.Int.{div_ceil}
 use borrow.Rule.Slice.PartMut.{put_mid}
-use Rattle.rusty_paseto_primitives.specs.Hkdf.{expansion, expansion_block, hkdf_expand, hkdf_extract}
-use Rattle.rusty_paseto_primitives.specs.Hmac.{hmac, key_block}
+use Rattle.rusty_paseto_primitives.specs.Hkdf.{expansion, expansion_block, hkdf_expand}
 use Rattle.rusty_paseto_primitives.proofs.HkdfLengths.{length-expansion, length-expansion_block}
 
 -- the output, of the given length, has its first n blocks, of which the last may be cut by its end
@@ -42,8 +41,8 @@ block_placed : (block rest : List ℕ) (k room : ℕ) → length block ≡ 48 �
 block_placed block rest k room len short fits cut =
     let front : length (take k block) ≡ k = length-take-le k block (omega arith) in
     ⊎_elim (λ less. let none : rest ≡ [] = nil_from_length rest (omega (arith, cut less)) in
-      let alone : take k block ++ rest ≡ take k block = rw none (append-nil (take k block)) in
-      ap (take 48) alone ∙ take_all 48 (take k block) (omega arith) ∙ ap (λ (j : ℕ). take j block) (cut less))
+    let alone : take k block ++ rest ≡ take k block = rw none (append-nil (take k block)) in
+    ap (take 48) alone ∙ take_all 48 (take k block) (omega arith) ∙ ap (λ (j : ℕ). take j block) (cut less))
     (λ full. take_at (take k block) rest 48 (omega arith) ∙ take_all k block (omega arith) ∙ sym (take_all room block (omega arith)))
     (cases_lt k 48)
 
@@ -78,9 +77,3 @@ pub expanded_all : (prk info out : List ℕ) (size n : ℕ) → IsExpanded prk i
 unfolding hkdf_expand
 expanded_all prk info out size n done en =
     sym (take_all (48 * n) out (omega arith)) ∙ done.1 ∙ ap (λ (j : ℕ). take size (expansion prk info j)) en
-
--- the empty salt is padded to the block that 48 zeros are
-pub hkdf_extract-hmac : (salt material : List ℕ) → hkdf_extract salt material ≡ hmac salt material
-unfolding hkdf_extract hmac key_block
-hkdf_extract-hmac [] material = refl
-hkdf_extract-hmac (b ∷ salt) material = refl

@@ -1,11 +1,11 @@
--- Values of the definitions, so that a wrong constant or step in them does not check. The standard's
--- appendix A has test cases for other hashes alone: its inputs, here under SHA-384, give what CPython's hmac does.
+-- Keys from known inputs, so that a wrong step in the definitions does not check. The test cases of RFC
+-- 5869 are of other hashes: these are of their inputs under SHA-384, as CPython's hmac gives them.
 use Rattle.std.proofs.Common.{◌≡◌, [], ◌∷◌, refl, replicate}
 use Rattle.sha2.specs.Sha512.{compress, digest_bytes, first_words, hash_after, rounds, schedule, sha384}
 use Rattle.rusty_paseto_primitives.specs.Hkdf.{expansion, expansion_block, hkdf, hkdf_expand, hkdf_extract}
 use Rattle.rusty_paseto_primitives.specs.Hmac.{hmac, key_block}
 
--- two blocks, the second of which is cut (RFC 5869, appendix A.1)
+-- two blocks, the second of them cut (the inputs of appendix A.1)
 pub key_of_two_blocks : hkdf (0x00 ∷ 0x01 ∷ 0x02 ∷ 0x03 ∷ 0x04 ∷ 0x05 ∷ 0x06 ∷ 0x07 ∷ 0x08 ∷ 0x09 ∷ 0x0A ∷ 0x0B ∷ 0x0C ∷ [])
     (replicate 22 0x0B) (0xF0 ∷ 0xF1 ∷ 0xF2 ∷ 0xF3 ∷ 0xF4 ∷ 0xF5 ∷ 0xF6 ∷ 0xF7 ∷ 0xF8 ∷ 0xF9 ∷ []) 50 ≡
     0x9B ∷ 0x50 ∷ 0x97 ∷ 0xA8 ∷ 0x60 ∷ 0x38 ∷ 0xB8 ∷ 0x05 ∷ 0x30 ∷ 0x90 ∷ 0x76 ∷ 0xA4 ∷ 0x4B ∷
@@ -15,7 +15,7 @@ pub key_of_two_blocks : hkdf (0x00 ∷ 0x01 ∷ 0x02 ∷ 0x03 ∷ 0x04 ∷ 0x05 
 unfolding first_words schedule rounds compress hash_after digest_bytes sha384 key_block hmac expansion_block expansion hkdf_extract hkdf_expand hkdf
 key_of_two_blocks = refl
 
--- the empty salt (RFC 5869, appendix A.3)
+-- the empty salt (the inputs of appendix A.3)
 pub key_of_the_empty_salt : hkdf_extract [] (replicate 22 0x0B) ≡
     0x10 ∷ 0xE4 ∷ 0x0C ∷ 0xF0 ∷ 0x72 ∷ 0xA4 ∷ 0xC5 ∷ 0x62 ∷ 0x6E ∷ 0x43 ∷ 0xDD ∷ 0x22 ∷ 0xC1 ∷
     0xCF ∷ 0x72 ∷ 0x7D ∷ 0x4B ∷ 0xB1 ∷ 0x40 ∷ 0x97 ∷ 0x5C ∷ 0x9A ∷ 0xD0 ∷ 0xCB ∷ 0xC8 ∷ 0xE4 ∷

@@ -12,5 +12,4 @@ pub mod HkdfBlocks
 pub mod HkdfFacts
 pub mod HkdfLengths
 pub mod HmacFacts
-pub mod HmacKeys
 pub mod HmacLengths

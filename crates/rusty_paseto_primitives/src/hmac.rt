@@ -8,12 +8,16 @@ use sha2::{Digest, Sha384};
 #[cfg(test)]
 mod tests;
 
-// The length in bytes of a block of SHA-384, and of a digest.
+// The length in bytes of a block of SHA-384.
 const BLOCK_LEN: usize = 128;
+
+// The length in bytes of a digest of SHA-384.
 const DIGEST_LEN: usize = 48;
 
-// The bytes of the inner and of the outer pad (section 2).
+// The byte that ipad repeats (section 2).
 const INNER_PAD: u8 = 0x36;
+
+// The byte that opad repeats.
 const OUTER_PAD: u8 = 0x5c;
 
 /// An HMAC-SHA384 hasher (RFC 2104) that takes the message piece by piece. No call takes memory.
@@ -38,6 +42,7 @@ fn key_block(key: &[u8]) -> [u8; 128]
     block
 }
 
+// The exclusive or of each byte of the block with the byte of a pad.
 fn with_pad(mut block: [u8; 128], pad: u8) -> [u8; 128]
     ensures { result ≡ with_pad pad block }
 {

@@ -1,9 +1,16 @@
-use Rattle.std.proofs.Common.{ℕ, List, ◌++◌, length, ap}
+use Rattle.std.proofs.Common.{◌≡◌, ℕ, ◌<◌, ◌≤◌, List, ◌++◌, length, ap, arith}
+use Rattle.std.proofs.lemmas.Bool.Decides.{nat_tests}
 use Rattle.std.proofs.lemmas.List.{drop-replicate}
+use Rattle.sha2.specs.Sha512.{sha384}
 use Rattle.sha2.proofs.Facts512.{length-sha384}
-use Rattle.rusty_paseto_primitives.specs.Hmac.{key_block}
-use Rattle.rusty_paseto_primitives.proofs.HmacKeys.{short_key-long, short_key-fits}
+use Rattle.rusty_paseto_primitives.specs.Hmac.{key_block, short_key}
 use Rattle.rusty_paseto_primitives.proofs.hmac.key_block.Goals as goal
+
+short_key-long : (key : List ℕ) → 128 < length key → short_key key ≡ sha384 key
+short_key-long key long = grind (arith, nat_tests)
+
+short_key-fits : (key : List ℕ) → length key ≤ 128 → short_key key ≡ key
+short_key-fits key fits = grind (arith, nat_tests)
 
 pub returns-then-key-gt-BLOCK_LEN : goal.returns-then-key-gt-BLOCK_LEN
 unfolding key_block
