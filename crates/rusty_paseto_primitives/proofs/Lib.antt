@@ -1,4 +1,5 @@
 pub mod BlockBytes
+pub mod ByteLists
 pub mod ChaChaFacts
 pub mod Masking
 pub mod StreamBlocks
@@ -7,3 +8,8 @@ pub mod Blake2Facts
 pub mod Blake2Hashers
 pub mod Blake2Lengths
 pub mod Blake2Rows
+pub mod HkdfBlocks
+pub mod HkdfFacts
+pub mod HkdfLengths
+pub mod HmacFacts
+pub mod HmacLengths
