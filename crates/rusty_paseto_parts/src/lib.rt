@@ -28,5 +28,7 @@ pub use texts::header::Header;
 pub use texts::implicit_assertion::ImplicitAssertion;
 pub use texts::payload::Payload;
 pub use untrusted_token::UntrustedToken;
+pub use version::v1::V1;
+pub use version::v3::V3;
 pub use version::v4::V4;
-pub use version::{ImplicitAssertionCapable, V2orV4, VersionTrait};
+pub use version::{ImplicitAssertionCapable, V1orV3, V2orV4, VersionTrait};

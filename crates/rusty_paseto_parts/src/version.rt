@@ -1,9 +1,11 @@
 //! The versions of PASETO, as types.
 
-ghost use Rattle.std.specs.Prelude.{◌≡◌, ℕ, List, Bool};
+ghost use Rattle.std.specs.Prelude.{◌≡◌, ℕ, List, Bool, IsTrue};
 
 use std::fmt::Display;
 
+pub mod v1;
+pub mod v3;
 pub mod v4;
 
 /// A version of PASETO.
@@ -17,10 +19,16 @@ pub trait VersionTrait: Display + Default + Drop {
     /// The version as a token begins with it, for example `v4`.
     fn as_str(&self) -> &str
         ensures { result.now ≡ text };
+
+    // Each version has nonces of 32 bytes.
+    ghost has_nonce_of_32: { IsTrue (nonce_length 32) };
 }
 
 /// A version whose tokens are bound to an implicit assertion: 3 and 4.
 pub trait ImplicitAssertionCapable: VersionTrait {}
+
+/// A version of the NIST family: 1 and 3.
+pub trait V1orV3: VersionTrait {}
 
 /// A version of the Sodium family: 2 and 4.
 pub trait V2orV4: VersionTrait {}

@@ -5,7 +5,6 @@ ghost use Rattle.std.specs.Prelude.{◌≡◌, ℕ, List, length, IsTrue};
 use crate::keys::key::Key;
 use crate::purpose::local::Local;
 use crate::version::VersionTrait;
-use crate::version::v4::V4;
 use std::marker::{Model, PhantomData};
 
 /// A nonce for sealing tokens, of a length that the version has. Use each nonce once under a key.
@@ -34,7 +33,7 @@ impl<'a, V: VersionTrait, P> PasetoNonce<'a, V, P> {
     }
 }
 
-impl<'a> From<&'a Key<32>> for PasetoNonce<'a, V4, Local> {
+impl<'a, V: VersionTrait> From<&'a Key<32>> for PasetoNonce<'a, V, Local> {
     ghost from_gives = { λ key nonce. nonce ≡ key.now };
 
     fn from(key: &'a Key<32>) -> Self {

@@ -1,6 +1,7 @@
 //! Version 4.
 
 ghost use Rattle.std.specs.Prelude.{codes, Some, ◌==◌};
+ghost use Rattle.std.proofs.Common.{refl};
 
 use crate::version::{ImplicitAssertionCapable, V2orV4, VersionTrait};
 use std::fmt;
@@ -19,6 +20,8 @@ impl VersionTrait for V4 {
     fn as_str(&self) -> &str {
         "v4"
     }
+
+    ghost has_nonce_of_32 = { refl };
 }
 
 impl ImplicitAssertionCapable for V4 {}

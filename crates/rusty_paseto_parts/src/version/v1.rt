@@ -1,0 +1,36 @@
+//! Version 1.
+
+ghost use Rattle.std.specs.Prelude.{codes, Some, ◌==◌};
+ghost use Rattle.std.proofs.Common.{refl};
+
+use crate::version::{V1orV3, VersionTrait};
+use std::fmt;
+
+/// Version 1, NIST Compatibility: AES-256 in counter mode and HMAC-SHA384 for local tokens, whose
+/// nonces have 32 bytes. Its tokens are bound to no implicit assertion.
+///
+/// Source: PASETO specification, "Version 1".
+#[derive(Clone, Copy, Debug, Default)]
+pub struct V1;
+
+impl VersionTrait for V1 {
+    ghost text = { codes "v1" };
+
+    ghost nonce_length = { λ n. n == 32 };
+
+    fn as_str(&self) -> &str {
+        "v1"
+    }
+
+    ghost has_nonce_of_32 = { refl };
+}
+
+impl V1orV3 for V1 {}
+
+impl fmt::Display for V1 {
+    ghost output = { λ _. Some (codes "v1") };
+
+    fn fmt<W: fmt::Write>(&self, f: &mut fmt::Formatter<W>) -> fmt::Result {
+        f.write_str(self.as_str())
+    }
+}

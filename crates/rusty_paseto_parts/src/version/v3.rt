@@ -1,0 +1,38 @@
+//! Version 3.
+
+ghost use Rattle.std.specs.Prelude.{codes, Some, ◌==◌};
+ghost use Rattle.std.proofs.Common.{refl};
+
+use crate::version::{ImplicitAssertionCapable, V1orV3, VersionTrait};
+use std::fmt;
+
+/// Version 3, NIST Modern: AES-256 in counter mode and HMAC-SHA384 for local tokens, whose nonces have
+/// 32 bytes.
+///
+/// Source: PASETO specification, "Version 3".
+#[derive(Clone, Copy, Debug, Default)]
+pub struct V3;
+
+impl VersionTrait for V3 {
+    ghost text = { codes "v3" };
+
+    ghost nonce_length = { λ n. n == 32 };
+
+    fn as_str(&self) -> &str {
+        "v3"
+    }
+
+    ghost has_nonce_of_32 = { refl };
+}
+
+impl ImplicitAssertionCapable for V3 {}
+
+impl V1orV3 for V3 {}
+
+impl fmt::Display for V3 {
+    ghost output = { λ _. Some (codes "v3") };
+
+    fn fmt<W: fmt::Write>(&self, f: &mut fmt::Formatter<W>) -> fmt::Result {
+        f.write_str(self.as_str())
+    }
+}
