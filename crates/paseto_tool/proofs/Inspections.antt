@@ -50,10 +50,10 @@ module _ (token : List ℕ) (t : UntrustedToken) (kept : AreKept (sections token
     text = text;
     has_text = rw kept.footer has;
     lines_are = rw (
-        get_or_from_slice_get (sections token) 0 (version_section t) [] kept.version,
-        get_or_from_slice_get (sections token) 1 (purpose_section t) [] kept.purpose,
-        kept.footer,
-      ) refl;
+      get_or_from_slice_get (sections token) 0 (version_section t) [] kept.version,
+      get_or_from_slice_get (sections token) 1 (purpose_section t) [] kept.purpose,
+      kept.footer,
+    ) refl;
   }
 
   pub inspects-none : (lines version purpose : List ℕ) → version ≡ version_section t → purpose ≡ purpose_section t

@@ -11,4 +11,6 @@ mod keys;
 #[cfg(test)]
 mod primitives;
 #[cfg(test)]
+mod untrusted;
+#[cfg(test)]
 mod v4_local;

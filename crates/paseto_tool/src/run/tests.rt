@@ -40,6 +40,9 @@ const USAGE: &str =
 
 const BAD_KEY: &str = "Key was not in the correct format\n";
 
+const WRONG_COUNT: &str =
+    "This string has an incorrect number of parts and cannot be parsed into a token\n";
+
 const NOT_UTF8: &str = "A Utf8 parsing error occurred\n";
 
 const CRYPTION: &str = "An unspecified cryption error occured\n";
@@ -232,7 +235,6 @@ fn refuses_with_the_errors_text(rt: HostRuntime) -> Result<(), Fail> {
     let carriage = format!(in alloc; "{OF_NOTHING}\r\n")?;
     let with_footer_twice = format!(in alloc; "{OF_NOTHING}.\n\n")?;
     let open = ["open", "v4", KEY];
-    let count = "This string has an incorrect number of parts and cannot be parsed into a token\n";
     let rows: [(&[&str], &str, &str); 11] = [
         (&["open", "v4", OTHER_KEY], OF_NOTHING, CRYPTION),
         (&["open", "v4", KEY, "other"], OF_A_WITH_FOOTER, BAD_FOOTER),
@@ -243,8 +245,8 @@ fn refuses_with_the_errors_text(rt: HostRuntime) -> Result<(), Fail> {
         ),
         (&open, OF_A_WITH_FOOTER, BAD_FOOTER),
         (&open, OF_NOTHING_WITH_X, CRYPTION),
-        (&open, "v4.local", count),
-        (&open, "", count),
+        (&open, "v4.local", WRONG_COUNT),
+        (&open, "", WRONG_COUNT),
         (&open, "v3.local.AAAA", "The token header is invalid\n"),
         (&open, twice.as_str(), NOT_BASE64),
         (&open, carriage.as_str(), NOT_BASE64),
@@ -265,12 +267,13 @@ fn refuses_with_the_errors_text(rt: HostRuntime) -> Result<(), Fail> {
     expect(&rt, alloc, &open, b"\xff\n", 1, "", NOT_UTF8)
 }
 
-/// Runs words that are refused before the input is read, and asserts what is left.
+/// Runs words for which the input is not read, and asserts what is left.
 fn expect_unread(
     rt: &(impl Abort + Eprint),
     alloc: Global,
     words: &[&str],
     status: u8,
+    output: &str,
     errors: &str,
 ) -> Result<(), Fail> {
     let args = strings(alloc, words)?;
@@ -279,8 +282,47 @@ fn expect_unread(
     let left = run(alloc, &args, &mut input, &mut printed, &mut said);
     assert_eq!(rt; left, status);
     assert_eq!(rt; said.taken.as_slice(), errors.as_bytes());
-    assert!(rt; printed.taken.is_empty());
+    assert_eq!(rt; printed.taken.as_slice(), output.as_bytes());
     assert!(rt; !input.was_read);
+    Ok(())
+}
+
+#[test]
+fn inspects_a_token(rt: HostRuntime) -> Result<(), Fail> {
+    let rows = [
+        ("..", "version: \npurpose: \nfooter: none\n"),
+        (
+            "v4.local.payload",
+            "version: v4\npurpose: local\nfooter: none\n",
+        ),
+        (
+            "v4.local.payload.",
+            "version: v4\npurpose: local\nfooter: \nfooter text: \n",
+        ),
+        (
+            "v1.public.!.Zm9vdGVy",
+            "version: v1\npurpose: public\nfooter: Zm9vdGVy\nfooter text: footer\n",
+        ),
+    ];
+    'rows: for (token, lines) in rows {
+        expect_unread(&rt, rt.alloc(), &["inspect", token], 0, lines, "")?;
+    }
+    Ok(())
+}
+
+#[test]
+fn inspects_no_token_whose_footer_is_unreadable(rt: HostRuntime) -> Result<(), Fail> {
+    let rows = [
+        ("v4.local", WRONG_COUNT),
+        ("", WRONG_COUNT),
+        ("v4.local.payload.Zm9vdGVy.", WRONG_COUNT),
+        ("v4.local.payload._w", NOT_UTF8),
+        ("v4.local.payload.!!!invalid!!!", NOT_BASE64),
+        ("v4.local.payload.Zm9vdGVy=", NOT_BASE64),
+    ];
+    'rows: for (token, error) in rows {
+        expect_unread(&rt, rt.alloc(), &["inspect", token], 1, "", error)?;
+    }
     Ok(())
 }
 
@@ -289,15 +331,15 @@ fn other_words_are_a_fault_of_usage(rt: HostRuntime) -> Result<(), Fail> {
     let alloc = rt.alloc();
     let seal = ["seal", "v4", KEY, ZERO, "footer", "x", "y"];
     'seals: for words in [&seal[..0], &seal[..1], &seal[..2], &seal[..3], &seal] {
-        expect_unread(&rt, alloc, words, 2, USAGE)?;
+        expect_unread(&rt, alloc, words, 2, "", USAGE)?;
     }
     let open = ["open", "v4", KEY, "footer", "x", "y"];
     'opens: for words in [&open[..1], &open[..2], &open] {
-        expect_unread(&rt, alloc, words, 2, USAGE)?;
+        expect_unread(&rt, alloc, words, 2, "", USAGE)?;
     }
     let rows: [&[&str]; 7] = [
-        &["inspect", "v4.local.payload"],
-        &["inspect", "v4", KEY, ZERO],
+        &["inspect"],
+        &["inspect", "v4.local.payload", "footer"],
         &["SEAL", "v4", KEY, ZERO],
         &["seal", "v1", KEY, ZERO],
         &["seal", "v2", SHORT_KEY, ZERO],
@@ -305,7 +347,7 @@ fn other_words_are_a_fault_of_usage(rt: HostRuntime) -> Result<(), Fail> {
         &["open", "v40", KEY],
     ];
     'rows: for words in rows {
-        expect_unread(&rt, alloc, words, 2, USAGE)?;
+        expect_unread(&rt, alloc, words, 2, "", USAGE)?;
     }
     Ok(())
 }
@@ -324,7 +366,7 @@ fn a_bad_key_or_nonce_is_refused_before_the_input_is_read(rt: HostRuntime) -> Re
         &["open", "v4", ""],
     ];
     'rows: for words in rows {
-        expect_unread(&rt, alloc, words, 1, BAD_KEY)?;
+        expect_unread(&rt, alloc, words, 1, "", BAD_KEY)?;
     }
     Ok(())
 }

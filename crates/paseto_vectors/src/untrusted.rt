@@ -1,0 +1,101 @@
+//! Tokens that are looked at before they are opened.
+
+use crate::hexadecimal::array_of;
+use rusty_paseto_core::{Footer, PasetoError, UntrustedToken};
+use std::test::Fail;
+
+#[test]
+fn sections_of_a_token(rt: HostRuntime) -> Result<(), Fail> {
+    let untrusted = UntrustedToken::try_parse("v4.local.payload.Zm9vdGVy")?;
+    assert_eq!(rt; untrusted.version(), "v4");
+    assert_eq!(rt; untrusted.purpose(), "local");
+    assert_eq!(rt; untrusted.footer_base64(), Some("Zm9vdGVy"));
+    let decoded = untrusted
+        .footer_decoded(rt.alloc())?
+        .unwrap_or(Vec::new(rt.alloc()));
+    assert_eq!(rt; decoded.as_slice(), b"footer".as_slice());
+    let text = untrusted
+        .footer_str(rt.alloc())?
+        .unwrap_or(String::new(rt.alloc()));
+    assert_eq!(rt; text.as_str(), "footer");
+    Ok(())
+}
+
+#[test]
+fn empty_sections(rt: HostRuntime) -> Result<(), Fail> {
+    let untrusted = UntrustedToken::try_parse("..")?;
+    assert_eq!(rt; untrusted.version(), "");
+    assert_eq!(rt; untrusted.purpose(), "");
+    assert_eq!(rt; untrusted.footer_base64(), None);
+    assert!(rt; untrusted.footer_decoded(rt.alloc())?.is_none());
+    assert!(rt; untrusted.footer_str(rt.alloc())?.is_none());
+    Ok(())
+}
+
+#[test]
+fn footers_of_tokens(rt: HostRuntime) -> Result<(), Fail> {
+    'rows: for (token, text) in [
+        ("v4.local.payload.Zm9vdGVy", "footer"),
+        (
+            "v4.local.payload.eyJraWQiOiJrZXktMSJ9",
+            "{\"kid\":\"key-1\"}",
+        ),
+        ("v4.local.payload.", ""),
+    ] {
+        let Some(found) = Footer::try_from_token(rt.alloc(), token)? else {
+            return Err(Fail);
+        };
+        assert_eq!(rt; found.as_str(), text);
+    }
+    let none = Footer::try_from_token(rt.alloc(), "v4.local.payload")?;
+    assert!(rt; none.is_none());
+    Ok(())
+}
+
+#[test]
+fn footers_that_are_refused(rt: HostRuntime) {
+    'counts: for token in ["", "v4.local", "a.b.c.d.e"] {
+        assert!(rt;
+            matches!(
+                &UntrustedToken::try_parse(token),
+                Err(PasetoError::IncorrectSize)
+            )
+        );
+        let answer = Footer::try_from_token(rt.alloc(), token);
+        assert!(rt;
+            matches!(&answer, Err(PasetoError::IncorrectSize)),
+            "{token}"
+        );
+    }
+    let answer = Footer::try_from_token(rt.alloc(), "v4.local.payload._w");
+    assert!(rt; matches!(&answer, Err(PasetoError::Utf8Error { .. })));
+    'spellings: for token in [
+        "v4.local.payload.!!!invalid!!!",
+        "v4.local.payload.AB",
+        "v4.local.payload.A",
+    ] {
+        let answer = Footer::try_from_token(rt.alloc(), token);
+        assert!(rt;
+            matches!(&answer, Err(PasetoError::PayloadBase64Decode { .. })),
+            "{token}"
+        );
+    }
+}
+
+// The characters of base64url in order spell the numbers 0 to 63, six bits each.
+#[test]
+fn characters_in_order(rt: HostRuntime) -> Result<(), Fail> {
+    let untrusted = UntrustedToken::try_parse(concat!(
+        "v4.local.payload.",
+        "ABCDEFGHIJKLMNOPQRSTUVWXYZabcdefghijklmnopqrstuvwxyz0123456789-_",
+    ))?;
+    let numbers: [u8; 48] = array_of(concat!(
+        "00108310518720928b30d38f41149351559761969b71d79f",
+        "8218a39259a7a29aabb2dbafc31cb3d35db7e39ebbf3dfbf",
+    ))?;
+    let decoded = untrusted
+        .footer_decoded(rt.alloc())?
+        .unwrap_or(Vec::new(rt.alloc()));
+    assert_eq!(rt; decoded.as_slice(), numbers.as_slice());
+    Ok(())
+}
