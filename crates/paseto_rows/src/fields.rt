@@ -1,7 +1,8 @@
 //! The fields of a row.
 
-ghost use Rattle.std.specs.Prelude.{◌≡◌, IfOk};
+ghost use Rattle.std.specs.Prelude.{◌≡◌, Ok, IfOk};
 ghost use Rattle.std.specs.String.{string_bytes};
+ghost use Rattle.hex.specs.Hex.{decode_of};
 ghost use Rattle.paseto_rows.specs.Fields.{Says};
 
 use crate::error::RowError;
@@ -19,7 +20,9 @@ pub fn bytes_of(alloc: Global, field: &str) -> Result<Vec<u8>, RowError>
 }
 
 /// The `N` bytes of a field of `2 * N` hexadecimal digits.
-pub fn array_of<const N: usize>(field: &str) -> Result<[u8; N], RowError> {
+pub fn array_of<const N: usize>(field: &str) -> Result<[u8; N], RowError>
+    ensures { IfOk result (λ bytes. decode_of field.now ≡ Ok bytes) }
+{
     Ok(<[u8; N] as FromHex>::from_hex(field)?)
 }
 

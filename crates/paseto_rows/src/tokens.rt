@@ -1,5 +1,14 @@
 //! Rows of local tokens: each is sealed to the token, and the token opened to the text.
 
+ghost use Rattle.std.specs.Prelude.{◌≡◌, IfOk, is_some};
+ghost use Rattle.std.specs.String.{string_bytes};
+ghost use Rattle.rusty_paseto_parts.specs.ImplicitAssertion.{assertion_text};
+ghost use Rattle.rusty_paseto_core.specs.Binding.{footer_of};
+ghost use Rattle.rusty_paseto_core.specs.Sealing.{sealing};
+ghost use Rattle.rusty_paseto_core.specs.Opening.{Opens};
+ghost use Rattle.rusty_paseto_core.specs.Suite.V4.{v4};
+ghost use Rattle.paseto_rows.specs.Tokens.{IsTokenRow, binding, footer_in};
+
 use crate::error::RowError;
 use crate::fields::{array_of, text_of};
 use crate::rows::Finding;
@@ -40,14 +49,21 @@ impl<'a> Row<'a> {
         })
     }
 
-    fn footer(&self) -> Option<Footer<'_>> {
+    /// The footer, where it is set.
+    fn footer(&self) -> Option<Footer<'_>>
+        ensures text { footer_of result ≡ footer_in self.now }
+        ensures set { is_some result ≡ is_some self.now.footer }
+    {
         match &self.footer {
             Some(footer) => Some(Footer::from(footer.as_str())),
             None => None,
         }
     }
 
-    fn assertion(&self) -> ImplicitAssertion<'_> {
+    /// The implicit assertion, which may be the empty one.
+    fn assertion(&self) -> ImplicitAssertion<'_>
+        ensures { assertion_text result ≡ string_bytes self.now.assertion }
+    {
         ImplicitAssertion::from(self.assertion.as_str())
     }
 }
@@ -61,25 +77,25 @@ pub fn check(alloc: Global, name: &str, fields: &[&str]) -> Result<Finding, RowE
     }
 }
 
-fn check_v4(alloc: Global, row: &Row<'_>) -> Result<Finding, RowError> {
-    let key = PasetoSymmetricKey::from(Key::from(row.key));
-    if seal_v4(alloc, row, &key)?.as_str() != row.token {
+/// Checks that the text is sealed to the token, and that the token opens to the text.
+fn check_v4(alloc: Global, row: &Row<'_>) -> Result<Finding, RowError>
+    ensures { IfOk result (λ _. IsTokenRow v4 row.now) }
+{
+    if seal_v4(alloc, row)?.as_str() != row.token {
         return Err(RowError::Sealed);
     }
-    let assertion = Some(row.assertion());
-    let text = Paseto::<V4, Local>::try_decrypt(alloc, row.token, &key, row.footer(), assertion)?;
-    if text.as_str() != row.text.as_str() {
+    if open_v4(alloc, row)?.as_str() != row.text.as_str() {
         return Err(RowError::Opened);
     }
     Ok(Finding::Agrees)
 }
 
-fn seal_v4(
-    alloc: Global,
-    row: &Row<'_>,
-    key: &PasetoSymmetricKey<V4, Local>,
-) -> Result<String, PasetoError> {
-    let nonce = Key::from(row.nonce);
+/// The token of the row's text.
+fn seal_v4(alloc: Global, row: &Row<'_>) -> Result<String, PasetoError>
+    ensures { IfOk result (λ token. string_bytes token
+        ≡ sealing v4 (binding row.now) row.now.nonce (is_some row.now.footer) (string_bytes row.now.text)) }
+{
+    let (key, nonce) = (Key::from(row.key), Key::from(row.nonce));
     let mut paseto = Paseto::<V4, Local>::builder();
     paseto
         .set_payload(Payload::from(row.text.as_str()))
@@ -87,5 +103,17 @@ fn seal_v4(
     if let Some(footer) = row.footer() {
         paseto.set_footer(footer);
     }
-    paseto.try_encrypt(alloc, key, &PasetoNonce::from(&nonce))
+    paseto.try_encrypt(
+        alloc,
+        &PasetoSymmetricKey::from(key),
+        &PasetoNonce::from(&nonce),
+    )
+}
+
+/// The text of the row's token.
+fn open_v4(alloc: Global, row: &Row<'_>) -> Result<String, PasetoError>
+    ensures { IfOk result (λ text. Opens v4 row.now.token.now (binding row.now) (string_bytes text)) }
+{
+    let key = PasetoSymmetricKey::from(Key::from(row.key));
+    Paseto::<V4, Local>::try_decrypt(alloc, row.token, &key, row.footer(), Some(row.assertion()))
 }
