@@ -1,4 +1,4 @@
-//! Known answers: values from outside this repository, and the calls that have to give them. They
+//! Known answers: published vectors and worked examples, and the calls that have to give them. They
 //! test what no proof can see: that the definitions are the standards', and that calls succeed.
 #![tactic(auto)]
 

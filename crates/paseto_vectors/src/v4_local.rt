@@ -4,5 +4,3 @@ mod calls;
 mod faults;
 mod forms;
 mod shortest_use;
-mod token_rows;
-mod tokens;

@@ -1,13 +1,8 @@
 //! BLAKE2b (RFC 7693).
 
-ghost use Rattle.std.specs.Prelude.{◌≤◌};
-
-use super::blake2b_rows::{ROWS_1, ROWS_16, ROWS_24, ROWS_32, ROWS_56, ROWS_64, Row};
 use super::slow_blake2b::slow_blake2b;
-use crate::hexadecimal::{array_of, bytes_of};
+use crate::hexadecimal::array_of;
 use rusty_paseto_primitives::blake2b_keyed;
-use std::alloc::Global;
-use std::process::Abort;
 use std::test::Fail;
 
 // RFC 7693, appendix A.
@@ -20,31 +15,6 @@ fn digest_of_abc(rt: HostRuntime) -> Result<(), Fail> {
     let digest: [u8; 64] = blake2b_keyed(b"", b"abc");
     assert_eq!(rt; digest.as_slice(), known.as_slice());
     Ok(())
-}
-
-fn check_rows<const N: usize>(rt: &impl Abort, alloc: Global, rows: &[Row]) -> Result<(), Fail>
-    requires low { 1 ≤ N }
-    requires high { N ≤ 64 }
-{
-    'rows: for row in rows {
-        let key = bytes_of(alloc, row.key)?;
-        assert!(rt; key.len() <= 64);
-        let message = bytes_of(alloc, row.message)?;
-        let digest: [u8; N] = blake2b_keyed(&key, &message);
-        assert_eq!(rt; digest.as_slice(), bytes_of(alloc, row.digest)?.as_slice());
-    }
-    Ok(())
-}
-
-// Digests that CPython's BLAKE2b gave.
-#[test]
-fn digests_of_another_implementation(rt: HostRuntime) -> Result<(), Fail> {
-    check_rows::<1>(&rt, rt.alloc(), &ROWS_1)?;
-    check_rows::<16>(&rt, rt.alloc(), &ROWS_16)?;
-    check_rows::<24>(&rt, rt.alloc(), &ROWS_24)?;
-    check_rows::<32>(&rt, rt.alloc(), &ROWS_32)?;
-    check_rows::<56>(&rt, rt.alloc(), &ROWS_56)?;
-    check_rows::<64>(&rt, rt.alloc(), &ROWS_64)
 }
 
 // Messages that end short of a block's edge, at it and past it.

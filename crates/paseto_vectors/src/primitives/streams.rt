@@ -1,7 +1,6 @@
 //! ChaCha20, HChaCha20 and XChaCha20 (RFC 8439, draft-irtf-cfrg-xchacha).
 
-use super::xchacha20_rows::ROWS;
-use crate::hexadecimal::{array_of, bytes_of};
+use crate::hexadecimal::array_of;
 use rusty_paseto_primitives::{chacha20_block, hchacha20, quarter_round, xchacha20_apply};
 use std::test::Fail;
 
@@ -41,20 +40,6 @@ fn subkey_of_the_draft(rt: HostRuntime) -> Result<(), Fail> {
         &array_of("000000090000004a0000000031415927")?,
     );
     assert_eq!(rt; subkey.as_slice(), known.as_slice());
-    Ok(())
-}
-
-// Made by a reading of the draft in another language.
-#[test]
-fn data_of_another_implementation(rt: HostRuntime) -> Result<(), Fail> {
-    'rows: for row in &ROWS {
-        let mut data = bytes_of(rt.alloc(), row.data)?;
-        xchacha20_apply(&array_of(row.key)?, &array_of(row.nonce)?, &mut data);
-        assert_eq!(rt;
-            data.as_slice(),
-            bytes_of(rt.alloc(), row.output)?.as_slice()
-        );
-    }
     Ok(())
 }
 

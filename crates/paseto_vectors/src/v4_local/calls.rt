@@ -1,20 +1,13 @@
 //! Sealing and opening under the key and the nonce of the worked examples.
 
-use crate::hexadecimal::array_of;
 use rusty_paseto_core::{
     Footer, ImplicitAssertion, Key, Local, Paseto, PasetoError, PasetoNonce, PasetoSymmetricKey,
     Payload, V4,
 };
 use std::alloc::Global;
-use std::test::Fail;
 
 /// `wubbalubbadubdubwubbalubbadubdub`
 pub(super) const KEY: [u8; 32] = *b"wubbalubbadubdubwubbalubbadubdub";
-
-pub(super) fn key_of(digits: &str) -> Result<PasetoSymmetricKey<V4, Local>, Fail> {
-    let bytes: [u8; 32] = array_of(digits)?;
-    Ok(PasetoSymmetricKey::from(Key::from(bytes)))
-}
 
 /// The text sealed under the key and a nonce of zeros.
 pub(super) fn seal(alloc: Global, text: &str, footer: Option<&str>) -> Result<String, PasetoError> {

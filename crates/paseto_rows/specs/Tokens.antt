@@ -1,0 +1,21 @@
+-- When a row of a local token agrees with the definitions.
+use Rattle.std.specs.Prelude.{◌≡◌, ℕ, List, [], is_some, string_bytes}
+use Rattle.std.specs.Option.{option_map_or}
+use Rattle.rusty_paseto_core.specs.Binding.{Binding}
+use Rattle.rusty_paseto_core.specs.Opening.{Opens}
+use Rattle.rusty_paseto_core.specs.Sealing.{sealing}
+use Rattle.rusty_paseto_core.specs.Suite.{Design}
+use Rattle.paseto_rows.specs.declared.tokens.Row.{Row}
+
+-- an absent footer is the empty one
+abbrev pub footer_in : Row → List ℕ
+footer_in row = option_map_or string_bytes row.footer []
+
+-- what the row's token is bound to
+abbrev pub binding : Row → Binding
+binding row = record { key = row.key; footer = footer_in row; assertion = string_bytes row.assertion }
+
+-- the token is the text's sealing, and opens to the text
+pub record IsTokenRow (design : Design) (row : Row) : Type 0 where
+  pub seals : row.token.now ≡ sealing design (binding row) row.nonce (is_some row.footer) (string_bytes row.text)
+  pub opens : Opens design row.token.now (binding row) (string_bytes row.text)

@@ -1,0 +1,57 @@
+//! Checks each row of the files of known answers, which other implementations made, and prints how
+//! many rows of each call and each version agreed.
+#![tactic(auto)]
+
+mod error;
+mod fields;
+mod primitives;
+mod rows;
+mod tally;
+mod tokens;
+
+use anyhow::{Context, Result, ensure};
+use rows::Rows;
+use std::rt::Files;
+use std::{env, fs, io};
+use tally::Tally;
+
+/// `paseto_rows FOLDER`, where the folder has the files.
+fn main(rt: HostRuntime) -> Result<()> {
+    let folder = env::args(&rt)?.nth(1).context("usage: paseto_rows FOLDER")?;
+    let primitives = check_file(&rt, folder.as_str(), Rows::Primitives)?;
+    let local_tokens = check_file(&rt, folder.as_str(), Rows::LocalTokens)?;
+    ensure!(primitives && local_tokens, "not every row agrees");
+    Ok(())
+}
+
+/// Whether all rows of a file agree. Those that do are counted, and the others are printed by their
+/// lines.
+fn check_file<R: Files + AllocGlobal + Print>(rt: &R, folder: &str, rows: Rows) -> Result<bool> {
+    let alloc = rt.alloc();
+    let file = rows.file();
+    let path = format!(in alloc; "{folder}/{file}")?;
+    let text = fs::read_to_string(rt, path.as_str()).context(format_args!("reading {file}"))?;
+    let mut tally = Tally::new(alloc);
+    let mut all_agree = true;
+    'lines: for (index, line) in text.as_str().lines().enumerate() {
+        if line.starts_with('#') {
+            continue;
+        }
+        if let Err(error) = rows.check(alloc, line, &mut tally) {
+            all_agree = false;
+            println!(rt; "{file}, line {}: {error}", index + 1)?;
+        }
+    }
+    print_tally(rt, &tally, rows.agreement())?;
+    Ok(all_agree)
+}
+
+fn print_tally(rt: &impl Print, tally: &Tally<'_>, agreement: &str) -> io::Result<()> {
+    'agreed: for (name, count) in tally.agreed() {
+        println!(rt; "{name}: {count} {agreement}")?;
+    }
+    'unchecked: for (name, count) in tally.unchecked() {
+        println!(rt; "{name}: not yet checked: {count} rows")?;
+    }
+    Ok(())
+}

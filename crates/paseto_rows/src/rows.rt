@@ -1,0 +1,62 @@
+//! The files of rows. A line is a name and fields, with a space between two of them; the name says
+//! what the fields are.
+
+use crate::error::RowError;
+use crate::tally::Tally;
+use crate::{primitives, tokens};
+use std::alloc::Global;
+
+/// What was found of a row that is not at fault.
+#[derive(Clone, Copy)]
+pub enum Finding {
+    /// The library gives the row's answer.
+    Agrees,
+    /// The library does not have the call or the version yet.
+    NotYetChecked,
+}
+
+/// The kind of a file's rows.
+#[derive(Clone, Copy)]
+pub enum Rows {
+    /// Calls of the primitives.
+    Primitives,
+    /// Local tokens.
+    LocalTokens,
+}
+
+impl Rows {
+    /// The file that has the rows.
+    pub fn file(self) -> &'static str {
+        match self {
+            Rows::Primitives => "primitives.txt",
+            Rows::LocalTokens => "local_tokens.txt",
+        }
+    }
+
+    /// What is said of rows that agree.
+    pub fn agreement(self) -> &'static str {
+        match self {
+            Rows::Primitives => "rows",
+            Rows::LocalTokens => "tokens sealed and opened",
+        }
+    }
+
+    /// Checks the row of a line, and counts it under its name where it is not at fault.
+    pub fn check<'a>(
+        self,
+        alloc: Global,
+        line: &'a str,
+        tally: &mut Tally<'a>,
+    ) -> Result<(), RowError> {
+        let words: Vec<&str> = line.split(' ').collect(alloc)?;
+        let [name, fields @ ..] = words.as_slice() else {
+            return Err(RowError::Form);
+        };
+        let finding = match self {
+            Rows::Primitives => primitives::check(alloc, name, fields)?,
+            Rows::LocalTokens => tokens::check(alloc, name, fields)?,
+        };
+        tally.count(name, finding)?;
+        Ok(())
+    }
+}
