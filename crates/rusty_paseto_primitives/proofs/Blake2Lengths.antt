@@ -21,18 +21,18 @@ length-blake2b key n message fits =
     let h : List ℕ = final_hash (initial_hash n (length key)) (keyed_input key message) in
     length-take-le n (hash_bytes h 8) (omega (arith, length-hash_bytes h 8))
 
-IsBytes_cons : (x : ℕ) (xs : List ℕ) → x < 256 → IsBytes xs → IsBytes (x ∷ xs)
+pub IsBytes_cons : (x : ℕ) (xs : List ℕ) → x < 256 → IsBytes xs → IsBytes (x ∷ xs)
 IsBytes_cons x xs head tail zero = head
 IsBytes_cons x xs head tail (suc i) = tail i
 
-IsBytes-nil : IsBytes []
+pub IsBytes-nil : IsBytes []
 IsBytes-nil i = omega arith
 
-IsBytes-append : (xs ys : List ℕ) → IsBytes xs → IsBytes ys → IsBytes (xs ++ ys)
+pub IsBytes-append : (xs ys : List ℕ) → IsBytes xs → IsBytes ys → IsBytes (xs ++ ys)
 IsBytes-append [] ys front back = back
 IsBytes-append (x ∷ xs) ys front back = IsBytes_cons x (xs ++ ys) (front 0) (IsBytes-append xs ys (λ i. front (suc i)) back)
 
-IsBytes-take : (n : ℕ) (xs : List ℕ) → IsBytes xs → IsBytes (take n xs)
+pub IsBytes-take : (n : ℕ) (xs : List ℕ) → IsBytes xs → IsBytes (take n xs)
 IsBytes-take zero xs all = IsBytes-nil
 IsBytes-take (suc n) [] all = IsBytes-nil
 IsBytes-take (suc n) (x ∷ xs) all = IsBytes_cons x (take n xs) (all 0) (IsBytes-take n xs (λ i. all (suc i)))

@@ -7,3 +7,7 @@ pub mod Blake2Facts
 pub mod Blake2Hashers
 pub mod Blake2Lengths
 pub mod Blake2Rows
+pub mod AesFacts
+pub mod AesBytes
+pub mod AesKeySchedule
+pub mod AesBlocks

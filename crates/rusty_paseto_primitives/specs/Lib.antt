@@ -2,3 +2,4 @@ pub mod Bytes
 pub mod Keystream
 pub mod Blake2
 pub mod ChaCha
+pub mod Aes
