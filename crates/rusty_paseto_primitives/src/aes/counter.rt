@@ -34,10 +34,7 @@ pub fn aes256_ctr_apply(key: &[u8; 32], counter: &[u8; 16], data: &mut [u8])
     let block_count = data.len() / BLOCK_LEN;
     'whole_blocks: for n in 0..block_count {
         let at = BLOCK_LEN * n;
-        mask(
-            &mut data[at..at + BLOCK_LEN],
-            &block_at(&cipher, start, n),
-        );
+        mask(&mut data[at..at + BLOCK_LEN], &block_at(&cipher, start, n));
     }
     mask(
         &mut data[BLOCK_LEN * block_count..],
