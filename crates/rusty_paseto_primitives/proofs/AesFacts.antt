@@ -17,6 +17,10 @@ pub product_by_x_vector : product 0x57 0x13 ≡ 0xfe
 unfolding xtimes product_of_bits product
 product_by_x_vector = refl
 
+pub inverse_vector : inverse 0x53 ≡ 0xca
+unfolding xtimes product_of_bits product inverse_below inverse
+inverse_vector = refl
+
 -- FIPS 197, section 5.1.1, table 4
 pub sub_byte_vector : sub_byte 0x53 ≡ 0xed
 unfolding xtimes product_of_bits product inverse_below inverse affine sub_byte
