@@ -12,7 +12,8 @@ use Rattle.rusty_paseto_primitives.proofs.Blake2Lengths.{IsBytes-append, IsBytes
 
 -- the step of the loop over rounds, from round 1 on
 pub rounds_more : (w block : List ℕ) (n : ℕ) → 1 ≤ n
-    → rounds w block (n + 1 - 1) ≡ add_round_key (mix_columns (shift_rows (sub_bytes (rounds w block (n - 1))))) (round_key w n)
+    → rounds w block (n + 1 - 1)
+    ≡ add_round_key (mix_columns (shift_rows (sub_bytes (rounds w block (n - 1))))) (round_key w n)
 unfolding rounds
 rounds_more w block n le =
     let count : n + 1 - 1 ≡ suc (n - 1) = omega arith in
@@ -37,8 +38,9 @@ IsBytes-state_of f each =
     let column : ℕ → List ℕ = λ c. f 0 c ∷ f 1 c ∷ f 2 c ∷ f 3 c ∷ [] in
     let bytes : (c : ℕ) → IsBytes (column c) =
     λ c. IsBytes-word (f 0 c) (f 1 c) (f 2 c) (f 3 c) (each 0 c) (each 1 c) (each 2 c) (each 3 c) in
+    let right : IsBytes (column 2 ++ column 3) = IsBytes-append (column 2) (column 3) (bytes 2) (bytes 3) in
     IsBytes-append (column 0) (column 1 ++ (column 2 ++ column 3)) (bytes 0)
-    (IsBytes-append (column 1) (column 2 ++ column 3) (bytes 1) (IsBytes-append (column 2) (column 3) (bytes 2) (bytes 3)))
+    (IsBytes-append (column 1) (column 2 ++ column 3) (bytes 1) right)
 
 IsBytes-sub_word : (t : List ℕ) → IsBytes (sub_word t)
 unfolding sub_word
@@ -63,7 +65,8 @@ IsBytes-round_constants =
 
 IsBytes-round_constant : (j : ℕ) → IsBytes (round_constant j)
 IsBytes-round_constant j =
-    IsBytes-word (slice_index round_constants (j - 1)) 0 0 0 (IsBytes-round_constants (j - 1)) (omega arith) (omega arith) (omega arith)
+    IsBytes-word (slice_index round_constants (j - 1)) 0 0 0
+    (IsBytes-round_constants (j - 1)) (omega arith) (omega arith) (omega arith)
 
 IsBytes-cond : (b : Bool) (s t : List ℕ) → IsBytes s → IsBytes t → IsBytes (cond b s t)
 IsBytes-cond true s t hs ht = hs
@@ -74,33 +77,38 @@ unfolding key_word_step
 IsBytes-key_word_step i t ht =
     let turned : List ℕ = sub_word (rot_word t) in
     let constant : List ℕ = round_constant (i / 8) in
-    let in_none : IsBytes (xor_word turned constant) =
+    let at_none : IsBytes (xor_word turned constant) =
     IsBytes-xor_word turned constant (IsBytes-sub_word (rot_word t)) (IsBytes-round_constant (i / 8)) in
     let elsewhere : IsBytes (cond (eqb (i % 8) 4) (sub_word t) t) =
     IsBytes-cond (eqb (i % 8) 4) (sub_word t) t (IsBytes-sub_word t) ht in
-    IsBytes-cond (eqb (i % 8) 0) (xor_word turned constant) (cond (eqb (i % 8) 4) (sub_word t) t) in_none elsewhere
+    IsBytes-cond (eqb (i % 8) 0) (xor_word turned constant) (cond (eqb (i % 8) 4) (sub_word t) t)
+    at_none elsewhere
 
 IsBytes-word_of : (w : List ℕ) (i : ℕ) → IsBytes w → IsBytes (word w i)
 unfolding word
 IsBytes-word_of w i h =
-    IsBytes-word (slice_index w (4 * i)) (slice_index w (4 * i + 1)) (slice_index w (4 * i + 2)) (slice_index w (4 * i + 3))
+    IsBytes-word
+    (slice_index w (4 * i)) (slice_index w (4 * i + 1)) (slice_index w (4 * i + 2)) (slice_index w (4 * i + 3))
     (h (4 * i)) (h (4 * i + 1)) (h (4 * i + 2)) (h (4 * i + 3))
 
 IsBytes-next_word : (w : List ℕ) (i : ℕ) → IsBytes w → IsBytes (next_word w i)
 unfolding next_word
 IsBytes-next_word w i h =
-    let step : IsBytes (key_word_step i (word w (i - 1))) = IsBytes-key_word_step i (word w (i - 1)) (IsBytes-word_of w (i - 1) h) in
-    IsBytes-xor_word (word w (i - 8)) (key_word_step i (word w (i - 1))) (IsBytes-word_of w (i - 8) h) step
+    let before : List ℕ = word w (i - 1) in
+    let step : IsBytes (key_word_step i before) = IsBytes-key_word_step i before (IsBytes-word_of w (i - 1) h) in
+    IsBytes-xor_word (word w (i - 8)) (key_word_step i before) (IsBytes-word_of w (i - 8) h) step
 
 IsBytes-expanded : (key : List ℕ) (n : ℕ) → IsBytes key → IsBytes (expanded key n)
 unfolding expanded
 IsBytes-expanded key zero h = h
 IsBytes-expanded key (suc n) h =
     let before : IsBytes (expanded key n) = IsBytes-expanded key n h in
-    IsBytes-append (expanded key n) (next_word (expanded key n) (8 + n)) before (IsBytes-next_word (expanded key n) (8 + n) before)
+    IsBytes-append (expanded key n) (next_word (expanded key n) (8 + n)) before
+    (IsBytes-next_word (expanded key n) (8 + n) before)
 
 IsBytes-round_key : (w : List ℕ) (n : ℕ) → IsBytes w → IsBytes (round_key w n)
-IsBytes-round_key w n h = IsBytes-take 16 (drop (16 * n) w) (λ k. rw (get_or-drop (16 * n) w k 0) (h (16 * n + k)))
+IsBytes-round_key w n h =
+    IsBytes-take 16 (drop (16 * n) w) (λ k. rw (get_or-drop (16 * n) w k 0) (h (16 * n + k)))
 
 IsBytes-add_round_key : (s k : List ℕ) → IsBytes s → IsBytes k → IsBytes (add_round_key s k)
 unfolding add_round_key
@@ -116,7 +124,8 @@ IsBytes-sub_bytes s =
 IsBytes-shift_rows : (s : List ℕ) → IsBytes s → IsBytes (shift_rows s)
 unfolding shift_rows
 IsBytes-shift_rows s h =
-    IsBytes-state_of (λ row column. at s row ((column + row) % 4)) (λ row column. h (row + 4 * ((column + row) % 4)))
+    IsBytes-state_of (λ row column. at s row ((column + row) % 4))
+    (λ row column. h (row + 4 * ((column + row) % 4)))
 
 -- the block under a key of bytes is of bytes
 pub IsBytes-aes256 : (key block : List ℕ) → IsBytes key → IsBytes (aes256 key block)
@@ -125,7 +134,8 @@ IsBytes-aes256 key block h =
     let w : List ℕ = expanded key 52 in
     let s : List ℕ = sub_bytes (rounds w block 13) in
     IsBytes-add_round_key (shift_rows s) (round_key w 14)
-    (IsBytes-shift_rows s (IsBytes-sub_bytes (rounds w block 13))) (IsBytes-round_key w 14 (IsBytes-expanded key 52 h))
+    (IsBytes-shift_rows s (IsBytes-sub_bytes (rounds w block 13)))
+    (IsBytes-round_key w 14 (IsBytes-expanded key 52 h))
 
 -- the keystream of a key of bytes is of bytes
 pub aes256_ctr_stream-lt : (key start : List ℕ) (i : ℕ) → IsBytes key → aes256_ctr_stream key start i < 256

@@ -24,7 +24,8 @@ xtimes_of_byte = agree_below (λ a. bit_xor (a * 2 % 256) (a / 128 * 27)) xtimes
 -- the affine transformation as a sum of rotated bytes
 abbrev pub rotated_sum : ℕ → ℕ
 rotated_sum b =
-    bit_xor (bit_xor (bit_xor (bit_xor (bit_xor b (rotate_left w8 b 1)) (rotate_left w8 b 2)) (rotate_left w8 b 3)) (rotate_left w8 b 4)) 0x63
+    bit_xor (bit_xor (bit_xor (bit_xor (bit_xor b (rotate_left w8 b 1)) (rotate_left w8 b 2))
+    (rotate_left w8 b 3)) (rotate_left w8 b 4)) 0x63
 
 pub affine_of_byte : (b : ℕ) → b < 256 → rotated_sum b ≡ affine b
 unfolding values affine
@@ -58,12 +59,14 @@ unfolding values xtimes product_of_bits product inverse_below inverse squared pr
 inverse_of_byte = agree_below (product_of_squares 7) inverse 256 refl
 
 -- the step of the loop over the bits of b, from the highest on
-pub product_step : (a b i sum double : ℕ) → i < 8 → sum ≡ product_of_bits i a (b / 2 ^ (8 - i)) → double ≡ xtimes sum
+pub product_step : (a b i sum double : ℕ) → i < 8 → sum ≡ product_of_bits i a (b / 2 ^ (8 - i))
+    → double ≡ xtimes sum
     → bit_xor (bit_and (b / 2 ^ (7 - i)) 1 * a) double ≡ product_of_bits (i + 1) a (b / 2 ^ (8 - (i + 1)))
 unfolding product_of_bits
 product_step a b i sum double lt sum-is double-is =
     let place : 8 - (i + 1) ≡ 7 - i = omega arith in
     let above : 8 - i ≡ suc (7 - i) = omega arith in
     let power : 2 ^ (7 - i) * 2 ≡ 2 ^ (8 - i) = sym (pow-suc 2 (7 - i)) ∙ ap (λ n. 2 ^ n) (sym above) in
-    let rest : b / 2 ^ (7 - i) / 2 ≡ b / 2 ^ (8 - i) = div-div-eq-div-mul b (2 ^ (7 - i)) 2 ∙ ap (λ n. b / n) power in
+    let rest : b / 2 ^ (7 - i) / 2 ≡ b / 2 ^ (8 - i) =
+    div-div-eq-div-mul b (2 ^ (7 - i)) 2 ∙ ap (λ n. b / n) power in
     rw (place, add-one, shr_and_one b (7 - i), rest, double-is, sum-is) refl

@@ -41,8 +41,8 @@ unfolding next_word xor_word
 length-next_word w i = refl
 
 -- the step of a loop over words
-pub expanded_more : (w key ys : List ℕ) (i k : ℕ) → take (4 * i) w ≡ expanded key (i - 8) → 8 ≤ i → 4 * i ≤ length w
-    → ys ≡ next_word w i → take (4 * (i + 1)) (put_mid (4 * i) k w ys) ≡ expanded key (i + 1 - 8)
+pub expanded_more : (w key ys : List ℕ) (i k : ℕ) → take (4 * i) w ≡ expanded key (i - 8) → 8 ≤ i
+    → 4 * i ≤ length w → ys ≡ next_word w i → take (4 * (i + 1)) (put_mid (4 * i) k w ys) ≡ expanded key (i + 1 - 8)
 unfolding expanded
 expanded_more w key ys i k held le fits ys-is =
     let ys-long : length ys ≡ 4 = ap length ys-is ∙ length-next_word w i in

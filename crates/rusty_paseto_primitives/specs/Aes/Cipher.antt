@@ -7,7 +7,8 @@ use Rattle.rusty_paseto_primitives.specs.declared.aes.cipher.Aes256.{Aes256}
 -- the state after round number n, 0 to 13, with the schedule w, from a block: round 0 adds a round key only
 unfoldable pub rounds : List ℕ → List ℕ → ℕ → List ℕ
 rounds w block zero = add_round_key block (round_key w 0)
-rounds w block (suc n) = add_round_key (mix_columns (shift_rows (sub_bytes (rounds w block n)))) (round_key w (suc n))
+rounds w block (suc n) =
+    add_round_key (mix_columns (shift_rows (sub_bytes (rounds w block n)))) (round_key w (suc n))
 
 -- Cipher, of a schedule: the last of the fourteen rounds mixes no columns (5.1, algorithm 1)
 unfoldable pub cipher : List ℕ → List ℕ → List ℕ

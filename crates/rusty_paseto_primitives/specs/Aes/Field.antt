@@ -17,7 +17,7 @@ product_of_bits (suc n) a b = bit_xor (b % 2 * a) (xtimes (product_of_bits n a (
 unfoldable pub product : ℕ → ℕ → ℕ
 product a b = product_of_bits 8 a b
 
--- the number below n whose product with a is 1, or 0 where there is none
+-- the greatest number below n whose product with a is 1, or 0 where there is none
 unfoldable pub inverse_below : ℕ → ℕ → ℕ
 inverse_below zero a = 0
 inverse_below (suc b) a = elim (nat_eq (product a b) 1) [ true ↦ b | false ↦ inverse_below b a ]
@@ -29,8 +29,8 @@ inverse a = inverse_below 256 a
 -- bit i of the affine transformation of a byte (5.1.1)
 abbrev pub affine_bit : ℕ → ℕ → ℕ
 affine_bit b i =
-    (bit_at b i + bit_at b ((i + 4) % 8) + bit_at b ((i + 5) % 8) + bit_at b ((i + 6) % 8) + bit_at b ((i + 7) % 8)
-    + bit_at 0x63 i) % 2
+    (bit_at b i + bit_at b ((i + 4) % 8) + bit_at b ((i + 5) % 8)
+    + bit_at b ((i + 6) % 8) + bit_at b ((i + 7) % 8) + bit_at 0x63 i) % 2
 
 -- the affine transformation of a byte
 unfoldable pub affine : ℕ → ℕ

@@ -10,11 +10,14 @@ round_constants = 0x01 ∷ 0x02 ∷ 0x04 ∷ 0x08 ∷ 0x10 ∷ 0x20 ∷ 0x40 ∷
 -- word i of a schedule
 unfoldable pub word : List ℕ → ℕ → List ℕ
 word w i =
-    slice_index w (4 * i) ∷ slice_index w (4 * i + 1) ∷ slice_index w (4 * i + 2) ∷ slice_index w (4 * i + 3) ∷ []
+    slice_index w (4 * i) ∷ slice_index w (4 * i + 1)
+    ∷ slice_index w (4 * i + 2) ∷ slice_index w (4 * i + 3) ∷ []
 
 -- SubWord (5.2)
 unfoldable pub sub_word : List ℕ → List ℕ
-sub_word t = sub_byte (slice_index t 0) ∷ sub_byte (slice_index t 1) ∷ sub_byte (slice_index t 2) ∷ sub_byte (slice_index t 3) ∷ []
+sub_word t =
+    sub_byte (slice_index t 0) ∷ sub_byte (slice_index t 1)
+    ∷ sub_byte (slice_index t 2) ∷ sub_byte (slice_index t 3) ∷ []
 
 -- RotWord (5.2)
 unfoldable pub rot_word : List ℕ → List ℕ

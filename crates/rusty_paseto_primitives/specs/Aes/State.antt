@@ -39,7 +39,8 @@ row_product row a0 a1 a2 a3 =
 -- MixColumns: the matrix times each column (5.1.3)
 unfoldable pub mix_columns : List ℕ → List ℕ
 mix_columns s = state_of (λ row column.
-    row_product (slice_index_or mix_matrix row []) (at s 0 column) (at s 1 column) (at s 2 column) (at s 3 column))
+    row_product (slice_index_or mix_matrix row [])
+    (at s 0 column) (at s 1 column) (at s 2 column) (at s 3 column))
 
 -- AddRoundKey, with the round key of these 16 bytes (5.1.4)
 unfoldable pub add_round_key : List ℕ → List ℕ → List ℕ

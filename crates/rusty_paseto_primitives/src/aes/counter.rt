@@ -14,7 +14,8 @@ const BLOCK_LEN: usize = 16;
 // The keystream's block number n, from the number that the start block is.
 #[inline(always)]
 fn block_at(cipher: &Aes256, start: u128, n: usize) -> [u8; 16]
-    ensures { (key : List ℕ) → IsKeyed cipher.now key → result ≡ aes256 key (to_be_bytes w128 ((start + n) % 2 ^ 128)) }
+    ensures { (key : List ℕ) → IsKeyed cipher.now key
+        → result ≡ aes256 key (to_be_bytes w128 ((start + n) % 2 ^ 128)) }
 {
     let counter = start.wrapping_add(n as u128);
     cipher.encrypt_block(&counter.to_be_bytes())

@@ -2,6 +2,7 @@
 //! numbers, joined, also where the counter passes its greatest number.
 
 use crate::{Aes256, aes256_ctr_apply};
+use std::alloc::Global;
 use std::test::Fail;
 
 // FIPS 197, appendix C.3.
@@ -48,20 +49,28 @@ fn a_block_in_counter_mode(rt: HostRuntime) -> Result<(), Fail> {
     Ok(())
 }
 
+// The front of the blocks of a key, of the counters from `start` on.
+fn joined_blocks(alloc: Global, key: &[u8; 32], start: u128, len: usize) -> Result<Vec<u8>, Fail> {
+    let cipher = Aes256::new(key);
+    let mut bytes = Vec::new(alloc);
+    'blocks: for number in 0..5u64 {
+        let counter = start.wrapping_add(number as u128).to_be_bytes();
+        bytes.extend_from_slice(&cipher.encrypt_block(&counter))?;
+    }
+    bytes.truncate(len);
+    Ok(bytes)
+}
+
 #[test]
 fn zeros_become_the_joined_blocks(rt: HostRuntime) -> Result<(), Fail> {
     let key = [0x5cu8; 32];
-    let cipher = Aes256::new(&key);
     let start = u128::MAX - 1;
-    let mut blocks = Vec::new(rt.alloc());
-    for number in 0..5u128 {
-        let counter = start.wrapping_add(number).to_be_bytes();
-        blocks.extend_from_slice(&cipher.encrypt_block(&counter))?;
-    }
     for len in [0usize, 1, 15, 16, 17, 31, 32, 33, 47, 48, 49, 80] {
         let mut data = vec![in rt.alloc(); 0u8; len]?;
         aes256_ctr_apply(&key, &start.to_be_bytes(), &mut data);
-        assert_eq!(rt; data.as_slice(), &blocks[..len]);
+        let blocks = joined_blocks(rt.alloc(), &key, start, len)?;
+        assert_eq!(rt; data.len(), len);
+        assert_eq!(rt; data.as_slice(), blocks.as_slice());
     }
     Ok(())
 }

@@ -9,7 +9,8 @@ unfolding product_of_bits
 bits-init c = refl
 
 pub bits-preserved : goal.bits-preserved
-bits-preserved c = product_step c.args.a c.args.b c.bits.i _ c.xtimes.result (omega arith) c.bits.invariant c.xtimes.ensures
+bits-preserved c =
+    product_step c.args.a c.args.b c.bits.i _ c.xtimes.result (omega arith) c.bits.invariant c.xtimes.ensures
 
 pub returns : goal.returns
 unfolding product

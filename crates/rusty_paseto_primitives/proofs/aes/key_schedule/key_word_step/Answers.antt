@@ -10,7 +10,8 @@ returns-then-i-eq0 c =
     ∙ sym (key_word_step-at_none c.args.i c.args.t c.if-i-eq0.true)
 
 pub returns-then-i-eq4 : goal.returns-then-i-eq4
-returns-then-i-eq4 c = c.sub_word-then-i-eq4.ensures ∙ sym (key_word_step-at_four c.args.i c.args.t c.if-i-eq4.true)
+returns-then-i-eq4 c =
+    c.sub_word-then-i-eq4.ensures ∙ sym (key_word_step-at_four c.args.i c.args.t c.if-i-eq4.true)
 
 pub returns-else-i-eq4 : goal.returns-else-i-eq4
 returns-else-i-eq4 c = sym (key_word_step-elsewhere c.args.i c.args.t c.if-i-eq0.false c.if-i-eq4.false)
