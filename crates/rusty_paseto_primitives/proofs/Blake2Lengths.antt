@@ -21,11 +21,11 @@ length-blake2b key n message fits =
     let h : List ℕ = final_hash (initial_hash n (length key)) (keyed_input key message) in
     length-take-le n (hash_bytes h 8) (omega (arith, length-hash_bytes h 8))
 
-pub IsBytes_cons : (x : ℕ) (xs : List ℕ) → x < 256 → IsBytes xs → IsBytes (x ∷ xs)
+IsBytes_cons : (x : ℕ) (xs : List ℕ) → x < 256 → IsBytes xs → IsBytes (x ∷ xs)
 IsBytes_cons x xs head tail zero = head
 IsBytes_cons x xs head tail (suc i) = tail i
 
-pub IsBytes-nil : IsBytes []
+IsBytes-nil : IsBytes []
 IsBytes-nil i = omega arith
 
 pub IsBytes-append : (xs ys : List ℕ) → IsBytes xs → IsBytes ys → IsBytes (xs ++ ys)

@@ -1,7 +1,7 @@
 // The block cipher AES with a key of 256 bits (FIPS 197, section 5.1).
 
-ghost use Rattle.std.specs.Prelude.{◌≡◌, ℕ, ◌+◌, ◌*◌, ◌<◌, List};
-ghost use Rattle.rusty_paseto_primitives.specs.Aes.Cipher.{IsKeyed, aes256, rounds};
+ghost use Rattle.std.specs.Prelude.{◌≡◌, ℕ, ◌<◌, List};
+ghost use Rattle.rusty_paseto_primitives.specs.Aes.Cipher.{IsKeyed, aes256};
 ghost use Rattle.rusty_paseto_primitives.specs.Aes.KeySchedule.{round_key};
 ghost use Rattle.rusty_paseto_primitives.specs.Aes.State.{add_round_key};
 

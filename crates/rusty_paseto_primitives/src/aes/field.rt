@@ -1,13 +1,12 @@
 // The arithmetic of AES on bytes (FIPS 197, section 4), and its S-box.
 
-ghost use Rattle.std.specs.Prelude.{◌≡◌, ◌%◌, ◌/◌, ◌^◌, ◌*◌, ◌<◌};
+ghost use Rattle.std.specs.Prelude.{◌≡◌};
 ghost use Rattle.rusty_paseto_primitives.specs.Aes.Field.{affine, inverse, product, sub_byte, xtimes};
 
 // The lowest byte of the modulus x^8 + x^4 + x^3 + x + 1.
 const MODULUS: u8 = 0x1b;
 
-// A byte times x. The modulus is taken off by a product and not by a branch, so that the time taken
-// doesn't tell of the byte.
+// A byte times x. The modulus is taken off by a product, so that no branch depends on the byte.
 #[inline(always)]
 pub(super) fn xtimes(a: u8) -> u8
     ensures { result ≡ xtimes a }
@@ -21,7 +20,7 @@ pub(super) fn product(a: u8, b: u8) -> u8
 {
     let mut sum = 0u8;
     'bits: for i in 0..8u32 {
-        sum = ((b >> (7 - i)) & 1) * a ^ xtimes(sum);
+        sum = (((b >> (7 - i)) & 1) * a) ^ xtimes(sum);
     }
     sum
 }
