@@ -13,3 +13,7 @@ pub mod HkdfFacts
 pub mod HkdfLengths
 pub mod HmacFacts
 pub mod HmacLengths
+pub mod AesFacts
+pub mod AesBytes
+pub mod AesKeySchedule
+pub mod AesBlocks

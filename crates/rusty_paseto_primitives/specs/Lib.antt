@@ -4,3 +4,4 @@ pub mod Blake2
 pub mod ChaCha
 pub mod Hmac
 pub mod Hkdf
+pub mod Aes

@@ -1,12 +1,14 @@
 //! The primitives that PASETO tokens are made with. No call takes memory.
 #![tactic(auto)]
 
+mod aes;
 mod blake2;
 mod chacha;
 mod hkdf;
 mod hmac;
 mod keystream;
 
+pub use aes::{Aes256, aes256_ctr_apply};
 pub use blake2::hasher::Blake2b;
 pub use blake2::keyed::blake2b_keyed;
 pub use chacha::{chacha20_block, hchacha20, quarter_round, xchacha20_apply};

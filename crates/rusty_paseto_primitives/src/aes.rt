@@ -1,0 +1,12 @@
+// AES with a key of 256 bits (FIPS 197), and its counter mode (SP 800-38A).
+
+mod cipher;
+mod counter;
+mod field;
+mod key_schedule;
+mod state;
+#[cfg(test)]
+mod tests;
+
+pub use cipher::Aes256;
+pub use counter::aes256_ctr_apply;
