@@ -1,4 +1,8 @@
 -- What a local version of the PASETO specification means, as functions on lists of bytes.
+pub mod V1
+pub mod V1Laws
+pub mod V3
+pub mod V3Laws
 pub mod V4
 pub mod V4Laws
 use Rattle.std.specs.Prelude.{◌≡◌, ℕ, ◌≤◌, Bool, List, [], ◌∷◌, ◌++◌, length, if◌then◌else◌, codes}

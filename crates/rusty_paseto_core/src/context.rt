@@ -1,6 +1,6 @@
 //! What a token is sealed under besides its nonce.
 
-ghost use Rattle.std.specs.Prelude.{◌≡◌, length};
+ghost use Rattle.std.specs.Prelude.{◌≡◌, None, length};
 ghost use Rattle.rusty_paseto_parts.specs.Footer.{footer_text};
 ghost use Rattle.rusty_paseto_parts.specs.ImplicitAssertion.{assertion_text};
 ghost use Rattle.rusty_paseto_primitives.specs.Bytes.{IsBytes};
@@ -41,6 +41,13 @@ impl<'a> Context<'a> {
             footer: footer.unwrap_or_default(),
             assertion: assertion.unwrap_or_default(),
         }
+    }
+
+    /// The context of a version that has no implicit assertion.
+    pub(crate) fn without_assertion(key: &'a [u8; 32], footer: Option<Footer<'a>>) -> Self
+        ensures { result ≡ binding_of key.now footer.entry None }
+    {
+        Self::new(key, footer, None)
     }
 
     pub(crate) fn key(&self) -> &'a [u8; 32]

@@ -12,6 +12,7 @@ mod suite;
 pub use paseto_impl::paseto::Paseto;
 pub use rusty_paseto_parts::{
     Footer, Header, ImplicitAssertion, ImplicitAssertionCapable, Key, Local, PasetoError,
-    PasetoNonce, PasetoSymmetricKey, Payload, PreAuthenticationEncoding, PurposeTrait, UntrustedToken,
-    V2orV4, V4, VersionTrait, from_section, split_token, to_section,
+    PasetoNonce, PasetoSymmetricKey, Payload, PreAuthenticationEncoding, PurposeTrait,
+    UntrustedToken, V1, V1orV3, V2orV4, V3, V4, VersionTrait, from_section, split_token,
+    to_section,
 };

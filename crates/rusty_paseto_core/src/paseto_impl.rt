@@ -1,4 +1,6 @@
 //! The calls that users make, one file for each kind of token.
 
 pub(crate) mod paseto;
+mod v1_local;
+mod v3_local;
 mod v4_local;

@@ -6,6 +6,9 @@ ghost use Rattle.rusty_paseto_core.specs.Suite.{Design, IsLawful};
 
 use rusty_paseto_parts::VersionTrait;
 
+mod nist;
+mod v1;
+mod v3;
 mod v4;
 
 /// How many bytes a token's nonce has.
@@ -13,6 +16,13 @@ pub(crate) const NONCE_LENGTH: usize = 32;
 
 /// How many bytes the longest tag has.
 pub(crate) const LONGEST_TAG: usize = 48;
+
+/// What stands before the nonce where the encryption key is derived. The two separators keep the keys
+/// of the mask and of the tag apart.
+const ENCRYPTION: &[u8; 21] = b"paseto-encryption-key";
+
+/// What stands there where the authentication key is derived.
+const AUTHENTICATION: &[u8; 24] = b"paseto-auth-key-for-aead";
 
 /// The header, the key split, the mask and the tag of a version's local tokens.
 ///

@@ -7,13 +7,9 @@ ghost use Rattle.rusty_paseto_core.specs.Suite.V4.{v4};
 ghost use Rattle.rusty_paseto_core.specs.Suite.V4Laws.{v4-IsLawful, v4-binds_assertion, v4-tag_length, v4-version};
 ghost use Rattle.std.proofs.Common.{rules};
 
-use crate::suite::LocalSuite;
+use crate::suite::{AUTHENTICATION, ENCRYPTION, LocalSuite};
 use rusty_paseto_parts::V4;
 use rusty_paseto_primitives::{Blake2b, xchacha20_apply};
-
-const ENCRYPTION: &[u8; 21] = b"paseto-encryption-key";
-
-const AUTHENTICATION: &[u8; 24] = b"paseto-auth-key-for-aead";
 
 impl LocalSuite for V4 {
     ghost design = { v4 };
