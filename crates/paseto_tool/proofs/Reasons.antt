@@ -8,7 +8,7 @@ use Rattle.rusty_paseto_core.specs.Binding.{Binding, binding_of}
 use Rattle.rusty_paseto_parts.specs.Error.{IsMemory}
 use Rattle.rusty_paseto_parts.specs.declared.error.PasetoError.{PasetoError}
 use Rattle.rusty_paseto_parts.specs.declared.error.PasetoError.TheVariants.{Memory}
-use Rattle.rusty_paseto_core.specs.Suite.V4.{v4}
+use Rattle.rusty_paseto_core.specs.Suite.{Design}
 use Rattle.rusty_paseto_core.specs.Opening.{IsFault}
 use Rattle.paseto_tool.specs.Error.{tool_error_of}
 use Rattle.paseto_tool.specs.Arguments.{Says}
@@ -28,18 +28,18 @@ binding_of-given key None (Some a) = refl
 binding_of-given key (Some f) None = refl
 binding_of-given key (Some f) (Some a) = refl
 
-fault_reason : (key key_bytes : List ℕ) (footer assertion : Option (List ℕ)) (input : List ℕ) (error : PasetoError)
-    → Says key key_bytes → IsMemory error ⊎ IsFault v4 (token_of input) (binding key_bytes footer assertion) error
-    → IsOpeningReason key footer assertion input (tool_error_of error)
-fault_reason key key_bytes footer assertion input (Memory source) says h = tt
-fault_reason key key_bytes footer assertion input error says (inr fault) = no_token error key_bytes says fault
-fault_reason key key_bytes footer assertion input error says (inl memory) = absurd memory
+module _ (design : Design) (key key_bytes : List ℕ) (says : Says key key_bytes) where
+  fault_reason : (footer assertion : Option (List ℕ)) (input : List ℕ) (error : PasetoError)
+      → IsMemory error ⊎ IsFault design (token_of input) (binding key_bytes footer assertion) error
+      → IsOpeningReason design key footer assertion input (tool_error_of error)
+  fault_reason footer assertion input (Memory source) h = tt
+  fault_reason footer assertion input error (inr fault) = no_token error key_bytes says fault
+  fault_reason footer assertion input error (inl memory) = absurd memory
 
--- an opening that fails says why
-pub IsOpeningReason-fault : (key key_bytes : List ℕ) (footer : Option Footer) (assertion : Option ImplicitAssertion) (input token : List ℕ) (error : PasetoError)
-    → Says key key_bytes → token ≡ token_of input → IsMemory error ⊎ IsFault v4 token (binding_of key_bytes footer assertion) error
-    → IsOpeningReason key (option_map footer_text footer) (option_map assertion_text assertion) input (tool_error_of error)
-IsOpeningReason-fault key key_bytes footer assertion input token error says e h =
-    fault_reason key key_bytes _ _ input error says
-    (subst (λ (b : Binding). IsMemory error ⊎ IsFault v4 (token_of input) b error) (binding_of-given key_bytes footer assertion)
-    (subst (λ (t : List ℕ). IsMemory error ⊎ IsFault v4 t (binding_of key_bytes footer assertion) error) e h))
+  -- an opening that fails says why
+  pub IsOpeningReason-fault : (footer assertion : Option (List ℕ)) (input token : List ℕ) (error : PasetoError) → token ≡ token_of input
+      → IsMemory error ⊎ IsFault design token (binding key_bytes footer assertion) error
+      → IsOpeningReason design key footer assertion input (tool_error_of error)
+  IsOpeningReason-fault footer assertion input token error e h =
+      fault_reason footer assertion input error
+      (subst (λ (t : List ℕ). IsMemory error ⊎ IsFault design t (binding key_bytes footer assertion) error) e h)

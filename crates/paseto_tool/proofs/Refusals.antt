@@ -4,6 +4,8 @@ use Rattle.std.specs.Io.KnownBytes.{Appends}
 use Rattle.paseto_tool.specs.declared.error.ToolError.{ToolError}
 use Rattle.paseto_tool.specs.declared.error.ToolError.TheVariants.{Usage, Refused, InputOrOutput, Memory}
 use Rattle.paseto_tool.specs.Error.{status_of}
+use Rattle.paseto_tool.specs.declared.version.Version.{Version}
+use Rattle.paseto_tool.specs.Version.{design_of}
 use Rattle.paseto_tool.specs.Arguments.{IsDigits}
 use Rattle.paseto_tool.specs.Arguments.{AsksToInspect, AsksToSeal, AsksToOpen, IsUsageFault}
 use Rattle.paseto_tool.specs.Output.{IsCutShort}
@@ -15,56 +17,56 @@ use Rattle.paseto_tool.proofs.WordLemmas.{AsksToSeal-open, AsksToSeal-key, AsksT
 
 -- words with a bad key are no fault of usage
 pub HasBadKey-usage : (words : List (List ℕ)) → HasBadKey words → IsUsageFault words → ⊥
-HasBadKey-usage words (bad_key key nonce footer assertion asks h) fault = fault.no_seal key nonce footer assertion asks
-HasBadKey-usage words (bad_nonce key nonce footer assertion asks h) fault = fault.no_seal key nonce footer assertion asks
-HasBadKey-usage words (bad_opening_key key footer assertion asks h) fault = fault.no_open key footer assertion asks
+HasBadKey-usage words (bad_key version key nonce footer assertion asks h) fault = fault.no_seal version key nonce footer assertion asks
+HasBadKey-usage words (bad_nonce version key nonce footer assertion asks h) fault = fault.no_seal version key nonce footer assertion asks
+HasBadKey-usage words (bad_opening_key version key footer assertion asks h) fault = fault.no_open version key footer assertion asks
 
-pub HasBadKey-seal : (words : List (List ℕ)) (key nonce : List ℕ) (footer assertion : Option (List ℕ)) → HasBadKey words → AsksToSeal words key nonce footer assertion
-    → (¬ IsDigits key) ⊎ (¬ IsDigits nonce)
-HasBadKey-seal words key nonce footer assertion (bad_key key2 nonce2 footer2 assertion2 asks2 h) asks =
-    inl (subst (λ (k : List ℕ). ¬ IsDigits k) (AsksToSeal-key words key2 nonce2 footer2 assertion2 key nonce footer assertion asks2 asks).0 h)
-HasBadKey-seal words key nonce footer assertion (bad_nonce key2 nonce2 footer2 assertion2 asks2 h) asks =
-    inr (subst (λ (k : List ℕ). ¬ IsDigits k) (AsksToSeal-key words key2 nonce2 footer2 assertion2 key nonce footer assertion asks2 asks).1 h)
-HasBadKey-seal words key nonce footer assertion (bad_opening_key key2 footer2 assertion2 asks2 h) asks =
-    absurd (AsksToSeal-open words key nonce footer assertion key2 footer2 assertion2 asks asks2)
+pub HasBadKey-seal : (words : List (List ℕ)) (version : Version) (key nonce : List ℕ) (footer assertion : Option (List ℕ))
+    → HasBadKey words → AsksToSeal words version key nonce footer assertion → (¬ IsDigits key) ⊎ (¬ IsDigits nonce)
+HasBadKey-seal words version key nonce footer assertion (bad_key version2 key2 nonce2 footer2 assertion2 asks2 h) asks =
+    inl (subst (λ (k : List ℕ). ¬ IsDigits k) (AsksToSeal-key words version2 key2 nonce2 footer2 assertion2 version key nonce footer assertion asks2 asks).0 h)
+HasBadKey-seal words version key nonce footer assertion (bad_nonce version2 key2 nonce2 footer2 assertion2 asks2 h) asks =
+    inr (subst (λ (k : List ℕ). ¬ IsDigits k) (AsksToSeal-key words version2 key2 nonce2 footer2 assertion2 version key nonce footer assertion asks2 asks).1 h)
+HasBadKey-seal words version key nonce footer assertion (bad_opening_key version2 key2 footer2 assertion2 asks2 h) asks =
+    absurd (AsksToSeal-open words version key nonce footer assertion version2 key2 footer2 assertion2 asks asks2)
 
-pub HasBadKey-open : (words : List (List ℕ)) (key : List ℕ) (footer assertion : Option (List ℕ)) → HasBadKey words → AsksToOpen words key footer assertion
-    → ¬ IsDigits key
-HasBadKey-open words key footer assertion (bad_key key2 nonce2 footer2 assertion2 asks2 h) asks =
-    absurd (AsksToSeal-open words key2 nonce2 footer2 assertion2 key footer assertion asks2 asks)
-HasBadKey-open words key footer assertion (bad_nonce key2 nonce2 footer2 assertion2 asks2 h) asks =
-    absurd (AsksToSeal-open words key2 nonce2 footer2 assertion2 key footer assertion asks2 asks)
-HasBadKey-open words key footer assertion (bad_opening_key key2 footer2 assertion2 asks2 h) asks =
-    subst (λ (k : List ℕ). ¬ IsDigits k) (AsksToOpen-key words key2 footer2 assertion2 key footer assertion asks2 asks) h
+pub HasBadKey-open : (words : List (List ℕ)) (version : Version) (key : List ℕ) (footer assertion : Option (List ℕ))
+    → HasBadKey words → AsksToOpen words version key footer assertion → ¬ IsDigits key
+HasBadKey-open words version key footer assertion (bad_key version2 key2 nonce2 footer2 assertion2 asks2 h) asks =
+    absurd (AsksToSeal-open words version2 key2 nonce2 footer2 assertion2 version key footer assertion asks2 asks)
+HasBadKey-open words version key footer assertion (bad_nonce version2 key2 nonce2 footer2 assertion2 asks2 h) asks =
+    absurd (AsksToSeal-open words version2 key2 nonce2 footer2 assertion2 version key footer assertion asks2 asks)
+HasBadKey-open words version key footer assertion (bad_opening_key version2 key2 footer2 assertion2 asks2 h) asks =
+    subst (λ (k : List ℕ). ¬ IsDigits k) (AsksToOpen-key words version2 key2 footer2 assertion2 version key footer assertion asks2 asks) h
 
 -- a reason not to seal, or not to open, is one to print nothing
-sealing_reason : (words : List (List ℕ)) (key nonce : List ℕ) (footer assertion : Option (List ℕ)) (bytes : List ℕ) (error : ToolError)
-    → AsksToSeal words key nonce footer assertion → IsSealingReason key nonce bytes error → IsReason words bytes error
-sealing_reason words key nonce footer assertion bytes Usage asks h = absurd h
-sealing_reason words key nonce footer assertion bytes (Refused error) asks h = sealing key nonce footer assertion asks h
-sealing_reason words key nonce footer assertion bytes InputOrOutput asks h = tt
-sealing_reason words key nonce footer assertion bytes (Memory source) asks h = tt
+sealing_reason : (words : List (List ℕ)) (version : Version) (key nonce : List ℕ) (footer assertion : Option (List ℕ)) (bytes : List ℕ) (error : ToolError)
+    → AsksToSeal words version key nonce footer assertion → IsSealingReason key nonce bytes error → IsReason words bytes error
+sealing_reason words version key nonce footer assertion bytes Usage asks h = absurd h
+sealing_reason words version key nonce footer assertion bytes (Refused error) asks h = sealing version key nonce footer assertion asks h
+sealing_reason words version key nonce footer assertion bytes InputOrOutput asks h = tt
+sealing_reason words version key nonce footer assertion bytes (Memory source) asks h = tt
 
-opening_reason : (words : List (List ℕ)) (key : List ℕ) (footer assertion : Option (List ℕ)) (bytes : List ℕ) (error : ToolError)
-    → AsksToOpen words key footer assertion → IsOpeningReason key footer assertion bytes error → IsReason words bytes error
-opening_reason words key footer assertion bytes Usage asks h = absurd h
-opening_reason words key footer assertion bytes (Refused error) asks h = opening key footer assertion asks h
-opening_reason words key footer assertion bytes InputOrOutput asks h = tt
-opening_reason words key footer assertion bytes (Memory source) asks h = tt
+opening_reason : (words : List (List ℕ)) (version : Version) (key : List ℕ) (footer assertion : Option (List ℕ)) (bytes : List ℕ) (error : ToolError)
+    → AsksToOpen words version key footer assertion → IsOpeningReason (design_of version) key footer assertion bytes error → IsReason words bytes error
+opening_reason words version key footer assertion bytes Usage asks h = absurd h
+opening_reason words version key footer assertion bytes (Refused error) asks h = opening version key footer assertion asks h
+opening_reason words version key footer assertion bytes InputOrOutput asks h = tt
+opening_reason words version key footer assertion bytes (Memory source) asks h = tt
 
-pub IsReason-seal : {T : Type 0} (result : Result T ToolError) (known : Option (List ℕ)) (words : List (List ℕ)) (key nonce : List ℕ) (footer assertion : Option (List ℕ))
-    → AsksToSeal words key nonce footer assertion → IfErr result (λ error. IfSome known (λ bytes. IsSealingReason key nonce bytes error))
+pub IsReason-seal : {T : Type 0} (result : Result T ToolError) (known : Option (List ℕ)) (words : List (List ℕ)) (version : Version) (key nonce : List ℕ) (footer assertion : Option (List ℕ))
+    → AsksToSeal words version key nonce footer assertion → IfErr result (λ error. IfSome known (λ bytes. IsSealingReason key nonce bytes error))
     → IfErr result (λ error. IfSome known (λ bytes. IsReason words bytes error))
-IsReason-seal (Ok x) known words key nonce footer assertion asks h = tt
-IsReason-seal (Err error) None words key nonce footer assertion asks h = tt
-IsReason-seal (Err error) (Some bytes) words key nonce footer assertion asks h = sealing_reason words key nonce footer assertion bytes error asks h
+IsReason-seal (Ok x) known words version key nonce footer assertion asks h = tt
+IsReason-seal (Err error) None words version key nonce footer assertion asks h = tt
+IsReason-seal (Err error) (Some bytes) words version key nonce footer assertion asks h = sealing_reason words version key nonce footer assertion bytes error asks h
 
-pub IsReason-open : {T : Type 0} (result : Result T ToolError) (known : Option (List ℕ)) (words : List (List ℕ)) (key : List ℕ) (footer assertion : Option (List ℕ))
-    → AsksToOpen words key footer assertion → IfErr result (λ error. IfSome known (λ bytes. IsOpeningReason key footer assertion bytes error))
+pub IsReason-open : {T : Type 0} (result : Result T ToolError) (known : Option (List ℕ)) (words : List (List ℕ)) (version : Version) (key : List ℕ) (footer assertion : Option (List ℕ))
+    → AsksToOpen words version key footer assertion → IfErr result (λ error. IfSome known (λ bytes. IsOpeningReason (design_of version) key footer assertion bytes error))
     → IfErr result (λ error. IfSome known (λ bytes. IsReason words bytes error))
-IsReason-open (Ok x) known words key footer assertion asks h = tt
-IsReason-open (Err error) None words key footer assertion asks h = tt
-IsReason-open (Err error) (Some bytes) words key footer assertion asks h = opening_reason words key footer assertion bytes error asks h
+IsReason-open (Ok x) known words version key footer assertion asks h = tt
+IsReason-open (Err error) None words version key footer assertion asks h = tt
+IsReason-open (Err error) (Some bytes) words version key footer assertion asks h = opening_reason words version key footer assertion bytes error asks h
 
 -- a reason to print no lines is one to print nothing, whatever the input is
 inspection_reason : (words : List (List ℕ)) (token bytes : List ℕ) (error : ToolError)

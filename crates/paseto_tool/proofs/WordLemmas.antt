@@ -2,6 +2,7 @@
 use Rattle.std.proofs.Common.{◌≡◌, ℕ, ◌-◌, ◌≤◌, List, [], ◌∷◌, length, get_or, take, drop, map, Option, arith, sym, ap, ◌∙◌, codes, eqb}
 use Rattle.std.proofs.lemmas.Bool.{false≢true}
 use Rattle.std.proofs.lemmas.List.{take_rest}
+use Rattle.paseto_tool.specs.declared.version.Version.{Version}
 use Rattle.paseto_tool.specs.Arguments.{AsksToSeal, AsksToOpen}
 
 -- the first three, and the rest
@@ -28,22 +29,26 @@ map-one f [] x c n p q = absurd (omega arith)
 map-one f (a ∷ xs) x c n p q = rw (take_rest, q, p)
 
 -- words that ask to seal do not ask to open
-pub AsksToSeal-open : (words : List (List ℕ)) (key nonce : List ℕ) (footer assertion : Option (List ℕ)) (key2 : List ℕ) (footer2 assertion2 : Option (List ℕ))
-    → AsksToSeal words key nonce footer assertion → AsksToOpen words key2 footer2 assertion2 → ⊥
-AsksToSeal-open words key nonce footer assertion key2 footer2 assertion2 a b =
+pub AsksToSeal-open : (words : List (List ℕ)) (version : Version) (key nonce : List ℕ) (footer assertion : Option (List ℕ))
+    (version2 : Version) (key2 : List ℕ) (footer2 assertion2 : Option (List ℕ))
+    → AsksToSeal words version key nonce footer assertion → AsksToOpen words version2 key2 footer2 assertion2 → ⊥
+AsksToSeal-open words version key nonce footer assertion version2 key2 footer2 assertion2 a b =
     let commands : codes "seal" ≡ codes "open" = ap (λ (l : List (List ℕ)). get_or l 0 []) (sym a.words_are ∙ b.words_are) in
     let letters : 115 ≡ 111 = ap (λ (l : List ℕ). get_or l 0 0) commands in
     absurd (false≢true (sym (ap (eqb 115) letters)))
 
 -- words ask to seal under one key and one nonce
-pub AsksToSeal-key : (words : List (List ℕ)) (key nonce : List ℕ) (footer assertion : Option (List ℕ)) (key2 nonce2 : List ℕ) (footer2 assertion2 : Option (List ℕ))
-    → AsksToSeal words key nonce footer assertion → AsksToSeal words key2 nonce2 footer2 assertion2 → (key ≡ key2) × (nonce ≡ nonce2)
-AsksToSeal-key words key nonce footer assertion key2 nonce2 footer2 assertion2 a b =
+pub AsksToSeal-key : (words : List (List ℕ)) (version : Version) (key nonce : List ℕ) (footer assertion : Option (List ℕ))
+    (version2 : Version) (key2 nonce2 : List ℕ) (footer2 assertion2 : Option (List ℕ))
+    → AsksToSeal words version key nonce footer assertion → AsksToSeal words version2 key2 nonce2 footer2 assertion2
+    → (key ≡ key2) × (nonce ≡ nonce2)
+AsksToSeal-key words version key nonce footer assertion version2 key2 nonce2 footer2 assertion2 a b =
     let same = sym a.words_are ∙ b.words_are in
     (ap (λ (l : List (List ℕ)). get_or l 2 []) same, ap (λ (l : List (List ℕ)). get_or l 3 []) same)
 
 -- words ask to open under one key
-pub AsksToOpen-key : (words : List (List ℕ)) (key : List ℕ) (footer assertion : Option (List ℕ)) (key2 : List ℕ) (footer2 assertion2 : Option (List ℕ))
-    → AsksToOpen words key footer assertion → AsksToOpen words key2 footer2 assertion2 → key ≡ key2
-AsksToOpen-key words key footer assertion key2 footer2 assertion2 a b =
+pub AsksToOpen-key : (words : List (List ℕ)) (version : Version) (key : List ℕ) (footer assertion : Option (List ℕ))
+    (version2 : Version) (key2 : List ℕ) (footer2 assertion2 : Option (List ℕ))
+    → AsksToOpen words version key footer assertion → AsksToOpen words version2 key2 footer2 assertion2 → key ≡ key2
+AsksToOpen-key words version key footer assertion version2 key2 footer2 assertion2 a b =
     ap (λ (l : List (List ℕ)). get_or l 2 []) (sym a.words_are ∙ b.words_are)

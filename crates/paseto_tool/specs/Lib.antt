@@ -2,6 +2,7 @@ pub mod Error
 pub mod Input
 pub mod Output
 pub mod Inspect
+pub mod Version
 pub mod Arguments
 pub mod Seal
 pub mod Open

@@ -3,7 +3,7 @@ use Rattle.std.specs.Prelude.{◌≡◌, ℕ, List, [], ◌∷◌, ◌++◌, ◌
 use Rattle.rusty_paseto_parts.specs.declared.error.PasetoError.{PasetoError}
 use Rattle.rusty_paseto_parts.specs.declared.error.PasetoError.TheVariants.{InvalidKey, Utf8Error}
 use Rattle.rusty_paseto_core.specs.Binding.{Binding}
-use Rattle.rusty_paseto_core.specs.Suite.V4.{v4}
+use Rattle.rusty_paseto_core.specs.Suite.{Design}
 use Rattle.rusty_paseto_core.specs.Sealing.{sealing}
 use Rattle.paseto_tool.specs.declared.error.ToolError.{ToolError}
 use Rattle.paseto_tool.specs.declared.error.ToolError.TheVariants.{Usage, Refused, InputOrOutput, Memory}
@@ -15,13 +15,14 @@ binding key footer assertion =
     record { key = key; footer = unwrap_or footer []; assertion = unwrap_or assertion [] }
 
 -- the line that a text's sealing prints: the token, and a line feed
-pub record Seals (key nonce : List ℕ) (footer assertion : Option (List ℕ)) (text line : List ℕ) : Type 0 where
+pub record Seals (design : Design) (key nonce : List ℕ) (footer assertion : Option (List ℕ)) (text line : List ℕ) : Type 0 where
   pub key_bytes : List ℕ
   pub nonce_bytes : List ℕ
   pub is_key : Says key key_bytes
   pub is_nonce : Says nonce nonce_bytes
   pub utf8 : IsUtf8 text
-  pub line_is : line ≡ sealing v4 (binding key_bytes footer assertion) nonce_bytes (is_some footer) text ++ (10 ∷ [])
+  pub line_is : line
+      ≡ sealing design (binding key_bytes footer assertion) (design.token_nonce nonce_bytes text) (is_some footer) text ++ (10 ∷ [])
 
 -- the error refuses the sealing: a key or a nonce that is no 64 digits, or else a text that is not UTF-8
 abbrev pub RefusesSealing : List ℕ → List ℕ → List ℕ → PasetoError → Type 0

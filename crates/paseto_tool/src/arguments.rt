@@ -1,15 +1,13 @@
 //! What the words after the program's name ask for.
 
-ghost use Rattle.std.specs.Prelude.{◌≡◌, ◌<◌, ◌↔◌, ◌∷◌, codes, length, MatchOption, IfSome, IsNone, IsTrue};
+ghost use Rattle.std.specs.Prelude.{◌↔◌, ◌∷◌, ℕ, List, Option, codes, IfSome, IsNone};
 ghost use Rattle.paseto_tool.specs.Arguments.{words_of, AreLast, IsUsageFault, Asks, given_footer, given_assertion};
 
 use crate::inspect::Inspection;
 use crate::open::Opening;
 use crate::seal::Sealing;
+use crate::version::Version;
 use rusty_paseto_core::{Footer, ImplicitAssertion};
-
-/// The version that the program seals and opens.
-const VERSION: &str = "v4";
 
 /// What the words ask for.
 #[derive(Clone, Copy)]
@@ -60,12 +58,11 @@ impl<'a> Command<'a> {
         let [version, key, nonce, rest @ ..] = words else {
             return None;
         };
-        if !is_version(version) {
-            return None;
-        }
-        let attachments = Attachments::parse(rest)?;
+        let version = Version::parse(version)?;
+        let attachments = Attachments::parse(version, rest)?;
         let (key, nonce) = (key.as_str(), nonce.as_str());
         Some(Command::Seal(Sealing {
+            version,
             key,
             nonce,
             attachments,
@@ -80,20 +77,15 @@ impl<'a> Command<'a> {
         let [version, key, rest @ ..] = words else {
             return None;
         };
-        if !is_version(version) {
-            return None;
-        }
-        let attachments = Attachments::parse(rest)?;
+        let version = Version::parse(version)?;
+        let attachments = Attachments::parse(version, rest)?;
         let key = key.as_str();
-        Some(Command::Open(Opening { key, attachments }))
+        Some(Command::Open(Opening {
+            version,
+            key,
+            attachments,
+        }))
     }
-}
-
-/// Whether the word is a version that the program seals and opens.
-fn is_version(word: &str) -> bool
-    ensures { IsTrue result ↔ (word.now ≡ codes "v4") }
-{
-    word == VERSION
 }
 
 /// The footer and the implicit assertion, where they are given.
@@ -104,10 +96,12 @@ pub struct Attachments<'a> {
 }
 
 impl<'a> Attachments<'a> {
-    /// The attachments of a command's last words, or nothing where these are more than two.
-    fn parse(words: &'a [String]) -> Option<Attachments<'a>>
-        ensures { MatchOption result (2 < length words.now) (λ attachments.
-            AreLast (words_of words.now) (given_footer attachments) (given_assertion attachments)) }
+    /// The attachments of a command's last words, or nothing where these are more than two, or two
+    /// for a version whose tokens are bound to no implicit assertion.
+    fn parse(version: Version, words: &'a [String]) -> Option<Attachments<'a>>
+        ensures last { IfSome result (λ attachments.
+            AreLast version (words_of words.now) (given_footer attachments) (given_assertion attachments)) }
+        ensures fault { IsNone result → (footer assertion : Option (List ℕ)) → ¬ AreLast version (words_of words.now) footer assertion }
     {
         match words {
             [] => Some(Attachments {
@@ -118,7 +112,7 @@ impl<'a> Attachments<'a> {
                 footer: Some(Footer::from(footer.as_str())),
                 implicit_assertion: None,
             }),
-            [footer, assertion] => Some(Attachments {
+            [footer, assertion] if version.binds_assertion() => Some(Attachments {
                 footer: Some(Footer::from(footer.as_str())),
                 implicit_assertion: Some(ImplicitAssertion::from(assertion.as_str())),
             }),

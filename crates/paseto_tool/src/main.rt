@@ -5,10 +5,12 @@ mod arguments;
 mod error;
 mod input;
 mod inspect;
+mod local_tokens;
 mod open;
 mod output;
 mod run;
 mod seal;
+mod version;
 
 use error::ToolError;
 use run::run;
