@@ -17,11 +17,10 @@ pub(crate) const NONCE_LENGTH: usize = 32;
 /// How many bytes the longest tag has.
 pub(crate) const LONGEST_TAG: usize = 48;
 
-/// What stands before the nonce where the encryption key is derived. The two separators keep the keys
-/// of the mask and of the tag apart.
+/// Goes into the derivation of the encryption key, so that it differs from the authentication key.
 const ENCRYPTION: &[u8; 21] = b"paseto-encryption-key";
 
-/// What stands there where the authentication key is derived.
+/// Goes into the derivation of the authentication key.
 const AUTHENTICATION: &[u8; 24] = b"paseto-auth-key-for-aead";
 
 /// The header, the key split, the mask and the tag of a version's local tokens.

@@ -1,4 +1,4 @@
-use Rattle.std.proofs.Common.{◌≡◌, ◌∙◌, List, ℕ, ap, arith, length}
+use Rattle.std.proofs.Common.{◌≡◌, ◌∙◌, ap, arith, length}
 use Rattle.rusty_paseto_primitives.specs.Hmac.{hmac}
 use Rattle.rusty_paseto_core.proofs.Pieces.{taken-number, taken-piece, taken-all}
 use Rattle.rusty_paseto_core.proofs.suite.nist.write_hmac.Goals as goal
