@@ -1,5 +1,6 @@
 -- Why nothing is opened, from what the opening of a token answers.
-use Rattle.std.proofs.Common.{◌≡◌, ℕ, List, ◌⊎◌, inl, inr, Option, None, Some, IfSome, refl, subst, option_map}
+use Rattle.std.proofs.Common.{◌≡◌, ◌∙◌, ℕ, List, ◌⊎◌, inl, inr, Bool, false, Option, None, Some, IfSome, is_some, Result, Ok, Err, IfOk, String, Global, string_bytes, refl, sym, subst, option_map}
+use Rattle.std.proofs.lemmas.Bool.{false≢true}
 use Rattle.rusty_paseto_parts.specs.Footer.{footer_text}
 use Rattle.rusty_paseto_parts.specs.ImplicitAssertion.{assertion_text}
 use Rattle.rusty_paseto_parts.specs.declared.texts.footer.Footer.{Footer}
@@ -9,8 +10,13 @@ use Rattle.rusty_paseto_parts.specs.Error.{IsMemory}
 use Rattle.rusty_paseto_parts.specs.declared.error.PasetoError.{PasetoError}
 use Rattle.rusty_paseto_parts.specs.declared.error.PasetoError.TheVariants.{Memory}
 use Rattle.rusty_paseto_core.specs.Suite.{Design}
+use Rattle.rusty_paseto_core.specs.Suite.V1.{v1, token_nonce}
+use Rattle.rusty_paseto_core.specs.Suite.V3.{v3}
+use Rattle.rusty_paseto_core.specs.Suite.V4.{v4}
+use Rattle.rusty_paseto_core.specs.Sealing.{sealing}
 use Rattle.rusty_paseto_core.specs.Opening.{IsFault}
 use Rattle.paseto_tool.specs.Error.{tool_error_of}
+use Rattle.paseto_tool.specs.Version.{IsBound}
 use Rattle.paseto_tool.specs.Arguments.{Says}
 use Rattle.paseto_tool.specs.Seal.{binding}
 use Rattle.paseto_tool.specs.Open.{token_of, IsOpeningReason, no_token}
@@ -27,6 +33,37 @@ binding_of-given key None None = refl
 binding_of-given key None (Some a) = refl
 binding_of-given key (Some f) None = refl
 binding_of-given key (Some f) (Some a) = refl
+
+-- where the tokens are bound to no implicit assertion, none was given
+pub binding_of-unbound : (design : Design) (key : List ℕ) (footer : Option Footer) (assertion : Option ImplicitAssertion)
+    → design.binds_assertion ≡ false → IsBound design (option_map assertion_text assertion)
+    → binding_of key footer None ≡ binding key (option_map footer_text footer) (option_map assertion_text assertion)
+binding_of-unbound design key footer None unbound h = binding_of-given key footer None
+binding_of-unbound design key footer (Some a) unbound h = absurd (false≢true (sym unbound ∙ h refl))
+
+pub is_some-given : (footer : Option Footer) → is_some footer ≡ is_some (option_map footer_text footer)
+is_some-given None = refl
+is_some-given (Some f) = refl
+
+-- the token's nonce
+pub v1-token_nonce : (given text : List ℕ) → token_nonce given text ≡ v1.token_nonce given text
+unfolding v1
+v1-token_nonce given text = refl
+
+pub v3-token_nonce : (given text : List ℕ) → given ≡ v3.token_nonce given text
+unfolding v3
+v3-token_nonce given text = refl
+
+pub v4-token_nonce : (given text : List ℕ) → given ≡ v4.token_nonce given text
+unfolding v4
+v4-token_nonce given text = refl
+
+-- a sealing, in equal words
+pub IfOk-sealing : (design : Design) (result : Result (String Global) PasetoError) (b b2 : Binding) (n n2 : List ℕ) (w w2 : Bool) (t t2 : List ℕ)
+    → b ≡ b2 → n ≡ n2 → w ≡ w2 → t ≡ t2 → IfOk result (λ token. string_bytes token ≡ sealing design b n w t)
+    → IfOk result (λ token. string_bytes token ≡ sealing design b2 n2 w2 t2)
+IfOk-sealing design (Ok token) b b2 n n2 w w2 t t2 be ne we te h = h ∙ rw (be, ne, we, te) refl
+IfOk-sealing design (Err error) b b2 n n2 w w2 t t2 be ne we te h = tt
 
 module _ (design : Design) (key key_bytes : List ℕ) (says : Says key key_bytes) where
   fault_reason : (footer assertion : Option (List ℕ)) (input : List ℕ) (error : PasetoError)

@@ -63,7 +63,13 @@ impl Sealing<'_> {
     {
         let text = str::from_utf8(text)?;
         let key = PasetoSymmetricKey::<V, Local>::from(key);
-        let mut line = V::seal(alloc, &key, &PasetoNonce::from(nonce), text, self.attachments)?;
+        let mut line = V::seal(
+            alloc,
+            &key,
+            &PasetoNonce::from(nonce),
+            text,
+            self.attachments,
+        )?;
         line.push('\n')?;
         Ok(line)
     }

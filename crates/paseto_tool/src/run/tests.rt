@@ -35,6 +35,21 @@ const OF_A_WITH_FOOTER: &str =
 const OF_A_WITH_BOTH: &str =
     "v4.local.AAAAAAAAAAAAAAAAAAAAAAAAAAAAAAAAAAAAAAAAAADIQWEk6PIIil-8RadblwXfRbOBiSpqx68T35bH8naoAV4.eyJraWQiOiJrMSJ9";
 
+const V1_OF_NOTHING: &str =
+    "v1.local.bB8u6Tj60uJL2RKYR0OCyiGMdds9g-EUs9Q2d3bRTTXq9Y401eI4FS7qbW7qvc5PGhe6_U4ftOqJig3AvYOFnA7a51CqRo5LIBv-tV-XJWA";
+
+const V1_OF_A_WITH_FOOTER: &str =
+    "v1.local.CLSf5t9Bj9fhey6p8PnxikxYyYOjVOUVw38VewEQWVQkK1alyAMb1IRMc__nS7ztM2hRK5Hniyq_R21wq1_hO9TyaFILsOUl_DsIgwoR2aH_.Zm9vdGVy";
+
+const V3_OF_NOTHING: &str =
+    "v3.local.AAAAAAAAAAAAAAAAAAAAAAAAAAAAAAAAAAAAAAAAAAC9IQiIqc1479XV9cyloDij0rVA9zpWAuLWvks7uK-mx692cBoB58uATR7nJKl5cEk";
+
+const V3_OF_A_WITH_FOOTER: &str =
+    "v3.local.AAAAAAAAAAAAAAAAAAAAAAAAAAAAAAAAAAAAAAAAAAB9GeADnt7MXSuLVKtzL4M10J-EjfeTzzQ2aysngNs5iDfpczfB5AQa7RCLbEldIIIJ.Zm9vdGVy";
+
+const V3_OF_A_WITH_BOTH: &str =
+    "v3.local.AAAAAAAAAAAAAAAAAAAAAAAAAAAAAAAAAAAAAAAAAAB9ej6JYJUkr2x0GxaeafU4_0ybgzRNZNub4loMx6GfpXzD7CEsmKRHR_M36aSX-nEb.eyJraWQiOiJrMSJ9";
+
 const USAGE: &str =
     "usage: paseto_tool inspect TOKEN | seal VERSION KEY NONCE [FOOTER [ASSERTION]] | open VERSION KEY [FOOTER [ASSERTION]]\n";
 
@@ -177,7 +192,24 @@ fn seals_the_whole_input(rt: HostRuntime) -> Result<(), Fail> {
     let with_dot_and_x = format!(in alloc; "{OF_NOTHING_WITH_X}.")?;
     let kid = "{\"kid\":\"k1\"}";
     let both = ["seal", "v4", KEY, ZERO, kid, "some assertion"];
-    let rows: [(&[&str], &str, &str); 6] = [
+    let rows: [(&[&str], &str, &str); 11] = [
+        (&["seal", "v1", KEY, ZERO], "", V1_OF_NOTHING),
+        (
+            &["seal", "v1", KEY, ZERO, "footer"],
+            "a",
+            V1_OF_A_WITH_FOOTER,
+        ),
+        (&["seal", "v3", KEY, ZERO], "", V3_OF_NOTHING),
+        (
+            &["seal", "v3", KEY, ZERO, "footer"],
+            "a",
+            V3_OF_A_WITH_FOOTER,
+        ),
+        (
+            &["seal", "v3", KEY, ZERO, kid, "some assertion"],
+            "a",
+            V3_OF_A_WITH_BOTH,
+        ),
         (&both[..4], "", OF_NOTHING),
         (&["seal", "v4", UPPER_KEY, ZERO], "a", OF_A),
         (&["seal", "v4", KEY, ZERO, "footer"], "a", OF_A_WITH_FOOTER),
@@ -200,7 +232,15 @@ fn seals_the_whole_input(rt: HostRuntime) -> Result<(), Fail> {
 fn opens_with_or_without_a_line_feed(rt: HostRuntime) -> Result<(), Fail> {
     let alloc = rt.alloc();
     let kid = "{\"kid\":\"k1\"}";
-    let rows: [(&[&str], &str, &str); 7] = [
+    let rows: [(&[&str], &str, &str); 11] = [
+        (&["open", "v1", KEY], V1_OF_NOTHING, ""),
+        (&["open", "v1", KEY, "footer"], V1_OF_A_WITH_FOOTER, "a"),
+        (&["open", "v3", KEY, "footer"], V3_OF_A_WITH_FOOTER, "a"),
+        (
+            &["open", "v3", KEY, kid, "some assertion"],
+            V3_OF_A_WITH_BOTH,
+            "a",
+        ),
         (&["open", "v4", KEY], OF_NOTHING, ""),
         (&["open", "v4", UPPER_KEY], OF_A, "a"),
         (&["open", "v4", KEY, ""], OF_A, "a"),
@@ -247,7 +287,7 @@ fn refuses_with_the_errors_text(rt: HostRuntime) -> Result<(), Fail> {
         (&open, OF_NOTHING_WITH_X, CRYPTION),
         (&open, "v4.local", WRONG_COUNT),
         (&open, "", WRONG_COUNT),
-        (&open, "v3.local.AAAA", "The token header is invalid\n"),
+        (&open, V3_OF_NOTHING, "The token header is invalid\n"),
         (&open, twice.as_str(), NOT_BASE64),
         (&open, carriage.as_str(), NOT_BASE64),
         (&open, with_footer_twice.as_str(), BAD_FOOTER),
@@ -341,9 +381,9 @@ fn other_words_are_a_fault_of_usage(rt: HostRuntime) -> Result<(), Fail> {
         &["inspect"],
         &["inspect", "v4.local.payload", "footer"],
         &["SEAL", "v4", KEY, ZERO],
-        &["seal", "v1", KEY, ZERO],
+        &["seal", "v1", KEY, ZERO, "footer", "x"],
+        &["open", "v1", KEY, "footer", ""],
         &["seal", "v2", SHORT_KEY, ZERO],
-        &["open", "v3", KEY],
         &["open", "v40", KEY],
     ];
     'rows: for words in rows {

@@ -1,9 +1,13 @@
-use Rattle.std.proofs.Common.{rules, ◌≡◌, ◌≢◌, IfOk, IfErr, IsErr, Err, MatchResult, IfSome, string_bytes, ℕ, ◌+◌, ◌-◌, ◌*◌, ◌<◌, ◌≤◌, length, ◌/◌, ◌%◌, Bool, true, false, nat_eq, nat_lt, List, [], ◌∷◌, ◌++◌, slice_index_or, slice_set, bit_and, bit_or, Fits, w8, w32, w64, Bor, MutBor}
-use Rattle.paseto_tool.specs.Version.{IsBound, design_of}
-use Rattle.paseto_tool.specs.Arguments.{IsDigits, Says, given_footer, given_assertion}
-use Rattle.paseto_tool.specs.Open.{OpensTo, IsOpeningReason, token_of}
+use Rattle.std.proofs.Common.{ℕ, List}
+use Rattle.paseto_tool.specs.Arguments.{IsDigits}
+use Rattle.std.proofs.lemmas.Result.{err_from_is_err_and}
+use Rattle.paseto_tool.specs.Open.{bad_key}
+use Rattle.paseto_tool.proofs.Reasons.{IfSome-all}
 use Rattle.paseto_tool.proofs.open.Opening.text.Goals as goal
 
--- src/open.rt:39:19
 pub returns-in_err-key-clause-refused : goal.returns-in_err-key-clause-refused
-returns-in_err-key-clause-refused g c = ?
+returns-in_err-key-clause-refused g c =
+    let no_digits : IsDigits c.args.self.now.key.now → ⊥ = λ digits. cc (c.in_err-key.ensures.read.1 digits) in
+    let p = err_from_is_err_and c.from_residual.result c.from_residual.ensures.1 in
+    rw (p.1, p.2, c.in_err-key.ensures.refused)
+    (IfSome-all {X = List ℕ} _ _ (λ token. bad_key no_digits))
