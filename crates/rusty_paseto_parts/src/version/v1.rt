@@ -1,6 +1,6 @@
 //! Version 1.
 
-ghost use Rattle.std.specs.Prelude.{codes, Some, ◌==◌};
+ghost use Rattle.std.specs.Prelude.{codes, true, Some, ◌==◌};
 ghost use Rattle.std.proofs.Common.{refl};
 
 use crate::version::{V1orV3, VersionTrait};
@@ -17,6 +17,10 @@ impl VersionTrait for V1 {
     ghost text = { codes "v1" };
 
     ghost nonce_length = { λ n. n == 32 };
+
+    ghost is_private_key = { λ _. true };
+
+    ghost is_public_key = { λ _. true };
 
     fn as_str(&self) -> &str {
         "v1"

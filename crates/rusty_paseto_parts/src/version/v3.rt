@@ -1,7 +1,8 @@
 //! Version 3.
 
-ghost use Rattle.std.specs.Prelude.{codes, Some, ◌==◌};
+ghost use Rattle.std.specs.Prelude.{codes, length, Some, ◌==◌, ◌&&◌};
 ghost use Rattle.std.proofs.Common.{refl};
+ghost use Rattle.rusty_paseto_parts.specs.PublicKey.{is_compressed};
 
 use crate::version::{ImplicitAssertionCapable, V1orV3, VersionTrait};
 use std::fmt;
@@ -17,6 +18,10 @@ impl VersionTrait for V3 {
     ghost text = { codes "v3" };
 
     ghost nonce_length = { λ n. n == 32 };
+
+    ghost is_private_key = { λ key. length key == 48 };
+
+    ghost is_public_key = { λ key. length key == 49 && is_compressed key };
 
     fn as_str(&self) -> &str {
         "v3"
