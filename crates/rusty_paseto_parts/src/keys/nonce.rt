@@ -46,6 +46,7 @@ impl<'a, V: VersionTrait> From<&'a Key<32>> for PasetoNonce<'a, V, Local> {
     }
 }
 
+/// In version 2 a nonce may also have 24 bytes.
 impl<'a> From<&'a Key<24>> for PasetoNonce<'a, V2, Local> {
     ghost from_gives = { λ short nonce. nonce ≡ short.now };
 

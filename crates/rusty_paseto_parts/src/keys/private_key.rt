@@ -12,6 +12,8 @@ use std::marker::{Model, PhantomData};
 /// The key that signs the public tokens of a version. Its bytes are lent and not copied: no memory is
 /// taken.
 ///
+/// A key of version 3 has 48 bytes. Those of the other versions may have any number of bytes.
+///
 /// Source: PASETO specification, "Version 1" to "Version 4".
 #[derive(Drop)]
 pub struct PasetoAsymmetricPrivateKey<'a, V: VersionTrait, P> {

@@ -14,6 +14,9 @@ use std::marker::{Model, PhantomData};
 /// The key that verifies the public tokens of a version. Its bytes are lent and not copied: no memory
 /// is taken.
 ///
+/// A key of version 2 or 4 has 32 bytes. One of version 3 has 49, of which the first is 2 or 3. One of
+/// version 1 may have any number of bytes.
+///
 /// Source: PASETO specification, "Version 1" to "Version 4".
 #[derive(Drop)]
 pub struct PasetoAsymmetricPublicKey<'a, V: VersionTrait, P> {

@@ -8,7 +8,7 @@ use crate::version::{ImplicitAssertionCapable, V1orV3, VersionTrait};
 use std::fmt;
 
 /// Version 3, NIST Modern: AES-256 in counter mode and HMAC-SHA384 for local tokens, whose nonces have
-/// 32 bytes.
+/// 32 bytes, and ECDSA on the curve P-384 for public tokens.
 ///
 /// Source: PASETO specification, "Version 3".
 #[derive(Clone, Copy, Debug, Default)]

@@ -6,7 +6,8 @@ ghost use Rattle.std.proofs.Common.{refl};
 use crate::version::{ImplicitAssertionCapable, V2orV4, VersionTrait};
 use std::fmt;
 
-/// Version 4, Sodium Modern: BLAKE2b and XChaCha20 for local tokens, whose nonces have 32 bytes.
+/// Version 4, Sodium Modern: BLAKE2b and XChaCha20 for local tokens, whose nonces have 32 bytes, and
+/// Ed25519 for public tokens.
 ///
 /// Source: PASETO specification, "Version 4".
 #[derive(Clone, Copy, Debug, Default)]
