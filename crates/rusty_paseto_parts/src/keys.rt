@@ -2,4 +2,6 @@
 
 pub mod key;
 pub mod nonce;
+pub mod private_key;
+pub mod public_key;
 pub mod symmetric_key;

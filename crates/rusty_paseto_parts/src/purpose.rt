@@ -5,6 +5,7 @@ ghost use Rattle.std.specs.Prelude.{◌≡◌, ℕ, List};
 use std::fmt::Display;
 
 pub mod local;
+pub mod public;
 
 /// What a token is for.
 pub trait PurposeTrait: Display + Default + Drop {

@@ -45,6 +45,64 @@ fn keeps_keys(rt: HostRuntime) -> Result<(), Fail> {
 }
 
 #[test]
+fn keeps_asymmetric_keys(rt: HostRuntime) -> Result<(), Fail> {
+    let key = Key::<64>::from([5u8; 64]);
+    assert_eq!(rt;
+        PasetoAsymmetricPrivateKey::<V4, Public>::from(&key).as_bytes(),
+        key.as_bytes().as_slice()
+    );
+    let short = [1u8, 2, 3];
+    assert_eq!(rt;
+        PasetoAsymmetricPrivateKey::<V2, Public>::from(short.as_slice()).as_bytes(),
+        short.as_slice()
+    );
+    assert_eq!(rt;
+        PasetoAsymmetricPrivateKey::<V1, Public>::from(short.as_slice()).as_bytes(),
+        short.as_slice()
+    );
+    let scalar = Key::<48>::from([6u8; 48]);
+    assert_eq!(rt;
+        PasetoAsymmetricPrivateKey::<V3, Public>::from(&scalar).as_bytes(),
+        scalar.as_bytes().as_slice()
+    );
+    let public = Key::<32>::from([7u8; 32]);
+    assert_eq!(rt;
+        PasetoAsymmetricPublicKey::<V2, Public>::from(&public).as_bytes(),
+        public.as_bytes().as_slice()
+    );
+    assert_eq!(rt;
+        PasetoAsymmetricPublicKey::<V1, Public>::from(short.as_slice()).as_bytes(),
+        short.as_slice()
+    );
+    let nonce = Key::<24>::from([8u8; 24]);
+    assert_eq!(rt;
+        PasetoNonce::<V2, Local>::from(&nonce).as_bytes(),
+        nonce.as_bytes().as_slice()
+    );
+    Ok(())
+}
+
+#[test]
+fn takes_compressed_points(rt: HostRuntime) -> Result<(), Fail> {
+    for first in 0..=255u8 {
+        let mut bytes = [9u8; 49];
+        bytes[0] = first;
+        let point = Key::<49>::from(bytes);
+        match PasetoAsymmetricPublicKey::<V3, Public>::try_from(&point) {
+            Ok(public) => {
+                assert!(rt; first == 2 || first == 3, "of {first}");
+                assert_eq!(rt; public.as_bytes(), bytes.as_slice());
+            }
+            Err(error) => {
+                assert!(rt; first != 2 && first != 3, "of {first}");
+                assert!(rt; matches!(&error, PasetoError::InvalidKey), "of {first}");
+            }
+        }
+    }
+    Ok(())
+}
+
+#[test]
 fn shows_texts(rt: HostRuntime) -> Result<(), Fail> {
     let alloc = rt.alloc();
     let version = V4::default();
@@ -58,6 +116,11 @@ fn shows_texts(rt: HostRuntime) -> Result<(), Fail> {
     assert_eq!(rt;
         format!(in alloc; "{version} {purpose} {header}")?.as_str(),
         "v4 local v4.local."
+    );
+    let signed = Header::<V2, Public>::default();
+    assert_eq!(rt;
+        format!(in alloc; "{} {} {signed}", V2::default(), Public::default())?.as_str(),
+        "v2 public v2.public."
     );
     let payload = Payload::from("pay");
     let footer = Footer::from("foot");

@@ -1,10 +1,11 @@
 //! The versions of PASETO, as types.
 
-ghost use Rattle.std.specs.Prelude.{◌≡◌, ℕ, List, Bool, IsTrue};
+ghost use Rattle.std.specs.Prelude.{◌≡◌, ◌==◌, ℕ, List, Bool, IsTrue, length};
 
 use std::fmt::Display;
 
 pub mod v1;
+pub mod v2;
 pub mod v3;
 pub mod v4;
 
@@ -15,6 +16,12 @@ pub trait VersionTrait: Display + Default + Drop {
 
     // Whether a nonce of the version may have so many bytes.
     ghost nonce_length: { ℕ → Bool };
+
+    // Whether a private key of the version may have these bytes.
+    ghost is_private_key: { List ℕ → Bool };
+
+    // Whether a public key of the version may have these bytes.
+    ghost is_public_key: { List ℕ → Bool };
 
     /// The version as a token begins with it, for example `v4`.
     fn as_str(&self) -> &str
@@ -31,4 +38,10 @@ pub trait ImplicitAssertionCapable: VersionTrait {}
 pub trait V1orV3: VersionTrait {}
 
 /// A version of the Sodium family: 2 and 4.
-pub trait V2orV4: VersionTrait {}
+pub trait V2orV4: VersionTrait {
+    // Any bytes may be taken as a private key.
+    ghost has_any_private_key: { (key : List ℕ) → IsTrue (Self.is_private_key key) };
+
+    // The public keys are those of 32 bytes.
+    ghost has_public_keys_of_32: { (key : List ℕ) → Self.is_public_key key ≡ (length key == 32) };
+}

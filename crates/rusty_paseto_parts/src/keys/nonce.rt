@@ -5,6 +5,7 @@ ghost use Rattle.std.specs.Prelude.{◌≡◌, ℕ, List, length, IsTrue};
 use crate::keys::key::Key;
 use crate::purpose::local::Local;
 use crate::version::VersionTrait;
+use crate::version::v2::V2;
 use std::marker::{Model, PhantomData};
 
 /// A nonce for sealing tokens, of a length that the version has. Use each nonce once under a key.
@@ -39,6 +40,19 @@ impl<'a, V: VersionTrait> From<&'a Key<32>> for PasetoNonce<'a, V, Local> {
     fn from(key: &'a Key<32>) -> Self {
         PasetoNonce {
             bytes: key.as_bytes(),
+            version: PhantomData,
+            purpose: PhantomData,
+        }
+    }
+}
+
+/// In version 2 a nonce may also have 24 bytes.
+impl<'a> From<&'a Key<24>> for PasetoNonce<'a, V2, Local> {
+    ghost from_gives = { λ short nonce. nonce ≡ short.now };
+
+    fn from(short: &'a Key<24>) -> Self {
+        PasetoNonce {
+            bytes: short.as_bytes(),
             version: PhantomData,
             purpose: PhantomData,
         }

@@ -1,13 +1,13 @@
 //! Version 1.
 
-ghost use Rattle.std.specs.Prelude.{codes, Some, ◌==◌};
+ghost use Rattle.std.specs.Prelude.{codes, true, Some, ◌==◌};
 ghost use Rattle.std.proofs.Common.{refl};
 
 use crate::version::{V1orV3, VersionTrait};
 use std::fmt;
 
 /// Version 1, NIST Compatibility: AES-256 in counter mode and HMAC-SHA384 for local tokens, whose
-/// nonces have 32 bytes. Its tokens are bound to no implicit assertion.
+/// nonces have 32 bytes, and RSASSA-PSS for public tokens. Its tokens are bound to no implicit assertion.
 ///
 /// Source: PASETO specification, "Version 1".
 #[derive(Clone, Copy, Debug, Default)]
@@ -17,6 +17,10 @@ impl VersionTrait for V1 {
     ghost text = { codes "v1" };
 
     ghost nonce_length = { λ n. n == 32 };
+
+    ghost is_private_key = { λ _. true };
+
+    ghost is_public_key = { λ _. true };
 
     fn as_str(&self) -> &str {
         "v1"

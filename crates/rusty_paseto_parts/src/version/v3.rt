@@ -1,13 +1,14 @@
 //! Version 3.
 
-ghost use Rattle.std.specs.Prelude.{codes, Some, ◌==◌};
+ghost use Rattle.std.specs.Prelude.{codes, length, Some, ◌==◌, ◌&&◌};
 ghost use Rattle.std.proofs.Common.{refl};
+ghost use Rattle.rusty_paseto_parts.specs.PublicKey.{is_compressed};
 
 use crate::version::{ImplicitAssertionCapable, V1orV3, VersionTrait};
 use std::fmt;
 
 /// Version 3, NIST Modern: AES-256 in counter mode and HMAC-SHA384 for local tokens, whose nonces have
-/// 32 bytes.
+/// 32 bytes, and ECDSA on the curve P-384 for public tokens.
 ///
 /// Source: PASETO specification, "Version 3".
 #[derive(Clone, Copy, Debug, Default)]
@@ -17,6 +18,10 @@ impl VersionTrait for V3 {
     ghost text = { codes "v3" };
 
     ghost nonce_length = { λ n. n == 32 };
+
+    ghost is_private_key = { λ key. length key == 48 };
+
+    ghost is_public_key = { λ key. length key == 49 && is_compressed key };
 
     fn as_str(&self) -> &str {
         "v3"

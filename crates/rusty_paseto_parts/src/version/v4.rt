@@ -1,12 +1,13 @@
 //! Version 4.
 
-ghost use Rattle.std.specs.Prelude.{codes, Some, ◌==◌};
+ghost use Rattle.std.specs.Prelude.{codes, length, true, Some, ◌==◌};
 ghost use Rattle.std.proofs.Common.{refl};
 
 use crate::version::{ImplicitAssertionCapable, V2orV4, VersionTrait};
 use std::fmt;
 
-/// Version 4, Sodium Modern: BLAKE2b and XChaCha20 for local tokens, whose nonces have 32 bytes.
+/// Version 4, Sodium Modern: BLAKE2b and XChaCha20 for local tokens, whose nonces have 32 bytes, and
+/// Ed25519 for public tokens.
 ///
 /// Source: PASETO specification, "Version 4".
 #[derive(Clone, Copy, Debug, Default)]
@@ -17,6 +18,10 @@ impl VersionTrait for V4 {
 
     ghost nonce_length = { λ n. n == 32 };
 
+    ghost is_private_key = { λ _. true };
+
+    ghost is_public_key = { λ key. length key == 32 };
+
     fn as_str(&self) -> &str {
         "v4"
     }
@@ -26,7 +31,11 @@ impl VersionTrait for V4 {
 
 impl ImplicitAssertionCapable for V4 {}
 
-impl V2orV4 for V4 {}
+impl V2orV4 for V4 {
+    ghost has_any_private_key = { λ _. refl };
+
+    ghost has_public_keys_of_32 = { λ _. refl };
+}
 
 impl fmt::Display for V4 {
     ghost output = { λ _. Some (codes "v4") };

@@ -1,0 +1,93 @@
+//! The key that signs public tokens.
+
+ghost use Rattle.std.specs.Prelude.{◌≡◌, ℕ, List, IsTrue};
+
+use crate::keys::key::Key;
+use crate::purpose::public::Public;
+use crate::version::v1::V1;
+use crate::version::v3::V3;
+use crate::version::{V2orV4, VersionTrait};
+use std::marker::{Model, PhantomData};
+
+/// The key that signs the public tokens of a version. Its bytes are lent and not copied: no memory is
+/// taken.
+///
+/// A key of version 3 has 48 bytes. Those of the other versions may have any number of bytes.
+///
+/// Source: PASETO specification, "Version 1" to "Version 4".
+#[derive(Drop)]
+pub struct PasetoAsymmetricPrivateKey<'a, V: VersionTrait, P> {
+    bytes: &'a [u8],
+    version: PhantomData<V>,
+    purpose: PhantomData<P>,
+}
+
+impl<'a, V: VersionTrait, P> Model for PasetoAsymmetricPrivateKey<'a, V, P> {
+    ghost Value = { List ℕ };
+
+    ghost view = { λ private. private.bytes.now };
+
+    ghost invariant = { λ private. IsTrue (V.is_private_key private.bytes.now) };
+}
+
+impl<'a, V: VersionTrait, P> PasetoAsymmetricPrivateKey<'a, V, P> {
+    /// The bytes of the key, as they were given.
+    pub fn as_bytes(&self) -> &[u8]
+        ensures bytes { result.now ≡ self.now }
+        ensures form { IsTrue (V.is_private_key self.now) }
+    {
+        self.bytes
+    }
+}
+
+/// An RSA key's encoding, of any length. Nothing is asked of it here.
+impl<'a> From<&'a [u8]> for PasetoAsymmetricPrivateKey<'a, V1, Public> {
+    ghost from_gives = { λ encoding private. private ≡ encoding.now };
+
+    fn from(encoding: &'a [u8]) -> Self {
+        PasetoAsymmetricPrivateKey {
+            bytes: encoding,
+            version: PhantomData,
+            purpose: PhantomData,
+        }
+    }
+}
+
+/// The bytes of an Ed25519 key. Nothing is asked of them here: those that sign have 64 bytes.
+impl<'a, V: V2orV4> From<&'a [u8]> for PasetoAsymmetricPrivateKey<'a, V, Public> {
+    ghost from_gives = { λ bytes private. private ≡ bytes.now };
+
+    fn from(bytes: &'a [u8]) -> Self {
+        PasetoAsymmetricPrivateKey {
+            bytes,
+            version: PhantomData,
+            purpose: PhantomData,
+        }
+    }
+}
+
+/// An Ed25519 key: the 32 bytes of the secret seed, and then the 32 bytes of the public key.
+impl<'a, V: V2orV4> From<&'a Key<64>> for PasetoAsymmetricPrivateKey<'a, V, Public> {
+    ghost from_gives = { λ key private. private ≡ key.now };
+
+    fn from(key: &'a Key<64>) -> Self {
+        PasetoAsymmetricPrivateKey {
+            bytes: key.as_bytes(),
+            version: PhantomData,
+            purpose: PhantomData,
+        }
+    }
+}
+
+/// A P-384 key: the 48 bytes of the scalar, the greatest byte first.
+impl<'a> From<&'a Key<48>> for PasetoAsymmetricPrivateKey<'a, V3, Public> {
+    ghost from_gives = { λ scalar private. private ≡ scalar.now };
+
+    fn from(scalar: &'a Key<48>) -> Self {
+        PasetoAsymmetricPrivateKey {
+            bytes: scalar.as_bytes(),
+            version: PhantomData,
+            purpose: PhantomData,
+        }
+    }
+}
