@@ -6,23 +6,20 @@ use std::alloc::Global;
 use std::process::Abort;
 use std::test::Fail;
 
-// The tag of a masked text, with no footer and no implicit assertion.
+// The pieces that a tag may cover, with no footer and no implicit assertion.
+fn pieces<'a>(header: &'a [u8], nonce: &'a [u8], masked: &'a [u8]) -> [&'a [u8]; 5] {
+    [header, nonce, masked, &[], &[]]
+}
+
+// The tag of a masked text.
 fn tag_of<V: LocalVersion>(alloc: Global, masked: &[u8]) -> Result<Vec<u8>, Fail> {
     let nonce = [0u8; 32];
-    let empty: &[u8] = &[];
-    let pieces = [
-        V::HEADER.as_bytes(),
-        nonce.as_slice(),
-        masked,
-        empty,
-        empty,
-    ];
-    let bound = if V::BINDS_ASSERTION {
-        &pieces[..]
+    let pieces = pieces(V::HEADER.as_bytes(), &nonce, masked);
+    let encoding = if V::BINDS_ASSERTION {
+        PreAuthenticationEncoding::parse(alloc, &pieces)?
     } else {
-        &pieces[..4]
+        PreAuthenticationEncoding::parse(alloc, &pieces[..4])?
     };
-    let encoding = PreAuthenticationEncoding::parse(alloc, bound)?;
     V::tag_of(alloc, encoding.as_bytes())
 }
 

@@ -1,9 +1,7 @@
 //! HMAC and HKDF with SHA-384 (RFC 2104, RFC 5869).
 
 use crate::hexadecimal::array_of;
-use rusty_paseto_primitives::{
-    HmacSha384, hkdf_sha384_expand, hkdf_sha384_extract, hmac_sha384,
-};
+use rusty_paseto_primitives::{HmacSha384, hkdf_sha384_expand, hkdf_sha384_extract, hmac_sha384};
 use sha2::{Digest, Sha384};
 use std::process::Abort;
 use std::test::Fail;

@@ -2,9 +2,7 @@
 
 use crate::local::calls::LocalVersion;
 use crate::local::nist::derived;
-use rusty_paseto_core::{
-    Footer, Local, Paseto, PasetoError, PasetoNonce, PasetoSymmetricKey, V1,
-};
+use rusty_paseto_core::{Footer, Local, Paseto, PasetoError, PasetoNonce, PasetoSymmetricKey, V1};
 use rusty_paseto_primitives::{aes256_ctr_apply, hmac_sha384};
 use std::alloc::Global;
 use std::test::Fail;
