@@ -15,7 +15,12 @@ footer_in row = option_map_or string_bytes row.footer []
 abbrev pub binding : Row → Binding
 binding row = record { key = row.key; footer = footer_in row; assertion = string_bytes row.assertion }
 
+-- the sealing of the row's text under the row's nonce
+abbrev pub sealing_in : Design → Row → List ℕ
+sealing_in design row =
+    sealing design (binding row) (design.token_nonce row.nonce (string_bytes row.text)) (is_some row.footer) (string_bytes row.text)
+
 -- the token is the text's sealing, and opens to the text
 pub record IsTokenRow (design : Design) (row : Row) : Type 0 where
-  pub seals : row.token.now ≡ sealing design (binding row) row.nonce (is_some row.footer) (string_bytes row.text)
+  pub seals : row.token.now ≡ sealing_in design row
   pub opens : Opens design row.token.now (binding row) (string_bytes row.text)

@@ -47,11 +47,8 @@ fn check_file<R: Files + AllocGlobal + Print>(rt: &R, folder: &str, rows: Rows) 
 }
 
 fn print_tally(rt: &impl Print, tally: &Tally<'_>, agreement: &str) -> io::Result<()> {
-    'agreed: for (name, count) in tally.agreed() {
+    'names: for (name, count) in tally.counts() {
         println!(rt; "{name}: {count} {agreement}")?;
-    }
-    'unchecked: for (name, count) in tally.unchecked() {
-        println!(rt; "{name}: not yet checked: {count} rows")?;
     }
     Ok(())
 }

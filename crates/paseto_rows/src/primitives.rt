@@ -1,41 +1,50 @@
 //! Rows of the primitives, a function for each call.
 
 ghost use Rattle.std.specs.Prelude.{◌≡◌, ◌≤◌, ◌↔◌, IsOk, IfOk};
+ghost use Rattle.rusty_paseto_primitives.specs.Hkdf.{hkdf};
 ghost use Rattle.rusty_paseto_primitives.specs.Keystream.{masked};
+ghost use Rattle.rusty_paseto_primitives.specs.Aes.Counter.{aes256_ctr_stream};
 ghost use Rattle.rusty_paseto_primitives.specs.ChaCha.Stream.{xchacha20_stream};
-ghost use Rattle.paseto_rows.specs.Primitives.{IsDigestRow, IsMaskingRow};
+ghost use Rattle.paseto_rows.specs.Primitives.{IsCodeRow, IsDerivationRow, IsDigestRow, IsMaskingRow};
 
 use crate::error::RowError;
 use crate::fields::{array_of, bytes_of};
-use crate::rows::Finding;
-use rusty_paseto_primitives::{blake2b_keyed, xchacha20_apply};
-use std::alloc::Global;
+use rusty_paseto_primitives::{
+    aes256_ctr_apply, blake2b_keyed, hkdf_sha384_expand, hkdf_sha384_extract, hmac_sha384,
+    xchacha20_apply,
+};
+use std::alloc::{AllocError, Global};
 
 /// The length of the longest key of BLAKE2b.
 const MAX_KEY_LEN: usize = 64;
 
+/// The length of the longest output of HKDF-SHA384.
+const MAX_DERIVED_LEN: usize = 12240;
+
 /// Checks the row of the call with this name.
-pub fn check(alloc: Global, name: &str, fields: &[&str]) -> Result<Finding, RowError> {
+pub fn check(alloc: Global, name: &str, fields: &[&str]) -> Result<(), RowError> {
     match name {
         "blake2b_keyed" => check_blake2b_keyed(alloc, fields),
         "xchacha20_apply" => check_xchacha20_apply(alloc, fields),
-        "aes256_ctr_apply" | "hmac_sha384" | "hkdf_sha384" => Ok(Finding::NotYetChecked),
+        "aes256_ctr_apply" => check_aes256_ctr_apply(alloc, fields),
+        "hmac_sha384" => check_hmac_sha384(alloc, fields),
+        "hkdf_sha384" => check_hkdf_sha384(alloc, fields),
         _ => Err(RowError::Form),
     }
 }
 
 /// Agrees where the answer is the expected one.
-fn compare(answer: &[u8], expected: &[u8]) -> Result<Finding, RowError>
+fn compare(answer: &[u8], expected: &[u8]) -> Result<(), RowError>
     ensures { IsOk result ↔ (answer.now ≡ expected.now) }
 {
     if answer != expected {
         return Err(RowError::Differs);
     }
-    Ok(Finding::Agrees)
+    Ok(())
 }
 
 /// `OUTPUT_LENGTH KEY MESSAGE OUTPUT`
-fn check_blake2b_keyed(alloc: Global, fields: &[&str]) -> Result<Finding, RowError> {
+fn check_blake2b_keyed(alloc: Global, fields: &[&str]) -> Result<(), RowError> {
     let [length, key, message, output] = *fields else {
         return Err(RowError::Form);
     };
@@ -56,7 +65,7 @@ fn check_digest<const N: usize>(
     key: &str,
     message: &str,
     output: &str,
-) -> Result<Finding, RowError>
+) -> Result<(), RowError>
     requires low { 1 ≤ N }
     requires high { N ≤ 64 }
     ensures { IfOk result (λ _. IsDigestRow N key.now message.now output.now) }
@@ -70,22 +79,22 @@ fn check_digest<const N: usize>(
 }
 
 /// `KEY NONCE DATA OUTPUT`
-fn check_xchacha20_apply(alloc: Global, fields: &[&str]) -> Result<Finding, RowError> {
+fn check_xchacha20_apply(alloc: Global, fields: &[&str]) -> Result<(), RowError> {
     let [key, nonce, data, output] = *fields else {
         return Err(RowError::Form);
     };
-    check_masking(alloc, key, nonce, data, output)
+    check_xchacha20(alloc, key, nonce, data, output)
 }
 
 /// Checks data masked by XChaCha20.
-fn check_masking(
+fn check_xchacha20(
     alloc: Global,
     key: &str,
     nonce: &str,
     data: &str,
     output: &str,
-) -> Result<Finding, RowError>
-    ensures { IfOk result (λ _. IsMaskingRow key.now nonce.now «data».now output.now) }
+) -> Result<(), RowError>
+    ensures { IfOk result (λ _. IsMaskingRow xchacha20_stream key.now nonce.now «data».now output.now) }
 {
     let (key, nonce) = (array_of(key)?, array_of(nonce)?);
     let masked = masked(&key, &nonce, bytes_of(alloc, data)?);
@@ -99,4 +108,95 @@ fn masked(key: &[u8; 32], nonce: &[u8; 24], input: Vec<u8>) -> Vec<u8>
     let mut output = input;
     xchacha20_apply(key, nonce, &mut output);
     output
+}
+
+/// `KEY COUNTER DATA OUTPUT`
+fn check_aes256_ctr_apply(alloc: Global, fields: &[&str]) -> Result<(), RowError> {
+    let [key, counter, data, output] = *fields else {
+        return Err(RowError::Form);
+    };
+    check_aes256_ctr(alloc, key, counter, data, output)
+}
+
+/// Checks data encrypted by AES-256 in counter mode.
+fn check_aes256_ctr(
+    alloc: Global,
+    key: &str,
+    counter: &str,
+    data: &str,
+    output: &str,
+) -> Result<(), RowError>
+    ensures { IfOk result (λ _. IsMaskingRow aes256_ctr_stream key.now counter.now «data».now output.now) }
+{
+    let (key, counter) = (array_of(key)?, array_of(counter)?);
+    let encrypted = encrypted(&key, &counter, bytes_of(alloc, data)?);
+    compare(&encrypted, &bytes_of(alloc, output)?)
+}
+
+/// The input, encrypted by AES-256 in counter mode.
+fn encrypted(key: &[u8; 32], counter: &[u8; 16], input: Vec<u8>) -> Vec<u8>
+    ensures { result.items ≡ masked (aes256_ctr_stream key.now counter.now) input.items }
+{
+    let mut output = input;
+    aes256_ctr_apply(key, counter, &mut output);
+    output
+}
+
+/// `KEY MESSAGE OUTPUT`
+fn check_hmac_sha384(alloc: Global, fields: &[&str]) -> Result<(), RowError> {
+    let [key, message, output] = *fields else {
+        return Err(RowError::Form);
+    };
+    check_code(alloc, key, message, output)
+}
+
+/// Checks a code of HMAC-SHA384.
+fn check_code(alloc: Global, key: &str, message: &str, output: &str) -> Result<(), RowError>
+    ensures { IfOk result (λ _. IsCodeRow key.now message.now output.now) }
+{
+    let code = hmac_sha384(&bytes_of(alloc, key)?, &bytes_of(alloc, message)?);
+    compare(&code, &bytes_of(alloc, output)?)
+}
+
+/// `SALT MATERIAL INFO OUTPUT`
+fn check_hkdf_sha384(alloc: Global, fields: &[&str]) -> Result<(), RowError> {
+    let [salt, material, info, output] = *fields else {
+        return Err(RowError::Form);
+    };
+    check_derivation(alloc, salt, material, info, output)
+}
+
+/// Checks what HKDF-SHA384 derives, in as many bytes as the output has.
+fn check_derivation(
+    alloc: Global,
+    salt: &str,
+    material: &str,
+    info: &str,
+    output: &str,
+) -> Result<(), RowError>
+    ensures { IfOk result (λ _. IsDerivationRow salt.now material.now info.now output.now) }
+{
+    let (salt, material) = (bytes_of(alloc, salt)?, bytes_of(alloc, material)?);
+    let (info, output) = (bytes_of(alloc, info)?, bytes_of(alloc, output)?);
+    if output.len() > MAX_DERIVED_LEN {
+        return Err(RowError::Length);
+    }
+    let derived = derived(alloc, &salt, &material, &info, output.len())?;
+    compare(&derived, &output)
+}
+
+/// So many bytes derived by HKDF-SHA384.
+fn derived(
+    alloc: Global,
+    salt: &[u8],
+    material: &[u8],
+    info: &[u8],
+    len: usize,
+) -> Result<Vec<u8>, AllocError>
+    requires { len ≤ 12240 }
+    ensures { IfOk result (λ bytes. bytes.items ≡ hkdf salt.now material.now info.now len) }
+{
+    let mut derived = vec![in alloc; 0u8; len]?;
+    hkdf_sha384_expand(&hkdf_sha384_extract(salt, material), info, &mut derived);
+    Ok(derived)
 }

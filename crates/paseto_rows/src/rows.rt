@@ -6,15 +6,6 @@ use crate::tally::Tally;
 use crate::{primitives, tokens};
 use std::alloc::Global;
 
-/// What was found of a row that is not at fault.
-#[derive(Clone, Copy)]
-pub enum Finding {
-    /// The library gives the row's answer.
-    Agrees,
-    /// The library does not have the call or the version yet.
-    NotYetChecked,
-}
-
 /// The kind of a file's rows.
 #[derive(Clone, Copy)]
 pub enum Rows {
@@ -41,7 +32,7 @@ impl Rows {
         }
     }
 
-    /// Checks the row of a line, and counts it under its name where it is not at fault.
+    /// Checks the row of a line, and counts it under its name where it agrees.
     pub fn check<'a>(
         self,
         alloc: Global,
@@ -52,11 +43,11 @@ impl Rows {
         let [name, fields @ ..] = words.as_slice() else {
             return Err(RowError::Form);
         };
-        let finding = match self {
+        match self {
             Rows::Primitives => primitives::check(alloc, name, fields)?,
             Rows::LocalTokens => tokens::check(alloc, name, fields)?,
-        };
-        tally.count(name, finding)?;
+        }
+        tally.count(name)?;
         Ok(())
     }
 }

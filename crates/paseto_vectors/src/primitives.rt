@@ -1,5 +1,7 @@
 //! Known answers of the primitives.
 
+mod ciphers;
+mod codes;
 mod digests;
 mod slow_blake2b;
 mod streams;

@@ -1,6 +1,5 @@
 //! Tokens that are looked at before they are opened.
 
-use crate::hexadecimal::array_of;
 use rusty_paseto_core::{Footer, PasetoError, UntrustedToken};
 use std::test::Fail;
 
@@ -80,22 +79,4 @@ fn footers_that_are_refused(rt: HostRuntime) {
             "{token}"
         );
     }
-}
-
-// The characters of base64url in order spell the numbers 0 to 63, six bits each.
-#[test]
-fn characters_in_order(rt: HostRuntime) -> Result<(), Fail> {
-    let untrusted = UntrustedToken::try_parse(concat!(
-        "v4.local.payload.",
-        "ABCDEFGHIJKLMNOPQRSTUVWXYZabcdefghijklmnopqrstuvwxyz0123456789-_",
-    ))?;
-    let numbers: [u8; 48] = array_of(concat!(
-        "00108310518720928b30d38f41149351559761969b71d79f",
-        "8218a39259a7a29aabb2dbafc31cb3d35db7e39ebbf3dfbf",
-    ))?;
-    let decoded = untrusted
-        .footer_decoded(rt.alloc())?
-        .unwrap_or(Vec::new(rt.alloc()));
-    assert_eq!(rt; decoded.as_slice(), numbers.as_slice());
-    Ok(())
 }

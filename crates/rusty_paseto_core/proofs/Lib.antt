@@ -1,4 +1,3 @@
-pub mod Bytes
 pub mod Framed
 pub mod Parts
 pub mod Written

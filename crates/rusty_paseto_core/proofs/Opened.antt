@@ -13,7 +13,7 @@ use Rattle.rusty_paseto_core.specs.Suite.{Design, IsNonce, IsLawful, header, loc
 use Rattle.rusty_paseto_core.specs.Framing.{IsFramed, IsFramingFault}
 use Rattle.rusty_paseto_core.specs.Sealing.{sealed_payload, tag_of}
 use Rattle.rusty_paseto_core.specs.Opening.{nonce_in, masked_in, tag_in, unmasked, HasRoom, HasTag, HoldsText, IsSealedFault, IsFault, Opens}
-use Rattle.rusty_paseto_core.proofs.Bytes.{IsBytes-append, IsBytes-take, IsBytes-drop}
+use Rattle.rusty_paseto_primitives.proofs.ByteLists.{IsBytes-append, IsBytes-take, IsBytes-drop}
 use Rattle.rusty_paseto_core.proofs.Framed.{framing-IsFramed, IsFramed-framing, IsFramed-payload, IsFramed-fault}
 use Rattle.rusty_paseto_core.proofs.Parts.{length-parts, nonce-parts, masked-parts, tag-parts, parts-payload}
 

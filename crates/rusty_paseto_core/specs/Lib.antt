@@ -10,6 +10,7 @@ pub use Rattle.rusty_paseto_parts.specs.Payload
 pub use Rattle.rusty_paseto_parts.specs.Footer
 pub use Rattle.rusty_paseto_parts.specs.ImplicitAssertion
 pub use Rattle.rusty_paseto_parts.specs.Key
+pub use Rattle.rusty_paseto_parts.specs.PublicKey
 pub use Rattle.rusty_paseto_parts.specs.PreAuthenticationEncoding
 pub use Rattle.rusty_paseto_parts.specs.Section
 pub use Rattle.rusty_paseto_parts.specs.UntrustedToken

@@ -11,8 +11,8 @@ mod suite;
 
 pub use paseto_impl::paseto::Paseto;
 pub use rusty_paseto_parts::{
-    Footer, Header, ImplicitAssertion, ImplicitAssertionCapable, Key, Local, PasetoError,
-    PasetoNonce, PasetoSymmetricKey, Payload, PreAuthenticationEncoding, PurposeTrait,
-    UntrustedToken, V1, V1orV3, V2orV4, V3, V4, VersionTrait, from_section, split_token,
-    to_section,
+    Footer, Header, ImplicitAssertion, ImplicitAssertionCapable, Key, Local,
+    PasetoAsymmetricPrivateKey, PasetoAsymmetricPublicKey, PasetoError, PasetoNonce,
+    PasetoSymmetricKey, Payload, PreAuthenticationEncoding, Public, PurposeTrait, UntrustedToken,
+    V1, V1orV3, V2, V2orV4, V3, V4, VersionTrait, from_section, split_token, to_section,
 };

@@ -9,8 +9,6 @@ pub mod laws;
 pub mod pre_authentication_encoding;
 pub mod purpose;
 pub mod section;
-#[cfg(test)]
-mod tests;
 pub mod texts;
 pub mod untrusted_token;
 pub mod version;

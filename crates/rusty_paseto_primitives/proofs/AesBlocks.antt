@@ -1,6 +1,5 @@
 -- The rounds of AES, and that its keystream is of bytes.
 use Rattle.std.proofs.Common.{◌≡◌, ℕ, zero, suc, ◌+◌, ◌-◌, ◌*◌, ◌/◌, ◌%◌, ◌<◌, ◌≤◌, List, [], ◌∷◌, ◌++◌, Bool, true, false, cond, bit_xor, eqb, drop, slice_index, refl, arith}
-use Rattle.std.proofs.lemmas.List.{get_or-drop}
 use Rattle.std.proofs.lemmas.Nat.{xor_lt}
 use Rattle.rusty_paseto_primitives.specs.Bytes.{IsBytes}
 use Rattle.rusty_paseto_primitives.specs.Aes.Cipher.{aes256, cipher, rounds}
@@ -8,7 +7,7 @@ use Rattle.rusty_paseto_primitives.specs.Aes.Counter.{aes256_ctr_stream, counter
 use Rattle.rusty_paseto_primitives.specs.Aes.Field.{affine, sub_byte}
 use Rattle.rusty_paseto_primitives.specs.Aes.KeySchedule.{expanded, key_expansion, key_word_step, next_word, rot_word, round_constant, round_constants, round_key, sub_word, word, xor_word}
 use Rattle.rusty_paseto_primitives.specs.Aes.State.{add_round_key, at, mix_columns, shift_rows, state_of, sub_bytes}
-use Rattle.rusty_paseto_primitives.proofs.ByteLists.{IsBytes-append, IsBytes-take}
+use Rattle.rusty_paseto_primitives.proofs.ByteLists.{IsBytes-append, IsBytes-drop, IsBytes-take}
 
 -- the step of the loop over rounds, from round 1 on
 pub rounds_more : (w block : List ℕ) (n : ℕ) → 1 ≤ n
@@ -108,7 +107,7 @@ IsBytes-expanded key (suc n) h =
 
 IsBytes-round_key : (w : List ℕ) (n : ℕ) → IsBytes w → IsBytes (round_key w n)
 IsBytes-round_key w n h =
-    IsBytes-take 16 (drop (16 * n) w) (λ k. rw (get_or-drop (16 * n) w k 0) (h (16 * n + k)))
+    IsBytes-take 16 (drop (16 * n) w) (IsBytes-drop (16 * n) w h)
 
 IsBytes-add_round_key : (s k : List ℕ) → IsBytes s → IsBytes k → IsBytes (add_round_key s k)
 unfolding add_round_key

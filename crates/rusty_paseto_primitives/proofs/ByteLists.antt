@@ -1,5 +1,6 @@
 -- Lists of bytes stay so as they are joined and cut.
-use Rattle.std.proofs.Common.{ℕ, zero, suc, ◌<◌, List, [], ◌∷◌, ◌++◌, take, arith}
+use Rattle.std.proofs.Common.{ℕ, zero, suc, ◌+◌, ◌<◌, List, [], ◌∷◌, ◌++◌, take, drop, arith}
+use Rattle.std.proofs.lemmas.List.{get_or-drop}
 use Rattle.std.specs.Int.{byte_at}
 use Rattle.rusty_paseto_primitives.specs.Bytes.{IsBytes}
 
@@ -18,6 +19,9 @@ pub IsBytes-take : (n : ℕ) (xs : List ℕ) → IsBytes xs → IsBytes (take n 
 IsBytes-take zero xs all = IsBytes-nil
 IsBytes-take (suc n) [] all = IsBytes-nil
 IsBytes-take (suc n) (x ∷ xs) all = IsBytes_cons x (take n xs) (all 0) (IsBytes-take n xs (λ i. all (suc i)))
+
+pub IsBytes-drop : (n : ℕ) (xs : List ℕ) → IsBytes xs → IsBytes (drop n xs)
+IsBytes-drop n xs all i = rw (get_or-drop n xs i 0) (all (n + i))
 
 pub byte_at-lt : (i n : ℕ) → byte_at i n < 256
 byte_at-lt zero n = omega arith

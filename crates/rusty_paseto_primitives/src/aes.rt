@@ -5,8 +5,6 @@ mod counter;
 mod field;
 mod key_schedule;
 mod state;
-#[cfg(test)]
-mod tests;
 
 pub use cipher::Aes256;
 pub use counter::aes256_ctr_apply;

@@ -4,5 +4,3 @@ mod block;
 mod chain;
 pub mod hasher;
 pub mod keyed;
-#[cfg(test)]
-mod tests;

@@ -3,8 +3,6 @@
 mod block;
 mod stream;
 mod subkey;
-#[cfg(test)]
-mod tests;
 
 pub use block::{chacha20_block, quarter_round};
 pub use stream::xchacha20_apply;

@@ -5,9 +5,6 @@ ghost use Rattle.rusty_paseto_primitives.specs.Hmac.{Holds, hmac, key_block, wit
 
 use sha2::{Digest, Sha384};
 
-#[cfg(test)]
-mod tests;
-
 // The length in bytes of a block of SHA-384.
 const BLOCK_LEN: usize = 128;
 

@@ -1,0 +1,73 @@
+//! The sections of a token's text, and how bytes are spelled in them.
+
+use crate::hexadecimal::array_of;
+use rusty_paseto_parts::{
+    PasetoError, encode_section, from_section, laws, split_token, to_section,
+};
+use std::test::Fail;
+
+#[test]
+fn sections_of_tokens(rt: HostRuntime) {
+    let Some(found) = split_token("v4.local.payload.Zm9v") else {
+        panic!(rt; "four sections");
+    };
+    let parts = found.0;
+    assert_eq!(rt; parts.as_slice(), ["v4", "local", "payload"].as_slice());
+    assert_eq!(rt; found.1, Some("Zm9v"));
+    let Some(found) = split_token("..") else {
+        panic!(rt; "three empty sections");
+    };
+    let parts = found.0;
+    assert_eq!(rt; parts.as_slice(), ["", "", ""].as_slice());
+    assert_eq!(rt; found.1, None);
+    let Some(found) = split_token("v4.local.payload.") else {
+        panic!(rt; "an empty footer");
+    };
+    assert_eq!(rt; found.1, Some(""));
+    'texts: for text in ["", "v4", "v4.local", "v4.local.a.b.c", "....", "."] {
+        assert!(rt; split_token(text).is_none(), "of {text}");
+    }
+    laws::unique_sections("v4.local.payload");
+}
+
+// The characters of base64url in order spell the numbers 0 to 63, six bits each.
+#[test]
+fn spellings(rt: HostRuntime) -> Result<(), Fail> {
+    let alloc = rt.alloc();
+    let spelled = "ABCDEFGHIJKLMNOPQRSTUVWXYZabcdefghijklmnopqrstuvwxyz0123456789-_";
+    let numbers: [u8; 48] = array_of(concat!(
+        "00108310518720928b30d38f41149351559761969b71d79f",
+        "8218a39259a7a29aabb2dbafc31cb3d35db7e39ebbf3dfbf",
+    ))?;
+    assert_eq!(rt;
+        from_section(alloc, spelled)?.as_slice(),
+        numbers.as_slice()
+    );
+    assert_eq!(rt; to_section(alloc, &numbers)?.as_str(), spelled);
+    assert_eq!(rt;
+        to_section(alloc, "footer".as_bytes())?.as_str(),
+        "Zm9vdGVy"
+    );
+    assert_eq!(rt; from_section(alloc, "")?.len(), 0);
+    let mut token = String::from_str(alloc, "v4.local.")?;
+    encode_section("foo".as_bytes(), &mut token)?;
+    assert_eq!(rt; token.as_str(), "v4.local.Zm9v");
+    laws::equal_spellings("foo".as_bytes(), "fop".as_bytes());
+    Ok(())
+}
+
+#[test]
+fn other_spellings(rt: HostRuntime) {
+    let alloc = rt.alloc();
+    'texts: for text in [
+        "AB", "AA==", "A", "Zm9v=", "Zm9v\n", "Zm9+", "Zm/v", "AAAAA", "AAC", "Zm.9",
+    ] {
+        assert!(rt;
+            matches!(
+                &from_section(alloc, text),
+                Err(PasetoError::PayloadBase64Decode { .. })
+            ),
+            "of {text}"
+        );
+    }
+}
