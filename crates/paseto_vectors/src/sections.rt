@@ -30,15 +30,21 @@ fn sections_of_tokens(rt: HostRuntime) {
     laws::unique_sections("v4.local.payload");
 }
 
-// The characters of base64url in order spell the numbers 0 to 63, six bits each.
+// The characters of base64url in order.
+pub(crate) const CHARACTERS: &str =
+    "ABCDEFGHIJKLMNOPQRSTUVWXYZabcdefghijklmnopqrstuvwxyz0123456789-_";
+
+// The bytes that they spell: the numbers 0 to 63, six bits each.
+pub(crate) const NUMBERS: &str = concat!(
+    "00108310518720928b30d38f41149351559761969b71d79f",
+    "8218a39259a7a29aabb2dbafc31cb3d35db7e39ebbf3dfbf",
+);
+
 #[test]
 fn spellings(rt: HostRuntime) -> Result<(), Fail> {
     let alloc = rt.alloc();
-    let spelled = "ABCDEFGHIJKLMNOPQRSTUVWXYZabcdefghijklmnopqrstuvwxyz0123456789-_";
-    let numbers: [u8; 48] = array_of(concat!(
-        "00108310518720928b30d38f41149351559761969b71d79f",
-        "8218a39259a7a29aabb2dbafc31cb3d35db7e39ebbf3dfbf",
-    ))?;
+    let spelled = CHARACTERS;
+    let numbers: [u8; 48] = array_of(NUMBERS)?;
     assert_eq!(rt;
         from_section(alloc, spelled)?.as_slice(),
         numbers.as_slice()

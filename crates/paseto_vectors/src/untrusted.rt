@@ -1,5 +1,7 @@
 //! Tokens that are looked at before they are opened.
 
+use crate::hexadecimal::array_of;
+use crate::sections::{CHARACTERS, NUMBERS};
 use rusty_paseto_core::{Footer, PasetoError, UntrustedToken};
 use std::test::Fail;
 
@@ -79,4 +81,16 @@ fn footers_that_are_refused(rt: HostRuntime) {
             "{token}"
         );
     }
+}
+
+#[test]
+fn characters_in_order(rt: HostRuntime) -> Result<(), Fail> {
+    let token = format!(in rt.alloc(); "v4.local.payload.{CHARACTERS}")?;
+    let untrusted = UntrustedToken::try_parse(token.as_str())?;
+    let numbers: [u8; 48] = array_of(NUMBERS)?;
+    let decoded = untrusted
+        .footer_decoded(rt.alloc())?
+        .unwrap_or(Vec::new(rt.alloc()));
+    assert_eq!(rt; decoded.as_slice(), numbers.as_slice());
+    Ok(())
 }
