@@ -4,10 +4,6 @@ use Rattle.std.proofs.lemmas.Bool.{cases_Bool}
 use Rattle.std.specs.Cmp.Lexicographic.{pointwise, same_text}
 use Rattle.rusty_paseto_parts.specs.Header.{chosen, header_text, is_version}
 
-pub header_text-v4-local : header_text (codes "v4") (codes "local") ≡ codes "v4.local."
-unfolding header_text
-header_text-v4-local = refl
-
 -- the headers of a version
 pub header_text-version : (version purpose : List ℕ) → is_version version ≡ true
     → header_text version purpose ≡ chosen purpose (version ++ codes ".local.") (version ++ codes ".public.")
