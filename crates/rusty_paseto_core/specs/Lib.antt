@@ -1,4 +1,5 @@
 pub mod Binding
+pub mod SealedBox
 pub mod Suite
 pub mod Framing
 pub mod Sealing

@@ -6,6 +6,7 @@ mod framing;
 pub mod laws;
 mod opening;
 mod paseto_impl;
+mod sealed_box;
 mod sealing;
 mod suite;
 
@@ -16,3 +17,4 @@ pub use rusty_paseto_parts::{
     PasetoSymmetricKey, Payload, PreAuthenticationEncoding, Public, PurposeTrait, UntrustedToken,
     V1, V1orV3, V2, V2orV4, V3, V4, VersionTrait, from_section, split_token, to_section,
 };
+pub use sealed_box::SealedBox;
