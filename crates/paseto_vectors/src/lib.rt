@@ -1,5 +1,7 @@
 //! Known answers: published vectors and worked examples, and the calls that have to give them. They
 //! test what no proof can see: that the definitions are the standards', and that calls succeed.
+//!
+//! A toy sealed box stands in for the one that a caller brings to tokens of version 2.
 #![tactic(auto)]
 
 #[cfg(test)]
@@ -18,6 +20,7 @@ mod primitives;
 mod sections;
 #[cfg(test)]
 mod texts;
+mod toy_box;
 #[cfg(test)]
 mod untrusted;
 #[cfg(test)]
@@ -26,3 +29,5 @@ mod v1_local;
 mod v3_local;
 #[cfg(test)]
 mod v4_local;
+
+pub use toy_box::ToyBox;

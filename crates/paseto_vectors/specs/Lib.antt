@@ -1,0 +1,2 @@
+pub mod ToyBox
+pub mod ToyBoxLaws
