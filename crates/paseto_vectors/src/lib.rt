@@ -5,6 +5,8 @@
 #![tactic(auto)]
 
 #[cfg(test)]
+mod boxes;
+#[cfg(test)]
 mod encoding;
 #[cfg(test)]
 mod errors;
@@ -25,6 +27,8 @@ mod toy_box;
 mod untrusted;
 #[cfg(test)]
 mod v1_local;
+#[cfg(test)]
+mod v2_local;
 #[cfg(test)]
 mod v3_local;
 #[cfg(test)]

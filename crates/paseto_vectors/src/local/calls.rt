@@ -4,18 +4,14 @@ use rusty_paseto_core::{
     Footer, Key, Local, Paseto, PasetoError, PasetoNonce, PasetoSymmetricKey, Payload, VersionTrait,
 };
 use std::alloc::Global;
-use std::test::Fail;
 
 /// `wubbalubbadubdubwubbalubbadubdub`
 pub(crate) const KEY: [u8; 32] = *b"wubbalubbadubdubwubbalubbadubdub";
 
-/// A version: its calls, and what a token is put together from without them.
+/// A version, by its calls.
 pub(crate) trait LocalVersion: VersionTrait {
     /// What the version's local tokens begin with.
     const HEADER: &'static str;
-
-    /// Whether the tag covers the implicit assertion.
-    const BINDS_ASSERTION: bool;
 
     /// Seals a payload.
     fn try_encrypt(
@@ -33,11 +29,18 @@ pub(crate) trait LocalVersion: VersionTrait {
         footer: Option<Footer<'_>>,
     ) -> Result<String, PasetoError>;
 
-    /// Masks data under the key and a nonce of zeros.
-    fn mask(data: &mut [u8]) -> Result<(), Fail>;
+    /// Whether an error says that a token was not sealed under the key and the footer.
+    fn is_refusal(error: &PasetoError) -> bool {
+        matches!(error, PasetoError::Cryption)
+    }
+}
 
-    /// The tag of an encoding under the key and a nonce of zeros.
-    fn tag_of(alloc: Global, encoding: &[u8]) -> Result<Vec<u8>, Fail>;
+/// Whether a token was refused as one that was not sealed under the key and the footer.
+pub(crate) fn is_refused<V: LocalVersion>(answer: &Result<String, PasetoError>) -> bool {
+    match answer {
+        Ok(_) => false,
+        Err(error) => V::is_refusal(error),
+    }
 }
 
 /// The text sealed under the key and a nonce of zeros.

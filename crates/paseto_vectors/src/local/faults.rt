@@ -1,6 +1,6 @@
 //! The faults of reading a token, each by its name.
 
-use super::calls::{LocalVersion, open, open_under, seal};
+use super::calls::{LocalVersion, is_refused, open, open_under, seal};
 use rusty_paseto_core::PasetoError;
 use std::alloc::{AllocError, Global};
 use std::process::Abort;
@@ -28,7 +28,7 @@ pub(crate) fn wrong_number_of_sections<V: LocalVersion>(rt: &impl Abort, alloc: 
 
 /// The footer is looked at before the header.
 pub(crate) fn other_footer_and_other_header<V: LocalVersion>(rt: &impl Abort, alloc: Global) {
-    let token = "v2.local.AAAA.Zm9v";
+    let token = "v5.local.AAAA.Zm9v";
     let answer = open::<V>(alloc, token, None);
     assert!(rt; matches!(&answer, Err(PasetoError::FooterInvalid)));
     let answer = open::<V>(alloc, token, Some("foo"));
@@ -108,12 +108,12 @@ pub(crate) fn other_tags<V: LocalVersion>(
 ) -> Result<(), Fail> {
     let token = token_of_zeros::<V>(alloc, letters)?;
     let answer = open::<V>(alloc, token.as_str(), None);
-    assert!(rt; matches!(&answer, Err(PasetoError::Cryption)));
+    assert!(rt; is_refused::<V>(&answer));
     let token = seal::<V>(alloc, "hello", Some("footer"))?;
     let opened = open::<V>(alloc, token.as_str(), Some("footer"))?;
     assert_eq!(rt; opened.as_str(), "hello");
     let answer = open_under::<V>(alloc, &[7; 32], token.as_str(), Some("footer"));
-    assert!(rt; matches!(&answer, Err(PasetoError::Cryption)));
+    assert!(rt; is_refused::<V>(&answer));
     let answer = open::<V>(alloc, token.as_str(), Some("other"));
     assert!(rt; matches!(&answer, Err(PasetoError::FooterInvalid)));
     Ok(())

@@ -1,5 +1,6 @@
 //! The calls of version 1, and its tokens' parts by the primitives.
 
+use crate::local::assembly::TaggedVersion;
 use crate::local::calls::LocalVersion;
 use crate::local::nist::derived;
 use rusty_paseto_core::{Footer, Local, Paseto, PasetoError, PasetoNonce, PasetoSymmetricKey, V1};
@@ -9,8 +10,6 @@ use std::test::Fail;
 
 impl LocalVersion for V1 {
     const HEADER: &'static str = "v1.local.";
-
-    const BINDS_ASSERTION: bool = false;
 
     fn try_encrypt(
         alloc: Global,
@@ -29,6 +28,10 @@ impl LocalVersion for V1 {
     ) -> Result<String, PasetoError> {
         Paseto::<V1, Local>::try_decrypt(alloc, token, key, footer)
     }
+}
+
+impl TaggedVersion for V1 {
+    const BINDS_ASSERTION: bool = false;
 
     fn mask(data: &mut [u8]) -> Result<(), Fail> {
         let key: [u8; 32] = derived(&[0; 16], b"paseto-encryption-key");

@@ -1,5 +1,6 @@
 //! The calls of version 3, and its tokens' parts by the primitives.
 
+use crate::local::assembly::TaggedVersion;
 use crate::local::assertions::AssertedVersion;
 use crate::local::calls::LocalVersion;
 use crate::local::nist::derived;
@@ -12,8 +13,6 @@ use std::test::Fail;
 
 impl LocalVersion for V3 {
     const HEADER: &'static str = "v3.local.";
-
-    const BINDS_ASSERTION: bool = true;
 
     fn try_encrypt(
         alloc: Global,
@@ -32,6 +31,10 @@ impl LocalVersion for V3 {
     ) -> Result<String, PasetoError> {
         Paseto::<V3, Local>::try_decrypt(alloc, token, key, footer, None)
     }
+}
+
+impl TaggedVersion for V3 {
+    const BINDS_ASSERTION: bool = true;
 
     fn mask(data: &mut [u8]) -> Result<(), Fail> {
         let mut info = [0u8; 53];

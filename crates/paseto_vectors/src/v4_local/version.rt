@@ -1,5 +1,6 @@
 //! The calls of version 4, and its tokens' parts by the primitives.
 
+use crate::local::assembly::TaggedVersion;
 use crate::local::assertions::AssertedVersion;
 use crate::local::calls::{KEY, LocalVersion};
 use rusty_paseto_core::{
@@ -11,8 +12,6 @@ use std::test::Fail;
 
 impl LocalVersion for V4 {
     const HEADER: &'static str = "v4.local.";
-
-    const BINDS_ASSERTION: bool = true;
 
     fn try_encrypt(
         alloc: Global,
@@ -31,6 +30,10 @@ impl LocalVersion for V4 {
     ) -> Result<String, PasetoError> {
         Paseto::<V4, Local>::try_decrypt(alloc, token, key, footer, None)
     }
+}
+
+impl TaggedVersion for V4 {
+    const BINDS_ASSERTION: bool = true;
 
     fn mask(data: &mut [u8]) -> Result<(), Fail> {
         let mut message = [0u8; 53];
