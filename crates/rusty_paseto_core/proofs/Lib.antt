@@ -4,5 +4,7 @@ pub mod Written
 pub mod Unframed
 pub mod Pieces
 pub mod Tagged
+pub mod Answered
 pub mod Opened
+pub mod Unboxed
 pub mod SealingLaws

@@ -14,6 +14,7 @@ use Rattle.rusty_paseto_core.specs.Framing.{IsFramed, IsFramingFault}
 use Rattle.rusty_paseto_core.specs.Sealing.{sealed_payload, tag_of}
 use Rattle.rusty_paseto_core.specs.Opening.{nonce_in, masked_in, tag_in, unmasked, HasRoom, HasTag, HoldsText, IsSealedFault, IsFault, Opens}
 use Rattle.rusty_paseto_primitives.proofs.ByteLists.{IsBytes-append, IsBytes-take, IsBytes-drop}
+use Rattle.rusty_paseto_core.proofs.Answered.{answer_is, handed_on_is}
 use Rattle.rusty_paseto_core.proofs.Framed.{framing-IsFramed, IsFramed-framing, IsFramed-payload, IsFramed-fault}
 use Rattle.rusty_paseto_core.proofs.Parts.{length-parts, nonce-parts, masked-parts, tag-parts, parts-payload}
 
@@ -137,9 +138,9 @@ module _ (design : Design) (law : IsLawful design) (binding : Binding) where
       → IfErr answer (λ error. IsMemory error ⊎ IsFault design token binding error)
       → (text : List ℕ) → Opens design token binding text
       → MatchResult answer (λ found. string_bytes found ≡ text) IsMemory
-  Opens-answer footer_bytes token (Ok found) ok err text opens = Opens-text footer_bytes token (string_bytes found) text ok opens
-  Opens-answer footer_bytes token (Err error) ok (inl memory) text opens = memory
-  Opens-answer footer_bytes token (Err error) ok (inr fault) text opens = absurd (Opens-fault footer_bytes token text opens error fault)
+  Opens-answer footer_bytes token =
+      answer_is (λ text. Opens design token binding text) (λ error. IsFault design token binding error) (Opens-text footer_bytes token)
+      (λ text opens. Opens-fault footer_bytes token text opens)
 
   -- a text that a framed payload holds is one to which the token opens
   pub HoldsText-Opens : (token payload text : List ℕ) → IsFramed design.version local binding.footer token payload
@@ -154,9 +155,9 @@ module _ (design : Design) (law : IsLawful design) (binding : Binding) where
       → IsErrAnd answer (λ e. e ≡ error) → IsMemory error ⊎ IsFault design token binding error
       → (text : List ℕ) → Opens design token binding text
       → MatchResult answer (λ found. string_bytes found ≡ text) IsMemory
-  Opens-handed_on footer_bytes token (Ok found) error same fault text opens = absurd same
-  Opens-handed_on footer_bytes token (Err e) error same (inl memory) text opens = rw same memory
-  Opens-handed_on footer_bytes token (Err e) error same (inr fault) text opens = absurd (Opens-fault footer_bytes token text opens error fault)
+  Opens-handed_on footer_bytes token =
+      handed_on_is (λ text. Opens design token binding text) (λ error. IsFault design token binding error) (Opens-text footer_bytes token)
+      (λ text opens. Opens-fault footer_bytes token text opens)
 
   -- a fault of the framing, in the words of the version
   pub framing_IsFault : (version footer token : List ℕ) (error : PasetoError) → design.version ≡ version → footer ≡ binding.footer

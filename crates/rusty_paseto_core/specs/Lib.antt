@@ -4,6 +4,7 @@ pub mod Suite
 pub mod Framing
 pub mod Sealing
 pub mod Opening
+pub mod Boxed
 pub mod Laws
 pub use Rattle.rusty_paseto_parts.specs.Error
 pub use Rattle.rusty_paseto_parts.specs.Header

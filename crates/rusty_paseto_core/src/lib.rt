@@ -1,6 +1,7 @@
 //! PASETO tokens sealed and opened. All memory is asked of the allocator that a call is handed.
 #![tactic(auto)]
 
+mod boxed;
 mod context;
 mod framing;
 pub mod laws;

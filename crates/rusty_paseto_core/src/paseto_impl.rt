@@ -2,5 +2,6 @@
 
 pub(crate) mod paseto;
 mod v1_local;
+mod v2_local;
 mod v3_local;
 mod v4_local;
