@@ -1,11 +1,14 @@
 -- The laws of sealing and opening.
-use Rattle.std.proofs.Common.{◌≡◌, ◌≢◌, ◌⊎◌, inl, inr, ℕ, List, [], ◌∷◌, ◌++◌, Bool, true, false, length, refl, ap, ◌∙◌, arith, length-append}
+use Rattle.std.proofs.Common.{◌≡◌, ◌≢◌, ◌⊎◌, inl, inr, ℕ, List, [], ◌∷◌, ◌++◌, Bool, true, false, length, refl, ap, ◌∙◌, arith, length-append, lit≤}
 use Rattle.rusty_paseto_parts.specs.Section.{spelling}
+use Rattle.rusty_paseto_primitives.proofs.Blake2Lengths.{IsBytes-blake2b, length-blake2b}
 use Rattle.rusty_paseto_core.specs.Binding.{Binding}
+use Rattle.rusty_paseto_core.specs.Boxed.{token_nonce}
 use Rattle.rusty_paseto_core.specs.Suite.{Design, header}
 use Rattle.rusty_paseto_core.specs.Framing.{framing, footer_part}
 use Rattle.rusty_paseto_core.specs.Sealing.{sealing, sealed_payload}
-use Rattle.rusty_paseto_core.specs.Laws.{SealingsOpen, TextsHaveTwoForms}
+use Rattle.rusty_paseto_core.proofs.Unboxed.{OpensBox-text}
+use Rattle.rusty_paseto_core.specs.Laws.{BoxedSealingsOpen, BoxesHoldOneText, SealingsOpen, TextsHaveTwoForms}
 
 pub sealings_open : (design : Design) → SealingsOpen design
 sealings_open design binding nonce text written sealable =
@@ -31,3 +34,16 @@ texts_have_two_forms design binding nonce text sealable = record {
   apart = forms_apart (header design) (sealed_payload design binding nonce text) binding.footer;
   no_other = λ token opens same. form_of design binding nonce text token opens.nonce opens.written same opens.is_sealing;
 }
+
+pub boxed_sealings_open : BoxedSealingsOpen
+boxed_sealings_open box binding given text written token utf8 bytes same = record {
+  utf8 = utf8;
+  bytes = bytes;
+  nonce = token_nonce given text;
+  is_nonce = record { size = length-blake2b given 24 text (lit≤ tt); bytes = IsBytes-blake2b given 24 text };
+  written = written;
+  is_sealing = same;
+}
+
+pub boxes_hold_one_text : BoxesHoldOneText
+boxes_hold_one_text = OpensBox-text

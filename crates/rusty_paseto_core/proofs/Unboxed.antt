@@ -22,12 +22,12 @@ is_header : IsHeader v2 local header
 is_header = IsHeader-known v2 refl
 
 -- what a box found, in the words of the payload
-pub found_opening : (box : BoxSealing) (binding : Binding) (payload key nonce encoding footer boxed : List ℕ) (answer found : Option (List ℕ))
+pub found_opening : (box : BoxSealing) (binding : Binding) (payload key nonce encoding footer boxed : List ℕ) (found : Option (List ℕ))
     → key ≡ binding.key → nonce ≡ nonce_in payload → encoding ≡ associated nonce footer → footer ≡ binding.footer → boxed ≡ box_in payload
-    → answer ≡ found → IsOpening (box key nonce encoding) boxed answer
+    → IsOpening (box key nonce encoding) boxed found
     → IsOpening (box_of box binding (nonce_in payload)) (box_in payload) found
-found_opening box binding payload key nonce encoding footer boxed answer found ek en ee ef eb ea opening =
-    rw (ea, eb, ee, ef, en, ek) at opening
+found_opening box binding payload key nonce encoding footer boxed found ek en ee ef eb opening =
+    rw (eb, ee, ef, en, ek) at opening
 
 -- the framing of a sealing, and its box
 sealing_parts : (nonce footer : List ℕ) (written : Bool) (token : List ℕ) (found : Option (List ℕ))

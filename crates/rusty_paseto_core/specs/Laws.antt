@@ -6,6 +6,10 @@ use Rattle.rusty_paseto_parts.specs.ImplicitAssertion.{assertion_text}
 use Rattle.rusty_paseto_parts.specs.declared.texts.footer.Footer.{Footer}
 use Rattle.rusty_paseto_parts.specs.declared.texts.implicit_assertion.ImplicitAssertion.{ImplicitAssertion}
 use Rattle.rusty_paseto_core.specs.Binding.{Binding, binding_of}
+use Rattle.rusty_paseto_core.specs.Boxed.{token_nonce}
+use Rattle.rusty_paseto_core.specs.Boxed.Opening.{OpensBox}
+use Rattle.rusty_paseto_core.specs.Boxed.Sealing.{boxed_sealing}
+use Rattle.rusty_paseto_core.specs.SealedBox.{BoxSealing, IsLawfulBox}
 use Rattle.rusty_paseto_core.specs.Suite.{Design, IsNonce}
 use Rattle.rusty_paseto_core.specs.Sealing.{sealing}
 use Rattle.rusty_paseto_core.specs.Opening.{Opens}
@@ -31,6 +35,19 @@ pub record HasTwoForms (design : Design) (binding : Binding) (nonce text : List 
 -- each text that can be sealed has its two forms
 abbrev pub TextsHaveTwoForms : Design → Type 0
 TextsHaveTwoForms design = (binding : Binding) (nonce text : List ℕ) → IsSealable nonce text → HasTwoForms design binding nonce text
+
+-- what a box sealed opens to its text, with its footer's section or without
+abbrev pub BoxedSealingsOpen : Type 0
+BoxedSealingsOpen = (box : BoxSealing) (binding : Binding) (given text : List ℕ) (written : Bool) (token : List ℕ)
+    → IsUtf8 text → IsBytes text
+    → boxed_sealing box binding (token_nonce given text) written text ≡ Some token
+    → OpensBox box token binding text
+
+-- a token that a box opens holds one text
+abbrev pub BoxesHoldOneText : Type 0
+BoxesHoldOneText = (box : BoxSealing) → IsLawfulBox box → (binding : Binding) → IsBytes binding.footer
+    → (token first second : List ℕ) → OpensBox box token binding first → OpensBox box token binding second
+    → first ≡ second
 
 -- a token is bound to an empty footer as to an absent one
 abbrev pub EmptyFooterIsAbsent : Type 0

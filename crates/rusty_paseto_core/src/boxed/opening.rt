@@ -1,10 +1,12 @@
 //! The opening of a token by a box.
 
-ghost use Rattle.std.specs.Prelude.{◌≡◌, ◌≤◌, ◌⊎◌, ℕ, List, IfOk, IfErr, MatchResult, length, take};
+ghost use Rattle.std.specs.Prelude.{◌≡◌, ◌⊎◌, ℕ, List, IfOk, IfErr, MatchResult, option_map};
 ghost use Rattle.std.specs.String.{string_bytes};
 ghost use Rattle.rusty_paseto_parts.specs.Error.{IsMemory};
 ghost use Rattle.rusty_paseto_parts.specs.Section.{HasCount, sections};
-ghost use Rattle.rusty_paseto_core.specs.Boxed.Opening.{HasRoom, HoldsBoxed, IsBoxFault, IsBoxedFault, OpensBox, nonce_in};
+ghost use Rattle.rusty_paseto_core.specs.Boxed.Opening.{HasRoom, HoldsBoxed, IsBoxFault, IsBoxedFault, OpensBox, box_in, nonce_in};
+ghost use Rattle.rusty_paseto_core.specs.Boxed.{box_of};
+ghost use Rattle.rusty_paseto_core.specs.SealedBox.{IsOpening};
 
 use crate::boxed::{NONCE_LENGTH, associated};
 use crate::context::Context;
@@ -43,11 +45,7 @@ fn open_payload<B: SealedBox>(
     if payload.len() < NONCE_LENGTH {
         return Err(PasetoError::IncorrectSize);
     }
-    let nonce = nonce_of(payload);
-    let associated = associated(alloc, &nonce, context.footer())?;
-    let boxed = &payload[NONCE_LENGTH..];
-    let found = sealed_box.open(alloc, context.key(), &nonce, associated.as_bytes(), boxed)?;
-    let Some(message) = found else {
+    let Some(message) = open_box(alloc, sealed_box, payload, context)? else {
         return Err(PasetoError::ChaChaCipherError);
     };
     match String::from_utf8(message) {
@@ -56,6 +54,25 @@ fn open_payload<B: SealedBox>(
             source: error.utf8_error(),
         }),
     }
+}
+
+// The message whose box a payload holds, or `None` where it holds the box of no message.
+fn open_box<B: SealedBox>(
+    alloc: Global,
+    sealed_box: &B,
+    payload: &[u8],
+    context: &Context<'_>,
+) -> Result<Option<Vec<u8>>, PasetoError>
+    requires { HasRoom payload.now }
+    ensures ok { IfOk result (λ found. IsOpening (box_of B.sealing context.now (nonce_in payload.now))
+        (box_in payload.now) (option_map (λ bytes. bytes.items) found)) }
+    ensures err { IfErr result IsMemory }
+{
+    let nonce = nonce_of(payload);
+    let associated = associated(alloc, &nonce, context.footer())?;
+    let boxed = &payload[NONCE_LENGTH..];
+    let found = sealed_box.open(alloc, context.key(), &nonce, associated.as_bytes(), boxed)?;
+    Ok(found)
 }
 
 // The nonce at the front of a payload.
