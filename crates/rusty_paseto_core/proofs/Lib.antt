@@ -4,6 +4,7 @@ pub mod Written
 pub mod Unframed
 pub mod Pieces
 pub mod Tagged
+pub mod BoxedFacts
 pub mod Answered
 pub mod Opened
 pub mod Unboxed

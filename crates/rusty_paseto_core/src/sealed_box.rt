@@ -40,5 +40,6 @@ pub trait SealedBox {
         ensures { IfOk result (λ found.
             IsOpening (sealing key.now nonce.now «data».now) boxed.now (option_map (λ bytes. bytes.items) found)) };
 
+    // Different messages have different sealings, and the sealing of bytes is bytes.
     ghost lawful: { IsLawfulBox sealing };
 }

@@ -4,8 +4,8 @@ ghost use Rattle.std.specs.Prelude.{◌≡◌, ◌⊎◌, ℕ, List, IfOk, IfErr
 ghost use Rattle.std.specs.String.{string_bytes};
 ghost use Rattle.rusty_paseto_parts.specs.Error.{IsMemory};
 ghost use Rattle.rusty_paseto_parts.specs.Section.{HasCount, sections};
-ghost use Rattle.rusty_paseto_core.specs.Boxed.Opening.{HasRoom, HoldsBoxed, IsBoxFault, IsBoxedFault, OpensBox, box_in, nonce_in};
 ghost use Rattle.rusty_paseto_core.specs.Boxed.{box_of};
+ghost use Rattle.rusty_paseto_core.specs.Boxed.Opening.{HasRoom, HoldsBoxed, IsBoxFault, IsBoxedFault, OpensBox, box_in, nonce_in};
 ghost use Rattle.rusty_paseto_core.specs.SealedBox.{IsOpening};
 
 use crate::boxed::{NONCE_LENGTH, associated};
