@@ -39,11 +39,16 @@ fn other_tags(rt: HostRuntime) -> Result<(), Fail> {
     faults::other_tags::<V2>(&rt, rt.alloc(), 32)
 }
 
+// What is bound to a text, with no footer.
+fn pieces<'a>(header: &'a [u8], nonce: &'a [u8]) -> [&'a [u8]; 3] {
+    [header, nonce, &[]]
+}
+
 // A token of the one byte `ff`, which is no text.
 fn token_of_no_text(alloc: Global) -> Result<String, Fail> {
     let nonce = [0u8; 24];
     let header = V2::HEADER;
-    let pieces: [&[u8]; 3] = [header.as_bytes(), &nonce, &[]];
+    let pieces = pieces(header.as_bytes(), &nonce);
     let data = PreAuthenticationEncoding::parse(alloc, &pieces)?;
     let found = ToyBox.seal(alloc, &KEY, &nonce, data.as_bytes(), &[0xff])?;
     let mut payload = Vec::new(alloc);

@@ -2,9 +2,7 @@
 
 use crate::local::calls::{KEY, LocalVersion, open, seal};
 use crate::local::forms;
-use rusty_paseto_core::{
-    Key, Local, Paseto, PasetoNonce, PasetoSymmetricKey, V2, to_section,
-};
+use rusty_paseto_core::{Key, Local, Paseto, PasetoNonce, PasetoSymmetricKey, V2, to_section};
 use rusty_paseto_primitives::blake2b_keyed;
 use std::test::Fail;
 
