@@ -28,7 +28,11 @@ pub(crate) fn wrong_number_of_sections<V: LocalVersion>(rt: &impl Abort, alloc: 
 
 /// The footer is looked at before the header.
 pub(crate) fn other_footer_and_other_header<V: LocalVersion>(rt: &impl Abort, alloc: Global) {
-    let token = "v5.local.AAAA.Zm9v";
+    let token = if V::HEADER == "v3.local." {
+        "v4.local.AAAA.Zm9v"
+    } else {
+        "v3.local.AAAA.Zm9v"
+    };
     let answer = open::<V>(alloc, token, None);
     assert!(rt; matches!(&answer, Err(PasetoError::FooterInvalid)));
     let answer = open::<V>(alloc, token, Some("foo"));
@@ -37,7 +41,7 @@ pub(crate) fn other_footer_and_other_header<V: LocalVersion>(rt: &impl Abort, al
 
 // A header is refused where it is not the version's own.
 fn check_header<V: LocalVersion>(rt: &impl Abort, alloc: Global, header: &str) -> Result<(), Fail> {
-    let token = format!(in alloc; "{header}AAAA")?;
+    let token = format!(in alloc; "{header}1234")?;
     let answer = open::<V>(alloc, token.as_str(), None);
     let refused = matches!(&answer, Err(PasetoError::WrongHeader));
     assert_eq!(rt; refused, header != V::HEADER, "{header}");
