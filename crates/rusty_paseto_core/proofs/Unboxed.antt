@@ -14,12 +14,12 @@ use Rattle.rusty_paseto_core.specs.Boxed.Opening.{HoldsBoxed, IsBoxFault, IsBoxe
 use Rattle.rusty_paseto_core.specs.Framing.{IsFramed, IsFramingFault, IsHeader, framing}
 use Rattle.rusty_paseto_core.specs.SealedBox.{BoxSealing, IsLawfulBox, IsOpening}
 use Rattle.rusty_paseto_core.specs.Suite.{local}
-use Rattle.rusty_paseto_core.specs.Suite.HeaderLaws.{IsHeader-known}
+use Rattle.rusty_paseto_core.specs.HeaderLaws.{IsHeader-known}
 use Rattle.rusty_paseto_primitives.proofs.ByteLists.{IsBytes-append, IsBytes-take}
 use Rattle.rusty_paseto_core.proofs.Framed.{framing-IsFramed, IsFramed-framing, IsFramed-payload, IsFramed-fault}
 
 is_header : IsHeader v2 local header
-is_header = IsHeader-known v2 refl
+is_header = IsHeader-known v2 local refl refl
 
 -- what a box found, in the words of the payload
 pub found_opening : (box : BoxSealing) (binding : Binding) (payload key nonce encoding footer boxed : List ℕ) (found : Option (List ℕ))

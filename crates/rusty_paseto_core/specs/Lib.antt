@@ -1,7 +1,9 @@
 pub mod Binding
 pub mod SealedBox
+pub mod Signature
 pub mod Suite
 pub mod Framing
+pub mod HeaderLaws
 pub mod Sealing
 pub mod Opening
 pub mod Boxed

@@ -1,5 +1,4 @@
 -- What a local version of the PASETO specification means, as functions on lists of bytes.
-pub mod HeaderLaws
 pub mod V1
 pub mod V1Laws
 pub mod V3

@@ -1,4 +1,4 @@
-//! PASETO tokens sealed and opened. All memory is asked of the allocator that a call is handed.
+//! PASETO tokens sealed and opened, signed and verified. All memory is asked of the allocator that a call is handed.
 #![tactic(auto)]
 
 mod boxed;
@@ -9,6 +9,7 @@ mod opening;
 mod paseto_impl;
 mod sealed_box;
 mod sealing;
+mod signature;
 mod suite;
 
 pub use paseto_impl::paseto::Paseto;
@@ -19,3 +20,4 @@ pub use rusty_paseto_parts::{
     V1, V1orV3, V2, V2orV4, V3, V4, VersionTrait, from_section, split_token, to_section,
 };
 pub use sealed_box::SealedBox;
+pub use signature::{CompressedKey, SignatureScheme};

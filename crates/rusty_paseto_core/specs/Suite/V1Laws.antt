@@ -7,8 +7,8 @@ use Rattle.rusty_paseto_primitives.proofs.ByteLists.{IsBytes-take}
 use Rattle.rusty_paseto_primitives.proofs.HkdfLengths.{IsBytes-hkdf}
 use Rattle.rusty_paseto_primitives.proofs.HmacLengths.{length-hmac, IsBytes-hmac}
 use Rattle.rusty_paseto_primitives.proofs.Masking.{length-masked, masked-masked, IsBytes-masked}
-use Rattle.rusty_paseto_core.specs.Suite.{IsLawful}
-use Rattle.rusty_paseto_core.specs.Suite.HeaderLaws.{IsHeader-known}
+use Rattle.rusty_paseto_core.specs.Suite.{IsLawful, local}
+use Rattle.rusty_paseto_core.specs.HeaderLaws.{IsHeader-known}
 use Rattle.rusty_paseto_core.specs.Suite.V1.{v1, counter, encryption_key, salt}
 
 pub v1-version : v1.version ≡ codes "v1"
@@ -32,7 +32,7 @@ v1-IsLawful = record {
       (λ i. aes256_ctr_stream-lt (encryption_key key nonce) (counter nonce) i (IsBytes-hkdf (salt nonce) key _ 32)) h;
   length_tag = length-hmac;
   bytes_tag = IsBytes-hmac;
-  is_header = IsHeader-known (codes "v1") refl;
+  is_header = IsHeader-known (codes "v1") local refl refl;
   nonce = λ given text h. record {
     size = length-take-le 32 (hmac given text) (omega (arith, length-hmac given text));
     bytes = IsBytes-take 32 (hmac given text) (IsBytes-hmac given text);

@@ -5,8 +5,8 @@ use Rattle.rusty_paseto_primitives.proofs.ByteLists.{IsBytes-take}
 use Rattle.rusty_paseto_primitives.proofs.HkdfLengths.{IsBytes-hkdf}
 use Rattle.rusty_paseto_primitives.proofs.HmacLengths.{length-hmac, IsBytes-hmac}
 use Rattle.rusty_paseto_primitives.proofs.Masking.{length-masked, masked-masked, IsBytes-masked}
-use Rattle.rusty_paseto_core.specs.Suite.{IsLawful}
-use Rattle.rusty_paseto_core.specs.Suite.HeaderLaws.{IsHeader-known}
+use Rattle.rusty_paseto_core.specs.Suite.{IsLawful, local}
+use Rattle.rusty_paseto_core.specs.HeaderLaws.{IsHeader-known}
 use Rattle.rusty_paseto_core.specs.Suite.V3.{v3, counter, encryption_key, split}
 
 pub v3-version : v3.version ≡ codes "v3"
@@ -30,6 +30,6 @@ v3-IsLawful = record {
       (λ i. aes256_ctr_stream-lt (encryption_key key nonce) (counter key nonce) i (IsBytes-take 32 (split key nonce) (IsBytes-hkdf _ key _ 48))) h;
   length_tag = length-hmac;
   bytes_tag = IsBytes-hmac;
-  is_header = IsHeader-known (codes "v3") refl;
+  is_header = IsHeader-known (codes "v3") local refl refl;
   nonce = λ given text h. h;
 }

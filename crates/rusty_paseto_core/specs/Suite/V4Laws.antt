@@ -3,8 +3,8 @@ use Rattle.std.proofs.Common.{◌≡◌, true, refl, lit≤, codes}
 use Rattle.rusty_paseto_primitives.proofs.Masking.{length-masked, masked-masked, IsBytes-masked}
 use Rattle.rusty_paseto_primitives.proofs.StreamBlocks.{xchacha20_stream-lt}
 use Rattle.rusty_paseto_primitives.proofs.Blake2Lengths.{length-blake2b, IsBytes-blake2b}
-use Rattle.rusty_paseto_core.specs.Suite.{IsLawful}
-use Rattle.rusty_paseto_core.specs.Suite.HeaderLaws.{IsHeader-known}
+use Rattle.rusty_paseto_core.specs.Suite.{IsLawful, local}
+use Rattle.rusty_paseto_core.specs.HeaderLaws.{IsHeader-known}
 use Rattle.rusty_paseto_core.specs.Suite.V4.{v4, encryption_key, start}
 
 pub v4-version : v4.version ≡ codes "v4"
@@ -27,6 +27,6 @@ v4-IsLawful = record {
   bytes_mask = λ key nonce bytes h. IsBytes-masked _ bytes (xchacha20_stream-lt (encryption_key key nonce) (start key nonce)) h;
   length_tag = λ key message. length-blake2b key 32 message (lit≤ tt);
   bytes_tag = λ key message. IsBytes-blake2b key 32 message;
-  is_header = IsHeader-known (codes "v4") refl;
+  is_header = IsHeader-known (codes "v4") local refl refl;
   nonce = λ given text h. h;
 }
