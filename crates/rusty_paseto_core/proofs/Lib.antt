@@ -8,4 +8,7 @@ pub mod BoxedFacts
 pub mod Answered
 pub mod Opened
 pub mod Unboxed
+pub mod SignedMessage
+pub mod Signatures
+pub mod Verified
 pub mod SealingLaws

@@ -7,6 +7,7 @@ pub mod HeaderLaws
 pub mod Sealing
 pub mod Opening
 pub mod Boxed
+pub mod Signed
 pub mod Laws
 pub use Rattle.rusty_paseto_parts.specs.Error
 pub use Rattle.rusty_paseto_parts.specs.Header

@@ -10,6 +10,7 @@ mod paseto_impl;
 mod sealed_box;
 mod sealing;
 mod signature;
+mod signed;
 mod suite;
 
 pub use paseto_impl::paseto::Paseto;

@@ -1,0 +1,26 @@
+use Rattle.std.proofs.Common.{◌≡◌, ◌∙◌, if◌then◌else◌, sym, ap}
+use Rattle.rusty_paseto_core.specs.Signed.{PublicDesign}
+use Rattle.rusty_paseto_core.proofs.SignedMessage.{bound_message}
+use Rattle.rusty_paseto_core.proofs.signed.message.Goals as goal
+use Rattle.rusty_paseto_core.proofs.signed.message.Goals.{then-BINDS_KEY, else-BINDS_KEY, then-BINDS_ASSERTION, else-BINDS_ASSERTION}
+
+pub returns-clause-ok : goal.returns-clause-ok
+returns-clause-ok g c =
+    let design = g.V.PublicSuite.design in
+    let is = g.met.V.PublicSuite.is_design in
+    let start : c.if-BINDS_KEY.start ≡ (if c.BINDS_KEY.result then 0 else 1) =
+    elim c.if-BINDS_KEY.branch [
+      | then-BINDS_KEY w ↦ rw w.if-BINDS_KEY.true w.start-is
+      | else-BINDS_KEY w ↦ rw w.if-BINDS_KEY.false w.start-is
+    ] in
+    let end : c.if-BINDS_ASSERTION.end ≡ (if c.BINDS_ASSERTION.result then 5 else 4) =
+    elim c.if-BINDS_ASSERTION.branch [
+      | then-BINDS_ASSERTION w ↦ rw w.if-BINDS_ASSERTION.true w.end-is
+      | else-BINDS_ASSERTION w ↦ rw w.if-BINDS_ASSERTION.false w.end-is
+    ] in
+    let version = ap (λ (d : PublicDesign). d.version) is in
+    let key = ap (λ (d : PublicDesign). d.binds_key) is ∙ sym c.BINDS_KEY.ensures in
+    let assertion = ap (λ (d : PublicDesign). d.binds_assertion) is ∙ sym c.BINDS_ASSERTION.ensures in
+    let five = rw (c.key.ensures, c.footer.ensures.text, c.assertion.ensures, c.as_bytes.ensures, ← version) at c.pieces-pieces.ensures in
+    let same = bound_message design c.args.context.now c.args.text.now c.pieces-pieces.result _ _ _ _ five key assertion start end in
+    simp same at c.parse.ensures.ok

@@ -1,0 +1,88 @@
+//! Public tokens of version 3.
+
+ghost use Rattle.std.specs.Prelude.{◌≡◌, ℕ, List, ◌⊎◌, IfOk, IfErr, MatchResult, is_some};
+ghost use Rattle.std.specs.String.{string_bytes};
+ghost use Rattle.rusty_paseto_parts.specs.Error.{IsMemory};
+ghost use Rattle.rusty_paseto_parts.specs.Payload.{payload_text};
+ghost use Rattle.rusty_paseto_parts.specs.Section.{HasCount, sections};
+ghost use Rattle.rusty_paseto_core.specs.Binding.{binding_of};
+ghost use Rattle.rusty_paseto_core.specs.Signed.{v3_public};
+ghost use Rattle.rusty_paseto_core.specs.Signed.Signing.{IsSigning};
+ghost use Rattle.rusty_paseto_core.specs.Signed.Verifying.{IsSigned, IsVerifyFault};
+
+use crate::paseto_impl::paseto::Paseto;
+use crate::signature::{CompressedKey, SignatureScheme};
+use crate::signed::context::PublicContext;
+use crate::signed::signing::sign;
+use crate::signed::verifying::verify;
+use rusty_paseto_parts::{
+    Footer, ImplicitAssertion, PasetoAsymmetricPrivateKey, PasetoAsymmetricPublicKey, PasetoError,
+    Public, V3,
+};
+use std::alloc::Global;
+
+impl Paseto<'_, V3, Public> {
+    /// Signs the payload, which stays readable, together with the public key, the footer and the
+    /// implicit assertion, by the caller's scheme. The scheme is asked for the public key of the private
+    /// key first, and then once for the signature.
+    ///
+    /// The token has a footer section exactly where a footer was set. The errors are those of the
+    /// scheme, and `Memory`.
+    ///
+    /// Source: PASETO specification, "Version 3", "Sign".
+    pub fn try_sign<S: CompressedKey>(
+        &self,
+        alloc: Global,
+        scheme: &mut S,
+        key: &PasetoAsymmetricPrivateKey<'_, V3, Public>,
+    ) -> Result<String, PasetoError>
+        ensures ok { let binding = binding_of (S.partner key.now) self.now.footer self.now.implicit_assertion in
+            IfOk result (λ token. IsSigning S.valid v3_public binding (is_some self.now.footer)
+            (payload_text self.now.payload) (string_bytes token)) }
+        ensures err { IfErr result (λ error. IsMemory error ⊎ S.declined key.now error) }
+    {
+        let private = key.as_bytes();
+        let public = scheme.public_key(alloc, private)?;
+        sign::<V3, S, 96>(
+            alloc,
+            scheme,
+            private,
+            &public,
+            self.payload.as_str(),
+            self.footer,
+            self.implicit_assertion,
+        )
+    }
+
+    /// Verifies a token by the caller's scheme: the text that was signed for this public key, footer and
+    /// implicit assertion. An absent footer or assertion and the empty one are the same.
+    ///
+    /// Else it answers the first of these: `IncorrectSize` for a number of sections other than three
+    /// or four, `FooterInvalid` for a fourth section that is not the footer's, `WrongHeader`,
+    /// `PayloadBase64Decode`, `IncorrectSize` for a payload with no room for a signature of 96 bytes,
+    /// the scheme's own error for a signature that is not valid, `FromUtf8Error` for bytes that are no
+    /// text. The scheme is asked once, and not before the other faults are excluded. `Memory` may come
+    /// in place of any answer but the first.
+    ///
+    /// Source: PASETO specification, "Version 3", "Verify".
+    pub fn try_verify<S: SignatureScheme<96>>(
+        alloc: Global,
+        scheme: &S,
+        token: &str,
+        key: &PasetoAsymmetricPublicKey<'_, V3, Public>,
+        footer: Option<Footer<'_>>,
+        implicit_assertion: Option<ImplicitAssertion<'_>>,
+    ) -> Result<String, PasetoError>
+        ensures verified { let binding = binding_of key.now footer.entry implicit_assertion.entry in
+            IfOk result (λ text. IsSigned S.valid v3_public token.now binding (string_bytes text)) }
+        ensures complete { let binding = binding_of key.now footer.entry implicit_assertion.entry in
+            (text : List ℕ) → IsSigned S.valid v3_public token.now binding text
+            → MatchResult result (λ found. string_bytes found ≡ text) IsMemory }
+        ensures count { ¬ HasCount (sections token.now) → result ≡ Err PasetoError.IncorrectSize }
+        ensures fault { let binding = binding_of key.now footer.entry implicit_assertion.entry in
+            IfErr result (λ error. IsMemory error ⊎ IsVerifyFault S.valid S.refused v3_public token.now binding error) }
+    {
+        let context = PublicContext::new(key.as_bytes(), footer, implicit_assertion);
+        verify::<V3, S, 96>(alloc, scheme, token, &context)
+    }
+}
