@@ -1,5 +1,6 @@
--- The laws of sealing and opening.
+-- The laws of sealing and opening, and of signing and verifying.
 use Rattle.std.proofs.Common.{◌≡◌, ◌≢◌, ◌⊎◌, inl, inr, ℕ, List, [], ◌∷◌, ◌++◌, Bool, true, false, length, refl, ap, ◌∙◌, arith, length-append, lit≤}
+use Rattle.rusty_paseto_parts.specs.Header.{is_version}
 use Rattle.rusty_paseto_parts.specs.Section.{spelling}
 use Rattle.rusty_paseto_primitives.proofs.Blake2Lengths.{IsBytes-blake2b, length-blake2b}
 use Rattle.rusty_paseto_core.specs.Binding.{Binding}
@@ -7,8 +8,12 @@ use Rattle.rusty_paseto_core.specs.Boxed.{token_nonce}
 use Rattle.rusty_paseto_core.specs.Suite.{Design, header}
 use Rattle.rusty_paseto_core.specs.Framing.{framing, footer_part}
 use Rattle.rusty_paseto_core.specs.Sealing.{sealing, sealed_payload}
+use Rattle.rusty_paseto_core.specs.HeaderLaws.{IsHeader-known}
+use Rattle.rusty_paseto_core.specs.Signature.{Validity}
+use Rattle.rusty_paseto_core.specs.Signed.{PublicDesign, public}
 use Rattle.rusty_paseto_core.proofs.Unboxed.{OpensBox-text}
-use Rattle.rusty_paseto_core.specs.Laws.{BoxedSealingsOpen, BoxesHoldOneText, SealingsOpen, TextsHaveTwoForms}
+use Rattle.rusty_paseto_core.proofs.Verified.{IsSigned-text}
+use Rattle.rusty_paseto_core.specs.Laws.{BoxedSealingsOpen, BoxesHoldOneText, SealingsOpen, SignaturesHoldOneText, SigningsVerify, TextsHaveTwoForms}
 
 pub sealings_open : (design : Design) → SealingsOpen design
 sealings_open design binding nonce text written sealable =
@@ -47,3 +52,11 @@ boxed_sealings_open box binding given text written token utf8 bytes same = recor
 
 pub boxes_hold_one_text : BoxesHoldOneText
 boxes_hold_one_text = OpensBox-text
+
+pub signings_verify : (valid : Validity) (design : PublicDesign) → SigningsVerify valid design
+signings_verify valid design binding text token written utf8 bytes signing =
+    record { utf8 = utf8; bytes = bytes; written = written; is_signing = signing }
+
+pub signatures_hold_one_text : (valid : Validity) (design : PublicDesign) → is_version design.version ≡ true → SignaturesHoldOneText valid design
+signatures_hold_one_text valid design known binding footer_bytes =
+    IsSigned-text valid design (IsHeader-known design.version public known refl) binding footer_bytes

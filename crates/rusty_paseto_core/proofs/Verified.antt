@@ -46,13 +46,13 @@ valid_parts valid design binding payload text signature key encoding kept size o
       utf8 = utf8;
     }
 
-module _ (valid : Validity) (refused : Refusal) (design : PublicDesign) (is_header : IsHeader design.version public (header design)) (binding : Binding) where
+module _ (valid : Validity) (design : PublicDesign) (is_header : IsHeader design.version public (header design)) (binding : Binding) where
   -- a payload that holds a text has no fault
-  HoldsSigned-fault : (payload text : List ℕ) (error : PasetoError) → HoldsSigned valid design binding payload text
+  HoldsSigned-fault : (refused : Refusal) (payload text : List ℕ) (error : PasetoError) → HoldsSigned valid design binding payload text
       → IsSignedFault valid refused design binding payload error → ⊥
-  HoldsSigned-fault payload text error holds (inl short) = short.0 holds.room
-  HoldsSigned-fault payload text error holds (inr (inl refusal)) = refusal.1 holds.is_valid
-  HoldsSigned-fault payload text error holds (inr (inr no_text)) = no_text.2 (rw holds.text_is holds.utf8)
+  HoldsSigned-fault refused payload text error holds (inl short) = short.0 holds.room
+  HoldsSigned-fault refused payload text error holds (inr (inl refusal)) = refusal.1 holds.is_valid
+  HoldsSigned-fault refused payload text error holds (inr (inr no_text)) = no_text.2 (rw holds.text_is holds.utf8)
 
   -- a text that a framed payload holds is one that the token signs
   pub HoldsSigned-IsSigned : (token payload text : List ℕ) → IsFramed design.version public binding.footer token payload
@@ -106,9 +106,9 @@ module _ (valid : Validity) (refused : Refusal) (design : PublicDesign) (is_head
         rw (← same) own_holds
 
     -- a token that is validly signed has no fault
-    pub IsSigned-fault : (error : PasetoError) → IsVerifyFault valid refused design token binding error → ⊥
-    IsSigned-fault error (inl fault) = IsFramed-fault design.version public binding.footer token own_payload error own_framed fault
-    IsSigned-fault error (inr fault) = HoldsSigned-fault fault.0 text error (IsSigned-holds fault.0 fault.1) fault.2
+    pub IsSigned-fault : (refused : Refusal) (error : PasetoError) → IsVerifyFault valid refused design token binding error → ⊥
+    IsSigned-fault refused error (inl fault) = IsFramed-fault design.version public binding.footer token own_payload error own_framed fault
+    IsSigned-fault refused error (inr fault) = HoldsSigned-fault refused fault.0 text error (IsSigned-holds fault.0 fault.1) fault.2
 
   -- a token is one of one text
   pub IsSigned-text : (footer_bytes : IsBytes binding.footer) (token first second : List ℕ) → IsSigned valid design token binding first
@@ -118,10 +118,10 @@ module _ (valid : Validity) (refused : Refusal) (design : PublicDesign) (is_head
       sym (own_holds footer_bytes token first a).text_is ∙ held.text_is
 
   -- a fault of the framing, as a fault of the token
-  pub framing_IsVerifyFault : (version footer token : List ℕ) (error : PasetoError) → design.version ≡ version → footer ≡ binding.footer
+  pub framing_IsVerifyFault : (refused : Refusal) (version footer token : List ℕ) (error : PasetoError) → design.version ≡ version → footer ≡ binding.footer
       → IsMemory error ⊎ IsFramingFault version public footer token error → IsMemory error ⊎ IsVerifyFault valid refused design token binding error
-  framing_IsVerifyFault version footer token error own same (inl memory) = inl memory
-  framing_IsVerifyFault version footer token error own same (inr fault) = inr (inl (rw (own, ← same) fault))
+  framing_IsVerifyFault refused version footer token error own same (inl memory) = inl memory
+  framing_IsVerifyFault refused version footer token error own same (inr fault) = inr (inl (rw (own, ← same) fault))
 
   module _ (version footer token payload : List ℕ) (own : design.version ≡ version) (same : footer ≡ binding.footer)
       (framed : IsFramed version public footer token payload) where
@@ -134,8 +134,8 @@ module _ (valid : Validity) (refused : Refusal) (design : PublicDesign) (is_head
     verify_opened (Ok found) holds = HoldsSigned-IsSigned token payload (string_bytes found) expected holds
     verify_opened (Err error) holds = tt
 
-    pub verify_fault : (answer : Result (String Global) PasetoError) → IfErr answer (λ error. IsMemory error ⊎ IsSignedFault valid refused design binding payload error)
+    pub verify_fault : (refused : Refusal) (answer : Result (String Global) PasetoError) → IfErr answer (λ error. IsMemory error ⊎ IsSignedFault valid refused design binding payload error)
         → IfErr answer (λ error. IsMemory error ⊎ IsVerifyFault valid refused design token binding error)
-    verify_fault (Ok found) fault = tt
-    verify_fault (Err error) (inl memory) = inl memory
-    verify_fault (Err error) (inr fault) = inr (inr (payload, expected, fault))
+    verify_fault refused (Ok found) fault = tt
+    verify_fault refused (Err error) (inl memory) = inl memory
+    verify_fault refused (Err error) (inr fault) = inr (inr (payload, expected, fault))

@@ -1,4 +1,4 @@
--- Laws of sealing and opening.
+-- Laws of sealing and opening, and of signing and verifying.
 use Rattle.std.specs.Prelude.{◌≡◌, ◌≢◌, ◌⊎◌, ℕ, Bool, true, false, List, [], Option, Some, None, IsUtf8}
 use Rattle.rusty_paseto_primitives.specs.Bytes.{IsBytes}
 use Rattle.rusty_paseto_parts.specs.Footer.{footer_text}
@@ -10,6 +10,10 @@ use Rattle.rusty_paseto_core.specs.Boxed.{token_nonce}
 use Rattle.rusty_paseto_core.specs.Boxed.Opening.{OpensBox}
 use Rattle.rusty_paseto_core.specs.Boxed.Sealing.{boxed_sealing}
 use Rattle.rusty_paseto_core.specs.SealedBox.{BoxSealing, IsLawfulBox}
+use Rattle.rusty_paseto_core.specs.Signature.{Validity}
+use Rattle.rusty_paseto_core.specs.Signed.{PublicDesign}
+use Rattle.rusty_paseto_core.specs.Signed.Signing.{IsSigning}
+use Rattle.rusty_paseto_core.specs.Signed.Verifying.{IsSigned}
 use Rattle.rusty_paseto_core.specs.Suite.{Design, IsNonce}
 use Rattle.rusty_paseto_core.specs.Sealing.{sealing}
 use Rattle.rusty_paseto_core.specs.Opening.{Opens}
@@ -47,6 +51,18 @@ BoxedSealingsOpen = (box : BoxSealing) (binding : Binding) (given text : List �
 abbrev pub BoxesHoldOneText : Type 0
 BoxesHoldOneText = (box : BoxSealing) → IsLawfulBox box → (binding : Binding) → IsBytes binding.footer
     → (token first second : List ℕ) → OpensBox box token binding first → OpensBox box token binding second
+    → first ≡ second
+
+-- what was signed is validly signed for the same public key, with its footer's section or without
+abbrev pub SigningsVerify : Validity → PublicDesign → Type 0
+SigningsVerify valid design = (binding : Binding) (text token : List ℕ) (written : Bool) → IsUtf8 text → IsBytes text
+    → IsSigning valid design binding written text token
+    → IsSigned valid design token binding text
+
+-- a token that is validly signed is one of one text
+abbrev pub SignaturesHoldOneText : Validity → PublicDesign → Type 0
+SignaturesHoldOneText valid design = (binding : Binding) → IsBytes binding.footer
+    → (token first second : List ℕ) → IsSigned valid design token binding first → IsSigned valid design token binding second
     → first ≡ second
 
 -- a token is bound to an empty footer as to an absent one

@@ -17,22 +17,22 @@ returns-in_err-payload-clause-complete g c =
     let token = c.args.token.now in
     let error = c.in_err-payload.field-0.0 in
     let same : IsErrAnd c.from_residual.result (λ e. e ≡ error) = c.from_residual.ensures.1 in
-    let fault = framing_IsVerifyFault valid refused design law binding _ _ token error version c.footer.ensures.text c.in_err-payload.ensures.fault in
+    let fault = framing_IsVerifyFault valid design law binding refused _ _ token error version c.footer.ensures.text c.in_err-payload.ensures.fault in
     handed_on_is (λ text. IsSigned valid design token binding text) (λ e. IsVerifyFault valid refused design token binding e)
-    (IsSigned-text valid refused design law binding c.footer.ensures.bytes token)
-    (λ text signed. IsSigned-fault valid refused design law binding c.footer.ensures.bytes token text signed) c.from_residual.result error same fault
+    (IsSigned-text valid design law binding c.footer.ensures.bytes token)
+    (λ text signed. IsSigned-fault valid design law binding c.footer.ensures.bytes token text signed refused) c.from_residual.result error same fault
 
 pub returns-clause-verified : goal.returns-clause-verified
 returns-clause-verified g c =
     let version = ap (λ (d : PublicDesign). d.version) g.met.V.PublicSuite.is_design in
-    verify_opened g.S.SignatureScheme.valid g.S.SignatureScheme.refused g.V.PublicSuite.design g.V.PublicSuite.is_header c.args.context.now
+    verify_opened g.S.SignatureScheme.valid g.V.PublicSuite.design g.V.PublicSuite.is_header c.args.context.now
     _ _ c.args.token.now _ version c.footer.ensures.text c.in_ok-payload.ensures.framed c.verify_payload.result c.verify_payload.ensures.holds
 
 pub returns-clause-fault : goal.returns-clause-fault
 returns-clause-fault g c =
     let version = ap (λ (d : PublicDesign). d.version) g.met.V.PublicSuite.is_design in
-    verify_fault g.S.SignatureScheme.valid g.S.SignatureScheme.refused g.V.PublicSuite.design g.V.PublicSuite.is_header c.args.context.now
-    _ _ c.args.token.now _ version c.footer.ensures.text c.in_ok-payload.ensures.framed c.verify_payload.result c.verify_payload.ensures.fault
+    verify_fault g.S.SignatureScheme.valid g.V.PublicSuite.design g.V.PublicSuite.is_header c.args.context.now
+    _ _ c.args.token.now _ version c.footer.ensures.text c.in_ok-payload.ensures.framed g.S.SignatureScheme.refused c.verify_payload.result c.verify_payload.ensures.fault
 
 pub returns-clause-complete : goal.returns-clause-complete
 returns-clause-complete g c =
@@ -43,6 +43,6 @@ returns-clause-complete g c =
     let binding = c.args.context.now in
     let token = c.args.token.now in
     answer_is (λ text. IsSigned valid design token binding text) (λ e. IsVerifyFault valid refused design token binding e)
-    (IsSigned-text valid refused design law binding c.footer.ensures.bytes token)
-    (λ text signed. IsSigned-fault valid refused design law binding c.footer.ensures.bytes token text signed) c.verify_payload.result
+    (IsSigned-text valid design law binding c.footer.ensures.bytes token)
+    (λ text signed. IsSigned-fault valid design law binding c.footer.ensures.bytes token text signed refused) c.verify_payload.result
     (returns-clause-verified g c) (returns-clause-fault g c)
