@@ -1,7 +1,7 @@
 -- Signing and verifying: a signing is a framed payload with a valid signature, what verifying reads is a
 -- signing, a token is one of one text, and a token that is validly signed has no fault.
-use Rattle.std.proofs.Common.{◌≡◌, ℕ, ◌+◌, ◌-◌, ◌≤◌, List, ◌++◌, Bool, refl, sym, ap, ◌∙◌, subst, arith, inl, inr, ◌⊎◌, Result, Ok, Err, IfOk, IfErr, String, Global, length, take, drop, length-append, length-drop}
-use Rattle.std.proofs.lemmas.List.{length-take-le, take_at, drop_at, take-append-drop}
+use Rattle.std.proofs.Common.{◌≡◌, ℕ, ◌-◌, List, ◌++◌, sym, ◌∙◌, subst, arith, inl, inr, ◌⊎◌, Result, Ok, Err, IfOk, IfErr, String, Global, length, take, drop, length-append, length-drop}
+use Rattle.std.proofs.lemmas.List.{take_at, drop_at, take-append-drop}
 use Rattle.std.specs.Str.{IsUtf8}
 use Rattle.std.specs.String.{string_bytes}
 use Rattle.rusty_paseto_primitives.specs.Bytes.{IsBytes}
@@ -9,10 +9,9 @@ use Rattle.rusty_paseto_primitives.proofs.ByteLists.{IsBytes-append, IsBytes-tak
 use Rattle.rusty_paseto_parts.specs.Error.{IsMemory}
 use Rattle.rusty_paseto_parts.specs.declared.error.PasetoError.{PasetoError}
 use Rattle.rusty_paseto_core.specs.Binding.{Binding}
-use Rattle.rusty_paseto_core.specs.Framing.{IsFramed, IsFramingFault, IsHeader, framing}
+use Rattle.rusty_paseto_core.specs.Framing.{IsFramed, IsFramingFault, IsHeader}
 use Rattle.rusty_paseto_core.specs.Signature.{Refusal, Validity}
-use Rattle.rusty_paseto_core.specs.Signed.{PublicDesign, header, message, public}
-use Rattle.rusty_paseto_core.specs.Signed.Signing.{IsSigning}
+use Rattle.rusty_paseto_core.specs.Signed.{PublicDesign, header, public}
 use Rattle.rusty_paseto_core.specs.Signed.Verifying.{HasRoom, HasSignature, HoldsSigned, IsSigned, IsSignedFault, IsVerifyFault, signature_in, text_in}
 use Rattle.rusty_paseto_core.proofs.Framed.{framing-IsFramed, IsFramed-framing, IsFramed-payload, IsFramed-fault}
 
@@ -30,21 +29,13 @@ module _ (design : PublicDesign) (text signature : List ℕ) (size : length sign
   room-joined : HasRoom design (text ++ signature)
   room-joined = omega (arith, length-append text signature, size)
 
--- a payload whose parts are a text and a signature that is valid, in the words of the payload
-pub valid_parts : (valid : Validity) (design : PublicDesign) (binding : Binding) (payload text signature key encoding kept : List ℕ) (size : ℕ)
-    → design.signature_length ≡ size → length text + size ≡ length payload
-    → text ≡ take (length payload - size) payload → signature ≡ drop (length payload - size) payload
-    → key ≡ binding.key → encoding ≡ message design binding text → valid key encoding signature
-    → kept ≡ take (length payload - size) payload → IsUtf8 kept → HoldsSigned valid design binding payload kept
-valid_parts valid design binding payload text signature key encoding kept size own room et es ek ee is_valid kept_is utf8 =
-    let text_is : text ≡ text_in design payload = rw own et in
-    let signature_is : signature ≡ signature_in design payload = rw own es in
-    record {
-      room = omega (arith, own, room);
-      is_valid = rw (ee, ek, signature_is, text_is) at is_valid;
-      text_is = rw own (sym kept_is);
-      utf8 = utf8;
-    }
+-- a payload that ends in a valid signature holds what stands before it
+pub holds_signed : (valid : Validity) (design : PublicDesign) (binding : Binding) (payload kept : List ℕ) (size : ℕ)
+    → HasRoom design payload → HasSignature valid design binding payload
+    → design.signature_length ≡ size → kept ≡ take (length payload - size) payload → IsUtf8 kept
+    → HoldsSigned valid design binding payload kept
+holds_signed valid design binding payload kept size room signed own kept_is utf8 =
+    record { room = room; is_valid = signed; text_is = rw own (sym kept_is); utf8 = utf8 }
 
 module _ (valid : Validity) (design : PublicDesign) (is_header : IsHeader design.version public (header design)) (binding : Binding) where
   -- a payload that holds a text has no fault

@@ -1,4 +1,3 @@
-use Rattle.std.proofs.Common.{refl}
 use Rattle.rusty_paseto_core.specs.Signed.{v1_public, v2_public, v3_public, v4_public}
 use Rattle.rusty_paseto_core.proofs.SealingLaws.{signings_verify}
 use Rattle.rusty_paseto_core.proofs.laws.signings_verify.Goals as goal

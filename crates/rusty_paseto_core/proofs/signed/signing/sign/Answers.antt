@@ -1,6 +1,6 @@
 use Rattle.std.proofs.Common.{◌≡◌, ◌∙◌, ap, sym, refl}
 use Rattle.rusty_paseto_parts.specs.Header.{header_text}
-use Rattle.rusty_paseto_core.specs.Binding.{Binding, binding_of}
+use Rattle.rusty_paseto_core.specs.Binding.{binding_of}
 use Rattle.rusty_paseto_core.specs.Signed.{PublicDesign, header, message, public}
 use Rattle.rusty_paseto_core.proofs.Signatures.{framed_signing, message-key}
 use Rattle.rusty_paseto_core.proofs.signed.signing.sign.Goals as goal

@@ -2,15 +2,15 @@ use Rattle.std.proofs.Common.{◌≡◌, ◌∙◌, ℕ, Vec, Global, ap}
 use Rattle.std.proofs.lemmas.Str.{IsUtf8-string_bytes}
 use Rattle.std.specs.String.{string_bytes}
 use Rattle.rusty_paseto_core.specs.Signed.{PublicDesign}
-use Rattle.rusty_paseto_core.proofs.Verified.{valid_parts}
+use Rattle.rusty_paseto_core.proofs.Verified.{holds_signed}
 use Rattle.rusty_paseto_core.proofs.signed.verifying.verify_payload.Goals as goal
 
 pub returns-in-Ok-clause-holds : goal.returns-in-Ok-clause-holds
 returns-in-Ok-clause-holds g c =
     let size = ap (λ (d : PublicDesign). d.signature_length) g.met.V.PublicSuite.is_design in
-    let parts = rw c.deref.ensures.value at c.in-Some.ensures.cases in
-    let text : string_bytes c.in-Ok.text ≡ c.truncate.new.self.items = ap (λ (v : Vec ℕ Global). v.items) c.in-Ok.ensures.ok in
+    let signed = rw c.deref.ensures.value at c.in_ok-check_signature.ensures.ok in
     let len = rw c.deref.ensures.value at c.deref.ensures.len in
+    let text : string_bytes c.in-Ok.text ≡ c.truncate.new.self.items = ap (λ (v : Vec ℕ Global). v.items) c.in-Ok.ensures.ok in
     let kept = text ∙ rw (c.len.ensures, ← len) at c.truncate.ensures.items in
-    valid_parts g.S.SignatureScheme.valid g.V.PublicSuite.design c.args.context.now c.args.payload.items _ _ _ _ _ _ size parts.2 parts.0 parts.1
-    c.key.ensures (c.as_bytes.ensures ∙ c.in_ok-message.ensures.ok) c.in_ok-verify.ensures.ok kept (IsUtf8-string_bytes c.in-Ok.text)
+    holds_signed g.S.SignatureScheme.valid g.V.PublicSuite.design c.args.context.now c.args.payload.items _ _ signed.0 signed.1 size kept
+    (IsUtf8-string_bytes c.in-Ok.text)
