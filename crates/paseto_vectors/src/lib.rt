@@ -21,6 +21,8 @@ mod local;
 mod primitives;
 mod refusing;
 #[cfg(test)]
+mod schemes;
+#[cfg(test)]
 mod sections;
 #[cfg(test)]
 mod texts;
