@@ -1,1 +1,2 @@
+mod ToyBlocks
 mod ToyOpening

@@ -1,2 +1,4 @@
 pub mod ToyBox
 pub mod ToyBoxLaws
+pub mod ToySchemes
+pub mod ToySignature

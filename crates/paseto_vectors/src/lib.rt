@@ -1,7 +1,8 @@
 //! Known answers: published vectors and worked examples, and the calls that have to give them. They
 //! test what no proof can see: that the definitions are the standards', and that calls succeed.
 //!
-//! A toy sealed box stands in for the one that a caller brings to tokens of version 2.
+//! A toy sealed box stands in for the one that a caller brings to tokens of version 2, and toy
+//! signature schemes for those that a caller brings to public tokens.
 #![tactic(auto)]
 
 #[cfg(test)]
@@ -18,11 +19,16 @@ mod keys;
 mod local;
 #[cfg(test)]
 mod primitives;
+mod refusing;
+#[cfg(test)]
+mod schemes;
 #[cfg(test)]
 mod sections;
 #[cfg(test)]
 mod texts;
 mod toy_box;
+mod toy_schemes;
+mod toy_signature;
 #[cfg(test)]
 mod untrusted;
 #[cfg(test)]
@@ -34,4 +40,7 @@ mod v3_local;
 #[cfg(test)]
 mod v4_local;
 
+pub use refusing::Refusing;
 pub use toy_box::ToyBox;
+pub use toy_schemes::{ToyV1, ToyV2, ToyV3, ToyV4};
+pub use toy_signature::{toy_partner, toy_partner_v3};
