@@ -1,4 +1,4 @@
--- What a token is sealed under besides its nonce.
+-- What a token is bound to besides its nonce and its text.
 use Rattle.std.specs.Prelude.{ℕ, List, [], Option}
 use Rattle.std.specs.Option.{option_map_or}
 use Rattle.rusty_paseto_parts.specs.Footer.{footer_text}
@@ -6,7 +6,7 @@ use Rattle.rusty_paseto_parts.specs.ImplicitAssertion.{assertion_text}
 use Rattle.rusty_paseto_parts.specs.declared.texts.footer.Footer.{Footer}
 use Rattle.rusty_paseto_parts.specs.declared.texts.implicit_assertion.ImplicitAssertion.{ImplicitAssertion}
 
--- the key, the footer and the implicit assertion
+-- the key, which is the public one for a public token, the footer and the implicit assertion
 pub record Binding : Type 0 where
   pub key : List ℕ
   pub footer : List ℕ

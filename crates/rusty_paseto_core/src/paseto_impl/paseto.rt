@@ -9,7 +9,7 @@ use rusty_paseto_parts::{
 };
 
 /// A payload, and the footer and the implicit assertion where they are set: what is to become a
-/// token of a version and a purpose, by `try_encrypt`.
+/// token of a version and a purpose, by `try_encrypt` or `try_sign`.
 ///
 /// ```rust
 /// let mut paseto = Paseto::<V4, Local>::builder();
