@@ -66,8 +66,8 @@ impl Paseto<'_, V2, Public> {
     /// or four, `FooterInvalid` for a fourth section that is not the footer's, `WrongHeader`,
     /// `PayloadBase64Decode`, `IncorrectSize` for a payload with no room for a signature of 64 bytes,
     /// the scheme's own error for a signature that is not valid, `FromUtf8Error` for bytes that are no
-    /// text. The scheme is asked once, and not before the other faults are excluded. `Memory` may come
-    /// in place of any answer but the first.
+    /// text. The scheme is asked once, and only where none of the faults before its own is there.
+    /// `Memory` may come in place of any answer but the first.
     ///
     /// Source: PASETO specification, "Version 2", "Verify".
     pub fn try_verify<S: SignatureScheme<64>>(
