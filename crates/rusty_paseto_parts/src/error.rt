@@ -62,7 +62,7 @@ pub enum PasetoError {
     /// The bytes of a text are not UTF-8.
     #[error("A Utf8 parsing error occurred")]
     Utf8Error { source: Utf8Error },
-    /// A box did not open.
+    /// A box did not open, or has no sealing of a text.
     #[error("An unspecified cipher error occurred")]
     ChaChaCipherError,
     /// A conversion that cannot fail has failed.
