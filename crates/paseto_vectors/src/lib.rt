@@ -26,6 +26,8 @@ mod schemes;
 mod sections;
 #[cfg(test)]
 mod texts;
+#[cfg(test)]
+mod tokens;
 mod toy_box;
 mod toy_schemes;
 mod toy_signature;

@@ -3,6 +3,6 @@
 pub(crate) mod assembly;
 pub(crate) mod assertions;
 pub(crate) mod calls;
-pub(crate) mod faults;
-pub(crate) mod forms;
 pub(crate) mod nist;
+pub(crate) mod nonces;
+pub(crate) mod tags;

@@ -1,7 +1,8 @@
 //! A token put together from the primitives, whose bytes are no text.
 
 use super::calls::{LocalVersion, open};
-use rusty_paseto_core::{PasetoError, PreAuthenticationEncoding, to_section};
+use crate::tokens::calls::token_of_payload;
+use rusty_paseto_core::{PasetoError, PreAuthenticationEncoding};
 use std::alloc::Global;
 use std::process::Abort;
 use std::test::Fail;
@@ -46,9 +47,7 @@ fn token_of_no_text<V: TaggedVersion>(alloc: Global, change: u8) -> Result<Strin
     if let Some(last) = payload.last_mut() {
         *last ^= change;
     }
-    let section = to_section(alloc, &payload)?;
-    let header = V::HEADER;
-    Ok(format!(in alloc; "{header}{section}")?)
+    Ok(token_of_payload(alloc, V::HEADER, &payload)?)
 }
 
 /// The tag is looked at before the text.

@@ -1,13 +1,12 @@
 //! Tokens that are bound to an implicit assertion.
 
-use super::calls::{KEY, LocalVersion, seal};
+use super::calls::{KEY, LocalVersion};
+use crate::tokens::assertions::AssertedTokens;
 use rusty_paseto_core::{
     ImplicitAssertion, ImplicitAssertionCapable, Key, Local, Paseto, PasetoError, PasetoNonce,
     PasetoSymmetricKey, Payload,
 };
 use std::alloc::Global;
-use std::process::Abort;
-use std::test::Fail;
 
 /// A version whose tokens are bound to an implicit assertion.
 pub(crate) trait AssertedVersion: LocalVersion + ImplicitAssertionCapable {
@@ -18,6 +17,20 @@ pub(crate) trait AssertedVersion: LocalVersion + ImplicitAssertionCapable {
         key: &PasetoSymmetricKey<Self, Local>,
         assertion: Option<ImplicitAssertion<'_>>,
     ) -> Result<String, PasetoError>;
+}
+
+impl<V: AssertedVersion> AssertedTokens<Local> for V {
+    fn make_with(alloc: Global, text: &str, assertion: &str) -> Result<String, PasetoError> {
+        seal_with::<V>(alloc, text, assertion)
+    }
+
+    fn read_with(
+        alloc: Global,
+        token: &str,
+        assertion: Option<&str>,
+    ) -> Result<String, PasetoError> {
+        open_with::<V>(alloc, token, assertion)
+    }
 }
 
 // A text sealed with an assertion.
@@ -44,39 +57,4 @@ fn open_with<V: AssertedVersion>(
     let key = PasetoSymmetricKey::from(Key::from(KEY));
     let assertion = assertion.map(|text| ImplicitAssertion::from(text));
     V::try_decrypt_with(alloc, token, &key, assertion)
-}
-
-/// A token opens with its own assertion alone.
-pub(crate) fn other_assertions<V: AssertedVersion>(
-    rt: &impl Abort,
-    alloc: Global,
-) -> Result<(), Fail> {
-    let token = seal_with::<V>(alloc, "hello", "x")?;
-    let opened = open_with::<V>(alloc, token.as_str(), Some("x"))?;
-    assert_eq!(rt; opened.as_str(), "hello");
-    'others: for assertion in [None, Some(""), Some("y"), Some("xx")] {
-        let answer = open_with::<V>(alloc, token.as_str(), assertion);
-        assert!(rt; matches!(&answer, Err(PasetoError::Cryption)));
-    }
-    let token = seal::<V>(alloc, "hello", None)?;
-    let answer = open_with::<V>(alloc, token.as_str(), Some("x"));
-    assert!(rt; matches!(&answer, Err(PasetoError::Cryption)));
-    Ok(())
-}
-
-/// No assertion and an empty one are alike.
-pub(crate) fn no_assertion_and_an_empty_one<V: AssertedVersion>(
-    rt: &impl Abort,
-    alloc: Global,
-) -> Result<(), Fail> {
-    let token = seal::<V>(alloc, "hello", None)?;
-    assert_eq!(rt;
-        seal_with::<V>(alloc, "hello", "")?.as_str(),
-        token.as_str()
-    );
-    'assertions: for assertion in [None, Some("")] {
-        let opened = open_with::<V>(alloc, token.as_str(), assertion)?;
-        assert_eq!(rt; opened.as_str(), "hello");
-    }
-    Ok(())
 }

@@ -1,5 +1,6 @@
 //! Sealing and opening under the key of the worked examples and a nonce of zeros.
 
+use crate::tokens::calls::Tokens;
 use rusty_paseto_core::{
     Footer, Key, Local, Paseto, PasetoError, PasetoNonce, PasetoSymmetricKey, Payload, VersionTrait,
 };
@@ -32,6 +33,26 @@ pub(crate) trait LocalVersion: VersionTrait {
     /// Whether an error says that a token was not sealed under the key and the footer.
     fn is_refusal(error: &PasetoError) -> bool {
         matches!(error, PasetoError::Cryption)
+    }
+}
+
+impl<V: LocalVersion> Tokens<Local> for V {
+    const START: &'static str = V::HEADER;
+
+    fn make(alloc: Global, text: &str, footer: Option<&str>) -> Result<String, PasetoError> {
+        seal::<V>(alloc, text, footer)
+    }
+
+    fn read(alloc: Global, token: &str, footer: Option<&str>) -> Result<String, PasetoError> {
+        open::<V>(alloc, token, footer)
+    }
+
+    fn fault(alloc: Global, token: &str, footer: Option<&str>) -> Result<String, PasetoError> {
+        open::<V>(alloc, token, footer)
+    }
+
+    fn is_refused(answer: &Result<String, PasetoError>) -> bool {
+        is_refused::<V>(answer)
     }
 }
 

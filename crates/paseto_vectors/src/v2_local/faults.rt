@@ -1,42 +1,44 @@
 //! The faults of reading a token, each by its name.
 
 use crate::local::calls::{KEY, LocalVersion, open};
-use crate::local::faults;
+use crate::local::tags;
+use crate::tokens::calls::token_of_payload;
+use crate::tokens::faults;
 use crate::toy_box::ToyBox;
-use rusty_paseto_core::{PasetoError, PreAuthenticationEncoding, SealedBox, V2, to_section};
+use rusty_paseto_core::{Local, PasetoError, PreAuthenticationEncoding, SealedBox, V2};
 use std::alloc::Global;
 use std::test::Fail;
 
 #[test]
 fn wrong_number_of_sections(rt: HostRuntime) {
-    faults::wrong_number_of_sections::<V2>(&rt, rt.alloc());
+    faults::wrong_number_of_sections::<Local, V2>(&rt, rt.alloc());
 }
 
 #[test]
 fn other_footer_and_other_header(rt: HostRuntime) {
-    faults::other_footer_and_other_header::<V2>(&rt, rt.alloc());
+    faults::other_footer_and_other_header::<Local, V2>(&rt, rt.alloc());
 }
 
 #[test]
 fn other_headers(rt: HostRuntime) -> Result<(), Fail> {
-    faults::other_headers::<V2>(&rt, rt.alloc())
+    faults::other_headers::<Local, V2>(&rt, rt.alloc())
 }
 
 #[test]
 fn other_spellings(rt: HostRuntime) -> Result<(), Fail> {
-    faults::other_spellings::<V2>(&rt, rt.alloc())
+    faults::other_spellings::<Local, V2>(&rt, rt.alloc())
 }
 
 // 31 letters spell 23 bytes.
 #[test]
 fn short_payloads(rt: HostRuntime) -> Result<(), Fail> {
-    faults::short_payloads::<V2>(&rt, rt.alloc(), 31)
+    faults::short_payloads::<Local, V2>(&rt, rt.alloc(), 31)
 }
 
 // 32 letters spell 24 bytes: a nonce, and an empty box.
 #[test]
 fn other_tags(rt: HostRuntime) -> Result<(), Fail> {
-    faults::other_tags::<V2>(&rt, rt.alloc(), 32)
+    tags::other_tags::<V2>(&rt, rt.alloc(), 32)
 }
 
 // What is bound to a text, with no footer.
@@ -54,8 +56,7 @@ fn token_of_no_text(alloc: Global) -> Result<String, Fail> {
     let mut payload = Vec::new(alloc);
     payload.extend_from_slice(&nonce)?;
     payload.extend_from_slice(&found.ok_or("no sealing")?)?;
-    let section = to_section(alloc, &payload)?;
-    Ok(format!(in alloc; "{header}{section}")?)
+    Ok(token_of_payload(alloc, header, &payload)?)
 }
 
 #[test]

@@ -1,19 +1,19 @@
 //! The two forms of a token, and its nonce.
 
 use crate::local::calls::{KEY, LocalVersion, open, seal};
-use crate::local::forms;
+use crate::tokens::forms;
 use rusty_paseto_core::{Key, Local, Paseto, PasetoNonce, PasetoSymmetricKey, V2, to_section};
 use rusty_paseto_primitives::blake2b_keyed;
 use std::test::Fail;
 
 #[test]
 fn no_footer_and_an_empty_one(rt: HostRuntime) -> Result<(), Fail> {
-    forms::no_footer_and_an_empty_one::<V2>(&rt, rt.alloc(), 63)
+    forms::no_footer_and_an_empty_one::<Local, V2>(&rt, rt.alloc(), 63)
 }
 
 #[test]
 fn a_stripped_footer(rt: HostRuntime) -> Result<(), Fail> {
-    forms::a_stripped_footer::<V2>(&rt, rt.alloc())
+    forms::a_stripped_footer::<Local, V2>(&rt, rt.alloc())
 }
 
 #[test]
