@@ -19,6 +19,8 @@ mod keys;
 mod local;
 #[cfg(test)]
 mod primitives;
+#[cfg(test)]
+mod public;
 mod refusing;
 #[cfg(test)]
 mod schemes;
@@ -36,11 +38,19 @@ mod untrusted;
 #[cfg(test)]
 mod v1_local;
 #[cfg(test)]
+mod v1_public;
+#[cfg(test)]
 mod v2_local;
+#[cfg(test)]
+mod v2_public;
 #[cfg(test)]
 mod v3_local;
 #[cfg(test)]
+mod v3_public;
+#[cfg(test)]
 mod v4_local;
+#[cfg(test)]
+mod v4_public;
 
 pub use refusing::Refusing;
 pub use toy_box::ToyBox;

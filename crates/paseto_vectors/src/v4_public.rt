@@ -1,0 +1,10 @@
+//! Public tokens of version 4, by a toy scheme.
+
+mod assembly;
+mod assertions;
+mod counting;
+mod faults;
+mod forms;
+mod private_keys;
+mod signatures;
+mod version;
