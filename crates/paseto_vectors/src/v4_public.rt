@@ -6,5 +6,6 @@ mod counting;
 mod faults;
 mod forms;
 mod private_keys;
+mod shortest_use;
 mod signatures;
 mod version;
