@@ -11,7 +11,8 @@ use std::alloc::Global;
 /// for RSA in version 1, 64 for Ed25519 in versions 2 and 4, 96 for ECDSA in version 3.
 ///
 /// The keys are slices, which a scheme reads in its own way, and the errors are its own. It may keep
-/// a source of random bytes, so that signing may change it.
+/// a source of random bytes, so that signing may change it. The toys of the crate `paseto_vectors` show
+/// how a scheme says what it means.
 ///
 /// Source: PASETO specification, "Version 1" to "Version 4".
 pub trait SignatureScheme<const SIG: usize> {
