@@ -25,3 +25,17 @@ module _ (IsOpened : List ℕ → Type 0) (IsOwnFault : PasetoError → Type 0)
   handed_on_is (Ok found) error same fault text opens = absurd same
   handed_on_is (Err e) error same (inl memory) text opens = rw same memory
   handed_on_is (Err e) error same (inr fault) text opens = absurd (no_fault text opens error fault)
+
+-- an answer about a payload, as one about its token
+pub opened_as : (IsHeld IsOpened : List ℕ → Type 0) → ((text : List ℕ) → IsHeld text → IsOpened text)
+    → (answer : Result (String Global) PasetoError)
+    → IfOk answer (λ found. IsHeld (string_bytes found)) → IfOk answer (λ found. IsOpened (string_bytes found))
+opened_as IsHeld IsOpened step (Ok found) held = step (string_bytes found) held
+opened_as IsHeld IsOpened step (Err error) held = tt
+
+pub fault_as : (IsPayloadFault IsOwnFault : PasetoError → Type 0) → ((error : PasetoError) → IsPayloadFault error → IsOwnFault error)
+    → (answer : Result (String Global) PasetoError)
+    → IfErr answer (λ error. IsMemory error ⊎ IsPayloadFault error) → IfErr answer (λ error. IsMemory error ⊎ IsOwnFault error)
+fault_as IsPayloadFault IsOwnFault step (Ok found) fault = tt
+fault_as IsPayloadFault IsOwnFault step (Err error) (inl memory) = inl memory
+fault_as IsPayloadFault IsOwnFault step (Err error) (inr fault) = inr (step error fault)

@@ -14,7 +14,7 @@ use Rattle.rusty_paseto_core.specs.Framing.{IsFramed, IsFramingFault}
 use Rattle.rusty_paseto_core.specs.Sealing.{sealed_payload, tag_of}
 use Rattle.rusty_paseto_core.specs.Opening.{nonce_in, masked_in, tag_in, unmasked, HasRoom, HasTag, HoldsText, IsSealedFault, IsFault, Opens}
 use Rattle.rusty_paseto_primitives.proofs.ByteLists.{IsBytes-append, IsBytes-take, IsBytes-drop}
-use Rattle.rusty_paseto_core.proofs.Answered.{answer_is, handed_on_is}
+use Rattle.rusty_paseto_core.proofs.Answered.{answer_is, handed_on_is, opened_as}
 use Rattle.rusty_paseto_core.proofs.Framed.{framing-IsFramed, IsFramed-framing, IsFramed-payload, IsFramed-fault}
 use Rattle.rusty_paseto_core.proofs.Parts.{length-parts, nonce-parts, masked-parts, tag-parts, parts-payload}
 
@@ -174,8 +174,9 @@ module _ (design : Design) (law : IsLawful design) (binding : Binding) where
     -- what is answered of a framed payload, as an answer for the token
     pub answer_opened : (answer : Result (String Global) PasetoError) → IfOk answer (λ found. HoldsText design binding payload (string_bytes found))
         → IfOk answer (λ found. Opens design token binding (string_bytes found))
-    answer_opened (Ok found) holds = HoldsText-Opens token payload (string_bytes found) own_framed holds
-    answer_opened (Err error) holds = tt
+    answer_opened =
+        opened_as (HoldsText design binding payload) (Opens design token binding)
+        (λ text holds. HoldsText-Opens token payload text own_framed holds)
 
     pub answer_fault : (answer : Result (String Global) PasetoError) → IfErr answer (IsSealedFault design binding payload)
         → IfErr answer (λ error. IsMemory error ⊎ IsFault design token binding error)

@@ -1,6 +1,6 @@
 -- Sealing and opening by a box: a sealing is a framed payload with the text's box, what opening reads
 -- is a sealing, a token opens to one text, and a token that opens has no fault.
-use Rattle.std.proofs.Common.{◌≡◌, ℕ, List, ◌++◌, Bool, refl, sym, subst, arith, inl, inr, ◌⊎◌, Option, Some, None, Result, Ok, Err, IfOk, IfErr, String, Global, length-append}
+use Rattle.std.proofs.Common.{◌≡◌, ℕ, List, ◌++◌, Bool, refl, sym, subst, arith, inl, inr, ◌⊎◌, Option, Some, None, Result, IfOk, IfErr, String, Global, length-append}
 use Rattle.std.proofs.lemmas.List.{length-take-le, take_at, drop_at, take-append-drop}
 use Rattle.std.specs.Prelude.{option_map}
 use Rattle.std.specs.String.{string_bytes}
@@ -16,6 +16,7 @@ use Rattle.rusty_paseto_core.specs.SealedBox.{BoxSealing, IsLawfulBox, IsOpening
 use Rattle.rusty_paseto_core.specs.Suite.{local}
 use Rattle.rusty_paseto_core.specs.HeaderLaws.{IsHeader-known}
 use Rattle.rusty_paseto_primitives.proofs.ByteLists.{IsBytes-append, IsBytes-take}
+use Rattle.rusty_paseto_core.proofs.Answered.{fault_as, opened_as}
 use Rattle.rusty_paseto_core.proofs.Framed.{framing-IsFramed, IsFramed-framing, IsFramed-payload, IsFramed-fault}
 
 is_header : IsHeader v2 local header
@@ -123,11 +124,12 @@ module _ (box : BoxSealing) (law : IsLawfulBox box) (binding : Binding) where
     -- what is answered of a framed payload, as an answer for the token
     pub box_opened : (answer : Result (String Global) PasetoError) → IfOk answer (λ found. HoldsBoxed box binding payload (string_bytes found))
         → IfOk answer (λ found. OpensBox box token binding (string_bytes found))
-    box_opened (Ok found) holds = HoldsBoxed-Opens token payload (string_bytes found) expected holds
-    box_opened (Err error) holds = tt
+    box_opened =
+        opened_as (HoldsBoxed box binding payload) (OpensBox box token binding)
+        (λ text holds. HoldsBoxed-Opens token payload text expected holds)
 
     pub box_fault : (answer : Result (String Global) PasetoError) → IfErr answer (λ error. IsMemory error ⊎ IsBoxedFault box binding payload error)
         → IfErr answer (λ error. IsMemory error ⊎ IsBoxFault box token binding error)
-    box_fault (Ok found) fault = tt
-    box_fault (Err error) (inl memory) = inl memory
-    box_fault (Err error) (inr fault) = inr (inr (payload, expected, fault))
+    box_fault =
+        fault_as (IsBoxedFault box binding payload) (IsBoxFault box token binding)
+        (λ error fault. inr (payload, expected, fault))

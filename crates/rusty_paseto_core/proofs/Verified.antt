@@ -1,6 +1,6 @@
 -- Signing and verifying: a signing is a framed payload with a valid signature, what verifying reads is a
 -- signing, a token is one of one text, and a token that is validly signed has no fault.
-use Rattle.std.proofs.Common.{◌≡◌, ℕ, ◌-◌, List, ◌++◌, sym, ◌∙◌, subst, arith, inl, inr, ◌⊎◌, Result, Ok, Err, IfOk, IfErr, String, Global, length, take, drop, length-append, length-drop}
+use Rattle.std.proofs.Common.{◌≡◌, ℕ, ◌-◌, List, ◌++◌, sym, ◌∙◌, subst, arith, inl, inr, ◌⊎◌, Result, IfOk, IfErr, String, Global, length, take, drop, length-append, length-drop}
 use Rattle.std.proofs.lemmas.List.{take_at, drop_at, take-append-drop}
 use Rattle.std.specs.Str.{IsUtf8}
 use Rattle.std.specs.String.{string_bytes}
@@ -13,6 +13,7 @@ use Rattle.rusty_paseto_core.specs.Framing.{IsFramed, IsFramingFault, IsHeader}
 use Rattle.rusty_paseto_core.specs.Signature.{Refusal, Validity}
 use Rattle.rusty_paseto_core.specs.Signed.{PublicDesign, header, public}
 use Rattle.rusty_paseto_core.specs.Signed.Verifying.{HasRoom, HasSignature, HoldsSigned, IsSigned, IsSignedFault, IsVerifyFault, signature_in, text_in}
+use Rattle.rusty_paseto_core.proofs.Answered.{fault_as, opened_as}
 use Rattle.rusty_paseto_core.proofs.Framed.{framing-IsFramed, IsFramed-framing, IsFramed-payload, IsFramed-fault}
 
 -- the parts of a text and a signature, joined
@@ -122,11 +123,12 @@ module _ (valid : Validity) (design : PublicDesign) (is_header : IsHeader design
     -- what is answered of a framed payload, as an answer for the token
     pub verify_opened : (answer : Result (String Global) PasetoError) → IfOk answer (λ found. HoldsSigned valid design binding payload (string_bytes found))
         → IfOk answer (λ found. IsSigned valid design token binding (string_bytes found))
-    verify_opened (Ok found) holds = HoldsSigned-IsSigned token payload (string_bytes found) expected holds
-    verify_opened (Err error) holds = tt
+    verify_opened =
+        opened_as (HoldsSigned valid design binding payload) (IsSigned valid design token binding)
+        (λ text holds. HoldsSigned-IsSigned token payload text expected holds)
 
     pub verify_fault : (refused : Refusal) (answer : Result (String Global) PasetoError) → IfErr answer (λ error. IsMemory error ⊎ IsSignedFault valid refused design binding payload error)
         → IfErr answer (λ error. IsMemory error ⊎ IsVerifyFault valid refused design token binding error)
-    verify_fault refused (Ok found) fault = tt
-    verify_fault refused (Err error) (inl memory) = inl memory
-    verify_fault refused (Err error) (inr fault) = inr (inr (payload, expected, fault))
+    verify_fault refused =
+        fault_as (IsSignedFault valid refused design binding payload) (IsVerifyFault valid refused design token binding)
+        (λ error fault. inr (payload, expected, fault))
