@@ -1,9 +1,9 @@
 -- Pieces can be told from their encoding.
-use Rattle.std.proofs.Common.{◌≡◌, ℕ, ◌+◌, ◌/◌, ◌%◌, ◌^◌, ◌<◌, List, [], ◌∷◌, ◌++◌, map, length, take, get_or, refl, sym, ap, ◌∙◌, arith, Bor}
+use Rattle.std.proofs.Common.{◌≡◌, ℕ, ◌+◌, ◌/◌, ◌%◌, ◌^◌, ◌<◌, ◌≤◌, List, [], ◌∷◌, ◌++◌, map, length, take, drop, get_or, refl, sym, ap, ◌∙◌, arith, Bor}
 use Rattle.std.specs.Int.{w64, from_le_bytes, to_le_bytes}
 use Rattle.std.specs.List.{All, flat_map}
 use Rattle.std.proofs.lemmas.Nat.{from_le_bytes-to_le_bytes_8}
-use Rattle.std.proofs.lemmas.List.{append_assoc, append-nil, map-append, take_all, take_more, length-append, length-map}
+use Rattle.std.proofs.lemmas.List.{append_assoc, append-nil, map-append, take_all, take_more, take-append-drop, length-append, length-map}
 use Rattle.std.proofs.lemmas.List.Elements.{All-head, All-tail}
 use Rattle.std.proofs.lemmas.Grind.{flat_map-append}
 use Rattle.rusty_paseto_parts.specs.PreAuthenticationEncoding.{le64, encoded_piece, pae}
@@ -114,3 +114,44 @@ pub pae_so_far-written : (pieces : List (Bor (List ℕ))) (n : ℕ) (items mid n
 pae_so_far-written pieces n items mid next number d lt before bytes prefix piece =
     let numbers : number ≡ le64 (length (get_or pieces n d).now) = bytes ∙ sym (le64-bytes (length (get_or pieces n d).now)) in
     rw (piece, prefix, before, numbers) (sym (pae_so_far-more pieces n d lt))
+
+-- ---- the encoding as it is absorbed
+
+module _ (pieces : List (Bor (List ℕ))) where
+  -- the number of the pieces
+  pub taken-number : (number : List ℕ) → number ≡ to_le_bytes w64 (length pieces) → number ≡ pae_so_far pieces 0
+  taken-number number bytes = bytes ∙ sym (pae_so_far-start pieces ∙ le64-bytes (length pieces))
+
+  -- a piece's length, and the piece
+  pub taken-piece : (n : ℕ) (number : List ℕ) (d : Bor (List ℕ)) → n < length pieces
+      → number ≡ to_le_bytes w64 (length (get_or pieces n d).now)
+      → (pae_so_far pieces n ++ number) ++ (get_or pieces n d).now ≡ pae_so_far pieces (n + 1)
+  taken-piece n number d within bytes = pae_so_far-written pieces n _ _ _ number d within refl bytes refl refl
+
+  -- all pieces
+  pub taken-all : (n : ℕ) → n ≡ length pieces → pae_so_far pieces n ≡ pae (lists pieces)
+  taken-all n all = ap (λ k. pae_so_far pieces k) all ∙ pae_so_far-end pieces
+
+  -- no more is counted so far than in the end
+  pub length-so_far-le : (n : ℕ) → length (pae_so_far pieces n) ≤ length (pae (lists pieces))
+  unfolding pae_so_far pae
+  length-so_far-le n =
+      let whole : lists (take n pieces) ++ lists (drop n pieces) ≡ lists pieces =
+      sym (map-append (λ piece. piece.now) (take n pieces) (drop n pieces)) ∙ ap lists (take-append-drop n pieces) in
+      let parts : flat_map encoded_piece (lists pieces) ≡ flat_map encoded_piece (lists (take n pieces)) ++ flat_map encoded_piece (lists (drop n pieces)) =
+      ap (flat_map encoded_piece) (sym whole) ∙ flat_map-append encoded_piece (lists (take n pieces)) (lists (drop n pieces)) in
+      let longer = ap length parts ∙ length-append (flat_map encoded_piece (lists (take n pieces))) (flat_map encoded_piece (lists (drop n pieces))) in
+      omega (
+        arith, longer,
+        length-append (le64 (length pieces)) (flat_map encoded_piece (lists (take n pieces))),
+        length-append (le64 (length (lists pieces))) (flat_map encoded_piece (lists pieces)),
+        length-le64 (length pieces),
+        length-le64 (length (lists pieces)),
+      )
+
+  -- where one more piece cannot be counted, all of them cannot
+  pub pae-too_long : (n len : ℕ) (d : Bor (List ℕ)) → n < length pieces → len ≡ length (pae_so_far pieces n)
+      → 2 ^ 64 ≤ len + 8 + length (get_or pieces n d).now → 2 ^ 64 ≤ length (pae (lists pieces))
+  pae-too_long n len d within counted long =
+      let one_more = pae_so_far-counted pieces n len (len + 8) (len + 8 + length (get_or pieces n d).now) d within counted refl refl in
+      omega (arith, one_more, length-so_far-le (n + 1))

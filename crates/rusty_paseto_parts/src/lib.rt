@@ -3,6 +3,7 @@
 //! it is opened.
 #![tactic(auto)]
 
+pub mod absorb;
 pub mod error;
 pub mod keys;
 pub mod laws;
@@ -13,13 +14,14 @@ pub mod texts;
 pub mod untrusted_token;
 pub mod version;
 
+pub use absorb::Absorb;
 pub use error::PasetoError;
 pub use keys::key::Key;
 pub use keys::nonce::PasetoNonce;
 pub use keys::private_key::PasetoAsymmetricPrivateKey;
 pub use keys::public_key::PasetoAsymmetricPublicKey;
 pub use keys::symmetric_key::PasetoSymmetricKey;
-pub use pre_authentication_encoding::PreAuthenticationEncoding;
+pub use pre_authentication_encoding::{PreAuthenticationEncoding, absorb_pieces};
 pub use purpose::PurposeTrait;
 pub use purpose::local::Local;
 pub use purpose::public::Public;

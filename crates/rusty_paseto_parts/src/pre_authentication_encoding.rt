@@ -1,9 +1,10 @@
 //! Pre-authentication encoding.
 
-ghost use Rattle.std.specs.Prelude.{◌≡◌, ◌+◌, ◌*◌, ℕ, List, map, length, IfOk, IfErr, IfSome};
+ghost use Rattle.std.specs.Prelude.{◌≡◌, ◌≤◌, ◌^◌, ℕ, List, map, length, IfOk, IfErr, IfSome, IsNone, OnOk};
 ghost use Rattle.rusty_paseto_parts.specs.Error.{IsMemory};
 ghost use Rattle.rusty_paseto_parts.specs.PreAuthenticationEncoding.{pae};
 
+use crate::absorb::Absorb;
 use crate::error::PasetoError;
 use std::alloc::{AllocError, Global};
 use std::marker::Model;
@@ -35,11 +36,7 @@ impl PreAuthenticationEncoding {
             return Err(PasetoError::Memory(AllocError));
         };
         let mut bytes = Vec::with_capacity(alloc, len)?;
-        bytes.extend_from_slice(&(pieces.len() as u64).to_le_bytes())?;
-        'pieces: for piece in pieces {
-            bytes.extend_from_slice(&(piece.len() as u64).to_le_bytes())?;
-            bytes.extend_from_slice(*piece)?;
-        }
+        absorb_pieces(pieces, &mut bytes)?;
         Ok(PreAuthenticationEncoding { bytes })
     }
 
@@ -51,9 +48,25 @@ impl PreAuthenticationEncoding {
     }
 }
 
-// How many bytes the encoding has, unless no `usize` holds the number.
+/// Feeds the encoding of these pieces, in their order, to what absorbs bytes, with no copy of the
+/// pieces. It fails where that fails, and then part of the encoding may have been taken in.
+///
+/// Source: PASETO specification, "Authentication Padding".
+pub fn absorb_pieces<A: Absorb>(pieces: &[&[u8]], absorber: &mut A) -> Result<(), A::Error>
+    ensures { OnOk result (A.absorbed absorber.old (pae (map (λ piece. piece.now) pieces.now)) absorber.new) }
+{
+    absorber.absorb(&(pieces.len() as u64).to_le_bytes())?;
+    'pieces: for piece in pieces {
+        absorber.absorb(&(piece.len() as u64).to_le_bytes())?;
+        absorber.absorb(*piece)?;
+    }
+    Ok(())
+}
+
+// How many bytes the encoding has, or `None` exactly where no `usize` holds the number.
 fn encoded_len(pieces: &[&[u8]]) -> Option<usize>
-    ensures { IfSome result (λ len. len ≡ length (pae (map (λ piece. piece.now) pieces.now))) }
+    ensures some { IfSome result (λ len. len ≡ length (pae (map (λ piece. piece.now) pieces.now))) }
+    ensures none { IsNone result → 2 ^ 64 ≤ length (pae (map (λ piece. piece.now) pieces.now)) }
 {
     let mut len = 8usize;
     'pieces: for piece in pieces {
