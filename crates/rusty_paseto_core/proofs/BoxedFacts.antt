@@ -4,7 +4,7 @@ use Rattle.std.proofs.Common.{◌≡◌, [], ◌∷◌, codes, refl, replicate}
 use Rattle.rusty_paseto_parts.specs.Header.{header_text}
 use Rattle.rusty_paseto_primitives.specs.Blake2.Block.{column_step, compress, diagonal_step, folded, mix, round, rounds, words, work_vector}
 use Rattle.rusty_paseto_primitives.specs.Blake2.Keyed.{blake2b, final_hash, hash_after, hash_bytes}
-use Rattle.rusty_paseto_core.specs.Boxed.{header, token_nonce}
+use Rattle.rusty_paseto_core.specs.Local.Boxed.{header, token_nonce}
 
 pub header_is : header ≡ codes "v2.local."
 unfolding header_text

@@ -7,7 +7,8 @@ use Rattle.rusty_paseto_primitives.specs.Bytes.{IsBytes}
 use Rattle.rusty_paseto_parts.specs.Section.{HasCount, spelling, sections}
 use Rattle.rusty_paseto_parts.specs.declared.error.PasetoError.{PasetoError}
 use Rattle.rusty_paseto_parts.specs.declared.error.PasetoError.TheVariants.{IncorrectSize, WrongHeader, FooterInvalid, PayloadBase64Decode}
-use Rattle.rusty_paseto_core.specs.Framing.{IsHeader, footer_part, framing, HasFooter, HasHeader, Spells, IsFramed, IsFramingFault}
+use Rattle.rusty_paseto_core.specs.Framing.{IsHeader, footer_part, framing}
+use Rattle.rusty_paseto_core.specs.Reading.{HasFooter, HasHeader, IsForm, IsFramed, IsFramingFault, Spells}
 use Rattle.rusty_paseto_parts.proofs.SectionLemmas.{HasNoDot-spelling, spelling-injective, sections-dot, sections-dotless}
 
 regroup : (version purpose section rest : List ℕ)
@@ -39,31 +40,33 @@ sections-framing version purpose header payload false footer h bytes footer_byte
     sections-header version purpose header (spelling payload) [] h
     ∙ ap (λ (parts : List (List ℕ)). version ∷ purpose ∷ parts) (rw append-nil (sections-dotless (spelling payload) (HasNoDot-spelling payload)))
 
--- a framing is framed
+-- a framing in a form that is read is framed
 pub framing-IsFramed : (version purpose header payload : List ℕ) (written : Bool) (footer : List ℕ) → IsHeader version purpose header
-    → IsBytes payload → IsBytes footer
+    → IsBytes payload → IsBytes footer → IsForm written footer
     → IsFramed version purpose footer (framing header payload written footer) payload
-framing-IsFramed version purpose header payload true footer h bytes footer_bytes =
+framing-IsFramed version purpose header payload true footer h bytes footer_bytes form =
     let e = sections-framing version purpose header payload true footer h bytes footer_bytes in
     record { count = rw e (lit≤ tt, lit≤ tt); footer = rw e refl; header = rw e (refl, refl); bytes = bytes; spells = rw e refl }
-framing-IsFramed version purpose header payload false footer h bytes footer_bytes =
+framing-IsFramed version purpose header payload false footer h bytes footer_bytes form =
     let e = sections-framing version purpose header payload false footer h bytes footer_bytes in
-    record { count = rw e (lit≤ tt, lit≤ tt); footer = rw e tt; header = rw e (refl, refl); bytes = bytes; spells = rw e refl }
+    record { count = rw e (lit≤ tt, lit≤ tt); footer = rw e form; header = rw e (refl, refl); bytes = bytes; spells = rw e refl }
 
 -- sections without a fault, joined by dots, are the framing of their payload
 joined : (version purpose header payload footer : List ℕ) (parts : List (List ℕ)) → header ≡ version ++ (46 ∷ (purpose ++ (46 ∷ [])))
     → HasCount parts → HasFooter footer parts → HasHeader version purpose parts → Spells payload parts
-    → (written : Bool) × (join_with_byte 46 parts ≡ framing header payload written footer)
+    → (written : Bool) × IsForm written footer × (join_with_byte 46 parts ≡ framing header payload written footer)
 unfolding framing footer_part
 joined version purpose header payload footer [] text count own_footer own_header spells = absurd (omega (arith, count.0))
 joined version purpose header payload footer (a ∷ []) text count own_footer own_header spells = absurd (omega (arith, count.0))
 joined version purpose header payload footer (a ∷ b ∷ []) text count own_footer own_header spells = absurd (omega (arith, count.0))
 joined version purpose header payload footer (a ∷ b ∷ c ∷ []) text count own_footer own_header spells = (
   false,
+  own_footer,
   rw (own_header.0, own_header.1, spells, text, regroup version purpose (spelling payload) [], append-nil) refl,
 )
 joined version purpose header payload footer (a ∷ b ∷ c ∷ d ∷ []) text count own_footer own_header spells = (
   true,
+  tt,
   rw (own_header.0, own_header.1, spells, own_footer, text, regroup version purpose (spelling payload) (46 ∷ spelling footer)) refl,
 )
 joined version purpose header payload footer (a ∷ b ∷ c ∷ d ∷ e ∷ parts) text count own_footer own_header spells =
@@ -73,12 +76,13 @@ join-sections : (token : List ℕ) → join_with_byte 46 (sections token) ≡ to
 unfolding sections
 join-sections token = join_with_byte-slice_split 46 token
 
--- what is framed is a framing
+-- what is framed is a framing, in a form that is read
 pub IsFramed-framing : (version purpose header footer token payload : List ℕ) → header ≡ version ++ (46 ∷ (purpose ++ (46 ∷ [])))
-    → IsFramed version purpose footer token payload → (written : Bool) × (token ≡ framing header payload written footer)
+    → IsFramed version purpose footer token payload
+    → (written : Bool) × IsForm written footer × (token ≡ framing header payload written footer)
 IsFramed-framing version purpose header footer token payload text f =
     let j = joined version purpose header payload footer (sections token) text f.count f.footer f.header f.spells in
-    (j.0, sym (join-sections token) ∙ j.1)
+    (j.0, j.1, sym (join-sections token) ∙ j.2)
 
 same_spelling : (a b : List ℕ) (parts : List (List ℕ)) → Spells a parts → Spells b parts → spelling a ≡ spelling b
 same_spelling a b [] ha hb = absurd ha

@@ -1,12 +1,12 @@
 pub mod Framed
+pub mod Unframed
+pub mod ReadingLaws
 pub mod Parts
 pub mod Written
-pub mod Unframed
-pub mod Pieces
 pub mod Tagged
-pub mod BoxedFacts
-pub mod Answered
 pub mod Opened
+pub mod EncodingBytes
+pub mod BoxedFacts
 pub mod Unboxed
 pub mod SignedMessage
 pub mod Signatures

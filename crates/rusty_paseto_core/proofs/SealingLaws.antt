@@ -1,23 +1,40 @@
 -- The laws of sealing and opening, and of signing and verifying.
-use Rattle.std.proofs.Common.{◌≡◌, ◌≢◌, ◌⊎◌, inl, inr, ℕ, List, [], ◌∷◌, ◌++◌, Bool, true, false, length, refl, ap, ◌∙◌, arith, length-append, lit≤}
-use Rattle.rusty_paseto_parts.specs.Header.{is_version}
+use Rattle.std.proofs.Common.{◌≡◌, ◌≢◌, ◌⊎◌, inl, inr, ℕ, List, [], ◌∷◌, ◌++◌, Bool, true, false, length, refl, ap, arith, length-append, lit≤}
 use Rattle.rusty_paseto_parts.specs.Section.{spelling}
 use Rattle.rusty_paseto_primitives.proofs.Blake2Lengths.{IsBytes-blake2b, length-blake2b}
-use Rattle.rusty_paseto_core.specs.Binding.{Binding}
-use Rattle.rusty_paseto_core.specs.Boxed.{token_nonce}
-use Rattle.rusty_paseto_core.specs.Suite.{Design, header}
-use Rattle.rusty_paseto_core.specs.Framing.{framing, footer_part}
-use Rattle.rusty_paseto_core.specs.Sealing.{sealing, sealed_payload}
-use Rattle.rusty_paseto_core.specs.HeaderLaws.{IsHeader-known}
-use Rattle.rusty_paseto_core.specs.Signature.{Validity}
-use Rattle.rusty_paseto_core.specs.Signed.{PublicDesign, public}
-use Rattle.rusty_paseto_core.proofs.Unboxed.{OpensBox-text}
-use Rattle.rusty_paseto_core.proofs.Verified.{IsSigned-text}
-use Rattle.rusty_paseto_core.specs.Laws.{BoxedSealingsOpen, BoxesHoldOneText, SealingsOpen, SignaturesHoldOneText, SigningsVerify, TextsHaveTwoForms}
+use Rattle.rusty_paseto_core.specs.Context.{Binding}
+use Rattle.rusty_paseto_core.specs.Framing.{IsHeader, framing, footer_part}
+use Rattle.rusty_paseto_core.specs.Laws.{BoxedSealingsOpen, BoxesHoldOneText, SealingsHoldOneText, SealingsOpen, SignaturesHoldOneText, SigningsVerify, TextsHaveTwoForms}
+use Rattle.rusty_paseto_core.specs.Local.{Design, IsLawful, header}
+use Rattle.rusty_paseto_core.specs.Local.Boxed.{box_opening, boxed_payload, token_nonce}
+use Rattle.rusty_paseto_core.specs.Local.Opening.{opening}
+use Rattle.rusty_paseto_core.specs.Local.Sealing.{sealing, sealed_payload}
+use Rattle.rusty_paseto_core.specs.Public.{PublicDesign, public}
+use Rattle.rusty_paseto_core.specs.Public as signed
+use Rattle.rusty_paseto_core.specs.Public.Scheme.{Refusal, Validity}
+use Rattle.rusty_paseto_core.specs.Public.Verifying.{verification}
+use Rattle.rusty_paseto_core.specs.Reading.{IsForm}
+use Rattle.rusty_paseto_core.proofs.Opened.{opening-lawful}
+use Rattle.rusty_paseto_core.proofs.ReadingLaws.{IsRead-text}
+use Rattle.rusty_paseto_core.proofs.Unboxed.{box_opening-lawful, sealing_parts}
+use Rattle.rusty_paseto_core.proofs.Verified.{verification-lawful}
 
-pub sealings_open : (design : Design) → SealingsOpen design
-sealings_open design binding nonce text written sealable =
-    record { utf8 = sealable.utf8; bytes = sealable.bytes; nonce = nonce; is_nonce = sealable.is_nonce; written = written; is_sealing = refl }
+module _ (design : Design) (law : IsLawful design) where
+  pub sealings_open : SealingsOpen design
+  sealings_open binding given text written is_nonce is_text form = record {
+    payload = sealed_payload design binding (design.token_nonce given text) text;
+    carried = record {
+      utf8 = is_text.utf8;
+      bytes = is_text.bytes;
+      carries = record { nonce = design.token_nonce given text; is_nonce = law.nonce given text is_nonce; is_sealed = refl };
+    };
+    written = written;
+    form = form;
+    is_framing = refl;
+  }
+
+  pub sealings_hold_one_text : SealingsHoldOneText design
+  sealings_hold_one_text binding footer_bytes = IsRead-text (opening design binding) (opening-lawful design law binding footer_bytes)
 
 -- a footer's section makes a token longer
 forms_apart : (front payload footer : List ℕ) → framing front payload true footer ≢ framing front payload false footer
@@ -27,36 +44,69 @@ forms_apart front payload footer same =
     let plain = length-append (front ++ spelling payload) [] in
     omega (arith, ap length same, longer, plain)
 
-form_of : (design : Design) (binding : Binding) (nonce text token : List ℕ) (own : List ℕ) (written : Bool) → own ≡ nonce
-    → token ≡ sealing design binding own written text
+form_of : (design : Design) (binding : Binding) (nonce text token payload own : List ℕ) (written : Bool) → own ≡ nonce
+    → payload ≡ sealed_payload design binding own text → token ≡ framing (header design) payload written binding.footer
     → (token ≡ sealing design binding nonce true text) ⊎ (token ≡ sealing design binding nonce false text)
-form_of design binding nonce text token own true same is = inl (is ∙ ap (λ (n : List ℕ). sealing design binding n true text) same)
-form_of design binding nonce text token own false same is = inr (is ∙ ap (λ (n : List ℕ). sealing design binding n false text) same)
+form_of design binding nonce text token payload own true same sealed is = inl (rw (is, sealed, same) refl)
+form_of design binding nonce text token payload own false same sealed is = inr (rw (is, sealed, same) refl)
+
+-- each form is one that is read
+each_form : (written : Bool) (footer : List ℕ) → IsForm written footer
+each_form true footer = tt
+each_form false footer = tt
 
 pub texts_have_two_forms : (design : Design) → TextsHaveTwoForms design
-texts_have_two_forms design binding nonce text sealable = record {
-  both = λ written. sealings_open design binding nonce text written sealable;
+texts_have_two_forms design binding nonce text is_nonce is_text = record {
+  both = λ written. record {
+    payload = sealed_payload design binding nonce text;
+    carried = record {
+      utf8 = is_text.utf8;
+      bytes = is_text.bytes;
+      carries = record { nonce = nonce; is_nonce = is_nonce; is_sealed = refl };
+    };
+    written = written;
+    form = each_form written binding.footer;
+    is_framing = refl;
+  };
   apart = forms_apart (header design) (sealed_payload design binding nonce text) binding.footer;
-  no_other = λ token opens same. form_of design binding nonce text token opens.nonce opens.written same opens.is_sealing;
+  no_other = λ token read same.
+      form_of design binding nonce text token read.payload read.carried.carries.nonce read.written same read.carried.carries.is_sealed read.is_framing;
 }
 
 pub boxed_sealings_open : BoxedSealingsOpen
-boxed_sealings_open box binding given text written token utf8 bytes same = record {
-  utf8 = utf8;
-  bytes = bytes;
-  nonce = token_nonce given text;
-  is_nonce = record { size = length-blake2b given 24 text (lit≤ tt); bytes = IsBytes-blake2b given 24 text };
-  written = written;
-  is_sealing = same;
-}
+boxed_sealings_open box binding given text written token is_text form same =
+    let nonce = token_nonce given text in
+    let parts = sealing_parts binding.footer written token (boxed_payload box binding nonce text) same in
+    record {
+      payload = parts.0;
+      carried = record {
+        utf8 = is_text.utf8;
+        bytes = is_text.bytes;
+        carries = record {
+          nonce = nonce;
+          is_nonce = record { size = length-blake2b given 24 text (lit≤ tt); bytes = IsBytes-blake2b given 24 text };
+          is_boxed = parts.1;
+        };
+      };
+      written = written;
+      form = form;
+      is_framing = parts.2;
+    }
 
 pub boxes_hold_one_text : BoxesHoldOneText
-boxes_hold_one_text = OpensBox-text
+boxes_hold_one_text box law binding key_size key_bytes footer_bytes =
+    IsRead-text (box_opening box binding) (box_opening-lawful box law binding key_size key_bytes footer_bytes)
 
-pub signings_verify : (valid : Validity) (design : PublicDesign) → SigningsVerify valid design
-signings_verify valid design binding text token written utf8 bytes signing =
-    record { utf8 = utf8; bytes = bytes; written = written; is_signing = signing }
+module _ (valid : Validity) (refused : Refusal) (design : PublicDesign) where
+  pub signings_verify : SigningsVerify valid refused design
+  signings_verify binding text token written is_text form signing = record {
+    payload = signing.payload;
+    carried = record { utf8 = is_text.utf8; bytes = is_text.bytes; carries = signing.signed };
+    written = written;
+    form = form;
+    is_framing = signing.is_framing;
+  }
 
-pub signatures_hold_one_text : (valid : Validity) (design : PublicDesign) → is_version design.version ≡ true → SignaturesHoldOneText valid design
-signatures_hold_one_text valid design known binding footer_bytes =
-    IsSigned-text valid design (IsHeader-known design.version public known refl) binding footer_bytes
+  pub signatures_hold_one_text : IsHeader design.version public (signed.header design) → SignaturesHoldOneText valid refused design
+  signatures_hold_one_text is_header binding footer_bytes =
+      IsRead-text (verification valid refused design binding) (verification-lawful valid refused design binding is_header footer_bytes)

@@ -2,8 +2,8 @@
 use Rattle.std.proofs.Common.{◌≡◌, ℕ, ◌-◌, Bool, true, false, if◌then◌else◌, List, [], ◌∷◌, ◌++◌, map, take, drop, Bor, refl, sym, ap, ◌∙◌}
 use Rattle.std.proofs.lemmas.List.{take-map, drop-map}
 use Rattle.rusty_paseto_parts.specs.PreAuthenticationEncoding.{pae}
-use Rattle.rusty_paseto_core.specs.Binding.{Binding}
-use Rattle.rusty_paseto_core.specs.Signed.{PublicDesign, header, message, where_bound}
+use Rattle.rusty_paseto_core.specs.Context.{Binding}
+use Rattle.rusty_paseto_core.specs.Public.{PublicDesign, header, message, where_bound}
 
 -- of five pieces those from the first or the second to the last or the last but one
 cut : (key header text footer assertion : List ℕ) (binds_key binds_assertion : Bool) (start end : ℕ)

@@ -5,10 +5,10 @@ use Rattle.std.specs.List.{copy_within}
 use Rattle.std.proofs.lemmas.List.{drop-take}
 use Rattle.std.proofs.lemmas.List.Edits.{take-paste}
 use Rattle.std.proofs.lemmas.Slice.Eq.{bytes_eq-Decides}
-use Rattle.rusty_paseto_core.specs.Binding.{Binding}
-use Rattle.rusty_paseto_core.specs.Suite.{Design}
-use Rattle.rusty_paseto_core.specs.Sealing.{tag_of}
-use Rattle.rusty_paseto_core.specs.Opening.{nonce_in, masked_in, tag_in, HasRoom, HasTag, HoldsText}
+use Rattle.rusty_paseto_core.specs.Context.{Binding}
+use Rattle.rusty_paseto_core.specs.Local.{Design}
+use Rattle.rusty_paseto_core.specs.Local.Sealing.{tag_of}
+use Rattle.rusty_paseto_core.specs.Local.Opening.{nonce_in, masked_in, tag_in, HasRoom, HasTag, HoldsText}
 
 -- the masked text, cut from the front first
 pub masked_slice : (payload : List ℕ) (end : ℕ) → 32 ≤ end → take (end - 32) (drop 32 payload) ≡ drop 32 (take end payload)

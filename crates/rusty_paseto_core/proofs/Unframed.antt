@@ -1,11 +1,11 @@
 -- What splitting a token gives, in the words of its framing.
-use Rattle.std.proofs.Common.{◌≡◌, ℕ, List, [], ◌∷◌, length, map, Bor, Option, Some, None, slice_index_or, IfSome, Result, Ok, Err, IfErr, ◌⊎◌, inl, inr, Bool, false, IsTrue, ◌↔◌, refl, arith, lit≤}
-use Rattle.std.specs.Option.{option_to_list}
+use Rattle.std.proofs.Common.{◌≡◌, ℕ, List, [], ◌∷◌, length, map, Bor, Option, Some, None, slice_index_or, Result, Ok, Err, IfErr, ◌⊎◌, inl, inr, Bool, false, IsTrue, ◌↔◌, refl, arith, lit≤}
+use Rattle.std.specs.Option.{option_map, option_to_list}
 use Rattle.rusty_paseto_parts.specs.Error.{IsMemory}
-use Rattle.rusty_paseto_parts.specs.Section.{HasCount, IsSectionFault, sections, spelling}
+use Rattle.rusty_paseto_parts.specs.Section.{HasCount, IsSectionFault, sections}
 use Rattle.rusty_paseto_parts.specs.declared.error.PasetoError.{PasetoError}
 use Rattle.rusty_paseto_parts.specs.declared.error.PasetoError.TheVariants.{Memory, PayloadBase64Decode}
-use Rattle.rusty_paseto_core.specs.Framing.{HasFooter, HasHeader, IsFramingFault}
+use Rattle.rusty_paseto_core.specs.Reading.{HasFooter, HasHeader, IsExpected, IsFramingFault}
 
 -- the texts that are lent
 abbrev pub texts : List (Bor (List ℕ)) → List (List ℕ)
@@ -25,15 +25,10 @@ module _ (version purpose payload footer : List ℕ) where
   split_count None = (lit≤ tt, lit≤ tt)
   split_count (Some section) = (lit≤ tt, lit≤ tt)
 
-  pub split_footer : (found : Option (Bor (List ℕ))) → IfSome found (λ section. section.now ≡ spelling footer)
+  pub split_footer : (found : Option (Bor (List ℕ))) → IsExpected footer (option_map (λ section. section.now) found)
       → HasFooter footer (version ∷ purpose ∷ payload ∷ texts (option_to_list found))
-  split_footer None h = tt
+  split_footer None h = h
   split_footer (Some section) h = h
-
-  pub split_other_footer : (found : Option (Bor (List ℕ))) → HasFooter footer (version ∷ purpose ∷ payload ∷ texts (option_to_list found))
-      → IfSome found (λ section. section.now ≡ spelling footer)
-  split_other_footer None h = tt
-  split_other_footer (Some section) h = h
 
 pub if_err : {T E : Type 0} (result : Result T E) (P Q : E → Type 0) → ((error : E) → P error → Q error) → IfErr result P → IfErr result Q
 if_err (Ok _) P Q step h = tt
@@ -41,7 +36,7 @@ if_err (Err error) P Q step h = step error h
 
 module _ (own_version own_purpose footer token version purpose payload : List ℕ) (found : Option (Bor (List ℕ)))
     (split : sections token ≡ version ∷ purpose ∷ payload ∷ texts (option_to_list found))
-    (own_footer : IfSome found (λ section. section.now ≡ spelling footer)) where
+    (own_footer : IsExpected footer (option_map (λ section. section.now) found)) where
   -- a third section that spells nothing, behind the expected footer and header
   pub split_fault : (error : PasetoError) → (version ≡ own_version) × (purpose ≡ own_purpose) → IsSectionFault payload error
       → IsMemory error ⊎ IsFramingFault own_version own_purpose footer token error

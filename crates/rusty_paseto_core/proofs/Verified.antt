@@ -1,20 +1,18 @@
--- Signing and verifying: a signing is a framed payload with a valid signature, what verifying reads is a
--- signing, a token is one of one text, and a token that is validly signed has no fault.
-use Rattle.std.proofs.Common.{◌≡◌, ℕ, ◌-◌, List, ◌++◌, sym, ◌∙◌, subst, arith, inl, inr, ◌⊎◌, Result, IfOk, IfErr, String, Global, length, take, drop, length-append, length-drop}
+-- Signed payloads: what verifying reads is signed, and a signed payload is of one text and has no fault.
+use Rattle.std.proofs.Common.{◌≡◌, ℕ, ◌-◌, List, ◌++◌, sym, ◌∙◌, subst, arith, inl, inr, Result, Ok, Err, IfOk, String, Global, length, take, drop, length-append, length-drop}
 use Rattle.std.proofs.lemmas.List.{take_at, drop_at, take-append-drop}
 use Rattle.std.specs.Str.{IsUtf8}
 use Rattle.std.specs.String.{string_bytes}
 use Rattle.rusty_paseto_primitives.specs.Bytes.{IsBytes}
 use Rattle.rusty_paseto_primitives.proofs.ByteLists.{IsBytes-append, IsBytes-take, IsBytes-drop}
-use Rattle.rusty_paseto_parts.specs.Error.{IsMemory}
 use Rattle.rusty_paseto_parts.specs.declared.error.PasetoError.{PasetoError}
-use Rattle.rusty_paseto_core.specs.Binding.{Binding}
-use Rattle.rusty_paseto_core.specs.Framing.{IsFramed, IsFramingFault, IsHeader}
-use Rattle.rusty_paseto_core.specs.Signature.{Refusal, Validity}
-use Rattle.rusty_paseto_core.specs.Signed.{PublicDesign, header, public}
-use Rattle.rusty_paseto_core.specs.Signed.Verifying.{HasRoom, HasSignature, HoldsSigned, IsSigned, IsSignedFault, IsVerifyFault, signature_in, text_in}
-use Rattle.rusty_paseto_core.proofs.Answered.{fault_as, opened_as}
-use Rattle.rusty_paseto_core.proofs.Framed.{framing-IsFramed, IsFramed-framing, IsFramed-payload, IsFramed-fault}
+use Rattle.rusty_paseto_core.specs.Context.{Binding}
+use Rattle.rusty_paseto_core.specs.Framing.{IsHeader}
+use Rattle.rusty_paseto_core.specs.Public.{PublicDesign, header, public}
+use Rattle.rusty_paseto_core.specs.Public.Scheme.{Refusal, Validity}
+use Rattle.rusty_paseto_core.specs.Public.Verifying.{HasRoom, HasSignature, HoldsSigned, IsSignedFault, signature_in, text_in, verification}
+use Rattle.rusty_paseto_core.specs.Reading.{CarriesText}
+use Rattle.rusty_paseto_core.proofs.ReadingLaws.{IsLawfulReading}
 
 -- the parts of a text and a signature, joined
 module _ (design : PublicDesign) (text signature : List ℕ) (size : length signature ≡ design.signature_length) where
@@ -33,102 +31,65 @@ module _ (design : PublicDesign) (text signature : List ℕ) (size : length sign
 -- a payload that ends in a valid signature holds what stands before it
 pub holds_signed : (valid : Validity) (design : PublicDesign) (binding : Binding) (payload kept : List ℕ) (size : ℕ)
     → HasRoom design payload → HasSignature valid design binding payload
-    → design.signature_length ≡ size → kept ≡ take (length payload - size) payload → IsUtf8 kept
+    → size ≡ design.signature_length → kept ≡ take (length payload - size) payload → IsUtf8 kept
     → HoldsSigned valid design binding payload kept
 holds_signed valid design binding payload kept size room signed own kept_is utf8 =
-    record { room = room; is_valid = signed; text_is = rw own (sym kept_is); utf8 = utf8 }
+    record { room = room; is_valid = signed; text_is = rw (← own) (sym kept_is); utf8 = utf8 }
 
-module _ (valid : Validity) (design : PublicDesign) (is_header : IsHeader design.version public (header design)) (binding : Binding) where
-  -- a payload that holds a text has no fault
-  HoldsSigned-fault : (refused : Refusal) (payload text : List ℕ) (error : PasetoError) → HoldsSigned valid design binding payload text
-      → IsSignedFault valid refused design binding payload error → ⊥
-  HoldsSigned-fault refused payload text error holds (inl short) = short.0 holds.room
-  HoldsSigned-fault refused payload text error holds (inr (inl refusal)) = refusal.1 holds.is_valid
-  HoldsSigned-fault refused payload text error holds (inr (inr no_text)) = no_text.2 (rw holds.text_is holds.utf8)
-
-  -- a text that a framed payload holds is one that the token signs
-  pub HoldsSigned-IsSigned : (token payload text : List ℕ) → IsFramed design.version public binding.footer token payload
-      → HoldsSigned valid design binding payload text → IsSigned valid design token binding text
-  HoldsSigned-IsSigned token payload text framed holds =
-      let form = IsFramed-framing design.version public (header design) binding.footer token payload is_header.text framed in
+module _ (valid : Validity) (refused : Refusal) (design : PublicDesign) (binding : Binding) where
+  -- what a payload holds is what it carries
+  HoldsSigned-carries : (payload text : List ℕ) → IsBytes payload → HoldsSigned valid design binding payload text
+      → CarriesText (verification valid refused design binding) payload text
+  HoldsSigned-carries payload text bytes holds =
       let end = length payload - design.signature_length in
       let whole : take end payload ++ drop end payload ≡ payload = take-append-drop end payload in
-      let text_bytes : IsBytes (take end payload) = IsBytes-take end payload framed.bytes in
+      let text_bytes : IsBytes (take end payload) = IsBytes-take end payload bytes in
       record {
         utf8 = holds.utf8;
         bytes = rw holds.text_is at text_bytes;
-        written = form.0;
-        is_signing = record {
+        carries = record {
           signature = signature_in design payload;
           size = omega (arith, length-drop end payload, holds.room);
-          bytes = IsBytes-drop end payload framed.bytes;
+          bytes = IsBytes-drop end payload bytes;
           is_valid = rw holds.text_is at holds.is_valid;
-          is_framing = rw (← holds.text_is, whole) form.1;
+          is_signed = rw (← holds.text_is) (sym whole);
         };
       }
 
-  module _ (footer_bytes : IsBytes binding.footer) (token text : List ℕ) (signed : IsSigned valid design token binding text) where
-    own_payload : List ℕ
-    own_payload = text ++ signed.is_signing.signature
+  -- and the other way
+  carries-HoldsSigned : (payload text : List ℕ) → CarriesText (verification valid refused design binding) payload text
+      → HoldsSigned valid design binding payload text
+  carries-HoldsSigned payload text carried =
+      let signature = carried.carries.signature in
+      let size = carried.carries.size in
+      let same = text-joined design text signature size in
+      subst (λ p. HoldsSigned valid design binding p text) (sym carried.carries.is_signed) (record {
+        room = room-joined design text signature size;
+        is_valid = rw (same, signature-joined design text signature size) carried.carries.is_valid;
+        text_is = same;
+        utf8 = carried.utf8;
+      })
 
-    own_framed : IsFramed design.version public binding.footer token own_payload
-    unfolding own_payload
-    own_framed =
-        subst (λ t. IsFramed design.version public binding.footer t (text ++ signed.is_signing.signature)) (sym signed.is_signing.is_framing)
-        (framing-IsFramed design.version public (header design) (text ++ signed.is_signing.signature) signed.written binding.footer is_header
-        (IsBytes-append text signed.is_signing.signature signed.bytes signed.is_signing.bytes) footer_bytes)
+  HoldsSigned-fault : (payload text : List ℕ) (error : PasetoError) → HoldsSigned valid design binding payload text
+      → IsSignedFault valid refused design binding payload error → ⊥
+  HoldsSigned-fault payload text error holds (inl short) = short.0 holds.room
+  HoldsSigned-fault payload text error holds (inr (inl refusal)) = refusal.1 holds.is_valid
+  HoldsSigned-fault payload text error holds (inr (inr no_text)) = no_text.2 (rw holds.text_is holds.utf8)
 
-    own_holds : HoldsSigned valid design binding own_payload text
-    unfolding own_payload
-    own_holds =
-        let signature = signed.is_signing.signature in
-        let size = signed.is_signing.size in
-        let same = text-joined design text signature size in
-        record {
-          room = room-joined design text signature size;
-          is_valid = rw (same, signature-joined design text signature size) signed.is_signing.is_valid;
-          text_is = same;
-          utf8 = signed.utf8;
-        }
+  pub verification-lawful : IsHeader design.version public (header design) → IsBytes binding.footer
+      → IsLawfulReading (verification valid refused design binding)
+  verification-lawful is_header footer_bytes = record {
+    is_header = is_header;
+    footer_bytes = footer_bytes;
+    payload_bytes = λ payload text carried. subst IsBytes (sym carried.carries.is_signed)
+        (IsBytes-append text carried.carries.signature carried.bytes carried.carries.bytes);
+    one_text = λ payload first second a b. sym (carries-HoldsSigned payload first a).text_is ∙ (carries-HoldsSigned payload second b).text_is;
+    no_fault = λ payload text error carried fault. HoldsSigned-fault payload text error (carries-HoldsSigned payload text carried) fault;
+  }
 
-    -- each framed payload of the token holds the text
-    pub IsSigned-holds : (payload : List ℕ) → IsFramed design.version public binding.footer token payload → HoldsSigned valid design binding payload text
-    IsSigned-holds payload framed =
-        let same : own_payload ≡ payload = IsFramed-payload design.version public binding.footer token own_payload payload own_framed framed in
-        rw (← same) own_holds
-
-    -- a token that is validly signed has no fault
-    pub IsSigned-fault : (refused : Refusal) (error : PasetoError) → IsVerifyFault valid refused design token binding error → ⊥
-    IsSigned-fault refused error (inl fault) = IsFramed-fault design.version public binding.footer token own_payload error own_framed fault
-    IsSigned-fault refused error (inr fault) = HoldsSigned-fault refused fault.0 text error (IsSigned-holds fault.0 fault.1) fault.2
-
-  -- a token is one of one text
-  pub IsSigned-text : (footer_bytes : IsBytes binding.footer) (token first second : List ℕ) → IsSigned valid design token binding first
-      → IsSigned valid design token binding second → first ≡ second
-  IsSigned-text footer_bytes token first second a b =
-      let held = IsSigned-holds footer_bytes token second b (own_payload footer_bytes token first a) (own_framed footer_bytes token first a) in
-      sym (own_holds footer_bytes token first a).text_is ∙ held.text_is
-
-  -- a fault of the framing, as a fault of the token
-  pub framing_IsVerifyFault : (refused : Refusal) (version footer token : List ℕ) (error : PasetoError) → design.version ≡ version → footer ≡ binding.footer
-      → IsMemory error ⊎ IsFramingFault version public footer token error → IsMemory error ⊎ IsVerifyFault valid refused design token binding error
-  framing_IsVerifyFault refused version footer token error own same (inl memory) = inl memory
-  framing_IsVerifyFault refused version footer token error own same (inr fault) = inr (inl (rw (own, ← same) fault))
-
-  module _ (version footer token payload : List ℕ) (own : design.version ≡ version) (same : footer ≡ binding.footer)
-      (framed : IsFramed version public footer token payload) where
-    expected : IsFramed design.version public binding.footer token payload
-    expected = rw (own, ← same) framed
-
-    -- what is answered of a framed payload, as an answer for the token
-    pub verify_opened : (answer : Result (String Global) PasetoError) → IfOk answer (λ found. HoldsSigned valid design binding payload (string_bytes found))
-        → IfOk answer (λ found. IsSigned valid design token binding (string_bytes found))
-    verify_opened =
-        opened_as (HoldsSigned valid design binding payload) (IsSigned valid design token binding)
-        (λ text holds. HoldsSigned-IsSigned token payload text expected holds)
-
-    pub verify_fault : (refused : Refusal) (answer : Result (String Global) PasetoError) → IfErr answer (λ error. IsMemory error ⊎ IsSignedFault valid refused design binding payload error)
-        → IfErr answer (λ error. IsMemory error ⊎ IsVerifyFault valid refused design token binding error)
-    verify_fault refused =
-        fault_as (IsSignedFault valid refused design binding payload) (IsVerifyFault valid refused design token binding)
-        (λ error fault. inr (payload, expected, fault))
+  -- an answer by what the payload holds is one by what it carries
+  pub signed_carries : (payload : List ℕ) → IsBytes payload → (answer : Result (String Global) PasetoError)
+      → IfOk answer (λ found. HoldsSigned valid design binding payload (string_bytes found))
+      → IfOk answer (λ found. CarriesText (verification valid refused design binding) payload (string_bytes found))
+  signed_carries payload bytes (Ok found) holds = HoldsSigned-carries payload (string_bytes found) bytes holds
+  signed_carries payload bytes (Err error) holds = tt

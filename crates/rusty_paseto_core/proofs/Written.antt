@@ -1,9 +1,9 @@
 -- The payload of a sealed token, written piece by piece.
 use Rattle.std.proofs.Common.{◌≡◌, ℕ, List, ◌++◌, length, take, drop, refl}
 use Rattle.std.proofs.lemmas.List.{take_at, drop_at}
-use Rattle.rusty_paseto_core.specs.Binding.{Binding}
-use Rattle.rusty_paseto_core.specs.Suite.{Design}
-use Rattle.rusty_paseto_core.specs.Sealing.{sealed_payload, tag_of}
+use Rattle.rusty_paseto_core.specs.Context.{Binding}
+use Rattle.rusty_paseto_core.specs.Local.{Design}
+use Rattle.rusty_paseto_core.specs.Local.Sealing.{sealed_payload, tag_of}
 
 pub written_payload : (design : Design) (binding : Binding) (nonce text front masked whole : List ℕ) → length nonce ≡ 32
     → front ≡ nonce ++ text

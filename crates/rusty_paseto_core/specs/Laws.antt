@@ -1,69 +1,75 @@
 -- Laws of sealing and opening, and of signing and verifying.
-use Rattle.std.specs.Prelude.{◌≡◌, ◌≢◌, ◌⊎◌, ℕ, Bool, true, false, List, [], Option, Some, None, IsUtf8}
+use Rattle.std.specs.Prelude.{◌≡◌, ◌≢◌, ◌⊎◌, ℕ, Bool, true, false, List, [], Option, Some, None, IsUtf8, length}
 use Rattle.rusty_paseto_primitives.specs.Bytes.{IsBytes}
 use Rattle.rusty_paseto_parts.specs.Footer.{footer_text}
 use Rattle.rusty_paseto_parts.specs.ImplicitAssertion.{assertion_text}
 use Rattle.rusty_paseto_parts.specs.declared.texts.footer.Footer.{Footer}
 use Rattle.rusty_paseto_parts.specs.declared.texts.implicit_assertion.ImplicitAssertion.{ImplicitAssertion}
-use Rattle.rusty_paseto_core.specs.Binding.{Binding, binding_of}
-use Rattle.rusty_paseto_core.specs.Boxed.{token_nonce}
-use Rattle.rusty_paseto_core.specs.Boxed.Opening.{OpensBox}
-use Rattle.rusty_paseto_core.specs.Boxed.Sealing.{boxed_sealing}
-use Rattle.rusty_paseto_core.specs.SealedBox.{BoxSealing, IsLawfulBox}
-use Rattle.rusty_paseto_core.specs.Signature.{Validity}
-use Rattle.rusty_paseto_core.specs.Signed.{PublicDesign}
-use Rattle.rusty_paseto_core.specs.Signed.Signing.{IsSigning}
-use Rattle.rusty_paseto_core.specs.Signed.Verifying.{IsSigned}
-use Rattle.rusty_paseto_core.specs.Suite.{Design, IsNonce}
-use Rattle.rusty_paseto_core.specs.Sealing.{sealing}
-use Rattle.rusty_paseto_core.specs.Opening.{Opens}
+use Rattle.rusty_paseto_core.specs.Context.{Binding, binding_of}
+use Rattle.rusty_paseto_core.specs.Local.{Design, IsNonce}
+use Rattle.rusty_paseto_core.specs.Local.Boxed.{box_opening, boxed_sealing, token_nonce}
+use Rattle.rusty_paseto_core.specs.Local.Opening.{opening}
+use Rattle.rusty_paseto_core.specs.Local.SealedBox.{BoxSealing, IsLawfulBox}
+use Rattle.rusty_paseto_core.specs.Local.Sealing.{sealing}
+use Rattle.rusty_paseto_core.specs.Public.{PublicDesign}
+use Rattle.rusty_paseto_core.specs.Public.Scheme.{Refusal, Validity}
+use Rattle.rusty_paseto_core.specs.Public.Signing.{IsSigning}
+use Rattle.rusty_paseto_core.specs.Public.Verifying.{verification}
+use Rattle.rusty_paseto_core.specs.Reading.{IsForm, IsRead, Reading}
 
--- what is to be sealed: a text, and the token's nonce
-pub record IsSealable (nonce text : List ℕ) : Type 0 where
-  pub is_nonce : IsNonce nonce
+-- bytes that are a text
+pub record IsText (text : List ℕ) : Type 0 where
   pub utf8 : IsUtf8 text
   pub bytes : IsBytes text
 
--- a sealing opens to its text, with its footer's section or without
+-- what is sealed with a given nonce opens to its text, in each form that the footer allows
 abbrev pub SealingsOpen : Design → Type 0
-SealingsOpen design = (binding : Binding) (nonce text : List ℕ) (written : Bool) → IsSealable nonce text
-    → Opens design (sealing design binding nonce written text) binding text
+SealingsOpen design = (binding : Binding) (given text : List ℕ) (written : Bool) → IsNonce given → IsText text
+    → IsForm written binding.footer
+    → IsRead (opening design binding) (sealing design binding (design.token_nonce given text) written text) text
 
--- two tokens and no more open to a text under one key, nonce, footer and assertion
+-- two tokens and no more open to a text under one key, token nonce, footer and assertion
 pub record HasTwoForms (design : Design) (binding : Binding) (nonce text : List ℕ) : Type 0 where
-  pub both : (written : Bool) → Opens design (sealing design binding nonce written text) binding text
+  pub both : (written : Bool) → IsRead (opening design binding) (sealing design binding nonce written text) text
   pub apart : sealing design binding nonce true text ≢ sealing design binding nonce false text
-  pub no_other : (token : List ℕ) (opens : Opens design token binding text) → opens.nonce ≡ nonce
+  pub no_other : (token : List ℕ) (read : IsRead (opening design binding) token text) → read.carried.carries.nonce ≡ nonce
       → (token ≡ sealing design binding nonce true text) ⊎ (token ≡ sealing design binding nonce false text)
 
--- each text that can be sealed has its two forms
+-- each text has its two forms under a nonce
 abbrev pub TextsHaveTwoForms : Design → Type 0
-TextsHaveTwoForms design = (binding : Binding) (nonce text : List ℕ) → IsSealable nonce text → HasTwoForms design binding nonce text
+TextsHaveTwoForms design = (binding : Binding) (nonce text : List ℕ) → IsNonce nonce → IsText text
+    → HasTwoForms design binding nonce text
 
--- what a box sealed opens to its text, with its footer's section or without
+-- what a box sealed with a given nonce opens to its text, in each form that the footer allows
 abbrev pub BoxedSealingsOpen : Type 0
 BoxedSealingsOpen = (box : BoxSealing) (binding : Binding) (given text : List ℕ) (written : Bool) (token : List ℕ)
-    → IsUtf8 text → IsBytes text
+    → IsText text → IsForm written binding.footer
     → boxed_sealing box binding (token_nonce given text) written text ≡ Some token
-    → OpensBox box token binding text
+    → IsRead (box_opening box binding) token text
 
--- a token that a box opens holds one text
+-- what was signed is validly signed for the same public key, in each form that the footer allows
+abbrev pub SigningsVerify : Validity → Refusal → PublicDesign → Type 0
+SigningsVerify valid refused design = (binding : Binding) (text token : List ℕ) (written : Bool) → IsText text
+    → IsForm written binding.footer → IsSigning valid design binding written text token
+    → IsRead (verification valid refused design binding) token text
+
+-- a token is read as one text
+abbrev pub HoldOneText : Reading → Type 0
+HoldOneText reading = (token first second : List ℕ) → IsRead reading token first → IsRead reading token second → first ≡ second
+
+-- a token is opened as one text
+abbrev pub SealingsHoldOneText : Design → Type 0
+SealingsHoldOneText design = (binding : Binding) → IsBytes binding.footer → HoldOneText (opening design binding)
+
+-- a token is opened by a box as one text
 abbrev pub BoxesHoldOneText : Type 0
-BoxesHoldOneText = (box : BoxSealing) → IsLawfulBox box → (binding : Binding) → IsBytes binding.footer
-    → (token first second : List ℕ) → OpensBox box token binding first → OpensBox box token binding second
-    → first ≡ second
+BoxesHoldOneText = (box : BoxSealing) → IsLawfulBox box → (binding : Binding) → length binding.key ≡ 32 → IsBytes binding.key
+    → IsBytes binding.footer → HoldOneText (box_opening box binding)
 
--- what was signed is validly signed for the same public key, with its footer's section or without
-abbrev pub SigningsVerify : Validity → PublicDesign → Type 0
-SigningsVerify valid design = (binding : Binding) (text token : List ℕ) (written : Bool) → IsUtf8 text → IsBytes text
-    → IsSigning valid design binding written text token
-    → IsSigned valid design token binding text
-
--- a token that is validly signed is one of one text
-abbrev pub SignaturesHoldOneText : Validity → PublicDesign → Type 0
-SignaturesHoldOneText valid design = (binding : Binding) → IsBytes binding.footer
-    → (token first second : List ℕ) → IsSigned valid design token binding first → IsSigned valid design token binding second
-    → first ≡ second
+-- a token is verified as one text
+abbrev pub SignaturesHoldOneText : Validity → Refusal → PublicDesign → Type 0
+SignaturesHoldOneText valid refused design = (binding : Binding) → IsBytes binding.footer
+    → HoldOneText (verification valid refused design binding)
 
 -- a token is bound to an empty footer as to an absent one
 abbrev pub EmptyFooterIsAbsent : Type 0

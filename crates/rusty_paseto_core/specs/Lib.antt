@@ -1,13 +1,9 @@
-pub mod Binding
-pub mod SealedBox
-pub mod Signature
-pub mod Suite
+pub mod Context
 pub mod Framing
 pub mod HeaderLaws
-pub mod Sealing
-pub mod Opening
-pub mod Boxed
-pub mod Signed
+pub mod Reading
+pub mod Local
+pub mod Public
 pub mod Laws
 pub use Rattle.rusty_paseto_parts.specs.Error
 pub use Rattle.rusty_paseto_parts.specs.Header

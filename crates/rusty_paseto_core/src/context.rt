@@ -1,27 +1,25 @@
-//! What a token is sealed under besides its nonce.
+//! What a token is bound to besides its key, its nonce and its text.
 
-ghost use Rattle.std.specs.Prelude.{◌≡◌, None, length};
+ghost use Rattle.std.specs.Prelude.{◌≡◌};
 ghost use Rattle.rusty_paseto_parts.specs.Footer.{footer_text};
 ghost use Rattle.rusty_paseto_parts.specs.ImplicitAssertion.{assertion_text};
 ghost use Rattle.rusty_paseto_primitives.specs.Bytes.{IsBytes};
-ghost use Rattle.rusty_paseto_core.specs.Binding.{Binding, binding_of};
+ghost use Rattle.rusty_paseto_core.specs.Context.{Context, context_of};
 
 use rusty_paseto_parts::{Footer, ImplicitAssertion};
 use std::marker::Model;
 
-/// The key, the footer and the implicit assertion, each lent by the caller.
+/// The footer and the implicit assertion, each lent by the caller.
 #[derive(Drop)]
 pub(crate) struct Context<'a> {
-    key: &'a [u8; 32],
     footer: Footer<'a>,
     assertion: ImplicitAssertion<'a>,
 }
 
 impl<'a> Model for Context<'a> {
-    ghost Value = { Binding };
+    ghost Value = { Context };
 
     ghost view = { λ context. record {
-      key = context.key.now;
       footer = footer_text context.footer;
       assertion = assertion_text context.assertion;
     } };
@@ -29,31 +27,13 @@ impl<'a> Model for Context<'a> {
 
 impl<'a> Context<'a> {
     /// An absent footer or assertion is the empty one.
-    pub(crate) fn new(
-        key: &'a [u8; 32],
-        footer: Option<Footer<'a>>,
-        assertion: Option<ImplicitAssertion<'a>>,
-    ) -> Self
-        ensures { result ≡ binding_of key.now footer.entry assertion.entry }
+    pub(crate) fn new(footer: Option<Footer<'a>>, assertion: Option<ImplicitAssertion<'a>>) -> Self
+        ensures { result ≡ context_of footer.entry assertion.entry }
     {
         Context {
-            key,
             footer: footer.unwrap_or_default(),
             assertion: assertion.unwrap_or_default(),
         }
-    }
-
-    /// The context of a version that has no implicit assertion.
-    pub(crate) fn without_assertion(key: &'a [u8; 32], footer: Option<Footer<'a>>) -> Self
-        ensures { result ≡ binding_of key.now footer.entry None }
-    {
-        Self::new(key, footer, None)
-    }
-
-    pub(crate) fn key(&self) -> &'a [u8; 32]
-        ensures { result.now ≡ self.now.key }
-    {
-        self.key
     }
 
     pub(crate) fn footer(&self) -> &'a [u8]

@@ -1,17 +1,13 @@
 //! The framing of a token, the same for all versions and purposes: a header, the payload's section,
 //! and the footer's where it is written.
 
-ghost use Rattle.std.specs.Prelude.{◌≡◌, ◌↔◌, ℕ, List, [], ◌∷◌, ◌⊎◌, IsTrue, IfOk, IfErr, OnOk, IfSome, is_some};
+ghost use Rattle.std.specs.Prelude.{◌≡◌, ◌+◌, ◌/◌, ◌^◌, ◌≤◌, IfOk, IfErr, IfSome, IsNone, is_some, length};
 ghost use Rattle.std.specs.String.{string_bytes};
 ghost use Rattle.rusty_paseto_parts.specs.Error.{IsMemory};
-ghost use Rattle.rusty_paseto_parts.specs.Section.{HasCount, sections, spelling};
-ghost use Rattle.rusty_paseto_core.specs.Binding.{footer_of};
-ghost use Rattle.rusty_paseto_core.specs.Framing.{IsFramed, IsFramingFault, framing};
+ghost use Rattle.rusty_paseto_core.specs.Context.{footer_of};
+ghost use Rattle.rusty_paseto_core.specs.Framing.{framing};
 
-use rusty_paseto_parts::{
-    Footer, PasetoError, PurposeTrait, VersionTrait, encode_section, from_section, split_token,
-    to_section,
-};
+use rusty_paseto_parts::{Footer, PasetoError, encode_section};
 use std::alloc::{AllocError, Global};
 
 /// The token of a payload, with the footer's section where a footer is given.
@@ -39,66 +35,28 @@ pub(crate) fn frame(
     Ok(token)
 }
 
-// Room for a token, or none where no `usize` holds the number. A section of n bytes has a third
-// more, rounded up.
-fn framed_len(header: &str, payload: &[u8], footer: Option<Footer<'_>>) -> Option<usize> {
-    let payload_len = payload.len().checked_add(payload.len() / 3)?;
-    let footer_len = match footer {
-        Some(footer) => footer
-            .as_str()
-            .len()
-            .checked_add(footer.as_str().len() / 3)?,
-        None => 0,
-    };
+// Room for a token, or `None` exactly where no `usize` holds the number. A section of n bytes has a
+// third more, rounded up.
+fn framed_len(header: &str, payload: &[u8], footer: Option<Footer<'_>>) -> Option<usize>
+    ensures some { let footer_length = length (footer_of footer.entry) in
+        IfSome result (λ room. room ≡ length header.now + (length payload.now + length payload.now / 3)
+        + (footer_length + footer_length / 3) + 3) }
+    ensures none { let footer_length = length (footer_of footer.entry) in
+        IsNone result → 2 ^ 64 ≤ length header.now + (length payload.now + length payload.now / 3)
+        + (footer_length + footer_length / 3) + 3 }
+{
+    let footer = footer.unwrap_or_default().as_bytes();
     header
         .len()
-        .checked_add(payload_len)?
-        .checked_add(footer_len)?
+        .checked_add(section_len(payload)?)?
+        .checked_add(section_len(footer)?)?
         .checked_add(3)
 }
 
-/// The payload of a token. Refused are, in this order: a number of sections other than three or
-/// four, a fourth section that is not the footer's, another header, and a third section that spells
-/// no bytes.
-pub(crate) fn unframe<V: VersionTrait, P: PurposeTrait>(
-    alloc: Global,
-    token: &str,
-    footer: &[u8],
-) -> Result<Vec<u8>, PasetoError>
-    ensures framed { IfOk result (λ payload. IsFramed V.text P.text footer.now token.now payload.items) }
-    ensures fault { IfErr result (λ error. IsMemory error ⊎ IsFramingFault V.text P.text footer.now token.now error) }
-    ensures count { ¬ HasCount (sections token.now) → result ≡ Err PasetoError.IncorrectSize }
+// A third more than the bytes, rounded down, or `None` exactly where no `usize` holds the number.
+fn section_len(bytes: &[u8]) -> Option<usize>
+    ensures some { IfSome result (λ len. len ≡ length bytes.now + length bytes.now / 3) }
+    ensures none { IsNone result → 2 ^ 64 ≤ length bytes.now + length bytes.now / 3 }
 {
-    let Some(parts) = split_token(token) else {
-        return Err(PasetoError::IncorrectSize);
-    };
-    check_footer(alloc, parts.1, footer)?;
-    let required = parts.0;
-    if !is_header::<V, P>(required[0], required[1]) {
-        return Err(PasetoError::WrongHeader);
-    }
-    from_section(alloc, required[2])
-}
-
-// Whether these are the version's and the purpose's texts.
-fn is_header<V: VersionTrait, P: PurposeTrait>(version: &str, purpose: &str) -> bool
-    ensures { IsTrue result ↔ ((version.now ≡ V.text) × (purpose.now ≡ P.text)) }
-{
-    version == V::default().as_str() && purpose == P::default().as_str()
-}
-
-// A footer's section, where there is one, has to spell the expected footer.
-fn check_footer(alloc: Global, found: Option<&str>, footer: &[u8]) -> Result<(), PasetoError>
-    ensures ok { OnOk result (IfSome found.entry (λ section. section.now ≡ spelling footer.now)) }
-    ensures err { IfErr result (λ error. IsMemory error
-        ⊎ ((error ≡ PasetoError.FooterInvalid) × (¬ IfSome found.entry (λ section. section.now ≡ spelling footer.now)))) }
-{
-    let Some(section) = found else {
-        return Ok(());
-    };
-    let expected = to_section(alloc, footer)?;
-    if section != expected.as_str() {
-        return Err(PasetoError::FooterInvalid);
-    }
-    Ok(())
+    bytes.len().checked_add(bytes.len() / 3)
 }

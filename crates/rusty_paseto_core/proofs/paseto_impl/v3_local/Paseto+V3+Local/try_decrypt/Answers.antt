@@ -1,4 +1,0 @@
-use Rattle.rusty_paseto_core.proofs.paseto_impl.v3_local.Paseto+V3+Local.try_decrypt.Goals as goal
-
-pub returns-clause-fault : goal.returns-clause-fault
-returns-clause-fault c = simp (c.new-context.ensures, c.as_bytes.ensures.bytes) at c.open.ensures.fault

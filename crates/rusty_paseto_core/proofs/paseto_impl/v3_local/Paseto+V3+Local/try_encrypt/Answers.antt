@@ -1,6 +1,0 @@
-use Rattle.rusty_paseto_core.specs.Suite.V3.{v3}
-use Rattle.rusty_paseto_core.proofs.paseto_impl.v3_local.Paseto+V3+Local.try_encrypt.Goals as goal
-
-pub returns-clause-ok : goal.returns-clause-ok
-unfolding v3
-returns-clause-ok c = simp (c.as_bytes.ensures.bytes, c.as_bytes-2.ensures.bytes, c.as_str.ensures) at c.seal.ensures.ok

@@ -1,0 +1,90 @@
+//! Local tokens: a text encrypted and authenticated under one key (PASETO specification, "Version 1" to
+//! "Version 4").
+
+ghost use Rattle.std.specs.Prelude.{◌≡◌, ℕ, ◌≤◌, Bool, List, IsTrue, map, length};
+ghost use Rattle.rusty_paseto_parts.specs.PreAuthenticationEncoding.{pae};
+ghost use Rattle.rusty_paseto_core.specs.Local.{Design, IsLawful, header};
+
+use rusty_paseto_parts::VersionTrait;
+
+mod boxed;
+mod boxed_tokens;
+pub(crate) mod nist;
+pub(crate) mod opening;
+pub(crate) mod sealed_box;
+pub(crate) mod sealing;
+mod tokens;
+mod v1;
+mod v3;
+pub(crate) mod v4;
+
+pub use tokens::LocalVersion;
+
+/// How many bytes a token's nonce has in the versions 1, 3 and 4.
+pub(crate) const NONCE_LENGTH: usize = 32;
+
+/// Goes into the derivation of the encryption key, so that it differs from the authentication key.
+const ENCRYPTION: &[u8; 21] = b"paseto-encryption-key";
+
+/// Goes into the derivation of the authentication key.
+const AUTHENTICATION: &[u8; 24] = b"paseto-auth-key-for-aead";
+
+/// The header, the key split, the cipher and the tag of a version's local tokens.
+///
+/// Sealing and opening are written and proved once, over this trait.
+pub(crate) trait LocalSuite: VersionTrait {
+    /// The keys that one token is encrypted and authenticated with.
+    type Keys: Copy;
+
+    // What the version means.
+    ghost design: { Design };
+
+    // Whether these are the keys into which a key is split under a nonce.
+    ghost IsSplit: { Self.Keys → List ℕ → List ℕ → Type 0 };
+
+    /// How many bytes a tag has.
+    ghost TAG_LENGTH: { ℕ };
+
+    const TAG_LENGTH: usize;
+
+    /// Whether the tag covers the implicit assertion.
+    ghost BINDS_ASSERTION: { Bool };
+
+    const BINDS_ASSERTION: bool;
+
+    /// The header that begins the version's local tokens.
+    fn header() -> &'static str
+        ensures { result.now ≡ header design };
+
+    /// The nonce of a token, from the nonce that was given and the text.
+    fn token_nonce(given: &[u8], text: &[u8]) -> [u8; 32]
+        requires { length given.now ≡ 32 }
+        ensures { result ≡ design.token_nonce given.now text.now };
+
+    /// The keys of a token, from the key and the token's nonce.
+    fn split(key: &[u8; 32], nonce: &[u8; 32]) -> Self::Keys
+        ensures { IsSplit result key.now nonce.now };
+
+    /// Encrypts a text, or decrypts it, in place.
+    fn mask(keys: &Self::Keys, bytes: &mut [u8])
+        ensures { (key nonce : List ℕ) → IsSplit keys.now key nonce → bytes.new ≡ design.mask key nonce bytes.old };
+
+    /// Writes the tag of the pieces. The pieces are taken one by one, with no copy of them.
+    fn write_tag(keys: &Self::Keys, pieces: &[&[u8]], tag: &mut [u8])
+        requires { length tag.old ≡ design.tag_length }
+        ensures { (key nonce : List ℕ) → IsSplit keys.now key nonce
+            → tag.new ≡ design.tag (design.authentication_key key nonce) (pae (map (λ piece. piece.now) pieces.now)) };
+
+    ghost lawful: { IsLawful design };
+
+    ghost has_version: { design.version ≡ Self.text };
+
+    ghost has_tag_length: { design.tag_length ≡ TAG_LENGTH };
+
+    ghost short_tag: { TAG_LENGTH ≤ 48 };
+
+    ghost has_assertion: { design.binds_assertion ≡ BINDS_ASSERTION };
+
+    // No nonce has another length than 32 bytes.
+    ghost has_nonces_of_32_alone: { (n : ℕ) → IsTrue (Self.nonce_length n) → n ≡ 32 };
+}

@@ -1,0 +1,183 @@
+//! Local tokens of the versions that need nothing handed in: 1, 3 and 4.
+
+ghost use Rattle.std.specs.Prelude.{◌≡◌, true, false, None, IfOk, IfErr, is_some};
+ghost use Rattle.std.specs.String.{string_bytes};
+ghost use Rattle.rusty_paseto_parts.specs.Error.{IsMemory};
+ghost use Rattle.rusty_paseto_parts.specs.Payload.{payload_text};
+ghost use Rattle.rusty_paseto_core.specs.Context.{binding_of};
+ghost use Rattle.rusty_paseto_core.specs.Local.Opening.{opening};
+ghost use Rattle.rusty_paseto_core.specs.Local.Sealing.{sealing};
+ghost use Rattle.rusty_paseto_core.specs.Local.V1.{v1};
+ghost use Rattle.rusty_paseto_core.specs.Reading.{IsAnswer};
+
+use crate::context::Context;
+use crate::local::LocalSuite;
+use crate::local::opening::open;
+use crate::local::sealing::seal;
+use crate::paseto::{AssertionVersion, Paseto};
+use rusty_paseto_parts::{
+    Footer, ImplicitAssertion, Local, PasetoError, PasetoNonce, PasetoSymmetricKey, Payload, V1,
+    V3, V4,
+};
+use std::alloc::Global;
+
+/// A version whose local tokens are sealed and opened with nothing handed in: 1, 3 and 4.
+///
+/// Code that serves these versions alike is written over this trait. Code for one of them uses
+/// `try_encrypt` and `try_decrypt` of `Paseto`.
+pub trait LocalVersion: LocalSuite {
+    /// The implicit assertion in a version that has one, and none in version 1.
+    final fn bound_assertion(
+        implicit_assertion: Option<ImplicitAssertion<'_>>,
+    ) -> Option<ImplicitAssertion<'_>>
+        ensures bound { Self.design.binds_assertion ≡ true → result ≡ implicit_assertion.entry }
+        ensures none { Self.design.binds_assertion ≡ false → result ≡ None }
+    {
+        if Self::BINDS_ASSERTION {
+            implicit_assertion
+        } else {
+            None
+        }
+    }
+
+    /// Seals a payload, as `try_encrypt` of `Paseto` does. In version 1, which has no implicit assertion,
+    /// none may be given.
+    final fn seal(
+        alloc: Global,
+        key: &PasetoSymmetricKey<Self, Local>,
+        nonce: &PasetoNonce<'_, Self, Local>,
+        payload: Payload<'_>,
+        footer: Option<Footer<'_>>,
+        implicit_assertion: Option<ImplicitAssertion<'_>>,
+    ) -> Result<String, PasetoError>
+        requires { Self.design.binds_assertion ≡ false → implicit_assertion ≡ None }
+        ensures ok { let binding = binding_of key.now footer.entry implicit_assertion.entry in
+            let text = payload_text payload.entry in
+            IfOk result (λ token. string_bytes token
+            ≡ sealing Self.design binding (Self.design.token_nonce nonce.now text) (is_some footer.entry) text) }
+        ensures err { IfErr result IsMemory }
+    {
+        seal::<Self>(
+            alloc,
+            key.as_bytes(),
+            nonce.as_bytes(),
+            payload.as_str(),
+            footer,
+            implicit_assertion,
+        )
+    }
+
+    /// Opens a token, as `try_decrypt` of `Paseto` does, with the same faults. In version 1, which has no
+    /// implicit assertion, none may be given.
+    final fn open(
+        alloc: Global,
+        token: &str,
+        key: &PasetoSymmetricKey<Self, Local>,
+        footer: Option<Footer<'_>>,
+        implicit_assertion: Option<ImplicitAssertion<'_>>,
+    ) -> Result<String, PasetoError>
+        requires { Self.design.binds_assertion ≡ false → implicit_assertion ≡ None }
+        ensures { let binding = binding_of key.now footer.entry implicit_assertion.entry in
+            IsAnswer (opening Self.design binding) token.now result }
+    {
+        open::<Self>(
+            alloc,
+            token,
+            key.as_bytes(),
+            &Context::new(footer, implicit_assertion),
+        )
+    }
+}
+
+impl LocalVersion for V1 {}
+
+impl LocalVersion for V3 {}
+
+impl LocalVersion for V4 {}
+
+impl<V: LocalVersion> Paseto<'_, V, Local> {
+    /// Seals the payload: encrypts it and authenticates it together with the footer and, in the versions
+    /// 3 and 4, the implicit assertion. Use each nonce once under a key.
+    ///
+    /// In the versions 3 and 4 the nonce stands in the token as it is given. In version 1 the token's
+    /// nonce is made of the given one and the payload, so that the given one is not seen.
+    ///
+    /// The token has a footer section exactly where a footer was set. The only error is `Memory`.
+    ///
+    /// ```rust
+    /// let mut paseto = Paseto::<V4, Local>::builder();
+    /// paseto.set_payload(Payload::from("hello")).set_footer(Footer::from("key-1"));
+    /// let token = paseto.try_encrypt(alloc, &key, &nonce)?;
+    /// ```
+    ///
+    /// Source: PASETO specification, "Version 1", "Version 3" and "Version 4", "Encrypt".
+    pub fn try_encrypt(
+        &self,
+        alloc: Global,
+        key: &PasetoSymmetricKey<V, Local>,
+        nonce: &PasetoNonce<'_, V, Local>,
+    ) -> Result<String, PasetoError>
+        ensures ok { let binding = binding_of key.now self.now.footer self.now.implicit_assertion in
+            let text = payload_text self.now.payload in
+            IfOk result (λ token. string_bytes token
+            ≡ sealing V.design binding (V.design.token_nonce nonce.now text) (is_some self.now.footer) text) }
+        ensures err { IfErr result IsMemory }
+    {
+        seal::<V>(
+            alloc,
+            key.as_bytes(),
+            nonce.as_bytes(),
+            self.payload.as_str(),
+            self.footer,
+            self.implicit_assertion,
+        )
+    }
+}
+
+impl<V: AssertionVersion> Paseto<'_, V, Local> {
+    /// Opens a token: the text that was sealed under this key, footer and implicit assertion. An
+    /// absent footer or assertion and the empty one are the same.
+    ///
+    /// Else it answers the first of these: `IncorrectSize` for a number of sections other than three
+    /// or four, `FooterInvalid` for a fourth section that is not the footer's, `WrongHeader`,
+    /// `PayloadBase64Decode`, `IncorrectSize` for a payload with no room for a nonce and a tag,
+    /// `Cryption` for another tag, `Utf8Error` for bytes that are no text. `Memory` may come in place
+    /// of any answer but the first.
+    ///
+    /// Source: PASETO specification, "Version 3" and "Version 4", "Decrypt".
+    pub fn try_decrypt(
+        alloc: Global,
+        token: &str,
+        key: &PasetoSymmetricKey<V, Local>,
+        footer: Option<Footer<'_>>,
+        implicit_assertion: Option<ImplicitAssertion<'_>>,
+    ) -> Result<String, PasetoError>
+        ensures { let binding = binding_of key.now footer.entry implicit_assertion.entry in
+            IsAnswer (opening V.design binding) token.now result }
+    {
+        open::<V>(
+            alloc,
+            token,
+            key.as_bytes(),
+            &Context::new(footer, implicit_assertion),
+        )
+    }
+}
+
+impl Paseto<'_, V1, Local> {
+    /// Opens a token of version 1: the text that was sealed under this key and footer. An absent footer
+    /// and the empty one are the same. The faults are those of the versions 3 and 4, in the same order.
+    ///
+    /// Source: PASETO specification, "Version 1", "Decrypt".
+    pub fn try_decrypt(
+        alloc: Global,
+        token: &str,
+        key: &PasetoSymmetricKey<V1, Local>,
+        footer: Option<Footer<'_>>,
+    ) -> Result<String, PasetoError>
+        ensures { let binding = binding_of key.now footer.entry None in
+            IsAnswer (opening v1 binding) token.now result }
+    {
+        open::<V1>(alloc, token, key.as_bytes(), &Context::new(footer, None))
+    }
+}

@@ -1,0 +1,94 @@
+//! Version 3: HKDF-SHA384 splits the key, AES-256 in counter mode encrypts the text and HMAC-SHA384
+//! makes the tag (PASETO specification, "Version 3").
+
+ghost use Rattle.std.specs.Prelude.{◌≡◌, ◌+◌, ◌++◌, ◌≤◌, true, drop, length};
+ghost use Rattle.rusty_paseto_core.specs.Local.V3.{v3, authentication_key, counter, encryption_key};
+ghost use Rattle.rusty_paseto_core.specs.Local.V3Laws.{v3-IsLawful, v3-binds_assertion, v3-tag_length, v3-version};
+ghost use Rattle.std.proofs.Common.{rules};
+
+use crate::local::nist::{NistKeys, expand, front};
+use crate::local::{AUTHENTICATION, ENCRYPTION, LocalSuite};
+use crate::tag::write_hmac;
+use rusty_paseto_parts::V3;
+use rusty_paseto_primitives::{aes256_ctr_apply, hkdf_sha384_extract};
+
+#[tactic(auto, unfolding(crate::specs::Local::V3::v3, rusty_paseto_parts::specs::Header::header_text, rusty_paseto_primitives::specs::Hkdf::hkdf))]
+impl LocalSuite for V3 {
+    type Keys = NistKeys<48>;
+
+    ghost design = { v3 };
+
+    ghost IsSplit = { λ keys key nonce. (keys.encryption_key ≡ encryption_key key nonce)
+        × (keys.counter ≡ counter key nonce) × (keys.authentication_key ≡ authentication_key key nonce) };
+
+    ghost TAG_LENGTH = { 48 };
+
+    const TAG_LENGTH: usize = 48;
+
+    ghost BINDS_ASSERTION = { true };
+
+    const BINDS_ASSERTION: bool = true;
+
+    fn header() -> &'static str {
+        "v3.local."
+    }
+
+    fn token_nonce(given: &[u8], _text: &[u8]) -> [u8; 32] {
+        let mut nonce = [0u8; 32];
+        nonce.copy_from_slice(given);
+        nonce
+    }
+
+    fn split(key: &[u8; 32], nonce: &[u8; 32]) -> NistKeys<48> {
+        let pseudorandom_key = hkdf_sha384_extract(&[], key);
+        let encryption_info: [u8; 53] = info(ENCRYPTION, nonce);
+        let authentication_info: [u8; 56] = info(AUTHENTICATION, nonce);
+        let keys: [u8; 48] = expand(&pseudorandom_key, &encryption_info);
+        NistKeys {
+            encryption_key: front(&keys),
+            counter: counter(&keys),
+            authentication_key: expand(&pseudorandom_key, &authentication_info),
+        }
+    }
+
+    fn mask(keys: &NistKeys<48>, bytes: &mut [u8]) {
+        aes256_ctr_apply(&keys.encryption_key, &keys.counter, bytes);
+    }
+
+    fn write_tag(keys: &NistKeys<48>, pieces: &[&[u8]], tag: &mut [u8]) {
+        write_hmac(&keys.authentication_key, pieces, tag);
+    }
+
+    ghost lawful = { v3-IsLawful };
+
+    ghost has_version = { v3-version };
+
+    ghost has_tag_length = { v3-tag_length };
+
+    ghost short_tag = { Prim.search rules };
+
+    ghost has_assertion = { v3-binds_assertion };
+
+    ghost has_nonces_of_32_alone = { Prim.search rules };
+}
+
+// A separator, and the nonce behind it.
+fn info<const N: usize>(separator: &[u8], nonce: &[u8; 32]) -> [u8; N]
+    requires { N ≡ length separator.now + 32 }
+    ensures { result ≡ separator.now ++ nonce.now }
+{
+    let mut info = [0u8; N];
+    let space = &mut info[..];
+    space[..separator.len()].copy_from_slice(separator);
+    space[separator.len()..].copy_from_slice(nonce);
+    info
+}
+
+// The first counter block.
+fn counter(keys: &[u8; 48]) -> [u8; 16]
+    ensures { result ≡ drop 32 keys.now }
+{
+    let mut counter = [0u8; 16];
+    counter.copy_from_slice(&keys[32..]);
+    counter
+}

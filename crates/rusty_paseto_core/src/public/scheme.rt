@@ -1,0 +1,65 @@
+//! The signature scheme that a caller brings.
+
+ghost use Rattle.std.specs.Prelude.{◌≡◌, ◌⊎◌, ℕ, List, IfOk, IfErr, OnOk};
+ghost use Rattle.rusty_paseto_parts.specs.Error.{IsMemory};
+ghost use Rattle.rusty_paseto_core.specs.Public.Scheme.{Declining, Refusal, Validity};
+
+use rusty_paseto_parts::PasetoError;
+use std::alloc::Global;
+
+/// The signature scheme of public tokens, which a caller brings, with signatures of `SIG` bytes: 256
+/// for RSA in version 1, 64 for Ed25519 in versions 2 and 4, 96 for ECDSA in version 3.
+///
+/// The keys are slices, which a scheme reads in its own way, and the errors are its own. It may keep
+/// a source of random bytes, so that signing may change it. The toys of the crate `paseto_vectors` show
+/// how a scheme says what it means.
+///
+/// Source: PASETO specification, "Version 1" to "Version 4".
+pub trait SignatureScheme<const SIG: usize> {
+    // Whether a signature is valid for a public key and a message.
+    ghost valid: { Validity };
+
+    // The public key of a private key.
+    ghost partner: { List ℕ → List ℕ };
+
+    // The errors that may be answered for a public key, a message and a signature that is not valid.
+    ghost refused: { Refusal };
+
+    // The errors that may be answered for a private key.
+    ghost declined: { Declining };
+
+    /// A signature of a message that is valid for the private key's public key. It fails by an error of
+    /// the scheme's own, or by `Memory`.
+    fn sign(
+        &mut self,
+        alloc: Global,
+        private: &[u8],
+        message: &[u8],
+    ) -> Result<[u8; SIG], PasetoError>
+        ensures ok { IfOk result (λ signature. valid (partner private.now) message.now signature) }
+        ensures err { IfErr result (λ error. IsMemory error ⊎ declined private.now error) };
+
+    /// Is `Ok` exactly where the signature is valid for the public key and the message. Else it fails by
+    /// an error of the scheme's own. `Memory` may come in place of either.
+    fn verify(
+        &self,
+        alloc: Global,
+        public: &[u8],
+        message: &[u8],
+        signature: &[u8; SIG],
+    ) -> Result<(), PasetoError>
+        ensures ok { OnOk result (valid public.now message.now signature.now) }
+        ensures err { IfErr result (λ error. IsMemory error ⊎ ((¬ valid public.now message.now signature.now)
+            × refused public.now message.now signature.now error)) };
+}
+
+/// A signature scheme of version 3, which can tell the public key of a private key.
+///
+/// Source: PASETO specification, "Version 3"; SEC 1, section 2.3.3.
+pub trait CompressedKey: SignatureScheme<96> {
+    /// The public key of a private key: a compressed point, of 49 bytes. It fails by an error of the
+    /// scheme's own, or by `Memory`.
+    fn public_key(&self, alloc: Global, private: &[u8]) -> Result<[u8; 49], PasetoError>
+        ensures ok { IfOk result (λ public. public ≡ Self.partner private.now) }
+        ensures err { IfErr result (λ error. IsMemory error ⊎ Self.declined private.now error) };
+}

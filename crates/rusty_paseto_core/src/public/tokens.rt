@@ -1,0 +1,368 @@
+//! Public tokens of the four versions.
+
+ghost use Rattle.std.specs.Prelude.{◌≡◌, ℕ, List, false, None};
+ghost use Rattle.rusty_paseto_parts.specs.Payload.{payload_text};
+ghost use Rattle.rusty_paseto_parts.specs.declared.error.PasetoError.{PasetoError};
+ghost use Rattle.rusty_paseto_core.specs.Context.{binding_of};
+ghost use Rattle.rusty_paseto_core.specs.Public.{v1_public, v2_public};
+ghost use Rattle.rusty_paseto_core.specs.Public.Scheme.{Declining, Refusal, Validity};
+ghost use Rattle.rusty_paseto_core.specs.Public.Signing.{IsSignAnswer};
+ghost use Rattle.rusty_paseto_core.specs.Public.Verifying.{verification};
+ghost use Rattle.rusty_paseto_core.specs.Reading.{IsAnswer};
+
+use crate::context::Context;
+use crate::paseto::{AssertionVersion, Paseto};
+use crate::public::PublicVersion;
+use crate::public::scheme::{CompressedKey, SignatureScheme};
+use crate::public::signing::sign;
+use crate::public::verifying::verify;
+use rusty_paseto_parts::{
+    Footer, ImplicitAssertion, PasetoAsymmetricPrivateKey, PasetoAsymmetricPublicKey, PasetoError,
+    Payload, Public, V1, V2, V3, V4,
+};
+use std::alloc::Global;
+
+/// A version whose public tokens a scheme signs: version 1 with a `SignatureScheme<256>`, 2 and 4 with a
+/// `SignatureScheme<64>`, and 3 with a `CompressedKey`.
+///
+/// Code that serves the versions alike is written over this trait. Code for one of them uses `try_sign`
+/// of `Paseto`.
+pub trait Signs<S>: PublicVersion {
+    // Whether a signature is valid for a public key and a message.
+    ghost valid: { Validity };
+
+    // The public key of a private key.
+    ghost partner: { List ℕ → List ℕ };
+
+    // The errors that the scheme may answer for a private key.
+    ghost declined: { Declining };
+
+    /// Signs a payload, as `try_sign` of `Paseto` does. In the versions 1 and 2, which have no implicit
+    /// assertion, none may be given.
+    fn sign(
+        alloc: Global,
+        scheme: &mut S,
+        key: &PasetoAsymmetricPrivateKey<'_, Self, Public>,
+        payload: Payload<'_>,
+        footer: Option<Footer<'_>>,
+        implicit_assertion: Option<ImplicitAssertion<'_>>,
+    ) -> Result<String, PasetoError>
+        requires { Self.public_design.binds_assertion ≡ false → implicit_assertion ≡ None }
+        ensures { IsSignAnswer valid (declined key.now) Self.public_design key.now (partner key.now)
+            footer.entry implicit_assertion.entry (payload_text payload.entry) result };
+}
+
+/// A version whose public tokens a scheme verifies: version 1 with a `SignatureScheme<256>`, 2 and 4 with
+/// a `SignatureScheme<64>`, and 3 with a `SignatureScheme<96>`.
+///
+/// Code that serves the versions alike is written over this trait. Code for one of them uses `try_verify`
+/// of `Paseto`.
+pub trait Verifies<S>: PublicVersion {
+    // Whether a signature is valid for a public key and a message.
+    ghost valid: { Validity };
+
+    // The errors that the scheme may answer for a signature that is not valid.
+    ghost refused: { Refusal };
+
+    /// Verifies a token, as `try_verify` of `Paseto` does, with the same faults. In the versions 1 and 2,
+    /// which have no implicit assertion, none may be given.
+    fn verify(
+        alloc: Global,
+        scheme: &S,
+        token: &str,
+        key: &PasetoAsymmetricPublicKey<'_, Self, Public>,
+        footer: Option<Footer<'_>>,
+        implicit_assertion: Option<ImplicitAssertion<'_>>,
+    ) -> Result<String, PasetoError>
+        requires { Self.public_design.binds_assertion ≡ false → implicit_assertion ≡ None }
+        ensures { let binding = binding_of key.now footer.entry implicit_assertion.entry in
+            IsAnswer (verification valid refused Self.public_design binding) token.now result };
+}
+
+impl<S: SignatureScheme<256>> Signs<S> for V1 {
+    ghost valid = { S.valid };
+
+    ghost partner = { S.partner };
+
+    ghost declined = { S.declined };
+
+    fn sign(
+        alloc: Global,
+        scheme: &mut S,
+        key: &PasetoAsymmetricPrivateKey<'_, V1, Public>,
+        payload: Payload<'_>,
+        footer: Option<Footer<'_>>,
+        implicit_assertion: Option<ImplicitAssertion<'_>>,
+    ) -> Result<String, PasetoError> {
+        sign::<V1, S, 256>(
+            alloc,
+            scheme,
+            key.as_bytes(),
+            &[],
+            payload.as_str(),
+            footer,
+            implicit_assertion,
+        )
+    }
+}
+
+impl<S: SignatureScheme<256>> Verifies<S> for V1 {
+    ghost valid = { S.valid };
+
+    ghost refused = { S.refused };
+
+    fn verify(
+        alloc: Global,
+        scheme: &S,
+        token: &str,
+        key: &PasetoAsymmetricPublicKey<'_, V1, Public>,
+        footer: Option<Footer<'_>>,
+        implicit_assertion: Option<ImplicitAssertion<'_>>,
+    ) -> Result<String, PasetoError> {
+        let context = Context::new(footer, implicit_assertion);
+        verify::<V1, S, 256>(alloc, scheme, token, key.as_bytes(), &context)
+    }
+}
+
+impl<S: SignatureScheme<64>> Signs<S> for V2 {
+    ghost valid = { S.valid };
+
+    ghost partner = { S.partner };
+
+    ghost declined = { S.declined };
+
+    fn sign(
+        alloc: Global,
+        scheme: &mut S,
+        key: &PasetoAsymmetricPrivateKey<'_, V2, Public>,
+        payload: Payload<'_>,
+        footer: Option<Footer<'_>>,
+        implicit_assertion: Option<ImplicitAssertion<'_>>,
+    ) -> Result<String, PasetoError> {
+        sign::<V2, S, 64>(
+            alloc,
+            scheme,
+            key.as_bytes(),
+            &[],
+            payload.as_str(),
+            footer,
+            implicit_assertion,
+        )
+    }
+}
+
+impl<S: SignatureScheme<64>> Verifies<S> for V2 {
+    ghost valid = { S.valid };
+
+    ghost refused = { S.refused };
+
+    fn verify(
+        alloc: Global,
+        scheme: &S,
+        token: &str,
+        key: &PasetoAsymmetricPublicKey<'_, V2, Public>,
+        footer: Option<Footer<'_>>,
+        implicit_assertion: Option<ImplicitAssertion<'_>>,
+    ) -> Result<String, PasetoError> {
+        let context = Context::new(footer, implicit_assertion);
+        verify::<V2, S, 64>(alloc, scheme, token, key.as_bytes(), &context)
+    }
+}
+
+impl<S: CompressedKey> Signs<S> for V3 {
+    ghost valid = { S.valid };
+
+    ghost partner = { S.partner };
+
+    ghost declined = { S.declined };
+
+    fn sign(
+        alloc: Global,
+        scheme: &mut S,
+        key: &PasetoAsymmetricPrivateKey<'_, V3, Public>,
+        payload: Payload<'_>,
+        footer: Option<Footer<'_>>,
+        implicit_assertion: Option<ImplicitAssertion<'_>>,
+    ) -> Result<String, PasetoError> {
+        let private = key.as_bytes();
+        let public = scheme.public_key(alloc, private)?;
+        sign::<V3, S, 96>(
+            alloc,
+            scheme,
+            private,
+            &public,
+            payload.as_str(),
+            footer,
+            implicit_assertion,
+        )
+    }
+}
+
+impl<S: SignatureScheme<96>> Verifies<S> for V3 {
+    ghost valid = { S.valid };
+
+    ghost refused = { S.refused };
+
+    fn verify(
+        alloc: Global,
+        scheme: &S,
+        token: &str,
+        key: &PasetoAsymmetricPublicKey<'_, V3, Public>,
+        footer: Option<Footer<'_>>,
+        implicit_assertion: Option<ImplicitAssertion<'_>>,
+    ) -> Result<String, PasetoError> {
+        let context = Context::new(footer, implicit_assertion);
+        verify::<V3, S, 96>(alloc, scheme, token, key.as_bytes(), &context)
+    }
+}
+
+impl<S: SignatureScheme<64>> Signs<S> for V4 {
+    ghost valid = { S.valid };
+
+    ghost partner = { S.partner };
+
+    ghost declined = { S.declined };
+
+    fn sign(
+        alloc: Global,
+        scheme: &mut S,
+        key: &PasetoAsymmetricPrivateKey<'_, V4, Public>,
+        payload: Payload<'_>,
+        footer: Option<Footer<'_>>,
+        implicit_assertion: Option<ImplicitAssertion<'_>>,
+    ) -> Result<String, PasetoError> {
+        sign::<V4, S, 64>(
+            alloc,
+            scheme,
+            key.as_bytes(),
+            &[],
+            payload.as_str(),
+            footer,
+            implicit_assertion,
+        )
+    }
+}
+
+impl<S: SignatureScheme<64>> Verifies<S> for V4 {
+    ghost valid = { S.valid };
+
+    ghost refused = { S.refused };
+
+    fn verify(
+        alloc: Global,
+        scheme: &S,
+        token: &str,
+        key: &PasetoAsymmetricPublicKey<'_, V4, Public>,
+        footer: Option<Footer<'_>>,
+        implicit_assertion: Option<ImplicitAssertion<'_>>,
+    ) -> Result<String, PasetoError> {
+        let context = Context::new(footer, implicit_assertion);
+        verify::<V4, S, 64>(alloc, scheme, token, key.as_bytes(), &context)
+    }
+}
+
+impl<V: PublicVersion> Paseto<'_, V, Public> {
+    /// Signs the payload, which stays readable, together with the footer and, in the versions 3 and 4, the
+    /// implicit assertion, by the caller's scheme, which is asked once. In version 3 the public key is
+    /// signed too: there the scheme is first asked for the public key of the private key.
+    ///
+    /// The token has a footer section exactly where a footer was set. The errors are, in the versions 2
+    /// and 4, `TryFromSlice` for a private key that is not 64 bytes, before the scheme is asked; and those
+    /// of the scheme, `Memory` among them.
+    ///
+    /// Source: PASETO specification, "Version 1" to "Version 4", "Sign".
+    pub fn try_sign<S>(
+        &self,
+        alloc: Global,
+        scheme: &mut S,
+        key: &PasetoAsymmetricPrivateKey<'_, V, Public>,
+    ) -> Result<String, PasetoError>
+    where
+        V: Signs<S>,
+        ensures { IsSignAnswer V.valid (V.declined key.now) V.public_design key.now (V.partner key.now)
+            self.now.footer self.now.implicit_assertion (payload_text self.now.payload) result }
+    {
+        let implicit_assertion = if V::BINDS_ASSERTION {
+            self.implicit_assertion
+        } else {
+            None
+        };
+        V::sign(
+            alloc,
+            scheme,
+            key,
+            self.payload,
+            self.footer,
+            implicit_assertion,
+        )
+    }
+}
+
+impl<V: AssertionVersion> Paseto<'_, V, Public> {
+    /// Verifies a token by the caller's scheme: the text that was signed for this public key, footer and
+    /// implicit assertion. An absent footer or assertion and the empty one are the same.
+    ///
+    /// Else it answers the first of these: `IncorrectSize` for a number of sections other than three
+    /// or four, `FooterInvalid` for a fourth section that is not the footer's, `WrongHeader`,
+    /// `PayloadBase64Decode`, `IncorrectSize` for a payload with no room for a signature, the scheme's own
+    /// error for a signature that is not valid, `FromUtf8Error` for bytes that are no text. The scheme is
+    /// asked once, and only where none of the faults before its own is there. `Memory` may come in place
+    /// of any answer but the first.
+    ///
+    /// Source: PASETO specification, "Version 3" and "Version 4", "Verify".
+    pub fn try_verify<S>(
+        alloc: Global,
+        scheme: &S,
+        token: &str,
+        key: &PasetoAsymmetricPublicKey<'_, V, Public>,
+        footer: Option<Footer<'_>>,
+        implicit_assertion: Option<ImplicitAssertion<'_>>,
+    ) -> Result<String, PasetoError>
+    where
+        V: Verifies<S>,
+        ensures { let binding = binding_of key.now footer.entry implicit_assertion.entry in
+            IsAnswer (verification V.valid V.refused V.public_design binding) token.now result }
+    {
+        V::verify(alloc, scheme, token, key, footer, implicit_assertion)
+    }
+}
+
+impl Paseto<'_, V1, Public> {
+    /// Verifies a token of version 1 by the caller's scheme: the text that was signed for this public key
+    /// and footer. An absent footer and the empty one are the same. The faults are those of the versions 3
+    /// and 4, in the same order.
+    ///
+    /// Source: PASETO specification, "Version 1", "Verify".
+    pub fn try_verify<S: SignatureScheme<256>>(
+        alloc: Global,
+        scheme: &S,
+        token: &str,
+        key: &PasetoAsymmetricPublicKey<'_, V1, Public>,
+        footer: Option<Footer<'_>>,
+    ) -> Result<String, PasetoError>
+        ensures { let binding = binding_of key.now footer.entry None in
+            IsAnswer (verification S.valid S.refused v1_public binding) token.now result }
+    {
+        V1::verify(alloc, scheme, token, key, footer, None)
+    }
+}
+
+impl Paseto<'_, V2, Public> {
+    /// Verifies a token of version 2 by the caller's scheme: the text that was signed for this public key
+    /// and footer. An absent footer and the empty one are the same. The faults are those of the versions 3
+    /// and 4, in the same order.
+    ///
+    /// Source: PASETO specification, "Version 2", "Verify".
+    pub fn try_verify<S: SignatureScheme<64>>(
+        alloc: Global,
+        scheme: &S,
+        token: &str,
+        key: &PasetoAsymmetricPublicKey<'_, V2, Public>,
+        footer: Option<Footer<'_>>,
+    ) -> Result<String, PasetoError>
+        ensures { let binding = binding_of key.now footer.entry None in
+            IsAnswer (verification S.valid S.refused v2_public binding) token.now result }
+    {
+        V2::verify(alloc, scheme, token, key, footer, None)
+    }
+}
