@@ -2,20 +2,17 @@
 use Rattle.std.proofs.Common.{◌≡◌, ◌≢◌, ◌↔◌, ℕ, ◌+◌, ◌*◌, ◌/◌, ◌%◌, ◌<◌, ◌==◌, Bool, true, false, not, List, [], ◌∷◌, ◌++◌, length, get_or, slice_index, Option, Some, Bor, refl, sym, ap, subst, ◌∙◌, arith, inl, inr}
 use Rattle.std.specs.Option.{option_map_or}
 use Rattle.std.specs.List.{All, list_all, join_with_byte, slice_split, onto_first}
-use Rattle.std.specs.Str.{IsAscii, IsUtf8}
 use Rattle.std.specs.declared.result.Result.TheVariants.{Ok}
 use Rattle.std.proofs.lemmas.Bool.{cases_Bool, cases_lt, eqb-false, ne_eqb}
 use Rattle.std.proofs.lemmas.List.{append-nil, get_or_default, get_or_past}
 use Rattle.std.proofs.lemmas.List.Elements.{All-nil, All-cons, All-head, All-tail}
 use Rattle.std.proofs.lemmas.List.Sums.{AllPass-from_list_all}
 use Rattle.std.proofs.lemmas.List.Splits.{slice_split_none, slice_split_at, length-slice_split, join_with_byte-slice_split}
-use Rattle.std.proofs.lemmas.Str.{IsUtf8-from_ascii}
 use Rattle.base64.specs.declared.engine.general_purpose.GeneralPurpose.{GeneralPurpose}
 use Rattle.base64.specs.Engines.{url_safe_no_pad}
 use Rattle.base64.specs.GeneralPurpose.{IsBytes, IsConsistent, decode_of, encode_of, engine_symbols}
 use Rattle.base64.specs.Rfc4648.{encode_symbols}
-use Rattle.base64.proofs.EngineFacts.{IsAscii-encode_of, decode_of-encode_of, encode_of-nil}
-use Rattle.base64.proofs.RoundTrip.{length-encode_symbols}
+use Rattle.base64.proofs.EngineFacts.{decode_of-encode_of}
 use Rattle.rusty_paseto_parts.specs.Section.{AreSections, HasNoDot, sections, spelling}
 
 -- ---- sections
@@ -101,17 +98,6 @@ pub spelling-injective : (a b : List ℕ) → IsBytes a → IsBytes b → spelli
 unfolding spelling
 spelling-injective a b bytes_a bytes_b same = injective_of url_safe_no_pad a b refl bytes_a bytes_b same
 
-pub spelling-nil : spelling [] ≡ []
-unfolding spelling
-spelling-nil = encode_of-nil url_safe_no_pad
-
-pub IsAscii-spelling : (bytes : List ℕ) → IsAscii (spelling bytes)
-unfolding spelling
-IsAscii-spelling bytes = IsAscii-encode_of url_safe_no_pad bytes
-
-pub IsUtf8-spelling : (bytes : List ℕ) → IsUtf8 (spelling bytes)
-IsUtf8-spelling bytes = IsUtf8-from_ascii (spelling bytes) (IsAscii-spelling bytes)
-
 -- the 64 symbols
 abbrev symbols : List ℕ
 symbols = engine_symbols url_safe_no_pad
@@ -119,9 +105,6 @@ symbols = engine_symbols url_safe_no_pad
 spelling-symbols : (bytes : List ℕ) → spelling bytes ≡ encode_symbols symbols bytes
 unfolding spelling
 spelling-symbols bytes = append-nil (encode_symbols symbols bytes)
-
-pub length-spelling : (bytes : List ℕ) → length (spelling bytes) ≡ (4 * length bytes + 2) / 3
-length-spelling bytes = ap length (spelling-symbols bytes) ∙ length-encode_symbols symbols bytes
 
 one_symbol : (t : List ℕ) (i : ℕ) (rest : List ℕ) → ((k : ℕ) → IsNotDot (slice_index t k)) → HasNoDot rest → HasNoDot (slice_index t i ∷ rest)
 one_symbol t i rest dotless h = All-cons IsNotDot (slice_index t i) rest (dotless i) h

@@ -3,16 +3,16 @@
 //! it is opened.
 #![tactic(auto)]
 
-pub mod absorb;
-pub mod error;
-pub mod keys;
+mod absorb;
+mod error;
+mod keys;
 pub mod laws;
-pub mod pre_authentication_encoding;
-pub mod purpose;
-pub mod section;
-pub mod texts;
-pub mod untrusted_token;
-pub mod version;
+mod pre_authentication_encoding;
+mod purpose;
+mod section;
+mod texts;
+mod untrusted_token;
+mod version;
 
 pub use absorb::Absorb;
 pub use error::PasetoError;

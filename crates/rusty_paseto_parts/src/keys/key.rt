@@ -1,10 +1,11 @@
 //! Bytes of a fixed number that are to be kept secret.
 
-ghost use Rattle.std.specs.Prelude.{◌≡◌, ℕ, List, Some, codes, length, replicate};
+ghost use Rattle.std.specs.Prelude.{◌≡◌, ℕ, List, Some, codes, length, replicate, IfOk, IfErr};
 ghost use Rattle.rusty_paseto_parts.specs.Key.{ReadsKey};
 
 use crate::error::PasetoError;
 use hex::FromHex;
+use rand_core::TryRng;
 use std::fmt;
 use std::marker::Model;
 
@@ -33,6 +34,20 @@ impl<const N: usize> Key<N> {
         let mut key = [0u8; N];
         key.copy_from_slice(bytes);
         Key { bytes: key }
+    }
+
+    /// A key of `N` bytes that the generator gives. No memory is taken.
+    ///
+    /// `Cipher` comes exactly where the generator fails.
+    pub fn try_new_random<R: TryRng>(rng: &mut R) -> Result<Self, PasetoError>
+        ensures given { IfOk result (λ key. R.may_fill rng.old key rng.new) }
+        ensures err { IfErr result (λ error. error ≡ PasetoError.Cipher) }
+    {
+        let mut bytes = [0u8; N];
+        match rng.try_fill_bytes(&mut bytes) {
+            Ok(()) => Ok(Key { bytes }),
+            Err(_) => Err(PasetoError::Cipher),
+        }
     }
 
     /// The bytes of the key.
