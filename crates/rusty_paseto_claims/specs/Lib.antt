@@ -1,0 +1,7 @@
+pub mod Error
+pub mod Claim
+pub mod Reserved
+pub mod TextClaim
+pub mod Whole
+pub mod DateClaim
+pub mod CustomClaim

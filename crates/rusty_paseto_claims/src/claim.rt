@@ -1,0 +1,44 @@
+//! What a claim is.
+
+ghost use Rattle.std.specs.Prelude.{◌≡◌, ℕ, List, IfOk, IfErr};
+ghost use Rattle.serde_json.specs.View.{view};
+ghost use Rattle.rusty_paseto_claims.specs.Claim.{Answer, IsRefusal, gives, one_member};
+ghost use Rattle.rusty_paseto_claims.specs.Error.{IsMemory};
+
+use crate::error::PasetoClaimError;
+use serde_json::{Map, Value};
+use std::alloc::Global;
+
+/// A claim: a key of a token's payload, with what is to stand under it.
+///
+/// Both are functions of the claim's value: two calls on one value answer alike, memory aside.
+pub trait PasetoClaim {
+    // The key.
+    ghost key: { Self → List ℕ };
+
+    // What `to_json` answers, memory aside.
+    ghost json: { Self → Answer };
+
+    /// The key of the claim, which may be any text.
+    fn get_key(&self) -> &str
+        ensures { result.now ≡ key self.now };
+
+    /// The claim as JSON. The claims of this library answer an object with one entry, the claim's key and
+    /// value.
+    ///
+    /// A claim of a caller's own may refuse by an error of its choice. `Memory` may come in place of any
+    /// answer where memory was refused.
+    fn to_json(&self, alloc: Global) -> Result<Value, PasetoClaimError>
+        ensures ok { IfOk result (λ value. json self.now ≡ gives (view value)) }
+        ensures err { IfErr result (IsRefusal (json self.now)) };
+}
+
+/// The object whose one entry is the key and the value.
+pub(crate) fn to_object(alloc: Global, key: &str, value: Value) -> Result<Value, PasetoClaimError>
+    ensures ok { IfOk result (λ made. view made ≡ one_member key.now (view value)) }
+    ensures err { IfErr result IsMemory }
+{
+    let mut members = Map::new(alloc);
+    serde_json::put(&mut members, alloc, key, value)?;
+    Ok(Value::Object(members))
+}

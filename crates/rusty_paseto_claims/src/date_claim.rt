@@ -1,0 +1,114 @@
+//! The three claims that are a date and time.
+
+ghost use Rattle.std.specs.Prelude.{◌≡◌, ℕ, List, codes, string_bytes, IfOk, IfErr};
+ghost use Rattle.serde_json.specs.Data.{string};
+ghost use Rattle.rusty_paseto_claims.specs.Claim.{gives, one_member};
+ghost use Rattle.rusty_paseto_claims.specs.DateClaim.{IsDate, IsDateAtOnce, IsDateOf};
+ghost use Rattle.rusty_paseto_claims.specs.Error.{IsMemory};
+
+use crate::claim::{PasetoClaim, to_object};
+use crate::error::PasetoClaimError;
+use crate::reserved::{Expiration, IssuedAt, NotBefore, ReservedKey};
+use jiff::Timestamp;
+use serde_json::Value;
+use std::alloc::Global;
+use std::marker::{Model, PhantomData};
+
+/// When a token expires, under the key `exp`.
+pub type ExpirationClaim = DateClaim<Expiration>;
+
+/// When a token was issued, under the key `iat`.
+pub type IssuedAtClaim = DateClaim<IssuedAt>;
+
+/// When a token may be used first, under the key `nbf`.
+pub type NotBeforeClaim = DateClaim<NotBefore>;
+
+/// A claim under a reserved key whose value is a text that `jiff` reads as an instant. The text is kept
+/// as it was given.
+///
+/// Source: PASETO specification, "Claims"; RFC 3339, section 5.6.
+#[derive(Drop)]
+pub struct DateClaim<K> {
+    text: String,
+    key: PhantomData<K>,
+}
+
+impl<K> Model for DateClaim<K> {
+    ghost Value = { List ℕ };
+
+    ghost view = { λ claim. string_bytes claim.text };
+
+    ghost invariant = { λ claim. IsDate (string_bytes claim.text) };
+}
+
+impl<K: ReservedKey> DateClaim<K> {
+    /// The claim of this text, which is copied.
+    ///
+    /// `RFC3339Date` with the text comes exactly where `jiff` reads no `Timestamp` from it.
+    pub fn try_from_str(alloc: Global, text: &str) -> Result<Self, PasetoClaimError>
+        ensures { IsDateOf text.now result }
+    {
+        DateClaim::try_from_string(alloc, String::from_str(alloc, text)?)
+    }
+
+    /// The claim of this text. No memory is taken.
+    ///
+    /// `RFC3339Date` with the text comes exactly where `jiff` reads no `Timestamp` from it.
+    pub fn try_from_string(_alloc: Global, text: String) -> Result<Self, PasetoClaimError>
+        ensures { IsDateAtOnce (string_bytes text) result }
+    {
+        match text.as_str().parse::<Timestamp>() {
+            Ok(_) => Ok(DateClaim {
+                text,
+                key: PhantomData,
+            }),
+            Err(_) => Err(PasetoClaimError::RFC3339Date(text)),
+        }
+    }
+
+    /// The claim of the text `2019-01-01T00:00:00+00:00`. Nothing but memory is refused.
+    pub fn default(alloc: Global) -> Result<Self, PasetoClaimError>
+        ensures ok { IfOk result (λ claim. claim ≡ codes "2019-01-01T00:00:00+00:00") }
+        ensures err { IfErr result IsMemory }
+    {
+        DateClaim::try_from_str(alloc, "2019-01-01T00:00:00+00:00")
+    }
+
+    /// A claim of the same text. Nothing but memory is refused.
+    pub fn try_clone(&self, _alloc: Global) -> Result<Self, PasetoClaimError>
+        ensures ok { IfOk result (λ claim. claim ≡ self.now) }
+        ensures err { IfErr result IsMemory }
+    {
+        Ok(DateClaim {
+            text: self.text.clone()?,
+            key: PhantomData,
+        })
+    }
+
+    /// The key, and the text as it was given.
+    pub fn as_pair(&self) -> (&str, &str)
+        ensures key { result.0.now ≡ K.key }
+        ensures text { result.1.now ≡ self.now }
+        ensures date { IsDate self.now }
+    {
+        (K::text(), self.text.as_str())
+    }
+}
+
+impl<K: ReservedKey> PasetoClaim for DateClaim<K> {
+    ghost key = { λ _. K.key };
+
+    ghost json = { λ claim. gives (one_member K.key (string claim)) };
+
+    fn get_key(&self) -> &str {
+        K::text()
+    }
+
+    fn to_json(&self, alloc: Global) -> Result<Value, PasetoClaimError> {
+        to_object(
+            alloc,
+            K::text(),
+            Value::try_from_str(alloc, self.text.as_str())?,
+        )
+    }
+}

@@ -1,0 +1,23 @@
+//! Claims of PASETO tokens: what a claim is, the seven that the standard reserves, claims of a caller's
+//! own, and tests on the JSON values that claims have.
+#![tactic(auto)]
+
+mod claim;
+mod claim_value;
+mod custom_claim;
+mod date_claim;
+mod error;
+mod reserved;
+mod text_claim;
+mod whole;
+
+pub use claim::PasetoClaim;
+pub use claim_value::ClaimValue;
+pub use custom_claim::CustomClaim;
+pub use date_claim::{DateClaim, ExpirationClaim, IssuedAtClaim, NotBeforeClaim};
+pub use error::PasetoClaimError;
+pub use reserved::{
+    Audience, Expiration, IssuedAt, Issuer, NotBefore, ReservedKey, Subject, TokenIdentifier,
+};
+pub use text_claim::{AudienceClaim, IssuerClaim, SubjectClaim, TextClaim, TokenIdentifierClaim};
+pub use whole::{is_whole, odd_key};
