@@ -1,2 +1,3 @@
 pub mod WholeLemmas
 pub mod DateLemmas
+pub mod SameLemmas

@@ -5,3 +5,4 @@ pub mod TextClaim
 pub mod Whole
 pub mod DateClaim
 pub mod CustomClaim
+pub mod Same

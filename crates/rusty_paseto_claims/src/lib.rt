@@ -8,6 +8,7 @@ mod custom_claim;
 mod date_claim;
 mod error;
 mod reserved;
+mod same;
 mod text_claim;
 mod whole;
 
@@ -19,5 +20,6 @@ pub use error::PasetoClaimError;
 pub use reserved::{
     Audience, Expiration, IssuedAt, Issuer, NotBefore, ReservedKey, Subject, TokenIdentifier,
 };
+pub use same::same_value;
 pub use text_claim::{AudienceClaim, IssuerClaim, SubjectClaim, TextClaim, TokenIdentifierClaim};
 pub use whole::{is_whole, odd_key};
