@@ -1,30 +1,21 @@
 -- What jiff's reading says of a text.
-use Rattle.std.proofs.Common.{◌≡◌, ℕ, ℤ, List, Some, None, Ok, Err, MatchOption, codes, refl}
-use Rattle.std.specs.Prelude.{⊤}
+use Rattle.std.proofs.Common.{◌≡◌, ℕ, ℤ, List, Bool, true, false, Result, Ok, Err, IsTrue, String, Global, codes, string_bytes, is_ok, refl, sym, ◌∙◌}
+use Rattle.std.specs.Result.{result_map_both}
 use Rattle.jiff.specs.Words.{Error, parse_timestamp}
 use Rattle.jiff.proofs.OnLiterals.{jiff_on_literals}
 use Rattle.rusty_paseto_claims.specs.DateClaim.{IsDate}
-use Rattle.rusty_paseto_claims.specs.Error.{IsMemory, fault_of, malformed_date}
-use Rattle.rusty_paseto_claims.specs.declared.error.PasetoClaimError.{PasetoClaimError}
 
-pub IsDate-read : (text : List ℕ) (instant : ℤ) → parse_timestamp text ≡ Ok instant → IsDate text
+-- a reading that succeeds tells a date
+pub read_date : {T : Type 0} (nanosecond : T → ℤ) (answer : Result T Error) (text : List ℕ) (ok : Bool) → result_map_both nanosecond (λ e. e) answer ≡ parse_timestamp text
+    → ok ≡ is_ok answer → (IsTrue ok → IsDate text) × (IsDate text → IsTrue ok)
 unfolding IsDate
-IsDate-read text instant is = rw is refl
-
-pub IsDate-unread : (text : List ℕ) (error : Error) → parse_timestamp text ≡ Err error → ¬ IsDate text
-unfolding IsDate
-IsDate-unread text error is = λ read. let none = rw is at read in cc none
+read_date nanosecond (Ok instant) text ok reads is = (λ _. rw (← reads) refl, λ _. is)
+read_date nanosecond (Err error) text ok reads is = (λ h. let none : true ≡ false = sym h ∙ is in cc none, λ h. let none = rw (← reads) at h in cc none)
 
 -- the text that a claim has by default
-pub IsDate-default : IsDate (codes "2019-01-01T00:00:00+00:00")
+default_text : IsDate (codes "2019-01-01T00:00:00+00:00")
 unfolding IsDate jiff_on_literals
-IsDate-default = refl
+default_text = refl
 
--- a text that is a date is refused for want of memory alone
-pub IsMemory-dated : (text : List ℕ) (error : PasetoClaimError) → IsDate text
-    → MatchOption (fault_of error) ⊤ (λ fault. (fault ≡ malformed_date text) × ¬ IsDate text) → IsMemory error
-IsMemory-dated text error date =
-    elim (fault_of error) as (λ found. MatchOption found ⊤ (λ fault. (fault ≡ malformed_date text) × ¬ IsDate text) → found ≡ None) [
-      | None ↦ λ _. refl
-      | Some fault ↦ λ h. absurd (h.1 date)
-    ]
+pub default_date : (text : String Global) → string_bytes text ≡ codes "2019-01-01T00:00:00+00:00" → IsDate (string_bytes text)
+default_date text is = rw is default_text

@@ -1,5 +1,5 @@
 -- The test of `same` tells when values are the same.
-use Rattle.std.proofs.Common.{◌≡◌, ℕ, List, Bool, true, false, not, ◌||◌, ◌&&◌, Option, is_some, refl, sym, ap, ◌∙◌}
+use Rattle.std.proofs.Common.{◌≡◌, ℕ, List, Bool, true, false, not, ◌&&◌, IsTrue, is_some, refl, sym, ap, ◌∙◌}
 use Rattle.std.specs.Cmp.{booleans_Decides}
 use Rattle.std.specs.Cmp.Derive.{both_true}
 use Rattle.std.proofs.lemmas.Bool.{and_parts, or_parts}
@@ -143,11 +143,11 @@ not_false true h = cc h
 not_false false h = refl
 
 -- the test is true exactly where they are the same
-pub same-IsSame : (left right : Data) → (same left right ≡ true → IsSame left right) × (IsSame left right → same left right ≡ true)
+pub test_is_same : (answer : Bool) (left right : Data) → answer ≡ same left right → (IsTrue answer → IsSame left right) × (IsSame left right → IsTrue answer)
 unfolding IsSame
-same-IsSame left right = (
-    λ h. let equal = same-sound left right h in
+test_is_same answer left right tested = (
+  λ h. let equal = same-sound left right (sym tested ∙ h) in
       let whole : is_whole left ≡ true = rw equal.0 refl in
       (whole, rw equal.1 at whole, equal.1),
-    λ is. rw (← is.2) (same-itself left (not_false (has_float left) is.0)),
-  )
+  λ is. tested ∙ rw (← is.2) (same-itself left (not_false (has_float left) is.0)),
+)

@@ -90,6 +90,7 @@ impl<T: ClaimValue> PasetoClaim for CustomClaim<T> {
     }
 
     fn to_json(&self, alloc: Global) -> Result<Value, PasetoClaimError> {
-        to_object(alloc, self.key.as_str(), self.value.to_value(alloc)?)
+        let value = self.value.to_value(alloc)?;
+        to_object(alloc, self.key.as_str(), value)
     }
 }

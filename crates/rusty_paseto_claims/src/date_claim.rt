@@ -1,6 +1,6 @@
 //! The three claims that are a date and time.
 
-ghost use Rattle.std.specs.Prelude.{◌≡◌, ℕ, List, codes, string_bytes, IfOk, IfErr};
+ghost use Rattle.std.specs.Prelude.{◌≡◌, ◌↔◌, ℕ, List, codes, string_bytes, IsTrue, IfOk, IfErr};
 ghost use Rattle.serde_json.specs.Data.{string};
 ghost use Rattle.rusty_paseto_claims.specs.Claim.{gives, one_member};
 ghost use Rattle.rusty_paseto_claims.specs.DateClaim.{IsDate, IsDateAtOnce, IsDateOf};
@@ -57,21 +57,25 @@ impl<K: ReservedKey> DateClaim<K> {
     pub fn try_from_string(_alloc: Global, text: String) -> Result<Self, PasetoClaimError>
         ensures { IsDateAtOnce (string_bytes text) result }
     {
-        match text.as_str().parse::<Timestamp>() {
-            Ok(_) => Ok(DateClaim {
-                text,
-                key: PhantomData,
-            }),
-            Err(_) => Err(PasetoClaimError::RFC3339Date(text)),
+        if !is_date(text.as_str()) {
+            return Err(PasetoClaimError::RFC3339Date(text));
         }
+        Ok(DateClaim {
+            text,
+            key: PhantomData,
+        })
     }
 
     /// The claim of the text `2019-01-01T00:00:00+00:00`. Nothing but memory is refused.
+    #[tactic(auto, using(crate::proofs::DateLemmas::default_date))]
     pub fn default(alloc: Global) -> Result<Self, PasetoClaimError>
         ensures ok { IfOk result (λ claim. claim ≡ codes "2019-01-01T00:00:00+00:00") }
         ensures err { IfErr result IsMemory }
     {
-        DateClaim::try_from_str(alloc, "2019-01-01T00:00:00+00:00")
+        Ok(DateClaim {
+            text: String::from_str(alloc, "2019-01-01T00:00:00+00:00")?,
+            key: PhantomData,
+        })
     }
 
     /// A claim of the same text. Nothing but memory is refused.
@@ -105,10 +109,14 @@ impl<K: ReservedKey> PasetoClaim for DateClaim<K> {
     }
 
     fn to_json(&self, alloc: Global) -> Result<Value, PasetoClaimError> {
-        to_object(
-            alloc,
-            K::text(),
-            Value::try_from_str(alloc, self.text.as_str())?,
-        )
+        let text = Value::try_from_str(alloc, self.text.as_str())?;
+        to_object(alloc, K::text(), text)
     }
+}
+
+/// Whether `jiff` reads an instant from the text.
+fn is_date(text: &str) -> bool
+    ensures { IsTrue result ↔ IsDate text.now }
+{
+    text.parse::<Timestamp>().is_ok()
 }

@@ -12,6 +12,7 @@ use serde_json::{Map, Number, Value};
 /// `{"b":2,"a":1}`. A value that holds another number is not even the same as itself.
 ///
 /// No memory is taken.
+#[tactic(auto, using(crate::proofs::SameLemmas::test_is_same))]
 pub fn same_value(left: &Value, right: &Value) -> bool
     ensures { IsTrue result ↔ IsSame (view left.now) (view right.now) }
 {
@@ -64,30 +65,32 @@ fn is_same_number(left: &Number, right: &Number) -> bool
 fn are_items_same(left: &Vec<Value>, right: &Vec<Value>) -> bool
     ensures { result ≡ same_items (items_view left.now.items) (items_view right.now.items) }
 {
-    let mut others = right.iter();
+    let mut other_items = right.iter();
     for item in left {
-        match others.next() {
+        match other_items.next() {
             Some(other) => if !is_same(item, other) {
                 return false;
             },
             None => return false,
         }
     }
-    others.next().is_none()
+    other_items.next().is_none()
 }
 
 #[cycle(same)]
 fn are_members_same(left: &Map<String, Value>, right: &Map<String, Value>) -> bool
     ensures { result ≡ same_members (members_view left.now.entries) (members_view right.now.entries) }
 {
-    let mut others = right.iter();
+    let mut other_members = right.iter();
     for (key, member) in left.iter() {
-        match others.next() {
-            Some((other_key, other)) => if key.as_str() != other_key.as_str() || !is_same(member, other) {
+        match other_members.next() {
+            Some((other_key, other)) => if key.as_str() != other_key.as_str()
+                || !is_same(member, other)
+            {
                 return false;
             },
             None => return false,
         }
     }
-    others.next().is_none()
+    other_members.next().is_none()
 }

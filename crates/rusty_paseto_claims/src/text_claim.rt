@@ -73,6 +73,7 @@ impl<'a, K: ReservedKey> PasetoClaim for TextClaim<'a, K> {
     }
 
     fn to_json(&self, alloc: Global) -> Result<Value, PasetoClaimError> {
-        to_object(alloc, K::text(), Value::try_from_str(alloc, self.text)?)
+        let text = Value::try_from_str(alloc, self.text)?;
+        to_object(alloc, K::text(), text)
     }
 }
