@@ -8,6 +8,8 @@
 #[cfg(test)]
 mod boxes;
 #[cfg(test)]
+mod claims;
+#[cfg(test)]
 mod encoding;
 #[cfg(test)]
 mod errors;

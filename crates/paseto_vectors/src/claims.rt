@@ -1,0 +1,11 @@
+//! Claims, and keys that a generator gives.
+
+mod custom;
+mod dates;
+mod errors;
+mod generated_keys;
+mod json;
+mod same;
+mod texts;
+mod values;
+mod whole;
