@@ -11,13 +11,16 @@ fn reserved_keys_are_refused(rt: HostRuntime) -> Result<(), Fail> {
     let alloc = rt.alloc();
     'keys: for key in RESERVED {
         let claim = CustomClaim::try_from_str(alloc, key, 4u64);
-        let refused = matches!(&claim, Err(PasetoClaimError::Reserved(told)) if told.as_str() == key);
+        let refused =
+            matches!(&claim, Err(PasetoClaimError::Reserved(told)) if told.as_str() == key);
         assert!(rt; refused, "{key}");
         let claim = CustomClaim::try_from_string(String::from_str(alloc, key)?, true);
-        let refused = matches!(&claim, Err(PasetoClaimError::Reserved(told)) if told.as_str() == key);
+        let refused =
+            matches!(&claim, Err(PasetoClaimError::Reserved(told)) if told.as_str() == key);
         assert!(rt; refused, "{key}");
         let claim = CustomClaim::<&str>::try_from_key(alloc, key);
-        let refused = matches!(&claim, Err(PasetoClaimError::Reserved(told)) if told.as_str() == key);
+        let refused =
+            matches!(&claim, Err(PasetoClaimError::Reserved(told)) if told.as_str() == key);
         assert!(rt; refused, "{key}");
     }
     Ok(())
@@ -39,13 +42,25 @@ fn other_keys_are_taken(rt: HostRuntime) -> Result<(), Fail> {
 fn written_under_their_keys(rt: HostRuntime) -> Result<(), Fail> {
     let alloc = rt.alloc();
     let claim = CustomClaim::try_from_str(alloc, "i'm good tho", true)?;
-    json::check(&rt, alloc, &claim, "i'm good tho", "{\"i'm good tho\":true}")?;
+    json::check(
+        &rt,
+        alloc,
+        &claim,
+        "i'm good tho",
+        "{\"i'm good tho\":true}",
+    )?;
     let claim = CustomClaim::try_from_string(String::from_str(alloc, "seats")?, 4u8)?;
     json::check(&rt, alloc, &claim, "seats", "{\"seats\":4}")?;
     let claim = CustomClaim::<&str>::try_from_key(alloc, "data")?;
     json::check(&rt, alloc, &claim, "data", "{\"data\":\"\"}")?;
     let claim = CustomClaim::try_from_str(alloc, "", "this is a secret message")?;
-    json::check(&rt, alloc, &claim, "", "{\"\":\"this is a secret message\"}")?;
+    json::check(
+        &rt,
+        alloc,
+        &claim,
+        "",
+        "{\"\":\"this is a secret message\"}",
+    )?;
     assert_eq!(rt; format!(in alloc; "{claim:?}")?.is_empty(), false);
     Ok(())
 }

@@ -40,10 +40,12 @@ fn refused_where_no_instant_is_read(rt: HostRuntime) -> Result<(), Fail> {
         "2019-01-01T00:00:00Z ",
     ] {
         let claim = ExpirationClaim::try_from_str(alloc, text);
-        let refused = matches!(&claim, Err(PasetoClaimError::RFC3339Date(told)) if told.as_str() == text);
+        let refused =
+            matches!(&claim, Err(PasetoClaimError::RFC3339Date(told)) if told.as_str() == text);
         assert!(rt; refused, "{text}");
         let claim = IssuedAtClaim::try_from_string(alloc, String::from_str(alloc, text)?);
-        let refused = matches!(&claim, Err(PasetoClaimError::RFC3339Date(told)) if told.as_str() == text);
+        let refused =
+            matches!(&claim, Err(PasetoClaimError::RFC3339Date(told)) if told.as_str() == text);
         assert!(rt; refused, "{text}");
     }
     Ok(())

@@ -6,12 +6,7 @@ use std::alloc::Global;
 use std::process::Abort;
 use std::test::Fail;
 
-fn check(
-    rt: &impl Abort,
-    alloc: Global,
-    rows: &[(&str, &str)],
-    same: bool,
-) -> Result<(), Fail> {
+fn check(rt: &impl Abort, alloc: Global, rows: &[(&str, &str)], same: bool) -> Result<(), Fail> {
     'rows: for (left, right) in rows {
         let first = Value::from_str(alloc, *left)?;
         let second = Value::from_str(alloc, *right)?;
@@ -33,7 +28,10 @@ fn equal_trees(rt: HostRuntime) -> Result<(), Fail> {
         ("[1,[2],{}]", "[ 1, [ 2 ], { } ]"),
         ("{\"a\":1,\"b\":2}", "{\"b\":2,\"a\":1}"),
         ("{\"a\":1,\"a\":2}", "{\"a\":2}"),
-        ("{\"o\":{\"b\":[1,2],\"a\":null}}", "{\"o\":{\"a\":null,\"b\":[1,2]}}"),
+        (
+            "{\"o\":{\"b\":[1,2],\"a\":null}}",
+            "{\"o\":{\"a\":null,\"b\":[1,2]}}",
+        ),
     ];
     check(&rt, rt.alloc(), &rows, true)
 }

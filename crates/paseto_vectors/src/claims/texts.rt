@@ -20,10 +20,28 @@ fn written_under_their_keys(rt: HostRuntime) -> Result<(), Fail> {
 #[test]
 fn empty_by_default(rt: HostRuntime) -> Result<(), Fail> {
     let alloc = rt.alloc();
-    json::check(&rt, alloc, &AudienceClaim::default(), "aud", "{\"aud\":\"\"}")?;
+    json::check(
+        &rt,
+        alloc,
+        &AudienceClaim::default(),
+        "aud",
+        "{\"aud\":\"\"}",
+    )?;
     json::check(&rt, alloc, &IssuerClaim::default(), "iss", "{\"iss\":\"\"}")?;
-    json::check(&rt, alloc, &SubjectClaim::default(), "sub", "{\"sub\":\"\"}")?;
-    json::check(&rt, alloc, &TokenIdentifierClaim::default(), "jti", "{\"jti\":\"\"}")
+    json::check(
+        &rt,
+        alloc,
+        &SubjectClaim::default(),
+        "sub",
+        "{\"sub\":\"\"}",
+    )?;
+    json::check(
+        &rt,
+        alloc,
+        &TokenIdentifierClaim::default(),
+        "jti",
+        "{\"jti\":\"\"}",
+    )
 }
 
 #[test]

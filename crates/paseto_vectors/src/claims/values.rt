@@ -6,12 +6,7 @@ use std::alloc::Global;
 use std::process::Abort;
 use std::test::Fail;
 
-fn check<T: ClaimValue>(
-    rt: &impl Abort,
-    alloc: Global,
-    value: &T,
-    json: &str,
-) -> Result<(), Fail> {
+fn check<T: ClaimValue>(rt: &impl Abort, alloc: Global, value: &T, json: &str) -> Result<(), Fail> {
     assert_eq!(rt; value.to_value(alloc)?.to_string(alloc)?.as_str(), json);
     Ok(())
 }
