@@ -27,10 +27,6 @@ unfolding hkdf_expand
 length-hkdf_expand prk info n =
     length-take-le n (expansion prk info (div_ceil n 48)) (omega (arith, length-expansion prk info (div_ceil n 48)))
 
-pub length-hkdf : (salt material info : List ℕ) (n : ℕ) → length (hkdf salt material info n) ≡ n
-unfolding hkdf
-length-hkdf salt material info n = length-hkdf_expand (hkdf_extract salt material) info n
-
 IsBytes-expansion_block : (prk info : List ℕ) (n : ℕ) → IsBytes (expansion_block prk info n)
 unfolding expansion_block
 IsBytes-expansion_block prk info zero = IsBytes-nil
@@ -50,12 +46,3 @@ IsBytes-hkdf_expand prk info n = IsBytes-take n _ (IsBytes-expansion prk info (d
 pub IsBytes-hkdf : (salt material info : List ℕ) (n : ℕ) → IsBytes (hkdf salt material info n)
 unfolding hkdf
 IsBytes-hkdf salt material info n = IsBytes-hkdf_expand (hkdf_extract salt material) info n
-
--- a pseudorandom key has 48 bytes
-pub length-hkdf_extract : (salt material : List ℕ) → length (hkdf_extract salt material) ≡ 48
-unfolding hkdf_extract
-length-hkdf_extract salt material = length-hmac _ material
-
-pub IsBytes-hkdf_extract : (salt material : List ℕ) → IsBytes (hkdf_extract salt material)
-unfolding hkdf_extract
-IsBytes-hkdf_extract salt material = IsBytes-hmac _ material

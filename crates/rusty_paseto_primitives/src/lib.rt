@@ -7,6 +7,7 @@ mod chacha;
 mod hkdf;
 mod hmac;
 mod keystream;
+pub mod laws;
 
 pub use aes::{Aes256, aes256_ctr_apply};
 pub use blake2::hasher::Blake2b;

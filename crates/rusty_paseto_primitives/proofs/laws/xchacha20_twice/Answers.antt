@@ -1,0 +1,5 @@
+use Rattle.rusty_paseto_primitives.proofs.Masking.{masked-masked}
+use Rattle.rusty_paseto_primitives.proofs.laws.xchacha20_twice.Goals as goal
+
+pub returns : goal.returns
+returns c = masked-masked _ c.args.data.now
