@@ -1,7 +1,6 @@
-use Rattle.std.proofs.Common.{ap, ◌∙◌}
-use Rattle.rusty_paseto_primitives.specs.Aes.Field.{affine, sub_byte}
+use Rattle.std.proofs.Common.{arith}
+use Rattle.rusty_paseto_primitives.proofs.AesBytes.{s_box_is}
 use Rattle.rusty_paseto_primitives.proofs.aes.field.sub_byte.Goals as goal
 
 pub returns : goal.returns
-unfolding sub_byte
-returns c = c.affine.ensures ∙ ap affine c.inverse.ensures
+returns c = s_box_is c.args.a (omega arith)
