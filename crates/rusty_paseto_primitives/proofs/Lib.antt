@@ -5,6 +5,7 @@ pub mod Masking
 pub mod StreamBlocks
 pub mod Blake2Blocks
 pub mod Blake2Facts
+pub mod Blake2Halves
 pub mod Blake2Hashers
 pub mod Blake2Lengths
 pub mod Blake2Rows
