@@ -1,7 +1,10 @@
+pub mod Below
 pub mod BlockBytes
 pub mod ByteLists
 pub mod ChaChaFacts
+pub mod LaneBytes
 pub mod Masking
+pub mod Quarters
 pub mod StreamBlocks
 pub mod Blake2Blocks
 pub mod Blake2Facts

@@ -1,9 +1,11 @@
 -- Masking by a keystream: laws of it, and the steps of a loop over bytes and over blocks.
-use Rattle.std.proofs.Common.{◌≡◌, ℕ, ◌+◌, ◌*◌, ◌<◌, ◌≤◌, List, [], ◌∷◌, ◌++◌, zero, suc, length, take, drop, bit_xor, slice_index, refl, sym, ap, ap₂, ◌∙◌, arith, append_assoc, append-nil, add-zero, zero-add, mul_comm}
+use Rattle.std.proofs.Common.{◌≡◌, ℕ, ◌+◌, ◌-◌, ◌*◌, ◌<◌, ◌≤◌, List, [], ◌∷◌, ◌++◌, zero, suc, length, take, drop, bit_xor, slice_index, refl, sym, ap, ap₂, ◌∙◌, arith, append_assoc, append-nil, add-zero, zero-add, mul_comm, length-append, length-drop}
 use Rattle.std.proofs.Math.ListN.{set}
 use Rattle.std.proofs.lemmas.List.{drop_more, take_more, get_or_at, set_at, length-take, length-take-le, drop-drop, take_at, drop_at, take_all, drop_all}
 use Rattle.std.proofs.lemmas.Nat.{div-mul-add, mod-mul-add, xor_lt}
+use Rattle.std.proofs.lemmas.Simd.{put_chunk_whole, length-zip2}
 use Rattle.std.proofs.Math.Seq.{take-add}
+use Rattle.std.specs.Simd.Lanes.{chunk, put_chunk, zip2}
 use lib.Bits.{xor_assoc, xor_self, xor_zero_r}
 use Rattle.rusty_paseto_primitives.specs.Bytes.{IsBytes}
 use Rattle.rusty_paseto_primitives.specs.Keystream.{masked, masked_from, stream_of_blocks}
@@ -76,6 +78,11 @@ masked_to_all s n old now done le =
 length-masked_to : (s : ℕ → ℕ) (n : ℕ) (old : List ℕ) → n ≤ length old → length (masked s (take n old)) ≡ n
 length-masked_to s n old le = length-masked s (take n old) ∙ length-take-le n old le
 
+-- the data keeps its length
+pub masked_to_length : (s : ℕ → ℕ) (n : ℕ) (old now : List ℕ) → IsMaskedTo s n old now → n ≤ length old → length now ≡ length old
+masked_to_length s n old now done le =
+    ap length done ∙ omega (arith, length-append (masked s (take n old)) (drop n old), length-masked_to s n old le, length-drop n old)
+
 -- the step of a loop over bytes
 pub masked_to_byte : (s : ℕ → ℕ) (n : ℕ) (old now : List ℕ) → IsMaskedTo s n old now → n < length old
     → IsMaskedTo s (n + 1) old (set now n (bit_xor (slice_index now n) (s n)))
@@ -118,6 +125,23 @@ masked_to_part s t a k m old now part done m-is le same part-is =
     ap (drop k) dropped ∙ drop-drop k a old ∙ ap (λ (n : ℕ). drop n old) (sym m-is) in
     rw (taken, here, rest, more) (sym (append_assoc (masked s (take a old)) (masked_from s a (take k (drop a old))) (drop m old)))
 
+-- the exclusive or of two lists of one length
+zip2-masked : (xs ys : List ℕ) → length xs ≡ length ys → zip2 bit_xor xs ys ≡ masked (slice_index ys) xs
+unfolding masked masked_from
+zip2-masked [] ys same = refl
+zip2-masked (x ∷ xs) [] same = absurd (omega arith)
+zip2-masked (x ∷ xs) (y ∷ ys) same =
+    ap (λ (rest : List ℕ). bit_xor x y ∷ rest)
+    (zip2-masked xs ys (omega arith) ∙ masked_from-agree (slice_index ys) (slice_index (y ∷ ys)) 0 1 xs (λ k h. let here : 0 + k ≡ k = omega arith in let there : 1 + k ≡ suc k = omega arith in rw (here, there) refl))
+
+-- sixteen bytes under a vector of keystream
+pub vector_masked : (bytes vector : List ℕ) → length bytes ≡ 16 → length vector ≡ 16
+    → put_chunk 0 bytes (zip2 bit_xor (chunk 0 16 bytes) vector) ≡ masked (slice_index vector) bytes
+vector_masked bytes vector size lanes =
+    let whole : chunk 0 16 bytes ≡ bytes = take_all 16 bytes (omega arith) in
+    let made : length (zip2 bit_xor bytes vector) ≡ length bytes = length-zip2 bit_xor bytes vector (omega arith) in
+    rw whole (put_chunk_whole bytes (zip2 bit_xor bytes vector) (omega arith)) ∙ zip2-masked bytes vector (omega arith)
+
 -- the keystream within block n
 pub stream_of_blocks-at : (size : ℕ) (block : ℕ → List ℕ) (n i : ℕ) → i < size
     → stream_of_blocks size block (size * n + i) ≡ slice_index (block n) i
@@ -133,3 +157,17 @@ pub masked_to_block : (size : ℕ) (block : ℕ → List ℕ) (n k m : ℕ) (key
 masked_to_block size block n k m keystream old now part done block-is within m-is le part-is =
     masked_to_part (stream_of_blocks size block) (slice_index keystream) (size * n) k m old now part done m-is le
     (λ i h. ap (λ (b : List ℕ). slice_index b i) block-is ∙ sym (stream_of_blocks-at size block n i (omega arith))) part-is
+
+-- data whose front and whose rest are masked, one after the other, by a stream t that goes on from s
+pub masked_in_two : (s t : ℕ → ℕ) (a : ℕ) (old front back : List ℕ) → a ≤ length old → front ≡ masked s (take a old)
+    → ((i : ℕ) → t i ≡ s (a + i)) → let now = front ++ drop a old in
+    back ≡ masked t (take (length now - a) (drop a now))
+    → take a now ++ (back ++ drop (length now - a) (drop a now)) ≡ masked s old
+masked_in_two s t a old front back within front-is same back-is =
+    let now : List ℕ = front ++ drop a old in
+    let done : IsMaskedTo s a old now = ap (λ (part : List ℕ). part ++ drop a old) front-is in
+    let long : length now ≡ length old = masked_to_length s a old now done within in
+    let k : ℕ = length now - a in
+    masked_to_all s (length old) old _
+    (masked_to_part s t a k (length old) old now back done (omega arith) (omega arith) (λ i h. same i) back-is)
+    (omega arith)

@@ -2,3 +2,4 @@
 pub mod Block
 pub mod Subkey
 pub mod Stream
+pub mod Lanes

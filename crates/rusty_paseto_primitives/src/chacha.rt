@@ -1,6 +1,7 @@
 // ChaCha20, HChaCha20 and XChaCha20 (RFC 8439, draft-irtf-cfrg-xchacha).
 
 mod block;
+mod lanes;
 mod stream;
 mod subkey;
 

@@ -1,6 +1,6 @@
 // The ChaCha20 block function, on sixteen words.
 
-ghost use Rattle.std.specs.Prelude.{◌≡◌, ◌+◌, ◌*◌, ◌≤◌, length};
+ghost use Rattle.std.specs.Prelude.{◌≡◌, ◌+◌, ◌*◌, ◌/◌, ◌%◌, ◌^◌, ◌≤◌, length};
 ghost use Rattle.rusty_paseto_primitives.specs.ChaCha.Block.{block_bytes, block_words, chacha20_block, column_round, diagonal_round, double_rounds, key_words, quarter_round, quarter_round_of, serialized, start_of, start_words, word_at};
 
 // The four words after a quarter round.
@@ -159,6 +159,21 @@ pub(crate) fn start_words(key: [u32; 8], t0: u32, t1: u32, t2: u32, t3: u32) -> 
         t2,
         t3,
     ]
+}
+
+// The two halves of a block's number of 64 bits.
+#[inline(always)]
+pub(super) fn low_half(n: u64) -> u32
+    ensures { result ≡ n % 2 ^ 32 }
+{
+    (n & 0xffff_ffff) as u32
+}
+
+#[inline(always)]
+pub(super) fn high_half(n: u64) -> u32
+    ensures { result ≡ n / 2 ^ 32 % 2 ^ 32 }
+{
+    (n >> 32) as u32
 }
 
 // The starting words of a key and the bytes of words 12 to 15.

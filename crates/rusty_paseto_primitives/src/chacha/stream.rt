@@ -1,54 +1,65 @@
 // The keystream of XChaCha20, block after block.
 
-ghost use Rattle.std.specs.Prelude.{◌≡◌, ◌/◌, ◌%◌, ◌^◌, slice_set};
-ghost use Rattle.rusty_paseto_primitives.specs.Keystream.{masked};
-ghost use Rattle.rusty_paseto_primitives.specs.ChaCha.Block.{block_bytes};
-ghost use Rattle.rusty_paseto_primitives.specs.ChaCha.Stream.{xchacha20_start, xchacha20_stream};
+ghost use Rattle.std.specs.Prelude.{◌≡◌, ◌+◌, ◌*◌, ◌%◌, ◌<◌, ◌^◌, length, take};
+ghost use Rattle.rusty_paseto_primitives.specs.Keystream.{masked, stream_of_blocks};
+ghost use Rattle.rusty_paseto_primitives.specs.ChaCha.Block.{block_bytes, key_words};
+ghost use Rattle.rusty_paseto_primitives.specs.ChaCha.Stream.{numbered, tail_words, xchacha20_stream};
+ghost use Rattle.rusty_paseto_primitives.specs.ChaCha.Subkey.{hchacha20};
 
-use crate::chacha::block;
+use crate::chacha::block::{self, high_half, low_half};
+use crate::chacha::lanes;
 use crate::chacha::subkey::hchacha20;
-use crate::keystream::mask;
+use crate::keystream::{mask, mask_by_vectors};
 
 const BLOCK_LEN: usize = 64;
 
-#[inline(always)]
-fn low_half(n: u64) -> u32
-    ensures { result ≡ n % 2 ^ 32 }
-{
-    (n & 0xffff_ffff) as u32
-}
+// Four blocks.
+const GROUP_LEN: usize = 256;
 
-#[inline(always)]
-fn high_half(n: u64) -> u32
-    ensures { result ≡ n / 2 ^ 32 }
-{
-    (n >> 32) as u32
-}
-
-// The starting words of block number 0.
-fn first_start(key: &[u8; 32], nonce: &[u8; 24]) -> [u32; 16]
-    ensures { result ≡ xchacha20_start key.now nonce.now 0 }
+// The words of the subkey, by which all blocks are made.
+fn subkey_words(key: &[u8; 32], nonce: &[u8; 24]) -> [u32; 8]
+    ensures { result ≡ key_words (hchacha20 key.now (take 16 nonce.now)) }
 {
     let mut front = [0u8; 16];
     front.copy_from_slice(&nonce[..16]);
-    let subkey = block::load_key(&hchacha20(key, &front));
-    block::start_words(
-        subkey,
-        0,
-        0,
-        block::load_word(nonce, 16),
-        block::load_word(nonce, 20),
-    )
+    block::load_key(&hchacha20(key, &front))
 }
 
-// The bytes of block number n, from the starting words of block number 0.
-#[inline(always)]
-fn block_at(mut start: [u32; 16], n: u64) -> [u8; 64]
-    ensures { result ≡ block_bytes (slice_set (slice_set start 12 (n % 2 ^ 32)) 13 (n / 2 ^ 32)) }
+fn tail_words(nonce: &[u8; 24]) -> [u32; 2]
+    ensures { result ≡ tail_words nonce.now }
 {
-    start[12] = low_half(n);
-    start[13] = high_half(n);
-    block::block_bytes(start)
+    [block::load_word(nonce, 16), block::load_word(nonce, 20)]
+}
+
+#[inline(always)]
+fn block_at(key: &[u32; 8], tail: &[u32; 2], n: u64) -> [u8; 64]
+    ensures { result ≡ block_bytes (numbered key.now tail.now n) }
+{
+    block::block_bytes(block::start_words(*key, low_half(n), high_half(n), tail[0], tail[1]))
+}
+
+// Masks whole groups of four blocks, from block 0 on.
+fn mask_groups(key: &[u32; 8], tail: &[u32; 2], data: &mut [u8])
+    requires { length «data».old % 256 ≡ 0 }
+    ensures { «data».new ≡ masked (stream_of_blocks 64 (λ n. block_bytes (numbered key.now tail.now n))) «data».old }
+{
+    'groups: for g in 0..data.len() / GROUP_LEN {
+        let at = GROUP_LEN * g;
+        let keystream = lanes::keystream(key, tail, 4 * g as u64);
+        mask_by_vectors(&mut data[at..at + GROUP_LEN], &keystream);
+    }
+}
+
+// Masks data of any length, from block number `first` on.
+fn mask_blocks(key: &[u32; 8], tail: &[u32; 2], first: u64, data: &mut [u8])
+    requires { first + length «data».old < 2 ^ 64 }
+    ensures { «data».new ≡ masked (stream_of_blocks 64 (λ n. block_bytes (numbered key.now tail.now (first + n)))) «data».old }
+{
+    'left: for i in 0..data.len().div_ceil(BLOCK_LEN) {
+        let at = BLOCK_LEN * i;
+        let end = data.len().min(at + BLOCK_LEN);
+        mask(&mut data[at..end], &block_at(key, tail, first + i as u64));
+    }
 }
 
 /// Masks or unmasks `data`, in place, by the keystream of XChaCha20 from its start on: the
@@ -60,14 +71,10 @@ fn block_at(mut start: [u32; 16], n: u64) -> [u8; 64]
 pub fn xchacha20_apply(key: &[u8; 32], nonce: &[u8; 24], data: &mut [u8])
     ensures { «data».new ≡ masked (xchacha20_stream key.now nonce.now) «data».old }
 {
-    let start = first_start(key, nonce);
-    let block_count = data.len() / BLOCK_LEN;
-    'whole_blocks: for n in 0..block_count {
-        let at = BLOCK_LEN * n;
-        mask(&mut data[at..at + BLOCK_LEN], &block_at(start, n as u64));
-    }
-    mask(
-        &mut data[BLOCK_LEN * block_count..],
-        &block_at(start, block_count as u64),
-    );
+    let subkey = subkey_words(key, nonce);
+    let tail = tail_words(nonce);
+    let group_count = data.len() / GROUP_LEN;
+    let end = GROUP_LEN * group_count;
+    mask_groups(&subkey, &tail, &mut data[..end]);
+    mask_blocks(&subkey, &tail, 4 * group_count as u64, &mut data[end..]);
 }

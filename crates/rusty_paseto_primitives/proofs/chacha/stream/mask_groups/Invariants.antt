@@ -1,0 +1,10 @@
+use Rattle.std.proofs.Common.{◌*◌}
+use Rattle.rusty_paseto_primitives.specs.Keystream.{stream_of_blocks}
+use Rattle.rusty_paseto_primitives.specs.ChaCha.Block.{block_bytes}
+use Rattle.rusty_paseto_primitives.specs.ChaCha.Stream.{numbered}
+use Rattle.rusty_paseto_primitives.proofs.Masking.{IsMaskedTo}
+use Rattle.rusty_paseto_primitives.proofs.chacha.stream.mask_groups.Given as goal
+
+abbrev pub invariant-groups : goal.invariant-groups
+invariant-groups l =
+    IsMaskedTo (stream_of_blocks 64 (λ n. block_bytes (numbered l.key l.tail n))) (256 * l.g) l.initial.data l.data
