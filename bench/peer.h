@@ -1,0 +1,35 @@
+/* Local PASETO tokens as a user of libsodium (version 4) and of OpenSSL (versions 1 and 3) writes them,
+   with no footer and no implicit assertion. */
+#ifndef PEER_H
+#define PEER_H
+
+#include <stdbool.h>
+#include <stddef.h>
+#include <stdint.h>
+
+/* Bytes that the caller frees. Where a call failed, `bytes` is null. */
+struct peer_bytes {
+    uint8_t *bytes;
+    size_t length;
+};
+
+typedef struct peer_bytes peer_seal(const uint8_t key[32], const uint8_t nonce[32],
+                                    const uint8_t *text, size_t length);
+
+typedef struct peer_bytes peer_open(const uint8_t key[32], const uint8_t *token, size_t length);
+
+peer_seal peer_v1_seal, peer_v3_seal, peer_v4_seal;
+peer_open peer_v1_open, peer_v3_open, peer_v4_open;
+
+/* Readies both libraries. It is called once, before all else. */
+bool peer_start(void);
+
+/* The HMAC-SHA384 code of a message. */
+bool peer_hmac_sha384(const uint8_t *key, size_t key_length, const uint8_t *message, size_t length,
+                      uint8_t code[48]);
+
+/* Encrypts data in place by AES-256 in counter mode. */
+bool peer_aes256_ctr(const uint8_t key[32], const uint8_t counter[16], uint8_t *data,
+                     size_t length);
+
+#endif

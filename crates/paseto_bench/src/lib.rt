@@ -1,0 +1,18 @@
+//! Sealing, opening and the primitives, each many times over, for a C program that measures them.
+//!
+//! C passes a slice as a pointer, which is not null, and a length, and passes nothing for the
+//! allocator. The loop over the repetitions stands on this side of the call, so that what is measured
+//! is what a program in this language pays. Something of each repetition goes into the next one or
+//! into the answer, so that a compiler can leave none out.
+#![tactic(auto)]
+
+mod primitives;
+mod tokens;
+
+pub use primitives::{
+    paseto_bench_aes256_ctr, paseto_bench_blake2b, paseto_bench_hmac_sha384, paseto_bench_xchacha20,
+};
+pub use tokens::{
+    paseto_bench_v1_open, paseto_bench_v1_seal, paseto_bench_v3_open, paseto_bench_v3_seal,
+    paseto_bench_v4_open, paseto_bench_v4_seal,
+};
