@@ -1,0 +1,397 @@
+#!/usr/bin/env bash
+# Checks the built program from outside: what no proof of a function can see, as the status of the
+# process, the words and streams that it is really given, and which stream gets what.
+#
+#   tests/program.sh [--pending] [PROGRAM]
+#
+# Without PROGRAM it takes the one that `rt run` leaves in the crate's out/, and builds it where it is
+# not there. --pending also runs the checks of what is still to come (see the end of this file). The
+# last line is 'N passed, M failed', and the status is 0 where none failed.
+set -u
+export LC_ALL=C
+
+root=$(cd "$(dirname "$0")/.." && pwd)
+with_pending=no
+if [ "${1-}" = --pending ]; then
+    with_pending=yes
+    shift
+fi
+program=${1-$root/crates/paseto_tool/out/paseto_tool}
+if [ $# -eq 0 ] && [ ! -x "$program" ]; then
+    echo "building the program"
+    (cd "$root/crates/paseto_tool" && rt run -- inspect v4.local.payload) >/dev/null 2>&1
+fi
+if [ ! -x "$program" ]; then
+    echo "there is no program $program"
+    echo "0 passed, 1 failed"
+    exit 1
+fi
+
+work=$(mktemp -d)
+trap 'rm -rf "$work"' EXIT
+passed=0
+failed=0
+
+# The 32 bytes `wubbalubbadubdubwubbalubbadubdub`, and others.
+key=77756262616c7562626164756264756277756262616c75626261647562647562
+other_key=87756262616c7562626164756264756277756262616c75626261647562647562
+zero=0000000000000000000000000000000000000000000000000000000000000000
+ones=ffffffffffffffffffffffffffffffffffffffffffffffffffffffffffffffff
+
+# Tokens under the key and the nonce of zeros, made by Python's hashlib and hmac, libsodium and OpenSSL:
+# of the empty text, and of the twelve bytes `hello, world`.
+v4_empty=v4.local.AAAAAAAAAAAAAAAAAAAAAAAAAAAAAAAAAAAAAAAAAAAbOgN0OVjqz2vTDD02NopmW7deH56O2K4vACTMJ5F11A
+v4_footer=v4.local.AAAAAAAAAAAAAAAAAAAAAAAAAAAAAAAAAAAAAAAAAACr89_zXPNiFDVeypK3tg0GXB5cZHG752dbZ4qV47Xkng.Zm9vdGVy
+v4_both=v4.local.AAAAAAAAAAAAAAAAAAAAAAAAAAAAAAAAAAAAAAAAAAB-FRxKX3uaUvnGeCbRSNoU9jpkI6DiwGmIC0xZNxBpaQ.Zm9vdGVy
+v4_nonce_of_ones=v4.local.__________________________________________8DOUsnKh0CTuDRGZanTsVHX4mURC0RW2lMVILorYC4DA
+v3_empty=v3.local.AAAAAAAAAAAAAAAAAAAAAAAAAAAAAAAAAAAAAAAAAAC9IQiIqc1479XV9cyloDij0rVA9zpWAuLWvks7uK-mx692cBoB58uATR7nJKl5cEk
+v3_both=v3.local.AAAAAAAAAAAAAAAAAAAAAAAAAAAAAAAAAAAAAAAAAAAXCulCjMfGzOfExvlnas17MAluMcrdximdcOqBKau6UkfhT5Z19sOFgAsltfej5gc.
+v1_empty=v1.local.bB8u6Tj60uJL2RKYR0OCyiGMdds9g-EUs9Q2d3bRTTXq9Y401eI4FS7qbW7qvc5PGhe6_U4ftOqJig3AvYOFnA7a51CqRo5LIBv-tV-XJWA
+v1_footer=v1.local.bB8u6Tj60uJL2RKYR0OCyiGMdds9g-EUs9Q2d3bRTTVE0LdPCPLdyAIb2OKk4RKC-70JjDBskyDOVJJKrUgcHBd-YlZVQgY9Fd4p8IHbByw.Zm9vdGVy
+declare -A hello=(
+    [v1]=v1.local.JC83hO35dYCAexa8LevOYX2ytWxJfrjdAuUXdBDC5JuZLQqLCmn5qvxbqLLua5WNMQKJLfBrNiYKR3vc-GZiFdroqlyV3KcFZ5IrMyNAKRuT4Wq5xP-TA77ZH5o
+    [v3]=v3.local.AAAAAAAAAAAAAAAAAAAAAAAAAAAAAAAAAAAAAAAAAAB0w7Vbo2fqWQ_Ikeycp0UZv2SVGN8BndFHNPq01Ft9II80KL5AkJq4lm05AUpptxzIWJJR9TpzrpCLI6g
+    [v4]=v4.local.AAAAAAAAAAAAAAAAAAAAAAAAAAAAAAAAAAAAAAAAAADB2SxXxgxHwaPGNWLr_kgjle1qWw_YYE0oiBHTlnlwVPoah0A3UleShw-m2w
+)
+
+# What stands on standard error.
+usage='usage: paseto_tool inspect TOKEN | seal VERSION KEY NONCE [FOOTER [ASSERTION]] | open VERSION KEY [FOOTER [ASSERTION]]'
+bad_tag='An unspecified cryption error occured'
+bad_key='Key was not in the correct format'
+bad_count='This string has an incorrect number of parts and cannot be parsed into a token'
+bad_header='The token header is invalid'
+bad_footer='The provided footer is invalid'
+bad_base64='A base64 decode error occurred'
+not_utf8='A Utf8 parsing error occurred'
+bad_stream='input or output failed'
+no_memory='No memory was found'
+
+# The bytes of a file, and a dot, so that line feeds at its end are seen.
+bytes_of() {
+    cat "$1"
+    printf .
+}
+
+pass() {
+    passed=$((passed + 1))
+}
+
+# The last line, and the status.
+finish() {
+    echo "$passed passed, $failed failed"
+    [ "$failed" -eq 0 ]
+    exit
+}
+
+# A program that fails so often is of no use, and may take its whole time each time.
+fail() {
+    failed=$((failed + 1))
+    echo "FAILED: $1"
+    if [ "$failed" -ge 30 ]; then
+        echo "the rest is not tried"
+        finish
+    fi
+}
+
+# Runs the program on the words, with the standard streams as they are.
+call() {
+    timeout 10 "$program" "$@"
+}
+
+# verdict NAME STATUS: compares a status and what $work/out and $work/err have with what is wanted, in
+# $want_status, $want_out and $want_err.
+verdict() {
+    local out err
+    out=$(bytes_of "$work/out")
+    err=$(bytes_of "$work/err")
+    if [ "$2" != "$want_status" ]; then
+        fail "$1: the status is $2 in place of $want_status"
+    elif [ "$out" != "$want_out." ]; then
+        fail "$1: standard output is ${out:0:200}"
+    elif [ "$err" != "$want_err." ]; then
+        fail "$1: standard error is ${err:0:200}"
+    else
+        pass
+    fi
+}
+
+# gives NAME INPUT OUTPUT WORD..: status 0, just this output, and nothing on standard error.
+gives() {
+    local name=$1 input=$2
+    want_status=0 want_out=$3 want_err=
+    shift 3
+    printf %s "$input" >"$work/in"
+    call "$@" <"$work/in" >"$work/out" 2>"$work/err"
+    verdict "$name" $?
+}
+
+# refuses NAME INPUT TEXT WORD..: status 1, no output, and just this line on standard error.
+refuses() {
+    local name=$1 input=$2
+    want_status=1 want_out= want_err=$3$'\n'
+    shift 3
+    printf %s "$input" >"$work/in"
+    call "$@" <"$work/in" >"$work/out" 2>"$work/err"
+    verdict "$name" $?
+}
+
+# misuses NAME WORD..: status 2, no output, and the usage text, though no input is there.
+misuses() {
+    local name=$1
+    want_status=2 want_out= want_err=$usage$'\n'
+    shift
+    call "$@" <&- >"$work/out" 2>"$work/err"
+    verdict "$name" $?
+}
+
+line=$'\n'
+
+# ---- inspect
+
+gives 'inspect with a footer' '' "version: v4${line}purpose: local${line}footer: Zm9vdGVy${line}footer text: footer${line}" \
+    inspect v4.local.payload.Zm9vdGVy
+gives 'inspect without a footer' '' "version: v4${line}purpose: local${line}footer: none${line}" \
+    inspect v4.local.payload
+gives 'inspect of an empty footer' '' "version: v4${line}purpose: local${line}footer: ${line}footer text: ${line}" \
+    inspect v4.local.payload.
+gives 'inspect takes sections as they are' '' "version: ${line}purpose: b${line}footer: none${line}" inspect .b.
+refuses 'inspect of a footer that is no text' '' "$not_utf8" inspect v4.local.payload._w
+refuses 'inspect of a footer that is no base64' '' "$bad_base64" inspect 'v4.local.payload.!!!invalid!!!'
+refuses 'inspect of two sections' '' "$bad_count" inspect v4.local
+refuses 'inspect of the empty word' '' "$bad_count" inspect ''
+
+# ---- seal and open
+
+gives 'seal v4' '' "$v4_empty$line" seal v4 "$key" "$zero"
+gives 'seal v4 with an empty footer' '' "$v4_empty.$line" seal v4 "$key" "$zero" ''
+gives 'seal v4 with a footer' '' "$v4_footer$line" seal v4 "$key" "$zero" footer
+gives 'seal v4 with footer and assertion' '' "$v4_both$line" seal v4 "$key" "$zero" footer x
+gives 'seal v4 under another nonce' '' "$v4_nonce_of_ones$line" seal v4 "$key" "$ones"
+gives 'seal v3' '' "$v3_empty$line" seal v3 "$key" "$zero"
+gives 'seal v3 with footer and assertion' '' "$v3_both$line" seal v3 "$key" "$zero" '' x
+gives 'seal v1' '' "$v1_empty$line" seal v1 "$key" "$zero"
+gives 'seal v1 with a footer' '' "$v1_footer$line" seal v1 "$key" "$zero" footer
+for version in v1 v3 v4; do
+    gives "seal $version of a text" 'hello, world' "${hello[$version]}$line" seal $version "$key" "$zero"
+    gives "open $version" "${hello[$version]}" 'hello, world' open $version "$key"
+    gives "open $version before a line feed" "${hello[$version]}$line" 'hello, world' open $version "$key"
+    refuses "open $version under another key" "${hello[$version]}" "$bad_tag" open $version "$other_key"
+    refuses "open $version with an unknown footer" "${hello[$version]}.Zm9v" "$bad_footer" open $version "$key"
+done
+gives 'open v4 of the empty text' "$v4_empty$line" '' open v4 "$key"
+gives 'open v4, footer passed as empty' "$v4_empty" '' open v4 "$key" ''
+gives 'open v4, empty footer section' "$v4_empty." '' open v4 "$key"
+gives 'open v4, empty footer on both sides' "$v4_empty." '' open v4 "$key" ''
+gives 'open v4 with a footer' "$v4_footer" '' open v4 "$key" footer
+gives 'open v4 with footer and assertion' "$v4_both" '' open v4 "$key" footer x
+gives 'open v3 with footer and assertion' "$v3_both" '' open v3 "$key" '' x
+gives 'open v1 with a footer' "$v1_footer" '' open v1 "$key" footer
+gives 'open v4 without its footer section' "${v4_footer%.*}" '' open v4 "$key" footer
+
+refuses 'open v4 of the empty text under another key' "$v4_empty$line" "$bad_tag" open v4 "$other_key"
+refuses 'open v4 with neither section nor footer' "${v4_footer%.*}" "$bad_tag" open v4 "$key"
+refuses 'open v4 with a footer that is not passed' "$v4_footer" "$bad_footer" open v4 "$key"
+refuses 'open v4 with footer and assertion exchanged' "$v4_both" "$bad_footer" open v4 "$key" x footer
+refuses 'open v4 without the assertion' "$v4_both" "$bad_tag" open v4 "$key" footer
+refuses 'open v4 of two sections' v4.local "$bad_count" open v4 "$key"
+refuses 'open v4 of no input' '' "$bad_count" open v4 "$key"
+refuses 'open v3 of a token of version 4' "$v4_empty" "$bad_header" open v3 "$key"
+refuses 'open v4 before two line feeds' "$v4_empty$line$line" "$bad_base64" open v4 "$key"
+refuses 'open v4 before a carriage return' "$v4_empty"$'\r\n' "$bad_base64" open v4 "$key"
+refuses 'open v4, empty footer, before two line feeds' "$v4_empty.$line$line" "$bad_footer" open v4 "$key"
+refuses 'open v4 of input that is no text' $'\xff' "$not_utf8" open v4 "$key"
+refuses 'seal v4 of input that is no text' $'a\xffb' "$not_utf8" seal v4 "$key" "$zero"
+
+# ---- KEY and NONCE are judged before the input is read, and KEY is not echoed
+
+for bad in "${key%?}" "${key}0" "g${key#?}" '' ' ' "0x$key" 'my secret key'; do
+    refuses "seal v4 with the bad key '$bad'" $'\xff' "$bad_key" seal v4 "$bad" "$zero"
+    refuses "seal v4 with the bad nonce '$bad'" $'\xff' "$bad_key" seal v4 "$key" "$bad"
+    refuses "open v4 with the bad key '$bad'" $'\xff' "$bad_key" open v4 "$bad"
+done
+want_status=1 want_out= want_err=$bad_key$line
+call seal v4 "${key%?}" "$zero" <&- >"$work/out" 2>"$work/err"
+verdict 'seal v4 with a bad key and a closed input' $?
+call open v4 "${key%?}" <&- >"$work/out" 2>"$work/err"
+verdict 'open v4 with a bad key and a closed input' $?
+
+# ---- faults of usage
+
+misuses 'no word'
+misuses 'an empty word' ''
+misuses 'another command' reveal v4.local.payload
+misuses 'a command in capitals' INSPECT v4.local.payload
+misuses 'help is no command' --help
+misuses 'inspect without a token' inspect
+misuses 'inspect of two tokens' inspect v4.local.payload v4.local.payload
+misuses 'seal without a version' seal
+misuses 'seal without a key' seal v4
+misuses 'seal without a nonce' seal v4 "$key"
+misuses 'seal with a word too many' seal v4 "$key" "$zero" footer x y
+misuses 'open without a key' open v4
+misuses 'open with a word too many' open v4 "$key" footer x y
+misuses 'seal v1 with an assertion' seal v1 "$key" "$zero" footer x
+misuses 'open v1 with an assertion' open v1 "$key" footer x
+for version in v2 v5 V4 '' v4.local "$key"; do
+    misuses "seal of the version '$version'" seal "$version" "$key" "$zero"
+    misuses "open of the version '$version'" open "$version" "$key"
+done
+
+# ---- closed and full outputs
+
+# fails_to_write NAME WORD..: the output takes nothing, so the status is 1.
+fails_to_write() {
+    local name=$1
+    want_status=1 want_out= want_err=$bad_stream$line
+    shift
+    : >"$work/out"
+    call "$@" <"$work/in" >&- 2>"$work/err"
+    verdict "$name, output closed" $?
+    call "$@" <"$work/in" >/dev/full 2>"$work/err"
+    verdict "$name, output full" $?
+}
+
+printf %s "${hello[v4]}" >"$work/in"
+fails_to_write 'seal v4' seal v4 "$key" "$zero"
+fails_to_write 'open v4' open v4 "$key"
+fails_to_write 'inspect' inspect v4.local.payload
+
+want_status=0 want_out= want_err=
+printf %s "$v4_empty" >"$work/in"
+call open v4 "$key" <"$work/in" >&- 2>"$work/err"
+verdict 'open v4 of the empty text, output closed' $?
+
+# A file that may grow to 1,024 bytes takes so many bytes more.
+for room in 0 1 24 95 96; do
+    printf '' >"$work/in"
+    head -c $((1024 - room)) /dev/zero >"$work/grows"
+    (trap '' XFSZ; ulimit -f 1; call seal v4 "$key" "$zero" <"$work/in" >>"$work/grows" 2>"$work/err")
+    status=$?
+    tail -c +$((1025 - room)) "$work/grows" >"$work/out"
+    whole=$v4_empty$line
+    want_out=${whole:0:room}
+    if [ $room -lt 96 ]; then
+        want_status=1 want_err=$bad_stream$line
+    else
+        want_status=0 want_err=
+    fi
+    verdict "seal v4 into room for $room bytes" $status
+done
+
+# A pipe whose reader has gone.
+head -c 1000000 /dev/zero | tr '\0' a >"$work/long"
+(trap '' PIPE; call seal v4 "$key" "$zero" <"$work/long" 2>"$work/err"; echo $? >"$work/status") \
+    | head -c 9 >"$work/out"
+want_status=1 want_out=v4.local. want_err=$bad_stream$line
+verdict 'seal v4 into a pipe that is closed' "$(cat "$work/status")"
+
+# ---- standard error closed or full changes no status
+
+# keeps_status NAME STATUS OUTPUT WORD..
+keeps_status() {
+    local name=$1
+    want_status=$2 want_out=$3 want_err=
+    shift 3
+    : >"$work/err"
+    call "$@" <"$work/in" >"$work/out" 2>&-
+    verdict "$name, standard error closed" $?
+    call "$@" <"$work/in" >"$work/out" 2>/dev/full
+    verdict "$name, standard error full" $?
+}
+
+printf '' >"$work/in"
+keeps_status 'seal v4' 0 "$v4_empty$line" seal v4 "$key" "$zero"
+keeps_status 'a bad key' 1 '' seal v4 "${key%?}" "$zero"
+keeps_status 'no token' 1 '' open v4 "$key"
+keeps_status 'a fault of usage' 2 '' seal v2 "$key" "$zero"
+
+# ---- inputs that can't be read
+
+# fails_to_read NAME WORD..
+fails_to_read() {
+    local name=$1
+    want_status=1 want_out= want_err=$bad_stream$line
+    shift
+    call "$@" <&- >"$work/out" 2>"$work/err"
+    verdict "$name, input closed" $?
+    call "$@" <"$work" >"$work/out" 2>"$work/err"
+    verdict "$name, a folder as input" $?
+}
+
+fails_to_read 'seal v4' seal v4 "$key" "$zero"
+fails_to_read 'open v4' open v4 "$key"
+
+want_status=0 want_out="version: v4${line}purpose: local${line}footer: none${line}" want_err=
+call inspect v4.local.payload <&- >"$work/out" 2>"$work/err"
+verdict 'inspect, input closed' $?
+call inspect v4.local.payload <"$work" >"$work/out" 2>"$work/err"
+verdict 'inspect, a folder as input' $?
+
+# ---- long inputs, and inputs in pieces
+
+call seal v4 "$key" "$ones" <"$work/long" >"$work/token" 2>"$work/err"
+sealed=$?
+call open v4 "$key" <"$work/token" >"$work/back" 2>>"$work/err"
+opened=$?
+if [ "$sealed $opened" = '0 0' ] && [ "$(sha256sum <"$work/back")" = "$(sha256sum <"$work/long")" ] \
+    && [ "$(wc -c <"$work/token")" -eq 1333429 ] && [ ! -s "$work/err" ]; then
+    pass
+else
+    fail 'a text of a million bytes, sealed and opened'
+fi
+
+want_status=0 want_out=${hello[v4]}$line want_err=
+{ printf 'hello'; sleep 0.1; printf ', wor'; sleep 0.1; printf 'ld'; } \
+    | call seal v4 "$key" "$zero" >"$work/out" 2>"$work/err"
+verdict 'seal v4 of input in pieces' $?
+
+want_status=1 want_out= want_err=$no_memory$line
+head -c 300000000 /dev/zero \
+    | (ulimit -v 100000; call seal v4 "$key" "$zero" >"$work/out" 2>"$work/err")
+verdict 'seal v4 of more than the memory that it may have' $?
+
+# ---- what is still to come
+
+# A word that is not UTF-8 is a fault of usage.
+pending_words_that_are_no_text() {
+    misuses 'a token that is no text' inspect $'v4.local.payload.\xff'
+    misuses 'a command that is no text' $'\xff'
+    misuses 'a key that is no text' seal v4 $'\xff' "$zero"
+    misuses 'a footer that is no text' seal v4 "$key" "$zero" $'foot\xff'
+}
+
+# Where there is no memory for the words, that is said. So many words take the program more memory than
+# the shell that starts it, so that under some limits the shell starts it and it has too little. With
+# enough it says that they are no use.
+pending_no_memory_for_the_words() {
+    local words limit status err refused=no used=no other=none
+    words=$(printf 'a %.0s' {1..30000})
+    for ((limit = 3000; limit <= 18000; limit += 500)); do
+        # shellcheck disable=SC2086
+        (
+            timeout 10 sh -c 'ulimit -v "$1"; shift; exec "$@"' limited $limit "$program" $words \
+                <&- >"$work/out" 2>"$work/err"
+            exit $?
+        ) 2>/dev/null
+        status=$?
+        err=$(bytes_of "$work/err")
+        case "$status $err" in
+            *" limited: "*) ;;
+            "1 $no_memory$line.") refused=yes ;;
+            "2 $usage$line.") used=yes ;;
+            [012]\ *) other=$err ;;
+        esac
+    done
+    if [ "$refused $used $other" = 'yes yes none' ]; then
+        pass
+    else
+        fail "little memory for the words: refused: $refused, enough: $used, other texts: ${other:0:200}"
+    fi
+}
+
+if [ "$with_pending" = yes ]; then
+    pending_words_that_are_no_text
+    pending_no_memory_for_the_words
+fi
+
+finish
