@@ -1,5 +1,7 @@
 /* Measures the library beside libsodium and OpenSSL, in turn in one process, the best of many rounds,
-   and first checks that both make the same bytes. Words: --quick. */
+   and first checks that both make the same bytes.
+
+   bench [--quick] [NAME..]: those whose names begin with one of the words, else all. */
 #include <openssl/crypto.h>
 #include <sodium.h>
 #include <stdio.h>
@@ -22,10 +24,10 @@ static const char *size_names[SIZES] = {"0 B", "100 B", "1 KB", "10 KB", "1 MB"}
 /* How many repetitions the comparison of bytes has. */
 #define COMPARED 3
 
-static double slice_seconds = 0.004;
+static const double slice_seconds = 0.001;
 static double row_seconds = 1.5;
 
-static uint8_t key[32], nonce[32], plain[LARGEST], token[ROOM], ours_out[ROOM], peer_out[ROOM];
+static uint8_t key[32], long_key[48], nonce[32], plain[LARGEST], token[ROOM], ours_out[ROOM], peer_out[ROOM];
 static size_t plain_length, token_length;
 
 static double seconds(void)
@@ -51,7 +53,8 @@ struct subject {
 /* The answer where a side failed. */
 #define FAILED PASETO_BENCH_FAILED
 
-static void number_nonce(uint8_t *bytes, uint32_t repetition)
+/* Writes a repetition's number to the first four bytes. */
+static void write_number(uint8_t *bytes, uint32_t repetition)
 {
     for (int i = 0; i < 4; i++) {
         bytes[i] = (uint8_t)(repetition >> 8 * i);
@@ -83,19 +86,21 @@ static uint64_t ours_seal(const struct subject *subject, uint8_t *out, uint32_t 
     return subject->ours_seal(key, 32, nonce, 32, plain, plain_length, out, token_length, reps);
 }
 
+/* The last token has the nonce as it is. */
 static uint64_t peer_seals(const struct subject *subject, uint8_t *out, uint32_t reps)
 {
-    uint8_t used[32];
+    uint8_t numbered[32];
     uint64_t sum = 0;
-    memcpy(used, nonce, sizeof used);
-    for (uint32_t repetition = 0; repetition < reps; repetition++) {
-        number_nonce(used, repetition);
+    memcpy(numbered, nonce, sizeof numbered);
+    for (uint32_t repetition = 1; repetition <= reps; repetition++) {
+        write_number(numbered, repetition);
+        const uint8_t *used = repetition == reps ? nonce : numbered;
         struct peer_bytes made = subject->peer_seal(key, used, plain, plain_length);
         if (made.bytes == NULL || made.length != token_length) {
             return FAILED;
         }
         sum += made.bytes[made.length - 1];
-        if (repetition + 1 == reps) {
+        if (repetition == reps) {
             memcpy(out, made.bytes, made.length);
         }
         free(made.bytes);
@@ -128,60 +133,65 @@ static uint64_t peer_opens(const struct subject *subject, uint8_t *out, uint32_t
 static uint64_t ours_blake2b(const struct subject *subject, uint8_t *out, uint32_t reps)
 {
     (void)subject;
-    memcpy(out, key, 32);
-    return paseto_bench_blake2b(plain, plain_length, out, 32, reps) ? 0 : FAILED;
+    return paseto_bench_blake2b(key, 32, plain, plain_length, out, 32, reps);
 }
 
+/* The last digest is made under the key as it is. */
 static uint64_t peer_blake2b(const struct subject *subject, uint8_t *out, uint32_t reps)
 {
     (void)subject;
-    uint8_t last[32];
-    memcpy(out, key, 32);
-    for (uint32_t repetition = 0; repetition < reps; repetition++) {
-        if (crypto_generichash_blake2b(last, 32, plain, plain_length, out, 32) != 0) {
+    uint8_t numbered[32];
+    uint64_t sum = 0;
+    memcpy(numbered, key, sizeof numbered);
+    for (uint32_t repetition = 1; repetition <= reps; repetition++) {
+        write_number(numbered, repetition);
+        const uint8_t *used = repetition == reps ? key : numbered;
+        if (crypto_generichash_blake2b(out, 32, plain, plain_length, used, 32) != 0) {
             return FAILED;
         }
-        memcpy(out, last, 32);
+        sum += out[0];
     }
-    return 0;
+    return sum;
 }
 
 static uint64_t ours_hmac(const struct subject *subject, uint8_t *out, uint32_t reps)
 {
     (void)subject;
-    memcpy(out, token, 48);
-    return paseto_bench_hmac_sha384(plain, plain_length, out, 48, reps) ? 0 : FAILED;
+    return paseto_bench_hmac_sha384(long_key, 48, plain, plain_length, out, 48, reps);
 }
 
 static uint64_t peer_hmac(const struct subject *subject, uint8_t *out, uint32_t reps)
 {
     (void)subject;
-    uint8_t last[48];
-    memcpy(out, token, 48);
-    for (uint32_t repetition = 0; repetition < reps; repetition++) {
-        if (!peer_hmac_sha384(out, 48, plain, plain_length, last)) {
+    uint8_t numbered[48];
+    uint64_t sum = 0;
+    memcpy(numbered, long_key, sizeof numbered);
+    for (uint32_t repetition = 1; repetition <= reps; repetition++) {
+        write_number(numbered, repetition);
+        const uint8_t *used = repetition == reps ? long_key : numbered;
+        if (!peer_hmac_sha384(used, 48, plain, plain_length, out)) {
             return FAILED;
         }
-        memcpy(out, last, 48);
+        sum += out[0];
     }
-    return 0;
+    return sum;
 }
 
 /* What is encrypted in place is the text once, and from then on what came of it. */
 static uint64_t ours_xchacha20(const struct subject *subject, uint8_t *out, uint32_t reps)
 {
     (void)subject;
-    return paseto_bench_xchacha20(key, 32, nonce, 24, out, plain_length, reps) ? 0 : FAILED;
+    return paseto_bench_xchacha20(key, 32, nonce, 24, out, plain_length, reps);
 }
 
 static uint64_t peer_xchacha20(const struct subject *subject, uint8_t *out, uint32_t reps)
 {
     (void)subject;
-    uint8_t used[24];
-    memcpy(used, nonce, sizeof used);
+    uint8_t numbered[24];
+    memcpy(numbered, nonce, sizeof numbered);
     for (uint32_t repetition = 0; repetition < reps; repetition++) {
-        number_nonce(used, repetition);
-        crypto_stream_xchacha20_xor(out, out, plain_length, used, key);
+        write_number(numbered, repetition);
+        crypto_stream_xchacha20_xor(out, out, plain_length, numbered, key);
     }
     return 0;
 }
@@ -189,17 +199,17 @@ static uint64_t peer_xchacha20(const struct subject *subject, uint8_t *out, uint
 static uint64_t ours_aes256_ctr(const struct subject *subject, uint8_t *out, uint32_t reps)
 {
     (void)subject;
-    return paseto_bench_aes256_ctr(key, 32, nonce, 16, out, plain_length, reps) ? 0 : FAILED;
+    return paseto_bench_aes256_ctr(key, 32, nonce, 16, out, plain_length, reps);
 }
 
 static uint64_t peer_aes256(const struct subject *subject, uint8_t *out, uint32_t reps)
 {
     (void)subject;
-    uint8_t used[16];
-    memcpy(used, nonce, sizeof used);
+    uint8_t numbered[16];
+    memcpy(numbered, nonce, sizeof numbered);
     for (uint32_t repetition = 0; repetition < reps; repetition++) {
-        number_nonce(used, repetition);
-        if (!peer_aes256_ctr(key, used, out, plain_length)) {
+        write_number(numbered, repetition);
+        if (!peer_aes256_ctr(key, numbered, out, plain_length)) {
             return FAILED;
         }
     }
@@ -311,27 +321,32 @@ static bool run(const struct subject *subject, double ratios[SIZES])
     return true;
 }
 
-static void print_ratios(double ratios[SUBJECTS][SIZES])
+/* Whether the subject's name begins with one of the words, or there is none. */
+static bool is_asked(const struct subject *subject, int count, char **words)
 {
-    printf("\n| ours / peer |");
-    for (int i = 0; i < SIZES; i++) {
-        printf(" %s |", size_names[i]);
-    }
-    printf("\n|---|---|---|---|---|---|\n");
-    for (int s = 0; s < SUBJECTS; s++) {
-        printf("| %s |", subjects[s].name);
-        for (int i = 0; i < SIZES; i++) {
-            printf(" %.2f |", ratios[s][i]);
+    for (int i = 0; i < count; i++) {
+        if (strncmp(subject->name, words[i], strlen(words[i])) == 0) {
+            return true;
         }
-        printf("\n");
     }
+    return count == 0;
+}
+
+static void print_ratios(const char *name, const double ratios[SIZES])
+{
+    printf("| %s |", name);
+    for (int i = 0; i < SIZES; i++) {
+        printf(" %.2f |", ratios[i]);
+    }
+    printf("\n");
 }
 
 int main(int count, char **words)
 {
+    int first = 1;
     if (count > 1 && strcmp(words[1], "--quick") == 0) {
-        slice_seconds = 0.001;
-        row_seconds = 0.1;
+        first = 2;
+        row_seconds = 0.25;
     }
     if (!peer_start()) {
         fprintf(stderr, "libsodium or OpenSSL does not start\n");
@@ -341,18 +356,28 @@ int main(int count, char **words)
         key[i] = (uint8_t)(7 * i + 1);
         nonce[i] = (uint8_t)(5 * i + 3);
     }
+    for (size_t i = 0; i < sizeof long_key; i++) {
+        long_key[i] = (uint8_t)(3 * i + 5);
+    }
     for (size_t i = 0; i < sizeof plain; i++) {
         plain[i] = (uint8_t)(' ' + i % 95);
     }
     printf("peers: libsodium %s, %s\n\n", sodium_version_string(), OpenSSL_version(OPENSSL_VERSION));
     printf("%-12s %6s %13s %13s %8s %9s %9s\n", "", "", "ours, ns", "peer, ns", "ratio", "MB/s",
            "peer's");
+    bool is_measured[SUBJECTS];
     static double ratios[SUBJECTS][SIZES];
     for (int s = 0; s < SUBJECTS; s++) {
-        if (!run(&subjects[s], ratios[s])) {
+        is_measured[s] = is_asked(&subjects[s], count - first, words + first);
+        if (is_measured[s] && !run(&subjects[s], ratios[s])) {
             return 1;
         }
     }
-    print_ratios(ratios);
+    printf("\n| ours / peer | 0 B | 100 B | 1 KB | 10 KB | 1 MB |\n|---|---|---|---|---|---|\n");
+    for (int s = 0; s < SUBJECTS; s++) {
+        if (is_measured[s]) {
+            print_ratios(subjects[s].name, ratios[s]);
+        }
+    }
     return 0;
 }

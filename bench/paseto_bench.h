@@ -3,11 +3,10 @@
 #ifndef PASETO_BENCH_H
 #define PASETO_BENCH_H
 
-#include <stdbool.h>
 #include <stddef.h>
 #include <stdint.h>
 
-/* What a call of tokens answers where it did not do all repetitions. */
+/* What a call answers where it could not do all repetitions. */
 #define PASETO_BENCH_FAILED UINT64_MAX
 
 typedef uint64_t paseto_bench_seal(const uint8_t *key, size_t key_length, const uint8_t *nonce,
@@ -18,12 +17,13 @@ typedef uint64_t paseto_bench_open(const uint8_t *key, size_t key_length, const 
                                    size_t token_length, uint8_t *text, size_t text_length,
                                    uint32_t reps);
 
-typedef bool paseto_bench_digest(const uint8_t *message, size_t message_length, uint8_t *digest,
-                                 size_t digest_length, uint32_t reps);
+typedef uint64_t paseto_bench_digest(const uint8_t *key, size_t key_length, const uint8_t *message,
+                                     size_t message_length, uint8_t *digest, size_t digest_length,
+                                     uint32_t reps);
 
-typedef bool paseto_bench_cipher(const uint8_t *key, size_t key_length, const uint8_t *start,
-                                 size_t start_length, uint8_t *data, size_t data_length,
-                                 uint32_t reps);
+typedef uint64_t paseto_bench_cipher(const uint8_t *key, size_t key_length, const uint8_t *start,
+                                     size_t start_length, uint8_t *data, size_t data_length,
+                                     uint32_t reps);
 
 paseto_bench_seal paseto_bench_v1_seal, paseto_bench_v3_seal, paseto_bench_v4_seal;
 paseto_bench_open paseto_bench_v1_open, paseto_bench_v3_open, paseto_bench_v4_open;

@@ -1,11 +1,12 @@
 #!/usr/bin/env bash
 # Measures sealing, opening and the primitives beside libsodium and OpenSSL.
 #
-#   bench/run.sh [--quick] [--cpu NAME]
+#   bench/run.sh [--quick] [--cpu NAME] [SUBJECT..]
 #
-# --quick takes about 30 seconds in place of three minutes, and its figures are rough. --cpu builds the
-# library for another processor, as x86-64-v3. The library is proved first, which takes some minutes
-# where no check has kept its work in out/.
+# --quick measures each row for a quarter of a second in place of one and a half, and its figures are
+# rough. --cpu builds the library for another processor, as x86-64-v3. A SUBJECT, as v4 or XChaCha20, is
+# the beginning of the names of those that are measured; without one all are. The library is proved
+# first, which takes some minutes where no check has kept its work.
 set -euo pipefail
 cd "$(dirname "$0")"
 
@@ -15,7 +16,8 @@ while [ $# -gt 0 ]; do
     case "$1" in
         --quick) words+=("$1"); shift ;;
         --cpu) cpu=(--cpu "${2:?--cpu wants a name, as x86-64-v3}"); shift 2 ;;
-        *) echo "usage: bench/run.sh [--quick] [--cpu NAME]" >&2; exit 2 ;;
+        -*) echo "usage: bench/run.sh [--quick] [--cpu NAME] [SUBJECT..]" >&2; exit 2 ;;
+        *) break ;;
     esac
 done
 
@@ -39,4 +41,4 @@ cc -O2 -std=c11 -D_POSIX_C_SOURCE=200809L -Wall -Wextra -o out/bench \
 
 echo "$(date -u +%F), $(uname -m), $(sed -n 's/^model name[^:]*: //p' /proc/cpuinfo | head -1)"
 echo "load before the run: $(cut -d' ' -f1 /proc/loadavg), processor of the library: ${cpu[1]:-default}"
-exec out/bench "${words[@]}"
+exec out/bench "${words[@]}" "$@"

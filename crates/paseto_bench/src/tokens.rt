@@ -1,6 +1,14 @@
 //! Sealing and opening of local tokens, each many times over, with no footer and no implicit
 //! assertion.
 
+ghost use Rattle.std.specs.Prelude.{◌≡◌, ◌≢◌, ◌^◌, ◌-◌, None, IfOk, IsSome, string_bytes};
+ghost use Rattle.rusty_paseto_parts.specs.Payload.{payload_text};
+ghost use Rattle.rusty_paseto_core.specs.Suite.{Design};
+ghost use Rattle.rusty_paseto_core.specs.Suite.V1.{v1};
+ghost use Rattle.rusty_paseto_core.specs.Suite.V3.{v3};
+ghost use Rattle.rusty_paseto_core.specs.Suite.V4.{v4};
+ghost use Rattle.paseto_bench.specs.Tokens.{OpensTo, token_of};
+
 use rusty_paseto_core::{Paseto, PasetoError};
 use rusty_paseto_parts::{
     Key, Local, PasetoNonce, PasetoSymmetricKey, Payload, V1, V3, V4, VersionTrait,
@@ -11,8 +19,9 @@ use std::str;
 /// What is answered where a length is wrong, a text is none or a repetition was refused.
 const FAILED: u64 = u64::MAX;
 
-/// Seals `text` in version 1, `reps` times, under a key of 32 bytes and a nonce of 32 whose first four
-/// are the number of the repetition. `token` has the length of a token, and gets the last one.
+/// Seals `text` in version 1, `reps` times and at least once, under a key of 32 bytes. The last token,
+/// which `token` has just the room for, is made with the nonce of 32 bytes as it is, and each other one
+/// with the number of the repetition in its first four bytes.
 ///
 /// The answer is the sum of the tokens' last bytes, or 2^64 - 1 where a length is wrong, the text is
 /// not UTF-8 or memory was refused.
@@ -24,7 +33,9 @@ pub extern "C" fn paseto_bench_v1_seal(
     text: &[u8],
     token: &mut [u8],
     reps: u32,
-) -> u64 {
+) -> u64
+    ensures { result ≢ 2 ^ 64 - 1 → token.new ≡ token_of v1 key.now nonce.now text.now }
+{
     seal_all::<V1>(alloc, key, nonce, text, token, reps).unwrap_or(FAILED)
 }
 
@@ -37,7 +48,9 @@ pub extern "C" fn paseto_bench_v3_seal(
     text: &[u8],
     token: &mut [u8],
     reps: u32,
-) -> u64 {
+) -> u64
+    ensures { result ≢ 2 ^ 64 - 1 → token.new ≡ token_of v3 key.now nonce.now text.now }
+{
     seal_all::<V3>(alloc, key, nonce, text, token, reps).unwrap_or(FAILED)
 }
 
@@ -50,12 +63,14 @@ pub extern "C" fn paseto_bench_v4_seal(
     text: &[u8],
     token: &mut [u8],
     reps: u32,
-) -> u64 {
+) -> u64
+    ensures { result ≢ 2 ^ 64 - 1 → token.new ≡ token_of v4 key.now nonce.now text.now }
+{
     seal_all::<V4>(alloc, key, nonce, text, token, reps).unwrap_or(FAILED)
 }
 
-/// Opens a token of version 1, `reps` times, under a key of 32 bytes. `text` has the length of the
-/// text, and gets it.
+/// Opens a token of version 1, `reps` times and at least once, under a key of 32 bytes. `text` has just
+/// the room for what it opens to.
 ///
 /// The answer is the sum of the texts' last bytes, or 2^64 - 1 where a length is wrong, the token was
 /// refused or memory was.
@@ -66,7 +81,9 @@ pub extern "C" fn paseto_bench_v1_open(
     token: &[u8],
     text: &mut [u8],
     reps: u32,
-) -> u64 {
+) -> u64
+    ensures { result ≢ 2 ^ 64 - 1 → OpensTo v1 key.now token.now text.new }
+{
     open_all::<V1>(alloc, key, token, text, reps).unwrap_or(FAILED)
 }
 
@@ -78,7 +95,9 @@ pub extern "C" fn paseto_bench_v3_open(
     token: &[u8],
     text: &mut [u8],
     reps: u32,
-) -> u64 {
+) -> u64
+    ensures { result ≢ 2 ^ 64 - 1 → OpensTo v3 key.now token.now text.new }
+{
     open_all::<V3>(alloc, key, token, text, reps).unwrap_or(FAILED)
 }
 
@@ -90,29 +109,38 @@ pub extern "C" fn paseto_bench_v4_open(
     token: &[u8],
     text: &mut [u8],
     reps: u32,
-) -> u64 {
+) -> u64
+    ensures { result ≢ 2 ^ 64 - 1 → OpensTo v4 key.now token.now text.new }
+{
     open_all::<V4>(alloc, key, token, text, reps).unwrap_or(FAILED)
 }
 
 /// A version whose local tokens are measured.
 trait Measured: VersionTrait {
+    // What the version means.
+    ghost design: { Design };
+
     /// The token of a text. It fails only by `Memory`.
     fn seal(
         alloc: Global,
         key: &PasetoSymmetricKey<Self, Local>,
         nonce: &PasetoNonce<'_, Self, Local>,
         text: &str,
-    ) -> Result<String, PasetoError>;
+    ) -> Result<String, PasetoError>
+        ensures { IfOk result (λ token. string_bytes token ≡ token_of design key.now nonce.now text.now) };
 
     /// The text that a token opens to.
     fn open(
         alloc: Global,
         token: &str,
         key: &PasetoSymmetricKey<Self, Local>,
-    ) -> Result<String, PasetoError>;
+    ) -> Result<String, PasetoError>
+        ensures { IfOk result (λ text. OpensTo design key.now token.now (string_bytes text)) };
 }
 
 impl Measured for V1 {
+    ghost design = { v1 };
+
     fn seal(
         alloc: Global,
         key: &PasetoSymmetricKey<V1, Local>,
@@ -132,6 +160,8 @@ impl Measured for V1 {
 }
 
 impl Measured for V3 {
+    ghost design = { v3 };
+
     fn seal(
         alloc: Global,
         key: &PasetoSymmetricKey<V3, Local>,
@@ -151,6 +181,8 @@ impl Measured for V3 {
 }
 
 impl Measured for V4 {
+    ghost design = { v4 };
+
     fn seal(
         alloc: Global,
         key: &PasetoSymmetricKey<V4, Local>,
@@ -170,13 +202,17 @@ impl Measured for V4 {
 }
 
 /// A text that is to become a token, with no footer and no implicit assertion.
-fn with_payload<V: VersionTrait>(text: &str) -> Paseto<'_, V, Local> {
+fn with_payload<V: VersionTrait>(text: &str) -> Paseto<'_, V, Local>
+    ensures payload { payload_text result.payload ≡ text.now }
+    ensures footer { result.footer ≡ None }
+    ensures implicit_assertion { result.implicit_assertion ≡ None }
+{
     let mut paseto = Paseto::builder();
     paseto.set_payload(Payload::from(text));
     paseto
 }
 
-/// Seals the text `reps` times, and adds up the tokens' last bytes.
+/// Seals the text `reps` times, and at least once, and adds up the tokens' last bytes.
 fn seal_all<V: Measured>(
     alloc: Global,
     key: &[u8],
@@ -184,42 +220,44 @@ fn seal_all<V: Measured>(
     text: &[u8],
     token: &mut [u8],
     reps: u32,
-) -> Option<u64> {
+) -> Option<u64>
+    ensures { IsSome result → token.new ≡ token_of V.design key.now nonce.now text.now }
+{
     let key = PasetoSymmetricKey::<V, Local>::from(Key::from(key.as_array::<32>()?));
-    let mut nonce = *nonce.as_array::<32>()?;
+    let nonce = nonce.as_array::<32>()?;
     let text = str::from_utf8(text).ok()?;
     let mut sum = 0u64;
-    'repetitions: for repetition in 0..reps {
-        nonce[..4].copy_from_slice(&repetition.to_le_bytes());
-        let used = Key::from(nonce);
-        let sealed = V::seal(alloc, &key, &PasetoNonce::from(&used), text).ok()?;
+    let mut numbered = *nonce;
+    'repetitions: for repetition in 1..reps {
+        numbered[..4].copy_from_slice(&repetition.to_le_bytes());
+        let sealed = V::seal(alloc, &key, &PasetoNonce::from(&Key::from(numbered)), text).ok()?;
         sum = sum.wrapping_add(last_byte(&sealed));
-        if repetition + 1 == reps {
-            copy_text(&sealed, token)?;
-        }
     }
-    Some(sum)
+    let sealed = V::seal(alloc, &key, &PasetoNonce::from(&Key::from(nonce)), text).ok()?;
+    copy_text(&sealed, token)?;
+    Some(sum.wrapping_add(last_byte(&sealed)))
 }
 
-/// Opens the token `reps` times, and adds up the texts' last bytes.
+/// Opens the token `reps` times, and at least once, and adds up the texts' last bytes.
 fn open_all<V: Measured>(
     alloc: Global,
     key: &[u8],
     token: &[u8],
     text: &mut [u8],
     reps: u32,
-) -> Option<u64> {
+) -> Option<u64>
+    ensures { IsSome result → OpensTo V.design key.now token.now text.new }
+{
     let key = PasetoSymmetricKey::<V, Local>::from(Key::from(key.as_array::<32>()?));
     let token = str::from_utf8(token).ok()?;
     let mut sum = 0u64;
-    'repetitions: for repetition in 0..reps {
+    'repetitions: for _ in 1..reps {
         let opened = V::open(alloc, token, &key).ok()?;
         sum = sum.wrapping_add(last_byte(&opened));
-        if repetition + 1 == reps {
-            copy_text(&opened, text)?;
-        }
     }
-    Some(sum)
+    let opened = V::open(alloc, token, &key).ok()?;
+    copy_text(&opened, text)?;
+    Some(sum.wrapping_add(last_byte(&opened)))
 }
 
 /// The last byte of a text, or 0 where it is empty.
@@ -231,7 +269,9 @@ fn last_byte(text: &str) -> u64 {
 }
 
 /// Copies a text to where there is just room for it.
-fn copy_text(text: &str, room: &mut [u8]) -> Option<()> {
+fn copy_text(text: &str, room: &mut [u8]) -> Option<()>
+    ensures { IsSome result → room.new ≡ text.now }
+{
     if room.len() != text.len() {
         return None;
     }

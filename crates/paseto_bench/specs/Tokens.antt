@@ -1,0 +1,15 @@
+-- Tokens with no footer and no implicit assertion.
+use Rattle.std.specs.Prelude.{ℕ, List, false, None}
+use Rattle.rusty_paseto_core.specs.Binding.{binding_of}
+use Rattle.rusty_paseto_core.specs.Opening.{Opens}
+use Rattle.rusty_paseto_core.specs.Sealing.{sealing}
+use Rattle.rusty_paseto_core.specs.Suite.{Design}
+
+-- the token of a text under a key and a given nonce
+abbrev pub token_of : Design → List ℕ → List ℕ → List ℕ → List ℕ
+token_of design key nonce text =
+    sealing design (binding_of key None None) (design.token_nonce nonce text) false text
+
+-- the token opens to the text under the key
+abbrev pub OpensTo : Design → List ℕ → List ℕ → List ℕ → Type 0
+OpensTo design key token text = Opens design token (binding_of key None None) text
