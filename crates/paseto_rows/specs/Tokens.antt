@@ -1,10 +1,11 @@
 -- When a row of a local token agrees with the definitions.
 use Rattle.std.specs.Prelude.{◌≡◌, ℕ, List, [], is_some, string_bytes}
 use Rattle.std.specs.Option.{option_map_or}
-use Rattle.rusty_paseto_core.specs.Binding.{Binding}
-use Rattle.rusty_paseto_core.specs.Opening.{Opens}
-use Rattle.rusty_paseto_core.specs.Sealing.{sealing}
-use Rattle.rusty_paseto_core.specs.Suite.{Design}
+use Rattle.rusty_paseto_core.specs.Context.{Binding}
+use Rattle.rusty_paseto_core.specs.Local.{Design}
+use Rattle.rusty_paseto_core.specs.Local.Opening.{opening}
+use Rattle.rusty_paseto_core.specs.Local.Sealing.{sealing}
+use Rattle.rusty_paseto_core.specs.Reading.{IsRead}
 use Rattle.paseto_rows.specs.declared.tokens.Row.{Row}
 
 -- an absent footer is the empty one
@@ -23,4 +24,4 @@ sealing_in design row =
 -- the token is the text's sealing, and opens to the text
 pub record IsTokenRow (design : Design) (row : Row) : Type 0 where
   pub seals : row.token.now ≡ sealing_in design row
-  pub opens : Opens design row.token.now (binding row) (string_bytes row.text)
+  pub opens : IsRead (opening design (binding row)) row.token.now (string_bytes row.text)

@@ -1,25 +1,19 @@
 //! Rows of local tokens: each is sealed to the token, and the token opened to the text.
 
-ghost use Rattle.std.specs.Prelude.{◌≡◌, None, IfOk, is_some};
+ghost use Rattle.std.specs.Prelude.{◌≡◌, None, IfOk, false, is_some};
 ghost use Rattle.std.specs.String.{string_bytes};
-ghost use Rattle.rusty_paseto_parts.specs.ImplicitAssertion.{assertion_text};
-ghost use Rattle.rusty_paseto_parts.specs.Payload.{payload_text};
-ghost use Rattle.rusty_paseto_core.specs.Binding.{footer_of};
-ghost use Rattle.rusty_paseto_core.specs.Opening.{Opens};
-ghost use Rattle.rusty_paseto_core.specs.Suite.{Design};
+ghost use Rattle.rusty_paseto_core.specs.Context.{assertion_of, footer_of};
+ghost use Rattle.rusty_paseto_core.specs.Local.Opening.{opening};
+ghost use Rattle.rusty_paseto_core.specs.Reading.{IsRead};
 ghost use Rattle.paseto_rows.specs.Tokens.{IsTokenRow, binding, footer_in, sealing_in};
 
 use crate::error::RowError;
 use crate::fields::{array_of, text_of};
 use rusty_paseto_core::{
-    Footer, ImplicitAssertion, Key, Local, Paseto, PasetoNonce, PasetoSymmetricKey, Payload, V1,
-    V3, V4, VersionTrait,
+    Footer, ImplicitAssertion, Key, Local, LocalVersion, PasetoNonce, PasetoSymmetricKey, Payload,
+    V1, V3, V4,
 };
 use std::alloc::Global;
-
-mod v1;
-mod v3;
-mod v4;
 
 /// `KEY NONCE TEXT FOOTER ASSERTION TOKEN`
 #[derive(Drop)]
@@ -63,41 +57,54 @@ impl<'a> Row<'a> {
         }
     }
 
-    /// The text and the footer, to be sealed.
-    fn paseto<V: VersionTrait>(&self) -> Paseto<'_, V, Local>
-        ensures text { payload_text result.payload ≡ string_bytes self.now.text }
-        ensures footer { footer_of result.footer ≡ footer_in self.now }
-        ensures set { is_some result.footer ≡ is_some self.now.footer }
-        ensures assertion { result.implicit_assertion ≡ None }
+    /// The implicit assertion in a version that has one. A row of another version has none.
+    fn assertion<V: LocalVersion>(&self) -> Result<Option<ImplicitAssertion<'_>>, RowError>
+        ensures text { IfOk result (λ assertion. assertion_of assertion ≡ string_bytes self.now.assertion) }
+        ensures none { V.design.binds_assertion ≡ false → IfOk result (λ assertion. assertion ≡ None) }
     {
-        let mut paseto = Paseto::builder();
-        paseto.set_payload(Payload::from(self.text.as_str()));
-        if let Some(footer) = self.footer() {
-            paseto.set_footer(footer);
+        let given = ImplicitAssertion::from(self.assertion.as_str());
+        let assertion = V::bound_assertion(Some(given));
+        if assertion.is_none() && !self.assertion.is_empty() {
+            return Err(RowError::Form);
         }
-        paseto
+        Ok(assertion)
     }
 
-    /// The implicit assertion, which may be the empty one.
-    fn assertion(&self) -> ImplicitAssertion<'_>
-        ensures { assertion_text result ≡ string_bytes self.now.assertion }
+    /// The key.
+    fn key<V>(&self) -> PasetoSymmetricKey<V, Local>
+        ensures { result ≡ self.now.key }
     {
-        ImplicitAssertion::from(self.assertion.as_str())
+        PasetoSymmetricKey::from(Key::from(self.key))
     }
-}
 
-/// A version, with its calls on the parts of a row.
-trait LocalVersion: VersionTrait {
-    // What the version means.
-    ghost design: { Design };
+    /// The token that the version makes of the text.
+    fn seal<V: LocalVersion>(&self, alloc: Global) -> Result<String, RowError>
+        ensures { IfOk result (λ token. string_bytes token ≡ sealing_in V.design self.now) }
+    {
+        let nonce = Key::from(self.nonce);
+        Ok(V::seal(
+            alloc,
+            &self.key(),
+            &PasetoNonce::from(&nonce),
+            Payload::from(self.text.as_str()),
+            self.footer(),
+            self.assertion::<V>()?,
+        )?)
+    }
 
-    /// The token of the row's text.
-    fn seal(alloc: Global, row: &Row<'_>) -> Result<String, RowError>
-        ensures { IfOk result (λ token. string_bytes token ≡ sealing_in design row.now) };
-
-    /// The text of the row's token.
-    fn open(alloc: Global, row: &Row<'_>) -> Result<String, RowError>
-        ensures { IfOk result (λ text. Opens design row.now.token.now (binding row.now) (string_bytes text)) };
+    /// The text to which the version opens the token.
+    fn open<V: LocalVersion>(&self, alloc: Global) -> Result<String, RowError>
+        ensures { IfOk result (λ text. IsRead (opening V.design (binding self.now)) self.now.token.now (string_bytes text)) }
+    {
+        let assertion = self.assertion::<V>()?;
+        Ok(V::open(
+            alloc,
+            self.token,
+            &self.key(),
+            self.footer(),
+            assertion,
+        )?)
+    }
 }
 
 /// Checks the row of the version with this name.
@@ -115,10 +122,10 @@ pub fn check(alloc: Global, name: &str, fields: &[&str]) -> Result<(), RowError>
 fn check_version<V: LocalVersion>(alloc: Global, row: &Row<'_>) -> Result<(), RowError>
     ensures { IfOk result (λ _. IsTokenRow V.design row.now) }
 {
-    if V::seal(alloc, row)?.as_str() != row.token {
+    if row.seal::<V>(alloc)?.as_str() != row.token {
         return Err(RowError::Sealed);
     }
-    if V::open(alloc, row)?.as_str() != row.text.as_str() {
+    if row.open::<V>(alloc)?.as_str() != row.text.as_str() {
         return Err(RowError::Opened);
     }
     Ok(())

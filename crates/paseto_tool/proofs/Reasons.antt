@@ -5,16 +5,14 @@ use Rattle.rusty_paseto_parts.specs.Footer.{footer_text}
 use Rattle.rusty_paseto_parts.specs.ImplicitAssertion.{assertion_text}
 use Rattle.rusty_paseto_parts.specs.declared.texts.footer.Footer.{Footer}
 use Rattle.rusty_paseto_parts.specs.declared.texts.implicit_assertion.ImplicitAssertion.{ImplicitAssertion}
-use Rattle.rusty_paseto_core.specs.Binding.{Binding, binding_of}
+use Rattle.rusty_paseto_core.specs.Context.{Binding, binding_of}
 use Rattle.rusty_paseto_parts.specs.Error.{IsMemory}
 use Rattle.rusty_paseto_parts.specs.declared.error.PasetoError.{PasetoError}
 use Rattle.rusty_paseto_parts.specs.declared.error.PasetoError.TheVariants.{Memory}
-use Rattle.rusty_paseto_core.specs.Suite.{Design}
-use Rattle.rusty_paseto_core.specs.Suite.V1.{v1, token_nonce}
-use Rattle.rusty_paseto_core.specs.Suite.V3.{v3}
-use Rattle.rusty_paseto_core.specs.Suite.V4.{v4}
-use Rattle.rusty_paseto_core.specs.Sealing.{sealing}
-use Rattle.rusty_paseto_core.specs.Opening.{IsFault}
+use Rattle.rusty_paseto_core.specs.Local.{Design}
+use Rattle.rusty_paseto_core.specs.Local.Sealing.{sealing}
+use Rattle.rusty_paseto_core.specs.Local.Opening.{opening}
+use Rattle.rusty_paseto_core.specs.Reading.{IsFault}
 use Rattle.paseto_tool.specs.Error.{tool_error_of}
 use Rattle.paseto_tool.specs.Version.{IsBound}
 use Rattle.paseto_tool.specs.Arguments.{Says}
@@ -35,28 +33,14 @@ binding_of-given key (Some f) None = refl
 binding_of-given key (Some f) (Some a) = refl
 
 -- where the tokens are bound to no implicit assertion, none was given
-pub binding_of-unbound : (design : Design) (key : List ℕ) (footer : Option Footer) (assertion : Option ImplicitAssertion)
-    → design.binds_assertion ≡ false → IsBound design (option_map assertion_text assertion)
-    → binding_of key footer None ≡ binding key (option_map footer_text footer) (option_map assertion_text assertion)
-binding_of-unbound design key footer None unbound h = binding_of-given key footer None
-binding_of-unbound design key footer (Some a) unbound h = absurd (false≢true (sym unbound ∙ h refl))
+pub none_given : (design : Design) (assertion : Option ImplicitAssertion) → IsBound design (option_map assertion_text assertion)
+    → design.binds_assertion ≡ false → assertion ≡ None
+none_given design None h unbound = refl
+none_given design (Some a) h unbound = absurd (false≢true (sym unbound ∙ h refl))
 
 pub is_some-given : (footer : Option Footer) → is_some footer ≡ is_some (option_map footer_text footer)
 is_some-given None = refl
 is_some-given (Some f) = refl
-
--- the token's nonce
-pub v1-token_nonce : (given text : List ℕ) → token_nonce given text ≡ v1.token_nonce given text
-unfolding v1
-v1-token_nonce given text = refl
-
-pub v3-token_nonce : (given text : List ℕ) → given ≡ v3.token_nonce given text
-unfolding v3
-v3-token_nonce given text = refl
-
-pub v4-token_nonce : (given text : List ℕ) → given ≡ v4.token_nonce given text
-unfolding v4
-v4-token_nonce given text = refl
 
 -- a sealing, in equal words
 pub IfOk-sealing : (design : Design) (result : Result (String Global) PasetoError) (b b2 : Binding) (n n2 : List ℕ) (w w2 : Bool) (t t2 : List ℕ)
@@ -67,7 +51,7 @@ IfOk-sealing design (Err error) b b2 n n2 w w2 t t2 be ne we te h = tt
 
 module _ (design : Design) (key key_bytes : List ℕ) (says : Says key key_bytes) where
   fault_reason : (footer assertion : Option (List ℕ)) (input : List ℕ) (error : PasetoError)
-      → IsMemory error ⊎ IsFault design (token_of input) (binding key_bytes footer assertion) error
+      → IsMemory error ⊎ IsFault (opening design (binding key_bytes footer assertion)) (token_of input) error
       → IsOpeningReason design key footer assertion input (tool_error_of error)
   fault_reason footer assertion input (Memory source) h = tt
   fault_reason footer assertion input error (inr fault) = no_token error key_bytes says fault
@@ -75,8 +59,8 @@ module _ (design : Design) (key key_bytes : List ℕ) (says : Says key key_bytes
 
   -- an opening that fails says why
   pub IsOpeningReason-fault : (footer assertion : Option (List ℕ)) (input token : List ℕ) (error : PasetoError) → token ≡ token_of input
-      → IsMemory error ⊎ IsFault design token (binding key_bytes footer assertion) error
+      → IsMemory error ⊎ IsFault (opening design (binding key_bytes footer assertion)) token error
       → IsOpeningReason design key footer assertion input (tool_error_of error)
   IsOpeningReason-fault footer assertion input token error e h =
       fault_reason footer assertion input error
-      (subst (λ (t : List ℕ). IsMemory error ⊎ IsFault design t (binding key_bytes footer assertion) error) e h)
+      (subst (λ (t : List ℕ). IsMemory error ⊎ IsFault (opening design (binding key_bytes footer assertion)) t error) e h)

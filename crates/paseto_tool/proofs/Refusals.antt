@@ -83,10 +83,6 @@ IsReason-inspect (Ok x) known words token asks h = tt
 IsReason-inspect (Err error) None words token asks h = tt
 IsReason-inspect (Err error) (Some bytes) words token asks h = inspection_reason words token bytes error asks h
 
--- an inspection fails by no fault of usage
-pub IsInspectionReason-usage : {T : Type 0} (result : Result T ToolError) (token : List ℕ) → IfErr result (IsInspectionReason token) → result ≡ Err Usage → ⊥
-IsInspectionReason-usage result token h e = rw e at h
-
 -- what is printed for every input
 pub Prints-lines : {T E : Type 0} (result : Result T E) (known : Option (List ℕ)) (words : List (List ℕ)) (output : T → List ℕ) (token : List ℕ)
     → AsksToInspect words token → IfOk result (λ made. Inspects token (output made))

@@ -22,12 +22,6 @@ map-two f [] x y c d n p q s t = absurd (omega arith)
 map-two f (a ∷ []) x y c d n p q s t = absurd (omega arith)
 map-two f (a ∷ b ∷ xs) x y c d n p q s t = rw (take_rest, s, t, p, q)
 
--- the first, and the rest
-pub map-one : {A B : Type 0} (f : A → B) (xs : List A) (x : A) (c : B) → 1 ≤ length xs → x ≡ get_or xs 0 x → c ≡ f x
-    → map f xs ≡ c ∷ map f (take (length xs - 1) (drop 1 xs))
-map-one f [] x c n p q = absurd (omega arith)
-map-one f (a ∷ xs) x c n p q = rw (take_rest, q, p)
-
 -- words that ask to seal do not ask to open
 pub AsksToSeal-open : (words : List (List ℕ)) (version : Version) (key nonce : List ℕ) (footer assertion : Option (List ℕ))
     (version2 : Version) (key2 : List ℕ) (footer2 assertion2 : Option (List ℕ))

@@ -2,9 +2,9 @@
 use Rattle.std.specs.Prelude.{◌≡◌, ℕ, List, [], ◌∷◌, ◌++◌, ◌⊎◌, Option, is_some, unwrap_or, IsUtf8, ⊤}
 use Rattle.rusty_paseto_parts.specs.declared.error.PasetoError.{PasetoError}
 use Rattle.rusty_paseto_parts.specs.declared.error.PasetoError.TheVariants.{InvalidKey, Utf8Error}
-use Rattle.rusty_paseto_core.specs.Binding.{Binding}
-use Rattle.rusty_paseto_core.specs.Suite.{Design}
-use Rattle.rusty_paseto_core.specs.Sealing.{sealing}
+use Rattle.rusty_paseto_core.specs.Context.{Binding}
+use Rattle.rusty_paseto_core.specs.Local.{Design}
+use Rattle.rusty_paseto_core.specs.Local.Sealing.{sealing}
 use Rattle.paseto_tool.specs.declared.error.ToolError.{ToolError}
 use Rattle.paseto_tool.specs.declared.error.ToolError.TheVariants.{Usage, Refused, InputOrOutput, Memory}
 use Rattle.paseto_tool.specs.Arguments.{IsDigits, Says}

@@ -1,9 +1,9 @@
 -- The versions whose local tokens the program seals and opens.
 use Rattle.std.specs.Prelude.{ℕ, List, Option, IsSome, IsTrue, codes}
-use Rattle.rusty_paseto_core.specs.Suite.{Design}
-use Rattle.rusty_paseto_core.specs.Suite.V1.{v1}
-use Rattle.rusty_paseto_core.specs.Suite.V3.{v3}
-use Rattle.rusty_paseto_core.specs.Suite.V4.{v4}
+use Rattle.rusty_paseto_core.specs.Local.{Design}
+use Rattle.rusty_paseto_core.specs.Local.V1.{v1}
+use Rattle.rusty_paseto_core.specs.Local.V3.{v3}
+use Rattle.rusty_paseto_core.specs.Local.V4.{v4}
 use Rattle.paseto_tool.specs.declared.version.Version.{Version}
 use Rattle.paseto_tool.specs.declared.version.Version.TheVariants.{V1, V3, V4}
 

@@ -8,9 +8,9 @@ ghost use Rattle.paseto_tool.specs.Open.{OpensTo, IsOpeningReason, token_of};
 use crate::arguments::Attachments;
 use crate::error::ToolError;
 use crate::input::read_whole;
-use crate::local_tokens::LocalTokens;
+use crate::local_tokens::open;
 use crate::version::Version;
-use rusty_paseto_core::{Key, Local, PasetoSymmetricKey, V1, V3, V4};
+use rusty_paseto_core::{Key, Local, LocalVersion, PasetoSymmetricKey, V1, V3, V4};
 use std::alloc::Global;
 use std::io::Read;
 use std::str;
@@ -46,7 +46,7 @@ impl Opening<'_> {
     }
 
     /// The text of a token that was read.
-    fn text_of<V: LocalTokens>(
+    fn text_of<V: LocalVersion>(
         &self,
         alloc: Global,
         key: Key<32>,
@@ -59,7 +59,7 @@ impl Opening<'_> {
     {
         let token = str::from_utf8(without_line_feed(input))?;
         let key = PasetoSymmetricKey::<V, Local>::from(key);
-        let text = V::open(alloc, token, &key, self.attachments)?;
+        let text = open(alloc, token, &key, self.attachments)?;
         Ok(text)
     }
 }

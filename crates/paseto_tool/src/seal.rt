@@ -8,9 +8,9 @@ ghost use Rattle.paseto_tool.specs.Seal.{Seals, IsSealingReason};
 use crate::arguments::Attachments;
 use crate::error::ToolError;
 use crate::input::read_whole;
-use crate::local_tokens::LocalTokens;
+use crate::local_tokens::seal;
 use crate::version::Version;
-use rusty_paseto_core::{Key, Local, PasetoNonce, PasetoSymmetricKey, V1, V3, V4};
+use rusty_paseto_core::{Key, Local, LocalVersion, PasetoNonce, PasetoSymmetricKey, V1, V3, V4};
 use std::alloc::Global;
 use std::io::Read;
 use std::str;
@@ -49,7 +49,7 @@ impl Sealing<'_> {
     }
 
     /// The line of a text that was read.
-    fn line_of<V: LocalTokens>(
+    fn line_of<V: LocalVersion>(
         &self,
         alloc: Global,
         key: Key<32>,
@@ -63,7 +63,7 @@ impl Sealing<'_> {
     {
         let text = str::from_utf8(text)?;
         let key = PasetoSymmetricKey::<V, Local>::from(key);
-        let mut line = V::seal(
+        let mut line = seal(
             alloc,
             &key,
             &PasetoNonce::from(nonce),

@@ -8,7 +8,7 @@ use rusty_paseto_primitives::hkdf_sha384_expand;
 
 /// The keys of a token, of which the one for authentication has N bytes.
 #[derive(Clone, Copy)]
-pub(crate) struct NistKeys<const N: usize> {
+pub struct NistKeys<const N: usize> {
     pub(crate) encryption_key: [u8; 32],
     /// The first counter block.
     pub(crate) counter: [u8; 16],

@@ -14,7 +14,7 @@ use rusty_paseto_primitives::{Blake2b, xchacha20_apply};
 
 /// The keys of a token.
 #[derive(Clone, Copy)]
-pub(crate) struct SodiumKeys {
+pub struct SodiumKeys {
     encryption_key: [u8; 32],
     /// The nonce of the stream.
     start: [u8; 24],

@@ -12,7 +12,7 @@ returns-in_err-text g c = record {
       let fault = rw c.from-key.ensures at c.in_err-text.ensures.fault in
       let token = c.in_ok-token.ensures.cases.0 ∙ c.without_line_feed.ensures in
       let p = err_from_is_err_and c.from_residual-in_err-text.result c.from_residual-in_err-text.ensures.1 in
-      rw (p.1, p.2) (IsOpeningReason-fault g.V.LocalTokens.design c.args.self.now.key.now c.args.key says
+      rw (p.1, p.2) (IsOpeningReason-fault g.V.LocalSuite.design c.args.self.now.key.now c.args.key says
       (given_footer given) (given_assertion given) c.args.input.now c.in_ok-token.token.now c.in_err-text.field-0.0 token fault);
 }
 

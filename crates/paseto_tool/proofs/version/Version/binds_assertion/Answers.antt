@@ -1,7 +1,7 @@
 use Rattle.std.proofs.Common.{inl, inr, sym}
-use Rattle.rusty_paseto_core.specs.Suite.V1Laws.{v1-binds_assertion}
-use Rattle.rusty_paseto_core.specs.Suite.V3Laws.{v3-binds_assertion}
-use Rattle.rusty_paseto_core.specs.Suite.V4Laws.{v4-binds_assertion}
+use Rattle.rusty_paseto_core.specs.Local.V1Laws.{v1-binds_assertion}
+use Rattle.rusty_paseto_core.specs.Local.V3Laws.{v3-binds_assertion}
+use Rattle.rusty_paseto_core.specs.Local.V4Laws.{v4-binds_assertion}
 use Rattle.paseto_tool.proofs.version.Version.binds_assertion.Goals as goal
 
 pub returns-in-V1 : goal.returns-in-V1
