@@ -32,7 +32,7 @@ IsBytes-word a b c d ha hb hc hd (suc (suc (suc zero))) = hd
 IsBytes-word a b c d ha hb hc hd (suc (suc (suc (suc k)))) = omega arith
 
 -- a state of sixteen bytes
-IsBytes-state_of : (f : ℕ → ℕ → ℕ) → ((row column : ℕ) → f row column < 256) → IsBytes (state_of f)
+pub IsBytes-state_of : (f : ℕ → ℕ → ℕ) → ((row column : ℕ) → f row column < 256) → IsBytes (state_of f)
 IsBytes-state_of f each =
     let column : ℕ → List ℕ = λ c. f 0 c ∷ f 1 c ∷ f 2 c ∷ f 3 c ∷ [] in
     let bytes : (c : ℕ) → IsBytes (column c) =
@@ -105,22 +105,27 @@ IsBytes-expanded key (suc n) h =
     IsBytes-append (expanded key n) (next_word (expanded key n) (8 + n)) before
     (IsBytes-next_word (expanded key n) (8 + n) before)
 
-IsBytes-round_key : (w : List ℕ) (n : ℕ) → IsBytes w → IsBytes (round_key w n)
+-- the schedule of a key of bytes is of bytes
+pub IsBytes-key_expansion : (key : List ℕ) → IsBytes key → IsBytes (key_expansion key)
+unfolding key_expansion
+IsBytes-key_expansion key h = IsBytes-expanded key 52 h
+
+pub IsBytes-round_key : (w : List ℕ) (n : ℕ) → IsBytes w → IsBytes (round_key w n)
 IsBytes-round_key w n h =
     IsBytes-take 16 (drop (16 * n) w) (IsBytes-drop (16 * n) w h)
 
-IsBytes-add_round_key : (s k : List ℕ) → IsBytes s → IsBytes k → IsBytes (add_round_key s k)
+pub IsBytes-add_round_key : (s k : List ℕ) → IsBytes s → IsBytes k → IsBytes (add_round_key s k)
 unfolding add_round_key
 IsBytes-add_round_key s k hs hk =
     IsBytes-state_of (λ row column. bit_xor (at s row column) (at k row column))
     (λ row column. xor_lt 8 (at s row column) (at k row column) (hs (row + 4 * column)) (hk (row + 4 * column)))
 
-IsBytes-sub_bytes : (s : List ℕ) → IsBytes (sub_bytes s)
+pub IsBytes-sub_bytes : (s : List ℕ) → IsBytes (sub_bytes s)
 unfolding sub_bytes
 IsBytes-sub_bytes s =
     IsBytes-state_of (λ row column. sub_byte (at s row column)) (λ row column. sub_byte-lt (at s row column))
 
-IsBytes-shift_rows : (s : List ℕ) → IsBytes s → IsBytes (shift_rows s)
+pub IsBytes-shift_rows : (s : List ℕ) → IsBytes s → IsBytes (shift_rows s)
 unfolding shift_rows
 IsBytes-shift_rows s h =
     IsBytes-state_of (λ row column. at s row ((column + row) % 4))

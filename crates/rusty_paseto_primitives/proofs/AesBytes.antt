@@ -3,12 +3,12 @@ use Rattle.std.proofs.Common.{◌≡◌, ℕ, zero, suc, ◌*◌, ◌/◌, ◌%�
 use Rattle.rusty_paseto_primitives.specs.Aes.Field.{affine, inverse, inverse_below, product, product_of_bits, s_box, sub_byte, xtimes}
 
 -- the values of a function below n, the last first
-values : (ℕ → ℕ) → ℕ → List ℕ
+unfoldable pub values : {A : Type 0} → (ℕ → A) → ℕ → List A
 values f zero = []
 values f (suc n) = f n ∷ values f n
 
 -- functions with the same values below n agree there
-agree_below : (f g : ℕ → ℕ) (n : ℕ) → values f n ≡ values g n → (k : ℕ) → k < n → f k ≡ g k
+pub agree_below : {A : Type 0} (f g : ℕ → A) (n : ℕ) → values f n ≡ values g n → (k : ℕ) → k < n → f k ≡ g k
 unfolding values
 agree_below f g zero same k lt = absurd (omega arith)
 agree_below f g (suc n) same k lt = below_more (λ i. f i ≡ g i) n (agree_below f g n (cc)) (cc) k (omega arith)

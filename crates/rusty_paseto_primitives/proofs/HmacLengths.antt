@@ -12,7 +12,7 @@ pub length-hmac : (key message : List ℕ) → length (hmac key message) ≡ 48
 unfolding hmac
 length-hmac key message = length-sha384 (outer_input key message)
 
-IsBytes-bytes_high_first : (k n : ℕ) → IsBytes (bytes_high_first k n)
+pub IsBytes-bytes_high_first : (k n : ℕ) → IsBytes (bytes_high_first k n)
 IsBytes-bytes_high_first zero n = IsBytes-nil
 IsBytes-bytes_high_first (suc k) n = IsBytes_cons (byte_at k n) _ (byte_at-lt k n) (IsBytes-bytes_high_first k n)
 

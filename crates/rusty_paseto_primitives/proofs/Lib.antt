@@ -19,5 +19,12 @@ pub mod HmacFacts
 pub mod HmacLengths
 pub mod AesFacts
 pub mod AesBytes
+pub mod AesPlanes
+pub mod AesCircuits
+pub mod AesExchanges
 pub mod AesKeySchedule
+pub mod AesMixColumns
+pub mod AesGroups
+pub mod AesStream
+pub mod AesSteps
 pub mod AesBlocks

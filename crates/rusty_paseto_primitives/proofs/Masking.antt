@@ -1,12 +1,12 @@
 -- Masking by a keystream: laws of it, and the steps of a loop over bytes and over blocks.
-use Rattle.std.proofs.Common.{◌≡◌, ℕ, ◌+◌, ◌-◌, ◌*◌, ◌<◌, ◌≤◌, List, [], ◌∷◌, ◌++◌, zero, suc, length, take, drop, bit_xor, slice_index, refl, sym, ap, ap₂, ◌∙◌, arith, append_assoc, append-nil, add-zero, zero-add, mul_comm, length-append, length-drop}
+use Rattle.std.proofs.Common.{◌≡◌, ℕ, ◌+◌, ◌-◌, ◌*◌, ◌<◌, ◌≤◌, List, [], ◌∷◌, ◌++◌, zero, suc, length, take, drop, replicate, bit_xor, slice_index, refl, sym, ap, ap₂, ◌∙◌, arith, append_assoc, append-nil, add-zero, zero-add, mul_comm, length-append, length-drop}
 use Rattle.std.proofs.Math.ListN.{set}
 use Rattle.std.proofs.lemmas.List.{drop_more, take_more, get_or_at, set_at, length-take, length-take-le, drop-drop, take_at, drop_at, take_all, drop_all}
 use Rattle.std.proofs.lemmas.Nat.{div-mul-add, mod-mul-add, xor_lt}
-use Rattle.std.proofs.lemmas.Simd.{put_chunk_whole, length-zip2}
+use Rattle.std.proofs.lemmas.Simd.{get_or-replicate, length-replicate, length-zip2, put_chunk_whole}
 use Rattle.std.proofs.Math.Seq.{take-add}
 use Rattle.std.specs.Simd.Lanes.{chunk, put_chunk, zip2}
-use lib.Bits.{xor_assoc, xor_self, xor_zero_r}
+use lib.Bits.{xor_assoc, xor_self, xor_zero_l, xor_zero_r}
 use Rattle.rusty_paseto_primitives.specs.Bytes.{IsBytes}
 use Rattle.rusty_paseto_primitives.specs.Keystream.{masked, masked_from, stream_of_blocks}
 
@@ -20,7 +20,7 @@ unfolding masked
 length-masked s b = length-masked_from s 0 b
 
 -- two streams that agree along the data mask it alike
-masked_from-agree : (s t : ℕ → ℕ) (i j : ℕ) (b : List ℕ) → ((k : ℕ) → k < length b → s (i + k) ≡ t (j + k))
+pub masked_from-agree : (s t : ℕ → ℕ) (i j : ℕ) (b : List ℕ) → ((k : ℕ) → k < length b → s (i + k) ≡ t (j + k))
     → masked_from s i b ≡ masked_from t j b
 unfolding masked_from
 masked_from-agree s t i j [] same = refl
@@ -171,3 +171,30 @@ masked_in_two s t a old front back within front-is same back-is =
     masked_to_all s (length old) old _
     (masked_to_part s t a k (length old) old now back done (omega arith) (omega arith) (λ i h. same i) back-is)
     (omega arith)
+
+masked_from-at : (s : ℕ → ℕ) (a : ℕ) (xs : List ℕ) (i : ℕ) → i < length xs
+    → slice_index (masked_from s a xs) i ≡ bit_xor (slice_index xs i) (s (a + i))
+unfolding masked_from
+masked_from-at s a [] i h = absurd (omega arith)
+masked_from-at s a (x ∷ xs) zero h = ap (λ (n : ℕ). bit_xor x (s n)) (sym (add-zero a))
+masked_from-at s a (x ∷ xs) (suc i) h =
+    let place : a + 1 + i ≡ a + suc i = omega arith in
+    masked_from-at s (a + 1) xs i (omega arith) ∙ ap (λ (n : ℕ). bit_xor (slice_index xs i) (s n)) place
+
+-- zeros under a keystream are the keystream, by which other bytes may be masked
+pub masked_by_zeros : (s t : ℕ → ℕ) (n : ℕ) (bytes text : List ℕ) → bytes ≡ masked t (replicate n 0) → length text ≤ n
+    → ((i : ℕ) → i < n → t i ≡ s i) → masked (slice_index bytes) text ≡ masked s text
+unfolding masked
+masked_by_zeros s t n bytes text e fits same =
+    masked_from-agree (slice_index bytes) s 0 0 text (λ i h.
+    let zero_byte : ℕ = 0 in
+    let here : 0 + i ≡ i = zero-add i in
+    let within : i < length (replicate n zero_byte) = omega (arith, length-replicate n zero_byte) in
+    rw here (ap (λ (b : List ℕ). slice_index b i) e ∙ masked_from-at t 0 (replicate n 0) i within
+    ∙ rw (get_or-replicate n i zero_byte zero_byte (omega arith), here) (xor_zero_l (t i) ∙ same i (omega arith))))
+
+-- no bytes stay so under any keystream
+pub masked_nothing : (s : ℕ → ℕ) (text : List ℕ) → length text ≡ 0 → text ≡ masked s text
+unfolding masked masked_from
+masked_nothing s [] h = refl
+masked_nothing s (x ∷ xs) h = absurd (omega arith)

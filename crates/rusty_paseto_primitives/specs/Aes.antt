@@ -4,3 +4,5 @@ pub mod State
 pub mod KeySchedule
 pub mod Cipher
 pub mod Counter
+pub mod Circuit
+pub mod Planes

@@ -21,9 +21,9 @@ pub(crate) fn mask(data: &mut [u8], keystream: &[u8])
 /// Masks `data` by vectors of keystream, one after another.
 #[inline(always)]
 pub(crate) fn mask_by_vectors(data: &mut [u8], keystream: &[u8x16])
-    requires len { length «data».old ≡ 16 * length keystream.now }
-    requires lanes { (i : ℕ) → i < length keystream.now → length (slice_index_or keystream.now i []) ≡ 16 }
-    ensures { «data».new ≡ masked (stream_of_blocks 16 (λ i. slice_index_or keystream.now i [])) «data».old }
+    requires { length «data».old ≡ 16 * length keystream.now }
+    ensures { ((i : ℕ) → i < length keystream.now → length (slice_index_or keystream.now i []) ≡ 16)
+        → «data».new ≡ masked (stream_of_blocks 16 (λ i. slice_index_or keystream.now i [])) «data».old }
 {
     'vectors: for i in 0..keystream.len() {
         let at = VECTOR_LEN * i;

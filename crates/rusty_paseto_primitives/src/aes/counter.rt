@@ -1,24 +1,47 @@
 // The counter mode of AES with a key of 256 bits (SP 800-38A, section 6.5).
 
-ghost use Rattle.std.specs.Prelude.{◌≡◌, ℕ, ◌+◌, ◌%◌, ◌^◌, List};
+ghost use Rattle.std.specs.Prelude.{◌≡◌, ℕ, ◌+◌, ◌%◌, ◌^◌, ◌≤◌, List, length};
 ghost use Rattle.std.specs.Int.{w128, to_be_bytes};
-ghost use Rattle.rusty_paseto_primitives.specs.Keystream.{masked};
-ghost use Rattle.rusty_paseto_primitives.specs.Aes.Cipher.{IsKeyed, aes256};
+ghost use Rattle.rusty_paseto_primitives.specs.Bytes.{IsBytes};
+ghost use Rattle.rusty_paseto_primitives.specs.Keystream.{masked, stream_of_blocks};
+ghost use Rattle.rusty_paseto_primitives.specs.Aes.Cipher.{cipher};
 ghost use Rattle.rusty_paseto_primitives.specs.Aes.Counter.{aes256_ctr_stream};
+ghost use Rattle.rusty_paseto_primitives.specs.Aes.Planes.{AreRoundKeys};
 
-use crate::aes::cipher::Aes256;
-use crate::keystream::mask;
+use crate::aes::group::{keystream, round_keys};
+use crate::aes::key_schedule::key_expansion;
+use crate::keystream::{mask, mask_by_vectors};
+use std::simd::u8x16;
 
-const BLOCK_LEN: usize = 16;
+// Eight blocks.
+const GROUP_LEN: usize = 128;
 
-// The keystream's block number n, from the number that the start block is.
-#[inline(always)]
-fn block_at(cipher: &Aes256, start: u128, n: usize) -> [u8; 16]
-    ensures { (key : List ℕ) → IsKeyed cipher.now key
-        → result ≡ aes256 key (to_be_bytes w128 ((start + n) % 2 ^ 128)) }
+// Masks whole groups of eight blocks, from the counter `start` on.
+fn mask_groups(keys: &[[u8x16; 8]; 15], start: u128, data: &mut [u8])
+    requires { length «data».old % 128 ≡ 0 }
+    ensures { (w : List ℕ) → IsBytes w → AreRoundKeys keys.now w
+        → «data».new ≡ masked (stream_of_blocks 16 (λ n. cipher w (to_be_bytes w128 ((start + n) % 2 ^ 128)))) «data».old }
 {
-    let counter = start.wrapping_add(n as u128);
-    cipher.encrypt_block(&counter.to_be_bytes())
+    'groups: for g in 0..data.len() / GROUP_LEN {
+        let at = GROUP_LEN * g;
+        let vectors = keystream(keys, start.wrapping_add(8 * g as u128));
+        mask_by_vectors(&mut data[at..at + GROUP_LEN], &vectors);
+    }
+}
+
+// Masks less than a group, from the counter `start` on.
+fn mask_rest(keys: &[[u8x16; 8]; 15], start: u128, data: &mut [u8])
+    requires { length «data».old ≤ 128 }
+    ensures { (w : List ℕ) → IsBytes w → AreRoundKeys keys.now w
+        → «data».new ≡ masked (stream_of_blocks 16 (λ n. cipher w (to_be_bytes w128 ((start + n) % 2 ^ 128)))) «data».old }
+{
+    if data.is_empty() {
+        return;
+    }
+    let vectors = keystream(keys, start);
+    let mut bytes = [0u8; GROUP_LEN];
+    mask_by_vectors(&mut bytes, &vectors);
+    mask(data, &bytes);
 }
 
 /// Masks or unmasks `data`, in place, by the keystream of AES with a key of 256 bits in counter
@@ -30,15 +53,11 @@ fn block_at(cipher: &Aes256, start: u128, n: usize) -> [u8; 16]
 pub fn aes256_ctr_apply(key: &[u8; 32], counter: &[u8; 16], data: &mut [u8])
     ensures { «data».new ≡ masked (aes256_ctr_stream key.now counter.now) «data».old }
 {
-    let cipher = Aes256::new(key);
+    let keys = round_keys(&key_expansion(key));
     let start = u128::from_be_bytes(*counter);
-    let block_count = data.len() / BLOCK_LEN;
-    'whole_blocks: for n in 0..block_count {
-        let at = BLOCK_LEN * n;
-        mask(&mut data[at..at + BLOCK_LEN], &block_at(&cipher, start, n));
-    }
-    mask(
-        &mut data[BLOCK_LEN * block_count..],
-        &block_at(&cipher, start, block_count),
-    );
+    let group_count = data.len() / GROUP_LEN;
+    let end = GROUP_LEN * group_count;
+    mask_groups(&keys, start, &mut data[..end]);
+    let next = start.wrapping_add(8 * group_count as u128);
+    mask_rest(&keys, next, &mut data[end..]);
 }
