@@ -51,7 +51,7 @@ fn the_counter_wraps(rt: HostRuntime) {
 fn joined_blocks(alloc: Global, key: &[u8; 32], start: u128, len: usize) -> Result<Vec<u8>, Fail> {
     let cipher = Aes256::new(key);
     let mut bytes = Vec::new(alloc);
-    'blocks: for number in 0..5u64 {
+    'blocks: for number in 0..65u64 {
         let counter = start.wrapping_add(number as u128).to_be_bytes();
         bytes.extend_from_slice(&cipher.encrypt_block(&counter))?;
     }
@@ -59,18 +59,34 @@ fn joined_blocks(alloc: Global, key: &[u8; 32], start: u128, len: usize) -> Resu
     Ok(bytes)
 }
 
-// The stream is the blocks under the counted numbers, joined, also where the counter passes its
-// greatest number.
+// The stream is the blocks under the counted numbers, joined, at each length round the edge of a
+// block and of eight, also where the counter passes 2^8, 2^64 and its greatest number within the
+// first eight blocks.
 #[test]
 fn zeros_become_the_joined_blocks(rt: HostRuntime) -> Result<(), Fail> {
     let key = [0x5cu8; 32];
-    let start = u128::MAX - 1;
-    'lengths: for len in [0usize, 1, 15, 16, 17, 31, 32, 33, 47, 48, 49, 80] {
-        let mut data = vec![in rt.alloc(); 0u8; len]?;
-        aes256_ctr_apply(&key, &start.to_be_bytes(), &mut data);
-        let blocks = joined_blocks(rt.alloc(), &key, start, len)?;
-        assert_eq!(rt; data.len(), len);
-        assert_eq!(rt; data.as_slice(), blocks.as_slice());
+    'starts: for start in [0u128, 0xfd, 0xffff_ffff_ffff_fffb, u128::MAX - 6] {
+        'lengths: for len in [
+            0usize, 1, 15, 16, 17, 63, 64, 65, 112, 113, 127, 128, 144, 255, 256, 257, 511, 512,
+            513, 1025,
+        ] {
+            let mut data = vec![in rt.alloc(); 0u8; len]?;
+            aes256_ctr_apply(&key, &start.to_be_bytes(), &mut data);
+            let blocks = joined_blocks(rt.alloc(), &key, start, len)?;
+            assert_eq!(rt; data.len(), len);
+            assert_eq!(rt; data.as_slice(), blocks.as_slice());
+        }
     }
     Ok(())
+}
+
+#[test]
+fn masked_twice(rt: HostRuntime) {
+    let mut data = [0x5au8; 200];
+    aes256_ctr_apply(&[7; 32], &[9; 16], &mut data);
+    assert!(rt; data != [0x5au8; 200]);
+    aes256_ctr_apply(&[7; 32], &[9; 16], &mut data);
+    assert!(rt; data == [0x5au8; 200]);
+    let nothing: &mut [u8] = &mut [];
+    aes256_ctr_apply(&[7; 32], &[9; 16], nothing);
 }

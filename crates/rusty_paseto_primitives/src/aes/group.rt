@@ -9,7 +9,7 @@ ghost use Rattle.rusty_paseto_primitives.specs.Aes.Planes.{AreRoundKeys, planes}
 
 use crate::aes::circuit::sub_bytes;
 use crate::aes::planes::{mix_columns, repeated, shift_rows, sum, transposed};
-use std::simd::u8x16;
+use std::simd::{u8x16, u64x2};
 
 // The round keys of a schedule, in planes.
 pub(super) fn round_keys(schedule: &[u8; 240]) -> [[u8x16; 8]; 15]
@@ -41,7 +41,11 @@ fn encrypted(keys: &[[u8x16; 8]; 15], blocks: [u8x16; 8]) -> [u8x16; 8]
 fn counter(n: u128) -> u8x16
     ensures { result ≡ to_be_bytes w128 n }
 {
-    u8x16::from_array(n.to_be_bytes())
+    let low = (n & 0xffff_ffff_ffff_ffff) as u64;
+    let high = (n >> 64) as u64;
+    u64x2::from_array([low, high])
+        .to_le_bytes()
+        .swizzle([15, 14, 13, 12, 11, 10, 9, 8, 7, 6, 5, 4, 3, 2, 1, 0])
 }
 
 #[inline(always)]
