@@ -1,3 +1,4 @@
 pub mod WholeLemmas
 pub mod DateLemmas
 pub mod SameLemmas
+pub mod OddLemmas

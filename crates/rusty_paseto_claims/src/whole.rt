@@ -1,8 +1,11 @@
 //! Tests on the numbers of JSON values.
 
 ghost use Rattle.std.specs.Prelude.{◌≡◌, option_map};
+ghost use Rattle.std.specs.List.Sorted.{IsStrictlySortedBy};
+ghost use Rattle.std.specs.Map.{keys_of};
+ghost use Rattle.std.specs.String.{string_cmp};
 ghost use Rattle.serde_json.specs.View.{view, items_view, members_view};
-ghost use Rattle.rusty_paseto_claims.specs.Whole.{are_whole, first_odd, is_whole as is_whole_data, odd_key as odd_key_of};
+ghost use Rattle.rusty_paseto_claims.specs.Whole.{IsOdd, are_whole, first_odd, is_whole as is_whole_data, odd_key as odd_key_of};
 
 use serde_json::{Map, Value};
 
@@ -38,7 +41,8 @@ fn are_items_whole(items: &Vec<Value>) -> bool
 
 #[cycle(whole)]
 fn find_odd(members: &Map<String, Value>) -> Option<&str>
-    ensures { option_map (λ key. key.now) result ≡ first_odd (members_view members.now.entries) }
+    ensures value { option_map (λ key. key.now) result ≡ first_odd (members_view members.now.entries) }
+    ensures ordered { IsStrictlySortedBy string_cmp (keys_of members.now.entries) }
 {
     for (key, member) in members.iter() {
         if !is_whole(member) {
@@ -54,7 +58,8 @@ fn find_odd(members: &Map<String, Value>) -> Option<&str>
 ///
 /// No memory is taken.
 pub fn odd_key(value: &Value) -> Option<&str>
-    ensures { option_map (λ key. key.now) result ≡ odd_key_of (view value.now) }
+    ensures key { option_map (λ key. key.now) result ≡ odd_key_of (view value.now) }
+    ensures first { IsOdd (option_map (λ key. key.now) result) (view value.now) }
 {
     if let Value::Object(members) = value {
         return find_odd(members);
