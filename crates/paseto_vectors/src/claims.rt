@@ -5,6 +5,7 @@ mod dates;
 mod errors;
 mod generated_keys;
 mod json;
+mod long_texts;
 mod same;
 mod texts;
 mod values;
