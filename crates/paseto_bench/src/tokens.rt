@@ -1,18 +1,14 @@
 //! Sealing and opening of local tokens, each many times over, with no footer and no implicit
 //! assertion.
 
-ghost use Rattle.std.specs.Prelude.{◌≡◌, ◌≢◌, ◌^◌, ◌-◌, None, IfOk, IsSome, string_bytes};
-ghost use Rattle.rusty_paseto_parts.specs.Payload.{payload_text};
-ghost use Rattle.rusty_paseto_core.specs.Suite.{Design};
-ghost use Rattle.rusty_paseto_core.specs.Suite.V1.{v1};
-ghost use Rattle.rusty_paseto_core.specs.Suite.V3.{v3};
-ghost use Rattle.rusty_paseto_core.specs.Suite.V4.{v4};
+ghost use Rattle.std.specs.Prelude.{◌≡◌, ◌≢◌, ◌^◌, ◌-◌, IsSome};
+ghost use Rattle.rusty_paseto_core.specs.Local.V1.{v1};
+ghost use Rattle.rusty_paseto_core.specs.Local.V3.{v3};
+ghost use Rattle.rusty_paseto_core.specs.Local.V4.{v4};
 ghost use Rattle.paseto_bench.specs.Tokens.{OpensTo, token_of};
 
-use rusty_paseto_core::{Paseto, PasetoError};
-use rusty_paseto_parts::{
-    Key, Local, PasetoNonce, PasetoSymmetricKey, Payload, V1, V3, V4, VersionTrait,
-};
+use rusty_paseto_core::LocalVersion;
+use rusty_paseto_parts::{Key, Local, PasetoNonce, PasetoSymmetricKey, Payload, V1, V3, V4};
 use std::alloc::Global;
 use std::str;
 
@@ -115,105 +111,8 @@ pub extern "C" fn paseto_bench_v4_open(
     open_all::<V4>(alloc, key, token, text, reps).unwrap_or(FAILED)
 }
 
-/// A version whose local tokens are measured.
-trait Measured: VersionTrait {
-    // What the version means.
-    ghost design: { Design };
-
-    /// The token of a text. It fails only by `Memory`.
-    fn seal(
-        alloc: Global,
-        key: &PasetoSymmetricKey<Self, Local>,
-        nonce: &PasetoNonce<'_, Self, Local>,
-        text: &str,
-    ) -> Result<String, PasetoError>
-        ensures { IfOk result (λ token. string_bytes token ≡ token_of design key.now nonce.now text.now) };
-
-    /// The text that a token opens to.
-    fn open(
-        alloc: Global,
-        token: &str,
-        key: &PasetoSymmetricKey<Self, Local>,
-    ) -> Result<String, PasetoError>
-        ensures { IfOk result (λ text. OpensTo design key.now token.now (string_bytes text)) };
-}
-
-impl Measured for V1 {
-    ghost design = { v1 };
-
-    fn seal(
-        alloc: Global,
-        key: &PasetoSymmetricKey<V1, Local>,
-        nonce: &PasetoNonce<'_, V1, Local>,
-        text: &str,
-    ) -> Result<String, PasetoError> {
-        with_payload::<V1>(text).try_encrypt(alloc, key, nonce)
-    }
-
-    fn open(
-        alloc: Global,
-        token: &str,
-        key: &PasetoSymmetricKey<V1, Local>,
-    ) -> Result<String, PasetoError> {
-        Paseto::<V1, Local>::try_decrypt(alloc, token, key, None)
-    }
-}
-
-impl Measured for V3 {
-    ghost design = { v3 };
-
-    fn seal(
-        alloc: Global,
-        key: &PasetoSymmetricKey<V3, Local>,
-        nonce: &PasetoNonce<'_, V3, Local>,
-        text: &str,
-    ) -> Result<String, PasetoError> {
-        with_payload::<V3>(text).try_encrypt(alloc, key, nonce)
-    }
-
-    fn open(
-        alloc: Global,
-        token: &str,
-        key: &PasetoSymmetricKey<V3, Local>,
-    ) -> Result<String, PasetoError> {
-        Paseto::<V3, Local>::try_decrypt(alloc, token, key, None, None)
-    }
-}
-
-impl Measured for V4 {
-    ghost design = { v4 };
-
-    fn seal(
-        alloc: Global,
-        key: &PasetoSymmetricKey<V4, Local>,
-        nonce: &PasetoNonce<'_, V4, Local>,
-        text: &str,
-    ) -> Result<String, PasetoError> {
-        with_payload::<V4>(text).try_encrypt(alloc, key, nonce)
-    }
-
-    fn open(
-        alloc: Global,
-        token: &str,
-        key: &PasetoSymmetricKey<V4, Local>,
-    ) -> Result<String, PasetoError> {
-        Paseto::<V4, Local>::try_decrypt(alloc, token, key, None, None)
-    }
-}
-
-/// A text that is to become a token, with no footer and no implicit assertion.
-fn with_payload<V: VersionTrait>(text: &str) -> Paseto<'_, V, Local>
-    ensures payload { payload_text result.payload ≡ text.now }
-    ensures footer { result.footer ≡ None }
-    ensures implicit_assertion { result.implicit_assertion ≡ None }
-{
-    let mut paseto = Paseto::builder();
-    paseto.set_payload(Payload::from(text));
-    paseto
-}
-
 /// Seals the text `reps` times, and at least once, and adds up the tokens' last bytes.
-fn seal_all<V: Measured>(
+fn seal_all<V: LocalVersion>(
     alloc: Global,
     key: &[u8],
     nonce: &[u8],
@@ -225,21 +124,23 @@ fn seal_all<V: Measured>(
 {
     let key = PasetoSymmetricKey::<V, Local>::from(Key::from(key.as_array::<32>()?));
     let nonce = nonce.as_array::<32>()?;
-    let text = str::from_utf8(text).ok()?;
+    let text = Payload::from(str::from_utf8(text).ok()?);
     let mut sum = 0u64;
     let mut numbered = *nonce;
     'repetitions: for repetition in 1..reps {
         numbered[..4].copy_from_slice(&repetition.to_le_bytes());
-        let sealed = V::seal(alloc, &key, &PasetoNonce::from(&Key::from(numbered)), text).ok()?;
+        let nonce = Key::from(numbered);
+        let sealed = V::seal(alloc, &key, &PasetoNonce::from(&nonce), text, None, None).ok()?;
         sum = sum.wrapping_add(last_byte(&sealed));
     }
-    let sealed = V::seal(alloc, &key, &PasetoNonce::from(&Key::from(nonce)), text).ok()?;
+    let nonce = Key::from(nonce);
+    let sealed = V::seal(alloc, &key, &PasetoNonce::from(&nonce), text, None, None).ok()?;
     copy_text(&sealed, token)?;
     Some(sum.wrapping_add(last_byte(&sealed)))
 }
 
 /// Opens the token `reps` times, and at least once, and adds up the texts' last bytes.
-fn open_all<V: Measured>(
+fn open_all<V: LocalVersion>(
     alloc: Global,
     key: &[u8],
     token: &[u8],
@@ -252,10 +153,10 @@ fn open_all<V: Measured>(
     let token = str::from_utf8(token).ok()?;
     let mut sum = 0u64;
     'repetitions: for _ in 1..reps {
-        let opened = V::open(alloc, token, &key).ok()?;
+        let opened = V::open(alloc, token, &key, None, None).ok()?;
         sum = sum.wrapping_add(last_byte(&opened));
     }
-    let opened = V::open(alloc, token, &key).ok()?;
+    let opened = V::open(alloc, token, &key, None, None).ok()?;
     copy_text(&opened, text)?;
     Some(sum.wrapping_add(last_byte(&opened)))
 }
