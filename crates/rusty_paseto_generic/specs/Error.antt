@@ -1,0 +1,36 @@
+-- What is said of the errors of builders.
+use Rattle.std.specs.Prelude.{◌≡◌, ⊤, alloc_error}
+use Rattle.serde_json.specs.Errors.{IsMemory as IsMemoryOfJson}
+use Rattle.serde_json.specs.declared.error.Error.{Error}
+use Rattle.rusty_paseto_claims.specs.Error.{Fault, IsFault}
+use Rattle.rusty_paseto_claims.specs.declared.PasetoClaimError.{PasetoClaimError}
+use Rattle.rusty_paseto_claims.specs.declared.PasetoClaimError.TheVariants as Claim
+use Rattle.rusty_paseto_core.specs.declared.PasetoError.{PasetoError}
+use Rattle.rusty_paseto_core.specs.declared.PasetoError.TheVariants as Cipher
+use Rattle.rusty_paseto_generic.specs.declared.error.GenericBuilderError.{GenericBuilderError}
+use Rattle.rusty_paseto_generic.specs.declared.error.GenericBuilderError.TheVariants.{ClaimError, CipherError, PayloadJsonError, Memory}
+
+-- memory was refused
+abbrev pub IsMemory : GenericBuilderError → Type 0
+IsMemory (Memory _) = ⊤
+IsMemory _ = ⊥
+
+-- the error names this fault of a claim
+abbrev pub IsClaimFault : Fault → GenericBuilderError → Type 0
+IsClaimFault fault (ClaimError error) = IsFault fault error
+IsClaimFault fault _ = ⊥
+
+-- the error of a builder for that of a claim
+abbrev pub of_claim : PasetoClaimError → GenericBuilderError
+of_claim (Claim.Memory refused) = Memory refused
+of_claim fault = ClaimError fault
+
+-- the error of a builder for that of a token
+abbrev pub of_cipher : PasetoError → GenericBuilderError
+of_cipher (Cipher.Memory refused) = Memory refused
+of_cipher refusal = CipherError refusal
+
+-- the error of a builder for one that JSON was not written with
+pub record IsOfJson (source : Error) (error : GenericBuilderError) : Type 0 where
+  pub memory : IsMemoryOfJson source → error ≡ Memory alloc_error
+  pub other : ¬ IsMemoryOfJson source → error ≡ PayloadJsonError source

@@ -1,0 +1,77 @@
+//! The error of builders.
+
+ghost use Rattle.std.specs.Prelude.{◌≡◌};
+ghost use Rattle.rusty_paseto_generic.specs.Error.{of_cipher, of_claim, IsOfJson};
+ghost use Rattle.rusty_paseto_generic.specs.declared.error.GenericBuilderError.TheVariants.{Memory};
+
+use rusty_paseto_claims::PasetoClaimError;
+use rusty_paseto_core::PasetoError;
+use std::alloc::AllocError;
+use thiserror::Error;
+
+/// Why a builder refused a claim, or made no token.
+#[derive(Debug, Drop, Error)]
+pub enum GenericBuilderError {
+    /// A claim was refused. The message is the claim's own.
+    #[error("{source}")]
+    ClaimError { source: PasetoClaimError },
+    /// A text is no address. No call of this library answers it.
+    #[error("{0} is an invalid iso8601 (email) string")]
+    BadEmailAddress(String),
+    /// A key was set more than once.
+    #[error("The claim '{0}' appears more than once in the top level payload json")]
+    DuplicateTopLevelPayloadClaim(String),
+    /// The token was not sealed or signed, or the generator of random bytes failed.
+    #[error("A paseto cipher error occurred")]
+    CipherError { source: PasetoError },
+    /// The claims could not be written as JSON. No call of this library answers it.
+    #[error("The payload was unable to be serialized into json")]
+    PayloadJsonError { source: serde_json::Error },
+    /// Memory was refused.
+    #[error("No memory was found")]
+    Memory(AllocError),
+}
+
+impl From<AllocError> for GenericBuilderError {
+    ghost from_gives = { λ source error. error ≡ Memory source };
+
+    fn from(source: AllocError) -> GenericBuilderError {
+        GenericBuilderError::Memory(source)
+    }
+}
+
+/// Want of memory stays want of memory.
+impl From<PasetoClaimError> for GenericBuilderError {
+    ghost from_gives = { λ source error. error ≡ of_claim source };
+
+    fn from(source: PasetoClaimError) -> GenericBuilderError {
+        match source {
+            PasetoClaimError::Memory(refused) => GenericBuilderError::Memory(refused),
+            fault => GenericBuilderError::ClaimError { source: fault },
+        }
+    }
+}
+
+/// Want of memory stays want of memory.
+impl From<PasetoError> for GenericBuilderError {
+    ghost from_gives = { λ source error. error ≡ of_cipher source };
+
+    fn from(source: PasetoError) -> GenericBuilderError {
+        match source {
+            PasetoError::Memory(refused) => GenericBuilderError::Memory(refused),
+            refusal => GenericBuilderError::CipherError { source: refusal },
+        }
+    }
+}
+
+/// Want of memory stays want of memory.
+impl From<serde_json::Error> for GenericBuilderError {
+    ghost from_gives = { IsOfJson };
+
+    fn from(source: serde_json::Error) -> GenericBuilderError {
+        if source.is_memory() {
+            return GenericBuilderError::Memory(AllocError);
+        }
+        GenericBuilderError::PayloadJsonError { source }
+    }
+}
