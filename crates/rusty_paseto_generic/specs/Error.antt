@@ -1,8 +1,8 @@
 -- What is said of the errors of builders.
-use Rattle.std.specs.Prelude.{◌≡◌, ⊤, alloc_error}
+use Rattle.std.specs.Prelude.{◌≡◌, ⊤, ℕ, List, alloc_error}
 use Rattle.serde_json.specs.Errors.{IsMemory as IsMemoryOfJson}
 use Rattle.serde_json.specs.declared.error.Error.{Error}
-use Rattle.rusty_paseto_claims.specs.Error.{Fault, IsFault}
+use Rattle.rusty_paseto_claims.specs.Error.{Fault, IsFault, unexpected}
 use Rattle.rusty_paseto_claims.specs.declared.PasetoClaimError.{PasetoClaimError}
 use Rattle.rusty_paseto_claims.specs.declared.PasetoClaimError.TheVariants as Claim
 use Rattle.rusty_paseto_core.specs.declared.PasetoError.{PasetoError}
@@ -20,6 +20,10 @@ abbrev pub IsClaimFault : Fault → GenericBuilderError → Type 0
 IsClaimFault fault (ClaimError error) = IsFault fault error
 IsClaimFault fault _ = ⊥
 
+-- the error says that the value under the key is not whole
+abbrev pub IsUnexpected : List ℕ → GenericBuilderError → Type 0
+IsUnexpected key error = IsClaimFault (unexpected key) error
+
 -- the error of a builder for that of a claim
 abbrev pub of_claim : PasetoClaimError → GenericBuilderError
 of_claim (Claim.Memory refused) = Memory refused
@@ -34,3 +38,11 @@ of_cipher refusal = CipherError refusal
 pub record IsOfJson (source : Error) (error : GenericBuilderError) : Type 0 where
   pub memory : IsMemoryOfJson source → error ≡ Memory alloc_error
   pub other : ¬ IsMemoryOfJson source → error ≡ PayloadJsonError source
+
+-- the generator of random bytes failed
+abbrev pub IsOfGenerator : GenericBuilderError → Type 0
+IsOfGenerator error = error ≡ CipherError Cipher.Cipher
+
+-- the sealed box has no sealing
+abbrev pub IsOfBox : GenericBuilderError → Type 0
+IsOfBox error = error ≡ CipherError Cipher.ChaChaCipherError

@@ -1,0 +1,4 @@
+-- What builders of tokens mean.
+pub mod Claims
+pub mod Held
+pub mod GenericBuilder

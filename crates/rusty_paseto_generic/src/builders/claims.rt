@@ -1,0 +1,166 @@
+//! The claims that a builder holds.
+
+ghost use Rattle.std.specs.Prelude.{◌≡◌, ◌⊎◌, false, None, Some, ℕ, List, IfOk, IfErr, OnOk, OnErr, string_bytes};
+ghost use Rattle.serde_json.specs.Data.{no_members};
+ghost use Rattle.serde_json.specs.View.{view, members_view};
+ghost use Rattle.serde_json.specs.Written.{members_have_float};
+ghost use Rattle.rusty_paseto_claims.specs.Error.{IsFault, unexpected};
+ghost use Rattle.rusty_paseto_claims.specs.Whole.{first_odd};
+ghost use Rattle.rusty_paseto_generic.specs.Error.{IsMemory, IsUnexpected};
+ghost use Rattle.rusty_paseto_generic.specs.Builders.Claims.{IsRefusal, becomes, claim_set, extended, payload, put_all, stored, unwrapped as unwrapped_data, without};
+
+use crate::error::GenericBuilderError;
+use rusty_paseto_claims::{PasetoClaim, PasetoClaimError, is_whole};
+use serde_json::{Map, Value};
+use std::alloc::{AllocError, Global};
+
+/// Claims by their keys.
+#[derive(Drop)]
+pub(crate) struct Claims {
+    alloc: Global,
+    members: Map<String, Value>,
+    // Each number in them, at any depth, is a whole number of 64 bits.
+    ghost whole: { members_have_float (members_view members.entries) ≡ false },
+}
+
+impl Claims {
+    ghost use Rattle.rusty_paseto_generic.specs.Builders.Held.{held};
+
+    /// No claims. All memory for them is asked of the allocator.
+    pub(crate) fn new(alloc: Global) -> Self
+        ensures { held result ≡ no_members }
+    {
+        Claims {
+            alloc,
+            members: Map::new(alloc),
+        }
+    }
+
+    /// The allocator of the claims.
+    pub(crate) fn allocator(&self) -> Global {
+        self.alloc
+    }
+
+    /// Stores a claim under its key: the value of an object whose only key is the claim's, and else the
+    /// claim's JSON as it is. The empty key changes nothing, and the claim is then not asked for its JSON.
+    ///
+    /// `ClaimError` comes for a value that holds another number than a whole one of 64 bits, `Unexpected`
+    /// with the key, and for a fault of the claim. The claims are then unchanged.
+    pub(crate) fn set<C: PasetoClaim>(&mut self, claim: &C) -> Result<(), GenericBuilderError>
+        ensures ok { OnOk result (claim_set (C.key claim.now) (C.json claim.now) (held self.old) ≡ becomes (held self.new)) }
+        ensures err { OnErr result (held self.new ≡ held self.old) }
+        ensures fault { IfErr result (IsRefusal (claim_set (C.key claim.now) (C.json claim.now) (held self.old))) }
+    {
+        let key = claim.get_key();
+        if key.is_empty() {
+            return Ok(());
+        }
+        let value = unwrapped(key, claim.to_json(self.alloc)?);
+        self.store(key, value)
+    }
+
+    // Stores a value under a key, as it is.
+    fn store(&mut self, key: &str, value: Value) -> Result<(), GenericBuilderError>
+        ensures ok { OnOk result (stored key.now (view value) (held self.old) ≡ becomes (held self.new)) }
+        ensures err { OnErr result (held self.new ≡ held self.old) }
+        ensures fault { IfErr result (IsRefusal (stored key.now (view value) (held self.old))) }
+    {
+        if !is_whole(&value) {
+            return Err(unexpected(String::from_str(self.alloc, key)?));
+        }
+        serde_json::put(&mut self.members, self.alloc, key, value)?;
+        Ok(())
+    }
+
+    /// Stores all values as they are, each under its key, the empty one too.
+    ///
+    /// `ClaimError` of `Unexpected` with the key comes for the first key in byte order whose value holds
+    /// another number than a whole one of 64 bits. The claims are then unchanged.
+    pub(crate) fn extend(&mut self, more: Map<String, Value>) -> Result<(), GenericBuilderError>
+        ensures ok { OnOk result (extended (members_view more.entries) (held self.old) ≡ becomes (held self.new)) }
+        ensures err { OnErr result (held self.new ≡ held self.old) }
+        ensures fault { IfErr result (IsRefusal (extended (members_view more.entries) (held self.old))) }
+    {
+        check_whole(&more)?;
+        self.members = merged(&self.members, more)?;
+        Ok(())
+    }
+
+    /// Takes out the claim under the key, where there is one. No memory is taken.
+    pub(crate) fn remove(&mut self, key: &str)
+        ensures { held self.new ≡ without key.now (held self.old) }
+    {
+        drop(self.members.remove(key));
+    }
+
+    /// The text of the claims: the object of them as JSON, with no space, its keys in byte order. Nothing
+    /// but memory is refused.
+    pub(crate) fn to_text(&self) -> Result<String, AllocError>
+        ensures { IfOk result (λ text. string_bytes text ≡ payload (held self.now)) }
+    {
+        let object = Value::Object(self.members.clone()?);
+        object.to_string(self.alloc)
+    }
+}
+
+// The fault of a value under this key.
+fn unexpected(key: String) -> GenericBuilderError
+    ensures { IsUnexpected (string_bytes key) result }
+{
+    GenericBuilderError::ClaimError {
+        source: PasetoClaimError::Unexpected(key),
+    }
+}
+
+// The value of an object whose only key is this one, or the value as it is.
+fn unwrapped(key: &str, value: Value) -> Value
+    ensures { view result ≡ unwrapped_data key.now (view value) }
+{
+    match value {
+        Value::Object(members) => only_member_or_all(key, members),
+        other => other,
+    }
+}
+
+// The value under the key, where there is no other key, or the whole object.
+fn only_member_or_all(key: &str, members: Map<String, Value>) -> Value
+    ensures { view result ≡ unwrapped_data key.now (view (Value.Object members)) }
+{
+    let mut members = members;
+    if members.len() != 1 {
+        return Value::Object(members);
+    }
+    match members.remove(key) {
+        Some(only) => only,
+        None => Value::Object(members),
+    }
+}
+
+// Refuses the first key whose value is not whole.
+fn check_whole(members: &Map<String, Value>) -> Result<(), GenericBuilderError>
+    ensures ok { OnOk result (first_odd (members_view members.now.entries) ≡ None) }
+    ensures err { IfErr result (λ error. IsMemory error
+        ⊎ ((key : List ℕ) × (first_odd (members_view members.now.entries) ≡ Some key) × IsUnexpected key error)) }
+{
+    for (key, value) in members.iter() {
+        if !is_whole(value) {
+            return Err(unexpected(key.clone()?));
+        }
+    }
+    Ok(())
+}
+
+// A copy of the members with more of them put in.
+fn merged(
+    members: &Map<String, Value>,
+    more: Map<String, Value>,
+) -> Result<Map<String, Value>, AllocError>
+    ensures { IfOk result (λ all. members_view all.entries
+        ≡ put_all (members_view more.entries) (members_view members.now.entries)) }
+{
+    let mut all = members.clone()?;
+    for (key, value) in more {
+        drop(all.insert(key, value)?);
+    }
+    Ok(all)
+}
