@@ -1,6 +1,6 @@
 -- The claims that a builder holds, and the edits of them. They are the members of a JSON object: each key
 -- once, in byte order.
-use Rattle.std.specs.Prelude.{◌≡◌, ◌==◌, ⊤, ℕ, List, [], ◌∷◌, Bool, if◌then◌else◌, Option, Some, None, option_map, option_and_then, unwrap_or, MatchOption}
+use Rattle.std.specs.Prelude.{◌≡◌, ◌==◌, ⊤, ℕ, List, [], ◌∷◌, if◌then◌else◌, Option, None, option_map, option_and_then, unwrap_or, MatchOption}
 use Rattle.std.specs.Ordering.{nat_cmp, match_ordering}
 use Rattle.std.specs.Cmp.Lexicographic.{slice_cmp}
 use Rattle.serde_json.specs.Data.{Data, object, Members, no_members, member, put}

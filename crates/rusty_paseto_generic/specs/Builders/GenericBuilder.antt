@@ -1,5 +1,5 @@
 -- The tokens that a builder makes of its claims.
-use Rattle.std.specs.Prelude.{◌≡◌, ◌⊎◌, ℕ, Bool, List, Option, Some, None, is_some, length, Result, IfOk, IfErr, IsErr, String, string_bytes}
+use Rattle.std.specs.Prelude.{◌≡◌, ◌⊎◌, ℕ, Bool, List, Option, is_some, length, Result, IfOk, IfErr, IsErr, String, string_bytes}
 use Rattle.std.specs.Global.{Global}
 use Rattle.serde_json.specs.Data.{Members}
 use Rattle.rusty_paseto_core.specs.declared.Footer.{Footer}

@@ -1,4 +1,4 @@
-use Rattle.std.proofs.Common.{◌≡◌, string_bytes, sym, ap, refl, ◌∙◌}
+use Rattle.std.proofs.Common.{ap}
 use Rattle.serde_json.specs.View.{members_view}
 use Rattle.serde_json.proofs.Views.{members_view-insert_entry}
 use Rattle.rusty_paseto_generic.specs.Builders.Claims.{put_all}

@@ -1,4 +1,4 @@
-use Rattle.std.proofs.Common.{◌≡◌, nat_eq, true, false, length, arith, sym, ap, ◌∙◌}
+use Rattle.std.proofs.Common.{◌≡◌, nat_eq, true, false, length, arith}
 use Rattle.rusty_paseto_generic.proofs.MapLemmas.{unwrapped-absent, unwrapped-only, unwrapped-other}
 use Rattle.rusty_paseto_generic.proofs.builders.claims.only_member_or_all.Goals as goal
 

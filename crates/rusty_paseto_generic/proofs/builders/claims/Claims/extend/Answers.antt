@@ -1,4 +1,3 @@
-use Rattle.std.proofs.Common.{◌≡◌}
 use Rattle.serde_json.specs.View.{members_view}
 use Rattle.rusty_paseto_generic.proofs.MapLemmas.{whole-none_odd, whole-put_all}
 use Rattle.rusty_paseto_generic.proofs.builders.claims.Claims.extend.Goals as goal

@@ -1,4 +1,3 @@
-use Rattle.std.proofs.Common.{◌≡◌}
 use Rattle.rusty_paseto_generic.proofs.MapLemmas.{members_view-remove_entry, whole-without}
 use Rattle.rusty_paseto_generic.proofs.builders.claims.Claims.remove.Goals as goal
 
