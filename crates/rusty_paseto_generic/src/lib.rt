@@ -1,4 +1,5 @@
-//! Builders of PASETO tokens from claims, for every version and purpose.
+//! Builders of PASETO tokens from claims, for every version and purpose. The claims and the core, over
+//! which they stand, are shown too.
 #![tactic(auto)]
 
 mod builders;
@@ -6,3 +7,16 @@ mod error;
 
 pub use builders::{GenericBuilder, UnboxedVersion};
 pub use error::GenericBuilderError;
+pub use rusty_paseto_claims::{
+    Audience, AudienceClaim, ClaimValue, CustomClaim, DateClaim, Expiration, ExpirationClaim,
+    IssuedAt, IssuedAtClaim, Issuer, IssuerClaim, NotBefore, NotBeforeClaim, PasetoClaim,
+    PasetoClaimError, ReservedKey, Subject, SubjectClaim, TextClaim, TokenIdentifier,
+    TokenIdentifierClaim, is_whole, odd_key, same_value,
+};
+pub use rusty_paseto_core::{
+    AssertionVersion, CompressedKey, Footer, Header, ImplicitAssertion, ImplicitAssertionCapable,
+    Key, Local, LocalVersion, Paseto, PasetoAsymmetricPrivateKey, PasetoAsymmetricPublicKey,
+    PasetoError, PasetoNonce, PasetoSymmetricKey, Payload, PreAuthenticationEncoding, Public,
+    PublicVersion, PurposeTrait, SealedBox, SignatureScheme, Signs, UntrustedToken, V1, V1orV3, V2,
+    V2orV4, V3, V4, Verifies, VersionTrait, from_section, split_token, to_section,
+};
