@@ -97,13 +97,7 @@ impl<'a> Row<'a> {
         ensures { IfOk result (λ text. IsRead (opening V.design (binding self.now)) self.now.token.now (string_bytes text)) }
     {
         let assertion = self.assertion::<V>()?;
-        Ok(V::open(
-            alloc,
-            self.token,
-            &self.key(),
-            self.footer(),
-            assertion,
-        )?)
+        Ok(V::open(alloc, self.token, &self.key(), self.footer(), assertion)?)
     }
 }
 

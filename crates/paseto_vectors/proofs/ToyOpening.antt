@@ -6,7 +6,7 @@ use Rattle.std.proofs.lemmas.List.{take_at, drop_at, take-append-drop, length-ta
 use Rattle.std.proofs.lemmas.Slice.Eq.{bytes_eq-Decides}
 use Rattle.rusty_paseto_primitives.specs.Bytes.{IsBytes}
 use Rattle.rusty_paseto_primitives.proofs.ByteLists.{IsBytes-take}
-use Rattle.rusty_paseto_core.specs.SealedBox.{IsOpening}
+use Rattle.rusty_paseto_core.specs.Local.SealedBox.{IsOpening}
 use Rattle.paseto_vectors.specs.ToyBox.{toy_sealing, toy_tag}
 use Rattle.paseto_vectors.specs.ToyBoxLaws.{length-tagged, toy_sealing-parts}
 

@@ -2,7 +2,7 @@
 use Rattle.std.specs.Prelude.{ℕ, List, [], ◌∷◌, ◌++◌, Some, None, length, nat_le, if◌then◌else◌}
 use Rattle.rusty_paseto_primitives.specs.Blake2.Keyed.{blake2b}
 use Rattle.rusty_paseto_parts.specs.PreAuthenticationEncoding.{pae}
-use Rattle.rusty_paseto_core.specs.SealedBox.{BoxSealing}
+use Rattle.rusty_paseto_core.specs.Local.SealedBox.{BoxSealing}
 
 -- the tag of a message: 16 bytes
 abbrev pub toy_tag : List ℕ → List ℕ → List ℕ → List ℕ → List ℕ

@@ -6,7 +6,7 @@ use Rattle.rusty_paseto_primitives.specs.Bytes.{IsBytes}
 use Rattle.rusty_paseto_primitives.proofs.Blake2Lengths.{length-blake2b, IsBytes-blake2b}
 use Rattle.rusty_paseto_primitives.proofs.ByteLists.{IsBytes-append}
 use Rattle.rusty_paseto_parts.proofs.PaeLemmas.{append_parts}
-use Rattle.rusty_paseto_core.specs.SealedBox.{IsLawfulBox}
+use Rattle.rusty_paseto_core.specs.Local.SealedBox.{IsLawfulBox}
 use Rattle.paseto_vectors.specs.ToyBox.{toy_sealing, toy_tag}
 
 chosen : (b : Bool) (x y : List ℕ) → (if b then Some x else None) ≡ Some y → (b ≡ true) × (x ≡ y)
@@ -30,14 +30,14 @@ module _ (key nonce associated message : List ℕ) where
 
 pub toy-IsLawful : IsLawfulBox toy_sealing
 toy-IsLawful = record {
-  injective = λ key nonce associated first second boxed first_bytes second_bytes first_is second_is.
+  injective = λ key nonce associated first second boxed asked first_bytes second_bytes first_is second_is.
       let of_first = toy_sealing-parts key nonce associated first boxed first_is in
       let of_second = toy_sealing-parts key nonce associated second boxed second_is in
       let same = of_first.1 ∙ sym of_second.1 in
       let lengths : length first ≡ length second =
       omega (arith, length-tagged key nonce associated first, length-tagged key nonce associated second, ap length same) in
       (append_parts first second (toy_tag key nonce associated first) (toy_tag key nonce associated second) lengths same).0;
-  bytes = λ key nonce associated message boxed message_bytes is.
+  bytes = λ key nonce associated message boxed asked message_bytes is.
       let tag = toy_tag key nonce associated message in
       let whole : IsBytes (message ++ tag) = IsBytes-append message tag message_bytes (IsBytes-blake2b key 16 _) in
       rw (toy_sealing-parts key nonce associated message boxed is).1 at whole;

@@ -1,7 +1,7 @@
 -- What the toy signature schemes hold valid, and the errors that they answer.
 use Rattle.std.specs.Prelude.{◌≡◌, ◌⊎◌, ℕ, List, [], length, slice_index}
 use Rattle.rusty_paseto_parts.specs.declared.error.PasetoError.TheVariants.{InvalidKey, InvalidSignature, KeyRejected}
-use Rattle.rusty_paseto_core.specs.Signature.{Declining, Refusal, Validity}
+use Rattle.rusty_paseto_core.specs.Public.Scheme.{Declining, Refusal, Validity}
 use Rattle.paseto_vectors.specs.ToySignature.{toy_signature}
 
 -- a signature of `size` bytes is valid where it is the one that the toy makes

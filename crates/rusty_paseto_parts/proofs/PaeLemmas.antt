@@ -142,7 +142,8 @@ module _ (pieces : List (Bor (List ℕ))) where
       ap (flat_map encoded_piece) (sym whole) ∙ flat_map-append encoded_piece (lists (take n pieces)) (lists (drop n pieces)) in
       let longer = ap length parts ∙ length-append (flat_map encoded_piece (lists (take n pieces))) (flat_map encoded_piece (lists (drop n pieces))) in
       omega (
-        arith, longer,
+        arith,
+        longer,
         length-append (le64 (length pieces)) (flat_map encoded_piece (lists (take n pieces))),
         length-append (le64 (length (lists pieces))) (flat_map encoded_piece (lists pieces)),
         length-le64 (length pieces),
