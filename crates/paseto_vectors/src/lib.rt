@@ -8,8 +8,6 @@
 #[cfg(test)]
 mod boxes;
 #[cfg(test)]
-mod builders;
-#[cfg(test)]
 mod claims;
 #[cfg(test)]
 mod encoding;
