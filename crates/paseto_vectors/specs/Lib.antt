@@ -1,4 +1,3 @@
-pub mod PlainBox
 pub mod ToyBox
 pub mod ToyBoxLaws
 pub mod ToySchemes

@@ -1,9 +1,0 @@
-//! Builders of tokens from claims.
-
-mod errors;
-mod generators;
-mod local;
-mod maps;
-mod payloads;
-mod public;
-mod refusals;

@@ -1,0 +1,5 @@
+//! Local tokens of version 1.
+
+mod faults;
+mod forms;
+mod version;

@@ -1,0 +1,23 @@
+//! The two forms of a token, and the nonce that it shows.
+
+use crate::local::nonces::shows_the_given_nonce;
+use crate::tokens::forms;
+use rusty_paseto_core::{Local, V1};
+use std::test::Fail;
+
+#[test]
+fn no_footer_and_an_empty_one(rt: HostRuntime) -> Result<(), Fail> {
+    forms::no_footer_and_an_empty_one::<Local, V1>(&rt, rt.alloc(), 116)
+}
+
+#[test]
+fn a_stripped_footer(rt: HostRuntime) -> Result<(), Fail> {
+    forms::a_stripped_footer::<Local, V1>(&rt, rt.alloc())
+}
+
+// The nonce in the token is made of the given one and the text.
+#[test]
+fn the_given_nonce_is_hidden(rt: HostRuntime) -> Result<(), Fail> {
+    assert!(rt; !shows_the_given_nonce::<V1>(rt.alloc())?);
+    Ok(())
+}

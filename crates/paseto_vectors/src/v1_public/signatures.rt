@@ -1,0 +1,21 @@
+//! Signatures that are not valid for what they stand with.
+
+use crate::public::signatures;
+use rusty_paseto_core::V1;
+use std::test::Fail;
+
+// 342 letters spell 256 bytes.
+#[test]
+fn a_signature_of_zeros(rt: HostRuntime) -> Result<(), Fail> {
+    signatures::a_signature_of_zeros::<V1>(&rt, rt.alloc(), 342)
+}
+
+#[test]
+fn other_payloads(rt: HostRuntime) -> Result<(), Fail> {
+    signatures::other_payloads::<V1>(&rt, rt.alloc())
+}
+
+#[test]
+fn other_keys_and_footers(rt: HostRuntime) -> Result<(), Fail> {
+    signatures::other_keys_and_footers::<V1>(&rt, rt.alloc())
+}

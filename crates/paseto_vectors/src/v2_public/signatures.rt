@@ -1,0 +1,21 @@
+//! Signatures that are not valid for what they stand with.
+
+use crate::public::signatures;
+use rusty_paseto_core::V2;
+use std::test::Fail;
+
+// 86 letters spell 64 bytes.
+#[test]
+fn a_signature_of_zeros(rt: HostRuntime) -> Result<(), Fail> {
+    signatures::a_signature_of_zeros::<V2>(&rt, rt.alloc(), 86)
+}
+
+#[test]
+fn other_payloads(rt: HostRuntime) -> Result<(), Fail> {
+    signatures::other_payloads::<V2>(&rt, rt.alloc())
+}
+
+#[test]
+fn other_keys_and_footers(rt: HostRuntime) -> Result<(), Fail> {
+    signatures::other_keys_and_footers::<V2>(&rt, rt.alloc())
+}

@@ -1,0 +1,6 @@
+//! Local tokens of version 3.
+
+mod assertions;
+mod faults;
+mod forms;
+mod version;

@@ -1,0 +1,20 @@
+//! Tokens put together from their pieces.
+
+use crate::public::assembly;
+use rusty_paseto_core::V4;
+use std::test::Fail;
+
+#[test]
+fn the_signed_pieces(rt: HostRuntime) -> Result<(), Fail> {
+    assembly::the_signed_pieces::<V4>(&rt, rt.alloc())
+}
+
+#[test]
+fn the_signed_assertion(rt: HostRuntime) -> Result<(), Fail> {
+    assembly::the_signed_assertion::<V4>(&rt, rt.alloc())
+}
+
+#[test]
+fn bytes_that_are_no_text(rt: HostRuntime) -> Result<(), Fail> {
+    assembly::bytes_that_are_no_text::<V4>(&rt, rt.alloc())
+}

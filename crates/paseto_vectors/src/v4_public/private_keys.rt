@@ -1,0 +1,14 @@
+//! Private keys that are refused.
+
+use crate::public::private_keys;
+use rusty_paseto_core::V4;
+
+#[test]
+fn the_scheme_is_asked(rt: HostRuntime) {
+    private_keys::the_scheme_is_asked::<V4>(&rt, rt.alloc());
+}
+
+#[test]
+fn other_lengths(rt: HostRuntime) {
+    private_keys::other_lengths::<V4>(&rt, rt.alloc());
+}
