@@ -1,3 +1,4 @@
+pub mod PlainBox
 pub mod ToyBox
 pub mod ToyBoxLaws
 pub mod ToySchemes

@@ -1,10 +1,12 @@
 //! The toy box by itself.
 
-use crate::local::calls::KEY;
+use crate::long::text_of;
 use crate::toy_box::ToyBox;
 use rusty_paseto_core::SealedBox;
 use std::alloc::{AllocError, Global};
 use std::test::Fail;
+
+const KEY: [u8; 32] = [7; 32];
 
 const NONCE: [u8; 24] = [7; 24];
 
@@ -34,6 +36,7 @@ fn a_toy_box_opens_its_own(rt: HostRuntime) -> Result<(), Fail> {
 #[test]
 fn a_toy_box_opens_no_other_lengths(rt: HostRuntime) -> Result<(), Fail> {
     assert!(rt; !opens(rt.alloc(), b"", &[0; 15])?);
-    assert!(rt; !opens(rt.alloc(), b"", &[0; 4113])?);
+    let long = text_of(rt.alloc(), 4_113)?;
+    assert!(rt; !opens(rt.alloc(), b"", long.as_bytes())?);
     Ok(())
 }

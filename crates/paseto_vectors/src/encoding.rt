@@ -1,6 +1,7 @@
 //! Pre-authentication encodings.
 
 use crate::hexadecimal::bytes_of;
+use crate::long::text_of;
 use rusty_paseto_core::PreAuthenticationEncoding;
 use std::alloc::Global;
 use std::process::Abort;
@@ -45,4 +46,16 @@ fn encodings(rt: HostRuntime) -> Result<(), Fail> {
         &["ab".as_bytes()],
         "010000000000000002000000000000006162",
     )
+}
+
+// The count and the length take eight bytes each.
+#[test]
+fn long_pieces(rt: HostRuntime) -> Result<(), Fail> {
+    'lengths: for (length, whole) in [(100_000usize, 100_016usize), (1_000_000, 1_000_016)] {
+        let text = text_of(rt.alloc(), length)?;
+        let encoding = PreAuthenticationEncoding::parse(rt.alloc(), &[text.as_bytes()])?;
+        assert_eq!(rt; encoding.as_bytes().len(), whole);
+        assert!(rt; encoding.as_bytes().ends_with(text.as_bytes()), "{length}");
+    }
+    Ok(())
 }

@@ -8,6 +8,8 @@
 #[cfg(test)]
 mod boxes;
 #[cfg(test)]
+mod builders;
+#[cfg(test)]
 mod claims;
 #[cfg(test)]
 mod encoding;
@@ -18,11 +20,11 @@ mod hexadecimal;
 #[cfg(test)]
 mod keys;
 #[cfg(test)]
-mod local;
+mod kinds;
+#[cfg(test)]
+mod long;
 #[cfg(test)]
 mod primitives;
-#[cfg(test)]
-mod public;
 mod refusing;
 #[cfg(test)]
 mod schemes;
@@ -37,22 +39,6 @@ mod toy_schemes;
 mod toy_signature;
 #[cfg(test)]
 mod untrusted;
-#[cfg(test)]
-mod v1_local;
-#[cfg(test)]
-mod v1_public;
-#[cfg(test)]
-mod v2_local;
-#[cfg(test)]
-mod v2_public;
-#[cfg(test)]
-mod v3_local;
-#[cfg(test)]
-mod v3_public;
-#[cfg(test)]
-mod v4_local;
-#[cfg(test)]
-mod v4_public;
 
 pub use refusing::Refusing;
 pub use toy_box::ToyBox;

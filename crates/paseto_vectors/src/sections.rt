@@ -1,6 +1,7 @@
 //! The sections of a token's text, and how bytes are spelled in them.
 
 use crate::hexadecimal::array_of;
+use crate::long::text_of;
 use rusty_paseto_parts::{
     PasetoError, encode_section, from_section, laws, split_token, to_section,
 };
@@ -76,4 +77,17 @@ fn other_spellings(rt: HostRuntime) {
             "of {text}"
         );
     }
+}
+
+// Three bytes take four characters, and a last one two.
+#[test]
+fn long_sections(rt: HostRuntime) -> Result<(), Fail> {
+    'lengths: for (length, characters) in [(100_000usize, 133_334usize), (1_000_000, 1_333_334)] {
+        let text = text_of(rt.alloc(), length)?;
+        let section = to_section(rt.alloc(), text.as_bytes())?;
+        assert_eq!(rt; section.len(), characters);
+        let bytes = from_section(rt.alloc(), section.as_str())?;
+        assert!(rt; bytes.as_slice() == text.as_bytes(), "{length}");
+    }
+    Ok(())
 }

@@ -1,7 +1,16 @@
-//! What the tests of local and of public tokens share: each test is written once, and every version
-//! of either purpose runs it.
+//! Tokens: each test goes over all kinds that have what it looks at.
 
-pub(crate) mod assertions;
-pub(crate) mod calls;
-pub(crate) mod faults;
-pub(crate) mod forms;
+mod asked;
+mod assembly;
+mod assertions;
+mod calls;
+mod faults;
+mod forms;
+mod lengths;
+mod nonces;
+mod own_errors;
+mod parts;
+mod public_keys;
+mod refusals;
+mod sealing_use;
+mod signing_use;

@@ -1,8 +1,9 @@
 //! Tokens that are looked at before they are opened.
 
 use crate::hexadecimal::array_of;
+use crate::long::{LENGTHS, text_of};
 use crate::sections::{CHARACTERS, NUMBERS};
-use rusty_paseto_core::{Footer, PasetoError, UntrustedToken};
+use rusty_paseto_core::{Footer, PasetoError, UntrustedToken, to_section};
 use std::test::Fail;
 
 #[test]
@@ -92,5 +93,23 @@ fn characters_in_order(rt: HostRuntime) -> Result<(), Fail> {
         .footer_decoded(rt.alloc())?
         .unwrap_or(Vec::new(rt.alloc()));
     assert_eq!(rt; decoded.as_slice(), numbers.as_slice());
+    Ok(())
+}
+
+#[test]
+fn long_footers(rt: HostRuntime) -> Result<(), Fail> {
+    let alloc = rt.alloc();
+    'lengths: for length in LENGTHS {
+        let footer = text_of(alloc, length)?;
+        let section = to_section(alloc, footer.as_bytes())?;
+        let token = format!(in alloc; "v4.local.payload.{section}")?;
+        let untrusted = UntrustedToken::try_parse(token.as_str())?;
+        let decoded = untrusted.footer_decoded(alloc)?.ok_or("no footer")?;
+        assert!(rt; decoded.as_slice() == footer.as_bytes(), "{length}");
+        let text = untrusted.footer_str(alloc)?.ok_or("no footer")?;
+        assert!(rt; text.as_str() == footer.as_str(), "{length}");
+        let found = Footer::try_from_token(alloc, token.as_str())?.ok_or("no footer")?;
+        assert!(rt; found.as_str() == footer.as_str(), "{length}");
+    }
     Ok(())
 }

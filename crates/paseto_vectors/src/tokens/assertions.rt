@@ -1,52 +1,61 @@
 //! Tokens that are bound to an implicit assertion.
 
-use super::calls::Tokens;
-use rusty_paseto_core::PasetoError;
-use std::alloc::Global;
-use std::process::Abort;
+use crate::kinds::{ASSERTED_KINDS, Binding};
 use std::test::Fail;
 
-/// A version's tokens of the purpose `P`, which are bound to an implicit assertion.
-pub(crate) trait AssertedTokens<P>: Tokens<P> {
-    /// The token of a text with an assertion, and no footer.
-    fn make_with(alloc: Global, text: &str, assertion: &str) -> Result<String, PasetoError>;
-
-    /// What a token that has no footer is read as with an assertion.
-    fn read_with(
-        alloc: Global,
-        token: &str,
-        assertion: Option<&str>,
-    ) -> Result<String, PasetoError>;
-}
-
-/// A token is read with its own assertion alone.
-pub(crate) fn other_assertions<P, V: AssertedTokens<P>>(
-    rt: &impl Abort,
-    alloc: Global,
-) -> Result<(), Fail> {
-    let token = V::make_with(alloc, "hello", "x")?;
-    let read = V::read_with(alloc, token.as_str(), Some("x"))?;
-    assert_eq!(rt; read.as_str(), "hello");
-    'others: for assertion in [None, Some(""), Some("y"), Some("xx")] {
-        let answer = V::read_with(alloc, token.as_str(), assertion);
-        assert!(rt; V::is_refused(&answer));
+// A token is read with its own assertion alone.
+#[test]
+fn other_assertions(rt: HostRuntime) -> Result<(), Fail> {
+    let own = Binding::of_assertion(Some("x"));
+    'kinds: for kind in ASSERTED_KINDS {
+        let token = kind.make(rt.alloc(), "hello", own)?;
+        let text = kind.read(rt.alloc(), token.as_str(), own)?;
+        assert_eq!(rt; text.as_str(), "hello", "{kind:?}");
+        'others: for assertion in [None, Some(""), Some("y"), Some("xx")] {
+            let other = Binding::of_assertion(assertion);
+            let answer = kind.read(rt.alloc(), token.as_str(), other);
+            assert!(rt; kind.is_refused(&answer), "{kind:?} {assertion:?}");
+        }
+        let token = kind.make(rt.alloc(), "hello", Binding::NONE)?;
+        let answer = kind.read(rt.alloc(), token.as_str(), own);
+        assert!(rt; kind.is_refused(&answer), "{kind:?}");
     }
-    let token = V::make(alloc, "hello", None)?;
-    let answer = V::read_with(alloc, token.as_str(), Some("x"));
-    assert!(rt; V::is_refused(&answer));
     Ok(())
 }
 
-/// No assertion and an empty one are alike.
-pub(crate) fn no_assertion_and_an_empty_one<P, V: AssertedTokens<P>>(
-    rt: &impl Abort,
-    alloc: Global,
-) -> Result<(), Fail> {
-    let token = V::make(alloc, "hello", None)?;
-    assert_eq!(rt; V::make_with(alloc, "hello", "")?.as_str(), token.as_str());
-    'assertions: for assertion in [None, Some("")] {
-        let read = V::read_with(alloc, token.as_str(), assertion)?;
-        assert_eq!(rt; read.as_str(), "hello");
+// No assertion and an empty one are alike.
+#[test]
+fn no_assertion_and_an_empty_one(rt: HostRuntime) -> Result<(), Fail> {
+    let empty = Binding::of_assertion(Some(""));
+    'kinds: for kind in ASSERTED_KINDS {
+        let token = kind.make(rt.alloc(), "hello", Binding::NONE)?;
+        let same = kind.make(rt.alloc(), "hello", empty)?;
+        assert_eq!(rt; same.as_str(), token.as_str(), "{kind:?}");
+        'bindings: for binding in [Binding::NONE, empty] {
+            let text = kind.read(rt.alloc(), token.as_str(), binding)?;
+            assert_eq!(rt; text.as_str(), "hello", "{kind:?}");
+        }
+    }
+    Ok(())
+}
+
+// A text with a footer and an assertion comes back, and neither takes the other's place.
+#[test]
+fn a_footer_and_an_assertion(rt: HostRuntime) -> Result<(), Fail> {
+    let both = Binding {
+        footer: Some("footer"),
+        assertion: Some("assertion"),
+    };
+    'kinds: for kind in ASSERTED_KINDS {
+        let token = kind.make(rt.alloc(), "hello", both)?;
+        let text = kind.read(rt.alloc(), token.as_str(), both)?;
+        assert_eq!(rt; text.as_str(), "hello", "{kind:?}");
+        let footer = Binding::of_footer(Some("footer"));
+        let answer = kind.read(rt.alloc(), token.as_str(), footer);
+        assert!(rt; kind.is_refused(&answer), "{kind:?}");
+        let token = kind.make(rt.alloc(), "hello", Binding::of_assertion(Some("footer")))?;
+        let answer = kind.read(rt.alloc(), token.as_str(), footer);
+        assert!(rt; kind.is_refused(&answer), "{kind:?}");
     }
     Ok(())
 }

@@ -1,46 +1,184 @@
-//! Making and reading tokens of either purpose.
+//! The calls of `Paseto`, which make the same tokens and read the same texts as those of the versions'
+//! traits.
 
-use rusty_paseto_core::{PasetoError, VersionTrait, to_section};
-use std::alloc::{AllocError, Global};
+use crate::kinds::toys::{Keys, ToyVersion};
+use crate::kinds::{ASSERTED_KINDS, Binding, KINDS, Kind, SECRET, symmetric_key};
+use crate::toy_box::ToyBox;
+use crate::toy_schemes::{ToyV1, ToyV2};
+use rusty_paseto_core::{
+    AssertionVersion, Footer, ImplicitAssertion, Key, Local, LocalVersion, Paseto, PasetoError,
+    PasetoNonce, Payload, Public, PurposeTrait, Signs, V1, V2, V3, V4, Verifies, VersionTrait,
+};
+use std::alloc::Global;
+use std::test::Fail;
 
-/// A version's tokens of the purpose `P`, made and read under fixed keys.
-pub(crate) trait Tokens<P>: VersionTrait {
-    /// What the tokens begin with.
-    const START: &'static str;
-
-    /// The token of a text.
-    fn make(alloc: Global, text: &str, footer: Option<&str>) -> Result<String, PasetoError>;
-
-    /// What a token is read as.
-    fn read(alloc: Global, token: &str, footer: Option<&str>) -> Result<String, PasetoError>;
-
-    /// What is answered for a token with a fault. A signature scheme answers here by an error of its
-    /// own, so that a test sees that it was not asked.
-    fn fault(alloc: Global, token: &str, footer: Option<&str>) -> Result<String, PasetoError>;
-
-    /// Whether a token was refused as one that was not made under the key and the footer.
-    fn is_refused(answer: &Result<String, PasetoError>) -> bool;
+// The text `hello` with a footer.
+fn hello<V: VersionTrait, P: PurposeTrait>() -> Paseto<'static, V, P> {
+    let mut paseto = Paseto::<V, P>::builder();
+    paseto
+        .set_payload(Payload::from("hello"))
+        .set_footer(Footer::from("footer"));
+    paseto
 }
 
-/// A token of so many letters `A`, each of which spells six bits of zeros.
-pub(crate) fn token_of_zeros(
-    alloc: Global,
-    header: &str,
-    letters: usize,
-) -> Result<String, AllocError> {
-    let mut token = String::from_str(alloc, header)?;
-    'letters: for _ in 0..letters {
-        token.push('A')?;
-    }
-    Ok(token)
+// The text `hello` with a footer and an implicit assertion.
+fn asserted<V: AssertionVersion, P: PurposeTrait>() -> Paseto<'static, V, P> {
+    let mut paseto = hello::<V, P>();
+    paseto.set_implicit_assertion(ImplicitAssertion::from("assertion"));
+    paseto
 }
 
-/// A token of any payload, with no footer.
-pub(crate) fn token_of_payload(
+fn encrypt<V: LocalVersion>(
     alloc: Global,
-    header: &str,
-    payload: &[u8],
+    paseto: &Paseto<'_, V, Local>,
 ) -> Result<String, PasetoError> {
-    let section = to_section(alloc, payload)?;
-    Ok(format!(in alloc; "{header}{section}")?)
+    let nonce = Key::from([0u8; 32]);
+    paseto.try_encrypt(alloc, &symmetric_key(&SECRET), &PasetoNonce::from(&nonce))
+}
+
+fn encrypt_boxed(alloc: Global, paseto: &Paseto<'_, V2, Local>) -> Result<String, PasetoError> {
+    let nonce = Key::from([0u8; 32]);
+    let key = symmetric_key(&SECRET);
+    paseto.try_encrypt(alloc, &ToyBox, &key, &PasetoNonce::from(&nonce))
+}
+
+fn sign<V: ToyVersion + Signs<V::Toy>>(
+    alloc: Global,
+    paseto: &Paseto<'_, V, Public>,
+) -> Result<String, PasetoError> {
+    let keys = Keys::of(&SECRET);
+    paseto.try_sign(alloc, &mut V::toy(), &V::private_key(&keys))
+}
+
+// The token of `hello` with a footer.
+fn make(alloc: Global, kind: Kind) -> Result<String, PasetoError> {
+    match kind {
+        Kind::V1Local => encrypt::<V1>(alloc, &hello()),
+        Kind::V2Local => encrypt_boxed(alloc, &hello()),
+        Kind::V3Local => encrypt::<V3>(alloc, &hello()),
+        Kind::V4Local => encrypt::<V4>(alloc, &hello()),
+        Kind::V1Public => sign::<V1>(alloc, &hello()),
+        Kind::V2Public => sign::<V2>(alloc, &hello()),
+        Kind::V3Public => sign::<V3>(alloc, &hello()),
+        Kind::V4Public => sign::<V4>(alloc, &hello()),
+    }
+}
+
+// The token of what is made by `default`.
+fn make_default(alloc: Global, kind: Kind) -> Result<String, PasetoError> {
+    match kind {
+        Kind::V1Local => encrypt::<V1>(alloc, &Paseto::default()),
+        Kind::V2Local => encrypt_boxed(alloc, &Paseto::default()),
+        Kind::V3Local => encrypt::<V3>(alloc, &Paseto::default()),
+        Kind::V4Local => encrypt::<V4>(alloc, &Paseto::default()),
+        Kind::V1Public => sign::<V1>(alloc, &Paseto::default()),
+        Kind::V2Public => sign::<V2>(alloc, &Paseto::default()),
+        Kind::V3Public => sign::<V3>(alloc, &Paseto::default()),
+        Kind::V4Public => sign::<V4>(alloc, &Paseto::default()),
+    }
+}
+
+// The token of `hello` with a footer and an implicit assertion, where the kind has one.
+fn make_asserted(alloc: Global, kind: Kind) -> Result<String, PasetoError> {
+    match kind {
+        Kind::V3Local => encrypt::<V3>(alloc, &asserted()),
+        Kind::V4Local => encrypt::<V4>(alloc, &asserted()),
+        Kind::V3Public => sign::<V3>(alloc, &asserted()),
+        Kind::V4Public => sign::<V4>(alloc, &asserted()),
+        _ => make(alloc, kind),
+    }
+}
+
+fn decrypt<V: AssertionVersion>(
+    alloc: Global,
+    token: &str,
+    assertion: Option<ImplicitAssertion<'_>>,
+) -> Result<String, PasetoError> {
+    let footer = Some(Footer::from("footer"));
+    Paseto::<V, Local>::try_decrypt(alloc, token, &symmetric_key(&SECRET), footer, assertion)
+}
+
+fn verify<V: AssertionVersion + ToyVersion + Verifies<V::Toy>>(
+    alloc: Global,
+    token: &str,
+    assertion: Option<ImplicitAssertion<'_>>,
+) -> Result<String, PasetoError> {
+    let keys = Keys::of(&SECRET);
+    let footer = Some(Footer::from("footer"));
+    let key = V::public_key(&keys)?;
+    Paseto::<V, Public>::try_verify(alloc, &V::toy(), token, &key, footer, assertion)
+}
+
+// What a token with a footer is read as.
+fn read(
+    alloc: Global,
+    kind: Kind,
+    token: &str,
+    assertion: Option<ImplicitAssertion<'_>>,
+) -> Result<String, PasetoError> {
+    let keys = Keys::of(&SECRET);
+    let footer = Some(Footer::from("footer"));
+    match kind {
+        Kind::V1Local => {
+            Paseto::<V1, Local>::try_decrypt(alloc, token, &symmetric_key(&SECRET), footer)
+        }
+        Kind::V2Local => {
+            let key = symmetric_key(&SECRET);
+            Paseto::<V2, Local>::try_decrypt(alloc, &ToyBox, token, &key, footer)
+        }
+        Kind::V3Local => decrypt::<V3>(alloc, token, assertion),
+        Kind::V4Local => decrypt::<V4>(alloc, token, assertion),
+        Kind::V1Public => {
+            let key = V1::public_key(&keys)?;
+            Paseto::<V1, Public>::try_verify(alloc, &ToyV1, token, &key, footer)
+        }
+        Kind::V2Public => {
+            let key = V2::public_key(&keys)?;
+            Paseto::<V2, Public>::try_verify(alloc, &ToyV2, token, &key, footer)
+        }
+        Kind::V3Public => verify::<V3>(alloc, token, assertion),
+        Kind::V4Public => verify::<V4>(alloc, token, assertion),
+    }
+}
+
+#[test]
+fn a_text_with_a_footer(rt: HostRuntime) -> Result<(), Fail> {
+    let binding = Binding::of_footer(Some("footer"));
+    'kinds: for kind in KINDS {
+        let token = make(rt.alloc(), kind)?;
+        let same = kind.make(rt.alloc(), "hello", binding)?;
+        assert_eq!(rt; token.as_str(), same.as_str(), "{kind:?}");
+        let text = read(rt.alloc(), kind, token.as_str(), None)?;
+        assert_eq!(rt; text.as_str(), "hello", "{kind:?}");
+    }
+    Ok(())
+}
+
+#[test]
+fn a_text_with_a_footer_and_an_assertion(rt: HostRuntime) -> Result<(), Fail> {
+    let binding = Binding {
+        footer: Some("footer"),
+        assertion: Some("assertion"),
+    };
+    let assertion = Some(ImplicitAssertion::from("assertion"));
+    'kinds: for kind in ASSERTED_KINDS {
+        let token = make_asserted(rt.alloc(), kind)?;
+        let same = kind.make(rt.alloc(), "hello", binding)?;
+        assert_eq!(rt; token.as_str(), same.as_str(), "{kind:?}");
+        let text = read(rt.alloc(), kind, token.as_str(), assertion)?;
+        assert_eq!(rt; text.as_str(), "hello", "{kind:?}");
+        let answer = read(rt.alloc(), kind, token.as_str(), None);
+        assert!(rt; kind.is_refused(&answer), "{kind:?}");
+    }
+    Ok(())
+}
+
+#[test]
+fn made_by_default(rt: HostRuntime) -> Result<(), Fail> {
+    'kinds: for kind in KINDS {
+        let token = make_default(rt.alloc(), kind)?;
+        let same = kind.make(rt.alloc(), "", Binding::NONE)?;
+        assert_eq!(rt; token.as_str(), same.as_str(), "{kind:?}");
+    }
+    Ok(())
 }

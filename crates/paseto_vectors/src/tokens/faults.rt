@@ -1,107 +1,159 @@
-//! The faults of reading a token, each by its name.
+//! The faults of reading a token, each by its name. Neither a box nor a scheme is asked.
 
-use super::calls::{Tokens, token_of_zeros};
+use crate::kinds::counting::Calls;
+use crate::kinds::{Binding, KINDS, Kind, SECRET};
 use rusty_paseto_core::PasetoError;
-use std::alloc::Global;
+use std::alloc::{AllocError, Global};
 use std::process::Abort;
 use std::test::Fail;
 
-/// The sections are counted before anything else is looked at.
-pub(crate) fn wrong_number_of_sections<P, V: Tokens<P>>(rt: &impl Abort, alloc: Global) {
-    'tokens: for token in [
-        "",
-        "v4.local",
-        "v4.local...",
-        "v4.public",
-        "v4.public...",
-        "a.b.c.d.e",
-    ] {
-        let answer = V::fault(alloc, token, None);
-        assert!(rt;
-            matches!(&answer, Err(PasetoError::IncorrectSize)),
-            "{token}"
-        );
-    }
-}
-
-/// The footer is looked at before the header.
-pub(crate) fn other_footer_and_other_header<P, V: Tokens<P>>(rt: &impl Abort, alloc: Global) {
-    let token = if V::START == "v3.local." {
-        "v4.local.AAAA.Zm9v"
-    } else {
-        "v3.local.AAAA.Zm9v"
-    };
-    let answer = V::fault(alloc, token, None);
-    assert!(rt; matches!(&answer, Err(PasetoError::FooterInvalid)));
-    let answer = V::fault(alloc, token, Some("foo"));
-    assert!(rt; matches!(&answer, Err(PasetoError::WrongHeader)));
-}
-
-// A header is refused where it is not the version's own.
-fn check_header<P, V: Tokens<P>>(rt: &impl Abort, alloc: Global, header: &str) -> Result<(), Fail> {
-    let token = format!(in alloc; "{header}1234")?;
-    let answer = V::fault(alloc, token.as_str(), None);
-    let refused = matches!(&answer, Err(PasetoError::WrongHeader));
-    assert_eq!(rt; refused, header != V::START, "{header}");
-    Ok(())
-}
-
-/// Headers of other versions and purposes, and other spellings of the version's own.
-pub(crate) fn other_headers<P, V: Tokens<P>>(rt: &impl Abort, alloc: Global) -> Result<(), Fail> {
-    'headers: for header in [
-        "v1.local.",
-        "v2.local.",
-        "v3.local.",
-        "v4.local.",
-        "V1.local.",
-        "V3.local.",
-        "V4.local.",
-        "v1.public.",
-        "v2.public.",
-        "v3.public.",
-        "v4.public.",
-        "V4.public.",
-        "v4.Public.",
-        "v1..",
-        "v3..",
-        "v4..",
-        ".local.",
-        ".public.",
-    ] {
-        check_header::<P, V>(rt, alloc, header)?;
-    }
-    Ok(())
-}
-
-/// Sections that spell no bytes.
-pub(crate) fn other_spellings<P, V: Tokens<P>>(rt: &impl Abort, alloc: Global) -> Result<(), Fail> {
-    let header = V::START;
-    'sections: for section in ["AB", "AA==", "A", "A+A/", "é", "AAAA\n"] {
-        let token = format!(in alloc; "{header}{section}")?;
-        let answer = V::fault(alloc, token.as_str(), None);
-        let refused = matches!(&answer, Err(PasetoError::PayloadBase64Decode { .. }));
-        assert!(rt; refused, "{token}");
-    }
-    Ok(())
-}
-
-/// Payloads that are too short, the longest of which has so many letters.
-pub(crate) fn short_payloads<P, V: Tokens<P>>(
+// What is answered for a token with a fault, with nothing asked.
+fn fault_of(
     rt: &impl Abort,
     alloc: Global,
+    kind: Kind,
+    token: &str,
+    footer: Option<&str>,
+) -> Result<String, PasetoError> {
+    let binding = Binding::of_footer(footer);
+    let (answer, calls) = kind.read_counted(alloc, &SECRET, token, binding);
+    assert_eq!(rt; calls, Calls::NONE, "{kind:?} {token}");
+    answer
+}
+
+// The sections are counted before anything else is looked at.
+#[test]
+fn wrong_number_of_sections(rt: HostRuntime) {
+    'kinds: for kind in KINDS {
+        'tokens: for token in [
+            "",
+            "v4.local",
+            "v4.local...",
+            "v4.public",
+            "v4.public...",
+            "a.b.c.d.e",
+        ] {
+            let answer = fault_of(&rt, rt.alloc(), kind, token, None);
+            let refused = matches!(&answer, Err(PasetoError::IncorrectSize));
+            assert!(rt; refused, "{kind:?} {token}");
+        }
+    }
+}
+
+// The footer is looked at before the header.
+#[test]
+fn other_footer_and_other_header(rt: HostRuntime) {
+    'kinds: for kind in KINDS {
+        let token = if kind == Kind::V3Local {
+            "v4.local.AAAA.Zm9v"
+        } else {
+            "v3.local.AAAA.Zm9v"
+        };
+        let answer = fault_of(&rt, rt.alloc(), kind, token, None);
+        let refused = matches!(&answer, Err(PasetoError::FooterInvalid));
+        assert!(rt; refused, "{kind:?}");
+        let answer = fault_of(&rt, rt.alloc(), kind, token, Some("foo"));
+        let refused = matches!(&answer, Err(PasetoError::WrongHeader));
+        assert!(rt; refused, "{kind:?}");
+    }
+}
+
+// A header is refused where it is not the kind's own.
+fn check_header(rt: &impl Abort, alloc: Global, kind: Kind, header: &str) -> Result<(), Fail> {
+    let token = format!(in alloc; "{header}1234")?;
+    let answer = fault_of(rt, alloc, kind, token.as_str(), None);
+    let refused = matches!(&answer, Err(PasetoError::WrongHeader));
+    assert_eq!(rt; refused, header != kind.header(), "{kind:?} {header}");
+    Ok(())
+}
+
+// Headers of all kinds, and other spellings of them.
+#[test]
+fn other_headers(rt: HostRuntime) -> Result<(), Fail> {
+    'kinds: for kind in KINDS {
+        'headers: for header in [
+            "v1.local.",
+            "v2.local.",
+            "v3.local.",
+            "v4.local.",
+            "V1.local.",
+            "V3.local.",
+            "V4.local.",
+            "v1.public.",
+            "v2.public.",
+            "v3.public.",
+            "v4.public.",
+            "V4.public.",
+            "v4.Public.",
+            "v1..",
+            "v3..",
+            "v4..",
+            ".local.",
+            ".public.",
+        ] {
+            check_header(&rt, rt.alloc(), kind, header)?;
+        }
+    }
+    Ok(())
+}
+
+// Sections that spell no bytes.
+#[test]
+fn other_spellings(rt: HostRuntime) -> Result<(), Fail> {
+    'kinds: for kind in KINDS {
+        let header = kind.header();
+        'sections: for section in ["AB", "AA==", "A", "A+A/", "é", "AAAA\n"] {
+            let token = format!(in rt.alloc(); "{header}{section}")?;
+            let answer = fault_of(&rt, rt.alloc(), kind, token.as_str(), None);
+            let refused = matches!(&answer, Err(PasetoError::PayloadBase64Decode { .. }));
+            assert!(rt; refused, "{kind:?} {section}");
+        }
+    }
+    Ok(())
+}
+
+/// A token of so many letters `A`, each of which spells six bits of zeros.
+pub(crate) fn token_of_zeros(
+    alloc: Global,
+    kind: Kind,
     letters: usize,
-) -> Result<(), Fail> {
-    'lengths: for letters in [0, 4, letters] {
-        let token = token_of_zeros(alloc, V::START, letters)?;
-        let answer = V::fault(alloc, token.as_str(), None);
+) -> Result<String, AllocError> {
+    let mut token = String::from_str(alloc, kind.header())?;
+    'letters: for _ in 0..letters {
+        token.push('A')?;
+    }
+    Ok(token)
+}
+
+// The letters of the longest payload that is too short. In version 2 local 31 letters spell 23 bytes,
+// one less than a nonce; elsewhere they spell one byte less than a nonce and a tag, or a signature.
+const LETTERS: [(Kind, usize); 8] = [
+    (Kind::V1Local, 106),
+    (Kind::V2Local, 31),
+    (Kind::V3Local, 106),
+    (Kind::V4Local, 84),
+    (Kind::V1Public, 340),
+    (Kind::V2Public, 84),
+    (Kind::V3Public, 127),
+    (Kind::V4Public, 84),
+];
+
+#[test]
+fn short_payloads(rt: HostRuntime) -> Result<(), Fail> {
+    'kinds: for (kind, most) in LETTERS {
+        'lengths: for letters in [0, 4, most] {
+            let token = token_of_zeros(rt.alloc(), kind, letters)?;
+            let answer = fault_of(&rt, rt.alloc(), kind, token.as_str(), None);
+            let refused = matches!(&answer, Err(PasetoError::IncorrectSize));
+            assert!(rt; refused, "{kind:?} {letters}");
+        }
+        let header = kind.header();
+        let token = format!(in rt.alloc(); "{header}.")?;
+        let answer = fault_of(&rt, rt.alloc(), kind, token.as_str(), None);
         assert!(rt;
             matches!(&answer, Err(PasetoError::IncorrectSize)),
-            "{token}"
+            "{kind:?}"
         );
     }
-    let header = V::START;
-    let token = format!(in alloc; "{header}.")?;
-    let answer = V::fault(alloc, token.as_str(), None);
-    assert!(rt; matches!(&answer, Err(PasetoError::IncorrectSize)));
     Ok(())
 }

@@ -1,0 +1,124 @@
+//! The tokens of builders of every kind: the core's tokens of the payload.
+
+use crate::builders::generators::Zeros;
+use crate::kinds::toys::{Keys, ToyVersion};
+use crate::kinds::{ASSERTED_KINDS, Binding, KINDS, Kind, SECRET, symmetric_key};
+use crate::long::{LENGTHS, text_of};
+use crate::toy_box::ToyBox;
+use rusty_paseto_claims::{AudienceClaim, CustomClaim};
+use rusty_paseto_core::{
+    Footer, ImplicitAssertion, ImplicitAssertionCapable, Local, Public, PurposeTrait, Signs, V1, V2,
+    V3, V4, VersionTrait,
+};
+use rusty_paseto_generic::{GenericBuilder, GenericBuilderError, UnboxedVersion};
+use std::alloc::Global;
+use std::test::Fail;
+
+const PAYLOAD: &str = "{\"aud\":\"customers\",\"seats\":4}";
+
+type Token = Result<String, GenericBuilderError>;
+
+// A builder of a token for an audience, with the binding's footer.
+fn builder_of<'a, V: VersionTrait, P: PurposeTrait>(
+    alloc: Global,
+    audience: &str,
+    binding: Binding<'a>,
+) -> Result<GenericBuilder<'a, V, P>, GenericBuilderError> {
+    let mut builder = GenericBuilder::<V, P>::new(alloc);
+    builder.put_claim(&CustomClaim::try_from_str(alloc, "seats", 4u64)?)?;
+    builder.put_claim(&AudienceClaim::from(audience))?;
+    if let Some(footer) = binding.footer {
+        builder.set_footer(Footer::from(footer));
+    }
+    Ok(builder)
+}
+
+// The same with the binding's implicit assertion.
+fn asserted_of<'a, V: ImplicitAssertionCapable, P: PurposeTrait>(
+    alloc: Global,
+    audience: &str,
+    binding: Binding<'a>,
+) -> Result<GenericBuilder<'a, V, P>, GenericBuilderError> {
+    let mut builder = builder_of::<V, P>(alloc, audience, binding)?;
+    if let Some(assertion) = binding.assertion {
+        builder.set_implicit_assertion(ImplicitAssertion::from(assertion));
+    }
+    Ok(builder)
+}
+
+fn sealed<V: UnboxedVersion>(builder: &GenericBuilder<'_, V, Local>) -> Token {
+    builder.try_encrypt(&mut Zeros, &symmetric_key(&SECRET))
+}
+
+fn boxed(builder: &GenericBuilder<'_, V2, Local>) -> Token {
+    builder.try_encrypt(&ToyBox, &mut Zeros, &symmetric_key(&SECRET))
+}
+
+fn signed<V: ToyVersion + Signs<V::Toy>>(builder: &GenericBuilder<'_, V, Public>) -> Token {
+    let keys = Keys::of(&SECRET);
+    builder.try_sign(&mut V::toy(), &V::private_key(&keys))
+}
+
+// The token for an audience, under the secret's keys and a nonce of zeros.
+fn token_of(kind: Kind, alloc: Global, audience: &str, binding: Binding<'_>) -> Token {
+    match kind {
+        Kind::V1Local => sealed::<V1>(&builder_of(alloc, audience, binding)?),
+        Kind::V2Local => boxed(&builder_of(alloc, audience, binding)?),
+        Kind::V3Local => sealed::<V3>(&asserted_of(alloc, audience, binding)?),
+        Kind::V4Local => sealed::<V4>(&asserted_of(alloc, audience, binding)?),
+        Kind::V1Public => signed::<V1>(&builder_of(alloc, audience, binding)?),
+        Kind::V2Public => signed::<V2>(&builder_of(alloc, audience, binding)?),
+        Kind::V3Public => signed::<V3>(&asserted_of(alloc, audience, binding)?),
+        Kind::V4Public => signed::<V4>(&asserted_of(alloc, audience, binding)?),
+    }
+}
+
+#[test]
+fn the_cores_tokens(rt: HostRuntime) -> Result<(), Fail> {
+    let alloc = rt.alloc();
+    'kinds: for kind in KINDS {
+        'footers: for footer in [None, Some(""), Some("key-1")] {
+            let binding = Binding::of_footer(footer);
+            let token = token_of(kind, alloc, "customers", binding)?;
+            let wanted = kind.make(alloc, PAYLOAD, binding)?;
+            assert_eq!(rt; token.as_str(), wanted.as_str(), "{kind:?} {footer:?}");
+        }
+    }
+    Ok(())
+}
+
+#[test]
+fn with_an_assertion(rt: HostRuntime) -> Result<(), Fail> {
+    let alloc = rt.alloc();
+    let binding = Binding {
+        footer: Some("key-1"),
+        assertion: Some("more"),
+    };
+    'kinds: for kind in ASSERTED_KINDS {
+        let token = token_of(kind, alloc, "customers", binding)?;
+        let wanted = kind.make(alloc, PAYLOAD, binding)?;
+        assert_eq!(rt; token.as_str(), wanted.as_str(), "{kind:?}");
+        let answer = kind.read(alloc, token.as_str(), Binding::of_footer(Some("key-1")));
+        assert!(rt; kind.is_refused(&answer), "{kind:?}");
+    }
+    Ok(())
+}
+
+// Version 2 is left out, since the toy box has no sealing of long messages.
+#[test]
+fn of_long_claims(rt: HostRuntime) -> Result<(), Fail> {
+    let alloc = rt.alloc();
+    'lengths: for letters in LENGTHS {
+        let audience = text_of(alloc, letters)?;
+        let payload = format!(in alloc; "{{\"aud\":\"{audience}\",\"seats\":4}}")?;
+        'kinds: for kind in KINDS {
+            if kind == Kind::V2Local {
+                continue 'kinds;
+            }
+            let token = token_of(kind, alloc, audience.as_str(), Binding::NONE)?;
+            let text = kind.read(alloc, token.as_str(), Binding::NONE)?;
+            assert!(rt; text.as_str() == payload.as_str(), "{kind:?} {letters}");
+        }
+    }
+    Ok(())
+}

@@ -1,0 +1,69 @@
+//! Tokens put together from their parts, as the standard tells them, are read.
+
+use super::parts::{payload_of, signed_payload, token_of_payload};
+use crate::kinds::{ASSERTED_KINDS, Binding, KINDS, Kind};
+use rusty_paseto_core::PasetoError;
+use std::test::Fail;
+
+// The pieces that are bound, in their order, the implicit assertion the last one.
+#[test]
+fn the_bound_pieces(rt: HostRuntime) -> Result<(), Fail> {
+    let binding = Binding::of_footer(Some("footer"));
+    'kinds: for kind in KINDS {
+        let payload = payload_of(rt.alloc(), kind, b"hello", binding)?;
+        let token = token_of_payload(rt.alloc(), kind, &payload)?;
+        let text = kind.read(rt.alloc(), token.as_str(), binding)?;
+        assert_eq!(rt; text.as_str(), "hello", "{kind:?}");
+    }
+    let binding = Binding {
+        footer: Some("footer"),
+        assertion: Some("more"),
+    };
+    'asserted: for kind in ASSERTED_KINDS {
+        let payload = payload_of(rt.alloc(), kind, b"hello", binding)?;
+        let token = token_of_payload(rt.alloc(), kind, &payload)?;
+        let text = kind.read(rt.alloc(), token.as_str(), binding)?;
+        assert_eq!(rt; text.as_str(), "hello", "{kind:?}");
+    }
+    Ok(())
+}
+
+// In version 3 a signature over all pieces but the public key is not valid.
+#[test]
+fn the_public_key_is_signed(rt: HostRuntime) -> Result<(), Fail> {
+    let kind = Kind::V3Public;
+    let pieces: [&[u8]; 4] = [b"v3.public.", b"hello", b"", b""];
+    let payload = signed_payload(rt.alloc(), kind, b"hello", &pieces)?;
+    let token = token_of_payload(rt.alloc(), kind, &payload)?;
+    let answer = kind.read(rt.alloc(), token.as_str(), Binding::NONE);
+    assert!(rt; matches!(&answer, Err(PasetoError::InvalidSignature)));
+    Ok(())
+}
+
+// Whether a token was refused as one whose bytes are no text.
+fn is_no_text(kind: Kind, answer: &Result<String, PasetoError>) -> bool {
+    match kind {
+        Kind::V1Local | Kind::V2Local | Kind::V3Local | Kind::V4Local => {
+            matches!(answer, Err(PasetoError::Utf8Error { .. }))
+        }
+        _ => matches!(answer, Err(PasetoError::FromUtf8Error)),
+    }
+}
+
+// The tag or the signature is looked at before the text. The one byte `ff` is no text.
+#[test]
+fn bytes_that_are_no_text(rt: HostRuntime) -> Result<(), Fail> {
+    'kinds: for kind in KINDS {
+        let mut payload = payload_of(rt.alloc(), kind, b"\xff", Binding::NONE)?;
+        let token = token_of_payload(rt.alloc(), kind, &payload)?;
+        let answer = kind.read(rt.alloc(), token.as_str(), Binding::NONE);
+        assert!(rt; is_no_text(kind, &answer), "{kind:?}");
+        if let Some(last) = payload.last_mut() {
+            *last ^= 1;
+        }
+        let token = token_of_payload(rt.alloc(), kind, &payload)?;
+        let answer = kind.read(rt.alloc(), token.as_str(), Binding::NONE);
+        assert!(rt; kind.is_refused(&answer), "{kind:?}");
+    }
+    Ok(())
+}

@@ -1,0 +1,115 @@
+//! A scheme's own errors are handed on, and a private key of another length is refused before the scheme
+//! is asked.
+
+use super::faults::token_of_zeros;
+use super::refusals::LETTERS;
+use crate::kinds::counting::{Call, Calls, Counting};
+use crate::kinds::toys::{Keys, ToyVersion};
+use crate::kinds::{Kind, SECRET};
+use crate::refusing::Refusing;
+use crate::toy_schemes::ToyV1;
+use rusty_paseto_core::{
+    PasetoAsymmetricPrivateKey, PasetoError, Payload, Public, Signs, V1, V2, V2orV4, V3, V4,
+    Verifies,
+};
+use std::alloc::Global;
+use std::process::Abort;
+use std::test::Fail;
+
+// Signs under a key by a scheme, and counts.
+fn sign_by<V: ToyVersion + Signs<Counting<S>>, S>(
+    alloc: Global,
+    scheme: S,
+    key: &PasetoAsymmetricPrivateKey<'_, V, Public>,
+) -> (Result<String, PasetoError>, Calls)
+where
+    S: Drop,
+{
+    let mut scheme = Counting::new(scheme);
+    let answer = V::sign(
+        alloc,
+        &mut scheme,
+        key,
+        Payload::from("hello"),
+        None,
+        V::bound(None),
+    );
+    (answer, scheme.calls())
+}
+
+// The scheme that refuses everything is asked once, and what it answers is the answer.
+fn check_refusing<V>(
+    rt: &impl Abort,
+    alloc: Global,
+    kind: Kind,
+    token: &str,
+    asked: Call,
+) -> Result<(), Fail>
+where
+    V: ToyVersion + Signs<Counting<Refusing>> + Verifies<Counting<Refusing>>,
+{
+    let keys = Keys::of(&SECRET);
+    let (answer, calls) = sign_by::<V, Refusing>(alloc, Refusing, &V::private_key(&keys));
+    assert!(rt; matches!(&answer, Err(PasetoError::Signature)), "{kind:?}");
+    assert_eq!(rt; calls, Calls::once(asked), "{kind:?}");
+    let scheme = Counting::new(Refusing);
+    let key = V::public_key(&keys)?;
+    let answer = V::verify(alloc, &scheme, token, &key, None, V::bound(None));
+    assert!(rt; matches!(&answer, Err(PasetoError::Signature)), "{kind:?}");
+    assert_eq!(rt; scheme.calls(), Calls::once(Call::Verify), "{kind:?}");
+    Ok(())
+}
+
+// In version 3 a scheme that tells no public key is not asked for a signature.
+#[test]
+fn a_scheme_that_refuses(rt: HostRuntime) -> Result<(), Fail> {
+    'kinds: for (kind, letters) in LETTERS {
+        let alloc = rt.alloc();
+        let token = token_of_zeros(alloc, kind, letters)?;
+        let token = token.as_str();
+        match kind {
+            Kind::V1Public => check_refusing::<V1>(&rt, alloc, kind, token, Call::Sign)?,
+            Kind::V2Public => check_refusing::<V2>(&rt, alloc, kind, token, Call::Sign)?,
+            Kind::V3Public => check_refusing::<V3>(&rt, alloc, kind, token, Call::PublicKey)?,
+            Kind::V4Public => check_refusing::<V4>(&rt, alloc, kind, token, Call::Sign)?,
+            _ => {}
+        }
+    }
+    Ok(())
+}
+
+// Keys that are a byte too short and a byte too long.
+fn check_lengths<V>(rt: &impl Abort, alloc: Global, kind: Kind)
+where
+    V: ToyVersion + V2orV4 + Signs<Counting<V::Toy>> + Signs<Counting<Refusing>>,
+{
+    let bytes = [7u8; 65];
+    'keys: for bytes in [&bytes[..63], &bytes[..65]] {
+        let length = bytes.len();
+        let key = PasetoAsymmetricPrivateKey::<V, Public>::from(bytes);
+        let (answer, calls) = sign_by::<V, V::Toy>(alloc, V::toy(), &key);
+        let refused = matches!(&answer, Err(PasetoError::TryFromSlice));
+        assert!(rt; refused, "{kind:?} {length}");
+        assert_eq!(rt; calls, Calls::NONE, "{kind:?} {length}");
+        let (answer, calls) = sign_by::<V, Refusing>(alloc, Refusing, &key);
+        let refused = matches!(&answer, Err(PasetoError::TryFromSlice));
+        assert!(rt; refused, "{kind:?} {length}");
+        assert_eq!(rt; calls, Calls::NONE, "{kind:?} {length}");
+    }
+}
+
+#[test]
+fn private_keys_of_other_lengths(rt: HostRuntime) {
+    check_lengths::<V2>(&rt, rt.alloc(), Kind::V2Public);
+    check_lengths::<V4>(&rt, rt.alloc(), Kind::V4Public);
+}
+
+// In version 1 the scheme looks at the key.
+#[test]
+fn an_empty_key(rt: HostRuntime) {
+    let nothing: &[u8] = &[];
+    let key = PasetoAsymmetricPrivateKey::<V1, Public>::from(nothing);
+    let (answer, calls) = sign_by::<V1, ToyV1>(rt.alloc(), ToyV1, &key);
+    assert!(rt; matches!(&answer, Err(PasetoError::KeyRejected)));
+    assert_eq!(rt; calls, Calls::once(Call::Sign));
+}

@@ -1,9 +1,0 @@
-//! Public tokens of version 1, by a toy scheme.
-
-mod assembly;
-mod counting;
-mod faults;
-mod forms;
-mod private_keys;
-mod signatures;
-mod version;

@@ -1,9 +1,0 @@
-//! How often the scheme is asked for a signature.
-
-use crate::public::counting;
-use rusty_paseto_core::V4;
-
-#[test]
-fn asked_once(rt: HostRuntime) {
-    counting::asked_once::<V4>(&rt, rt.alloc());
-}
