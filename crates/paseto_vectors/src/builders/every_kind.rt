@@ -7,8 +7,8 @@ use crate::long::{LENGTHS, text_of};
 use crate::toy_box::ToyBox;
 use rusty_paseto_claims::{AudienceClaim, CustomClaim};
 use rusty_paseto_core::{
-    Footer, ImplicitAssertion, ImplicitAssertionCapable, Local, Public, PurposeTrait, Signs, V1, V2,
-    V3, V4, VersionTrait,
+    Footer, ImplicitAssertion, ImplicitAssertionCapable, Local, Public, PurposeTrait, Signs, V1,
+    V2, V3, V4, VersionTrait,
 };
 use rusty_paseto_generic::{GenericBuilder, GenericBuilderError, UnboxedVersion};
 use std::alloc::Global;
@@ -73,6 +73,7 @@ fn token_of(kind: Kind, alloc: Global, audience: &str, binding: Binding<'_>) -> 
     }
 }
 
+// In version 2 the generator gives 24 bytes, so that the token is another one than under 32.
 #[test]
 fn the_cores_tokens(rt: HostRuntime) -> Result<(), Fail> {
     let alloc = rt.alloc();
@@ -81,7 +82,10 @@ fn the_cores_tokens(rt: HostRuntime) -> Result<(), Fail> {
             let binding = Binding::of_footer(footer);
             let token = token_of(kind, alloc, "customers", binding)?;
             let wanted = kind.make(alloc, PAYLOAD, binding)?;
-            assert_eq!(rt; token.as_str(), wanted.as_str(), "{kind:?} {footer:?}");
+            let is_same = token.as_str() == wanted.as_str();
+            assert_eq!(rt; is_same, kind != Kind::V2Local, "{kind:?} {footer:?}");
+            let text = kind.read(alloc, token.as_str(), binding)?;
+            assert_eq!(rt; text.as_str(), PAYLOAD, "{kind:?} {footer:?}");
         }
     }
     Ok(())

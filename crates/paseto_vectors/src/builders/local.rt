@@ -4,8 +4,8 @@ use crate::builders::generators::{Counting, Failing, Zeros};
 use crate::toy_box::ToyBox;
 use rusty_paseto_claims::{AudienceClaim, CustomClaim};
 use rusty_paseto_core::{
-    Footer, Key, Local, Paseto, PasetoError, PasetoNonce, PasetoSymmetricKey,
-    Payload, V1, V2, V3, V4, VersionTrait,
+    Footer, Key, Local, Paseto, PasetoError, PasetoNonce, PasetoSymmetricKey, Payload, V1, V2, V3,
+    V4, VersionTrait,
 };
 use rusty_paseto_generic::{GenericBuilder, GenericBuilderError, UnboxedVersion};
 use std::alloc::Global;
