@@ -3,10 +3,12 @@
 pub mod Scheme
 pub mod Signing
 pub mod Verifying
-use Rattle.std.specs.Prelude.{◌≡◌, ℕ, Option, Some, None, IfSome, length, Bool, true, false, List, [], ◌∷◌, ◌++◌, if◌then◌else◌, codes}
+use Rattle.std.specs.Prelude.{◌≡◌, ◌≤◌, ℕ, Option, Some, None, IfSome, length, Bool, true, false, List, [], ◌∷◌, ◌++◌, if◌then◌else◌, codes}
+use Rattle.std.proofs.Common.{refl}
 use Rattle.rusty_paseto_parts.specs.Header.{header_text}
 use Rattle.rusty_paseto_parts.specs.PreAuthenticationEncoding.{pae}
 use Rattle.rusty_paseto_core.specs.Context.{Binding}
+use Rattle.rusty_paseto_core.specs.Framing.{IsHeader}
 
 -- the purpose of a signed token
 abbrev pub public : List ℕ
@@ -41,6 +43,16 @@ HasPrivateLength design private = IfSome design.private_length (λ n. length pri
 -- the header that begins the version's public tokens
 abbrev pub header : PublicDesign → List ℕ
 header design = header_text design.version public
+
+-- a version that can be signed for: its header is that of its text, and its signatures are short
+pub record IsLawful (design : PublicDesign) (text : List ℕ) : Type 0 where
+  pub is_header : IsHeader design.version public (header design)
+  pub has_version : design.version ≡ text
+  pub short_signature : design.signature_length ≤ 256
+
+pub lawful : (design : PublicDesign) → IsHeader design.version public (header design) → design.signature_length ≤ 256
+    → IsLawful design design.version
+lawful design is_header short = record { is_header = is_header; has_version = refl; short_signature = short }
 
 -- a piece, where the version binds it
 abbrev pub where_bound : Bool → List ℕ → List (List ℕ)

@@ -1,6 +1,6 @@
 //! What a token is bound to besides its key, its nonce and its text.
 
-ghost use Rattle.std.specs.Prelude.{◌≡◌};
+ghost use Rattle.std.specs.Prelude.{◌≡◌, ◌∷◌, [], map};
 ghost use Rattle.rusty_paseto_parts.specs.Footer.{footer_text};
 ghost use Rattle.rusty_paseto_parts.specs.ImplicitAssertion.{assertion_text};
 ghost use Rattle.rusty_paseto_primitives.specs.Bytes.{IsBytes};
@@ -49,4 +49,18 @@ impl<'a> Context<'a> {
     {
         self.assertion.as_bytes()
     }
+}
+
+/// Five pieces of an encoding, at the shortest of their lifetimes.
+pub(crate) fn five_pieces<'a>(
+    first: &'a [u8],
+    second: &'a [u8],
+    third: &'a [u8],
+    fourth: &'a [u8],
+    fifth: &'a [u8],
+) -> [&'a [u8]; 5]
+    ensures { map (λ piece. piece.now) result
+        ≡ first.now ∷ second.now ∷ third.now ∷ fourth.now ∷ fifth.now ∷ [] }
+{
+    [first, second, third, fourth, fifth]
 }

@@ -1,6 +1,6 @@
 //! The tag of a local token. The encoding of its pieces goes into a hasher with no copy of it.
 
-ghost use Rattle.std.specs.Prelude.{◌≡◌, ◌++◌, ◌∷◌, [], ℕ, List, map, length};
+ghost use Rattle.std.specs.Prelude.{◌≡◌, ◌++◌, ℕ, List, map, length};
 ghost use Rattle.rusty_paseto_primitives.specs.Blake2.Hasher.{Holds as HoldsBlake2b, output_length};
 ghost use Rattle.rusty_paseto_primitives.specs.Blake2.Keyed.{blake2b};
 ghost use Rattle.rusty_paseto_primitives.specs.Hmac.{Holds as HoldsHmac, hmac};
@@ -9,7 +9,7 @@ ghost use Rattle.rusty_paseto_core.specs.Context.{bound};
 ghost use Rattle.rusty_paseto_core.specs.Local.Sealing.{tag_of};
 ghost use Rattle.std.proofs.Common.{◌∙◌, append_assoc, subst};
 
-use crate::context::Context;
+use crate::context::{Context, five_pieces};
 use crate::local::LocalSuite;
 use rusty_paseto_parts::{Absorb, absorb_pieces};
 use rusty_paseto_primitives::{Blake2b, HmacSha384};
@@ -94,7 +94,7 @@ pub(crate) fn write_tag<V: LocalSuite>(
     ensures { (key : List ℕ) → V.IsSplit keys.now key nonce.now
         → tag.new ≡ tag_of V.design (bound key context.now) nonce.now ciphertext.now }
 {
-    let pieces = pieces(
+    let pieces = five_pieces(
         V::header().as_bytes(),
         nonce,
         ciphertext,
@@ -106,18 +106,4 @@ pub(crate) fn write_tag<V: LocalSuite>(
     } else {
         V::write_tag(keys, &pieces[..4], tag);
     }
-}
-
-// The pieces that a tag covers, with the assertion.
-fn pieces<'a>(
-    header: &'a [u8],
-    nonce: &'a [u8; 32],
-    ciphertext: &'a [u8],
-    footer: &'a [u8],
-    assertion: &'a [u8],
-) -> [&'a [u8]; 5]
-    ensures { map (λ piece. piece.now) result
-        ≡ header.now ∷ nonce.now ∷ ciphertext.now ∷ footer.now ∷ assertion.now ∷ [] }
-{
-    [header, nonce, ciphertext, footer, assertion]
 }

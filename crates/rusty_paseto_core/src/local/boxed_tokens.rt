@@ -41,14 +41,9 @@ impl Paseto<'_, V2, Local> {
             × (boxed_sealing B.sealing binding (token_nonce nonce.now text)
             (is_some self.now.footer) text ≡ None))) }
     {
-        seal(
-            alloc,
-            sealed_box,
-            key.as_bytes(),
-            nonce.as_bytes(),
-            self.payload.as_str(),
-            self.footer,
-        )
+        let (key, nonce) = (key.as_bytes(), nonce.as_bytes());
+        let text = self.payload.as_str();
+        seal(alloc, sealed_box, key, nonce, text, self.footer)
     }
 
     /// Opens a token by the caller's box: the text that was sealed under this key and footer. An
@@ -71,12 +66,7 @@ impl Paseto<'_, V2, Local> {
         ensures { let binding = binding_of key.now footer.entry None in
             IsAnswer (box_opening B.sealing binding) token.now result }
     {
-        open(
-            alloc,
-            sealed_box,
-            token,
-            key.as_bytes(),
-            &Context::new(footer, None),
-        )
+        let context = Context::new(footer, None);
+        open(alloc, sealed_box, token, key.as_bytes(), &context)
     }
 }

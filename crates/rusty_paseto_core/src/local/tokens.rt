@@ -57,14 +57,8 @@ pub trait LocalVersion: LocalSuite {
             ≡ sealing Self.design binding (Self.design.token_nonce nonce.now text) (is_some footer.entry) text) }
         ensures err { IfErr result IsMemory }
     {
-        seal::<Self>(
-            alloc,
-            key.as_bytes(),
-            nonce.as_bytes(),
-            payload.as_str(),
-            footer,
-            implicit_assertion,
-        )
+        let (key, nonce, text) = (key.as_bytes(), nonce.as_bytes(), payload.as_str());
+        seal::<Self>(alloc, key, nonce, text, footer, implicit_assertion)
     }
 
     /// Opens a token, as `try_decrypt` of `Paseto` does, with the same faults. In version 1, which has no
@@ -80,20 +74,12 @@ pub trait LocalVersion: LocalSuite {
         ensures { let binding = binding_of key.now footer.entry implicit_assertion.entry in
             IsAnswer (opening Self.design binding) token.now result }
     {
-        open::<Self>(
-            alloc,
-            token,
-            key.as_bytes(),
-            &Context::new(footer, implicit_assertion),
-        )
+        let context = Context::new(footer, implicit_assertion);
+        open::<Self>(alloc, token, key.as_bytes(), &context)
     }
 }
 
-impl LocalVersion for V1 {}
-
-impl LocalVersion for V3 {}
-
-impl LocalVersion for V4 {}
+impl<V: LocalSuite> LocalVersion for V {}
 
 impl<V: LocalVersion> Paseto<'_, V, Local> {
     /// Seals the payload: encrypts it and authenticates it together with the footer and, in the versions
@@ -103,12 +89,6 @@ impl<V: LocalVersion> Paseto<'_, V, Local> {
     /// nonce is made of the given one and the payload, so that the given one is not seen.
     ///
     /// The token has a footer section exactly where a footer was set. The only error is `Memory`.
-    ///
-    /// ```rust
-    /// let mut paseto = Paseto::<V4, Local>::builder();
-    /// paseto.set_payload(Payload::from("hello")).set_footer(Footer::from("key-1"));
-    /// let token = paseto.try_encrypt(alloc, &key, &nonce)?;
-    /// ```
     ///
     /// Source: PASETO specification, "Version 1", "Version 3" and "Version 4", "Encrypt".
     pub fn try_encrypt(
@@ -123,14 +103,9 @@ impl<V: LocalVersion> Paseto<'_, V, Local> {
             ≡ sealing V.design binding (V.design.token_nonce nonce.now text) (is_some self.now.footer) text) }
         ensures err { IfErr result IsMemory }
     {
-        seal::<V>(
-            alloc,
-            key.as_bytes(),
-            nonce.as_bytes(),
-            self.payload.as_str(),
-            self.footer,
-            self.implicit_assertion,
-        )
+        let (key, nonce) = (key.as_bytes(), nonce.as_bytes());
+        let (text, assertion) = (self.payload.as_str(), self.implicit_assertion);
+        seal::<V>(alloc, key, nonce, text, self.footer, assertion)
     }
 }
 
@@ -155,12 +130,8 @@ impl<V: AssertionVersion> Paseto<'_, V, Local> {
         ensures { let binding = binding_of key.now footer.entry implicit_assertion.entry in
             IsAnswer (opening V.design binding) token.now result }
     {
-        open::<V>(
-            alloc,
-            token,
-            key.as_bytes(),
-            &Context::new(footer, implicit_assertion),
-        )
+        let context = Context::new(footer, implicit_assertion);
+        open::<V>(alloc, token, key.as_bytes(), &context)
     }
 }
 

@@ -94,15 +94,8 @@ impl<S: SignatureScheme<256>> Signs<S> for V1 {
         footer: Option<Footer<'_>>,
         implicit_assertion: Option<ImplicitAssertion<'_>>,
     ) -> Result<String, PasetoError> {
-        sign::<V1, S, 256>(
-            alloc,
-            scheme,
-            key.as_bytes(),
-            &[],
-            payload.as_str(),
-            footer,
-            implicit_assertion,
-        )
+        let (key, text) = (key.as_bytes(), payload.as_str());
+        sign::<V1, S, 256>(alloc, scheme, key, &[], text, footer, implicit_assertion)
     }
 }
 
@@ -139,15 +132,8 @@ impl<S: SignatureScheme<64>> Signs<S> for V2 {
         footer: Option<Footer<'_>>,
         implicit_assertion: Option<ImplicitAssertion<'_>>,
     ) -> Result<String, PasetoError> {
-        sign::<V2, S, 64>(
-            alloc,
-            scheme,
-            key.as_bytes(),
-            &[],
-            payload.as_str(),
-            footer,
-            implicit_assertion,
-        )
+        let (key, text) = (key.as_bytes(), payload.as_str());
+        sign::<V2, S, 64>(alloc, scheme, key, &[], text, footer, implicit_assertion)
     }
 }
 
@@ -184,17 +170,9 @@ impl<S: CompressedKey> Signs<S> for V3 {
         footer: Option<Footer<'_>>,
         implicit_assertion: Option<ImplicitAssertion<'_>>,
     ) -> Result<String, PasetoError> {
-        let private = key.as_bytes();
-        let public = scheme.public_key(alloc, private)?;
-        sign::<V3, S, 96>(
-            alloc,
-            scheme,
-            private,
-            &public,
-            payload.as_str(),
-            footer,
-            implicit_assertion,
-        )
+        let (key, text) = (key.as_bytes(), payload.as_str());
+        let point = scheme.public_key(alloc, key)?;
+        sign::<V3, S, 96>(alloc, scheme, key, &point, text, footer, implicit_assertion)
     }
 }
 
@@ -231,15 +209,8 @@ impl<S: SignatureScheme<64>> Signs<S> for V4 {
         footer: Option<Footer<'_>>,
         implicit_assertion: Option<ImplicitAssertion<'_>>,
     ) -> Result<String, PasetoError> {
-        sign::<V4, S, 64>(
-            alloc,
-            scheme,
-            key.as_bytes(),
-            &[],
-            payload.as_str(),
-            footer,
-            implicit_assertion,
-        )
+        let (key, text) = (key.as_bytes(), payload.as_str());
+        sign::<V4, S, 64>(alloc, scheme, key, &[], text, footer, implicit_assertion)
     }
 }
 
@@ -282,19 +253,12 @@ impl<V: PublicVersion> Paseto<'_, V, Public> {
         ensures { IsSignAnswer V.valid (V.declined key.now) V.public_design key.now (V.partner key.now)
             self.now.footer self.now.implicit_assertion (payload_text self.now.payload) result }
     {
-        let implicit_assertion = if V::BINDS_ASSERTION {
+        let assertion = if V::signs_assertion() {
             self.implicit_assertion
         } else {
             None
         };
-        V::sign(
-            alloc,
-            scheme,
-            key,
-            self.payload,
-            self.footer,
-            implicit_assertion,
-        )
+        V::sign(alloc, scheme, key, self.payload, self.footer, assertion)
     }
 }
 

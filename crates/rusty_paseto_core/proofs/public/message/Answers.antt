@@ -2,23 +2,23 @@ use Rattle.std.proofs.Common.{◌≡◌, ◌∙◌, if◌then◌else◌, sym}
 use Rattle.rusty_paseto_core.specs.Context.{bound}
 use Rattle.rusty_paseto_core.proofs.SignedMessage.{bound_message}
 use Rattle.rusty_paseto_core.proofs.public.message.Goals as goal
-use Rattle.rusty_paseto_core.proofs.public.message.Goals.{then-BINDS_KEY, else-BINDS_KEY, then-BINDS_ASSERTION, else-BINDS_ASSERTION}
+use Rattle.rusty_paseto_core.proofs.public.message.Goals.{then-signs_key, else-signs_key, then-signs_assertion, else-signs_assertion}
 
 pub returns-clause-ok : goal.returns-clause-ok
 returns-clause-ok g c =
     let design = g.V.PublicSuite.public_design in
-    let start : c.if-BINDS_KEY.start ≡ (if c.BINDS_KEY.result then 0 else 1) =
-    elim c.if-BINDS_KEY.branch [
-      | then-BINDS_KEY w ↦ rw w.if-BINDS_KEY.true w.start-is
-      | else-BINDS_KEY w ↦ rw w.if-BINDS_KEY.false w.start-is
+    let start : c.if-signs_key.start ≡ (if c.signs_key.result then 0 else 1) =
+    elim c.if-signs_key.branch [
+      | then-signs_key w ↦ rw w.if-signs_key.true w.start-is
+      | else-signs_key w ↦ rw w.if-signs_key.false w.start-is
     ] in
-    let end : c.if-BINDS_ASSERTION.end ≡ (if c.BINDS_ASSERTION.result then 5 else 4) =
-    elim c.if-BINDS_ASSERTION.branch [
-      | then-BINDS_ASSERTION w ↦ rw w.if-BINDS_ASSERTION.true w.end-is
-      | else-BINDS_ASSERTION w ↦ rw w.if-BINDS_ASSERTION.false w.end-is
+    let end : c.if-signs_assertion.end ≡ (if c.signs_assertion.result then 5 else 4) =
+    elim c.if-signs_assertion.branch [
+      | then-signs_assertion w ↦ rw w.if-signs_assertion.true w.end-is
+      | else-signs_assertion w ↦ rw w.if-signs_assertion.false w.end-is
     ] in
-    let key = g.met.V.PublicSuite.has_key ∙ sym c.BINDS_KEY.ensures in
-    let assertion = g.met.V.PublicSuite.has_assertion ∙ sym c.BINDS_ASSERTION.ensures in
-    let five = rw (c.footer.ensures.text, c.assertion.ensures, c.as_bytes.ensures.value, c.header.ensures) at c.pieces-pieces.ensures in
-    let same = bound_message design (bound c.args.public.now c.args.context.now) c.args.text.now c.pieces-pieces.result _ _ _ _ five key assertion start end in
+    let key = sym c.signs_key.ensures in
+    let assertion = sym c.signs_assertion.ensures in
+    let five = rw (c.footer.ensures.text, c.assertion.ensures, c.as_bytes.ensures.value, c.header.ensures) at c.five_pieces-pieces.ensures in
+    let same = bound_message design (bound c.args.public.now c.args.context.now) c.args.text.now c.five_pieces-pieces.result _ _ _ _ five key assertion start end in
     simp same at c.parse.ensures.ok

@@ -10,8 +10,8 @@ returns-in_err-payload g c =
     let refused_by = g.S.SignatureScheme.refused in
     let design = g.V.PublicSuite.public_design in
     let binding : Binding = bound c.args.public.now c.args.context.now in
-    let law = verification-lawful valid refused_by design binding g.met.V.PublicSuite.is_header c.footer.ensures.bytes in
-    refused (verification valid refused_by design binding) law _ _ c.args.token.now g.met.V.PublicSuite.has_version c.footer.ensures.text
+    let law = verification-lawful valid refused_by design binding g.met.V.PublicSuite.public_lawful.is_header c.footer.ensures.bytes in
+    refused (verification valid refused_by design binding) law _ _ c.args.token.now g.met.V.PublicSuite.public_lawful.has_version c.footer.ensures.text
     c.in_err-payload.field-0.0 c.from_residual.result c.from_residual.ensures.1 c.in_err-payload.ensures.fault (λ none. let e = c.in_err-payload.ensures.count none in cc)
 
 pub returns : goal.returns
@@ -20,8 +20,8 @@ returns g c =
     let refused_by = g.S.SignatureScheme.refused in
     let design = g.V.PublicSuite.public_design in
     let binding : Binding = bound c.args.public.now c.args.context.now in
-    let law = verification-lawful valid refused_by design binding g.met.V.PublicSuite.is_header c.footer.ensures.bytes in
-    answered (verification valid refused_by design binding) law _ _ c.args.token.now g.met.V.PublicSuite.has_version c.footer.ensures.text _
+    let law = verification-lawful valid refused_by design binding g.met.V.PublicSuite.public_lawful.is_header c.footer.ensures.bytes in
+    answered (verification valid refused_by design binding) law _ _ c.args.token.now g.met.V.PublicSuite.public_lawful.has_version c.footer.ensures.text _
     c.in_ok-payload.ensures.framed c.verify_payload.result
     (λ bytes. signed_carries valid refused_by design binding _ bytes c.verify_payload.result c.verify_payload.ensures.holds)
     c.verify_payload.ensures.fault
