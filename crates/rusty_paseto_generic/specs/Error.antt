@@ -1,4 +1,5 @@
 -- What is said of the errors of builders.
+pub mod Parser
 use Rattle.std.specs.Prelude.{◌≡◌, ⊤, ℕ, List, alloc_error}
 use Rattle.serde_json.specs.Errors.{IsMemory as IsMemoryOfJson}
 use Rattle.serde_json.specs.declared.error.Error.{Error}

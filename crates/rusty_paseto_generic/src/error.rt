@@ -1,8 +1,10 @@
-//! The error of builders.
+//! The errors of builders and of parsers.
 
 ghost use Rattle.std.specs.Prelude.{◌≡◌};
 ghost use Rattle.rusty_paseto_generic.specs.Error.{of_cipher, of_claim, IsOfJson};
+ghost use Rattle.rusty_paseto_generic.specs.Error.Parser.{of_cipher as parser_of_cipher, of_claim as parser_of_claim, IsOfJson as IsParserOfJson};
 ghost use Rattle.rusty_paseto_generic.specs.declared.error.GenericBuilderError.TheVariants.{Memory};
+ghost use Rattle.rusty_paseto_generic.specs.declared.error.GenericParserError.TheVariants as Parser;
 
 use rusty_paseto_claims::PasetoClaimError;
 use rusty_paseto_core::PasetoError;
@@ -73,5 +75,66 @@ impl From<serde_json::Error> for GenericBuilderError {
             return GenericBuilderError::Memory(AllocError);
         }
         GenericBuilderError::PayloadJsonError { source }
+    }
+}
+
+/// Why a parser refused a check, or answered no value for a token.
+#[derive(Debug, Drop, Error)]
+pub enum GenericParserError {
+    /// A claim was refused, or did not pass a check. The message is the claim's own.
+    #[error("{source}")]
+    ClaimError { source: PasetoClaimError },
+    /// The token was not opened or verified.
+    #[error("A paseto cipher error occurred")]
+    CipherError { source: PasetoError },
+    /// The payload was not read as JSON.
+    #[error("The payload was unable to be serialized into json")]
+    PayloadJsonError { source: serde_json::Error },
+    /// Memory was refused.
+    #[error("No memory was found")]
+    Memory(AllocError),
+}
+
+impl From<AllocError> for GenericParserError {
+    ghost from_gives = { λ source error. error ≡ Parser.Memory source };
+
+    fn from(source: AllocError) -> GenericParserError {
+        GenericParserError::Memory(source)
+    }
+}
+
+/// Want of memory stays want of memory.
+impl From<PasetoClaimError> for GenericParserError {
+    ghost from_gives = { λ source error. error ≡ parser_of_claim source };
+
+    fn from(source: PasetoClaimError) -> GenericParserError {
+        match source {
+            PasetoClaimError::Memory(refused) => GenericParserError::Memory(refused),
+            fault => GenericParserError::ClaimError { source: fault },
+        }
+    }
+}
+
+/// Want of memory stays want of memory.
+impl From<PasetoError> for GenericParserError {
+    ghost from_gives = { λ source error. error ≡ parser_of_cipher source };
+
+    fn from(source: PasetoError) -> GenericParserError {
+        match source {
+            PasetoError::Memory(refused) => GenericParserError::Memory(refused),
+            refusal => GenericParserError::CipherError { source: refusal },
+        }
+    }
+}
+
+/// Want of memory stays want of memory.
+impl From<serde_json::Error> for GenericParserError {
+    ghost from_gives = { IsParserOfJson };
+
+    fn from(source: serde_json::Error) -> GenericParserError {
+        if source.is_memory() {
+            return GenericParserError::Memory(AllocError);
+        }
+        GenericParserError::PayloadJsonError { source }
     }
 }

@@ -4,9 +4,12 @@
 
 mod builders;
 mod error;
+mod parsers;
+mod validator;
+mod whole;
 
 pub use builders::{GenericBuilder, UnboxedVersion};
-pub use error::GenericBuilderError;
+pub use error::{GenericBuilderError, GenericParserError};
 pub use rusty_paseto_claims::{
     Audience, AudienceClaim, ClaimValue, CustomClaim, DateClaim, Expiration, ExpirationClaim,
     IssuedAt, IssuedAtClaim, Issuer, IssuerClaim, NotBefore, NotBeforeClaim, PasetoClaim,
@@ -20,3 +23,4 @@ pub use rusty_paseto_core::{
     PublicVersion, PurposeTrait, SealedBox, SignatureScheme, Signs, UntrustedToken, V1, V1orV3, V2,
     V2orV4, V3, V4, Verifies, VersionTrait, from_section, split_token, to_section,
 };
+pub use validator::{Validator, ValidatorFn, ValidatorMap};

@@ -10,6 +10,7 @@ ghost use Rattle.rusty_paseto_generic.specs.Error.{IsMemory, IsUnexpected};
 ghost use Rattle.rusty_paseto_generic.specs.Builders.Claims.{IsRefusal, becomes, claim_set, extended, payload, put_all, stored, unwrapped as unwrapped_data, without};
 
 use crate::error::GenericBuilderError;
+use crate::whole::check_whole;
 use rusty_paseto_claims::{PasetoClaim, PasetoClaimError, is_whole};
 use serde_json::{Map, Value};
 use std::alloc::{AllocError, Global};
@@ -134,20 +135,6 @@ fn only_member_or_all(key: &str, members: Map<String, Value>) -> Value
         Some(only) => only,
         None => Value::Object(members),
     }
-}
-
-// Refuses the first key whose value is not whole.
-fn check_whole(members: &Map<String, Value>) -> Result<(), GenericBuilderError>
-    ensures ok { OnOk result (first_odd (members_view members.now.entries) ≡ None) }
-    ensures err { IfErr result (λ error. IsMemory error
-        ⊎ ((key : List ℕ) × (first_odd (members_view members.now.entries) ≡ Some key) × IsUnexpected key error)) }
-{
-    for (key, value) in members.iter() {
-        if !is_whole(value) {
-            return Err(unexpected(key.clone()?));
-        }
-    }
-    Ok(())
 }
 
 // A copy of the members with more of them put in.

@@ -1,0 +1,37 @@
+-- What is said of the errors of parsers.
+use Rattle.std.specs.Prelude.{◌≡◌, ⊤, Option, Some, MatchOption, alloc_error}
+use Rattle.serde_json.specs.Errors.{IsMemory as IsMemoryOfJson}
+use Rattle.serde_json.specs.declared.error.Error.{Error}
+use Rattle.rusty_paseto_claims.specs.Error.{Fault, fault_of}
+use Rattle.rusty_paseto_claims.specs.declared.PasetoClaimError.{PasetoClaimError}
+use Rattle.rusty_paseto_claims.specs.declared.PasetoClaimError.TheVariants as Claim
+use Rattle.rusty_paseto_core.specs.declared.PasetoError.{PasetoError}
+use Rattle.rusty_paseto_core.specs.declared.PasetoError.TheVariants as Cipher
+use Rattle.rusty_paseto_generic.specs.declared.error.GenericParserError.{GenericParserError}
+use Rattle.rusty_paseto_generic.specs.declared.error.GenericParserError.TheVariants.{ClaimError, CipherError, PayloadJsonError, Memory}
+
+-- memory was refused
+abbrev pub IsMemory : GenericParserError → Type 0
+IsMemory (Memory _) = ⊤
+IsMemory _ = ⊥
+
+-- the error names the fault that is found, or memory was refused
+abbrev pub IsRefusal : Option Fault → GenericParserError → Type 0
+IsRefusal found (Memory _) = ⊤
+IsRefusal found (ClaimError error) = MatchOption (fault_of error) ⊥ (λ fault. found ≡ Some fault)
+IsRefusal found _ = ⊥
+
+-- the error of a parser for that of a claim
+abbrev pub of_claim : PasetoClaimError → GenericParserError
+of_claim (Claim.Memory refused) = Memory refused
+of_claim fault = ClaimError fault
+
+-- the error of a parser for that of a token
+abbrev pub of_cipher : PasetoError → GenericParserError
+of_cipher (Cipher.Memory refused) = Memory refused
+of_cipher refusal = CipherError refusal
+
+-- the error of a parser for one that JSON was not read with
+pub record IsOfJson (source : Error) (error : GenericParserError) : Type 0 where
+  pub memory : IsMemoryOfJson source → error ≡ Memory alloc_error
+  pub other : ¬ IsMemoryOfJson source → error ≡ PayloadJsonError source

@@ -1,0 +1,4 @@
+-- What parsers of tokens mean.
+pub mod Rules
+pub mod Verdicts
+pub mod Held

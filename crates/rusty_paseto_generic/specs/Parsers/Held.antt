@@ -1,0 +1,47 @@
+-- What a contract sees of the checks that a parser holds.
+use Rattle.std.specs.Prelude.{⊤, ℕ, List, [], ◌∷◌, map, Option, option_map, IsSome, String, string_bytes}
+use Rattle.std.specs.Global.{Global}
+use Rattle.std.specs.Option.{option_map_or}
+use Rattle.std.specs.BTreeMap.{get_by_text}
+use Rattle.serde_json.specs.View.{view}
+use Rattle.rusty_paseto_generic.specs.Validator.{Verdict}
+use Rattle.rusty_paseto_generic.specs.Parsers.Rules.{Rule, Rules, no_rule}
+use Rattle.rusty_paseto_generic.specs.declared.parsers.checks.Check.{Check}
+use Rattle.rusty_paseto_generic.specs.declared.parsers.checks.Checks.{Checks}
+use Rattle.rusty_paseto_generic.specs.declared.parsers.checks.Judge.{Judge}
+use Rattle.rusty_paseto_generic.specs.declared.parsers.checks.Judge.TheVariants.{Boxed}
+
+-- a check, its stored value as JSON
+abbrev pub rule_of : {B : Type 0} → Check B → Rule (Judge B)
+rule_of check = record { stored = option_map view check.stored; judge = check.judge }
+
+-- what is checked under each key
+abbrev pub rules_of : {B : Type 0} → Checks B → Rules (Judge B)
+rules_of checks key = option_map_or rule_of (get_by_text checks.entries key) no_rule
+
+-- what a judge finds, where a validator finds this
+abbrev pub verdict_of : {B : Type 0} → (B → Verdict) → Judge B → Verdict
+verdict_of verdict (Boxed validator) = verdict validator
+
+-- a check with what its judge finds
+abbrev pub judged : {B : Type 0} → (B → Verdict) → Rule (Judge B) → Rule Verdict
+judged verdict rule = record { stored = rule.stored; judge = option_map (verdict_of verdict) rule.judge }
+
+-- what is checked under each key, with what the judges find
+abbrev pub verdicts_of : {B : Type 0} → (B → Verdict) → Checks B → Rules Verdict
+verdicts_of verdict checks key = judged verdict (rules_of checks key)
+
+-- what is to judge each key, by its bytes
+abbrev pub judges_of : {B : Type 0} → List (String Global × B) → List (List ℕ × Judge B)
+judges_of entries = map (λ named. (string_bytes named.0, Boxed named.1)) entries
+
+-- ---- for private clauses: which keys have an entry
+
+-- what finds the entries of a map by their keys finds all that another does
+abbrev pub HasMore : {A B : Type 0} → (List ℕ → Option A) → (List ℕ → Option B) → Type 0
+HasMore found before = (key : List ℕ) → IsSome (before key) → IsSome (found key)
+
+-- what finds the entries of a map by their keys finds one under each of these
+abbrev pub HasEach : {A B : Type 0} → (List ℕ → Option A) → List (String Global × B) → Type 0
+HasEach found [] = ⊤
+HasEach found (named ∷ more) = IsSome (found (string_bytes named.0)) × HasEach found more

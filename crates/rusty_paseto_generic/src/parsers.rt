@@ -1,0 +1,4 @@
+//! What reads the claims of tokens, and checks them.
+
+mod checks;
+mod judge;

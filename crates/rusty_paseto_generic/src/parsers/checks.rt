@@ -1,0 +1,202 @@
+//! What a parser checks under each key.
+
+ghost use Rattle.std.specs.Prelude.{◌≡◌, ℕ, List, None, IfOk, IfErr, OnOk, OnErr, IsSome};
+ghost use Rattle.std.specs.BTreeMap.{get_by_text};
+ghost use Rattle.serde_json.specs.View.{view, members_view};
+ghost use Rattle.rusty_paseto_claims.specs.Claim.{IsRefusal, gives};
+ghost use Rattle.rusty_paseto_claims.specs.Whole.{first_odd};
+ghost use Rattle.rusty_paseto_generic.specs.Error.Parser.{IsRefusal as IsParserRefusal};
+ghost use Rattle.rusty_paseto_generic.specs.Parsers.Rules.{AreSame, IsStored, all_judged, all_stored, edited, fault_in, no_rule, odd_fault, whole_answer, with_both, with_judge, with_stored};
+ghost use Rattle.rusty_paseto_generic.specs.Parsers.Held.{HasEach, HasMore, judges_of, rules_of};
+
+use crate::error::GenericParserError;
+use crate::whole::check_whole;
+use rusty_paseto_claims::{PasetoClaim, PasetoClaimError, is_whole};
+use serde_json::{Map, Value};
+use std::alloc::{AllocError, Global};
+use std::collections::BTreeMap;
+
+/// What judges the value under a key, in place of a stored value.
+#[derive(Drop)]
+pub enum Judge<B> {
+    /// A validator that the caller brought.
+    Boxed(B),
+}
+
+/// What is checked under a key. With neither a stored value nor a judge, it is nothing.
+#[derive(Drop)]
+pub struct Check<B> {
+    pub(crate) stored: Option<Value>,
+    pub(crate) judge: Option<Judge<B>>,
+}
+
+/// Checks by their keys.
+#[derive(Drop)]
+pub struct Checks<B> {
+    alloc: Global,
+    pub(crate) entries: BTreeMap<String, Check<B>>,
+}
+
+impl<B: Drop> Checks<B> {
+    /// No checks. All memory for them is asked of the allocator.
+    pub(crate) fn new(alloc: Global) -> Self
+        ensures { (key : List ℕ) → rules_of result key ≡ no_rule }
+    {
+        Checks {
+            alloc,
+            entries: BTreeMap::new(alloc),
+        }
+    }
+
+    /// The allocator of the checks.
+    pub(crate) fn allocator(&self) -> Global {
+        self.alloc
+    }
+
+    /// Stores the JSON of a claim, as it is, under its key, and keeps the key's judge.
+    ///
+    /// `ClaimError` comes for a value that holds another number than a whole one of 64 bits, `Unexpected`
+    /// with the key, and for a fault of the claim. The checks are then unchanged.
+    pub(crate) fn store<C: PasetoClaim>(&mut self, claim: &C) -> Result<(), GenericParserError>
+        ensures ok { OnOk result (IsStored (C.key claim.now) (C.json claim.now) with_stored (rules_of self.old) (rules_of self.new)) }
+        ensures err { OnErr result (AreSame (rules_of self.new) (rules_of self.old)) }
+        ensures fault { IfErr result (IsParserRefusal (fault_in (whole_answer (C.key claim.now) (C.json claim.now)))) }
+    {
+        let key = claim.get_key();
+        let value = whole_json(self.alloc, claim)?;
+        self.reserve(key)?;
+        self.set_stored(key, value);
+        Ok(())
+    }
+
+    /// Stores the JSON of a claim, as `store` does, and what is to judge its key from now on.
+    pub(crate) fn store_judged<C: PasetoClaim>(
+        &mut self,
+        claim: &C,
+        judge: B,
+    ) -> Result<(), GenericParserError>
+        ensures ok { OnOk result (IsStored (C.key claim.now) (C.json claim.now) (with_both (Judge.Boxed judge))
+            (rules_of self.old) (rules_of self.new)) }
+        ensures err { OnErr result (AreSame (rules_of self.new) (rules_of self.old)) }
+        ensures fault { IfErr result (IsParserRefusal (fault_in (whole_answer (C.key claim.now) (C.json claim.now)))) }
+    {
+        let key = claim.get_key();
+        let value = whole_json(self.alloc, claim)?;
+        self.reserve(key)?;
+        self.set_stored(key, value);
+        self.set_judge(key, Judge::Boxed(judge));
+        Ok(())
+    }
+
+    /// Stores all values as they are, each under its key, and keeps the keys' judges.
+    ///
+    /// `ClaimError` of `Unexpected` with the key comes for the first key in byte order whose value holds
+    /// another number than a whole one of 64 bits. The checks are then unchanged.
+    pub(crate) fn store_all(&mut self, more: Map<String, Value>) -> Result<(), GenericParserError>
+        ensures ok { OnOk result (AreSame (rules_of self.new) (all_stored (members_view more.entries) (rules_of self.old))) }
+        ensures whole { OnOk result (first_odd (members_view more.entries) ≡ None) }
+        ensures err { OnErr result (AreSame (rules_of self.new) (rules_of self.old)) }
+        ensures fault { IfErr result (IsParserRefusal (odd_fault (members_view more.entries))) }
+    {
+        check_whole(&more)?;
+        self.reserve_all(&more)?;
+        self.set_all_stored(more);
+        Ok(())
+    }
+
+    /// Stores what is to judge each of the keys from now on, and keeps the keys' stored values. Nothing
+    /// but memory is refused, and the checks are then unchanged.
+    pub(crate) fn judge_all(&mut self, more: BTreeMap<String, B>) -> Result<(), AllocError>
+        ensures ok { OnOk result (AreSame (rules_of self.new) (all_judged (judges_of more.entries) (rules_of self.old))) }
+        ensures err { OnErr result (AreSame (rules_of self.new) (rules_of self.old)) }
+    {
+        self.reserve_all(&more)?;
+        self.set_all_judged(more);
+        Ok(())
+    }
+
+    // An entry under the key, which may check nothing yet, so that a check may then be set with no memory.
+    fn reserve(&mut self, key: &str) -> Result<(), AllocError>
+        ensures rules { AreSame (rules_of self.new) (rules_of self.old) }
+        ensures ok { OnOk result (IsSome (get_by_text self.new.entries key.now)) }
+        ensures kept { HasMore (get_by_text self.new.entries) (get_by_text self.old.entries) }
+    {
+        if self.entries.contains_key(key) {
+            return Ok(());
+        }
+        let nothing = Check {
+            stored: None,
+            judge: None,
+        };
+        drop(
+            self.entries
+                .insert(String::from_str(self.alloc, key)?, nothing)?,
+        );
+        Ok(())
+    }
+
+    // An entry under each of the keys.
+    fn reserve_all<T>(&mut self, more: &BTreeMap<String, T>) -> Result<(), AllocError>
+        ensures rules { AreSame (rules_of self.new) (rules_of self.old) }
+        ensures ok { OnOk result (HasEach (get_by_text self.new.entries) more.now.entries) }
+    {
+        for (key, _) in more.iter() {
+            self.reserve(key.as_str())?;
+        }
+        Ok(())
+    }
+
+    // Stores a value under a key that has an entry.
+    fn set_stored(&mut self, key: &str, value: Value)
+        requires { IsSome (get_by_text self.old.entries key.now) }
+        ensures rules { AreSame (rules_of self.new) (edited key.now (with_stored (view value)) (rules_of self.old)) }
+        ensures kept { HasMore (get_by_text self.new.entries) (get_by_text self.old.entries) }
+    {
+        if let Some(check) = self.entries.get_mut(key) {
+            check.stored = Some(value);
+        }
+    }
+
+    // Sets what judges a key that has an entry.
+    fn set_judge(&mut self, key: &str, judge: Judge<B>)
+        requires { IsSome (get_by_text self.old.entries key.now) }
+        ensures rules { AreSame (rules_of self.new) (edited key.now (with_judge judge) (rules_of self.old)) }
+        ensures kept { HasMore (get_by_text self.new.entries) (get_by_text self.old.entries) }
+    {
+        if let Some(check) = self.entries.get_mut(key) {
+            check.judge = Some(judge);
+        }
+    }
+
+    // Stores values under keys that have entries.
+    fn set_all_stored(&mut self, more: Map<String, Value>)
+        requires { HasEach (get_by_text self.old.entries) more.entries }
+        ensures { AreSame (rules_of self.new) (all_stored (members_view more.entries) (rules_of self.old)) }
+    {
+        for (key, value) in more {
+            self.set_stored(key.as_str(), value);
+        }
+    }
+
+    // Sets what judges keys that have entries.
+    fn set_all_judged(&mut self, more: BTreeMap<String, B>)
+        requires { HasEach (get_by_text self.old.entries) more.entries }
+        ensures { AreSame (rules_of self.new) (all_judged (judges_of more.entries) (rules_of self.old)) }
+    {
+        for (key, judge) in more {
+            self.set_judge(key.as_str(), Judge::Boxed(judge));
+        }
+    }
+}
+
+// The JSON of a claim, where its numbers are whole.
+fn whole_json<C: PasetoClaim>(alloc: Global, claim: &C) -> Result<Value, PasetoClaimError>
+    ensures ok { IfOk result (λ value. whole_answer (C.key claim.now) (C.json claim.now) ≡ gives (view value)) }
+    ensures err { IfErr result (IsRefusal (whole_answer (C.key claim.now) (C.json claim.now))) }
+{
+    let value = claim.to_json(alloc)?;
+    if !is_whole(&value) {
+        return Err(PasetoClaimError::Unexpected(String::from_str(alloc, claim.get_key())?));
+    }
+    Ok(value)
+}

@@ -1,0 +1,82 @@
+//! What judges the value under a key.
+
+ghost use Rattle.std.specs.Prelude.{◌≡◌, IfOk, IfErr, OnOk};
+ghost use Rattle.serde_json.specs.Data.{null};
+ghost use Rattle.serde_json.specs.View.{view};
+ghost use Rattle.rusty_paseto_claims.specs.Error.{IsFault};
+ghost use Rattle.rusty_paseto_generic.specs.Validator.{IfFault};
+ghost use Rattle.rusty_paseto_generic.specs.Parsers.Verdicts.{Fails, Matches, IsMismatch, Passes, entry, mismatch as mismatch_fault};
+ghost use Rattle.rusty_paseto_generic.specs.Parsers.Held.{rule_of, judged};
+
+use crate::parsers::checks::{Check, Judge};
+use crate::validator::ValidatorFn;
+use rusty_paseto_claims::{PasetoClaimError, same_value};
+use serde_json::Value;
+use std::alloc::{AllocError, Global};
+
+/// Judges the value that a token has under a key, null where it has none: by the judge alone, where there is
+/// one, and else by the stored value.
+pub(crate) fn judge(
+    alloc: Global,
+    key: &str,
+    check: &Check<ValidatorFn>,
+    found: &Value,
+) -> Result<(), PasetoClaimError>
+    ensures ok { OnOk result (Passes (judged (λ b. verdict b) (rule_of check.now)) key.now (view found.now)) }
+    ensures err { IfErr result (IfFault (Fails (judged (λ b. verdict b) (rule_of check.now)) key.now (view found.now))) }
+{
+    if let Some(Judge::Boxed(validator)) = &check.judge {
+        return validator.validate(alloc, key, found);
+    }
+    match &check.stored {
+        Some(stored) => compare(alloc, key, stored, found),
+        None => Ok(()),
+    }
+}
+
+// Whether the value is there, and is what the stored one has under the key.
+fn compare(alloc: Global, key: &str, stored: &Value, found: &Value) -> Result<(), PasetoClaimError>
+    ensures ok { OnOk result (Matches key.now (view stored.now) (view found.now)) }
+    ensures err { IfErr result (IfFault (IsMismatch key.now (view stored.now) (view found.now))) }
+{
+    if found.is_null() {
+        return Err(PasetoClaimError::Missing(String::from_str(alloc, key)?));
+    }
+    let null = Value::Null;
+    let expected = entry_or(stored, key, &null);
+    if same_value(found, expected) {
+        return Ok(());
+    }
+    Err(mismatch(alloc, key, found, expected)?)
+}
+
+/// The entry of a value under a key, or what stands for one where there is none or the value is no object.
+pub(crate) fn entry_or<'v>(value: &'v Value, key: &str, absent: &'v Value) -> &'v Value
+    requires { view absent.now ≡ null }
+    ensures { view result.now ≡ entry key.now (view value.now) }
+{
+    match value.get(key) {
+        Some(found) => found,
+        None => absent,
+    }
+}
+
+// The fault of a value that is not the expected one.
+fn mismatch(
+    alloc: Global,
+    key: &str,
+    found: &Value,
+    expected: &Value,
+) -> Result<PasetoClaimError, AllocError>
+    ensures { IfOk result (IsFault (mismatch_fault key.now (view found.now) (view expected.now))) }
+{
+    let key = String::from_str(alloc, key)?;
+    match (found.as_str(), expected.as_str()) {
+        (Some(found), Some(expected)) => Ok(PasetoClaimError::Invalid(
+            key,
+            String::from_str(alloc, found)?,
+            String::from_str(alloc, expected)?,
+        )),
+        _ => Ok(PasetoClaimError::Unexpected(key)),
+    }
+}

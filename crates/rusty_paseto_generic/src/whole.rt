@@ -1,0 +1,23 @@
+//! Values whose numbers are whole.
+
+ghost use Rattle.std.specs.Prelude.{◌≡◌, None, IfErr, OnOk};
+ghost use Rattle.serde_json.specs.View.{members_view};
+ghost use Rattle.rusty_paseto_claims.specs.Whole.{first_odd};
+ghost use Rattle.rusty_paseto_generic.specs.Validator.{IsFound};
+ghost use Rattle.rusty_paseto_generic.specs.Parsers.Rules.{odd_fault};
+
+use rusty_paseto_claims::{PasetoClaimError, is_whole};
+use serde_json::{Map, Value};
+
+/// Refuses the first key, in byte order, whose value is not whole.
+pub(crate) fn check_whole(members: &Map<String, Value>) -> Result<(), PasetoClaimError>
+    ensures ok { OnOk result (first_odd (members_view members.now.entries) ≡ None) }
+    ensures err { IfErr result (IsFound (odd_fault (members_view members.now.entries))) }
+{
+    for (key, value) in members.iter() {
+        if !is_whole(value) {
+            return Err(PasetoClaimError::Unexpected(key.clone()?));
+        }
+    }
+    Ok(())
+}
