@@ -14,9 +14,23 @@ use rusty_paseto_claims::{PasetoClaimError, same_value};
 use serde_json::Value;
 use std::alloc::{AllocError, Global};
 
-/// Judges the value that a token has under a key, null where it has none: by the judge alone, where there is
+/// Judges what a token's value has under a key, null where it has none: by the judge alone, where there is
 /// one, and else by the stored value.
-pub(crate) fn judge(
+pub(crate) fn judge_entry(
+    alloc: Global,
+    key: &str,
+    check: &Check<ValidatorFn>,
+    value: &Value,
+) -> Result<(), PasetoClaimError>
+    ensures ok { OnOk result (Passes (judged (λ b. verdict b) (rule_of check.now)) key.now (entry key.now (view value.now))) }
+    ensures err { IfErr result (IfFault (Fails (judged (λ b. verdict b) (rule_of check.now)) key.now (entry key.now (view value.now)))) }
+{
+    let null = Value::Null;
+    judge(alloc, key, check, entry_or(value, key, &null))
+}
+
+// Judges the value that was found under a key.
+fn judge(
     alloc: Global,
     key: &str,
     check: &Check<ValidatorFn>,
@@ -50,8 +64,8 @@ fn compare(alloc: Global, key: &str, stored: &Value, found: &Value) -> Result<()
     Err(mismatch(alloc, key, found, expected)?)
 }
 
-/// The entry of a value under a key, or what stands for one where there is none or the value is no object.
-pub(crate) fn entry_or<'v>(value: &'v Value, key: &str, absent: &'v Value) -> &'v Value
+// The entry of a value under a key, or what stands for one where there is none or the value is no object.
+fn entry_or<'v>(value: &'v Value, key: &str, absent: &'v Value) -> &'v Value
     requires { view absent.now ≡ null }
     ensures { view result.now ≡ entry key.now (view value.now) }
 {
