@@ -1,3 +1,4 @@
 pub mod MapLemmas
 pub mod RuleLemmas
 pub mod WalkLemmas
+pub mod ParseLemmas

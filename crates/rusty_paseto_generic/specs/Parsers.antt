@@ -2,3 +2,5 @@
 pub mod Rules
 pub mod Verdicts
 pub mod Held
+pub mod Reading
+pub mod Parsing

@@ -2,4 +2,6 @@
 
 mod checks;
 mod judge;
+mod parsing;
+mod reading;
 mod walk;

@@ -1,0 +1,44 @@
+//! From a text that a token holds to the value that a parser answers.
+
+ghost use Rattle.std.specs.Prelude.{◌⊎◌, IfOk, IfErr};
+ghost use Rattle.serde_json.specs.View.{view};
+ghost use Rattle.rusty_paseto_generic.specs.Error.Parser.{IsMemory};
+ghost use Rattle.rusty_paseto_generic.specs.Parsers.Held.{verdicts_of};
+ghost use Rattle.rusty_paseto_generic.specs.Parsers.Parsing.{IsOpenedAnswer, IsTextFault, IsValueOf};
+
+use crate::error::GenericParserError;
+use crate::parsers::checks::Checks;
+use crate::parsers::reading::read_value;
+use crate::parsers::walk::check_all;
+use crate::validator::ValidatorFn;
+use rusty_paseto_core::PasetoError;
+use serde_json::Value;
+
+// The value of a text, which passes all checks. Else it answers the first of these: `PayloadJsonError` for
+// a text that is no JSON, `ClaimError` of `Unexpected` for a number that is not a whole number of 64 bits, and
+// `ClaimError` for the first key in byte order that fails its check.
+fn parse_text(
+    checks: &Checks<ValidatorFn>,
+    text: &str,
+) -> Result<Value, GenericParserError>
+    ensures ok { IfOk result (λ value. IsValueOf (verdicts_of (λ b. verdict b) checks.now) text.now (view value)) }
+    ensures err { IfErr result (λ error. IsMemory error ⊎ IsTextFault (verdicts_of (λ b. verdict b) checks.now) text.now error) }
+{
+    let alloc = checks.allocator();
+    let value = read_value(alloc, text)?;
+    check_all(alloc, checks, &value)?;
+    Ok(value)
+}
+
+/// The value of the text that was opened or verified, which passes all checks, or why it was refused.
+///
+/// What a token's own parsing adds is here, once for all versions and purposes.
+pub(crate) fn parse_opened(
+    checks: &Checks<ValidatorFn>,
+    opened: Result<String, PasetoError>,
+) -> Result<Value, GenericParserError>
+    ensures { IsOpenedAnswer (verdicts_of (λ b. verdict b) checks.now) opened result }
+{
+    let text = opened?;
+    parse_text(checks, text.as_str())
+}
