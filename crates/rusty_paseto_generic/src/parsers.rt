@@ -1,7 +1,10 @@
 //! What reads the claims of tokens, and checks them.
 
 mod checks;
+mod generic_parser;
 mod judge;
 mod parsing;
 mod reading;
 mod walk;
+
+pub use generic_parser::GenericParser;

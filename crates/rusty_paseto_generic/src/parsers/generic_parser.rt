@@ -1,0 +1,113 @@
+//! The parser of tokens of every version and purpose.
+
+ghost use Rattle.std.specs.Prelude.{◌≡◌, ℕ, List, if◌then◌else◌, None, Some, IfOk, IfErr, OnOk, OnErr};
+ghost use Rattle.serde_json.specs.View.{members_view};
+ghost use Rattle.rusty_paseto_claims.specs.Whole.{first_odd};
+ghost use Rattle.rusty_paseto_core.specs.Context.{assertion_of, binding_of, footer_of};
+ghost use Rattle.rusty_paseto_core.specs.Local.Boxed.{box_opening};
+ghost use Rattle.rusty_paseto_core.specs.Local.Opening.{opening};
+ghost use Rattle.rusty_paseto_core.specs.Public.Verifying.{verification};
+ghost use Rattle.rusty_paseto_generic.specs.Error.Parser.{IsRefusal};
+ghost use Rattle.rusty_paseto_generic.specs.Parsers.Held.{judges_of, rules_of, verdicts_of};
+ghost use Rattle.rusty_paseto_generic.specs.Parsers.Parsing.{IsParseAnswer};
+ghost use Rattle.rusty_paseto_generic.specs.Parsers.Rules.{AreSame, IsStored, all_judged, all_stored, fault_in, no_rule, odd_fault, whole_answer, with_both, with_stored};
+
+use crate::builders::UnboxedVersion;
+use crate::error::GenericParserError;
+use crate::parsers::checks::{Checks, Judge};
+use crate::parsers::parsing::parse_opened;
+use crate::validator::{ValidatorFn, ValidatorMap};
+use rusty_paseto_claims::PasetoClaim;
+use rusty_paseto_core::{
+    Footer, ImplicitAssertion, ImplicitAssertionCapable, Local, Paseto, PasetoAsymmetricPublicKey,
+    PasetoSymmetricKey, Public, PurposeTrait, SealedBox, V2, Verifies, VersionTrait,
+};
+use serde_json::Value;
+use std::alloc::Global;
+use std::collections::BTreeMap;
+use std::marker::PhantomData;
+
+/// The checks of a token's claims, and the footer and the implicit assertion where they are set: what a
+/// token of a version and a purpose is to have, so that `parse` answers its claims.
+///
+/// A key is checked by a stored value, with `check_claim` or `extend_check_claims`, or by a validator of the
+/// caller's own, with `validate_claim` or `extend_validation_claims`. A key with a validator is judged by it
+/// alone. The stored values have whole numbers of 64 bits alone.
+///
+/// A call that refuses leaves the parser as it was. `check_claim`, `validate_claim`, `extend_check_claims` and
+/// `extend_validation_claims` lend the parser back, for chains of calls; `put_check`, `put_validator`,
+/// `put_checks` and `put_validators` are the same edits for code that goes on after a refusal.
+///
+/// ```rust
+/// let mut parser = GenericParser::<V4, Local>::new(alloc);
+/// parser.check_claim(&AudienceClaim::from("customers"))?.set_footer(Footer::from("key-1"));
+/// let claims = parser.parse(token, &key)?;
+/// ```
+#[derive(Drop)]
+pub struct GenericParser<'a, V, P> {
+    version: PhantomData<V>,
+    purpose: PhantomData<P>,
+    checks: Checks<ValidatorFn>,
+    footer: Option<Footer<'a>>,
+    implicit_assertion: Option<ImplicitAssertion<'a>>,
+}
+
+impl<'a, V: VersionTrait, P: PurposeTrait> GenericParser<'a, V, P> {
+    /// A parser with no checks, no footer and no implicit assertion. All its memory is asked of the
+    /// allocator, and none is taken yet.
+    pub fn new(alloc: Global) -> Self
+        ensures checks { (key : List ℕ) → rules_of result.checks key ≡ no_rule }
+        ensures footer { result.footer ≡ None }
+        ensures implicit_assertion { result.implicit_assertion ≡ None }
+    {
+        GenericParser {
+            version: PhantomData,
+            purpose: PhantomData,
+            checks: Checks::new(alloc),
+            footer: None,
+            implicit_assertion: None,
+        }
+    }
+
+    /// The same as `new`.
+    pub fn default(alloc: Global) -> Self
+        ensures checks { (key : List ℕ) → rules_of result.checks key ≡ no_rule }
+        ensures footer { result.footer ≡ None }
+        ensures implicit_assertion { result.implicit_assertion ≡ None }
+    {
+        GenericParser::new(alloc)
+    }
+
+    /// Stores a claim's JSON, as it is, under its key, the empty one too: `parse` then asks that the token's
+    /// value under the key is there and is the same as the JSON's entry under the key. A key that is there gets
+    /// the new value and keeps its validator.
+    ///
+    /// `ClaimError` comes for a value that holds another number than a whole one of 64 bits, `Unexpected`
+    /// with the key, and for a fault of the claim. The parser is then unchanged.
+    pub fn put_check<C: PasetoClaim>(&mut self, claim: &C) -> Result<(), GenericParserError>
+        ensures ok { OnOk result (IsStored (C.key claim.now) (C.json claim.now) with_stored
+            (rules_of self.old.checks) (rules_of self.new.checks)) }
+        ensures footer { self.new.footer ≡ self.old.footer }
+        ensures implicit_assertion { self.new.implicit_assertion ≡ self.old.implicit_assertion }
+        ensures err { OnErr result (AreSame (rules_of self.new.checks) (rules_of self.old.checks)) }
+        ensures fault { IfErr result (IsRefusal (fault_in (whole_answer (C.key claim.now) (C.json claim.now)))) }
+    {
+        self.checks.store(claim)
+    }
+
+    /// Stores a claim's JSON, as `put_check` does, and lends the parser back.
+    pub fn check_claim<C: PasetoClaim>(
+        &mut self,
+        claim: &C,
+    ) -> Result<&mut Self, GenericParserError>
+        ensures lent { IfOk result (λ parser. parser.ghost_name ≡ self.entry.ghost_name) }
+        ensures ok { IfOk result (λ parser. IsStored (C.key claim.now) (C.json claim.now) with_stored
+            (rules_of self.entry.now.checks) (rules_of parser.now.checks)) }
+        ensures footer { IfOk result (λ parser. parser.now.footer ≡ self.entry.now.footer) }
+        ensures implicit_assertion { IfOk result (λ parser. parser.now.implicit_assertion ≡ self.entry.now.implicit_assertion) }
+        ensures fault { IfErr result (IsRefusal (fault_in (whole_answer (C.key claim.now) (C.json claim.now)))) }
+    {
+        self.put_check(claim)?;
+        Ok(self)
+    }
+}
