@@ -4,10 +4,12 @@ ghost use Rattle.std.specs.Prelude.{◌≡◌, ℕ, List, if◌then◌else◌, N
 ghost use Rattle.serde_json.specs.View.{members_view};
 ghost use Rattle.rusty_paseto_claims.specs.Whole.{first_odd};
 ghost use Rattle.rusty_paseto_core.specs.Context.{assertion_of, binding_of, footer_of};
+ghost use Rattle.rusty_paseto_core.specs.Footer.{footer_text};
+ghost use Rattle.rusty_paseto_core.specs.ImplicitAssertion.{assertion_text};
 ghost use Rattle.rusty_paseto_core.specs.Local.Boxed.{box_opening};
 ghost use Rattle.rusty_paseto_core.specs.Local.Opening.{opening};
 ghost use Rattle.rusty_paseto_core.specs.Public.Verifying.{verification};
-ghost use Rattle.rusty_paseto_generic.specs.Error.Parser.{IsRefusal};
+ghost use Rattle.rusty_paseto_generic.specs.Error.Parser.{IsMemory, IsRefusal};
 ghost use Rattle.rusty_paseto_generic.specs.Parsers.Held.{judges_of, rules_of, verdicts_of};
 ghost use Rattle.rusty_paseto_generic.specs.Parsers.Parsing.{IsParseAnswer};
 ghost use Rattle.rusty_paseto_generic.specs.Parsers.Rules.{AreSame, IsStored, all_judged, all_stored, fault_in, no_rule, odd_fault, whole_answer, with_both, with_stored};
@@ -109,5 +111,138 @@ impl<'a, V: VersionTrait, P: PurposeTrait> GenericParser<'a, V, P> {
     {
         self.put_check(claim)?;
         Ok(self)
+    }
+
+    /// Stores a claim's JSON, as `put_check` does, and a validator, which from now on judges the key alone. A
+    /// key that is there gets the new ones.
+    ///
+    /// `ClaimError` comes as in `put_check`. The validator is then dropped, and the parser is unchanged.
+    pub fn put_validator<C: PasetoClaim>(
+        &mut self,
+        claim: &C,
+        validator: ValidatorFn,
+    ) -> Result<(), GenericParserError>
+        ensures ok { OnOk result (IsStored (C.key claim.now) (C.json claim.now) (with_both (Judge.Boxed validator))
+            (rules_of self.old.checks) (rules_of self.new.checks)) }
+        ensures footer { self.new.footer ≡ self.old.footer }
+        ensures implicit_assertion { self.new.implicit_assertion ≡ self.old.implicit_assertion }
+        ensures err { OnErr result (AreSame (rules_of self.new.checks) (rules_of self.old.checks)) }
+        ensures fault { IfErr result (IsRefusal (fault_in (whole_answer (C.key claim.now) (C.json claim.now)))) }
+    {
+        self.checks.store_judged(claim, validator)
+    }
+
+    /// Stores a claim's JSON and a validator, as `put_validator` does, and lends the parser back.
+    pub fn validate_claim<C: PasetoClaim>(
+        &mut self,
+        claim: &C,
+        validator: ValidatorFn,
+    ) -> Result<&mut Self, GenericParserError>
+        ensures lent { IfOk result (λ parser. parser.ghost_name ≡ self.entry.ghost_name) }
+        ensures ok { IfOk result (λ parser. IsStored (C.key claim.now) (C.json claim.now) (with_both (Judge.Boxed validator))
+            (rules_of self.entry.now.checks) (rules_of parser.now.checks)) }
+        ensures footer { IfOk result (λ parser. parser.now.footer ≡ self.entry.now.footer) }
+        ensures implicit_assertion { IfOk result (λ parser. parser.now.implicit_assertion ≡ self.entry.now.implicit_assertion) }
+        ensures fault { IfErr result (IsRefusal (fault_in (whole_answer (C.key claim.now) (C.json claim.now)))) }
+    {
+        self.put_validator(claim, validator)?;
+        Ok(self)
+    }
+
+    /// Stores all values as they are, each under its key, as `put_check` does for a claim's JSON.
+    ///
+    /// `ClaimError` of `Unexpected` with the key comes for the first key in byte order whose value holds
+    /// another number than a whole one of 64 bits. None of the values is then stored.
+    pub fn put_checks(&mut self, claims: BTreeMap<String, Value>) -> Result<(), GenericParserError>
+        ensures ok { OnOk result (AreSame (rules_of self.new.checks) (all_stored (members_view claims.entries) (rules_of self.old.checks))) }
+        ensures whole { OnOk result (first_odd (members_view claims.entries) ≡ None) }
+        ensures footer { self.new.footer ≡ self.old.footer }
+        ensures implicit_assertion { self.new.implicit_assertion ≡ self.old.implicit_assertion }
+        ensures err { OnErr result (AreSame (rules_of self.new.checks) (rules_of self.old.checks)) }
+        ensures fault { IfErr result (IsRefusal (odd_fault (members_view claims.entries))) }
+    {
+        self.checks.store_all(claims)
+    }
+
+    /// Stores all values, as `put_checks` does, and lends the parser back.
+    pub fn extend_check_claims(
+        &mut self,
+        claims: BTreeMap<String, Value>,
+    ) -> Result<&mut Self, GenericParserError>
+        ensures lent { IfOk result (λ parser. parser.ghost_name ≡ self.entry.ghost_name) }
+        ensures ok { IfOk result (λ parser. AreSame (rules_of parser.now.checks)
+            (all_stored (members_view claims.entries) (rules_of self.entry.now.checks))) }
+        ensures whole { OnOk result (first_odd (members_view claims.entries) ≡ None) }
+        ensures footer { IfOk result (λ parser. parser.now.footer ≡ self.entry.now.footer) }
+        ensures implicit_assertion { IfOk result (λ parser. parser.now.implicit_assertion ≡ self.entry.now.implicit_assertion) }
+        ensures fault { IfErr result (IsRefusal (odd_fault (members_view claims.entries))) }
+    {
+        self.put_checks(claims)?;
+        Ok(self)
+    }
+
+    /// Stores all validators, each under its key, which from now on they judge alone. A key that is there
+    /// gets the new validator and keeps its stored value. Nothing but memory is refused, and none of the
+    /// validators is then stored.
+    pub fn put_validators(&mut self, validators: ValidatorMap) -> Result<(), GenericParserError>
+        ensures ok { OnOk result (AreSame (rules_of self.new.checks) (all_judged (judges_of validators.entries) (rules_of self.old.checks))) }
+        ensures footer { self.new.footer ≡ self.old.footer }
+        ensures implicit_assertion { self.new.implicit_assertion ≡ self.old.implicit_assertion }
+        ensures err { OnErr result (AreSame (rules_of self.new.checks) (rules_of self.old.checks)) }
+        ensures fault { IfErr result IsMemory }
+    {
+        Ok(self.checks.judge_all(validators)?)
+    }
+
+    /// Stores all validators, as `put_validators` does, and lends the parser back.
+    pub fn extend_validation_claims(
+        &mut self,
+        validators: ValidatorMap,
+    ) -> Result<&mut Self, GenericParserError>
+        ensures lent { IfOk result (λ parser. parser.ghost_name ≡ self.entry.ghost_name) }
+        ensures ok { IfOk result (λ parser. AreSame (rules_of parser.now.checks)
+            (all_judged (judges_of validators.entries) (rules_of self.entry.now.checks))) }
+        ensures footer { IfOk result (λ parser. parser.now.footer ≡ self.entry.now.footer) }
+        ensures implicit_assertion { IfOk result (λ parser. parser.now.implicit_assertion ≡ self.entry.now.implicit_assertion) }
+        ensures fault { IfErr result IsMemory }
+    {
+        self.put_validators(validators)?;
+        Ok(self)
+    }
+
+    /// The footer that a token is to be bound to: what was set last, and the empty one before. No memory is
+    /// taken.
+    pub fn get_footer(&self) -> Footer<'_>
+        ensures { footer_text result ≡ footer_of self.now.footer }
+    {
+        self.footer.unwrap_or_default()
+    }
+
+    /// Sets the footer, the empty one too, and keeps the rest. No memory is taken.
+    pub fn set_footer(&mut self, footer: Footer<'a>) -> &mut Self
+        ensures lent { result.ghost_name ≡ self.entry.ghost_name }
+        ensures change { result.now ≡ record self.entry.now { footer = Some footer.entry } }
+    {
+        self.footer = Some(footer);
+        self
+    }
+}
+
+impl<'a, V: ImplicitAssertionCapable, P: PurposeTrait> GenericParser<'a, V, P> {
+    /// The implicit assertion that a token is to be bound to: what was set last, and the empty one before. No
+    /// memory is taken.
+    pub fn get_implicit_assertion(&self) -> ImplicitAssertion<'_>
+        ensures { assertion_text result ≡ assertion_of self.now.implicit_assertion }
+    {
+        self.implicit_assertion.unwrap_or_default()
+    }
+
+    /// Sets the implicit assertion, the empty one too, and keeps the rest. No memory is taken.
+    pub fn set_implicit_assertion(&mut self, implicit_assertion: ImplicitAssertion<'a>) -> &mut Self
+        ensures lent { result.ghost_name ≡ self.entry.ghost_name }
+        ensures change { result.now ≡ record self.entry.now { implicit_assertion = Some implicit_assertion.entry } }
+    {
+        self.implicit_assertion = Some(implicit_assertion);
+        self
     }
 }
