@@ -1,12 +1,12 @@
 //! Public tokens: a text and its signature (PASETO specification, "Version 1" to "Version 4").
 
-ghost use Rattle.std.specs.Prelude.{◌≡◌, ◌↔◌, IsTrue, IfOk, IfErr};
+ghost use Rattle.std.specs.Prelude.{◌≡◌, ◌↔◌, true, false, None, IsTrue, IfOk, IfErr};
 ghost use Rattle.rusty_paseto_parts.specs.Error.{IsMemory};
 ghost use Rattle.rusty_paseto_core.specs.Context.{bound};
 ghost use Rattle.rusty_paseto_core.specs.Public.{HasPrivateLength, IsLawful, PublicDesign, header, message};
 
 use crate::context::{Context, five_pieces};
-use rusty_paseto_parts::{PasetoError, PreAuthenticationEncoding, VersionTrait};
+use rusty_paseto_parts::{ImplicitAssertion, PasetoError, PreAuthenticationEncoding, VersionTrait};
 use std::alloc::Global;
 
 pub(crate) mod scheme;
@@ -45,7 +45,21 @@ pub(crate) trait PublicSuite: VersionTrait {
 }
 
 /// A version of public tokens: each of the four.
-pub trait PublicVersion: PublicSuite {}
+pub trait PublicVersion: PublicSuite {
+    /// The implicit assertion in a version that has one, and none in the versions 1 and 2.
+    final fn signed_assertion(
+        implicit_assertion: Option<ImplicitAssertion<'_>>,
+    ) -> Option<ImplicitAssertion<'_>>
+        ensures bound { Self.public_design.binds_assertion ≡ true → result ≡ implicit_assertion.entry }
+        ensures none { Self.public_design.binds_assertion ≡ false → result ≡ None }
+    {
+        if Self::signs_assertion() {
+            implicit_assertion
+        } else {
+            None
+        }
+    }
+}
 
 impl<V: PublicSuite> PublicVersion for V {}
 

@@ -15,10 +15,11 @@ use Rattle.rusty_paseto_claims.specs.declared.PasetoClaimError.{PasetoClaimError
 use Rattle.rusty_paseto_claims.specs.declared.PasetoClaimError.TheVariants as Claim
 use Rattle.rusty_paseto_core.specs.Reading.{IsAnswer, IsFault as IsCipherFault, IsRead, Reading}
 use Rattle.rusty_paseto_parts.specs.Error.{IsMemory as IsMemoryOfCipher}
+use Rattle.rusty_paseto_core.specs.declared.ImplicitAssertion.{ImplicitAssertion}
 use Rattle.rusty_paseto_core.specs.declared.PasetoError.{PasetoError}
 use Rattle.rusty_paseto_core.specs.declared.PasetoError.TheVariants as Cipher
 use Rattle.rusty_paseto_generic.specs.Error.Parser.{IsMemory, of_cipher, of_claim}
-use Rattle.rusty_paseto_generic.specs.Parsers.Parsing.{IsCheckFault, IsFirstFault, IsOpenedAnswer, IsParseAnswer, IsParsed, IsTextAnswer, IsTextFault, IsValueOf}
+use Rattle.rusty_paseto_generic.specs.Parsers.Parsing.{IsCheckFault, IsFirstFault, IsOpenedAnswer, IsParseAnswer, IsParsed, IsTextAnswer, IsTextFault, IsValueOf, assertion_in}
 use Rattle.rusty_paseto_generic.specs.Parsers.Reading.{IsReadAs, IsReadingFault}
 use Rattle.rusty_paseto_generic.specs.Parsers.Rules.{Rule, Rules}
 use Rattle.rusty_paseto_generic.specs.Parsers.Verdicts.{Fails, IsFirstFailing, Passes, PassesAll}
@@ -191,3 +192,9 @@ parse_answer reading rules token (Err error) result answer is = record {
   count = λ other. let same : error ≡ Cipher.IncorrectSize = cc (answer.count other) in rw (is, same) refl;
   fault = rw is (cipher_fault reading rules token error answer.fault);
 }
+
+-- the assertion that a version takes
+pub is_assertion_in : (binds : Bool) (given taken : Option ImplicitAssertion) → (binds ≡ true → taken ≡ given) → (binds ≡ false → taken ≡ None)
+    → taken ≡ assertion_in binds given
+is_assertion_in true given taken bound none = bound refl
+is_assertion_in false given taken bound none = none refl

@@ -253,11 +253,7 @@ impl<V: PublicVersion> Paseto<'_, V, Public> {
         ensures { IsSignAnswer V.valid (V.declined key.now) V.public_design key.now (V.partner key.now)
             self.now.footer self.now.implicit_assertion (payload_text self.now.payload) result }
     {
-        let assertion = if V::signs_assertion() {
-            self.implicit_assertion
-        } else {
-            None
-        };
+        let assertion = V::signed_assertion(self.implicit_assertion);
         V::sign(alloc, scheme, key, self.payload, self.footer, assertion)
     }
 }

@@ -1,5 +1,5 @@
 -- What a parser answers for a token.
-use Rattle.std.specs.Prelude.{◌≡◌, ◌⊎◌, ℕ, List, Result, Err, IfOk, IfErr, MatchResult, String, string_bytes}
+use Rattle.std.specs.Prelude.{◌≡◌, ◌⊎◌, ℕ, Bool, List, if◌then◌else◌, Option, None, Result, Err, IfOk, IfErr, MatchResult, String, string_bytes}
 use Rattle.std.specs.Global.{Global}
 use Rattle.serde_json.specs.Data.{Data}
 use Rattle.serde_json.specs.View.{view}
@@ -7,6 +7,7 @@ use Rattle.serde_json.specs.declared.value.Value.{Value}
 use Rattle.rusty_paseto_claims.specs.Error.{Fault, IsFault as IsClaimFault}
 use Rattle.rusty_paseto_core.specs.Reading.{IsFault, IsRead, Reading}
 use Rattle.rusty_paseto_core.specs.Section.{HasCount, sections}
+use Rattle.rusty_paseto_core.specs.declared.ImplicitAssertion.{ImplicitAssertion}
 use Rattle.rusty_paseto_core.specs.declared.PasetoError.{PasetoError}
 use Rattle.rusty_paseto_core.specs.declared.PasetoError.TheVariants.{IncorrectSize}
 use Rattle.rusty_paseto_generic.specs.Error.Parser.{IsMemory, of_cipher}
@@ -65,3 +66,7 @@ pub record IsParseAnswer (reading : Reading) (rules : Rules Verdict) (token : Li
   pub complete : (value : Data) → IsParsed reading rules token value → MatchResult result (λ found. view found ≡ value) IsMemory
   pub count : ¬ HasCount (sections token) → result ≡ Err (CipherError IncorrectSize)
   pub fault : IfErr result (λ error. IsMemory error ⊎ IsFirstFault reading rules token error)
+
+-- the implicit assertion, in a version whose tokens are bound to one
+abbrev pub assertion_in : Bool → Option ImplicitAssertion → Option ImplicitAssertion
+assertion_in binds assertion = if binds then assertion else None

@@ -11,7 +11,7 @@ ghost use Rattle.rusty_paseto_core.specs.Local.Opening.{opening};
 ghost use Rattle.rusty_paseto_core.specs.Public.Verifying.{verification};
 ghost use Rattle.rusty_paseto_generic.specs.Error.Parser.{IsMemory, IsRefusal};
 ghost use Rattle.rusty_paseto_generic.specs.Parsers.Held.{judges_of, rules_of, verdicts_of};
-ghost use Rattle.rusty_paseto_generic.specs.Parsers.Parsing.{IsParseAnswer};
+ghost use Rattle.rusty_paseto_generic.specs.Parsers.Parsing.{IsParseAnswer, assertion_in};
 ghost use Rattle.rusty_paseto_generic.specs.Parsers.Rules.{AreSame, IsStored, all_judged, all_stored, fault_in, no_rule, odd_fault, whole_answer, with_both, with_stored};
 
 use crate::builders::UnboxedVersion;
@@ -244,5 +244,76 @@ impl<'a, V: ImplicitAssertionCapable, P: PurposeTrait> GenericParser<'a, V, P> {
     {
         self.implicit_assertion = Some(implicit_assertion);
         self
+    }
+}
+
+impl<V: UnboxedVersion> GenericParser<'_, V, Local> {
+    /// Opens a token under the parser's footer and, in the versions 3 and 4, its implicit assertion, and answers
+    /// the value of its text, which passes all checks.
+    ///
+    /// Else it answers the first of these: `CipherError` of what `try_decrypt` of `Paseto` answers;
+    /// `PayloadJsonError` for a text that is no JSON, nested at most 127 deep; `ClaimError` of `Unexpected` for a
+    /// number that is not a whole number of 64 bits, with the first key in byte order whose value holds one, the
+    /// empty text where the value is no object; `ClaimError` for the first key in byte order that fails its
+    /// check. `Memory` may come in place of any answer but that of a wrong number of sections.
+    ///
+    /// Source: PASETO specification, "Version 1", "Version 3" and "Version 4", "Decrypt".
+    pub fn parse(
+        &self,
+        token: &str,
+        key: &PasetoSymmetricKey<V, Local>,
+    ) -> Result<Value, GenericParserError>
+        ensures { let binding = binding_of key.now self.now.footer (assertion_in V.design.binds_assertion self.now.implicit_assertion) in
+            IsParseAnswer (opening V.design binding) (verdicts_of (λ b. verdict b) self.now.checks) token.now result }
+    {
+        let assertion = V::bound_assertion(self.implicit_assertion);
+        let opened = V::open(self.checks.allocator(), token, key, self.footer, assertion);
+        parse_opened(&self.checks, opened)
+    }
+}
+
+impl GenericParser<'_, V2, Local> {
+    /// Opens a token by the caller's box under the parser's footer, and answers the value of its text, which
+    /// passes all checks. The faults are those of the other versions' `parse`, in the same order.
+    ///
+    /// Source: PASETO specification, "Version 2", "Decrypt".
+    pub fn parse<B: SealedBox>(
+        &self,
+        sealed_box: &B,
+        token: &str,
+        key: &PasetoSymmetricKey<V2, Local>,
+    ) -> Result<Value, GenericParserError>
+        ensures { let binding = binding_of key.now self.now.footer None in
+            IsParseAnswer (box_opening B.sealing binding) (verdicts_of (λ b. verdict b) self.now.checks) token.now result }
+    {
+        let alloc = self.checks.allocator();
+        let opened = Paseto::<V2, Local>::try_decrypt(alloc, sealed_box, token, key, self.footer);
+        parse_opened(&self.checks, opened)
+    }
+}
+
+impl<V> GenericParser<'_, V, Public> {
+    /// Verifies a token by the caller's scheme under the parser's footer and, in the versions 3 and 4, its
+    /// implicit assertion, and answers the value of its text, which passes all checks.
+    ///
+    /// The faults are those of `parse` of local tokens, in the same order, with those of `try_verify` of `Paseto`
+    /// in place of those of `try_decrypt`.
+    ///
+    /// Source: PASETO specification, "Version 1" to "Version 4", "Verify".
+    pub fn parse<S>(
+        &self,
+        scheme: &S,
+        token: &str,
+        key: &PasetoAsymmetricPublicKey<'_, V, Public>,
+    ) -> Result<Value, GenericParserError>
+    where
+        V: Verifies<S>,
+        ensures { let binding = binding_of key.now self.now.footer (assertion_in V.public_design.binds_assertion self.now.implicit_assertion) in
+            IsParseAnswer (verification V.valid V.refused V.public_design binding) (verdicts_of (λ b. verdict b) self.now.checks) token.now result }
+    {
+        let assertion = V::signed_assertion(self.implicit_assertion);
+        let alloc = self.checks.allocator();
+        let opened = V::verify(alloc, scheme, token, key, self.footer, assertion);
+        parse_opened(&self.checks, opened)
     }
 }

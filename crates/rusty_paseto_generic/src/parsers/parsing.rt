@@ -17,10 +17,7 @@ use serde_json::Value;
 // The value of a text, which passes all checks. Else it answers the first of these: `PayloadJsonError` for
 // a text that is no JSON, `ClaimError` of `Unexpected` for a number that is not a whole number of 64 bits, and
 // `ClaimError` for the first key in byte order that fails its check.
-fn parse_text(
-    checks: &Checks<ValidatorFn>,
-    text: &str,
-) -> Result<Value, GenericParserError>
+fn parse_text(checks: &Checks<ValidatorFn>, text: &str) -> Result<Value, GenericParserError>
     ensures ok { IfOk result (λ value. IsValueOf (verdicts_of (λ b. verdict b) checks.now) text.now (view value)) }
     ensures err { IfErr result (λ error. IsMemory error ⊎ IsTextFault (verdicts_of (λ b. verdict b) checks.now) text.now error) }
 {
