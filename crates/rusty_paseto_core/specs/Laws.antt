@@ -1,6 +1,6 @@
 -- Laws of sealing and opening, and of signing and verifying.
 use Rattle.std.specs.Prelude.{◌≡◌, ◌≢◌, ◌⊎◌, ℕ, Bool, true, false, List, [], Option, Some, None, IsUtf8, length}
-use Rattle.rusty_paseto_primitives.specs.Bytes.{IsBytes}
+pub use Rattle.rusty_paseto_primitives.specs.Bytes.{IsBytes}
 use Rattle.rusty_paseto_parts.specs.Footer.{footer_text}
 use Rattle.rusty_paseto_parts.specs.ImplicitAssertion.{assertion_text}
 use Rattle.rusty_paseto_parts.specs.declared.texts.footer.Footer.{Footer}

@@ -2,3 +2,4 @@ pub mod MapLemmas
 pub mod RuleLemmas
 pub mod WalkLemmas
 pub mod ParseLemmas
+pub mod AnswerLaws

@@ -1,20 +1,22 @@
 -- The members of a map after each of its calls, and that they stay whole.
-use Rattle.std.proofs.Common.{◌≡◌, ℕ, List, [], ◌∷◌, Bool, true, false, not, ◌||◌, cond, Option, Some, None, Result, Ok, Err, OnOk, OnErr, is_eq, nat_eq, length, String, BTreeMap, Global, Ordering, Less, Equal, Greater, nat_cmp, string_bytes, refl, sym, ap, ◌∙◌}
+use Rattle.std.proofs.Common.{◌≡◌, ℕ, List, [], ◌∷◌, Bool, true, false, not, ◌||◌, cond, Option, Some, None, Result, Ok, Err, IfOk, OnOk, OnErr, is_eq, nat_eq, ◌≤◌, arith, length, String, BTreeMap, Global, Ordering, Less, Equal, Greater, nat_cmp, string_bytes, refl, sym, ap, ◌∙◌}
+use Rattle.std.specs.declared.alloc.AllocError.{AllocError}
 use Rattle.std.specs.BTreeMap.{is_at}
 use Rattle.std.specs.Cmp.Lexicographic.{slice_cmp}
 use Rattle.std.specs.List.{AllZip}
 use Rattle.std.specs.Map.{lookup, remove_entry}
 use Rattle.std.specs.Ordering.{match_ordering}
 use Rattle.std.proofs.lemmas.Bool.{or_parts}
-use Rattle.serde_json.specs.Data.{Data, Members, no_members, member, put}
+use Rattle.serde_json.specs.Data.{Data, object, Members, no_members, member, depth, put}
 use Rattle.serde_json.specs.Find.{get_member}
 use Rattle.serde_json.specs.View.{view, members_view}
-use Rattle.serde_json.specs.Written.{has_float, members_have_float}
+use Rattle.serde_json.specs.Read.{max_depth, read}
+use Rattle.serde_json.specs.Written.{compact_text, has_float, members_have_float}
 use Rattle.serde_json.specs.declared.value.Value.{Value, Object}
 use Rattle.serde_json.proofs.Views.{Entry, members_len-members_view, view-Object, view-lookup}
 use Rattle.rusty_paseto_claims.proofs.WholeLemmas.{is_some-first_odd}
 use Rattle.rusty_paseto_claims.specs.Whole.{first_odd}
-use Rattle.rusty_paseto_generic.specs.Builders.Claims.{put_all, unwrapped, without}
+use Rattle.rusty_paseto_generic.specs.Builders.Claims.{IsReadBack, payload, put_all, unwrapped, without}
 
 -- ---- what each call leaves
 
@@ -111,3 +113,22 @@ pub whole-put_answer : {T E : Type 0} (answer : Result T E) (key : List ℕ) (va
     → members_have_float new ≡ false
 whole-put_answer (Ok x) key value old new ok err whole all = rw ok (whole-put key value old whole all)
 whole-put_answer (Err e) key value old new ok err whole all = rw err all
+
+-- ---- what was written is read back
+
+read_at : (text : List ℕ) (d : Data) (claims : Members) → d ≡ object claims → members_have_float claims ≡ false
+    → (has_float d ≡ false → text ≡ compact_text d) → (depth d ≤ max_depth → read text ≡ Some d) → IsReadBack claims
+read_at text d claims is whole written reads = record {
+  whole = rw whole refl;
+  reads = λ deep.
+      let own : text ≡ payload claims = written (rw is whole) ∙ ap compact_text is in
+      let back : read text ≡ Some d = reads (rw is (omega arith)) in
+      rw (own, is) at back;
+}
+
+-- the text that was written of an object is read as it
+pub written-IsReadBack : (answer : Result (String Global) AllocError) (d : Data) (claims : Members) → d ≡ object claims
+    → members_have_float claims ≡ false → IfOk answer (λ text. has_float d ≡ false → string_bytes text ≡ compact_text d)
+    → IfOk answer (λ text. depth d ≤ max_depth → read (string_bytes text) ≡ Some d) → OnOk answer (IsReadBack claims)
+written-IsReadBack (Ok text) d claims is whole written reads = read_at (string_bytes text) d claims is whole written reads
+written-IsReadBack (Err error) d claims is whole written reads = tt

@@ -4,6 +4,7 @@
 
 mod builders;
 mod error;
+pub mod laws;
 mod parsers;
 mod validator;
 mod whole;

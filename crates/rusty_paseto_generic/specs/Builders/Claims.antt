@@ -1,11 +1,12 @@
 -- The claims that a builder holds, and the edits of them. They are the members of a JSON object: each key
 -- once, in byte order.
-use Rattle.std.specs.Prelude.{◌≡◌, ◌==◌, ⊤, ℕ, List, [], ◌∷◌, if◌then◌else◌, Option, None, option_map, option_and_then, unwrap_or, MatchOption}
+use Rattle.std.specs.Prelude.{◌≡◌, ◌≤◌, ◌==◌, ⊤, true, ℕ, List, [], ◌∷◌, if◌then◌else◌, Option, Some, None, option_map, option_and_then, unwrap_or, MatchOption}
 use Rattle.std.specs.Ordering.{nat_cmp, match_ordering}
 use Rattle.std.specs.Cmp.Lexicographic.{slice_cmp}
-use Rattle.serde_json.specs.Data.{Data, object, Members, no_members, member, put}
+use Rattle.serde_json.specs.Data.{Data, object, Members, no_members, member, members_depth, put}
 use Rattle.serde_json.specs.Events.{members_len}
 use Rattle.serde_json.specs.Find.{as_object, get_member}
+use Rattle.serde_json.specs.Read.{read}
 use Rattle.serde_json.specs.Written.{compact_text}
 use Rattle.rusty_paseto_claims.specs.Claim.{Answer, gives, refuses}
 use Rattle.rusty_paseto_claims.specs.Error.{Fault, fault_of, unexpected}
@@ -65,3 +66,9 @@ without key (member found value rest) =
 -- the text of the claims: the compact JSON of the object
 abbrev pub payload : Members → List ℕ
 payload claims = compact_text (object claims)
+
+-- the claims have whole numbers alone, and their text is read as the object of them, where their values are nested
+-- at most 126 deep
+pub record IsReadBack (claims : Members) : Type 0 where
+  pub whole : is_whole (object claims) ≡ true
+  pub reads : members_depth claims ≤ 126 → read (payload claims) ≡ Some (object claims)

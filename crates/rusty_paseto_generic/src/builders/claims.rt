@@ -7,7 +7,7 @@ ghost use Rattle.serde_json.specs.Written.{members_have_float};
 ghost use Rattle.rusty_paseto_claims.specs.Error.{IsFault, unexpected};
 ghost use Rattle.rusty_paseto_claims.specs.Whole.{first_odd};
 ghost use Rattle.rusty_paseto_generic.specs.Error.{IsMemory, IsUnexpected};
-ghost use Rattle.rusty_paseto_generic.specs.Builders.Claims.{IsRefusal, becomes, claim_set, extended, payload, put_all, stored, unwrapped as unwrapped_data, without};
+ghost use Rattle.rusty_paseto_generic.specs.Builders.Claims.{IsReadBack, IsRefusal, becomes, claim_set, extended, payload, put_all, stored, unwrapped as unwrapped_data, without};
 
 use crate::error::GenericBuilderError;
 use crate::whole::check_whole;
@@ -94,10 +94,11 @@ impl Claims {
         drop(self.members.remove(key));
     }
 
-    /// The text of the claims: the object of them as JSON, with no space, its keys in byte order. Nothing
-    /// but memory is refused.
+    /// The text of the claims: the object of them as JSON, with no space, its keys in byte order. It is
+    /// read as that object, where the values are nested at most 126 deep. Nothing but memory is refused.
     pub(crate) fn to_text(&self) -> Result<String, AllocError>
-        ensures { IfOk result (λ text. string_bytes text ≡ payload (held self.now)) }
+        ensures text { IfOk result (λ text. string_bytes text ≡ payload (held self.now)) }
+        ensures read_back { OnOk result (IsReadBack (held self.now)) }
     {
         let object = Value::Object(self.members.clone()?);
         object.to_string(self.alloc)

@@ -6,7 +6,7 @@ ghost use Rattle.serde_json.specs.View.{members_view};
 ghost use Rattle.rusty_paseto_core.specs.Context.{binding_of};
 ghost use Rattle.rusty_paseto_core.specs.Payload.{payload_text};
 ghost use Rattle.rusty_paseto_generic.specs.Error.{IsMemory, IsOfBox, IsOfGenerator};
-ghost use Rattle.rusty_paseto_generic.specs.Builders.Claims.{IsRefusal, becomes, claim_set, extended, payload, without};
+ghost use Rattle.rusty_paseto_generic.specs.Builders.Claims.{IsReadBack, IsRefusal, becomes, claim_set, extended, payload, without};
 ghost use Rattle.rusty_paseto_generic.specs.Builders.Held.{held};
 ghost use Rattle.rusty_paseto_generic.specs.Builders.GenericBuilder.{IsBoxAnswer, IsSealed, IsSignAnswer};
 
@@ -157,9 +157,11 @@ impl<'a, V: VersionTrait, P: PurposeTrait> GenericBuilder<'a, V, P> {
     }
 
     /// The payload that a token of the claims has: the object of them as JSON, with no space, its keys in
-    /// byte order. Nothing but memory is refused.
+    /// byte order. It is read as that object, where the values are nested at most 126 deep. Nothing but memory
+    /// is refused.
     pub fn build_payload_from_claims(&self) -> Result<String, GenericBuilderError>
         ensures ok { IfOk result (λ text. string_bytes text ≡ payload (held self.now.claims)) }
+        ensures read_back { OnOk result (IsReadBack (held self.now.claims)) }
         ensures err { IfErr result IsMemory }
     {
         Ok(self.claims.to_text()?)
@@ -212,6 +214,7 @@ impl<V: UnboxedVersion> GenericBuilder<'_, V, Local> {
         ensures ok { let binding = binding_of key.now self.now.paseto.footer self.now.paseto.implicit_assertion in
             IfOk result (λ token. IsSealed V.design binding (is_some self.now.paseto.footer) (held self.now.claims)
             (λ nonce. R.may_fill rng.old nonce rng.new) (string_bytes token)) }
+        ensures read_back { OnOk result (IsReadBack (held self.now.claims)) }
         ensures err { IfErr result (λ error. IsMemory error ⊎ IsOfGenerator error) }
     {
         let payload = self.build_payload_from_claims()?;
@@ -238,6 +241,7 @@ impl GenericBuilder<'_, V2, Local> {
         ensures ok { let binding = binding_of key.now self.now.paseto.footer None in
             IfOk result (λ token. IsBoxAnswer B.sealing binding (is_some self.now.paseto.footer) (held self.now.claims)
             (λ nonce. R.may_fill rng.old nonce rng.new) (Some (string_bytes token))) }
+        ensures read_back { OnOk result (IsReadBack (held self.now.claims)) }
         ensures err { let binding = binding_of key.now self.now.paseto.footer None in
             IfErr result (λ error. IsMemory error ⊎ (IsOfGenerator error
             ⊎ (IsOfBox error
@@ -267,8 +271,9 @@ impl<V: PublicVersion> GenericBuilder<'_, V, Public> {
     ) -> Result<String, GenericBuilderError>
     where
         V: Signs<S>,
-        ensures { IsSignAnswer V.valid (V.declined key.now) V.public_design key.now (V.partner key.now)
+        ensures answer { IsSignAnswer V.valid (V.declined key.now) V.public_design key.now (V.partner key.now)
             self.now.paseto.footer self.now.paseto.implicit_assertion (held self.now.claims) result }
+        ensures read_back { OnOk result (IsReadBack (held self.now.claims)) }
     {
         let payload = self.build_payload_from_claims()?;
         let paseto = self.with_payload(payload.as_str());

@@ -3,5 +3,6 @@ use Rattle.rusty_paseto_generic.proofs.parsers.generic_parser.GenericParser+V+Lo
 
 pub returns : goal.returns
 returns g c =
-    let bound = is_assertion_in _ _ c.bound_assertion-assertion.result c.bound_assertion-assertion.ensures.bound c.bound_assertion-assertion.ensures.none in
-    rw (← bound) (parse_answer _ _ _ c.open-opened.result _ c.open-opened.ensures c.parse_opened.ensures)
+    let taken = is_assertion_in _ _ c.bound_assertion-assertion.result c.bound_assertion-assertion.ensures.bound c.bound_assertion-assertion.ensures.none in
+    let answer = rw taken at c.open-opened.ensures in
+    parse_answer _ _ _ c.open-opened.result _ answer c.parse_opened.ensures

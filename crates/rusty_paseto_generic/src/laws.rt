@@ -1,0 +1,39 @@
+//! Laws of builders and parsers. Each is the contract of a function that does nothing, over the definitions
+//! that the contracts of `try_encrypt`, `try_sign` and `parse` name.
+
+ghost use Rattle.rusty_paseto_generic.specs.Laws.{BoxedAnswersText, BoxedClaimsParse, OpenedAnswersText, SealedClaimsParse, SignedClaimsParse, VerifiedAnswersText};
+
+use crate::builders::UnboxedVersion;
+use rusty_paseto_core::Verifies;
+
+/// The claims that `try_encrypt` of a builder sealed are what `parse` answers, under the same key, footer and
+/// implicit assertion, where they pass its checks and their values are nested at most 126 deep.
+pub fn sealed_claims_parse<V: UnboxedVersion>()
+    ensures { SealedClaimsParse V.design }
+{}
+
+/// So are the claims that it sealed by a box, under the same key and footer.
+pub fn boxed_claims_parse()
+    ensures { BoxedClaimsParse }
+{}
+
+/// So are the claims that `try_sign` signed, under the public key of the private key, and the same footer and
+/// implicit assertion.
+pub fn signed_claims_parse<V: Verifies<S>, S>()
+    ensures { SignedClaimsParse V.valid V.refused V.public_design }
+{}
+
+/// What `parse` answers for a token that opens depends on the token's text and the checks alone.
+pub fn opened_answers_text<V: UnboxedVersion>()
+    ensures { OpenedAnswersText V.design }
+{}
+
+/// What `parse` answers for a token that a box opens depends on the token's text and the checks alone.
+pub fn boxed_answers_text()
+    ensures { BoxedAnswersText }
+{}
+
+/// What `parse` answers for a token that verifies depends on the token's text and the checks alone.
+pub fn verified_answers_text<V: Verifies<S>, S>()
+    ensures { VerifiedAnswersText V.valid V.refused V.public_design }
+{}
