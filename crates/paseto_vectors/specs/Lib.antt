@@ -3,3 +3,4 @@ pub mod ToyBox
 pub mod ToyBoxLaws
 pub mod ToySchemes
 pub mod ToySignature
+pub mod Validators

@@ -4,7 +4,7 @@ mod errors;
 mod every_kind;
 mod generators;
 mod local;
-mod maps;
+pub(crate) mod maps;
 mod payloads;
 mod public;
 mod refusals;

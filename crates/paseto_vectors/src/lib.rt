@@ -24,6 +24,8 @@ mod kinds;
 #[cfg(test)]
 mod long;
 #[cfg(test)]
+mod parsers;
+#[cfg(test)]
 mod primitives;
 mod refusing;
 #[cfg(test)]

@@ -6,15 +6,19 @@ use serde_json::{Map, Value};
 use std::alloc::Global;
 use std::test::Fail;
 
-// Numbers that follow from a seed.
+/// Numbers that follow from a seed.
 #[derive(Drop)]
-struct Numbers {
+pub(crate) struct Numbers {
     last: u64,
 }
 
 impl Numbers {
-    // The next one below 2^32.
-    fn next(&mut self) -> u64 {
+    pub(crate) fn of_seed(seed: u64) -> Self {
+        Numbers { last: seed }
+    }
+
+    /// The next one, below 2^32.
+    pub(crate) fn next(&mut self) -> u64 {
         self.last = self
             .last
             .wrapping_mul(6364136223846793005)
@@ -61,7 +65,7 @@ fn value_of(alloc: Global, numbers: &mut Numbers) -> Result<Value, Fail> {
 #[test]
 fn read_back(rt: HostRuntime) -> Result<(), Fail> {
     let alloc = rt.alloc();
-    let mut numbers = Numbers { last: 1 };
+    let mut numbers = Numbers::of_seed(1);
     'maps: for index in 0..1000u16 {
         let mut more = Map::new(alloc);
         'entries: for _ in 0..numbers.next() % 6 {

@@ -1,0 +1,11 @@
+//! Parsers of tokens.
+
+mod errors;
+mod footers;
+mod generated;
+mod kinds;
+mod nesting;
+mod refusals;
+mod rows;
+mod steps;
+mod validators;

@@ -1,0 +1,76 @@
+//! Parsers that expect a footer and an implicit assertion.
+
+use crate::kinds::{ASSERTED_KINDS, Binding, KINDS};
+use crate::parsers::kinds::{Answer, Expected};
+use rusty_paseto_core::{Footer, ImplicitAssertion, Local, PasetoError, V4};
+use rusty_paseto_generic::{GenericParser, GenericParserError};
+use std::test::Fail;
+
+// Whether the core refused the token so.
+fn is_cipher_error(answer: &Answer, is_source: fn(&PasetoError) -> bool) -> bool {
+    match answer {
+        Err(GenericParserError::CipherError { source }) => is_source(source),
+        _ => false,
+    }
+}
+
+#[test]
+fn the_expected_footer(rt: HostRuntime) -> Result<(), Fail> {
+    let alloc = rt.alloc();
+    let binding = Binding::of_footer(Some("key-1"));
+    'kinds: for kind in KINDS {
+        let token = kind.make(alloc, "{}", binding)?;
+        let answer = kind.parse(alloc, token.as_str(), Expected::bound(binding))?;
+        assert!(rt; answer.is_ok(), "{kind:?}");
+        let other = Expected::bound(Binding::of_footer(Some("key-2")));
+        let answer = kind.parse(alloc, token.as_str(), other)?;
+        let told = is_cipher_error(&answer, |e| matches!(e, PasetoError::FooterInvalid));
+        assert!(rt; told, "{kind:?}");
+    }
+    Ok(())
+}
+
+#[test]
+fn the_expected_assertion(rt: HostRuntime) -> Result<(), Fail> {
+    let alloc = rt.alloc();
+    let binding = Binding::of_assertion(Some("more"));
+    'kinds: for kind in ASSERTED_KINDS {
+        let token = kind.make(alloc, "{}", binding)?;
+        let answer = kind.parse(alloc, token.as_str(), Expected::bound(binding))?;
+        assert!(rt; answer.is_ok(), "{kind:?}");
+        let answer = kind.parse(alloc, token.as_str(), Expected::bound(Binding::NONE))?;
+        let told = is_cipher_error(&answer, |e| {
+            matches!(e, PasetoError::Cryption | PasetoError::InvalidSignature)
+        });
+        assert!(rt; told, "{kind:?}");
+    }
+    Ok(())
+}
+
+#[test]
+fn no_token(rt: HostRuntime) -> Result<(), Fail> {
+    let alloc = rt.alloc();
+    'kinds: for kind in KINDS {
+        let answer = kind.parse(alloc, "a.b", Expected::bound(Binding::NONE))?;
+        let told = is_cipher_error(&answer, |e| matches!(e, PasetoError::IncorrectSize));
+        assert!(rt; told, "{kind:?}");
+        let answer = kind.parse(alloc, "v5.local.AAAA", Expected::bound(Binding::NONE))?;
+        let told = is_cipher_error(&answer, |e| matches!(e, PasetoError::WrongHeader));
+        assert!(rt; told, "{kind:?}");
+    }
+    Ok(())
+}
+
+#[test]
+fn what_was_set_last(rt: HostRuntime) -> Result<(), Fail> {
+    let mut parser = GenericParser::<V4, Local>::default(rt.alloc());
+    assert_eq!(rt; parser.get_footer().as_str(), "");
+    assert_eq!(rt; parser.get_implicit_assertion().as_str(), "");
+    parser
+        .set_footer(Footer::from("key-1"))
+        .set_implicit_assertion(ImplicitAssertion::from("more"))
+        .set_footer(Footer::from("key-2"));
+    assert_eq!(rt; parser.get_footer().as_str(), "key-2");
+    assert_eq!(rt; parser.get_implicit_assertion().as_str(), "more");
+    Ok(())
+}
