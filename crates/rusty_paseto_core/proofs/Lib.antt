@@ -12,3 +12,7 @@ pub mod SignedMessage
 pub mod Signatures
 pub mod Verified
 pub mod SealingLaws
+pub mod Firsts
+pub mod Kept
+pub mod TagCollisions
+pub mod CollisionLaws

@@ -34,7 +34,7 @@ module _ (design : Design) (law : IsLawful design) (binding : Binding) where
     unfolding sealed_payload tag masked
     sealed-HasRoom = omega (arith, length-parts nonce masked tag design.tag_length is_nonce.size tag_length)
 
-    nonce_in-sealed : nonce_in (sealed_payload design binding nonce text) ≡ nonce
+    pub nonce_in-sealed : nonce_in (sealed_payload design binding nonce text) ≡ nonce
     unfolding sealed_payload tag masked
     nonce_in-sealed = nonce-parts nonce masked tag design.tag_length is_nonce.size tag_length
 
@@ -42,7 +42,7 @@ module _ (design : Design) (law : IsLawful design) (binding : Binding) where
     unfolding sealed_payload tag masked
     masked_in-sealed = masked-parts nonce masked tag design.tag_length is_nonce.size tag_length
 
-    tag_in-sealed : tag_in design (sealed_payload design binding nonce text) ≡ tag_of design binding nonce (design.mask binding.key nonce text)
+    pub tag_in-sealed : tag_in design (sealed_payload design binding nonce text) ≡ tag_of design binding nonce (design.mask binding.key nonce text)
     unfolding sealed_payload tag masked
     tag_in-sealed = tag-parts nonce masked tag design.tag_length is_nonce.size tag_length
 
@@ -74,7 +74,7 @@ module _ (design : Design) (law : IsLawful design) (binding : Binding) where
       (parts-payload payload design.tag_length room)
 
   -- what a payload holds is what it carries
-  HoldsText-carries : (payload text : List ℕ) → IsBytes payload → HoldsText design binding payload text
+  pub HoldsText-carries : (payload text : List ℕ) → IsBytes payload → HoldsText design binding payload text
       → CarriesText (opening design binding) payload text
   HoldsText-carries payload text bytes holds =
       let nonce_size = length-take-le 32 payload (omega (arith, holds.room)) in

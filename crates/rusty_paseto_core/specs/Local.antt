@@ -1,6 +1,8 @@
 -- What the local versions 1, 3 and 4 mean, as functions on lists of bytes (PASETO specification,
 -- "Version 1", "Version 3" and "Version 4").
 pub mod Sealing
+pub mod TagCollision
+pub mod Opened
 pub mod Opening
 pub mod V1
 pub mod V1Laws

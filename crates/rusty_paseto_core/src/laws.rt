@@ -3,6 +3,10 @@
 //! `try_verify` name.
 
 ghost use Rattle.rusty_paseto_core.specs.Laws.{BoxedSealingsOpen, BoxesHoldOneText, EmptyAssertionIsAbsent, EmptyFooterIsAbsent, SealingsHoldOneText, SealingsOpen, SignaturesHoldOneText, SigningsVerify, TextsHaveTwoForms};
+ghost use Rattle.rusty_paseto_primitives.specs.Collision.{IsHmacCollision};
+ghost use Rattle.rusty_paseto_core.specs.Local.TagCollision.{CollisionsShow, IsTagOfTwo};
+ghost use Rattle.rusty_paseto_core.specs.Local.V1.{v1};
+ghost use Rattle.rusty_paseto_core.specs.Local.V3.{v3};
 
 use crate::local::LocalVersion;
 use crate::public::Verifies;
@@ -49,4 +53,21 @@ pub fn signatures_hold_one_text<V: Verifies<S>, S>()
 pub fn empty_is_absent()
     ensures footer { EmptyFooterIsAbsent }
     ensures assertion { EmptyAssertionIsAbsent }
+{}
+
+/// Two tokens of version 1 or 3 that share their nonce and their tag, though they differ in the key, the
+/// text, the footer or the implicit assertion, show a collision of SHA-384: the inner or the outer lists
+/// that it takes in the two HMACs are different and have one digest. Or else they show two different keys
+/// that are split into one authentication key under the nonce.
+pub fn collisions_show_sha384()
+    ensures v1 { CollisionsShow v1 IsHmacCollision }
+    ensures v3 { CollisionsShow v3 IsHmacCollision }
+{}
+
+/// Two tokens of any version that share their nonce and their tag, though they differ in the key, the text,
+/// the footer or the implicit assertion, show one tag of two authentication keys or of two encodings; or
+/// else two different keys that are split into one authentication key under the nonce. In version 4 the one
+/// tag is a collision of BLAKE2b.
+pub fn collisions_show_tag<V: LocalVersion>()
+    ensures { CollisionsShow V.design (IsTagOfTwo V.design) }
 {}

@@ -13,6 +13,7 @@ mod tag;
 
 pub use local::LocalVersion;
 pub use local::sealed_box::SealedBox;
+pub use local::tag_collision::{Opening, TagCollision};
 pub use paseto::{AssertionVersion, Paseto};
 pub use public::scheme::{CompressedKey, SignatureScheme};
 pub use public::{PublicVersion, Signs, Verifies};

@@ -13,6 +13,7 @@ pub(crate) mod nist;
 pub(crate) mod opening;
 pub(crate) mod sealed_box;
 pub(crate) mod sealing;
+pub(crate) mod tag_collision;
 mod tokens;
 mod v1;
 mod v3;

@@ -17,6 +17,7 @@ pub mod HkdfFacts
 pub mod HkdfLengths
 pub mod HmacFacts
 pub mod HmacLengths
+pub mod HmacCollisions
 pub mod AesCounters
 pub mod AesFacts
 pub mod AesBytes

@@ -5,3 +5,4 @@ pub mod ChaCha
 pub mod Hmac
 pub mod Hkdf
 pub mod Aes
+pub mod Collision

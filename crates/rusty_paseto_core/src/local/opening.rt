@@ -27,7 +27,7 @@ pub(crate) fn open<V: LocalSuite>(
 }
 
 // The text that a payload holds. It is decrypted in the payload's own memory.
-fn open_payload<V: LocalSuite>(
+pub(crate) fn open_payload<V: LocalSuite>(
     mut payload: Vec<u8>,
     key: &[u8; 32],
     context: &Context<'_>,

@@ -1,0 +1,124 @@
+-- The first of each seal, as a map keeps it while a list is gone through.
+use Rattle.std.proofs.Common.{◌≡◌, ◌≢◌, ℕ, ◌+◌, ◌<◌, List, [], Bool, true, false, cond, Option, Some, None, Bor, BTreeMap, take, length, refl, sym, ap, subst, ◌∙◌, arith}
+use Rattle.std.specs.List.{All, slice_get, slice_index_or}
+use Rattle.std.specs.Ordering.{is_eq, nat_cmp}
+use Rattle.std.specs.Cmp.Lexicographic.{slice_cmp}
+use Rattle.std.specs.BTreeMap.{get_by}
+use Rattle.std.proofs.lemmas.Cmp.{nat_list_cmp_total, tied_itself}
+use Rattle.std.proofs.lemmas.List.{take_all}
+use Rattle.std.proofs.lemmas.List.Elements.{All-more, All-nil, All-weaker}
+use Rattle.std.proofs.lemmas.Map.Lookups.{exact_bytes}
+use Rattle.std.proofs.lemmas.Option.{get_or_from_slice_get, slice_get_within}
+use Rattle.std.specs.Cmp.{Equal-is}
+
+-- what a map from borrowed bytes has at these bytes
+abbrev pub at_bytes : List ℕ → BTreeMap (Bor (List ℕ)) ℕ → Option ℕ
+at_bytes s m = get_by (λ k. slice_cmp nat_cmp s k.now) m
+
+-- what is not something is nothing
+pub none_found : (o : Option ℕ) → ((p : ℕ) → o ≡ Some p → ⊥) → o ≡ None
+none_found None other = refl
+none_found (Some p) other = absurd (other p refl)
+
+module _ {X C : Type 0} (seal : X → List ℕ) (content : X → C) (xs : List X) where
+  -- the first of a seal, which the others before a place that have the seal are like
+  pub record IsFirstOf (i : ℕ) (s : List ℕ) (p : ℕ) : Type 0 where
+    pub first : X
+    pub is_there : slice_get xs p ≡ Some first
+    pub seal_is : seal first ≡ s
+    pub alike : All (λ x. seal x ≡ s → content x ≡ content first) (take i xs)
+
+  -- what is known of a seal before a place
+  abbrev pub IsKnown : ℕ → List ℕ → Option ℕ → Type 0
+  IsKnown i s None = All (λ x. seal x ≢ s) (take i xs)
+  IsKnown i s (Some p) = IsFirstOf i s p
+
+  abbrev pub AreKnown : ℕ → BTreeMap (Bor (List ℕ)) ℕ → Type 0
+  AreKnown i m = (s : List ℕ) → IsKnown i s (at_bytes s m)
+
+  more : (P : X → Type 0) (i : ℕ) (x : X) → slice_get xs i ≡ Some x → All P (take i xs) → P x → All P (take (i + 1) xs)
+  more P i x here all h =
+      All-more P xs i x (slice_get_within xs i x here) all (subst P (sym (get_or_from_slice_get xs i x x here)) h)
+
+  extended : (i : ℕ) (s : List ℕ) (x : X) (o : Option ℕ) → slice_get xs i ≡ Some x
+      → (o ≡ None → seal x ≢ s)
+      → ((p : ℕ) (first : X) → o ≡ Some p → slice_get xs p ≡ Some first → seal x ≡ s → content x ≡ content first)
+      → IsKnown i s o → IsKnown (i + 1) s o
+  extended i s x None here none some known = more (λ y. seal y ≢ s) i x here known (none refl)
+  extended i s x (Some p) here none some known = record {
+    first = known.first;
+    is_there = known.is_there;
+    seal_is = known.seal_is;
+    alike = more (λ y. seal y ≡ s → content y ≡ content known.first) i x here known.alike (some p known.first refl known.is_there);
+  }
+
+  -- what is found for a seal is its first
+  pub found_first : (m : BTreeMap (Bor (List ℕ)) ℕ) (i : ℕ) (s : List ℕ) (p : ℕ) → AreKnown i m → at_bytes s m ≡ Some p → IsFirstOf i s p
+  found_first m i s p known found = subst (IsKnown i s) found (known s)
+
+  -- nothing is known of nothing
+  pub none_known : (m : BTreeMap (Bor (List ℕ)) ℕ) → m.entries ≡ [] → AreKnown 0 m
+  none_known m empty s = rw empty (All-nil (λ x. seal x ≢ s))
+
+  -- one more, that is like the first of its seal
+  pub one_alike : (m : BTreeMap (Bor (List ℕ)) ℕ) (i p : ℕ) (x first : X) → slice_get xs i ≡ Some x → slice_get xs p ≡ Some first
+      → at_bytes (seal x) m ≡ Some p → content first ≡ content x → AreKnown i m → AreKnown (i + 1) m
+  one_alike m i p x first here there found same known s =
+      extended i s x (at_bytes s m) here
+      (λ none own. let e = ap (λ (z : List ℕ). at_bytes z m) own in cc)
+      (λ q other is there_too own.
+      let e = ap (λ (z : List ℕ). at_bytes z m) own in
+      let places : p ≡ q = cc in
+      let firsts : first ≡ other = let e = ap (slice_get xs) places in cc in
+      sym same ∙ ap content firsts)
+      (known s)
+
+  known_first : (i : ℕ) (s : List ℕ) (x : X) → slice_get xs i ≡ Some x → seal x ≡ s → (o : Option ℕ) → o ≡ None → IsKnown i s o
+      → IsFirstOf (i + 1) s i
+  known_first i s x here own None none known = record {
+    first = x;
+    is_there = here;
+    seal_is = own;
+    alike = more (λ y. seal y ≡ s → content y ≡ content x) i x here
+        (All-weaker (λ y. seal y ≢ s) (λ y. seal y ≡ s → content y ≡ content x) (λ y other same. absurd (other same)) (take i xs) known)
+        (λ _. refl);
+  }
+  known_first i s x here own (Some p) none known = absurd (let e = none in cc)
+
+  first_or_other : (m n : BTreeMap (Bor (List ℕ)) ℕ) (i : ℕ) (x : X) (s : List ℕ) → slice_get xs i ≡ Some x
+      → at_bytes (seal x) m ≡ None → IsKnown i s (at_bytes s m)
+      → (b : Bool) → is_eq (slice_cmp nat_cmp (seal x) s) ≡ b → IsKnown (i + 1) s (cond b (Some i) (at_bytes s m))
+  first_or_other m n i x s here found known true equal =
+      let own : seal x ≡ s = exact_bytes (seal x) s ((Equal-is (slice_cmp nat_cmp (seal x) s)).0 equal) in
+      known_first i s x here own (at_bytes s m) (ap (λ (z : List ℕ). at_bytes z m) (sym own) ∙ found) known
+  first_or_other m n i x s here found known false other =
+      let apart : seal x ≢ s = λ own.
+      let itself = tied_itself nat_list_cmp_total (seal x) in
+      let tied = ap (λ (z : List ℕ). is_eq (slice_cmp nat_cmp (seal x) z)) own in
+      let yes = ap is_eq itself in cc in
+      extended i s x (at_bytes s m) here (λ _. apart) (λ _ _ _ _ own. absurd (apart own)) known
+
+  -- one more, that is the first of its seal
+  pub one_first : (m n : BTreeMap (Bor (List ℕ)) ℕ) (i : ℕ) (x : X) → slice_get xs i ≡ Some x
+      → at_bytes (seal x) m ≡ None
+      → ((s : List ℕ) → at_bytes s n ≡ cond (is_eq (slice_cmp nat_cmp (seal x) s)) (Some i) (at_bytes s m))
+      → AreKnown i m → AreKnown (i + 1) n
+  one_first m n i x here found update known s =
+      subst (IsKnown (i + 1) s) (sym (update s)) (first_or_other m n i x s here found (known s) _ refl)
+
+  alike_at : (s : List ℕ) (o : Option ℕ) → IsKnown (length xs) s o → (k : ℕ) (d : X) (l : ℕ) (e : X) → k < length xs → l < length xs
+      → seal (slice_index_or xs k d) ≡ s → seal (slice_index_or xs l e) ≡ s
+      → content (slice_index_or xs k d) ≡ content (slice_index_or xs l e)
+  alike_at s None known k d l e low high one other =
+      let whole : All (λ x. seal x ≢ s) xs = rw (take_all (length xs) xs (omega arith)) at known in
+      absurd (whole k d low one)
+  alike_at s (Some p) known k d l e low high one other =
+      let whole : All (λ x. seal x ≡ s → content x ≡ content known.first) xs = rw (take_all (length xs) xs (omega arith)) at known.alike in
+      whole k d low one ∙ sym (whole l e high other)
+
+  -- in the end any two of one seal are alike
+  pub all_alike : (m : BTreeMap (Bor (List ℕ)) ℕ) → AreKnown (length xs) m
+      → All (λ first. All (λ second. seal first ≡ seal second → content first ≡ content second) xs) xs
+  all_alike m known k d low l e high same =
+      let s = seal (slice_index_or xs l e) in
+      alike_at s (at_bytes s m) (known s) k d l e low high same refl

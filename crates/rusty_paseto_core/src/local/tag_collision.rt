@@ -1,0 +1,242 @@
+//! A tag that several tokens share, shown as the collision that it is.
+
+ghost use Rattle.std.specs.Prelude.{◌≡◌, ◌↔◌, ◌++◌, ◌<◌, ◌^◌, ◌≤◌, ◌⊎◌, All, IsTrue, IfOk, IfErr, length, map};
+ghost use Rattle.rusty_paseto_parts.specs.Error.{IsMemory};
+ghost use Rattle.rusty_paseto_core.specs.Context.{bound};
+ghost use Rattle.rusty_paseto_core.specs.Local.Opened.{AreOpened, IsOpened, IsPair, IsPairIn, IsUnopened, case_in, content_in, vouched_in};
+ghost use Rattle.rusty_paseto_core.specs.Local.Opening.{HasRoom, nonce_in, tag_in};
+ghost use Rattle.rusty_paseto_core.specs.Local.TagCollision.{IsCollision, IsCollisionAnswer, IsFirstFault, case_of, cases, encoding};
+
+use crate::context::{Context, five_pieces};
+use crate::local::opening::open_payload;
+use crate::local::{LocalSuite, LocalVersion, NONCE_LENGTH};
+use crate::paseto::Paseto;
+use crate::reading::{nonce_of, unframe};
+use rusty_paseto_parts::{
+    Footer, ImplicitAssertion, Local, PasetoError, PasetoSymmetricKey, PreAuthenticationEncoding,
+};
+use std::alloc::{AllocError, Global};
+use std::collections::BTreeMap;
+
+/// A token, and the key, the footer and the implicit assertion under which it is to be opened.
+#[derive_where(Clone, Copy)]
+pub struct Opening<'a, V> {
+    /// The key.
+    pub key: &'a PasetoSymmetricKey<V, Local>,
+    /// The token.
+    pub token: &'a str,
+    /// The footer. An absent one is the empty one.
+    pub footer: Option<Footer<'a>>,
+    /// The implicit assertion. An absent one is the empty one. Version 1 does not look at it.
+    pub assertion: Option<ImplicitAssertion<'a>>,
+}
+
+/// Two tokens that have one nonce and one tag, and that hold two texts, or are bound to two keys, footers
+/// or implicit assertions.
+#[derive(Drop)]
+pub struct TagCollision {
+    /// Where the two stand among the openings, from 0.
+    pub places: [usize; 2],
+    /// What the tag of the first is made of: the encoding of its header, nonce, ciphertext, footer and, in
+    /// the versions 3 and 4, implicit assertion.
+    pub first: PreAuthenticationEncoding,
+    /// The same of the second.
+    pub second: PreAuthenticationEncoding,
+    /// The tag of both, of 48 bytes, or of 32 in version 4.
+    pub tag: Vec<u8>,
+}
+
+/// What is kept of a token that was opened.
+#[derive(Drop)]
+struct Opened<'a, V> {
+    opening: Opening<'a, V>,
+    /// The token's nonce, and its tag behind it.
+    seal: Vec<u8>,
+    text: String,
+}
+
+impl<V: LocalVersion> Paseto<'_, V, Local> {
+    /// Looks for two of the openings that have one nonce and one tag, though they differ in the key, the
+    /// text, the footer or, in the versions 3 and 4, the implicit assertion.
+    ///
+    /// Such two are a collision: of SHA-384 in the versions 1 and 3, of BLAKE2b in version 4, or of the split
+    /// of the key, as the laws `collisions_show_..` say. `None` says that there are no such two: then a nonce
+    /// and a tag name one key and one content. An opening that comes twice is no collision.
+    ///
+    /// All tokens are opened first, and all texts are kept until the end. The openings are then looked up by
+    /// nonce and tag, so that the time grows with their number, and not with its square.
+    ///
+    /// Where a token does not open, the answer is the fault of the first such, as `try_decrypt` gives it.
+    /// `Memory` may come in place of any answer.
+    ///
+    /// ```rust
+    /// let openings = [
+    ///     Opening { key: &key, token: "v4.local..", footer: None, assertion: None },
+    ///     Opening { key: &other, token: "v4.local..", footer: None, assertion: None },
+    /// ];
+    /// let found = Paseto::<V4, Local>::tag_collision(alloc, &openings)?;
+    /// ```
+    pub fn tag_collision(
+        alloc: Global,
+        openings: &[Opening<'_, V>],
+    ) -> Result<Option<TagCollision>, PasetoError>
+        ensures { IsCollisionAnswer V.design (cases openings.now) result }
+    {
+        find_collision::<V>(alloc, openings)
+    }
+}
+
+/// Two of the openings that share their nonce and their tag and differ in what the tag vouches for.
+pub(crate) fn find_collision<V: LocalSuite>(
+    alloc: Global,
+    openings: &[Opening<'_, V>],
+) -> Result<Option<TagCollision>, PasetoError>
+    ensures { IsCollisionAnswer V.design (cases openings.now) result }
+{
+    let opened = open_all::<V>(alloc, openings)?;
+    let Some((i, j)) = find_pair::<V>(alloc, &opened)? else {
+        return Ok(None);
+    };
+    let found = collision_of::<V>(alloc, &opened, i, j)?;
+    Ok(Some(found))
+}
+
+// Opens all tokens, in their order.
+fn open_all<'a, V: LocalSuite>(
+    alloc: Global,
+    openings: &[Opening<'a, V>],
+) -> Result<Vec<Opened<'a, V>>, PasetoError>
+    ensures ok { IfOk result (λ opened. AreOpened V.design (cases openings.now) opened.items) }
+    ensures err { IfErr result (λ error. IsMemory error ⊎ IsFirstFault V.design (cases openings.now) error) }
+{
+    let mut opened = Vec::with_capacity(alloc, openings.len())?;
+    'openings: for opening in openings {
+        let kept = open_one::<V>(alloc, *opening)?;
+        match opened.push(kept) {
+            Ok(()) => {}
+            Err(error) => return Err(AllocError::from(error).into()),
+        }
+    }
+    Ok(opened)
+}
+
+// Opens a token, and keeps its nonce, its tag and its text.
+fn open_one<'a, V: LocalSuite>(
+    alloc: Global,
+    opening: Opening<'a, V>,
+) -> Result<Opened<'a, V>, PasetoError>
+    ensures ok { IfOk result (λ opened. (case_in opened ≡ case_of opening.entry) × IsOpened V.design opened) }
+    ensures err { IfErr result (IsUnopened V.design (case_of opening.entry)) }
+{
+    let context = Context::new(opening.footer, opening.assertion);
+    let payload = unframe::<V, Local>(alloc, opening.token, context.footer())?;
+    let seal = seal_of::<V>(alloc, &payload)?;
+    let text = open_payload::<V>(payload, opening.key.as_bytes(), &context)?;
+    Ok(Opened {
+        opening,
+        seal,
+        text,
+    })
+}
+
+// The nonce of a payload, and its tag behind it.
+fn seal_of<V: LocalSuite>(alloc: Global, payload: &[u8]) -> Result<Vec<u8>, PasetoError>
+    ensures ok { IfOk result (λ seal. seal.items ≡ nonce_in payload.now ++ tag_in V.design payload.now) }
+    ensures err { IfErr result (λ error. IsMemory error ⊎ ((error ≡ PasetoError.IncorrectSize) × (¬ HasRoom V.design payload.now))) }
+{
+    if payload.len() < NONCE_LENGTH + V::TAG_LENGTH {
+        return Err(PasetoError::IncorrectSize);
+    }
+    let end = payload.len() - V::TAG_LENGTH;
+    let mut seal = Vec::with_capacity(alloc, NONCE_LENGTH + V::TAG_LENGTH)?;
+    seal.extend_from_slice(&nonce_of::<NONCE_LENGTH>(payload))?;
+    seal.extend_from_slice(&payload[end..])?;
+    Ok(seal)
+}
+
+// The places of two tokens that have one seal, which vouches for two keys or contents. Each token is
+// compared with the first of its seal alone.
+fn find_pair<'a, V: LocalSuite>(
+    alloc: Global,
+    opened: &'a [Opened<'_, V>],
+) -> Result<Option<(usize, usize)>, AllocError>
+    ensures { IfOk result (IsPairIn V.design opened.now) }
+{
+    let mut firsts: BTreeMap<&'a [u8], usize> = BTreeMap::new(alloc);
+    'places: for place in 0..opened.len() {
+        let kept = &opened[place];
+        let seal = kept.seal.as_slice();
+        let first = firsts.get(seal).copied();
+        if let Some(first) = first {
+            if !vouch_alike::<V>(&opened[first], kept) {
+                return Ok(Some((first, place)));
+            }
+        } else {
+            firsts.insert(seal, place)?;
+        }
+    }
+    Ok(None)
+}
+
+// Whether the tags of two tokens vouch for the same.
+fn vouch_alike<V: LocalSuite>(first: &Opened<'_, V>, second: &Opened<'_, V>) -> bool
+    ensures { IsTrue result ↔ (vouched_in V.design first.now ≡ vouched_in V.design second.now) }
+{
+    let one = Context::new(first.opening.footer, first.opening.assertion);
+    let other = Context::new(second.opening.footer, second.opening.assertion);
+    first.opening.key.as_bytes() == second.opening.key.as_bytes()
+        && first.text == second.text
+        && one.footer() == other.footer()
+        && (!V::BINDS_ASSERTION || one.assertion() == other.assertion())
+}
+
+// What is shown of the two tokens that a seal does not tell apart.
+fn collision_of<V: LocalSuite>(
+    alloc: Global,
+    opened: &[Opened<'_, V>],
+    i: usize,
+    j: usize,
+) -> Result<TagCollision, PasetoError>
+    requires each { All (IsOpened V.design) opened.now }
+    requires pair { IsPair V.design opened.now i j }
+    ensures ok { IfOk result (IsCollision V.design (map case_in opened.now)) }
+    ensures err { IfErr result IsMemory }
+{
+    let first = &opened[i];
+    let second = &opened[j];
+    let mut tag = Vec::new(alloc);
+    tag.extend_from_slice(&first.seal[NONCE_LENGTH..])?;
+    Ok(TagCollision {
+        places: [i, j],
+        first: encoding_of::<V>(alloc, first)?,
+        second: encoding_of::<V>(alloc, second)?,
+        tag,
+    })
+}
+
+// What the tag of a token is made of.
+fn encoding_of<V: LocalSuite>(
+    alloc: Global,
+    opened: &Opened<'_, V>,
+) -> Result<PreAuthenticationEncoding, PasetoError>
+    requires { 32 ≤ length opened.now.seal.items }
+    ensures ok { IfOk result (λ made. made ≡ encoding V.design (case_in opened.now) (content_in opened.now)) }
+    ensures fits { IfOk result (λ made. length made < 2 ^ 64) }
+    ensures err { IfErr result IsMemory }
+{
+    let nonce = nonce_of::<NONCE_LENGTH>(&opened.seal);
+    let keys = V::split(opened.opening.key.as_bytes(), &nonce);
+    let mut masked = Vec::with_capacity(alloc, opened.text.len())?;
+    masked.extend_from_slice(opened.text.as_bytes())?;
+    V::mask(&keys, &mut masked);
+    let context = Context::new(opened.opening.footer, opened.opening.assertion);
+    let pieces = five_pieces(
+        V::header().as_bytes(),
+        &nonce,
+        &masked,
+        context.footer(),
+        context.assertion(),
+    );
+    let count = if V::BINDS_ASSERTION { 5 } else { 4 };
+    PreAuthenticationEncoding::parse(alloc, &pieces[..count])
+}
