@@ -1,6 +1,6 @@
-//! Laws of sealing and opening, and of signing and verifying. Each is the contract of a function that
-//! does nothing, over the definitions that the contracts of `try_encrypt`, `try_decrypt`, `try_sign` and
-//! `try_verify` name.
+//! Laws of sealing and opening, of signing and verifying, and of a tag that two tokens share. Each is the
+//! contract of a function that does nothing, over the definitions that the contracts of `try_encrypt`,
+//! `try_decrypt`, `tag_collision`, `try_sign` and `try_verify` name.
 
 ghost use Rattle.rusty_paseto_core.specs.Laws.{BoxedSealingsOpen, BoxesHoldOneText, EmptyAssertionIsAbsent, EmptyFooterIsAbsent, SealingsHoldOneText, SealingsOpen, SignaturesHoldOneText, SigningsVerify, TextsHaveTwoForms};
 ghost use Rattle.rusty_paseto_primitives.specs.Collision.{IsHmacCollision};
@@ -56,18 +56,18 @@ pub fn empty_is_absent()
 {}
 
 /// Two tokens of version 1 or 3 that share their nonce and their tag, though they differ in the key, the
-/// text, the footer or the implicit assertion, show a collision of SHA-384: the inner or the outer lists
-/// that it takes in the two HMACs are different and have one digest. Or else they show two different keys
-/// that are split into one authentication key under the nonce.
+/// text, the footer or, in version 3, the implicit assertion, show a collision of SHA-384: the inner or the
+/// outer lists that it takes in the two HMACs are different and have one digest. Or else they show two
+/// different keys that are split into one authentication key under the nonce.
 pub fn collisions_show_sha384()
     ensures v1 { CollisionsShow v1 IsHmacCollision }
     ensures v3 { CollisionsShow v3 IsHmacCollision }
 {}
 
-/// Two tokens of any version that share their nonce and their tag, though they differ in the key, the text,
-/// the footer or the implicit assertion, show one tag of two authentication keys or of two encodings; or
-/// else two different keys that are split into one authentication key under the nonce. In version 4 the one
-/// tag is a collision of BLAKE2b.
+/// Two tokens of one version that share their nonce and their tag, though they differ in the key, the text,
+/// the footer or, where the version binds it, the implicit assertion, show one tag of two authentication keys
+/// or of two encodings, which in version 4 is one of BLAKE2b. Or else they show two different keys that are
+/// split into one authentication key under the nonce.
 pub fn collisions_show_tag<V: LocalVersion>()
     ensures { CollisionsShow V.design (IsTagOfTwo V.design) }
 {}

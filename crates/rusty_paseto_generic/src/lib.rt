@@ -20,9 +20,10 @@ pub use rusty_paseto_claims::{
 };
 pub use rusty_paseto_core::{
     AssertionVersion, CompressedKey, Footer, Header, ImplicitAssertion, ImplicitAssertionCapable,
-    Key, Local, LocalVersion, Paseto, PasetoAsymmetricPrivateKey, PasetoAsymmetricPublicKey,
-    PasetoError, PasetoNonce, PasetoSymmetricKey, Payload, PreAuthenticationEncoding, Public,
-    PublicVersion, PurposeTrait, SealedBox, SignatureScheme, Signs, UntrustedToken, V1, V1orV3, V2,
-    V2orV4, V3, V4, Verifies, VersionTrait, from_section, split_token, to_section,
+    Key, Local, LocalVersion, Opening, Paseto, PasetoAsymmetricPrivateKey,
+    PasetoAsymmetricPublicKey, PasetoError, PasetoNonce, PasetoSymmetricKey, Payload,
+    PreAuthenticationEncoding, Public, PublicVersion, PurposeTrait, SealedBox, SignatureScheme,
+    Signs, TagCollision, UntrustedToken, V1, V1orV3, V2, V2orV4, V3, V4, Verifies, VersionTrait,
+    from_section, split_token, to_section,
 };
 pub use validator::{Validator, ValidatorFn, ValidatorMap};

@@ -60,8 +60,9 @@ impl<V: LocalVersion> Paseto<'_, V, Local> {
     /// text, the footer or, in the versions 3 and 4, the implicit assertion.
     ///
     /// Such two are a collision: of SHA-384 in the versions 1 and 3, of BLAKE2b in version 4, or of the split
-    /// of the key, as the laws `collisions_show_..` say. `None` says that there are no such two: then a nonce
-    /// and a tag name one key and one content. An opening that comes twice is no collision.
+    /// of the key, as `laws::collisions_show_sha384` and `laws::collisions_show_tag` say. `None` says that
+    /// there are no such two: a nonce and a tag name one key and one content. The same content twice under
+    /// one key is no collision.
     ///
     /// All tokens are opened first, and all texts are kept until the end. The openings are then looked up by
     /// nonce and tag, so that the time grows with their number, and not with its square.
