@@ -106,6 +106,22 @@ module _ {X C : Type 0} (seal : X → List ℕ) (content : X → C) (xs : List X
   one_first m n i x here found update known s =
       subst (IsKnown (i + 1) s) (sym (update s)) (first_or_other m n i x s here found (known s) _ refl)
 
+  put_back_at : (m n k : BTreeMap (Bor (List ℕ)) ℕ) (i p : ℕ) (x : X) (s : List ℕ) → at_bytes (seal x) m ≡ Some p
+      → (b : Bool) → is_eq (slice_cmp nat_cmp (seal x) s) ≡ b
+      → at_bytes s n ≡ cond b (Some i) (at_bytes s m) → at_bytes s k ≡ cond b (Some p) (at_bytes s n) → at_bytes s k ≡ at_bytes s m
+  put_back_at m n k i p x s found true equal taken given =
+      let own : seal x ≡ s = exact_bytes (seal x) s ((Equal-is (slice_cmp nat_cmp (seal x) s)).0 equal) in
+      given ∙ sym (ap (λ (z : List ℕ). at_bytes z m) (sym own) ∙ found)
+  put_back_at m n k i p x s found false other taken given = given ∙ taken
+
+  -- a first that was replaced and put back is known as before
+  pub put_back : (m n k : BTreeMap (Bor (List ℕ)) ℕ) (i p j : ℕ) (x : X) → at_bytes (seal x) m ≡ Some p
+      → ((s : List ℕ) → at_bytes s n ≡ cond (is_eq (slice_cmp nat_cmp (seal x) s)) (Some i) (at_bytes s m))
+      → ((s : List ℕ) → at_bytes s k ≡ cond (is_eq (slice_cmp nat_cmp (seal x) s)) (Some p) (at_bytes s n))
+      → AreKnown j m → AreKnown j k
+  put_back m n k i p j x found taken given known s =
+      subst (IsKnown j s) (sym (put_back_at m n k i p x s found _ refl (taken s) (given s))) (known s)
+
   alike_at : (s : List ℕ) (o : Option ℕ) → IsKnown (length xs) s o → (k : ℕ) (d : X) (l : ℕ) (e : X) → k < length xs → l < length xs
       → seal (slice_index_or xs k d) ≡ s → seal (slice_index_or xs l e) ≡ s
       → content (slice_index_or xs k d) ≡ content (slice_index_or xs l e)

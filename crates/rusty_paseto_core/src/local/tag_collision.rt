@@ -167,13 +167,12 @@ fn find_pair<'a, V: LocalSuite>(
     'places: for place in 0..opened.len() {
         let kept = &opened[place];
         let seal = kept.seal.as_slice();
-        let first = firsts.get(seal).copied();
-        if let Some(first) = first {
+        if let Some(first) = firsts.insert(seal, place)? {
             if !vouch_alike::<V>(&opened[first], kept) {
                 return Ok(Some((first, place)));
             }
-        } else {
-            firsts.insert(seal, place)?;
+            // The first one stays, and not the last.
+            firsts.insert(seal, first)?;
         }
     }
     Ok(None)

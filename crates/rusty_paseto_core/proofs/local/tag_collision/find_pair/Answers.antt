@@ -2,9 +2,9 @@ use Rattle.std.proofs.Common.{◌≡◌, ◌∙◌, List, ℕ, Some, sym, ap, re
 use Rattle.std.specs.Cmp.Lexicographic.{slice_cmp}
 use Rattle.std.specs.Ordering.{is_eq, nat_cmp}
 use Rattle.std.proofs.lemmas.Option.{get_or_from_slice_get, slice_get_read, slice_get_within}
-use Rattle.rusty_paseto_core.proofs.Firsts.{AreKnown, all_alike, at_bytes, found_first, none_found, none_known, one_alike, one_first}
+use Rattle.rusty_paseto_core.proofs.Firsts.{AreKnown, all_alike, at_bytes, found_first, none_found, none_known, one_alike, one_first, put_back}
 use Rattle.rusty_paseto_core.specs.Local.Opened.{seal_in, vouched_in}
-use Rattle.rusty_paseto_core.proofs.local.tag_collision.find_pair.Goals.{in-Some+else-not-vouch_alike, in_default+in_ok-insert}
+use Rattle.rusty_paseto_core.proofs.local.tag_collision.find_pair.Goals.{in-Some+else-not-vouch_alike+in_ok-insert, in_default}
 use Rattle.rusty_paseto_core.proofs.local.tag_collision.find_pair.Goals as goal
 
 pub places-init : goal.places-init
@@ -13,8 +13,8 @@ places-init g c = none_known _ _ _ c.new-firsts.result c.new-firsts.ensures.empt
 pub offset_bounds-opened-first : goal.offset_bounds-opened-first
 offset_bounds-opened-first g c =
     let seal = c.index-opened-place.result.seal.items in
-    let looked : at_bytes seal c.places.firsts ≡ c.copied-first.result =
-    sym (c.copied-first.ensures ∙ c.get.ensures.value ∙ ap (λ (s : List ℕ). at_bytes s c.places.firsts) c.as_slice-seal.ensures.value) in
+    let looked : at_bytes seal c.places.firsts ≡ c.in_ok-first.field-0 =
+    sym (c.in_ok-first.ensures.old ∙ ap (λ (s : List ℕ). at_bytes s c.places.firsts) c.as_slice-seal.ensures.value) in
     let own = found_first seal_in (vouched_in g.V.LocalSuite.design) c.args.opened.now c.places.firsts c.places.place seal c.in-Some.first c.places.invariant (looked ∙ c.in-Some.is) in
     let low : c.in-Some.first < length c.args.opened.now = slice_get_within c.args.opened.now c.in-Some.first own.first own.is_there in
     omega arith
@@ -22,8 +22,8 @@ offset_bounds-opened-first g c =
 pub bounds-opened-first : goal.bounds-opened-first
 bounds-opened-first g c =
     let seal = c.index-opened-place.result.seal.items in
-    let looked : at_bytes seal c.places.firsts ≡ c.copied-first.result =
-    sym (c.copied-first.ensures ∙ c.get.ensures.value ∙ ap (λ (s : List ℕ). at_bytes s c.places.firsts) c.as_slice-seal.ensures.value) in
+    let looked : at_bytes seal c.places.firsts ≡ c.in_ok-first.field-0 =
+    sym (c.in_ok-first.ensures.old ∙ ap (λ (s : List ℕ). at_bytes s c.places.firsts) c.as_slice-seal.ensures.value) in
     let own = found_first seal_in (vouched_in g.V.LocalSuite.design) c.args.opened.now c.places.firsts c.places.place seal c.in-Some.first c.places.invariant (looked ∙ c.in-Some.is) in
     slice_get_within c.args.opened.now c.in-Some.first own.first own.is_there
 
@@ -31,8 +31,8 @@ pub returns-then-not-vouch_alike : goal.returns-then-not-vouch_alike
 returns-then-not-vouch_alike g c =
     let kept = c.index-opened-place.result in
     let seal = kept.seal.items in
-    let looked : at_bytes seal c.places.firsts ≡ c.copied-first.result =
-    sym (c.copied-first.ensures ∙ c.get.ensures.value ∙ ap (λ (s : List ℕ). at_bytes s c.places.firsts) c.as_slice-seal.ensures.value) in
+    let looked : at_bytes seal c.places.firsts ≡ c.in_ok-first.field-0 =
+    sym (c.in_ok-first.ensures.old ∙ ap (λ (s : List ℕ). at_bytes s c.places.firsts) c.as_slice-seal.ensures.value) in
     let own = found_first seal_in (vouched_in g.V.LocalSuite.design) c.args.opened.now c.places.firsts c.places.place seal c.in-Some.first c.places.invariant (looked ∙ c.in-Some.is) in
     let same : c.index-opened-first.result ≡ own.first =
     c.index-opened-first.is ∙ get_or_from_slice_get c.args.opened.now c.in-Some.first own.first c.index-opened-first.result own.is_there in
@@ -51,27 +51,34 @@ pub places-preserved : goal.places-preserved
 places-preserved g c =
     let kept = c.index-opened-place.result in
     let seal = kept.seal.items in
-    let looked : at_bytes seal c.places.firsts ≡ c.copied-first.result =
-    sym (c.copied-first.ensures ∙ c.get.ensures.value ∙ ap (λ (s : List ℕ). at_bytes s c.places.firsts) c.as_slice-seal.ensures.value) in
+    let looked : at_bytes seal c.places.firsts ≡ c.in_ok-first.field-0 =
+    sym (c.in_ok-first.ensures.old ∙ ap (λ (s : List ℕ). at_bytes s c.places.firsts) c.as_slice-seal.ensures.value) in
     let here = slice_get_read c.args.opened.now _ c.places.place kept refl c.places-test.true c.index-opened-place.is in
-    elim c.match-first.branch [
-      | in-Some+else-not-vouch_alike w ↦
+    let taken : (s : List ℕ) → at_bytes s c.insert.new.self ≡ cond (is_eq (slice_cmp nat_cmp seal s)) (Some c.places.place) (at_bytes s c.places.firsts) =
+    λ s.
+    let other : Bor (List ℕ) = record { ref_ptr = (0, 0); now = s } in
+    c.in_ok-first.ensures.updates.0 other
+    ∙ ap (λ (z : List ℕ). cond (is_eq (slice_cmp nat_cmp z s)) (Some c.places.place) (at_bytes s c.places.firsts)) c.as_slice-seal.ensures.value in
+    elim c.match-branch-2.branch [
+      | in-Some+else-not-vouch_alike+in_ok-insert w ↦
           let own = found_first seal_in (vouched_in g.V.LocalSuite.design) c.args.opened.now c.places.firsts c.places.place seal w.in-Some.first c.places.invariant (looked ∙ w.in-Some.is) in
           let same : w.index-opened-first.result ≡ own.first =
           w.index-opened-first.is ∙ get_or_from_slice_get c.args.opened.now w.in-Some.first own.first w.index-opened-first.result own.is_there in
           let alike = w.vouch_alike.ensures.0 w.if-not-vouch_alike.false in
-          subst (AreKnown seal_in (vouched_in g.V.LocalSuite.design) c.args.opened.now (c.places.place + 1)) (sym w.firsts-is)
-          (one_alike seal_in (vouched_in g.V.LocalSuite.design) c.args.opened.now c.places.firsts c.places.place w.in-Some.first kept own.first here own.is_there
-          (looked ∙ w.in-Some.is) (ap (vouched_in g.V.LocalSuite.design) (sym same) ∙ alike) c.places.invariant)
-      | in_default+in_ok-insert w ↦
-          let none = looked ∙ none_found c.copied-first.result w.in_default.not-Some in
-          subst (AreKnown seal_in (vouched_in g.V.LocalSuite.design) c.args.opened.now (c.places.place + 1)) (sym w.firsts-is)
-          (one_first seal_in (vouched_in g.V.LocalSuite.design) c.args.opened.now c.places.firsts w.insert.new.self c.places.place kept here none
-          (λ s.
+          let given : (s : List ℕ) → at_bytes s w.insert-in-Some.new.self ≡ cond (is_eq (slice_cmp nat_cmp seal s)) (Some w.in-Some.first) (at_bytes s c.insert.new.self) =
+          λ s.
           let other : Bor (List ℕ) = record { ref_ptr = (0, 0); now = s } in
           w.in_ok-insert.ensures.updates.0 other
-          ∙ ap (λ (z : List ℕ). cond (is_eq (slice_cmp nat_cmp z s)) (Some c.places.place) (at_bytes s c.places.firsts)) c.as_slice-seal.ensures.value)
-          c.places.invariant)
+          ∙ ap (λ (z : List ℕ). cond (is_eq (slice_cmp nat_cmp z s)) (Some w.in-Some.first) (at_bytes s c.insert.new.self)) c.as_slice-seal.ensures.value in
+          subst (AreKnown seal_in (vouched_in g.V.LocalSuite.design) c.args.opened.now (c.places.place + 1)) (sym w.firsts-is)
+          (put_back seal_in (vouched_in g.V.LocalSuite.design) c.args.opened.now c.places.firsts c.insert.new.self w.insert-in-Some.new.self
+          c.places.place w.in-Some.first (c.places.place + 1) kept (looked ∙ w.in-Some.is) taken given
+          (one_alike seal_in (vouched_in g.V.LocalSuite.design) c.args.opened.now c.places.firsts c.places.place w.in-Some.first kept own.first here own.is_there
+          (looked ∙ w.in-Some.is) (ap (vouched_in g.V.LocalSuite.design) (sym same) ∙ alike) c.places.invariant))
+      | in_default w ↦
+          subst (AreKnown seal_in (vouched_in g.V.LocalSuite.design) c.args.opened.now (c.places.place + 1)) (sym w.firsts-is)
+          (one_first seal_in (vouched_in g.V.LocalSuite.design) c.args.opened.now c.places.firsts c.insert.new.self c.places.place kept here
+          (looked ∙ none_found c.in_ok-first.field-0 w.in_default.not-Some) taken c.places.invariant)
     ]
 
 pub returns : goal.returns
