@@ -158,6 +158,16 @@ masked_to_block size block n k m keystream old now part done block-is within m-i
     masked_to_part (stream_of_blocks size block) (slice_index keystream) (size * n) k m old now part done m-is le
     (λ i h. ap (λ (b : List ℕ). slice_index b i) block-is ∙ sym (stream_of_blocks-at size block n i (omega arith))) part-is
 
+-- data no longer than a block, under the first block
+pub masked_by_block : (size : ℕ) (block : ℕ → List ℕ) (keystream text : List ℕ) → keystream ≡ block 0 → length text ≤ size
+    → masked (slice_index keystream) text ≡ masked (stream_of_blocks size block) text
+unfolding masked
+masked_by_block size block keystream text block-is within =
+    masked_from-agree (slice_index keystream) (stream_of_blocks size block) 0 0 text (λ i h.
+    let first : size * 0 + (0 + i) ≡ 0 + i = omega arith in
+    ap (λ (b : List ℕ). slice_index b (0 + i)) block-is
+    ∙ sym (stream_of_blocks-at size block 0 (0 + i) (omega arith)) ∙ ap (stream_of_blocks size block) first)
+
 -- data whose front and whose rest are masked, one after the other, by a stream t that goes on from s
 pub masked_in_two : (s t : ℕ → ℕ) (a : ℕ) (old front back : List ℕ) → a ≤ length old → front ≡ masked s (take a old)
     → ((i : ℕ) → t i ≡ s (a + i)) → let now = front ++ drop a old in

@@ -1,6 +1,6 @@
 // The keystream of XChaCha20, block after block.
 
-ghost use Rattle.std.specs.Prelude.{◌≡◌, ◌+◌, ◌*◌, ◌%◌, ◌<◌, ◌^◌, length, take};
+ghost use Rattle.std.specs.Prelude.{◌≡◌, ◌+◌, ◌*◌, ◌%◌, ◌<◌, ◌≤◌, ◌^◌, length, take};
 ghost use Rattle.rusty_paseto_primitives.specs.Keystream.{masked, stream_of_blocks};
 ghost use Rattle.rusty_paseto_primitives.specs.ChaCha.Block.{block_bytes, key_words};
 ghost use Rattle.rusty_paseto_primitives.specs.ChaCha.Stream.{numbered, tail_words, xchacha20_stream};
@@ -50,16 +50,24 @@ fn mask_groups(key: &[u32; 8], tail: &[u32; 2], data: &mut [u8])
     }
 }
 
-// Masks data of any length, from block number `first` on.
-fn mask_blocks(key: &[u32; 8], tail: &[u32; 2], first: u64, data: &mut [u8])
-    requires { first + length «data».old < 2 ^ 64 }
+// Masks no more than a group, from block number `first` on. Four blocks by lanes cost less than two
+// one after the other.
+fn mask_rest(key: &[u32; 8], tail: &[u32; 2], first: u64, data: &mut [u8])
+    requires number { first + 3 < 2 ^ 64 }
+    requires length { length «data».old ≤ 256 }
     ensures { «data».new ≡ masked (stream_of_blocks 64 (λ n. block_bytes (numbered key.now tail.now (first + n)))) «data».old }
 {
-    'left: for i in 0..data.len().div_ceil(BLOCK_LEN) {
-        let at = BLOCK_LEN * i;
-        let end = data.len().min(at + BLOCK_LEN);
-        mask(&mut data[at..end], &block_at(key, tail, first + i as u64));
+    if data.is_empty() {
+        return;
     }
+    if data.len() <= BLOCK_LEN {
+        mask(data, &block_at(key, tail, first));
+        return;
+    }
+    let vectors = lanes::keystream(key, tail, first);
+    let mut bytes = [0u8; GROUP_LEN];
+    mask_by_vectors(&mut bytes, &vectors);
+    mask(data, &bytes);
 }
 
 /// Masks or unmasks `data`, in place, by the keystream of XChaCha20 from its start on: the
@@ -76,5 +84,5 @@ pub fn xchacha20_apply(key: &[u8; 32], nonce: &[u8; 24], data: &mut [u8])
     let group_count = data.len() / GROUP_LEN;
     let end = GROUP_LEN * group_count;
     mask_groups(&subkey, &tail, &mut data[..end]);
-    mask_blocks(&subkey, &tail, 4 * group_count as u64, &mut data[end..]);
+    mask_rest(&subkey, &tail, 4 * group_count as u64, &mut data[end..]);
 }

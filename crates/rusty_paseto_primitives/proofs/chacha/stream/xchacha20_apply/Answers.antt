@@ -5,5 +5,5 @@ use Rattle.rusty_paseto_primitives.proofs.chacha.stream.xchacha20_apply.Goals as
 pub returns : goal.returns
 returns c =
     masked_by_groups c.args.key.now c.args.nonce.now c.subkey_words-subkey.result c.tail_words-tail.result c.args.data.now
-    c.mask_groups.new.data c.mask_blocks.new.data (length c.args.data.now / 256)
-    c.subkey_words-subkey.ensures c.tail_words-tail.ensures refl c.mask_groups.ensures c.mask_blocks.ensures
+    c.mask_groups.new.data c.mask_rest.new.data (length c.args.data.now / 256)
+    c.subkey_words-subkey.ensures c.tail_words-tail.ensures refl c.mask_groups.ensures c.mask_rest.ensures
