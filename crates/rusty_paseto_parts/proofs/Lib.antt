@@ -2,4 +2,5 @@ pub mod HeaderLemmas
 pub mod PaeLemmas
 pub mod PublicKeyFacts
 pub mod SectionLemmas
+pub mod SixteenLemmas
 pub mod TokenLemmas

@@ -99,10 +99,10 @@ unfolding spelling
 spelling-injective a b bytes_a bytes_b same = injective_of url_safe_no_pad a b refl bytes_a bytes_b same
 
 -- the 64 symbols
-abbrev symbols : List ℕ
+abbrev pub symbols : List ℕ
 symbols = engine_symbols url_safe_no_pad
 
-spelling-symbols : (bytes : List ℕ) → spelling bytes ≡ encode_symbols symbols bytes
+pub spelling-symbols : (bytes : List ℕ) → spelling bytes ≡ encode_symbols symbols bytes
 unfolding spelling
 spelling-symbols bytes = append-nil (encode_symbols symbols bytes)
 

@@ -8,3 +8,4 @@ pub mod PublicKey
 pub mod PreAuthenticationEncoding
 pub mod Section
 pub mod UntrustedToken
+pub mod Sixteen

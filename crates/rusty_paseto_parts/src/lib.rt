@@ -10,6 +10,7 @@ pub mod laws;
 mod pre_authentication_encoding;
 mod purpose;
 mod section;
+mod sixteen;
 mod texts;
 mod untrusted_token;
 mod version;

@@ -1,16 +1,21 @@
 //! The sections of a token's text, and how bytes are spelled in them.
 
-ghost use Rattle.std.specs.Prelude.{◌≡◌, ◌↔◌, ◌++◌, ◌∷◌, [], ℕ, List, length, map, IsSome, IsErr, IfOk, IfErr, IfSome, OnOk, OnErr, MatchResult};
+ghost use Rattle.std.specs.Prelude.{◌≡◌, ◌↔◌, ◌++◌, ◌∷◌, ◌+◌, ◌≤◌, [], ℕ, List, length, map, take, IsSome, IsErr, IfOk, IfErr, IfSome, OnOk, OnErr, MatchResult};
 ghost use Rattle.std.specs.Option.{option_map_or, option_to_list};
 ghost use Rattle.std.specs.String.{string_bytes};
+ghost use Rattle.base64.specs.Decode.{decoded_estimate};
 ghost use Rattle.base64.specs.GeneralPurpose.{IsBytes};
 ghost use Rattle.rusty_paseto_parts.specs.Error.{IsMemory};
 ghost use Rattle.rusty_paseto_parts.specs.Section.{HasCount, IsNoSpelling, IsSectionFault, sections, spelling};
 
 use crate::error::PasetoError;
-use base64::DecodeAllocError;
+use crate::sixteen::{self, read_sixteens};
 use base64::engine::general_purpose::URL_SAFE_NO_PAD;
+use base64::{DecodeAllocError, decoded_len_estimate};
 use std::alloc::{AllocError, Global};
+
+/// How many bytes more than a section has are written past it at most.
+const ROOM: usize = 4;
 
 /// The sections of a token, its parts between dots: version, purpose, payload and, where there is
 /// a fourth, the footer. `None` where the sections are not three or four.
@@ -86,11 +91,43 @@ pub fn from_section(alloc: Global, text: &str) -> Result<Vec<u8>, PasetoError>
     ensures none { IsNoSpelling text.now → IsErr result }
     ensures err { IfErr result (IsSectionFault text.now) }
 {
+    if let Some(bytes) = read_spelling(alloc, text)? {
+        return Ok(bytes);
+    }
+    // Why it is no spelling.
     match URL_SAFE_NO_PAD.decode(alloc, text.as_bytes()) {
         Ok(bytes) => Ok(bytes),
         Err(DecodeAllocError::DecodeError(source)) => {
             Err(PasetoError::PayloadBase64Decode { source })
         }
         Err(DecodeAllocError::OutOfMemory) => Err(PasetoError::Memory(AllocError)),
+    }
+}
+
+// The bytes of which a text is the spelling, or `None` where it is none.
+fn read_spelling(alloc: Global, text: &str) -> Result<Option<Vec<u8>>, AllocError>
+    ensures { IfOk result (λ read. IfSome read (λ bytes. (text.now ≡ spelling bytes.items) × IsBytes bytes.items)) }
+{
+    let mut bytes = vec![in alloc; 0u8; decoded_len_estimate(text.len()) + ROOM]?;
+    let Some(len) = read_into(text.as_bytes(), &mut bytes) else {
+        return Ok(None);
+    };
+    bytes.truncate(len);
+    Ok(Some(bytes))
+}
+
+// Writes the bytes of which a text is the spelling, and tells how many they are: those of the front of
+// the text sixteen characters at once, and the rest by the engine.
+fn read_into(text: &[u8], bytes: &mut [u8]) -> Option<usize>
+    requires { decoded_estimate (length text.now) + 4 ≤ length bytes.old }
+    ensures spelled { IfSome result (λ len. text.now ≡ spelling (take len bytes.new)) }
+    ensures bytes { IsBytes bytes.new }
+{
+    let count = read_sixteens(text, bytes);
+    let end = sixteen::BYTES * count;
+    let rest = &text[sixteen::CHARACTERS * count..];
+    match URL_SAFE_NO_PAD.decode_slice_unchecked(rest, &mut bytes[end..]) {
+        Ok(len) => Some(end + len),
+        Err(_) => None,
     }
 }

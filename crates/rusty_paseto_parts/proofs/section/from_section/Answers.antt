@@ -3,6 +3,11 @@ use Rattle.rusty_paseto_parts.specs.Section.{spelling}
 use Rattle.rusty_paseto_parts.proofs.SectionLemmas.{spelling-injective}
 use Rattle.rusty_paseto_parts.proofs.section.from_section.Goals as goal
 
+pub returns-in-Some-clause-read : goal.returns-in-Some-clause-read
+returns-in-Some-clause-read c = λ bytes is same.
+    let read = rw c.in-Some.is at c.in_ok-bytes.ensures in
+    spelling-injective c.in-Some.bytes.items bytes read.1 is (sym read.0 ∙ same)
+
 pub returns-in-Ok-clause-ok : goal.returns-in-Ok-clause-ok
 unfolding spelling
 returns-in-Ok-clause-ok c = sym c.as_bytes.ensures.value ∙ c.in-Ok.ensures.exact (refl, refl)
