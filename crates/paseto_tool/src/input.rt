@@ -9,8 +9,11 @@ use crate::error::ToolError;
 use std::alloc::Global;
 use std::io::Read;
 
-/// How many bytes are asked for at a time.
-const CHUNK: usize = 4096;
+/// How many bytes are asked for at first, and at most. Each read asks for twice as many as the one
+/// before, so that a long input takes few reads.
+const SHORTEST: usize = 4096;
+
+const LONGEST: usize = 65536;
 
 /// The bytes of the input, up to its end, which is the first read that gives none.
 ///
@@ -21,12 +24,14 @@ pub fn read_whole<R: Read>(alloc: Global, input: &mut R) -> Result<Vec<u8>, Tool
     ensures failed { IfErr result IsOutside }
 {
     let mut bytes = Vec::new(alloc);
-    let mut chunk = [0u8; CHUNK];
+    let mut space = [0u8; LONGEST];
+    let mut asked = SHORTEST;
     'reads: loop {
-        let count = input.read(&mut chunk)?;
+        let count = input.read(&mut space[..asked])?;
         if count == 0 {
             return Ok(bytes);
         }
-        bytes.extend_from_slice(&chunk[..count])?;
+        bytes.extend_from_slice(&space[..count])?;
+        asked = LONGEST.min(2 * asked);
     }
 }
