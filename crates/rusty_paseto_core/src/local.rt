@@ -1,7 +1,7 @@
 //! Local tokens: a text encrypted and authenticated under one key (PASETO specification, "Version 1" to
 //! "Version 4").
 
-ghost use Rattle.std.specs.Prelude.{◌≡◌, ℕ, ◌≤◌, Bool, List, IsTrue, map, length};
+ghost use Rattle.std.specs.Prelude.{◌≡◌, ℕ, ◌+◌, ◌++◌, ◌≤◌, Bool, List, IsTrue, map, length};
 ghost use Rattle.rusty_paseto_parts.specs.PreAuthenticationEncoding.{pae};
 ghost use Rattle.rusty_paseto_core.specs.Local.{Design, IsLawful, header};
 
@@ -88,4 +88,16 @@ pub(crate) trait LocalSuite: VersionTrait {
 
     // No nonce has another length than 32 bytes.
     ghost has_nonces_of_32_alone: { (n : ℕ) → IsTrue (Self.nonce_length n) → n ≡ 32 };
+}
+
+/// A separator, and the nonce behind it.
+pub(crate) fn info<const N: usize>(separator: &[u8], nonce: &[u8; 32]) -> [u8; N]
+    requires { N ≡ length separator.now + 32 }
+    ensures { result ≡ separator.now ++ nonce.now }
+{
+    let mut info = [0u8; N];
+    let space = &mut info[..];
+    space[..separator.len()].copy_from_slice(separator);
+    space[separator.len()..].copy_from_slice(nonce);
+    info
 }

@@ -1,13 +1,13 @@
 //! Version 3: HKDF-SHA384 splits the key, AES-256 in counter mode encrypts the text and HMAC-SHA384
 //! makes the tag (PASETO specification, "Version 3").
 
-ghost use Rattle.std.specs.Prelude.{◌≡◌, ◌+◌, ◌++◌, ◌≤◌, true, drop, length};
+ghost use Rattle.std.specs.Prelude.{◌≡◌, ◌≤◌, true, drop};
 ghost use Rattle.rusty_paseto_core.specs.Local.V3.{v3, authentication_key, counter, encryption_key};
 ghost use Rattle.rusty_paseto_core.specs.Local.V3Laws.{v3-IsLawful, v3-binds_assertion, v3-tag_length, v3-version};
 ghost use Rattle.std.proofs.Common.{rules};
 
 use crate::local::nist::{NistKeys, expand, front};
-use crate::local::{AUTHENTICATION, ENCRYPTION, LocalSuite};
+use crate::local::{AUTHENTICATION, ENCRYPTION, LocalSuite, info};
 use crate::tag::write_hmac;
 use rusty_paseto_parts::V3;
 use rusty_paseto_primitives::{aes256_ctr_apply, hkdf_sha384_extract};
@@ -70,18 +70,6 @@ impl LocalSuite for V3 {
     ghost has_assertion = { v3-binds_assertion };
 
     ghost has_nonces_of_32_alone = { Prim.search rules };
-}
-
-// A separator, and the nonce behind it.
-fn info<const N: usize>(separator: &[u8], nonce: &[u8; 32]) -> [u8; N]
-    requires { N ≡ length separator.now + 32 }
-    ensures { result ≡ separator.now ++ nonce.now }
-{
-    let mut info = [0u8; N];
-    let space = &mut info[..];
-    space[..separator.len()].copy_from_slice(separator);
-    space[separator.len()..].copy_from_slice(nonce);
-    info
 }
 
 // The first counter block.

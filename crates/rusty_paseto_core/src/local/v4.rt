@@ -1,16 +1,15 @@
 //! Version 4: BLAKE2b splits the key and makes the tag, XChaCha20 encrypts the text (PASETO
 //! specification, "Version 4").
 
-ghost use Rattle.std.specs.Prelude.{◌≡◌, ◌++◌, ◌≤◌, true, take, drop};
-ghost use Rattle.rusty_paseto_primitives.specs.Blake2.Keyed.{blake2b};
+ghost use Rattle.std.specs.Prelude.{◌≡◌, true, take, drop};
 ghost use Rattle.rusty_paseto_core.specs.Local.V4.{v4, authentication_key, encryption_key, start};
 ghost use Rattle.rusty_paseto_core.specs.Local.V4Laws.{v4-IsLawful, v4-binds_assertion, v4-tag_length, v4-version};
 ghost use Rattle.std.proofs.Common.{rules};
 
-use crate::local::{AUTHENTICATION, ENCRYPTION, LocalSuite};
+use crate::local::{AUTHENTICATION, ENCRYPTION, LocalSuite, info};
 use crate::tag::write_blake2b;
 use rusty_paseto_parts::V4;
-use rusty_paseto_primitives::{Blake2b, xchacha20_apply};
+use rusty_paseto_primitives::{blake2b_keyed, xchacha20_apply};
 
 /// The keys of a token.
 #[derive(Clone, Copy)]
@@ -49,11 +48,13 @@ impl LocalSuite for V4 {
     }
 
     fn split(key: &[u8; 32], nonce: &[u8; 32]) -> SodiumKeys {
-        let keys: [u8; 56] = derive(key, ENCRYPTION, nonce);
+        let encryption_info: [u8; 53] = info(ENCRYPTION, nonce);
+        let authentication_info: [u8; 56] = info(AUTHENTICATION, nonce);
+        let keys: [u8; 56] = blake2b_keyed(key, &encryption_info);
         SodiumKeys {
             encryption_key: encryption_key(&keys),
             start: start(&keys),
-            authentication_key: derive(key, AUTHENTICATION, nonce),
+            authentication_key: blake2b_keyed(key, &authentication_info),
         }
     }
 
@@ -76,20 +77,6 @@ impl LocalSuite for V4 {
     ghost has_assertion = { v4-binds_assertion };
 
     ghost has_nonces_of_32_alone = { Prim.search rules };
-}
-
-// What a separator and the nonce give under the key.
-fn derive<const N: usize>(key: &[u8; 32], separator: &[u8], nonce: &[u8; 32]) -> [u8; N]
-    requires low { 1 ≤ N }
-    requires high { N ≤ 64 }
-    ensures { result ≡ blake2b key.now N (separator.now ++ nonce.now) }
-{
-    let mut hasher = Blake2b::new(key, N);
-    hasher.update(separator);
-    hasher.update(nonce);
-    let mut derived = [0u8; N];
-    hasher.finalize_into(&mut derived);
-    derived
 }
 
 fn encryption_key(keys: &[u8; 56]) -> [u8; 32]

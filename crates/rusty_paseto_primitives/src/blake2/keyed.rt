@@ -1,6 +1,7 @@
 ghost use Rattle.std.specs.Prelude.{◌≡◌, ◌≤◌, length};
 ghost use Rattle.rusty_paseto_primitives.specs.Blake2.Keyed.{blake2b};
 
+use super::block::{BLOCK_LEN, compress, hash_bytes, initial_hash, zero_padded};
 use super::hasher::Blake2b;
 
 /// The BLAKE2b hash of `message`, of `N` bytes, 1 to 64, under a key of up to 64 bytes (RFC 7693). The
@@ -11,9 +12,30 @@ pub fn blake2b_keyed<const N: usize>(key: &[u8], message: &[u8]) -> [u8; N]
     requires high { N ≤ 64 }
     ensures { result ≡ blake2b key.now N message.now }
 {
+    if !key.is_empty() && !message.is_empty() && message.len() <= BLOCK_LEN {
+        return of_two_blocks(key, message);
+    }
     let mut hasher = Blake2b::new(key, N);
     hasher.update(message);
     let mut digest = [0; N];
     hasher.finalize_into(&mut digest);
+    digest
+}
+
+// The hash where the key's block and one more are all blocks, so that no hasher has to hold any back.
+fn of_two_blocks<const N: usize>(key: &[u8], message: &[u8]) -> [u8; N]
+    requires key { 1 ≤ length key.now }
+    requires key_len { length key.now ≤ 64 }
+    requires message { 1 ≤ length message.now }
+    requires message_len { length message.now ≤ 128 }
+    requires high { N ≤ 64 }
+    ensures { result ≡ blake2b key.now N message.now }
+{
+    let mut hash = initial_hash(N, key.len());
+    compress(&mut hash, &zero_padded(key), BLOCK_LEN as u128, false);
+    let end = BLOCK_LEN + message.len();
+    compress(&mut hash, &zero_padded(message), end as u128, true);
+    let mut digest = [0; N];
+    digest.copy_from_slice(&hash_bytes(&hash)[..N]);
     digest
 }
