@@ -2,6 +2,7 @@
 
 mod ciphers;
 mod codes;
+mod cuts;
 mod digests;
 mod slow_blake2b;
 mod streams;
