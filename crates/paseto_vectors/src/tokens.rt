@@ -4,6 +4,8 @@ mod asked;
 mod assembly;
 mod assertions;
 mod calls;
+mod collisions;
+mod damage;
 mod faults;
 mod forms;
 mod lengths;

@@ -1,0 +1,88 @@
+//! Tokens that share a nonce and a tag.
+
+use crate::kinds::{Binding, Kind, SECRET, symmetric_key};
+use rusty_paseto_core::{
+    ImplicitAssertion, Local, LocalVersion, Opening, Paseto, PasetoError, PasetoSymmetricKey, V1,
+    V3, V4,
+};
+use std::alloc::Global;
+use std::test::Fail;
+
+// A token that is to be opened with no footer and no implicit assertion.
+fn opening_of<'a, V: LocalVersion>(
+    key: &'a PasetoSymmetricKey<V, Local>,
+    token: &'a str,
+) -> Opening<'a, V> {
+    Opening {
+        key,
+        token,
+        footer: None,
+        assertion: None,
+    }
+}
+
+// Whether these tokens open, and no two of them share a nonce and a tag for two contents.
+fn is_none<V: LocalVersion>(alloc: Global, tokens: [&str; 3]) -> Result<bool, PasetoError> {
+    let key = symmetric_key::<V>(&SECRET);
+    let openings = [
+        opening_of(&key, tokens[0]),
+        opening_of(&key, tokens[1]),
+        opening_of(&key, tokens[2]),
+    ];
+    Ok(Paseto::<V, Local>::tag_collision(alloc, &openings)?.is_none())
+}
+
+#[test]
+fn none_of_no_tokens(rt: HostRuntime) -> Result<(), Fail> {
+    let alloc = rt.alloc();
+    assert!(rt; Paseto::<V1, Local>::tag_collision(alloc, &[])?.is_none());
+    assert!(rt; Paseto::<V3, Local>::tag_collision(alloc, &[])?.is_none());
+    assert!(rt; Paseto::<V4, Local>::tag_collision(alloc, &[])?.is_none());
+    Ok(())
+}
+
+// The two forms of one text share a nonce and a tag, and one content.
+#[test]
+fn none_of_two_forms_and_another_text(rt: HostRuntime) -> Result<(), Fail> {
+    let alloc = rt.alloc();
+    'kinds: for kind in [Kind::V1Local, Kind::V3Local, Kind::V4Local] {
+        let bare = kind.make(alloc, "", Binding::NONE)?;
+        let with_section = kind.make(alloc, "", Binding::of_footer(Some("")))?;
+        let other = kind.make(alloc, "a", Binding::NONE)?;
+        let tokens = [bare.as_str(), with_section.as_str(), other.as_str()];
+        let none = match kind {
+            Kind::V1Local => is_none::<V1>(alloc, tokens)?,
+            Kind::V3Local => is_none::<V3>(alloc, tokens)?,
+            _ => is_none::<V4>(alloc, tokens)?,
+        };
+        assert!(rt; none, "{kind:?}");
+    }
+    Ok(())
+}
+
+#[test]
+fn version_1_has_no_assertion(rt: HostRuntime) -> Result<(), Fail> {
+    let alloc = rt.alloc();
+    let token = Kind::V1Local.make(alloc, "hello", Binding::NONE)?;
+    let key = symmetric_key::<V1>(&SECRET);
+    let mut asserting = opening_of(&key, token.as_str());
+    asserting.assertion = Some(ImplicitAssertion::from("x"));
+    let openings = [asserting, opening_of(&key, token.as_str())];
+    assert!(rt; Paseto::<V1, Local>::tag_collision(alloc, &openings)?.is_none());
+    Ok(())
+}
+
+#[test]
+fn the_first_that_does_not_open(rt: HostRuntime) -> Result<(), Fail> {
+    let alloc = rt.alloc();
+    let token = Kind::V4Local.make(alloc, "hello", Binding::NONE)?;
+    let key = symmetric_key::<V4>(&SECRET);
+    let openings = [
+        opening_of(&key, token.as_str()),
+        opening_of(&key, "v3.local.AAAA"),
+        opening_of(&key, "v4.local"),
+    ];
+    let answer = Paseto::<V4, Local>::tag_collision(alloc, &openings);
+    assert!(rt; matches!(&answer, Err(PasetoError::WrongHeader)));
+    Ok(())
+}
