@@ -129,8 +129,12 @@ pub record IsTagOfTwo (design : Design) (key message other_key other_message : L
   pub apart : (key ≢ other_key) ⊎ (message ≢ other_message)
   pub tag : design.tag key message ≡ design.tag other_key other_message
 
--- each collision shows a tag of two authentication keys or encodings, or else two keys that are split alike
+-- each collision shows something of two authentication keys or two encodings that have one tag; or else both
+-- are the same, and the two keys are split alike
 abbrev pub CollisionsShow : Design → (List ℕ → List ℕ → List ℕ → List ℕ → Type 0) → Type 0
 CollisionsShow design Shown = (openings : List Case) (found : TagCollision) (c : IsCollision design openings found)
-    → Shown (tag_key design c.first c.share.one) found.first (tag_key design c.second c.share.other) found.second
-    ⊎ IsSplitCollision design c.share.one.nonce c.first.binding.key c.second.binding.key
+    → let key = tag_key design c.first c.share.one in
+    let other_key = tag_key design c.second c.share.other in
+    Shown key found.first other_key found.second
+    ⊎ ((key ≡ other_key) × (found.first ≡ found.second)
+    × IsSplitCollision design c.share.one.nonce c.first.binding.key c.second.binding.key)
