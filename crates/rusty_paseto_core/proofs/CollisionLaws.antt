@@ -98,13 +98,17 @@ module _ (design : Design) (law : IsLawful design) where
         | inl keys ↦
             elim (cases_lists found.first found.second) [
               | inr messages ↦ inl (record { apart = inr messages; tag = one_tag })
-              | inl messages ↦ inr (keys, messages, record {
-                apart = λ same. share.apart (encoded_alike c.first c.second share.one share.other same share.nonce
-                    (subst (λ (m : List ℕ). length m < 2 ^ 64) c.first_encoding c.first_fits)
-                    (subst (λ (m : List ℕ). length m < 2 ^ 64) c.second_encoding c.second_fits)
-                    (sym c.first_encoding ∙ messages ∙ c.second_encoding));
-                one_key = keys ∙ ap (design.authentication_key c.second.binding.key) (sym share.nonce);
-              })
+              | inl messages ↦ inr (
+                keys,
+                messages,
+                record {
+                  apart = λ same. share.apart (encoded_alike c.first c.second share.one share.other same share.nonce
+                      (subst (λ (m : List ℕ). length m < 2 ^ 64) c.first_encoding c.first_fits)
+                      (subst (λ (m : List ℕ). length m < 2 ^ 64) c.second_encoding c.second_fits)
+                      (sym c.first_encoding ∙ messages ∙ c.second_encoding));
+                  one_key = keys ∙ ap (design.authentication_key c.second.binding.key) (sym share.nonce);
+                },
+              )
             ]
       ]
 

@@ -52,9 +52,11 @@ module _ {X C : Type 0} (seal : X → List ℕ) (content : X → C) (xs : List X
     alike = more (λ y. seal y ≡ s → content y ≡ content known.first) i x here known.alike (some p known.first refl known.is_there);
   }
 
-  -- what is found for a seal is its first
-  pub found_first : (m : BTreeMap (Bor (List ℕ)) ℕ) (i : ℕ) (s : List ℕ) (p : ℕ) → AreKnown i m → at_bytes s m ≡ Some p → IsFirstOf i s p
-  found_first m i s p known found = subst (IsKnown i s) found (known s)
+  -- what a map answered for the bytes of a seal is its first
+  pub found_first : (m : BTreeMap (Bor (List ℕ)) ℕ) (i : ℕ) (s bytes : List ℕ) (p : ℕ) (answer : Option ℕ) → AreKnown i m
+      → answer ≡ at_bytes bytes m → bytes ≡ s → answer ≡ Some p → IsFirstOf i s p
+  found_first m i s bytes p answer known looked same found =
+      subst (IsKnown i s) (sym (looked ∙ ap (λ (z : List ℕ). at_bytes z m) same) ∙ found) (known s)
 
   -- nothing is known of nothing
   pub none_known : (m : BTreeMap (Bor (List ℕ)) ℕ) → m.entries ≡ [] → AreKnown 0 m

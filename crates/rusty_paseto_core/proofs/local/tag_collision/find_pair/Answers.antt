@@ -13,27 +13,30 @@ places-init g c = none_known _ _ _ c.new-firsts.result c.new-firsts.ensures.empt
 pub offset_bounds-opened-first : goal.offset_bounds-opened-first
 offset_bounds-opened-first g c =
     let seal = c.index-opened-place.result.seal.items in
-    let looked : at_bytes seal c.places.firsts ≡ c.in_ok-first.field-0 =
-    sym (c.in_ok-first.ensures.old ∙ ap (λ (s : List ℕ). at_bytes s c.places.firsts) c.as_slice-seal.ensures.value) in
-    let own = found_first seal_in (vouched_in g.V.LocalSuite.design) c.args.opened.now c.places.firsts c.places.place seal c.in-Some.first c.places.invariant (looked ∙ c.in-Some.is) in
+    let own =
+    found_first seal_in (vouched_in g.V.LocalSuite.design) c.args.opened.now c.places.firsts c.places.place seal
+    c.as_slice-seal.result.now c.in-Some.first c.in_ok-first.field-0 c.places.invariant
+    c.in_ok-first.ensures.old c.as_slice-seal.ensures.value c.in-Some.is in
     let low : c.in-Some.first < length c.args.opened.now = slice_get_within c.args.opened.now c.in-Some.first own.first own.is_there in
     omega arith
 
 pub bounds-opened-first : goal.bounds-opened-first
 bounds-opened-first g c =
     let seal = c.index-opened-place.result.seal.items in
-    let looked : at_bytes seal c.places.firsts ≡ c.in_ok-first.field-0 =
-    sym (c.in_ok-first.ensures.old ∙ ap (λ (s : List ℕ). at_bytes s c.places.firsts) c.as_slice-seal.ensures.value) in
-    let own = found_first seal_in (vouched_in g.V.LocalSuite.design) c.args.opened.now c.places.firsts c.places.place seal c.in-Some.first c.places.invariant (looked ∙ c.in-Some.is) in
+    let own =
+    found_first seal_in (vouched_in g.V.LocalSuite.design) c.args.opened.now c.places.firsts c.places.place seal
+    c.as_slice-seal.result.now c.in-Some.first c.in_ok-first.field-0 c.places.invariant
+    c.in_ok-first.ensures.old c.as_slice-seal.ensures.value c.in-Some.is in
     slice_get_within c.args.opened.now c.in-Some.first own.first own.is_there
 
 pub returns-then-not-vouch_alike : goal.returns-then-not-vouch_alike
 returns-then-not-vouch_alike g c =
     let kept = c.index-opened-place.result in
     let seal = kept.seal.items in
-    let looked : at_bytes seal c.places.firsts ≡ c.in_ok-first.field-0 =
-    sym (c.in_ok-first.ensures.old ∙ ap (λ (s : List ℕ). at_bytes s c.places.firsts) c.as_slice-seal.ensures.value) in
-    let own = found_first seal_in (vouched_in g.V.LocalSuite.design) c.args.opened.now c.places.firsts c.places.place seal c.in-Some.first c.places.invariant (looked ∙ c.in-Some.is) in
+    let own =
+    found_first seal_in (vouched_in g.V.LocalSuite.design) c.args.opened.now c.places.firsts c.places.place seal
+    c.as_slice-seal.result.now c.in-Some.first c.in_ok-first.field-0 c.places.invariant
+    c.in_ok-first.ensures.old c.as_slice-seal.ensures.value c.in-Some.is in
     let same : c.index-opened-first.result ≡ own.first =
     c.index-opened-first.is ∙ get_or_from_slice_get c.args.opened.now c.in-Some.first own.first c.index-opened-first.result own.is_there in
     record {
@@ -61,7 +64,10 @@ places-preserved g c =
     ∙ ap (λ (z : List ℕ). cond (is_eq (slice_cmp nat_cmp z s)) (Some c.places.place) (at_bytes s c.places.firsts)) c.as_slice-seal.ensures.value in
     elim c.match-branch-2.branch [
       | in-Some+else-not-vouch_alike+in_ok-insert w ↦
-          let own = found_first seal_in (vouched_in g.V.LocalSuite.design) c.args.opened.now c.places.firsts c.places.place seal w.in-Some.first c.places.invariant (looked ∙ w.in-Some.is) in
+          let own =
+          found_first seal_in (vouched_in g.V.LocalSuite.design) c.args.opened.now c.places.firsts c.places.place seal
+          c.as_slice-seal.result.now w.in-Some.first c.in_ok-first.field-0 c.places.invariant
+          c.in_ok-first.ensures.old c.as_slice-seal.ensures.value w.in-Some.is in
           let same : w.index-opened-first.result ≡ own.first =
           w.index-opened-first.is ∙ get_or_from_slice_get c.args.opened.now w.in-Some.first own.first w.index-opened-first.result own.is_there in
           let alike = w.vouch_alike.ensures.0 w.if-not-vouch_alike.false in
