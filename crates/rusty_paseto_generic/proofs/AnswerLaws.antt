@@ -1,9 +1,8 @@
 -- The laws of builders and parsers.
-use Rattle.std.proofs.Common.{◌≡◌, ◌⊎◌, inl, inr, ℕ, Bool, List, Result, Ok, Err, IfOk, IfErr, length}
+use Rattle.std.proofs.Common.{◌⊎◌, inl, inr, ℕ, List, Result, Ok, Err, IfOk, IfErr}
 use Rattle.serde_json.specs.Data.{Members, object}
 use Rattle.serde_json.specs.View.{view}
 use Rattle.serde_json.specs.declared.value.Value.{Value}
-use Rattle.rusty_paseto_core.specs.Laws.{IsText}
 use Rattle.rusty_paseto_core.specs.Framing.{IsHeader}
 use Rattle.rusty_paseto_core.specs.Local.{Design, IsLawful}
 use Rattle.rusty_paseto_core.specs.Public.{PublicDesign, header, public}

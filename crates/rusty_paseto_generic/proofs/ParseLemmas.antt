@@ -1,5 +1,5 @@
 -- What a parser answers for a text and for a token.
-use Rattle.std.proofs.Common.{◌≡◌, ◌⊎◌, inl, inr, ⊎_elim, ℕ, List, Bool, true, false, not, ◌||◌, Option, Some, None, MatchOption, Result, Ok, Err, IfOk, IfErr, MatchResult, String, Global, Ordering, Less, Equal, Greater, string_bytes, nat_cmp, refl, sym, ap, ◌∙◌}
+use Rattle.std.proofs.Common.{◌≡◌, ◌⊎◌, inl, inr, ⊎_elim, ℕ, List, Bool, true, false, not, Option, Some, None, Result, Ok, Err, IfOk, IfErr, MatchResult, String, Global, Ordering, Less, Equal, Greater, string_bytes, nat_cmp, refl}
 use Rattle.std.specs.Cmp.Lexicographic.{slice_cmp}
 use Rattle.std.specs.Ordering.{match_ordering}
 use Rattle.std.proofs.lemmas.Bool.{or_parts}
@@ -9,7 +9,7 @@ use Rattle.serde_json.specs.Read.{read}
 use Rattle.serde_json.specs.View.{view}
 use Rattle.serde_json.specs.Written.{has_float, members_have_float}
 use Rattle.serde_json.specs.declared.value.Value.{Value}
-use Rattle.rusty_paseto_claims.specs.Error.{Fault, IsFault}
+use Rattle.rusty_paseto_claims.specs.Error.{Fault}
 use Rattle.rusty_paseto_claims.specs.Whole.{IsOdd, is_whole}
 use Rattle.rusty_paseto_claims.specs.declared.PasetoClaimError.{PasetoClaimError}
 use Rattle.rusty_paseto_claims.specs.declared.PasetoClaimError.TheVariants as Claim
@@ -21,7 +21,7 @@ use Rattle.rusty_paseto_core.specs.declared.PasetoError.TheVariants as Cipher
 use Rattle.rusty_paseto_generic.specs.Error.Parser.{IsMemory, of_cipher, of_claim}
 use Rattle.rusty_paseto_generic.specs.Parsers.Parsing.{IsCheckFault, IsFirstFault, IsOpenedAnswer, IsParseAnswer, IsParsed, IsTextAnswer, IsTextFault, IsValueOf, assertion_in}
 use Rattle.rusty_paseto_generic.specs.Parsers.Reading.{IsReadAs, IsReadingFault}
-use Rattle.rusty_paseto_generic.specs.Parsers.Rules.{Rule, Rules}
+use Rattle.rusty_paseto_generic.specs.Parsers.Rules.{Rules}
 use Rattle.rusty_paseto_generic.specs.Parsers.Verdicts.{Fails, IsFirstFailing, Passes, PassesAll}
 use Rattle.rusty_paseto_generic.specs.Validator.{IfFault, Verdict}
 use Rattle.rusty_paseto_generic.specs.declared.error.GenericParserError.{GenericParserError}

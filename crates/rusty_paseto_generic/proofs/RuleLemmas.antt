@@ -1,5 +1,5 @@
 -- What is checked under each key, after each call on the map of checks.
-use Rattle.std.proofs.Common.{◌≡◌, ℕ, List, [], ◌∷◌, Bool, true, false, cond, Option, Some, None, IsSome, is_some, String, BTreeMap, Global, nat_cmp, string_bytes, string_cmp, refl, sym}
+use Rattle.std.proofs.Common.{◌≡◌, ℕ, List, [], ◌∷◌, Bool, true, false, cond, Option, Some, None, IsSome, is_some, String, BTreeMap, Global, nat_cmp, string_bytes, string_cmp, refl}
 use Rattle.std.specs.BTreeMap.{UpdatesBy, WritesThrough, get_by_text}
 use Rattle.std.specs.Cmp.Lexicographic.{slice_cmp}
 use Rattle.std.specs.Option.{option_map_or}

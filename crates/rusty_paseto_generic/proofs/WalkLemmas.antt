@@ -1,5 +1,5 @@
 -- A walk over the keys in byte order comes to the first failing one.
-use Rattle.std.proofs.Common.{◌≡◌, ◌⊎◌, inl, inr, ℕ, List, [], ◌∷◌, Bool, true, false, cond, is_eq, Option, Some, None, String, Global, Ordering, Less, Equal, Greater, nat_cmp, string_bytes, string_cmp, refl, sym, ap, ◌∙◌}
+use Rattle.std.proofs.Common.{◌≡◌, ◌⊎◌, inl, inr, ℕ, List, [], ◌∷◌, cond, is_eq, Option, Some, None, String, Global, Ordering, Less, Equal, Greater, nat_cmp, string_bytes, string_cmp, refl}
 use Rattle.std.specs.Prelude.{⊤, MatchOption}
 use Rattle.std.specs.BTreeMap.{is_at}
 use Rattle.std.specs.Cmp.Lexicographic.{slice_cmp}

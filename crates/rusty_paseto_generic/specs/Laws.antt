@@ -1,5 +1,5 @@
 -- Laws of builders and parsers.
-use Rattle.std.specs.Prelude.{◌≡◌, ◌≤◌, ℕ, Bool, List, Option, Some, Result, length}
+use Rattle.std.specs.Prelude.{◌≡◌, ◌≤◌, ℕ, Bool, List, Some, Result, length}
 use Rattle.serde_json.specs.Data.{Members, members_depth, object}
 use Rattle.serde_json.specs.declared.value.Value.{Value}
 use Rattle.rusty_paseto_core.specs.Context.{Binding}

@@ -1,6 +1,5 @@
 use Rattle.std.proofs.lemmas.Result.{err_from_is_err_and}
 use Rattle.serde_json.specs.View.{view}
-use Rattle.rusty_paseto_generic.specs.Parsers.Held.{verdicts_of}
 use Rattle.rusty_paseto_generic.proofs.ParseLemmas.{checked_fault}
 use Rattle.rusty_paseto_generic.proofs.parsers.parsing.parse_text.Goals as goal
 

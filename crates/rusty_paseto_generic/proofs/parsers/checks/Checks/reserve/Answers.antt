@@ -1,4 +1,4 @@
-use Rattle.std.proofs.Common.{◌≡◌, None, Some, refl, sym, ◌∙◌}
+use Rattle.std.proofs.Common.{◌≡◌, None, refl, sym, ◌∙◌}
 use Rattle.std.specs.BTreeMap.{get_by_text}
 use Rattle.rusty_paseto_generic.proofs.RuleLemmas.{Puts, kept, none_from_test, reserved}
 use Rattle.rusty_paseto_generic.proofs.parsers.checks.Checks.reserve.Goals as goal
