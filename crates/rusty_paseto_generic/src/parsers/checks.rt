@@ -18,21 +18,21 @@ use std::collections::BTreeMap;
 
 /// What judges the value under a key, in place of a stored value.
 #[derive(Drop)]
-pub enum Judge<B> {
+pub(crate) enum Judge<B> {
     /// A validator that the caller brought.
     Boxed(B),
 }
 
 /// What is checked under a key. With neither a stored value nor a judge, it is nothing.
 #[derive(Drop)]
-pub struct Check<B> {
+pub(crate) struct Check<B> {
     pub(crate) stored: Option<Value>,
     pub(crate) judge: Option<Judge<B>>,
 }
 
 /// Checks by their keys.
 #[derive(Drop)]
-pub struct Checks<B> {
+pub(crate) struct Checks<B> {
     alloc: Global,
     pub(crate) entries: BTreeMap<String, Check<B>>,
 }
