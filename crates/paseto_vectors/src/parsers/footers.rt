@@ -6,11 +6,11 @@ use rusty_paseto_core::{Footer, ImplicitAssertion, Local, PasetoError, V4};
 use rusty_paseto_generic::{GenericParser, GenericParserError};
 use std::test::Fail;
 
-// Whether the core refused the token so.
-fn is_cipher_error(answer: &Answer, is_source: fn(&PasetoError) -> bool) -> bool {
+// Why the core refused the token, where it did.
+fn source_of(answer: &Answer) -> Option<&PasetoError> {
     match answer {
-        Err(GenericParserError::CipherError { source }) => is_source(source),
-        _ => false,
+        Err(GenericParserError::CipherError { source }) => Some(source),
+        _ => None,
     }
 }
 
@@ -24,7 +24,7 @@ fn the_expected_footer(rt: HostRuntime) -> Result<(), Fail> {
         assert!(rt; answer.is_ok(), "{kind:?}");
         let other = Expected::bound(Binding::of_footer(Some("key-2")));
         let answer = kind.parse(alloc, token.as_str(), other)?;
-        let told = is_cipher_error(&answer, |e| matches!(e, PasetoError::FooterInvalid));
+        let told = matches!(source_of(&answer), Some(PasetoError::FooterInvalid));
         assert!(rt; told, "{kind:?}");
     }
     Ok(())
@@ -39,9 +39,10 @@ fn the_expected_assertion(rt: HostRuntime) -> Result<(), Fail> {
         let answer = kind.parse(alloc, token.as_str(), Expected::bound(binding))?;
         assert!(rt; answer.is_ok(), "{kind:?}");
         let answer = kind.parse(alloc, token.as_str(), Expected::bound(Binding::NONE))?;
-        let told = is_cipher_error(&answer, |e| {
-            matches!(e, PasetoError::Cryption | PasetoError::InvalidSignature)
-        });
+        let told = matches!(
+            source_of(&answer),
+            Some(PasetoError::Cryption | PasetoError::InvalidSignature)
+        );
         assert!(rt; told, "{kind:?}");
     }
     Ok(())
@@ -52,10 +53,10 @@ fn no_token(rt: HostRuntime) -> Result<(), Fail> {
     let alloc = rt.alloc();
     'kinds: for kind in KINDS {
         let answer = kind.parse(alloc, "a.b", Expected::bound(Binding::NONE))?;
-        let told = is_cipher_error(&answer, |e| matches!(e, PasetoError::IncorrectSize));
+        let told = matches!(source_of(&answer), Some(PasetoError::IncorrectSize));
         assert!(rt; told, "{kind:?}");
         let answer = kind.parse(alloc, "v5.local.AAAA", Expected::bound(Binding::NONE))?;
-        let told = is_cipher_error(&answer, |e| matches!(e, PasetoError::WrongHeader));
+        let told = matches!(source_of(&answer), Some(PasetoError::WrongHeader));
         assert!(rt; told, "{kind:?}");
     }
     Ok(())
