@@ -11,7 +11,7 @@ mod whole;
 
 pub use builders::{GenericBuilder, UnboxedVersion};
 pub use error::{GenericBuilderError, GenericParserError};
-pub use parsers::GenericParser;
+pub use parsers::{GenericParser, TokenParser};
 pub use rusty_paseto_claims::{
     Audience, AudienceClaim, ClaimValue, CustomClaim, DateClaim, Expiration, ExpirationClaim,
     IssuedAt, IssuedAtClaim, Issuer, IssuerClaim, NotBefore, NotBeforeClaim, PasetoClaim,

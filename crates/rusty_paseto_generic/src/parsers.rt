@@ -7,4 +7,4 @@ mod parsing;
 mod reading;
 mod walk;
 
-pub use generic_parser::GenericParser;
+pub use generic_parser::{GenericParser, TokenParser};

@@ -18,7 +18,7 @@ use crate::builders::UnboxedVersion;
 use crate::error::GenericParserError;
 use crate::parsers::checks::{Checks, Judge};
 use crate::parsers::parsing::parse_opened;
-use crate::validator::{ValidatorFn, ValidatorMap};
+use crate::validator::ValidatorFn;
 use rusty_paseto_claims::PasetoClaim;
 use rusty_paseto_core::{
     Footer, ImplicitAssertion, ImplicitAssertionCapable, Local, Paseto, PasetoAsymmetricPublicKey,
@@ -45,16 +45,19 @@ use std::marker::PhantomData;
 /// parser.check_claim(&AudienceClaim::from("customers"))?.set_footer(Footer::from("key-1"));
 /// let claims = parser.parse(token, &key)?;
 /// ```
+pub type GenericParser<'a, V, P> = TokenParser<'a, V, P, ValidatorFn>;
+
+/// A parser whose validators are of the type `B`: a [`GenericParser`], where that is a box.
 #[derive(Drop)]
-pub struct GenericParser<'a, V, P> {
+pub struct TokenParser<'a, V, P, B> {
     version: PhantomData<V>,
     purpose: PhantomData<P>,
-    checks: Checks<ValidatorFn>,
+    checks: Checks<B>,
     footer: Option<Footer<'a>>,
     implicit_assertion: Option<ImplicitAssertion<'a>>,
 }
 
-impl<'a, V: VersionTrait, P: PurposeTrait> GenericParser<'a, V, P> {
+impl<'a, V: VersionTrait, P: PurposeTrait, B: Drop> TokenParser<'a, V, P, B> {
     /// A parser with no checks, no footer and no implicit assertion. All its memory is asked of the
     /// allocator, and none is taken yet.
     pub fn new(alloc: Global) -> Self
@@ -62,7 +65,7 @@ impl<'a, V: VersionTrait, P: PurposeTrait> GenericParser<'a, V, P> {
         ensures footer { result.footer ≡ None }
         ensures implicit_assertion { result.implicit_assertion ≡ None }
     {
-        GenericParser {
+        TokenParser {
             version: PhantomData,
             purpose: PhantomData,
             checks: Checks::new(alloc),
@@ -77,7 +80,7 @@ impl<'a, V: VersionTrait, P: PurposeTrait> GenericParser<'a, V, P> {
         ensures footer { result.footer ≡ None }
         ensures implicit_assertion { result.implicit_assertion ≡ None }
     {
-        GenericParser::new(alloc)
+        TokenParser::new(alloc)
     }
 
     /// Stores a claim's JSON, as it is, under its key, the empty one too: `parse` then asks that the token's
@@ -120,7 +123,7 @@ impl<'a, V: VersionTrait, P: PurposeTrait> GenericParser<'a, V, P> {
     pub fn put_validator<C: PasetoClaim>(
         &mut self,
         claim: &C,
-        validator: ValidatorFn,
+        validator: B,
     ) -> Result<(), GenericParserError>
         ensures ok { OnOk result (IsStored (C.key claim.now) (C.json claim.now) (with_both (Judge.Boxed validator))
             (rules_of self.old.checks) (rules_of self.new.checks)) }
@@ -136,7 +139,7 @@ impl<'a, V: VersionTrait, P: PurposeTrait> GenericParser<'a, V, P> {
     pub fn validate_claim<C: PasetoClaim>(
         &mut self,
         claim: &C,
-        validator: ValidatorFn,
+        validator: B,
     ) -> Result<&mut Self, GenericParserError>
         ensures lent { IfOk result (λ parser. parser.ghost_name ≡ self.entry.ghost_name) }
         ensures ok { IfOk result (λ parser. IsStored (C.key claim.now) (C.json claim.now) (with_both (Judge.Boxed validator))
@@ -184,7 +187,10 @@ impl<'a, V: VersionTrait, P: PurposeTrait> GenericParser<'a, V, P> {
     /// Stores all validators, each under its key, which from now on they judge alone. A key that is there
     /// gets the new validator and keeps its stored value. Nothing but memory is refused, and none of the
     /// validators is then stored.
-    pub fn put_validators(&mut self, validators: ValidatorMap) -> Result<(), GenericParserError>
+    pub fn put_validators(
+        &mut self,
+        validators: BTreeMap<String, B>,
+    ) -> Result<(), GenericParserError>
         ensures ok { OnOk result (AreSame (rules_of self.new.checks) (all_judged (judges_of validators.entries) (rules_of self.old.checks))) }
         ensures footer { self.new.footer ≡ self.old.footer }
         ensures implicit_assertion { self.new.implicit_assertion ≡ self.old.implicit_assertion }
@@ -197,7 +203,7 @@ impl<'a, V: VersionTrait, P: PurposeTrait> GenericParser<'a, V, P> {
     /// Stores all validators, as `put_validators` does, and lends the parser back.
     pub fn extend_validation_claims(
         &mut self,
-        validators: ValidatorMap,
+        validators: BTreeMap<String, B>,
     ) -> Result<&mut Self, GenericParserError>
         ensures lent { IfOk result (λ parser. parser.ghost_name ≡ self.entry.ghost_name) }
         ensures ok { IfOk result (λ parser. AreSame (rules_of parser.now.checks)
@@ -228,7 +234,7 @@ impl<'a, V: VersionTrait, P: PurposeTrait> GenericParser<'a, V, P> {
     }
 }
 
-impl<'a, V: ImplicitAssertionCapable, P: PurposeTrait> GenericParser<'a, V, P> {
+impl<'a, V: ImplicitAssertionCapable, P: PurposeTrait, B: Drop> TokenParser<'a, V, P, B> {
     /// The implicit assertion that a token is to be bound to: what was set last, and the empty one before. No
     /// memory is taken.
     pub fn get_implicit_assertion(&self) -> ImplicitAssertion<'_>
@@ -247,7 +253,7 @@ impl<'a, V: ImplicitAssertionCapable, P: PurposeTrait> GenericParser<'a, V, P> {
     }
 }
 
-impl<V: UnboxedVersion> GenericParser<'_, V, Local> {
+impl<V: UnboxedVersion> TokenParser<'_, V, Local, ValidatorFn> {
     /// Opens a token under the parser's footer and, in the versions 3 and 4, its implicit assertion, and answers
     /// the value of its text, which passes all checks.
     ///
@@ -272,19 +278,19 @@ impl<V: UnboxedVersion> GenericParser<'_, V, Local> {
     }
 }
 
-impl GenericParser<'_, V2, Local> {
+impl TokenParser<'_, V2, Local, ValidatorFn> {
     /// Opens a token by the caller's box under the parser's footer, and answers the value of its text, which
     /// passes all checks. The faults are those of the other versions' `parse`, in the same order.
     ///
     /// Source: PASETO specification, "Version 2", "Decrypt".
-    pub fn parse<B: SealedBox>(
+    pub fn parse<S: SealedBox>(
         &self,
-        sealed_box: &B,
+        sealed_box: &S,
         token: &str,
         key: &PasetoSymmetricKey<V2, Local>,
     ) -> Result<Value, GenericParserError>
         ensures { let binding = binding_of key.now self.now.footer None in
-            IsParseAnswer (box_opening B.sealing binding) (verdicts_of (λ b. verdict b) self.now.checks) token.now result }
+            IsParseAnswer (box_opening S.sealing binding) (verdicts_of (λ b. verdict b) self.now.checks) token.now result }
     {
         let alloc = self.checks.allocator();
         let opened = Paseto::<V2, Local>::try_decrypt(alloc, sealed_box, token, key, self.footer);
@@ -292,7 +298,7 @@ impl GenericParser<'_, V2, Local> {
     }
 }
 
-impl<V> GenericParser<'_, V, Public> {
+impl<V> TokenParser<'_, V, Public, ValidatorFn> {
     /// Verifies a token by the caller's scheme under the parser's footer and, in the versions 3 and 4, its
     /// implicit assertion, and answers the value of its text, which passes all checks.
     ///

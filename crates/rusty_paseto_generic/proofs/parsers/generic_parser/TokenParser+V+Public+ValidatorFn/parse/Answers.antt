@@ -1,5 +1,5 @@
 use Rattle.rusty_paseto_generic.proofs.ParseLemmas.{is_assertion_in, parse_answer}
-use Rattle.rusty_paseto_generic.proofs.parsers.generic_parser.GenericParser+V+Public.parse.Goals as goal
+use Rattle.rusty_paseto_generic.proofs.parsers.generic_parser.TokenParser+V+Public+ValidatorFn.parse.Goals as goal
 
 pub returns : goal.returns
 returns g c =
