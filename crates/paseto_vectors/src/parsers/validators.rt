@@ -1,7 +1,6 @@
 //! Validators.
 
-ghost use Rattle.std.specs.Prelude.{None, Some, []};
-ghost use Rattle.serde_json.specs.Written.{compact_text};
+ghost use Rattle.std.specs.Prelude.{None, Some, [], codes};
 ghost use Rattle.rusty_paseto_claims.specs.Error.{invalid};
 ghost use Rattle.paseto_vectors.specs.Validators.{refused_null};
 
@@ -38,16 +37,16 @@ impl Validator for RefusesNull {
     }
 }
 
-/// A validator that refuses each value, and tells it.
+/// A validator that refuses each value, and says that it is 4.
 #[derive(Drop)]
 pub(crate) struct Tells;
 
 impl Validator for Tells {
-    ghost verdict = { λ _ key value. Some (invalid key [] (compact_text value)) };
+    ghost verdict = { λ _ key value. Some (invalid key [] (codes "4")) };
 
-    fn validate(&self, alloc: Global, key: &str, value: &Value) -> Result<(), PasetoClaimError> {
+    fn validate(&self, alloc: Global, key: &str, _value: &Value) -> Result<(), PasetoClaimError> {
         let key = String::from_str(alloc, key)?;
-        let told = value.to_string(alloc)?;
+        let told = String::from_str(alloc, "4")?;
         Err(PasetoClaimError::Invalid(key, String::new(alloc), told))
     }
 }
