@@ -4,6 +4,7 @@ use crate::kinds::{ASSERTED_KINDS, Binding, KINDS};
 use crate::parsers::kinds::{Answer, Expected};
 use rusty_paseto_core::{Footer, ImplicitAssertion, Local, PasetoError, V4};
 use rusty_paseto_generic::{GenericParser, GenericParserError};
+use std::process::Abort;
 use std::test::Fail;
 
 // Why the core refused the token, where it did.
@@ -62,16 +63,23 @@ fn no_token(rt: HostRuntime) -> Result<(), Fail> {
     Ok(())
 }
 
+// The parser has this footer and this implicit assertion.
+fn check_set(
+    rt: &impl Abort,
+    parser: &GenericParser<'_, V4, Local>,
+    footer: &str,
+    assertion: &str,
+) {
+    assert_eq!(rt; parser.get_footer().as_str(), footer);
+    assert_eq!(rt; parser.get_implicit_assertion().as_str(), assertion);
+}
+
 #[test]
-fn what_was_set_last(rt: HostRuntime) -> Result<(), Fail> {
-    let mut parser = GenericParser::<V4, Local>::default(rt.alloc());
-    assert_eq!(rt; parser.get_footer().as_str(), "");
-    assert_eq!(rt; parser.get_implicit_assertion().as_str(), "");
-    parser
-        .set_footer(Footer::from("key-1"))
-        .set_implicit_assertion(ImplicitAssertion::from("more"))
-        .set_footer(Footer::from("key-2"));
-    assert_eq!(rt; parser.get_footer().as_str(), "key-2");
-    assert_eq!(rt; parser.get_implicit_assertion().as_str(), "more");
-    Ok(())
+fn what_was_set_last(rt: HostRuntime) {
+    let mut parser = GenericParser::<V4, Local>::new(rt.alloc());
+    check_set(&rt, &parser, "", "");
+    parser.set_footer(Footer::from("key-1"));
+    parser.set_implicit_assertion(ImplicitAssertion::from("more"));
+    parser.set_footer(Footer::from("key-2"));
+    check_set(&rt, &parser, "key-2", "more");
 }
