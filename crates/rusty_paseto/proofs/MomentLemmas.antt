@@ -1,8 +1,8 @@
 -- Facts about moments and their digits.
-use Rattle.std.proofs.Common.{◌≡◌, ◌≢◌, ◌≤ℤ◌, ◌++◌, ◌+◌, ◌-◌, ◌/◌, ◌%◌, MatchBool, Bool, true, false, ℕ, zero, suc, ℤ, pos, List, [], ◌∷◌, sym, ap, subst, refl, ◌∙◌, arith}
+use Rattle.std.proofs.Common.{◌≡◌, ◌≢◌, ◌≤ℤ◌, ◌++◌, ◌+◌, ◌-◌, ◌/◌, ◌%◌, MatchBool, Bool, true, false, ℕ, zero, suc, ℤ, pos, List, [], ◌∷◌, sym, subst, refl, ◌∙◌, arith}
 use Rattle.std.proofs.lemmas.List.{append-nil}
 use Rattle.jiff.specs.Types.{DateTime, Timestamp}
-use Rattle.jiff.specs.Words.{civil_nanos, IsTimestampNanos}
+use Rattle.jiff.specs.Words.{IsTimestampNanos}
 use Rattle.jiff.proofs.Family.{same_datetime}
 use Rattle.rusty_paseto.specs.Moment.{FitsDefault, HasShortYear, IsCivil, digits, hour_later, significant}
 

@@ -1,1 +1,3 @@
 pub mod Moment
+pub mod PasetoBuilder
+pub mod Held

@@ -31,6 +31,14 @@ pub(crate) fn an_hour_later(now: Timestamp) -> Result<Timestamp, Error>
     Timestamp::from_nanosecond(now.as_nanosecond() + HOUR)
 }
 
+/// The moment an hour after one that fits a default builder.
+pub(crate) fn hour_after(now: Timestamp) -> Timestamp
+    requires { FitsDefault now }
+    ensures { result.nanosecond ≡ hour_later now }
+{
+    an_hour_later(now).unwrap()
+}
+
 // Whether the year has four digits and no sign.
 fn has_short_year(moment: Timestamp) -> bool
     ensures { MatchBool result (HasShortYear moment.nanosecond) (¬ HasShortYear moment.nanosecond) }

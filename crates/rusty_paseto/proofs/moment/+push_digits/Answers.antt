@@ -1,4 +1,4 @@
-use Rattle.std.proofs.Common.{arith, ◌≡◌, ◌<◌, ◌++◌, ◌+◌, ◌-◌, ◌/◌, ◌%◌, [], ◌∷◌, string_bytes}
+use Rattle.std.proofs.Common.{arith, ◌<◌, ◌+◌, ◌-◌, ◌/◌, ◌%◌, [], ◌∷◌, string_bytes}
 use Rattle.std.proofs.lemmas.List.{append_assoc}
 use Rattle.rusty_paseto.specs.Moment.{digits}
 use Rattle.rusty_paseto.proofs.MomentLemmas.{digits_more}

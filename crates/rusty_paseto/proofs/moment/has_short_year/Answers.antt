@@ -1,4 +1,4 @@
-use Rattle.std.proofs.Common.{arith, ◌≡◌, ◌≤ℤ◌, pos, FitsSigned, w16}
+use Rattle.std.proofs.Common.{arith, ◌≤ℤ◌, pos}
 use Rattle.jiff.proofs.SpanFacts.{signed_arith}
 use Rattle.rusty_paseto.proofs.MomentLemmas.{short_year}
 use Rattle.rusty_paseto.proofs.moment.has_short_year.Goals as goal

@@ -1,4 +1,4 @@
-use Rattle.std.proofs.Common.{◌≡◌, ◌++◌, ◌∙◌, ap}
+use Rattle.std.proofs.Common.{◌++◌, ◌∙◌, ap}
 use Rattle.rusty_paseto.specs.Moment.{civil_text}
 use Rattle.rusty_paseto.proofs.moment.text_of.Goals as goal
 
