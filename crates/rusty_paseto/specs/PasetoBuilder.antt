@@ -4,6 +4,7 @@ use Rattle.std.specs.Prelude.{◌≡◌, ℕ, List, Bool, true, false, if◌then
 use Rattle.std.specs.Global.{Global}
 use Rattle.jiff.specs.Types.{Timestamp}
 use Rattle.serde_json.specs.Data.{Members, no_members, member, string}
+use Rattle.serde_json.specs.Find.{get_member}
 use Rattle.rusty_paseto.specs.Moment.{IsMomentText, hour_later}
 use Rattle.rusty_paseto_generic.specs.Error.{IsMemory}
 use Rattle.rusty_paseto_generic.specs.declared.error.GenericBuilderError.{GenericBuilderError}
@@ -51,6 +52,12 @@ pub record IsDefaultClaims (now : Timestamp) (claims : Members) : Type 0 where
   pub is_begin : IsMomentText now.nanosecond begin
   pub is : claims
       ≡ member expiration_key (string end) (member (codes "iat") (string begin) (member (codes "nbf") (string begin) no_members))
+
+-- what is built never expires: the expiration's key is counted, and no claim stands under it, unless a key was set
+-- again, for which nothing is built
+pub record NeverExpires (claims : Members) (keys : Counting) : Type 0 where
+  pub is_counted : keys.is_counted expiration_key ≡ true
+  pub has_none : keys.repeated ≡ None → get_member expiration_key claims ≡ None
 
 -- the error says that the key was set again
 abbrev pub IsDuplicate : Option (List ℕ) → GenericBuilderError → Type 0

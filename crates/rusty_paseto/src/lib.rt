@@ -3,9 +3,13 @@
 #![tactic(auto)]
 
 mod error;
+pub mod generic;
 mod keys;
+pub mod laws;
 mod moment;
 mod paseto_builder;
+pub mod paseto_core;
+pub mod prelude;
 mod version;
 
 pub use error::GeneralPasetoError;

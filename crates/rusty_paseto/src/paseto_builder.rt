@@ -2,6 +2,7 @@
 
 ghost use Rattle.std.specs.Prelude.{◌≡◌, ◌⊎◌, None, Some, IsSome, IfOk, IfErr, OnOk, OnErr, is_some, ℕ, List, false, string_bytes};
 ghost use Rattle.serde_json.specs.Data.{put, string};
+ghost use Rattle.serde_json.specs.Find.{get_member};
 ghost use Rattle.serde_json.specs.View.{members_view};
 ghost use Rattle.rusty_paseto_core.specs.Context.{binding_of};
 ghost use Rattle.rusty_paseto_generic.specs.Error.{IsMemory, IsOfBox, IsOfGenerator};
@@ -10,7 +11,7 @@ ghost use Rattle.rusty_paseto_generic.specs.Builders.Held.{held};
 ghost use Rattle.rusty_paseto_generic.specs.Builders.GenericBuilder.{IsBoxAnswer, IsSealed, IsSignAnswer};
 ghost use Rattle.rusty_paseto.specs.Held.{counting};
 ghost use Rattle.rusty_paseto.specs.Moment.{FitsDefault};
-ghost use Rattle.rusty_paseto.specs.PasetoBuilder.{IsDefaultClaims, IsDuplicate, IsRefusedRepeat, IsSame, acknowledged, counted, expiration_key, nothing_counted};
+ghost use Rattle.rusty_paseto.specs.PasetoBuilder.{IsDefaultClaims, IsDuplicate, IsRefusedRepeat, IsSame, NeverExpires, acknowledged, counted, expiration_key, nothing_counted};
 
 use crate::keys::Keys;
 use crate::moment::{hour_after, text_of};
@@ -142,6 +143,7 @@ impl<'a, V: VersionTrait, P: PurposeTrait> PasetoBuilder<'a, V, P> {
     pub fn put_no_expiration_danger_acknowledged(&mut self) -> Result<(), GenericBuilderError>
         ensures ok { OnOk result (held self.new.builder.claims ≡ without expiration_key (held self.old.builder.claims)) }
         ensures keys { OnOk result (IsSame (acknowledged expiration_key (counting self.old.keys)) (counting self.new.keys)) }
+        ensures never { OnOk result (NeverExpires (held self.new.builder.claims) (counting self.new.keys)) }
         ensures rest { self.new.builder.paseto ≡ self.old.builder.paseto }
         ensures err { OnErr result (held self.new.builder.claims ≡ held self.old.builder.claims) }
         ensures err_keys { OnErr result (IsSame (counting self.old.keys) (counting self.new.keys)) }
@@ -155,6 +157,7 @@ impl<'a, V: VersionTrait, P: PurposeTrait> PasetoBuilder<'a, V, P> {
     // Takes out the expiration.
     fn take_out_expiration(&mut self)
         ensures claims { held self.new.builder.claims ≡ without expiration_key (held self.old.builder.claims) }
+        ensures gone { get_member expiration_key (held self.new.builder.claims) ≡ None }
         ensures keys { self.new.keys ≡ self.old.keys }
         ensures rest { self.new.builder.paseto ≡ self.old.builder.paseto }
     {
@@ -170,6 +173,7 @@ impl<'a, V: VersionTrait, P: PurposeTrait> PasetoBuilder<'a, V, P> {
             held made.now.builder.claims ≡ without expiration_key (held self.entry.now.builder.claims)) }
         ensures keys { IfOk result (λ made.
             IsSame (acknowledged expiration_key (counting self.entry.now.keys)) (counting made.now.keys)) }
+        ensures never { IfOk result (λ made. NeverExpires (held made.now.builder.claims) (counting made.now.keys)) }
         ensures rest { IfOk result (λ made. made.now.builder.paseto ≡ self.entry.now.builder.paseto) }
         ensures fault { IfErr result IsMemory }
     {
