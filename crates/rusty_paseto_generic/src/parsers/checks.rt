@@ -21,6 +21,10 @@ use std::collections::BTreeMap;
 pub(crate) enum Judge<B> {
     /// A validator that the caller brought.
     Boxed(B),
+    /// A token has expired from the value's instant on.
+    Expiry,
+    /// A token may be used after the value's instant.
+    NotBefore,
 }
 
 /// What is checked under a key. With neither a stored value nor a judge, it is nothing.

@@ -19,6 +19,7 @@ use crate::error::GenericParserError;
 use crate::parsers::checks::{Checks, Judge};
 use crate::parsers::parsing::parse_opened;
 use crate::validator::{ValidatorFn, ValidatorMap};
+use jiff::Timestamp;
 use rusty_paseto_claims::PasetoClaim;
 use rusty_paseto_core::{
     Footer, ImplicitAssertion, ImplicitAssertionCapable, Local, Paseto, PasetoAsymmetricPublicKey,
@@ -50,6 +51,8 @@ pub struct GenericParser<'a, V, P> {
     version: PhantomData<V>,
     purpose: PhantomData<P>,
     checks: Checks<ValidatorFn>,
+    // What the checks of times judge at; without them it changes no answer.
+    moment: Timestamp,
     footer: Option<Footer<'a>>,
     implicit_assertion: Option<ImplicitAssertion<'a>>,
 }
@@ -66,6 +69,7 @@ impl<'a, V: VersionTrait, P: PurposeTrait> GenericParser<'a, V, P> {
             version: PhantomData,
             purpose: PhantomData,
             checks: Checks::new(alloc),
+            moment: Timestamp::UNIX_EPOCH,
             footer: None,
             implicit_assertion: None,
         }
@@ -89,6 +93,7 @@ impl<'a, V: VersionTrait, P: PurposeTrait> GenericParser<'a, V, P> {
     pub fn put_check<C: PasetoClaim>(&mut self, claim: &C) -> Result<(), GenericParserError>
         ensures ok { OnOk result (IsStored (C.key claim.now) (C.json claim.now) with_stored
             (rules_of self.old.checks) (rules_of self.new.checks)) }
+        ensures moment { self.new.moment ≡ self.old.moment }
         ensures footer { self.new.footer ≡ self.old.footer }
         ensures implicit_assertion { self.new.implicit_assertion ≡ self.old.implicit_assertion }
         ensures err { OnErr result (AreSame (rules_of self.new.checks) (rules_of self.old.checks)) }
@@ -105,6 +110,7 @@ impl<'a, V: VersionTrait, P: PurposeTrait> GenericParser<'a, V, P> {
         ensures lent { IfOk result (λ parser. parser.ghost_name ≡ self.entry.ghost_name) }
         ensures ok { IfOk result (λ parser. IsStored (C.key claim.now) (C.json claim.now) with_stored
             (rules_of self.entry.now.checks) (rules_of parser.now.checks)) }
+        ensures moment { IfOk result (λ parser. parser.now.moment ≡ self.entry.now.moment) }
         ensures footer { IfOk result (λ parser. parser.now.footer ≡ self.entry.now.footer) }
         ensures implicit_assertion { IfOk result (λ parser. parser.now.implicit_assertion ≡ self.entry.now.implicit_assertion) }
         ensures fault { IfErr result (IsRefusal (fault_in (whole_answer (C.key claim.now) (C.json claim.now)))) }
@@ -124,6 +130,7 @@ impl<'a, V: VersionTrait, P: PurposeTrait> GenericParser<'a, V, P> {
     ) -> Result<(), GenericParserError>
         ensures ok { OnOk result (IsStored (C.key claim.now) (C.json claim.now) (with_both (Judge.Boxed validator))
             (rules_of self.old.checks) (rules_of self.new.checks)) }
+        ensures moment { self.new.moment ≡ self.old.moment }
         ensures footer { self.new.footer ≡ self.old.footer }
         ensures implicit_assertion { self.new.implicit_assertion ≡ self.old.implicit_assertion }
         ensures err { OnErr result (AreSame (rules_of self.new.checks) (rules_of self.old.checks)) }
@@ -141,6 +148,7 @@ impl<'a, V: VersionTrait, P: PurposeTrait> GenericParser<'a, V, P> {
         ensures lent { IfOk result (λ parser. parser.ghost_name ≡ self.entry.ghost_name) }
         ensures ok { IfOk result (λ parser. IsStored (C.key claim.now) (C.json claim.now) (with_both (Judge.Boxed validator))
             (rules_of self.entry.now.checks) (rules_of parser.now.checks)) }
+        ensures moment { IfOk result (λ parser. parser.now.moment ≡ self.entry.now.moment) }
         ensures footer { IfOk result (λ parser. parser.now.footer ≡ self.entry.now.footer) }
         ensures implicit_assertion { IfOk result (λ parser. parser.now.implicit_assertion ≡ self.entry.now.implicit_assertion) }
         ensures fault { IfErr result (IsRefusal (fault_in (whole_answer (C.key claim.now) (C.json claim.now)))) }
@@ -156,6 +164,7 @@ impl<'a, V: VersionTrait, P: PurposeTrait> GenericParser<'a, V, P> {
     pub fn put_checks(&mut self, claims: BTreeMap<String, Value>) -> Result<(), GenericParserError>
         ensures ok { OnOk result (AreSame (rules_of self.new.checks) (all_stored (members_view claims.entries) (rules_of self.old.checks))) }
         ensures whole { OnOk result (first_odd (members_view claims.entries) ≡ None) }
+        ensures moment { self.new.moment ≡ self.old.moment }
         ensures footer { self.new.footer ≡ self.old.footer }
         ensures implicit_assertion { self.new.implicit_assertion ≡ self.old.implicit_assertion }
         ensures err { OnErr result (AreSame (rules_of self.new.checks) (rules_of self.old.checks)) }
@@ -173,6 +182,7 @@ impl<'a, V: VersionTrait, P: PurposeTrait> GenericParser<'a, V, P> {
         ensures ok { IfOk result (λ parser. AreSame (rules_of parser.now.checks)
             (all_stored (members_view claims.entries) (rules_of self.entry.now.checks))) }
         ensures whole { OnOk result (first_odd (members_view claims.entries) ≡ None) }
+        ensures moment { IfOk result (λ parser. parser.now.moment ≡ self.entry.now.moment) }
         ensures footer { IfOk result (λ parser. parser.now.footer ≡ self.entry.now.footer) }
         ensures implicit_assertion { IfOk result (λ parser. parser.now.implicit_assertion ≡ self.entry.now.implicit_assertion) }
         ensures fault { IfErr result (IsRefusal (odd_fault (members_view claims.entries))) }
@@ -186,6 +196,7 @@ impl<'a, V: VersionTrait, P: PurposeTrait> GenericParser<'a, V, P> {
     /// validators is then stored.
     pub fn put_validators(&mut self, validators: ValidatorMap) -> Result<(), GenericParserError>
         ensures ok { OnOk result (AreSame (rules_of self.new.checks) (all_judged (judges_of validators.entries) (rules_of self.old.checks))) }
+        ensures moment { self.new.moment ≡ self.old.moment }
         ensures footer { self.new.footer ≡ self.old.footer }
         ensures implicit_assertion { self.new.implicit_assertion ≡ self.old.implicit_assertion }
         ensures err { OnErr result (AreSame (rules_of self.new.checks) (rules_of self.old.checks)) }
@@ -202,6 +213,7 @@ impl<'a, V: VersionTrait, P: PurposeTrait> GenericParser<'a, V, P> {
         ensures lent { IfOk result (λ parser. parser.ghost_name ≡ self.entry.ghost_name) }
         ensures ok { IfOk result (λ parser. AreSame (rules_of parser.now.checks)
             (all_judged (judges_of validators.entries) (rules_of self.entry.now.checks))) }
+        ensures moment { IfOk result (λ parser. parser.now.moment ≡ self.entry.now.moment) }
         ensures footer { IfOk result (λ parser. parser.now.footer ≡ self.entry.now.footer) }
         ensures implicit_assertion { IfOk result (λ parser. parser.now.implicit_assertion ≡ self.entry.now.implicit_assertion) }
         ensures fault { IfErr result IsMemory }
@@ -264,11 +276,11 @@ impl<V: UnboxedVersion> GenericParser<'_, V, Local> {
         key: &PasetoSymmetricKey<V, Local>,
     ) -> Result<Value, GenericParserError>
         ensures { let binding = binding_of key.now self.now.footer (assertion_in V.design.binds_assertion self.now.implicit_assertion) in
-            IsParseAnswer (opening V.design binding) (verdicts_of (λ b. verdict b) self.now.checks) token.now result }
+            IsParseAnswer (opening V.design binding) (verdicts_of (λ b. verdict b) self.now.moment.nanosecond self.now.checks) token.now result }
     {
         let assertion = V::bound_assertion(self.implicit_assertion);
         let opened = V::open(self.checks.allocator(), token, key, self.footer, assertion);
-        parse_opened(&self.checks, opened)
+        parse_opened(&self.checks, self.moment, opened)
     }
 }
 
@@ -284,11 +296,11 @@ impl GenericParser<'_, V2, Local> {
         key: &PasetoSymmetricKey<V2, Local>,
     ) -> Result<Value, GenericParserError>
         ensures { let binding = binding_of key.now self.now.footer None in
-            IsParseAnswer (box_opening B.sealing binding) (verdicts_of (λ b. verdict b) self.now.checks) token.now result }
+            IsParseAnswer (box_opening B.sealing binding) (verdicts_of (λ b. verdict b) self.now.moment.nanosecond self.now.checks) token.now result }
     {
         let alloc = self.checks.allocator();
         let opened = Paseto::<V2, Local>::try_decrypt(alloc, sealed_box, token, key, self.footer);
-        parse_opened(&self.checks, opened)
+        parse_opened(&self.checks, self.moment, opened)
     }
 }
 
@@ -309,11 +321,11 @@ impl<V> GenericParser<'_, V, Public> {
     where
         V: Verifies<S>,
         ensures { let binding = binding_of key.now self.now.footer (assertion_in V.public_design.binds_assertion self.now.implicit_assertion) in
-            IsParseAnswer (verification V.valid V.refused V.public_design binding) (verdicts_of (λ b. verdict b) self.now.checks) token.now result }
+            IsParseAnswer (verification V.valid V.refused V.public_design binding) (verdicts_of (λ b. verdict b) self.now.moment.nanosecond self.now.checks) token.now result }
     {
         let assertion = V::signed_assertion(self.implicit_assertion);
         let alloc = self.checks.allocator();
         let opened = V::verify(alloc, scheme, token, key, self.footer, assertion);
-        parse_opened(&self.checks, opened)
+        parse_opened(&self.checks, self.moment, opened)
     }
 }
