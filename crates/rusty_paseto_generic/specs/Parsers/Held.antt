@@ -1,11 +1,13 @@
 -- What a contract sees of the checks that a parser holds.
-use Rattle.std.specs.Prelude.{⊤, ℕ, ℤ, List, [], ◌∷◌, map, Option, option_map, IsSome, String, string_bytes}
+use Rattle.std.specs.Prelude.{⊤, ℕ, ℤ, codes, List, [], ◌∷◌, map, Option, option_map, IsSome, String, string_bytes}
 use Rattle.std.specs.Global.{Global}
 use Rattle.std.specs.Option.{option_map_or}
 use Rattle.std.specs.BTreeMap.{get_by_text}
+use Rattle.serde_json.specs.Data.{Data, string}
 use Rattle.serde_json.specs.View.{view}
+use Rattle.rusty_paseto_claims.specs.Claim.{one_member}
 use Rattle.rusty_paseto_generic.specs.Validator.{Verdict}
-use Rattle.rusty_paseto_generic.specs.Parsers.Rules.{Rule, Rules, no_rule}
+use Rattle.rusty_paseto_generic.specs.Parsers.Rules.{Rule, Rules, edited, no_rule, with_both}
 use Rattle.rusty_paseto_generic.specs.Parsers.Times.{expiry, not_before}
 use Rattle.rusty_paseto_generic.specs.declared.parsers.checks.Check.{Check}
 use Rattle.rusty_paseto_generic.specs.declared.parsers.checks.Checks.{Checks}
@@ -37,6 +39,16 @@ verdicts_of verdict now checks key = judged verdict now (rules_of checks key)
 -- what is to judge each key, by its bytes
 abbrev pub judges_of : {B : Type 0} → List (String Global × B) → List (List ℕ × Judge B)
 judges_of entries = map (λ named. (string_bytes named.0, Boxed named.1)) entries
+
+-- the JSON of the claim of a date and time that stands under a key by default
+abbrev pub default_date : List ℕ → Data
+default_date key = one_member key (string (codes "2019-01-01T00:00:00+00:00"))
+
+-- `exp` and `nbf` are judged by the moment, and get their claims by default
+abbrev pub with_times : {B : Type 0} → Rules (Judge B) → Rules (Judge B)
+with_times old =
+    edited (codes "nbf") (with_both NotBefore (default_date (codes "nbf")))
+    (edited (codes "exp") (with_both Expiry (default_date (codes "exp"))) old)
 
 -- ---- for private clauses: which keys have an entry
 

@@ -10,7 +10,7 @@ ghost use Rattle.rusty_paseto_core.specs.Local.Boxed.{box_opening};
 ghost use Rattle.rusty_paseto_core.specs.Local.Opening.{opening};
 ghost use Rattle.rusty_paseto_core.specs.Public.Verifying.{verification};
 ghost use Rattle.rusty_paseto_generic.specs.Error.Parser.{IsMemory, IsRefusal};
-ghost use Rattle.rusty_paseto_generic.specs.Parsers.Held.{judges_of, rules_of, verdicts_of};
+ghost use Rattle.rusty_paseto_generic.specs.Parsers.Held.{judges_of, rules_of, verdicts_of, with_times};
 ghost use Rattle.rusty_paseto_generic.specs.Parsers.Parsing.{IsParseAnswer, assertion_in};
 ghost use Rattle.rusty_paseto_generic.specs.Parsers.Rules.{AreSame, IsStored, all_judged, all_stored, fault_in, no_rule, odd_fault, whole_answer, with_both, with_stored};
 
@@ -35,11 +35,13 @@ use std::marker::PhantomData;
 ///
 /// A key is checked by a stored value, with `check_claim` or `extend_check_claims`, or by a validator of the
 /// caller's own, with `validate_claim` or `extend_validation_claims`. A key with a validator is judged by it
-/// alone. The stored values have whole numbers of 64 bits alone.
+/// alone. `check_times` brings the validators of `exp` and `nbf`, which judge at the parser's moment. The stored
+/// values have whole numbers of 64 bits alone.
 ///
-/// A call that refuses leaves the parser as it was. `check_claim`, `validate_claim`, `extend_check_claims` and
-/// `extend_validation_claims` lend the parser back, for chains of calls; `put_check`, `put_validator`,
-/// `put_checks` and `put_validators` are the same edits for code that goes on after a refusal.
+/// A call that refuses leaves the parser as it was. `check_claim`, `validate_claim`, `extend_check_claims`,
+/// `extend_validation_claims` and `check_times` lend the parser back, for chains of calls; `put_check`,
+/// `put_validator`, `put_checks`, `put_validators` and `put_times` are the same edits for code that goes on after
+/// a refusal.
 ///
 /// ```rust
 /// let mut parser = GenericParser::<V4, Local>::new(alloc);
@@ -51,7 +53,7 @@ pub struct GenericParser<'a, V, P> {
     version: PhantomData<V>,
     purpose: PhantomData<P>,
     checks: Checks<ValidatorFn>,
-    // What the checks of times judge at; without them it changes no answer.
+    // When the times are judged, where they are.
     moment: Timestamp,
     footer: Option<Footer<'a>>,
     implicit_assertion: Option<ImplicitAssertion<'a>>,
@@ -220,6 +222,52 @@ impl<'a, V: VersionTrait, P: PurposeTrait> GenericParser<'a, V, P> {
     {
         self.put_validators(validators)?;
         Ok(self)
+    }
+
+    /// Stores `exp` and `nbf` with their claims by default, sets what judges them alone from now on, and the
+    /// moment at which it does. A key that is there gets the new ones.
+    ///
+    /// `parse` then skips a value that is missing or null. Another one that is no text is `Unexpected` with the
+    /// key, and a text from which `jiff` reads no `Timestamp` is `RFC3339Date` with the text. A token is `Expired`
+    /// where the instant under `exp` is at or before the moment, and `UseBeforeAvailable`, with the text, where
+    /// the one under `nbf` is at or after it. Nothing but memory is refused, and the parser is then unchanged.
+    ///
+    /// Source: PASETO specification, "Registered Claims"; RFC 3339, section 5.6.
+    pub fn put_times(&mut self, moment: Timestamp) -> Result<(), GenericParserError>
+        ensures ok { OnOk result (AreSame (rules_of self.new.checks) (with_times (rules_of self.old.checks))) }
+        ensures moment { OnOk result (self.new.moment ≡ moment) }
+        ensures footer { self.new.footer ≡ self.old.footer }
+        ensures implicit_assertion { self.new.implicit_assertion ≡ self.old.implicit_assertion }
+        ensures err { OnErr result (AreSame (rules_of self.new.checks) (rules_of self.old.checks)) }
+        ensures kept { OnErr result (self.new.moment ≡ self.old.moment) }
+        ensures fault { IfErr result IsMemory }
+    {
+        self.checks.judge_times()?;
+        self.moment = moment;
+        Ok(())
+    }
+
+    /// Checks the times at a moment, as `put_times` does, and lends the parser back.
+    pub fn check_times(&mut self, now: Timestamp) -> Result<&mut Self, GenericParserError>
+        ensures lent { IfOk result (λ parser. parser.ghost_name ≡ self.entry.ghost_name) }
+        ensures ok { IfOk result (λ parser. AreSame (rules_of parser.now.checks) (with_times (rules_of self.entry.now.checks))) }
+        ensures moment { IfOk result (λ parser. parser.now.moment ≡ now) }
+        ensures footer { IfOk result (λ parser. parser.now.footer ≡ self.entry.now.footer) }
+        ensures implicit_assertion { IfOk result (λ parser. parser.now.implicit_assertion ≡ self.entry.now.implicit_assertion) }
+        ensures fault { IfErr result IsMemory }
+    {
+        self.put_times(now)?;
+        Ok(self)
+    }
+
+    /// Sets the moment at which the times are judged, and keeps the rest. It changes no answer of a parser that
+    /// checks no times. No memory is taken.
+    pub fn set_now(&mut self, now: Timestamp) -> &mut Self
+        ensures lent { result.ghost_name ≡ self.entry.ghost_name }
+        ensures change { result.now ≡ record self.entry.now { moment = now } }
+    {
+        self.moment = now;
+        self
     }
 
     /// The footer that a token is to be bound to: what was set last, and the empty one before. No memory is
