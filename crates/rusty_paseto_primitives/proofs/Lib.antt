@@ -4,11 +4,13 @@ pub mod ByteLists
 pub mod ChaChaFacts
 pub mod LaneBytes
 pub mod Masking
+pub mod QuarterRounds
 pub mod Quarters
 pub mod StreamBlocks
 pub mod Blake2Blocks
 pub mod Blake2Facts
 pub mod Blake2Halves
+pub mod Blake2Lanes
 pub mod Blake2Hashers
 pub mod Blake2Lengths
 pub mod Blake2Rows

@@ -2,3 +2,4 @@ pub mod Block
 pub mod Chain
 pub mod Hasher
 pub mod Keyed
+pub mod Lanes

@@ -3,3 +3,4 @@ pub mod Block
 pub mod Subkey
 pub mod Stream
 pub mod Lanes
+pub mod Rows

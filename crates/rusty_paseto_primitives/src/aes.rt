@@ -1,4 +1,4 @@
-// AES with a key of 256 bits (FIPS 197), and its counter mode (SP 800-38A).
+//! AES with a key of 256 bits (FIPS 197), and its counter mode (SP 800-38A).
 
 mod cipher;
 mod circuit;

@@ -4,3 +4,5 @@ mod block;
 mod chain;
 pub mod hasher;
 pub mod keyed;
+mod lanes;
+pub mod pair;

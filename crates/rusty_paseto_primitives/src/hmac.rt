@@ -70,7 +70,7 @@ impl HmacSha384 {
         self.inner.update(data);
     }
 
-    /// The authentication code of the message.
+    /// The message authentication code of the message.
     pub fn finalize(self) -> [u8; 48]
         ensures { (key message : List ℕ) → Holds self key message → result ≡ hmac key message }
     {
@@ -80,7 +80,7 @@ impl HmacSha384 {
     }
 }
 
-/// The HMAC-SHA384 authentication code of `message` under a key of any length (RFC 2104).
+/// The HMAC-SHA384 message authentication code of `message` under a key of any length (RFC 2104).
 pub fn hmac_sha384(key: &[u8], message: &[u8]) -> [u8; 48]
     ensures { result ≡ hmac key.now message.now }
 {

@@ -1,4 +1,4 @@
-// Data under a keystream: the exclusive or of the two, byte by byte.
+//! Data under a keystream: the exclusive or of the two, byte by byte.
 
 ghost use Rattle.std.specs.Prelude.{◌≡◌, ℕ, ◌*◌, ◌<◌, ◌≤◌, [], length, slice_index, slice_index_or};
 ghost use Rattle.rusty_paseto_primitives.specs.Keystream.{masked, stream_of_blocks};

@@ -1,4 +1,11 @@
 //! The primitives that PASETO tokens are made with. No call takes memory.
+//!
+//! ```rust
+//! let digest: [u8; 32] = blake2b_keyed(b"a key", b"a message");
+//! let code: [u8; 48] = hmac_sha384(b"a key", b"a message");
+//! ```
+//!
+//! They are for those who build a protocol: a cipher alone authenticates nothing.
 #![tactic(auto)]
 
 mod aes;
@@ -12,6 +19,7 @@ pub mod laws;
 pub use aes::{Aes256, aes256_ctr_apply};
 pub use blake2::hasher::Blake2b;
 pub use blake2::keyed::blake2b_keyed;
+pub use blake2::pair::blake2b_keyed_pair;
 pub use chacha::{chacha20_block, hchacha20, quarter_round, xchacha20_apply};
 pub use hkdf::{hkdf_sha384_expand, hkdf_sha384_extract};
 pub use hmac::{HmacSha384, hmac_sha384};

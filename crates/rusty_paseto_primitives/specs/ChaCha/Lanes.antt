@@ -1,7 +1,7 @@
 -- Four blocks side by side: each word of their states is a vector, with one lane for each block.
 use Rattle.std.specs.Prelude.{ℕ, ◌*◌, List, [], ◌∷◌, slice_index}
 use Rattle.std.specs.Simd.Lanes.{chunk}
-use Rattle.rusty_paseto_primitives.specs.ChaCha.Block.{quarter_round}
+use Rattle.rusty_paseto_primitives.specs.ChaCha.Block.{add32, quarter_round, xor_rotate}
 
 -- the vector with this value in each lane
 abbrev pub four : (ℕ → ℕ) → List ℕ
@@ -18,6 +18,24 @@ lanes s =
     ∷ word_lanes s 4 ∷ word_lanes s 5 ∷ word_lanes s 6 ∷ word_lanes s 7
     ∷ word_lanes s 8 ∷ word_lanes s 9 ∷ word_lanes s 10 ∷ word_lanes s 11
     ∷ word_lanes s 12 ∷ word_lanes s 13 ∷ word_lanes s 14 ∷ word_lanes s 15 ∷ []
+
+-- one of the two halves of the quarter round, with the numbers of places that d and b are rotated by
+unfoldable pub half_round : ℕ → ℕ → ℕ → ℕ → ℕ → ℕ → ℕ × ℕ × ℕ × ℕ
+half_round a b c d r t =
+    let a1 = add32 a b in
+    let d1 = xor_rotate d a1 r in
+    let c1 = add32 c d1 in
+    let b1 = xor_rotate b c1 t in
+    (a1, b1, c1, d1)
+
+-- the same of the four words in each lane
+abbrev pub half_mixed_lanes : (ℕ → ℕ) → (ℕ → ℕ) → (ℕ → ℕ) → (ℕ → ℕ) → ℕ → ℕ → List ℕ × List ℕ × List ℕ × List ℕ
+half_mixed_lanes a b c d r t = (
+  four (λ j. (half_round (a j) (b j) (c j) (d j) r t).0),
+  four (λ j. (half_round (a j) (b j) (c j) (d j) r t).1),
+  four (λ j. (half_round (a j) (b j) (c j) (d j) r t).2),
+  four (λ j. (half_round (a j) (b j) (c j) (d j) r t).3),
+)
 
 -- the quarter round of the four words in each lane
 abbrev pub mixed_lanes : (ℕ → ℕ) → (ℕ → ℕ) → (ℕ → ℕ) → (ℕ → ℕ) → List ℕ × List ℕ × List ℕ × List ℕ

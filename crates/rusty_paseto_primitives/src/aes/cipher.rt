@@ -1,4 +1,4 @@
-// The block cipher AES with a key of 256 bits (FIPS 197, section 5.1).
+//! The block cipher AES with a key of 256 bits (FIPS 197, section 5.1).
 
 ghost use Rattle.std.specs.Prelude.{◌≡◌, ℕ, ◌<◌, List};
 ghost use Rattle.rusty_paseto_primitives.specs.Aes.Cipher.{IsKeyed, aes256};

@@ -1,6 +1,6 @@
-// The S-box of AES on eight blocks in planes: the circuit of Boyar and Peralta ("A new combinational
-// logic minimization technique with applications to cryptology", SEA 2010), of 115 gates, with four
-// more for the constant. The names of values are the paper's.
+//! The S-box of AES on eight blocks in planes: the circuit of Boyar and Peralta ("A new combinational
+//! logic minimization technique with applications to cryptology", SEA 2010), of 115 gates, with four
+//! more for the constant. The names of values are the paper's.
 
 ghost use Rattle.std.specs.Prelude.{◌≡◌, ℕ, Bool, true, ◌++◌, ◌∷◌, [], List, map};
 ghost use Rattle.std.specs.List.{range_with_len};

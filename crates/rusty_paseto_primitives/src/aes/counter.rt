@@ -1,4 +1,4 @@
-// The counter mode of AES with a key of 256 bits (SP 800-38A, section 6.5).
+//! The counter mode of AES with a key of 256 bits (SP 800-38A, section 6.5).
 
 ghost use Rattle.std.specs.Prelude.{◌≡◌, ℕ, ◌+◌, ◌%◌, ◌^◌, ◌≤◌, List, length};
 ghost use Rattle.std.specs.Int.{w128, to_be_bytes};
@@ -44,9 +44,12 @@ fn mask_rest(keys: &[[u8x16; 8]; 15], start: u128, data: &mut [u8])
     mask(data, &bytes);
 }
 
-/// Masks or unmasks `data`, in place, by the keystream of AES with a key of 256 bits in counter
-/// mode: the byte-wise exclusive or of the two (SP 800-38A, section 6.5). `data` may have any
-/// length.
+/// Encrypts or decrypts `data`, in place, by AES with a key of 256 bits in counter mode: the byte-wise
+/// exclusive or with the keystream (SP 800-38A, section 6.5). `data` may have any length.
+///
+/// **Nothing is authenticated**: a changed ciphertext decrypts to a changed text, and no error tells. Never
+/// encrypt two texts with the same key where their ranges of counters meet: the exclusive or of the two
+/// ciphertexts is that of the texts. Tokens are sealed by `Paseto` of `rusty_paseto_core`.
 ///
 /// `counter` is the first counter block. It is one number of 128 bits, high byte first, that goes
 /// up by one from block to block, and after the greatest number comes 0.

@@ -1,4 +1,4 @@
-// The arithmetic of AES on bytes (FIPS 197, section 4), and its S-box.
+//! The arithmetic of AES on bytes (FIPS 197, section 4), and its S-box.
 
 ghost use Rattle.std.specs.Prelude.{◌≡◌};
 ghost use Rattle.rusty_paseto_primitives.specs.Aes.Field.{sub_byte, xtimes};

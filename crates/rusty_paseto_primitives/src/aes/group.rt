@@ -1,4 +1,4 @@
-// The cipher on eight blocks at once, in planes, and the keystream of counter mode in groups of them.
+//! The cipher on eight blocks at once, in planes, and the keystream of counter mode in groups of them.
 
 ghost use Rattle.std.specs.Prelude.{◌≡◌, ℕ, ◌+◌, ◌%◌, ◌^◌, List, map};
 ghost use Rattle.std.specs.Int.{w128, to_be_bytes};

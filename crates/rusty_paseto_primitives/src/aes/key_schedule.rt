@@ -1,4 +1,4 @@
-// The key schedule of AES with a key of 256 bits (FIPS 197, section 5.2).
+//! The key schedule of AES with a key of 256 bits (FIPS 197, section 5.2).
 
 ghost use Rattle.std.specs.Prelude.{◌≡◌, ◌<◌, ◌≤◌};
 ghost use Rattle.rusty_paseto_primitives.specs.Aes.KeySchedule.{key_expansion, key_word_step, next_word, rot_word, sub_word, word, xor_word};

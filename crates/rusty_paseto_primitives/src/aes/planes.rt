@@ -1,4 +1,4 @@
-// Eight blocks at once, in planes: how they are packed, and the steps of a round other than SubBytes.
+//! Eight blocks at once, in planes: how they are packed, and the steps of a round other than SubBytes.
 
 ghost use Rattle.std.specs.Prelude.{◌≡◌, ℕ, ◌<◌, Bool, List};
 ghost use Rattle.rusty_paseto_primitives.specs.Bytes.{IsBytes};

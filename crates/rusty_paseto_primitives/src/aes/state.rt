@@ -1,4 +1,4 @@
-// The steps of a round of AES, on the state of 16 bytes, column after column (FIPS 197, section 5.1).
+//! The steps of a round of AES, on the state of 16 bytes, column after column (FIPS 197, section 5.1).
 
 ghost use Rattle.std.specs.Prelude.{◌≡◌, [], length, slice_index_or};
 ghost use Rattle.rusty_paseto_primitives.specs.Aes.State.{add_round_key, mix_columns, mix_matrix, row_product, shift_rows, sub_bytes};

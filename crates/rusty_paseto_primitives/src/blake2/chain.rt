@@ -1,3 +1,5 @@
+//! The hash value of BLAKE2b over whole blocks, none of which is the last (RFC 7693, section 3.3).
+
 ghost use Rattle.std.specs.Prelude.{◌≡◌, ℕ, ◌+◌, ◌*◌, ◌/◌, ◌%◌, ◌^◌, true, List, length, take, drop};
 ghost use Rattle.rusty_paseto_primitives.specs.Blake2.Block.{compress};
 ghost use Rattle.rusty_paseto_primitives.specs.Blake2.Chain.{IsTaken};

@@ -1,3 +1,5 @@
+//! BLAKE2b piece by piece (RFC 7693).
+
 ghost use Rattle.std.specs.Prelude.{◌≡◌, ℕ, ◌≤◌, ◌++◌, List, [], length};
 
 use super::block::{BLOCK_LEN, hash_bytes, initial_hash, zero_padded};

@@ -1,7 +1,9 @@
-// The ChaCha20 block function, on sixteen words.
+//! The ChaCha20 block function, on sixteen words.
 
 ghost use Rattle.std.specs.Prelude.{◌≡◌, ◌+◌, ◌*◌, ◌/◌, ◌%◌, ◌^◌, ◌≤◌, length};
-ghost use Rattle.rusty_paseto_primitives.specs.ChaCha.Block.{block_bytes, block_words, chacha20_block, column_round, diagonal_round, double_rounds, key_words, quarter_round, quarter_round_of, serialized, start_of, start_words, word_at};
+ghost use Rattle.rusty_paseto_primitives.specs.ChaCha.Block.{block_bytes, block_words, chacha20_block, key_words, quarter_round, quarter_round_of, serialized, start_of, start_words, word_at};
+
+use super::rows::twenty_rounds;
 
 // The four words after a quarter round.
 #[inline(always)]
@@ -25,44 +27,6 @@ pub fn quarter_round(words: &mut [u32; 4])
 {
     let (a, b, c, d) = mixed(words[0], words[1], words[2], words[3]);
     *words = [a, b, c, d];
-}
-
-#[inline(always)]
-fn column_round(x: [u32; 16]) -> [u32; 16]
-    ensures { result ≡ column_round x }
-{
-    let (x0, x4, x8, x12) = mixed(x[0], x[4], x[8], x[12]);
-    let (x1, x5, x9, x13) = mixed(x[1], x[5], x[9], x[13]);
-    let (x2, x6, x10, x14) = mixed(x[2], x[6], x[10], x[14]);
-    let (x3, x7, x11, x15) = mixed(x[3], x[7], x[11], x[15]);
-    [
-        x0, x1, x2, x3, x4, x5, x6, x7, x8, x9, x10, x11, x12, x13, x14, x15,
-    ]
-}
-
-#[inline(always)]
-fn diagonal_round(x: [u32; 16]) -> [u32; 16]
-    ensures { result ≡ diagonal_round x }
-{
-    let (x0, x5, x10, x15) = mixed(x[0], x[5], x[10], x[15]);
-    let (x1, x6, x11, x12) = mixed(x[1], x[6], x[11], x[12]);
-    let (x2, x7, x8, x13) = mixed(x[2], x[7], x[8], x[13]);
-    let (x3, x4, x9, x14) = mixed(x[3], x[4], x[9], x[14]);
-    [
-        x0, x1, x2, x3, x4, x5, x6, x7, x8, x9, x10, x11, x12, x13, x14, x15,
-    ]
-}
-
-// The state after twenty rounds.
-#[inline(always)]
-pub(crate) fn twenty_rounds(start: [u32; 16]) -> [u32; 16]
-    ensures { result ≡ double_rounds 10 start }
-{
-    let mut x = start;
-    'rounds: for _round in 0..10u32 {
-        x = diagonal_round(column_round(x));
-    }
-    x
 }
 
 // The sixteen words of the block with these starting words.

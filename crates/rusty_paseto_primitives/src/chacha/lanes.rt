@@ -1,69 +1,47 @@
-// Four blocks at once: each word of their states is a vector, with one lane for each block.
+//! Four blocks at once: each word of their states is a vector, with one lane for each block.
 
 ghost use Rattle.std.specs.Prelude.{◌≡◌, ℕ, ◌+◌, ◌<◌, ◌^◌, List, length};
 ghost use Rattle.std.specs.Simd.Lanes.{Each1};
-ghost use Rattle.rusty_paseto_primitives.specs.ChaCha.Block.{add32, block_bytes, block_words, column_round, diagonal_round, serialized, xor_rotate};
-ghost use Rattle.rusty_paseto_primitives.specs.ChaCha.Lanes.{four, lanes, mixed_lanes, quarters, rows};
+ghost use Rattle.rusty_paseto_primitives.specs.ChaCha.Block.{block_bytes, block_words, column_round, diagonal_round, serialized};
+ghost use Rattle.rusty_paseto_primitives.specs.ChaCha.Lanes.{four, lanes, quarters, rows};
 ghost use Rattle.rusty_paseto_primitives.specs.ChaCha.Stream.{numbered};
 
-use crate::chacha::block::{high_half, low_half};
+use super::block::{high_half, low_half};
+use super::vectors::{half_mixed, sum};
 use std::simd::{u8x16, u32x4};
 
-#[inline(always)]
-fn sum(a: u32x4, b: u32x4) -> u32x4
-    ensures { (f g : ℕ → ℕ) → a ≡ four f → b ≡ four g → result ≡ four (λ j. add32 (f j) (g j)) }
-{
-    a + b
-}
-
-#[inline(always)]
-fn xor_rotate(a: u32x4, b: u32x4, k: u32) -> u32x4
-    requires low { 0 < k }
-    requires high { k < 32 }
-    ensures { (f g : ℕ → ℕ) → a ≡ four f → b ≡ four g → result ≡ four (λ j. xor_rotate (f j) (g j) k) }
-{
-    let x = a ^ b;
-    (x << u32x4::splat(k)) | (x >> u32x4::splat(32 - k))
-}
-
-// The quarter round of each block's four words.
-#[inline(always)]
-fn mixed(a: u32x4, b: u32x4, c: u32x4, d: u32x4) -> (u32x4, u32x4, u32x4, u32x4)
-    ensures { (p q r s : ℕ → ℕ) → a ≡ four p → b ≡ four q → c ≡ four r → d ≡ four s
-        → result ≡ mixed_lanes p q r s }
-{
-    let a1 = sum(a, b);
-    let d1 = xor_rotate(d, a1, 16);
-    let c1 = sum(c, d1);
-    let b1 = xor_rotate(b, c1, 12);
-    let a2 = sum(a1, b1);
-    let d2 = xor_rotate(d1, a2, 8);
-    let c2 = sum(c1, d2);
-    let b2 = xor_rotate(b1, c2, 7);
-    (a2, b2, c2, d2)
-}
-
+// The first half of the quarter round on each column, and then the second half: the four are
+// independent of each other, so that a processor works on them at once.
 #[inline(always)]
 fn column_round(x: [u32x4; 16]) -> [u32x4; 16]
     ensures { (s : ℕ → List ℕ) → x ≡ lanes s → result ≡ lanes (λ j. column_round (s j)) }
 {
-    let (x0, x4, x8, x12) = mixed(x[0], x[4], x[8], x[12]);
-    let (x1, x5, x9, x13) = mixed(x[1], x[5], x[9], x[13]);
-    let (x2, x6, x10, x14) = mixed(x[2], x[6], x[10], x[14]);
-    let (x3, x7, x11, x15) = mixed(x[3], x[7], x[11], x[15]);
+    let (a0, b0, c0, d0) = half_mixed(x[0], x[4], x[8], x[12], 16, 12);
+    let (a1, b1, c1, d1) = half_mixed(x[1], x[5], x[9], x[13], 16, 12);
+    let (a2, b2, c2, d2) = half_mixed(x[2], x[6], x[10], x[14], 16, 12);
+    let (a3, b3, c3, d3) = half_mixed(x[3], x[7], x[11], x[15], 16, 12);
+    let (x0, x4, x8, x12) = half_mixed(a0, b0, c0, d0, 8, 7);
+    let (x1, x5, x9, x13) = half_mixed(a1, b1, c1, d1, 8, 7);
+    let (x2, x6, x10, x14) = half_mixed(a2, b2, c2, d2, 8, 7);
+    let (x3, x7, x11, x15) = half_mixed(a3, b3, c3, d3, 8, 7);
     [
         x0, x1, x2, x3, x4, x5, x6, x7, x8, x9, x10, x11, x12, x13, x14, x15,
     ]
 }
 
+// The same on each diagonal.
 #[inline(always)]
 fn diagonal_round(x: [u32x4; 16]) -> [u32x4; 16]
     ensures { (s : ℕ → List ℕ) → x ≡ lanes s → result ≡ lanes (λ j. diagonal_round (s j)) }
 {
-    let (x0, x5, x10, x15) = mixed(x[0], x[5], x[10], x[15]);
-    let (x1, x6, x11, x12) = mixed(x[1], x[6], x[11], x[12]);
-    let (x2, x7, x8, x13) = mixed(x[2], x[7], x[8], x[13]);
-    let (x3, x4, x9, x14) = mixed(x[3], x[4], x[9], x[14]);
+    let (a0, b0, c0, d0) = half_mixed(x[0], x[5], x[10], x[15], 16, 12);
+    let (a1, b1, c1, d1) = half_mixed(x[1], x[6], x[11], x[12], 16, 12);
+    let (a2, b2, c2, d2) = half_mixed(x[2], x[7], x[8], x[13], 16, 12);
+    let (a3, b3, c3, d3) = half_mixed(x[3], x[4], x[9], x[14], 16, 12);
+    let (x0, x5, x10, x15) = half_mixed(a0, b0, c0, d0, 8, 7);
+    let (x1, x6, x11, x12) = half_mixed(a1, b1, c1, d1, 8, 7);
+    let (x2, x7, x8, x13) = half_mixed(a2, b2, c2, d2, 8, 7);
+    let (x3, x4, x9, x14) = half_mixed(a3, b3, c3, d3, 8, 7);
     [
         x0, x1, x2, x3, x4, x5, x6, x7, x8, x9, x10, x11, x12, x13, x14, x15,
     ]

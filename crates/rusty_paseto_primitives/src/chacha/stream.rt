@@ -1,4 +1,4 @@
-// The keystream of XChaCha20, block after block.
+//! The keystream of XChaCha20, block after block.
 
 ghost use Rattle.std.specs.Prelude.{◌≡◌, ◌+◌, ◌*◌, ◌%◌, ◌<◌, ◌≤◌, ◌^◌, length, take};
 ghost use Rattle.rusty_paseto_primitives.specs.Keystream.{masked, stream_of_blocks};
@@ -70,9 +70,12 @@ fn mask_rest(key: &[u32; 8], tail: &[u32; 2], first: u64, data: &mut [u8])
     mask(data, &bytes);
 }
 
-/// Masks or unmasks `data`, in place, by the keystream of XChaCha20 from its start on: the
-/// byte-wise exclusive or of the two (draft-irtf-cfrg-xchacha, section 2.3). `data` may have any
-/// length.
+/// Encrypts or decrypts `data`, in place, by XChaCha20: the byte-wise exclusive or with the keystream from
+/// its start on (draft-irtf-cfrg-xchacha, section 2.3). `data` may have any length.
+///
+/// **Nothing is authenticated**: a changed ciphertext decrypts to a changed text, and no error tells. Never
+/// encrypt two texts with the same key and nonce: the exclusive or of the two ciphertexts is that of the
+/// texts. Tokens are sealed by `Paseto` of `rusty_paseto_core`.
 ///
 /// Blocks are numbered by 64 bits, in words 12 and 13 of a block, so that no length of data comes to
 /// the end of the keystream.

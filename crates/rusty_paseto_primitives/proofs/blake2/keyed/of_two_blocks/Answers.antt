@@ -7,8 +7,7 @@ pub returns : goal.returns
 unfolding blake2b
 returns g c =
     rw (
-      c.copy_from_slice.ensures.after,
-      c.hash_bytes.ensures,
+      c.front_bytes.ensures,
       c.compress-2.ensures,
       c.compress.ensures,
       c.zero_padded-2.ensures,

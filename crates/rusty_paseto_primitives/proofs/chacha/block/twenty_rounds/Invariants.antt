@@ -1,6 +1,0 @@
-use Rattle.std.proofs.Common.{◌≡◌}
-use Rattle.rusty_paseto_primitives.specs.ChaCha.Block.{double_rounds}
-use Rattle.rusty_paseto_primitives.proofs.chacha.block.twenty_rounds.Given as goal
-
-abbrev pub invariant-rounds : goal.invariant-rounds
-invariant-rounds l = l.x ≡ double_rounds l._round l.fn.start
