@@ -1,10 +1,10 @@
 -- The laws of sealing and opening, and of signing and verifying.
-use Rattle.std.proofs.Common.{◌≡◌, ◌≢◌, ◌⊎◌, inl, inr, ℕ, List, [], ◌∷◌, ◌++◌, Bool, true, false, length, refl, ap, arith, length-append, lit≤}
+use Rattle.std.proofs.Common.{◌≡◌, ◌≢◌, ℕ, List, [], ◌∷◌, ◌++◌, Bool, true, false, length, refl, ap, arith, length-append, lit≤}
 use Rattle.rusty_paseto_parts.specs.Section.{spelling}
 use Rattle.rusty_paseto_primitives.proofs.Blake2Lengths.{IsBytes-blake2b, length-blake2b}
 use Rattle.rusty_paseto_core.specs.Context.{Binding}
 use Rattle.rusty_paseto_core.specs.Framing.{IsHeader, framing, footer_part}
-use Rattle.rusty_paseto_core.specs.Laws.{BoxedSealingsOpen, BoxesHoldOneText, SealingsHoldOneText, SealingsOpen, SignaturesHoldOneText, SigningsVerify, TextsHaveTwoForms}
+use Rattle.rusty_paseto_core.specs.Laws.{BoxedSealingsOpen, BoxesHoldOneText, SealingsHoldOneText, SealingsOpen, SignaturesHoldOneText, SigningsVerify, TextsHaveTheirForms}
 use Rattle.rusty_paseto_core.specs.Local.{Design, IsLawful, header}
 use Rattle.rusty_paseto_core.specs.Local.Boxed.{box_opening, boxed_payload, token_nonce}
 use Rattle.rusty_paseto_core.specs.Local.Opening.{opening}
@@ -13,7 +13,7 @@ use Rattle.rusty_paseto_core.specs.Public.{PublicDesign, public}
 use Rattle.rusty_paseto_core.specs.Public as signed
 use Rattle.rusty_paseto_core.specs.Public.Scheme.{Refusal, Validity}
 use Rattle.rusty_paseto_core.specs.Public.Verifying.{verification}
-use Rattle.rusty_paseto_core.specs.Reading.{IsForm}
+use Rattle.rusty_paseto_core.specs.Reading.{IsForm, IsRead}
 use Rattle.rusty_paseto_core.proofs.Opened.{opening-lawful}
 use Rattle.rusty_paseto_core.proofs.ReadingLaws.{IsRead-text}
 use Rattle.rusty_paseto_core.proofs.Unboxed.{box_opening-lawful, sealing_parts}
@@ -44,20 +44,15 @@ forms_apart front payload footer same =
     let plain = length-append (front ++ spelling payload) [] in
     omega (arith, ap length same, longer, plain)
 
-form_of : (design : Design) (binding : Binding) (nonce text token payload own : List ℕ) (written : Bool) → own ≡ nonce
-    → payload ≡ sealed_payload design binding own text → token ≡ framing (header design) payload written binding.footer
-    → (token ≡ sealing design binding nonce true text) ⊎ (token ≡ sealing design binding nonce false text)
-form_of design binding nonce text token payload own true same sealed is = inl (rw (is, sealed, same) refl)
-form_of design binding nonce text token payload own false same sealed is = inr (rw (is, sealed, same) refl)
+form_of : (design : Design) (binding : Binding) (nonce text token : List ℕ) (read : IsRead (opening design binding) token text)
+    → read.carried.carries.nonce ≡ nonce
+    → (written : Bool) × IsForm written binding.footer × (token ≡ sealing design binding nonce written text)
+form_of design binding nonce text token read same =
+    (read.written, read.form, rw (read.is_framing, read.carried.carries.is_sealed, same) refl)
 
--- each form is one that is read
-each_form : (written : Bool) (footer : List ℕ) → IsForm written footer
-each_form true footer = tt
-each_form false footer = tt
-
-pub texts_have_two_forms : (design : Design) → TextsHaveTwoForms design
-texts_have_two_forms design binding nonce text is_nonce is_text = record {
-  both = λ written. record {
+pub texts_have_their_forms : (design : Design) → TextsHaveTheirForms design
+texts_have_their_forms design binding nonce text is_nonce is_text = record {
+  each = λ written form. record {
     payload = sealed_payload design binding nonce text;
     carried = record {
       utf8 = is_text.utf8;
@@ -65,12 +60,11 @@ texts_have_two_forms design binding nonce text is_nonce is_text = record {
       carries = record { nonce = nonce; is_nonce = is_nonce; is_sealed = refl };
     };
     written = written;
-    form = each_form written binding.footer;
+    form = form;
     is_framing = refl;
   };
   apart = forms_apart (header design) (sealed_payload design binding nonce text) binding.footer;
-  no_other = λ token read same.
-      form_of design binding nonce text token read.payload read.carried.carries.nonce read.written same read.carried.carries.is_sealed read.is_framing;
+  no_other = form_of design binding nonce text;
 }
 
 pub boxed_sealings_open : BoxedSealingsOpen

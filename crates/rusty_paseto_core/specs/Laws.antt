@@ -1,5 +1,5 @@
 -- Laws of sealing and opening, and of signing and verifying.
-use Rattle.std.specs.Prelude.{◌≡◌, ◌≢◌, ◌⊎◌, ℕ, Bool, true, false, List, [], Option, Some, None, IsUtf8, length}
+use Rattle.std.specs.Prelude.{◌≡◌, ◌≢◌, ℕ, Bool, true, false, List, [], Option, Some, None, IsUtf8, length}
 pub use Rattle.rusty_paseto_primitives.specs.Bytes.{IsBytes}
 use Rattle.rusty_paseto_parts.specs.Footer.{footer_text}
 use Rattle.rusty_paseto_parts.specs.ImplicitAssertion.{assertion_text}
@@ -28,17 +28,19 @@ SealingsOpen design = (binding : Binding) (given text : List ℕ) (written : Boo
     → IsForm written binding.footer
     → IsRead (opening design binding) (sealing design binding (design.token_nonce given text) written text) text
 
--- two tokens and no more open to a text under one key, token nonce, footer and assertion
-pub record HasTwoForms (design : Design) (binding : Binding) (nonce text : List ℕ) : Type 0 where
-  pub both : (written : Bool) → IsRead (opening design binding) (sealing design binding nonce written text) text
+-- the tokens that open to a text under one key, token nonce, footer and assertion are its forms that the footer
+-- allows: that with the footer's section, and for the empty footer that without one too
+pub record HasItsForms (design : Design) (binding : Binding) (nonce text : List ℕ) : Type 0 where
+  pub each : (written : Bool) → IsForm written binding.footer
+      → IsRead (opening design binding) (sealing design binding nonce written text) text
   pub apart : sealing design binding nonce true text ≢ sealing design binding nonce false text
   pub no_other : (token : List ℕ) (read : IsRead (opening design binding) token text) → read.carried.carries.nonce ≡ nonce
-      → (token ≡ sealing design binding nonce true text) ⊎ (token ≡ sealing design binding nonce false text)
+      → (written : Bool) × IsForm written binding.footer × (token ≡ sealing design binding nonce written text)
 
--- each text has its two forms under a nonce
-abbrev pub TextsHaveTwoForms : Design → Type 0
-TextsHaveTwoForms design = (binding : Binding) (nonce text : List ℕ) → IsNonce nonce → IsText text
-    → HasTwoForms design binding nonce text
+-- each text has its forms under a nonce
+abbrev pub TextsHaveTheirForms : Design → Type 0
+TextsHaveTheirForms design = (binding : Binding) (nonce text : List ℕ) → IsNonce nonce → IsText text
+    → HasItsForms design binding nonce text
 
 -- what a box sealed with a given nonce opens to its text, in each form that the footer allows
 abbrev pub BoxedSealingsOpen : Type 0

@@ -1,5 +1,5 @@
 -- How a token is read, whatever its kind: the sections of its framing, and what its payload may be.
-use Rattle.std.specs.Prelude.{◌≡◌, ◌⊎◌, ℕ, Bool, true, false, List, ◌∷◌, IsUtf8, Option, Some, None, Result, Err, IfOk, IfErr, MatchResult, String}
+use Rattle.std.specs.Prelude.{◌≡◌, ◌⊎◌, ℕ, Bool, true, false, List, [], ◌∷◌, IsUtf8, Option, Some, None, Result, Err, IfOk, IfErr, MatchResult, String}
 use Rattle.std.specs.Global.{Global}
 use Rattle.std.specs.String.{string_bytes}
 use Rattle.rusty_paseto_primitives.specs.Bytes.{IsBytes}
@@ -12,9 +12,9 @@ use Rattle.rusty_paseto_core.specs.Framing.{framing}
 
 -- ---- the framing
 
--- the footers whose section a token that is read may lack: all of them
+-- the footers whose section a token that is read may lack: the empty one alone
 abbrev pub MayLackSection : List ℕ → Type 0
-MayLackSection footer = Unit {0}
+MayLackSection footer = footer ≡ []
 
 -- the forms in which a footer is read: with its section, or without where it may be lacking
 abbrev pub IsForm : Bool → List ℕ → Type 0

@@ -2,7 +2,7 @@
 //! contract of a function that does nothing, over the definitions that the contracts of `try_encrypt`,
 //! `try_decrypt`, `tag_collision`, `try_sign` and `try_verify` name.
 
-ghost use Rattle.rusty_paseto_core.specs.Laws.{BoxedSealingsOpen, BoxesHoldOneText, EmptyAssertionIsAbsent, EmptyFooterIsAbsent, SealingsHoldOneText, SealingsOpen, SignaturesHoldOneText, SigningsVerify, TextsHaveTwoForms};
+ghost use Rattle.rusty_paseto_core.specs.Laws.{BoxedSealingsOpen, BoxesHoldOneText, EmptyAssertionIsAbsent, EmptyFooterIsAbsent, SealingsHoldOneText, SealingsOpen, SignaturesHoldOneText, SigningsVerify, TextsHaveTheirForms};
 ghost use Rattle.rusty_paseto_primitives.specs.Collision.{IsHmacCollision};
 ghost use Rattle.rusty_paseto_core.specs.Local.TagCollision.{CollisionsShow, IsTagOfTwo};
 ghost use Rattle.rusty_paseto_core.specs.Local.V1.{v1};
@@ -16,10 +16,10 @@ pub fn sealings_open<V: LocalVersion>()
     ensures { SealingsOpen V.design }
 {}
 
-/// Exactly two tokens open to a text under one key, token nonce, footer and implicit assertion: with the
-/// footer's section and without.
-pub fn texts_have_two_forms<V: LocalVersion>()
-    ensures { TextsHaveTwoForms V.design }
+/// The tokens that open to a text under one key, token nonce, footer and implicit assertion are two for the empty
+/// footer, with its section and without, and one for any other.
+pub fn texts_have_their_forms<V: LocalVersion>()
+    ensures { TextsHaveTheirForms V.design }
 {}
 
 /// A token opens to one text, under one key, footer and implicit assertion.

@@ -1,5 +1,13 @@
 //! PASETO tokens sealed and opened, signed and verified. All memory is asked of the allocator that a
 //! call is handed.
+//!
+//! ```rust
+//! let mut paseto = Paseto::<V4, Local>::builder();
+//! let footer = Footer::from("key-1");
+//! paseto.set_payload(Payload::from("a message")).set_footer(footer);
+//! let token = paseto.try_encrypt(alloc, &key, &nonce)?;
+//! let text = Paseto::<V4, Local>::try_decrypt(alloc, token.as_str(), &key, Some(footer), None)?;
+//! ```
 #![tactic(auto)]
 
 mod context;

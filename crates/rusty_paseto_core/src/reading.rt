@@ -3,7 +3,7 @@
 ghost use Rattle.std.specs.Prelude.{◌≡◌, ◌↔◌, ◌≤◌, ◌⊎◌, IsTrue, IfOk, IfErr, OnOk, length, take, option_map};
 ghost use Rattle.rusty_paseto_parts.specs.Error.{IsMemory};
 ghost use Rattle.rusty_paseto_parts.specs.Section.{HasCount, sections};
-ghost use Rattle.rusty_paseto_core.specs.Reading.{IsExpected, IsFramed, IsFramingFault};
+ghost use Rattle.rusty_paseto_core.specs.Reading.{IsExpected, IsFramed, IsFramingFault, MayLackSection};
 
 use rusty_paseto_parts::{
     PasetoError, PurposeTrait, VersionTrait, from_section, split_token, to_section,
@@ -40,20 +40,32 @@ fn is_header<V: VersionTrait, P: PurposeTrait>(version: &str, purpose: &str) -> 
     version == V::default().as_str() && purpose == P::default().as_str()
 }
 
-// A footer's section, where there is one, has to be that of the expected footer.
+// A footer's section has to be that of the expected footer, and may be lacking where that is empty.
 fn check_footer(alloc: Global, found: Option<&str>, footer: &[u8]) -> Result<(), PasetoError>
     ensures ok { OnOk result (IsExpected footer.now (option_map (λ section. section.now) found.entry)) }
     ensures err { IfErr result (λ error. IsMemory error
         ⊎ ((error ≡ PasetoError.FooterInvalid) × (¬ IsExpected footer.now (option_map (λ section. section.now) found.entry)))) }
 {
     let Some(section) = found else {
-        return Ok(());
+        return check_empty(footer);
     };
     let expected = to_section(alloc, footer)?;
     if section != expected.as_str() {
         return Err(PasetoError::FooterInvalid);
     }
     Ok(())
+}
+
+// A footer whose section is lacking has to be empty.
+fn check_empty(footer: &[u8]) -> Result<(), PasetoError>
+    ensures ok { OnOk result (MayLackSection footer.now) }
+    ensures err { IfErr result (λ error. (error ≡ PasetoError.FooterInvalid) × (¬ MayLackSection footer.now)) }
+{
+    if footer.is_empty() {
+        Ok(())
+    } else {
+        Err(PasetoError::FooterInvalid)
+    }
 }
 
 /// The nonce at the front of a payload.

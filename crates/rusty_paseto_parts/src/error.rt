@@ -10,68 +10,79 @@ use thiserror::Error;
 
 /// Why a key, a token or a part of one was refused.
 ///
-/// The variants that this library itself does not answer are there for the signature schemes and
-/// sealed boxes that a caller hands in.
+/// Each variant says which calls answer it. Those that this library itself does not answer are there for the
+/// signature schemes that a caller brings: what `sign`, `public_key` and `verify` of a scheme answer comes out
+/// of `try_sign` and `try_verify` as it is. Builders and parsers wrap the error of the core as `CipherError`.
 #[derive(Debug, Drop, Error)]
 pub enum PasetoError {
-    /// An error of a cipher, passed on.
+    /// An error of a cipher, passed on. Only a scheme may answer it.
     #[error("A cipher error occurred")]
     PasetoCipherError(Box<PasetoError>),
-    /// The tag of a token is not the tag of its contents under the key.
+    /// The tag of a token is not the tag of its contents under the key: the key, the footer or the implicit
+    /// assertion is another one, or the token was changed. From `try_decrypt` and `tag_collision` in versions
+    /// 1, 3 and 4.
     #[error("An unspecified cryption error occured")]
     Cryption,
-    /// A key has not the length or the digits that its kind asks for.
+    /// A key has not the length or the digits that its kind asks for. From `try_from` of `Key` and of a public
+    /// key of version 3; a scheme may answer it.
     #[error("Key was not in the correct format")]
     InvalidKey,
-    /// A signature could not be made.
+    /// A signature could not be made. Only a scheme may answer it.
     #[error("Could not assemble final signature.")]
     Signature,
-    /// A private RSA key was refused.
+    /// A private RSA key was refused. Only a scheme may answer it.
     #[error("A private RSA key was not in the correct format")]
     KeyRejected,
-    /// A cipher or a source of random bytes failed.
+    /// A source of random bytes failed. From `try_new_random` of `Key`, and from builders that draw a nonce; a
+    /// scheme may answer it.
     #[error("An unspecified cipher error occurred")]
     Cipher,
-    /// RSA failed.
+    /// RSA failed. Only a scheme may answer it.
     #[error("An unspecified cipher error occurred")]
     RsaCipher,
-    /// ECDSA failed.
+    /// ECDSA failed. Only a scheme may answer it.
     #[error("An unspecified ECSDA error occurred")]
     ECSDAError,
-    /// A length does not fit a primitive.
+    /// A length does not fit a primitive. Only a scheme may answer it.
     #[error("An unspecified cipher error occurred")]
     InvalidLength,
-    /// A signature is not valid.
+    /// A signature is not valid. Only a scheme answers it, and `try_verify` hands it on.
     #[error("The token signature could not be verified")]
     InvalidSignature,
-    /// A slice has not the length of an array.
+    /// A private key of version 2 or 4 has not 64 bytes. From `try_sign`.
     #[error("A slice conversion error occurred")]
     TryFromSlice,
-    /// A token has not three or four sections, or its payload is too short.
+    /// A token has not three or four sections, or its payload is too short for a nonce and a tag or for a
+    /// signature. From `try_decrypt`, `try_verify`, `tag_collision`, `UntrustedToken::try_parse` and
+    /// `Footer::try_from_token`, the last two for the sections alone.
     #[error("This string has an incorrect number of parts and cannot be parsed into a token")]
     IncorrectSize,
-    /// A token begins with another header than the one that was expected.
+    /// A token begins with another header than the one that was expected. From `try_decrypt`, `try_verify`
+    /// and `tag_collision`.
     #[error("The token header is invalid")]
     WrongHeader,
-    /// A token ends in another footer than the one that was expected.
+    /// A token ends in another footer than the one that was expected, or in none where one was. From
+    /// `try_decrypt`, `try_verify` and `tag_collision`.
     #[error("The provided footer is invalid")]
     FooterInvalid,
-    /// A section is the base64url spelling of no bytes.
+    /// A section is the base64url encoding of no bytes. From `from_section`; from `try_decrypt`, `try_verify` and
+    /// `tag_collision` for the payload; from `UntrustedToken` and `Footer::try_from_token` for the footer.
     #[error("A base64 decode error occurred")]
     PayloadBase64Decode { source: DecodeError },
-    /// The bytes of a text are not UTF-8.
+    /// The bytes of a text are not UTF-8. From `try_decrypt` and `tag_collision`, after the tag was found good,
+    /// and from `UntrustedToken` and `Footer::try_from_token`.
     #[error("A Utf8 parsing error occurred")]
     Utf8Error { source: Utf8Error },
-    /// A box did not open, or has no sealing of a text.
+    /// A box did not open, or has no sealing of a text. From `try_decrypt` and `try_encrypt` in version 2.
     #[error("An unspecified cipher error occurred")]
     ChaChaCipherError,
-    /// A conversion that cannot fail has failed.
+    /// A conversion that cannot fail has failed. Only a scheme may answer it.
     #[error("A Utf8 parsing error occurred")]
     Infallibale,
-    /// The bytes of a signed text are not UTF-8.
+    /// The bytes of a signed text are not UTF-8. From `try_verify`, after the signature was found valid.
     #[error("A Utf8 parsing error occurred")]
     FromUtf8Error,
-    /// Memory was refused.
+    /// Memory was refused. From every call that takes memory, in place of its answer.
     #[error("No memory was found")]
     Memory(AllocError),
 }

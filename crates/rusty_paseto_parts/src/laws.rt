@@ -27,7 +27,7 @@ fn length_fits(piece: &[u8])
     ensures { length piece.now < 2 ^ 64 }
 {}
 
-/// Two lists of bytes have the same spelling exactly if they are equal.
+/// Two lists of bytes have the same base64url encoding exactly if they are equal.
 pub fn equal_spellings(first: &[u8], second: &[u8])
     ensures { (spelling first.now ≡ spelling second.now) ↔ (first.now ≡ second.now) }
 {}

@@ -1,6 +1,13 @@
 //! The parts of PASETO tokens: versions and purposes, the texts that a token carries, keys and
 //! nonces, pre-authentication encoding, the sections of a token's text, and what a token says before
 //! it is opened.
+//!
+//! ```rust
+//! let token = UntrustedToken::try_parse("v4.local.AAAA.a2V5LTE")?;
+//! let key_id = token.footer_str(alloc)?;
+//! ```
+//!
+//! `key_id` is `key-1`, and is not to be trusted before the token is opened.
 #![tactic(auto)]
 
 mod absorb;

@@ -1,4 +1,4 @@
-//! The sections of a token's text, and how bytes are spelled in them.
+//! The sections of a token's text, and the base64url encoding of bytes in them.
 
 ghost use Rattle.std.specs.Prelude.{◌≡◌, ◌↔◌, ◌++◌, ◌∷◌, ◌+◌, ◌≤◌, [], ℕ, List, length, map, take, IsSome, IsErr, IfOk, IfErr, IfSome, OnOk, OnErr, MatchResult};
 ghost use Rattle.std.specs.Option.{option_map_or, option_to_list};
@@ -53,7 +53,7 @@ fn first_section(text: &str) -> (&str, Option<&str>)
     }
 }
 
-/// The spelling of bytes in a section: base64url without padding. It fails only by `Memory`.
+/// The base64url encoding of bytes without padding, as in a section. It fails only by `Memory`.
 ///
 /// Source: RFC 4648, section 5.
 pub fn to_section(alloc: Global, bytes: &[u8]) -> Result<String, PasetoError>
@@ -63,8 +63,8 @@ pub fn to_section(alloc: Global, bytes: &[u8]) -> Result<String, PasetoError>
     Ok(URL_SAFE_NO_PAD.encode(alloc, bytes)?)
 }
 
-/// Appends the spelling of bytes in a section to a text. It fails only by `Memory`, and then the
-/// text is as it was.
+/// Appends the base64url encoding of bytes without padding to a text. It fails only by `Memory`, and
+/// then the text is as it was.
 ///
 /// Source: RFC 4648, section 5.
 pub fn encode_section(bytes: &[u8], out: &mut String) -> Result<(), PasetoError>
@@ -76,10 +76,10 @@ pub fn encode_section(bytes: &[u8], out: &mut String) -> Result<(), PasetoError>
     Ok(())
 }
 
-/// The bytes of which a section's text is the spelling.
+/// The bytes of which a section's text is the base64url encoding.
 ///
 /// The reading is exact: padding, left-over bits other than zero and a length of 1 modulo 4 are
-/// refused. `PayloadBase64Decode` comes where the text is the spelling of no list of bytes, the
+/// refused. `PayloadBase64Decode` comes where the text is the encoding of no list of bytes, the
 /// empty one included, and `Memory` where memory is refused.
 ///
 /// Source: RFC 4648, section 5.

@@ -71,8 +71,8 @@ impl<'a> UntrustedToken<'a> {
 
     /// The bytes of the footer, or `None` where there is no fourth section.
     ///
-    /// `PayloadBase64Decode` comes exactly where the fourth section is the spelling of no list of
-    /// bytes, the empty one included.
+    /// `PayloadBase64Decode` comes exactly where the fourth section is the base64url encoding of no list
+    /// of bytes, the empty one included.
     pub fn footer_decoded(&self, alloc: Global) -> Result<Option<Vec<u8>>, PasetoError>
         ensures ok { IfOk result (λ found. HasFooterBytes (footer_section self.now) (option_map (λ bytes. bytes.items) found)) }
         ensures read { (footer : Option (List ℕ)) → HasFooterBytes (footer_section self.now) footer
@@ -87,8 +87,8 @@ impl<'a> UntrustedToken<'a> {
 
     /// The text of the footer, or `None` where there is no fourth section.
     ///
-    /// `PayloadBase64Decode` comes exactly where the fourth section is the spelling of no list of
-    /// bytes, and `Utf8Error` exactly where it is the spelling of bytes that are not UTF-8.
+    /// `PayloadBase64Decode` comes exactly where the fourth section is the base64url encoding of no list
+    /// of bytes, and `Utf8Error` exactly where it is the encoding of bytes that are not UTF-8.
     pub fn footer_str(&self, alloc: Global) -> Result<Option<String>, PasetoError>
         ensures ok { IfOk result (λ found. HasFooterText (footer_section self.now) (option_map string_bytes found)) }
         ensures read { (text : Option (List ℕ)) → HasFooterText (footer_section self.now) text

@@ -50,8 +50,9 @@ impl Paseto<'_, V2, Local> {
     /// absent footer and the empty one are the same.
     ///
     /// Else it answers the first of these: `IncorrectSize` for a number of sections other than three
-    /// or four, `FooterInvalid` for a fourth section that is not the footer's, `WrongHeader`,
-    /// `PayloadBase64Decode`, `IncorrectSize` for a payload with no room for a nonce of 24 bytes,
+    /// or four, `FooterInvalid` for a fourth section that is not the footer's, or for none where the
+    /// footer is not empty, `WrongHeader`, `PayloadBase64Decode`,
+    /// `IncorrectSize` for a payload with no room for a nonce of 24 bytes,
     /// `ChaChaCipherError` for what the box does not open, `Utf8Error` for bytes that are no text.
     /// `Memory` may come in place of any answer but the first.
     ///

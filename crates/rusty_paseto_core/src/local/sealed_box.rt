@@ -6,9 +6,17 @@ ghost use Rattle.rusty_paseto_core.specs.Local.SealedBox.{BoxSealing, IsLawfulBo
 use std::alloc::{AllocError, Global};
 
 /// The sealed box of local tokens of version 2, which a caller brings: XChaCha20-Poly1305. It
-/// encrypts a message, and binds it and some data under a key and a nonce of 24 bytes.
+/// encrypts a message, and authenticates it and some associated data under a key and a nonce of 24 bytes.
 ///
-/// A box may have no sealing of some messages, such as those too long for it.
+/// `data` is the associated data, which is not encrypted: the pre-authentication encoding of the header, the
+/// nonce and the footer. `message` is the token's text. A sealing is the ciphertext and, behind it, the tag of
+/// 16 bytes; the nonce is no part of it, and the library writes it in front.
+///
+/// A box is a function of these four: it keeps no random bytes of its own. It may have no sealing of some
+/// messages, such as those too long for it, and what it does not open is `None` too; `try_encrypt` and
+/// `try_decrypt` answer `ChaChaCipherError` for both. An implementer gives `sealing`, and proves by `lawful`
+/// that different messages have different sealings. Nothing here makes a box keep a secret. docs/SCHEMES.md
+/// says more, and `ToyBox` of `paseto_vectors` is a lawful box without secrecy.
 ///
 /// Source: PASETO specification, "Version 2"; draft-irtf-cfrg-xchacha, section 2.
 pub trait SealedBox {

@@ -114,8 +114,9 @@ impl<V: AssertionVersion> Paseto<'_, V, Local> {
     /// absent footer or assertion and the empty one are the same.
     ///
     /// Else it answers the first of these: `IncorrectSize` for a number of sections other than three
-    /// or four, `FooterInvalid` for a fourth section that is not the footer's, `WrongHeader`,
-    /// `PayloadBase64Decode`, `IncorrectSize` for a payload with no room for a nonce and a tag,
+    /// or four, `FooterInvalid` for a fourth section that is not the footer's, or for none where the
+    /// footer is not empty, `WrongHeader`, `PayloadBase64Decode`,
+    /// `IncorrectSize` for a payload with no room for a nonce and a tag,
     /// `Cryption` for another tag, `Utf8Error` for bytes that are no text. `Memory` may come in place
     /// of any answer but the first.
     ///

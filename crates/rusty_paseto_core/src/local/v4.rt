@@ -9,7 +9,7 @@ ghost use Rattle.std.proofs.Common.{rules};
 use crate::local::{AUTHENTICATION, ENCRYPTION, LocalSuite, info};
 use crate::tag::write_blake2b;
 use rusty_paseto_parts::V4;
-use rusty_paseto_primitives::{blake2b_keyed, xchacha20_apply};
+use rusty_paseto_primitives::{blake2b_keyed_pair, xchacha20_apply};
 
 /// The keys of a token.
 #[derive(Clone, Copy)]
@@ -50,11 +50,15 @@ impl LocalSuite for V4 {
     fn split(key: &[u8; 32], nonce: &[u8; 32]) -> SodiumKeys {
         let encryption_info: [u8; 53] = info(ENCRYPTION, nonce);
         let authentication_info: [u8; 56] = info(AUTHENTICATION, nonce);
-        let keys: [u8; 56] = blake2b_keyed(key, &encryption_info);
+        let (keys, authentication_key): ([u8; 56], [u8; 32]) = blake2b_keyed_pair(
+            key,
+            &encryption_info,
+            &authentication_info,
+        );
         SodiumKeys {
             encryption_key: encryption_key(&keys),
             start: start(&keys),
-            authentication_key: blake2b_keyed(key, &authentication_info),
+            authentication_key,
         }
     }
 

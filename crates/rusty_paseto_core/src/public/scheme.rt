@@ -10,9 +10,20 @@ use std::alloc::Global;
 /// The signature scheme of public tokens, which a caller brings, with signatures of `SIG` bytes: 256
 /// for RSA in version 1, 64 for Ed25519 in versions 2 and 4, 96 for ECDSA in version 3.
 ///
-/// The keys are slices, which a scheme reads in its own way, and the errors are its own. It may keep
-/// a source of random bytes, so that signing may change it. The toys of the crate `paseto_vectors` show
-/// how a scheme says what it means.
+/// `message` is the pre-authentication encoding of all that the signature covers, not hashed yet. The keys
+/// are the bytes that the token's keys were made of, which a scheme reads in its own way:
+///
+/// | Version | Algorithm | Private key | Public key | Signature |
+/// |---|---|---|---|---|
+/// | 1 | RSASSA-PSS, SHA-384, MGF1 | of any length | of any length | 256 bytes |
+/// | 2, 4 | Ed25519 | 64 bytes: seed, public key | 32 bytes | 64 bytes |
+/// | 3 | ECDSA, P-384, SHA-384 | 48 bytes | 49 bytes: a compressed point | 96 bytes: r, s |
+///
+/// A scheme may keep a source of random bytes, so that signing may change it. Its errors are its own, and
+/// come out of `try_sign` and `try_verify` as they are: `InvalidSignature` for a signature that is not valid,
+/// `InvalidKey` or `KeyRejected` for a key. An implementer gives the four ghost fields, and proves each method
+/// by them; nothing here makes a scheme secure, which is what `valid` says. docs/SCHEMES.md has a whole
+/// example, and `paseto_vectors` a toy for each version.
 ///
 /// Source: PASETO specification, "Version 1" to "Version 4".
 pub trait SignatureScheme<const SIG: usize> {

@@ -263,8 +263,9 @@ impl<V: AssertionVersion> Paseto<'_, V, Public> {
     /// implicit assertion. An absent footer or assertion and the empty one are the same.
     ///
     /// Else it answers the first of these: `IncorrectSize` for a number of sections other than three
-    /// or four, `FooterInvalid` for a fourth section that is not the footer's, `WrongHeader`,
-    /// `PayloadBase64Decode`, `IncorrectSize` for a payload with no room for a signature, the scheme's own
+    /// or four, `FooterInvalid` for a fourth section that is not the footer's, or for none where the
+    /// footer is not empty, `WrongHeader`, `PayloadBase64Decode`,
+    /// `IncorrectSize` for a payload with no room for a signature, the scheme's own
     /// error for a signature that is not valid, `FromUtf8Error` for bytes that are no text. The scheme is
     /// asked once, and only where none of the faults before its own is there. `Memory` may come in place
     /// of any answer but the first.

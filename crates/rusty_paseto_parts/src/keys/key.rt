@@ -11,7 +11,9 @@ use std::marker::Model;
 
 /// A key of `N` bytes.
 ///
-/// It is not printed: its debug text is the same for all keys.
+/// It is not printed: its debug text is the same for all keys. It is **not wiped**: its bytes stay in memory
+/// when it is dropped, and `clone` and `as_bytes` let copies be made. The default key is all zeros, and no
+/// secret.
 #[derive(Drop)]
 pub struct Key<const N: usize> {
     bytes: [u8; N],

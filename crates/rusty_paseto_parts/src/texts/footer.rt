@@ -40,8 +40,8 @@ impl<'a> Footer<'a> {
     /// section: what `UntrustedToken::footer_str` answers on that token. It is not to be trusted.
     ///
     /// `IncorrectSize` comes exactly where the sections are not three or four, whatever memory there
-    /// is; `PayloadBase64Decode` exactly where the fourth section is the spelling of no list of
-    /// bytes; `Utf8Error` exactly where it is the spelling of bytes that are not UTF-8.
+    /// is; `PayloadBase64Decode` exactly where the fourth section is the base64url encoding of no
+    /// list of bytes; `Utf8Error` exactly where it is the encoding of bytes that are not UTF-8.
     pub fn try_from_token(alloc: Global, token: &str) -> Result<Option<String>, PasetoError>
         ensures ok { IfOk result (λ found. HasCount (sections token.now)
             × HasFooterText (slice_get (sections token.now) 3) (option_map string_bytes found)) }
