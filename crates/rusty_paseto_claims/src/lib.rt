@@ -1,5 +1,12 @@
 //! Claims of PASETO tokens: what a claim is, the seven that the standard reserves, claims of a caller's
 //! own, and tests on the JSON values that claims have.
+//!
+//! ```rust
+//! let seats = CustomClaim::try_from_str(alloc, "seats", 4u64)?;
+//! let json = seats.to_json(alloc)?;
+//! ```
+//!
+//! `json` is `{"seats":4}`, which a builder stores under `seats`.
 #![tactic(auto)]
 
 mod claim;

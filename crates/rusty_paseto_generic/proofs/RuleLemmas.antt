@@ -7,10 +7,27 @@ use Rattle.std.specs.Str.{bytes_eq}
 use Rattle.std.proofs.lemmas.Map.Text.{btree_map_updates_text}
 use Rattle.std.proofs.lemmas.Slice.Eq.{bytes_eq-Decides}
 use Rattle.serde_json.specs.Data.{Members, no_members, member}
+use Rattle.rusty_paseto_claims.specs.Error.{fault_of}
+use Rattle.rusty_paseto_claims.specs.declared.PasetoClaimError.{PasetoClaimError}
+use Rattle.rusty_paseto_claims.specs.declared.PasetoClaimError.TheVariants as Claim
+use Rattle.rusty_paseto_generic.specs.Error.Parser.{IsMemory, of_claim}
 use Rattle.rusty_paseto_generic.specs.Parsers.Held.{HasEach, HasMore, rule_of}
 use Rattle.rusty_paseto_generic.specs.Parsers.Rules.{AreSame, Rule, Rules, all_judged, all_stored, no_rule, edited, with_judge, with_stored}
 use Rattle.rusty_paseto_generic.specs.declared.parsers.checks.Check.{Check}
 use Rattle.rusty_paseto_generic.specs.declared.parsers.checks.Judge.{Judge}
+
+-- want of memory of a claim is that of a parser
+pub memory_of_claim : (error : PasetoClaimError) → fault_of error ≡ None → IsMemory (of_claim error)
+memory_of_claim Claim.Expired none = cc none
+memory_of_claim (Claim.UseBeforeAvailable t) none = cc none
+memory_of_claim (Claim.RFC3339Date t) none = cc none
+memory_of_claim (Claim.Missing k) none = cc none
+memory_of_claim (Claim.Unexpected k) none = cc none
+memory_of_claim (Claim.CustomValidation k) none = cc none
+memory_of_claim (Claim.Invalid k found wanted) none = cc none
+memory_of_claim (Claim.Reserved k) none = cc none
+memory_of_claim (Claim.DuplicateTopLevelPayloadClaim k) none = cc none
+memory_of_claim (Claim.Memory refused) none = tt
 
 -- what is checked under a key, of a map of checks
 abbrev pub rule_at : {B : Type 0} → BTreeMap (String Global) (Check B) → List ℕ → Rule (Judge B)

@@ -1,6 +1,7 @@
 -- What parsers of tokens mean.
 pub mod Rules
 pub mod Verdicts
+pub mod Times
 pub mod Held
 pub mod Reading
 pub mod Parsing

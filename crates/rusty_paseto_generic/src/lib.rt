@@ -1,5 +1,15 @@
-//! Builders of PASETO tokens from claims, for every version and purpose. The claims and the core, over
-//! which they stand, are shown too.
+//! Builders of PASETO tokens from claims, and parsers that check them, for every version and purpose. The
+//! claims and the core, over which they stand, are shown too.
+//!
+//! ```rust
+//! let mut builder = GenericBuilder::<V4, Local>::new(alloc);
+//! builder.set_claim(&SubjectClaim::from("Ada"))?;
+//! let token = builder.try_encrypt(&mut rng, &key)?;
+//!
+//! let mut parser = GenericParser::<V4, Local>::new(alloc);
+//! parser.check_claim(&SubjectClaim::from("Ada"))?;
+//! let claims = parser.parse(token.as_str(), &key)?;
+//! ```
 #![tactic(auto)]
 
 mod builders;

@@ -5,6 +5,7 @@ mod generic_parser;
 mod judge;
 mod parsing;
 mod reading;
+mod times;
 mod walk;
 
 pub use generic_parser::{GenericParser, TokenParser};

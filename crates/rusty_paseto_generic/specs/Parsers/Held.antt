@@ -1,15 +1,18 @@
 -- What a contract sees of the checks that a parser holds.
-use Rattle.std.specs.Prelude.{⊤, ℕ, List, [], ◌∷◌, map, Option, option_map, IsSome, String, string_bytes}
+use Rattle.std.specs.Prelude.{⊤, ℕ, ℤ, codes, List, [], ◌∷◌, map, Option, option_map, IsSome, String, string_bytes}
 use Rattle.std.specs.Global.{Global}
 use Rattle.std.specs.Option.{option_map_or}
 use Rattle.std.specs.BTreeMap.{get_by_text}
+use Rattle.serde_json.specs.Data.{Data, string}
 use Rattle.serde_json.specs.View.{view}
+use Rattle.rusty_paseto_claims.specs.Claim.{one_member}
 use Rattle.rusty_paseto_generic.specs.Validator.{Verdict}
-use Rattle.rusty_paseto_generic.specs.Parsers.Rules.{Rule, Rules, no_rule}
+use Rattle.rusty_paseto_generic.specs.Parsers.Rules.{Rule, Rules, edited, no_rule, with_both}
+use Rattle.rusty_paseto_generic.specs.Parsers.Times.{expiry, not_before}
 use Rattle.rusty_paseto_generic.specs.declared.parsers.checks.Check.{Check}
 use Rattle.rusty_paseto_generic.specs.declared.parsers.checks.Checks.{Checks}
 use Rattle.rusty_paseto_generic.specs.declared.parsers.checks.Judge.{Judge}
-use Rattle.rusty_paseto_generic.specs.declared.parsers.checks.Judge.TheVariants.{Boxed}
+use Rattle.rusty_paseto_generic.specs.declared.parsers.checks.Judge.TheVariants.{Boxed, Expiry, NotBefore}
 
 -- a check, its stored value as JSON
 abbrev pub rule_of : {B : Type 0} → Check B → Rule (Judge B)
@@ -19,21 +22,33 @@ rule_of check = record { stored = option_map view check.stored; judge = check.ju
 abbrev pub rules_of : {B : Type 0} → Checks B → Rules (Judge B)
 rules_of checks key = option_map_or rule_of (get_by_text checks.entries key) no_rule
 
--- what a judge finds, where a validator finds this
-abbrev pub verdict_of : {B : Type 0} → (B → Verdict) → Judge B → Verdict
-verdict_of verdict (Boxed validator) = verdict validator
+-- what a judge finds, where a validator finds this, at a moment
+abbrev pub verdict_of : {B : Type 0} → (B → Verdict) → ℤ → Judge B → Verdict
+verdict_of verdict now (Boxed validator) = verdict validator
+verdict_of verdict now Expiry = expiry now
+verdict_of verdict now NotBefore = not_before now
 
 -- a check with what its judge finds
-abbrev pub judged : {B : Type 0} → (B → Verdict) → Rule (Judge B) → Rule Verdict
-judged verdict rule = record { stored = rule.stored; judge = option_map (verdict_of verdict) rule.judge }
+abbrev pub judged : {B : Type 0} → (B → Verdict) → ℤ → Rule (Judge B) → Rule Verdict
+judged verdict now rule = record { stored = rule.stored; judge = option_map (verdict_of verdict now) rule.judge }
 
--- what is checked under each key, with what the judges find
-abbrev pub verdicts_of : {B : Type 0} → (B → Verdict) → Checks B → Rules Verdict
-verdicts_of verdict checks key = judged verdict (rules_of checks key)
+-- what is checked under each key, with what the judges find at a moment
+abbrev pub verdicts_of : {B : Type 0} → (B → Verdict) → ℤ → Checks B → Rules Verdict
+verdicts_of verdict now checks key = judged verdict now (rules_of checks key)
 
 -- what is to judge each key, by its bytes
 abbrev pub judges_of : {B : Type 0} → List (String Global × B) → List (List ℕ × Judge B)
 judges_of entries = map (λ named. (string_bytes named.0, Boxed named.1)) entries
+
+-- the JSON of the claim of a date and time that stands under a key by default
+abbrev pub default_date : List ℕ → Data
+default_date key = one_member key (string (codes "2019-01-01T00:00:00+00:00"))
+
+-- `exp` and `nbf` are judged by the moment, and get their claims by default
+abbrev pub with_times : {B : Type 0} → Rules (Judge B) → Rules (Judge B)
+with_times old =
+    edited (codes "nbf") (with_both NotBefore (default_date (codes "nbf")))
+    (edited (codes "exp") (with_both Expiry (default_date (codes "exp"))) old)
 
 -- ---- for private clauses: which keys have an entry
 

@@ -2,6 +2,7 @@
 
 ghost use Rattle.std.specs.Prelude.{◌≡◌, ◌⊎◌, false, None, Some, ℕ, List, IfOk, IfErr, OnOk, OnErr, string_bytes};
 ghost use Rattle.serde_json.specs.Data.{no_members};
+ghost use Rattle.serde_json.specs.Find.{get_member};
 ghost use Rattle.serde_json.specs.View.{view, members_view};
 ghost use Rattle.serde_json.specs.Written.{members_have_float};
 ghost use Rattle.rusty_paseto_claims.specs.Error.{IsFault, unexpected};
@@ -38,7 +39,9 @@ impl Claims {
     }
 
     /// The allocator of the claims.
-    pub(crate) fn allocator(&self) -> Global {
+    pub(crate) fn allocator(&self) -> Global
+        ensures { result ≡ self.now.alloc }
+    {
         self.alloc
     }
 
@@ -89,7 +92,8 @@ impl Claims {
 
     /// Takes out the claim under the key, where there is one. No memory is taken.
     pub(crate) fn remove(&mut self, key: &str)
-        ensures { held self.new ≡ without key.now (held self.old) }
+        ensures rest { held self.new ≡ without key.now (held self.old) }
+        ensures gone { get_member key.now (held self.new) ≡ None }
     {
         drop(self.members.remove(key));
     }

@@ -2,6 +2,7 @@
 
 ghost use Rattle.std.specs.Prelude.{◌≡◌, ◌⊎◌, None, Some, IfOk, IfErr, OnOk, OnErr, is_some, string_bytes};
 ghost use Rattle.serde_json.specs.Data.{no_members};
+ghost use Rattle.serde_json.specs.Find.{get_member};
 ghost use Rattle.serde_json.specs.View.{members_view};
 ghost use Rattle.rusty_paseto_core.specs.Context.{binding_of};
 ghost use Rattle.rusty_paseto_core.specs.Payload.{payload_text};
@@ -140,6 +141,7 @@ impl<'a, V: VersionTrait, P: PurposeTrait> GenericBuilder<'a, V, P> {
     pub fn remove_claim(&mut self, key: &str) -> &mut Self
         ensures lent { result.ghost_name ≡ self.entry.ghost_name }
         ensures claims { held result.now.claims ≡ without key.now (held self.entry.now.claims) }
+        ensures gone { get_member key.now (held result.now.claims) ≡ None }
         ensures rest { result.now.paseto ≡ self.entry.now.paseto }
     {
         self.claims.remove(key);

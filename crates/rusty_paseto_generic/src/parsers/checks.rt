@@ -5,13 +5,15 @@ ghost use Rattle.std.specs.BTreeMap.{get_by_text};
 ghost use Rattle.serde_json.specs.View.{view, members_view};
 ghost use Rattle.rusty_paseto_claims.specs.Claim.{IsRefusal, gives};
 ghost use Rattle.rusty_paseto_claims.specs.Whole.{first_odd};
-ghost use Rattle.rusty_paseto_generic.specs.Error.Parser.{IsRefusal as IsParserRefusal};
+ghost use Rattle.rusty_paseto_generic.specs.Error.Parser.{IsMemory, IsRefusal as IsParserRefusal};
 ghost use Rattle.rusty_paseto_generic.specs.Parsers.Rules.{AreSame, IsStored, all_judged, all_stored, edited, fault_in, no_rule, odd_fault, whole_answer, with_both, with_judge, with_stored};
-ghost use Rattle.rusty_paseto_generic.specs.Parsers.Held.{HasEach, HasMore, judges_of, rules_of};
+ghost use Rattle.rusty_paseto_generic.specs.Parsers.Held.{HasEach, HasMore, default_date, judges_of, rules_of, with_times};
 
 use crate::error::GenericParserError;
 use crate::whole::check_whole;
-use rusty_paseto_claims::{PasetoClaim, PasetoClaimError, is_whole};
+use rusty_paseto_claims::{
+    DateClaim, Expiration, NotBefore, PasetoClaim, PasetoClaimError, ReservedKey, is_whole,
+};
 use serde_json::{Map, Value};
 use std::alloc::{AllocError, Global};
 use std::collections::BTreeMap;
@@ -21,6 +23,10 @@ use std::collections::BTreeMap;
 pub(crate) enum Judge<B> {
     /// A validator that the caller brought.
     Boxed(B),
+    /// A token has expired from the value's instant on.
+    Expiry,
+    /// A token may be used after the value's instant.
+    NotBefore,
 }
 
 /// What is checked under a key. With neither a stored value nor a judge, it is nothing.
@@ -49,7 +55,9 @@ impl<B: Drop> Checks<B> {
     }
 
     /// The allocator of the checks.
-    pub(crate) fn allocator(&self) -> Global {
+    pub(crate) fn allocator(&self) -> Global
+        ensures { result ≡ self.now.alloc }
+    {
         self.alloc
     }
 
@@ -115,6 +123,22 @@ impl<B: Drop> Checks<B> {
         Ok(())
     }
 
+    /// Stores `exp` and `nbf` with their claims by default, and what judges them by the moment from now on. A
+    /// key that is there gets the new ones. Nothing but memory is refused, and the checks are then unchanged.
+    pub(crate) fn judge_times(&mut self) -> Result<(), GenericParserError>
+        ensures ok { OnOk result (AreSame (rules_of self.new) (with_times (rules_of self.old))) }
+        ensures err { OnErr result (AreSame (rules_of self.new) (rules_of self.old)) }
+        ensures fault { IfErr result IsMemory }
+    {
+        let expiration = default_json::<Expiration>(self.alloc)?;
+        let not_before = default_json::<NotBefore>(self.alloc)?;
+        self.reserve("exp")?;
+        self.reserve("nbf")?;
+        self.set_both("exp", expiration, Judge::Expiry);
+        self.set_both("nbf", not_before, Judge::NotBefore);
+        Ok(())
+    }
+
     // An entry under the key, which may check nothing yet, so that a check may then be set with no memory.
     fn reserve(&mut self, key: &str) -> Result<(), AllocError>
         ensures rules { AreSame (rules_of self.new) (rules_of self.old) }
@@ -168,6 +192,16 @@ impl<B: Drop> Checks<B> {
         }
     }
 
+    // Stores a value and sets what judges, under a key that has an entry.
+    fn set_both(&mut self, key: &str, value: Value, judge: Judge<B>)
+        requires { IsSome (get_by_text self.old.entries key.now) }
+        ensures rules { AreSame (rules_of self.new) (edited key.now (with_both judge (view value)) (rules_of self.old)) }
+        ensures kept { HasMore (get_by_text self.new.entries) (get_by_text self.old.entries) }
+    {
+        self.set_stored(key, value);
+        self.set_judge(key, judge);
+    }
+
     // Stores values under keys that have entries.
     fn set_all_stored(&mut self, more: Map<String, Value>)
         requires { HasEach (get_by_text self.old.entries) more.entries }
@@ -199,4 +233,14 @@ fn whole_json<C: PasetoClaim>(alloc: Global, claim: &C) -> Result<Value, PasetoC
         return Err(PasetoClaimError::Unexpected(String::from_str(alloc, claim.get_key())?));
     }
     Ok(value)
+}
+
+// The JSON of the claim of a date and time by default.
+#[tactic(auto, using(crate::proofs::RuleLemmas::memory_of_claim))]
+fn default_json<K: ReservedKey>(alloc: Global) -> Result<Value, GenericParserError>
+    ensures ok { IfOk result (λ value. view value ≡ default_date K.key) }
+    ensures err { IfErr result IsMemory }
+{
+    let claim = DateClaim::<K>::default(alloc)?;
+    Ok(claim.to_json(alloc)?)
 }

@@ -10,7 +10,7 @@ ghost use Rattle.rusty_paseto_core.specs.Local.Boxed.{box_opening};
 ghost use Rattle.rusty_paseto_core.specs.Local.Opening.{opening};
 ghost use Rattle.rusty_paseto_core.specs.Public.Verifying.{verification};
 ghost use Rattle.rusty_paseto_generic.specs.Error.Parser.{IsMemory, IsRefusal};
-ghost use Rattle.rusty_paseto_generic.specs.Parsers.Held.{judges_of, rules_of, verdicts_of};
+ghost use Rattle.rusty_paseto_generic.specs.Parsers.Held.{judges_of, rules_of, verdicts_of, with_times};
 ghost use Rattle.rusty_paseto_generic.specs.Parsers.Parsing.{IsParseAnswer, assertion_in};
 ghost use Rattle.rusty_paseto_generic.specs.Parsers.Rules.{AreSame, IsStored, all_judged, all_stored, fault_in, no_rule, odd_fault, whole_answer, with_both, with_stored};
 
@@ -19,6 +19,7 @@ use crate::error::GenericParserError;
 use crate::parsers::checks::{Checks, Judge};
 use crate::parsers::parsing::parse_opened;
 use crate::validator::ValidatorFn;
+use jiff::Timestamp;
 use rusty_paseto_claims::PasetoClaim;
 use rusty_paseto_core::{
     Footer, ImplicitAssertion, ImplicitAssertionCapable, Local, Paseto, PasetoAsymmetricPublicKey,
@@ -34,11 +35,13 @@ use std::marker::PhantomData;
 ///
 /// A key is checked by a stored value, with `check_claim` or `extend_check_claims`, or by a validator of the
 /// caller's own, with `validate_claim` or `extend_validation_claims`. A key with a validator is judged by it
-/// alone. The stored values have whole numbers of 64 bits alone.
+/// alone. `check_times` brings the validators of `exp` and `nbf`, which judge at the parser's moment. The stored
+/// values have whole numbers of 64 bits alone.
 ///
-/// A call that refuses leaves the parser as it was. `check_claim`, `validate_claim`, `extend_check_claims` and
-/// `extend_validation_claims` lend the parser back, for chains of calls; `put_check`, `put_validator`,
-/// `put_checks` and `put_validators` are the same edits for code that goes on after a refusal.
+/// A call that refuses leaves the parser as it was. `check_claim`, `validate_claim`, `extend_check_claims`,
+/// `extend_validation_claims` and `check_times` lend the parser back, for chains of calls; `put_check`,
+/// `put_validator`, `put_checks`, `put_validators` and `put_times` are the same edits for code that goes on after
+/// a refusal.
 ///
 /// ```rust
 /// let mut parser = GenericParser::<V4, Local>::new(alloc);
@@ -53,6 +56,8 @@ pub struct TokenParser<'a, V, P, B> {
     version: PhantomData<V>,
     purpose: PhantomData<P>,
     checks: Checks<B>,
+    // When the times are judged, where they are.
+    moment: Timestamp,
     footer: Option<Footer<'a>>,
     implicit_assertion: Option<ImplicitAssertion<'a>>,
 }
@@ -69,6 +74,7 @@ impl<'a, V: VersionTrait, P: PurposeTrait, B: Drop> TokenParser<'a, V, P, B> {
             version: PhantomData,
             purpose: PhantomData,
             checks: Checks::new(alloc),
+            moment: Timestamp::UNIX_EPOCH,
             footer: None,
             implicit_assertion: None,
         }
@@ -92,6 +98,7 @@ impl<'a, V: VersionTrait, P: PurposeTrait, B: Drop> TokenParser<'a, V, P, B> {
     pub fn put_check<C: PasetoClaim>(&mut self, claim: &C) -> Result<(), GenericParserError>
         ensures ok { OnOk result (IsStored (C.key claim.now) (C.json claim.now) with_stored
             (rules_of self.old.checks) (rules_of self.new.checks)) }
+        ensures moment { self.new.moment ≡ self.old.moment }
         ensures footer { self.new.footer ≡ self.old.footer }
         ensures implicit_assertion { self.new.implicit_assertion ≡ self.old.implicit_assertion }
         ensures err { OnErr result (AreSame (rules_of self.new.checks) (rules_of self.old.checks)) }
@@ -108,6 +115,7 @@ impl<'a, V: VersionTrait, P: PurposeTrait, B: Drop> TokenParser<'a, V, P, B> {
         ensures lent { IfOk result (λ parser. parser.ghost_name ≡ self.entry.ghost_name) }
         ensures ok { IfOk result (λ parser. IsStored (C.key claim.now) (C.json claim.now) with_stored
             (rules_of self.entry.now.checks) (rules_of parser.now.checks)) }
+        ensures moment { IfOk result (λ parser. parser.now.moment ≡ self.entry.now.moment) }
         ensures footer { IfOk result (λ parser. parser.now.footer ≡ self.entry.now.footer) }
         ensures implicit_assertion { IfOk result (λ parser. parser.now.implicit_assertion ≡ self.entry.now.implicit_assertion) }
         ensures fault { IfErr result (IsRefusal (fault_in (whole_answer (C.key claim.now) (C.json claim.now)))) }
@@ -127,6 +135,7 @@ impl<'a, V: VersionTrait, P: PurposeTrait, B: Drop> TokenParser<'a, V, P, B> {
     ) -> Result<(), GenericParserError>
         ensures ok { OnOk result (IsStored (C.key claim.now) (C.json claim.now) (with_both (Judge.Boxed validator))
             (rules_of self.old.checks) (rules_of self.new.checks)) }
+        ensures moment { self.new.moment ≡ self.old.moment }
         ensures footer { self.new.footer ≡ self.old.footer }
         ensures implicit_assertion { self.new.implicit_assertion ≡ self.old.implicit_assertion }
         ensures err { OnErr result (AreSame (rules_of self.new.checks) (rules_of self.old.checks)) }
@@ -144,6 +153,7 @@ impl<'a, V: VersionTrait, P: PurposeTrait, B: Drop> TokenParser<'a, V, P, B> {
         ensures lent { IfOk result (λ parser. parser.ghost_name ≡ self.entry.ghost_name) }
         ensures ok { IfOk result (λ parser. IsStored (C.key claim.now) (C.json claim.now) (with_both (Judge.Boxed validator))
             (rules_of self.entry.now.checks) (rules_of parser.now.checks)) }
+        ensures moment { IfOk result (λ parser. parser.now.moment ≡ self.entry.now.moment) }
         ensures footer { IfOk result (λ parser. parser.now.footer ≡ self.entry.now.footer) }
         ensures implicit_assertion { IfOk result (λ parser. parser.now.implicit_assertion ≡ self.entry.now.implicit_assertion) }
         ensures fault { IfErr result (IsRefusal (fault_in (whole_answer (C.key claim.now) (C.json claim.now)))) }
@@ -159,6 +169,7 @@ impl<'a, V: VersionTrait, P: PurposeTrait, B: Drop> TokenParser<'a, V, P, B> {
     pub fn put_checks(&mut self, claims: BTreeMap<String, Value>) -> Result<(), GenericParserError>
         ensures ok { OnOk result (AreSame (rules_of self.new.checks) (all_stored (members_view claims.entries) (rules_of self.old.checks))) }
         ensures whole { OnOk result (first_odd (members_view claims.entries) ≡ None) }
+        ensures moment { self.new.moment ≡ self.old.moment }
         ensures footer { self.new.footer ≡ self.old.footer }
         ensures implicit_assertion { self.new.implicit_assertion ≡ self.old.implicit_assertion }
         ensures err { OnErr result (AreSame (rules_of self.new.checks) (rules_of self.old.checks)) }
@@ -176,6 +187,7 @@ impl<'a, V: VersionTrait, P: PurposeTrait, B: Drop> TokenParser<'a, V, P, B> {
         ensures ok { IfOk result (λ parser. AreSame (rules_of parser.now.checks)
             (all_stored (members_view claims.entries) (rules_of self.entry.now.checks))) }
         ensures whole { OnOk result (first_odd (members_view claims.entries) ≡ None) }
+        ensures moment { IfOk result (λ parser. parser.now.moment ≡ self.entry.now.moment) }
         ensures footer { IfOk result (λ parser. parser.now.footer ≡ self.entry.now.footer) }
         ensures implicit_assertion { IfOk result (λ parser. parser.now.implicit_assertion ≡ self.entry.now.implicit_assertion) }
         ensures fault { IfErr result (IsRefusal (odd_fault (members_view claims.entries))) }
@@ -192,6 +204,7 @@ impl<'a, V: VersionTrait, P: PurposeTrait, B: Drop> TokenParser<'a, V, P, B> {
         validators: BTreeMap<String, B>,
     ) -> Result<(), GenericParserError>
         ensures ok { OnOk result (AreSame (rules_of self.new.checks) (all_judged (judges_of validators.entries) (rules_of self.old.checks))) }
+        ensures moment { self.new.moment ≡ self.old.moment }
         ensures footer { self.new.footer ≡ self.old.footer }
         ensures implicit_assertion { self.new.implicit_assertion ≡ self.old.implicit_assertion }
         ensures err { OnErr result (AreSame (rules_of self.new.checks) (rules_of self.old.checks)) }
@@ -208,12 +221,59 @@ impl<'a, V: VersionTrait, P: PurposeTrait, B: Drop> TokenParser<'a, V, P, B> {
         ensures lent { IfOk result (λ parser. parser.ghost_name ≡ self.entry.ghost_name) }
         ensures ok { IfOk result (λ parser. AreSame (rules_of parser.now.checks)
             (all_judged (judges_of validators.entries) (rules_of self.entry.now.checks))) }
+        ensures moment { IfOk result (λ parser. parser.now.moment ≡ self.entry.now.moment) }
         ensures footer { IfOk result (λ parser. parser.now.footer ≡ self.entry.now.footer) }
         ensures implicit_assertion { IfOk result (λ parser. parser.now.implicit_assertion ≡ self.entry.now.implicit_assertion) }
         ensures fault { IfErr result IsMemory }
     {
         self.put_validators(validators)?;
         Ok(self)
+    }
+
+    /// Stores `exp` and `nbf` with their claims by default, sets what judges them alone from now on, and the
+    /// moment at which it does. A key that is there gets the new ones.
+    ///
+    /// `parse` then skips a value that is missing or null. Another one that is no text is `Unexpected` with the
+    /// key, and a text from which `jiff` reads no `Timestamp` is `RFC3339Date` with the text. A token is `Expired`
+    /// where the instant under `exp` is at or before the moment, and `UseBeforeAvailable`, with the text, where
+    /// the one under `nbf` is at or after it. Nothing but memory is refused, and the parser is then unchanged.
+    ///
+    /// Source: PASETO specification, "Registered Claims"; RFC 3339, section 5.6.
+    pub fn put_times(&mut self, moment: Timestamp) -> Result<(), GenericParserError>
+        ensures ok { OnOk result (AreSame (rules_of self.new.checks) (with_times (rules_of self.old.checks))) }
+        ensures moment { OnOk result (self.new.moment ≡ moment) }
+        ensures footer { self.new.footer ≡ self.old.footer }
+        ensures implicit_assertion { self.new.implicit_assertion ≡ self.old.implicit_assertion }
+        ensures err { OnErr result (AreSame (rules_of self.new.checks) (rules_of self.old.checks)) }
+        ensures kept { OnErr result (self.new.moment ≡ self.old.moment) }
+        ensures fault { IfErr result IsMemory }
+    {
+        self.checks.judge_times()?;
+        self.moment = moment;
+        Ok(())
+    }
+
+    /// Checks the times at a moment, as `put_times` does, and lends the parser back.
+    pub fn check_times(&mut self, now: Timestamp) -> Result<&mut Self, GenericParserError>
+        ensures lent { IfOk result (λ parser. parser.ghost_name ≡ self.entry.ghost_name) }
+        ensures ok { IfOk result (λ parser. AreSame (rules_of parser.now.checks) (with_times (rules_of self.entry.now.checks))) }
+        ensures moment { IfOk result (λ parser. parser.now.moment ≡ now) }
+        ensures footer { IfOk result (λ parser. parser.now.footer ≡ self.entry.now.footer) }
+        ensures implicit_assertion { IfOk result (λ parser. parser.now.implicit_assertion ≡ self.entry.now.implicit_assertion) }
+        ensures fault { IfErr result IsMemory }
+    {
+        self.put_times(now)?;
+        Ok(self)
+    }
+
+    /// Sets the moment at which the times are judged, and keeps the rest. It changes no answer of a parser that
+    /// checks no times. No memory is taken.
+    pub fn set_now(&mut self, now: Timestamp) -> &mut Self
+        ensures lent { result.ghost_name ≡ self.entry.ghost_name }
+        ensures change { result.now ≡ record self.entry.now { moment = now } }
+    {
+        self.moment = now;
+        self
     }
 
     /// The footer that a token is to be bound to: what was set last, and the empty one before. No memory is
@@ -270,11 +330,11 @@ impl<V: UnboxedVersion> TokenParser<'_, V, Local, ValidatorFn> {
         key: &PasetoSymmetricKey<V, Local>,
     ) -> Result<Value, GenericParserError>
         ensures { let binding = binding_of key.now self.now.footer (assertion_in V.design.binds_assertion self.now.implicit_assertion) in
-            IsParseAnswer (opening V.design binding) (verdicts_of (λ b. verdict b) self.now.checks) token.now result }
+            IsParseAnswer (opening V.design binding) (verdicts_of (λ b. verdict b) self.now.moment.nanosecond self.now.checks) token.now result }
     {
         let assertion = V::bound_assertion(self.implicit_assertion);
         let opened = V::open(self.checks.allocator(), token, key, self.footer, assertion);
-        parse_opened(&self.checks, opened)
+        parse_opened(&self.checks, self.moment, opened)
     }
 }
 
@@ -290,11 +350,11 @@ impl TokenParser<'_, V2, Local, ValidatorFn> {
         key: &PasetoSymmetricKey<V2, Local>,
     ) -> Result<Value, GenericParserError>
         ensures { let binding = binding_of key.now self.now.footer None in
-            IsParseAnswer (box_opening S.sealing binding) (verdicts_of (λ b. verdict b) self.now.checks) token.now result }
+            IsParseAnswer (box_opening S.sealing binding) (verdicts_of (λ b. verdict b) self.now.moment.nanosecond self.now.checks) token.now result }
     {
         let alloc = self.checks.allocator();
         let opened = Paseto::<V2, Local>::try_decrypt(alloc, sealed_box, token, key, self.footer);
-        parse_opened(&self.checks, opened)
+        parse_opened(&self.checks, self.moment, opened)
     }
 }
 
@@ -315,11 +375,11 @@ impl<V> TokenParser<'_, V, Public, ValidatorFn> {
     where
         V: Verifies<S>,
         ensures { let binding = binding_of key.now self.now.footer (assertion_in V.public_design.binds_assertion self.now.implicit_assertion) in
-            IsParseAnswer (verification V.valid V.refused V.public_design binding) (verdicts_of (λ b. verdict b) self.now.checks) token.now result }
+            IsParseAnswer (verification V.valid V.refused V.public_design binding) (verdicts_of (λ b. verdict b) self.now.moment.nanosecond self.now.checks) token.now result }
     {
         let assertion = V::signed_assertion(self.implicit_assertion);
         let alloc = self.checks.allocator();
         let opened = V::verify(alloc, scheme, token, key, self.footer, assertion);
-        parse_opened(&self.checks, opened)
+        parse_opened(&self.checks, self.moment, opened)
     }
 }

@@ -1,0 +1,26 @@
+-- What the checks of the times `exp` and `nbf` find at a moment, which is a number of nanoseconds since
+-- 1970-01-01T00:00:00Z. Which texts are a date and time is jiff's (RFC 3339, section 5.6).
+use Rattle.std.specs.Prelude.{ℕ, ℤ, List, if◌then◌else◌, int_le, Option, Some, None, Result, Ok, Err}
+use Rattle.jiff.specs.Words.{Error, parse_timestamp}
+use Rattle.serde_json.specs.Data.{null, string}
+use Rattle.rusty_paseto_claims.specs.Error.{Fault, expired, malformed_date, unexpected, use_before_available}
+use Rattle.rusty_paseto_generic.specs.Validator.{Verdict}
+
+-- the fault of a text: that of its instant, or that it has none
+abbrev pub text_fault : List ℕ → (ℤ → Option Fault) → Result ℤ Error → Option Fault
+text_fault text fault (Ok instant) = fault instant
+text_fault text fault (Err error) = Some (malformed_date text)
+
+-- the fault of a value that is null, or a text with an instant: null has none
+abbrev pub time_fault : (List ℕ → ℤ → Option Fault) → Verdict
+time_fault fault key null = None
+time_fault fault key (string text) = text_fault text (fault text) (parse_timestamp text)
+time_fault fault key other = Some (unexpected key)
+
+-- a token has expired from the instant on
+abbrev pub expiry : ℤ → Verdict
+expiry now = time_fault (λ text instant. if int_le instant now then Some expired else None)
+
+-- a token may be used after the instant
+abbrev pub not_before : ℤ → Verdict
+not_before now = time_fault (λ text instant. if int_le now instant then Some (use_before_available text) else None)
