@@ -1,0 +1,3 @@
+pub mod MomentLemmas
+pub mod KeyLemmas
+pub mod StaysOut

@@ -1,0 +1,4 @@
+pub mod Moment
+pub mod PasetoBuilder
+pub mod Held
+pub mod Laws

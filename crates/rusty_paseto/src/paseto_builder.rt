@@ -1,0 +1,332 @@
+//! The default builder of tokens.
+
+ghost use Rattle.std.specs.Prelude.{◌≡◌, ◌⊎◌, None, Some, IsSome, IfOk, IfErr, OnOk, OnErr, is_some, ℕ, List, false, string_bytes};
+ghost use Rattle.serde_json.specs.Data.{put, string};
+ghost use Rattle.serde_json.specs.Find.{get_member};
+ghost use Rattle.serde_json.specs.View.{members_view};
+ghost use Rattle.rusty_paseto_core.specs.Context.{binding_of};
+ghost use Rattle.rusty_paseto_generic.specs.Error.{IsMemory, IsOfBox, IsOfGenerator};
+ghost use Rattle.rusty_paseto_generic.specs.Builders.Claims.{IsReadBack, IsRefusal, becomes, claim_set, without};
+ghost use Rattle.rusty_paseto_generic.specs.Builders.Held.{held};
+ghost use Rattle.rusty_paseto_generic.specs.Builders.GenericBuilder.{IsBoxAnswer, IsSealed, IsSignAnswer};
+ghost use Rattle.rusty_paseto.specs.Held.{counting};
+ghost use Rattle.rusty_paseto.specs.Moment.{FitsDefault};
+ghost use Rattle.rusty_paseto.specs.PasetoBuilder.{IsDefaultClaims, IsDuplicate, IsRefusedRepeat, IsSame, NeverExpires, acknowledged, counted, expiration_key, nothing_counted};
+
+use crate::keys::Keys;
+use crate::moment::{hour_after, text_of};
+use crate::version::BoxlessVersion;
+use jiff::Timestamp;
+use rand_core::TryRng;
+use rusty_paseto_core::{
+    Footer, ImplicitAssertion, ImplicitAssertionCapable, Local, PasetoAsymmetricPrivateKey,
+    PasetoSymmetricKey, Public, PublicVersion, PurposeTrait, SealedBox, Signs, V2, VersionTrait,
+};
+use rusty_paseto_generic::{GenericBuilder, GenericBuilderError, PasetoClaim};
+use serde_json::{Map, Value};
+use std::alloc::{AllocError, Global};
+
+/// The key of the expiration claim.
+const EXPIRATION: &str = "exp";
+
+/// A builder of tokens that begins with the usual claims: an expiration an hour from now, and now as the
+/// moment of issue and the first moment of use.
+///
+/// It counts the keys that are set. For a key that was set twice nothing is built, so that no claim replaces
+/// another unseen; the three claims that it begins with may each be replaced once.
+///
+/// A call that refuses leaves the builder as it was. The builder keeps its claims, so that it may make any
+/// number of tokens.
+///
+/// ```rust
+/// let mut builder = PasetoBuilder::<V4, Local>::default(alloc, now)?;
+/// builder.set_claim(&AudienceClaim::from("customers"))?.set_footer(Footer::from("key-1"));
+/// let token = builder.build(&mut rng, &key)?;
+/// ```
+#[derive(Drop)]
+pub struct PasetoBuilder<'a, V, P> {
+    alloc: Global,
+    builder: GenericBuilder<'a, V, P>,
+    keys: Keys,
+}
+
+impl<'a, V: VersionTrait, P: PurposeTrait> PasetoBuilder<'a, V, P> {
+    /// A builder with the claims `exp`, an hour after the moment, and `iat` and `nbf`, the moment, and with
+    /// no footer and no implicit assertion. None of the keys is counted yet. All memory is asked of the
+    /// allocator, and nothing but memory is refused.
+    ///
+    /// The moment is one that `fits_default`. Moments are written in UTC, with the fraction of the second
+    /// where there is one, up to its last digit that is not zero.
+    pub fn default(alloc: Global, now: Timestamp) -> Result<Self, GenericBuilderError>
+        requires { FitsDefault now }
+        ensures claims { IfOk result (λ made. IsDefaultClaims now (held made.builder.claims)) }
+        ensures keys { IfOk result (λ made. IsSame nothing_counted (counting made.keys)) }
+        ensures footer { IfOk result (λ made. made.builder.paseto.footer ≡ None) }
+        ensures implicit_assertion { IfOk result (λ made. made.builder.paseto.implicit_assertion ≡ None) }
+        ensures err { IfErr result IsMemory }
+    {
+        let mut builder = GenericBuilder::new(alloc);
+        builder.put_claims(default_claims(alloc, now)?)?;
+        Ok(PasetoBuilder {
+            alloc,
+            builder,
+            keys: Keys::new(alloc),
+        })
+    }
+
+    /// Stores a claim under its key, as `put_claim` of a `GenericBuilder` does, and counts the key, the empty
+    /// one too. A key that was counted before becomes the repeated key.
+    ///
+    /// `ClaimError` comes for a value that holds another number than a whole one of 64 bits, `Unexpected`
+    /// with the key, and for a fault of the claim. The builder is then unchanged.
+    pub fn put_claim<C: PasetoClaim>(&mut self, claim: &C) -> Result<(), GenericBuilderError>
+        ensures ok { OnOk result (claim_set (C.key claim.now) (C.json claim.now) (held self.old.builder.claims)
+            ≡ becomes (held self.new.builder.claims)) }
+        ensures keys { OnOk result (IsSame (counted (C.key claim.now) (counting self.old.keys)) (counting self.new.keys)) }
+        ensures rest { self.new.builder.paseto ≡ self.old.builder.paseto }
+        ensures err { OnErr result (held self.new.builder.claims ≡ held self.old.builder.claims) }
+        ensures err_keys { OnErr result (IsSame (counting self.old.keys) (counting self.new.keys)) }
+        ensures fault { IfErr result
+            (IsRefusal (claim_set (C.key claim.now) (C.json claim.now) (held self.old.builder.claims))) }
+    {
+        let key = String::from_str(self.alloc, claim.get_key())?;
+        if self.keys.has(key.as_str()) {
+            self.builder.put_claim(claim)?;
+            self.keys.repeat(key);
+            return Ok(());
+        }
+        self.put_new(key, claim)
+    }
+
+    // The same for a key that was not counted. It is counted first, which takes memory, and taken out again
+    // where the claim is refused.
+    fn put_new<C: PasetoClaim>(&mut self, key: String, claim: &C) -> Result<(), GenericBuilderError>
+        requires key { string_bytes key ≡ C.key claim.now }
+        requires new { (counting self.now.keys).is_counted (string_bytes key) ≡ false }
+        ensures ok { OnOk result (claim_set (C.key claim.now) (C.json claim.now) (held self.old.builder.claims)
+            ≡ becomes (held self.new.builder.claims)) }
+        ensures keys { OnOk result (IsSame (acknowledged (C.key claim.now) (counting self.old.keys)) (counting self.new.keys)) }
+        ensures rest { self.new.builder.paseto ≡ self.old.builder.paseto }
+        ensures err { OnErr result (held self.new.builder.claims ≡ held self.old.builder.claims) }
+        ensures err_keys { OnErr result (IsSame (counting self.old.keys) (counting self.new.keys)) }
+        ensures fault { IfErr result
+            (IsRefusal (claim_set (C.key claim.now) (C.json claim.now) (held self.old.builder.claims))) }
+    {
+        self.keys.add(key)?;
+        if let Err(refusal) = self.builder.put_claim(claim) {
+            self.keys.take_out(claim.get_key());
+            return Err(refusal);
+        }
+        Ok(())
+    }
+
+    /// Stores a claim, as `put_claim` does, and lends the builder back.
+    pub fn set_claim<C: PasetoClaim>(&mut self, claim: &C) -> Result<&mut Self, GenericBuilderError>
+        ensures lent { IfOk result (λ made. made.ghost_name ≡ self.entry.ghost_name) }
+        ensures ok { IfOk result (λ made. claim_set (C.key claim.now) (C.json claim.now) (held self.entry.now.builder.claims)
+            ≡ becomes (held made.now.builder.claims)) }
+        ensures keys { IfOk result (λ made.
+            IsSame (counted (C.key claim.now) (counting self.entry.now.keys)) (counting made.now.keys)) }
+        ensures rest { IfOk result (λ made. made.now.builder.paseto ≡ self.entry.now.builder.paseto) }
+        ensures fault { IfErr result
+            (IsRefusal (claim_set (C.key claim.now) (C.json claim.now) (held self.entry.now.builder.claims))) }
+    {
+        self.put_claim(claim)?;
+        Ok(self)
+    }
+
+    /// Takes out the expiration and counts its key, which does not become a repeated key by that: what is
+    /// built from now on never expires. A token that never expires is a danger where it is stolen. An
+    /// expiration that is set later is set again, so that nothing is built.
+    ///
+    /// Nothing but memory is refused. The builder is then unchanged.
+    pub fn put_no_expiration_danger_acknowledged(&mut self) -> Result<(), GenericBuilderError>
+        ensures ok { OnOk result (held self.new.builder.claims ≡ without expiration_key (held self.old.builder.claims)) }
+        ensures keys { OnOk result (IsSame (acknowledged expiration_key (counting self.old.keys)) (counting self.new.keys)) }
+        ensures never { OnOk result (NeverExpires (held self.new.builder.claims) (counting self.new.keys)) }
+        ensures rest { self.new.builder.paseto ≡ self.old.builder.paseto }
+        ensures err { OnErr result (held self.new.builder.claims ≡ held self.old.builder.claims) }
+        ensures err_keys { OnErr result (IsSame (counting self.old.keys) (counting self.new.keys)) }
+        ensures fault { IfErr result IsMemory }
+    {
+        self.keys.add(String::from_str(self.alloc, EXPIRATION)?)?;
+        self.take_out_expiration();
+        Ok(())
+    }
+
+    // Takes out the expiration.
+    fn take_out_expiration(&mut self)
+        ensures claims { held self.new.builder.claims ≡ without expiration_key (held self.old.builder.claims) }
+        ensures gone { get_member expiration_key (held self.new.builder.claims) ≡ None }
+        ensures keys { self.new.keys ≡ self.old.keys }
+        ensures rest { self.new.builder.paseto ≡ self.old.builder.paseto }
+    {
+        self.builder.remove_claim(EXPIRATION);
+    }
+
+    /// Takes out the expiration, as `put_no_expiration_danger_acknowledged` does, and lends the builder back.
+    pub fn set_no_expiration_danger_acknowledged(
+        &mut self,
+    ) -> Result<&mut Self, GenericBuilderError>
+        ensures lent { IfOk result (λ made. made.ghost_name ≡ self.entry.ghost_name) }
+        ensures ok { IfOk result (λ made.
+            held made.now.builder.claims ≡ without expiration_key (held self.entry.now.builder.claims)) }
+        ensures keys { IfOk result (λ made.
+            IsSame (acknowledged expiration_key (counting self.entry.now.keys)) (counting made.now.keys)) }
+        ensures never { IfOk result (λ made. NeverExpires (held made.now.builder.claims) (counting made.now.keys)) }
+        ensures rest { IfOk result (λ made. made.now.builder.paseto ≡ self.entry.now.builder.paseto) }
+        ensures fault { IfErr result IsMemory }
+    {
+        self.put_no_expiration_danger_acknowledged()?;
+        Ok(self)
+    }
+
+    /// Sets the footer, the empty one too, and keeps the rest. No memory is taken.
+    pub fn set_footer(&mut self, footer: Footer<'a>) -> &mut Self
+        ensures lent { result.ghost_name ≡ self.entry.ghost_name }
+        ensures change { result.now.builder.paseto ≡ record self.entry.now.builder.paseto { footer = Some footer.entry } }
+        ensures claims { held result.now.builder.claims ≡ held self.entry.now.builder.claims }
+        ensures keys { result.now.keys ≡ self.entry.now.keys }
+    {
+        self.builder.set_footer(footer);
+        self
+    }
+
+    // Refuses to build where a key was set again.
+    fn check_keys(&self) -> Result<(), GenericBuilderError>
+        ensures ok { OnOk result ((counting self.now.keys).repeated ≡ None) }
+        ensures err { IfErr result (λ error. IsSome (counting self.now.keys).repeated
+            × (IsMemory error ⊎ IsDuplicate (counting self.now.keys).repeated error)) }
+    {
+        let Some(key) = self.keys.repeated() else {
+            return Ok(());
+        };
+        let key = String::from_str(self.alloc, key)?;
+        Err(GenericBuilderError::DuplicateTopLevelPayloadClaim(key))
+    }
+}
+
+impl<'a, V: ImplicitAssertionCapable, P: PurposeTrait> PasetoBuilder<'a, V, P> {
+    /// Sets the implicit assertion, the empty one too, and keeps the rest. No memory is taken.
+    pub fn set_implicit_assertion(&mut self, implicit_assertion: ImplicitAssertion<'a>) -> &mut Self
+        ensures lent { result.ghost_name ≡ self.entry.ghost_name }
+        ensures change { result.now.builder.paseto
+            ≡ record self.entry.now.builder.paseto { implicit_assertion = Some implicit_assertion.entry } }
+        ensures claims { held result.now.builder.claims ≡ held self.entry.now.builder.claims }
+        ensures keys { result.now.keys ≡ self.entry.now.keys }
+    {
+        self.builder.set_implicit_assertion(implicit_assertion);
+        self
+    }
+}
+
+impl<V: BoxlessVersion> PasetoBuilder<'_, V, Local> {
+    /// Seals the payload of the claims, as `try_encrypt` of a `GenericBuilder` does.
+    ///
+    /// `DuplicateTopLevelPayloadClaim` comes for the last key that was set again, before the generator is
+    /// asked. `CipherError` of `Cipher` comes where the generator fails.
+    ///
+    /// Source: PASETO specification, "Version 1", "Version 3" and "Version 4", "Encrypt".
+    pub fn build<R: TryRng>(
+        &self,
+        rng: &mut R,
+        key: &PasetoSymmetricKey<V, Local>,
+    ) -> Result<String, GenericBuilderError>
+        ensures repeated { IsRefusedRepeat (counting self.now.keys).repeated result }
+        ensures asked { IsSome (counting self.now.keys).repeated → rng.new ≡ rng.old }
+        ensures ok { let binding = binding_of key.now self.now.builder.paseto.footer self.now.builder.paseto.implicit_assertion in
+            IfOk result (λ token. IsSealed V.design binding (is_some self.now.builder.paseto.footer) (held self.now.builder.claims)
+            (λ nonce. R.may_fill rng.old nonce rng.new) (string_bytes token)) }
+        ensures read_back { OnOk result (IsReadBack (held self.now.builder.claims)) }
+        ensures err { (counting self.now.keys).repeated ≡ None → IfErr result (λ error. IsMemory error ⊎ IsOfGenerator error) }
+    {
+        self.check_keys()?;
+        self.builder.try_encrypt(rng, key)
+    }
+}
+
+impl PasetoBuilder<'_, V2, Local> {
+    /// Seals the payload of the claims by the caller's box, as `try_encrypt` of a `GenericBuilder` does.
+    ///
+    /// `DuplicateTopLevelPayloadClaim` comes for the last key that was set again, before the generator is
+    /// asked. `CipherError` comes of `Cipher` where the generator fails, and of `ChaChaCipherError` where the
+    /// box has no sealing of the payload.
+    ///
+    /// Source: PASETO specification, "Version 2", "Encrypt".
+    pub fn build<B: SealedBox, R: TryRng>(
+        &self,
+        sealed_box: &B,
+        rng: &mut R,
+        key: &PasetoSymmetricKey<V2, Local>,
+    ) -> Result<String, GenericBuilderError>
+        ensures repeated { IsRefusedRepeat (counting self.now.keys).repeated result }
+        ensures asked { IsSome (counting self.now.keys).repeated → rng.new ≡ rng.old }
+        ensures ok { let binding = binding_of key.now self.now.builder.paseto.footer None in
+            IfOk result (λ token. IsBoxAnswer B.sealing binding (is_some self.now.builder.paseto.footer)
+            (held self.now.builder.claims) (λ nonce. R.may_fill rng.old nonce rng.new) (Some (string_bytes token))) }
+        ensures read_back { OnOk result (IsReadBack (held self.now.builder.claims)) }
+        ensures err { let binding = binding_of key.now self.now.builder.paseto.footer None in
+            (counting self.now.keys).repeated ≡ None
+            → IfErr result (λ error. IsMemory error ⊎ (IsOfGenerator error
+            ⊎ (IsOfBox error
+            × IsBoxAnswer B.sealing binding (is_some self.now.builder.paseto.footer) (held self.now.builder.claims)
+            (λ nonce. R.may_fill rng.old nonce rng.new) None))) }
+    {
+        self.check_keys()?;
+        self.builder.try_encrypt(sealed_box, rng, key)
+    }
+}
+
+impl<V: PublicVersion> PasetoBuilder<'_, V, Public> {
+    /// Signs the payload of the claims, which stays readable, as `try_sign` of a `GenericBuilder` does.
+    ///
+    /// `DuplicateTopLevelPayloadClaim` comes for the last key that was set again, before the scheme is asked.
+    /// `CipherError` comes in the versions 2 and 4 of `TryFromSlice` for a private key that is not 64 bytes,
+    /// and of the scheme's own errors.
+    ///
+    /// Source: PASETO specification, "Version 1" to "Version 4", "Sign".
+    pub fn build<S>(
+        &self,
+        scheme: &mut S,
+        key: &PasetoAsymmetricPrivateKey<'_, V, Public>,
+    ) -> Result<String, GenericBuilderError>
+    where
+        V: Signs<S>,
+        ensures repeated { IsRefusedRepeat (counting self.now.keys).repeated result }
+        ensures asked { IsSome (counting self.now.keys).repeated → scheme.new ≡ scheme.old }
+        ensures answer { (counting self.now.keys).repeated ≡ None
+            → IsSignAnswer V.valid (V.declined key.now) V.public_design key.now (V.partner key.now)
+            self.now.builder.paseto.footer self.now.builder.paseto.implicit_assertion (held self.now.builder.claims) result }
+        ensures read_back { OnOk result (IsReadBack (held self.now.builder.claims)) }
+    {
+        self.check_keys()?;
+        self.builder.try_sign(scheme, key)
+    }
+}
+
+// The three claims that a default builder begins with.
+fn default_claims(alloc: Global, now: Timestamp) -> Result<Map<String, Value>, AllocError>
+    requires { FitsDefault now }
+    ensures { IfOk result (λ claims. IsDefaultClaims now (members_view claims.entries)) }
+{
+    let mut claims = Map::new(alloc);
+    let expiration = text_of(alloc, hour_after(now))?;
+    put_text(&mut claims, alloc, EXPIRATION, expiration)?;
+    let begin = text_of(alloc, now)?;
+    put_text(&mut claims, alloc, "iat", begin.clone()?)?;
+    put_text(&mut claims, alloc, "nbf", begin)?;
+    Ok(claims)
+}
+
+// Puts a text under its key.
+fn put_text(
+    claims: &mut Map<String, Value>,
+    alloc: Global,
+    key: &str,
+    text: String,
+) -> Result<(), AllocError>
+    ensures { OnOk result (members_view claims.new.entries
+        ≡ put key.now (string (string_bytes text)) (members_view claims.old.entries)) }
+{
+    serde_json::put(claims, alloc, key, Value::String(text))
+}

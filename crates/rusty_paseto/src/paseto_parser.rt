@@ -1,0 +1,234 @@
+//! The default parser of tokens.
+
+ghost use Rattle.std.specs.Prelude.{◌≡◌, if◌then◌else◌, None, IfOk, IfErr, OnOk, OnErr};
+ghost use Rattle.rusty_paseto_core.specs.Context.{binding_of};
+ghost use Rattle.rusty_paseto_core.specs.Local.Boxed.{box_opening};
+ghost use Rattle.rusty_paseto_core.specs.Local.Opening.{opening};
+ghost use Rattle.rusty_paseto_core.specs.Public.Verifying.{verification};
+ghost use Rattle.rusty_paseto_generic.specs.Error.Parser.{IsMemory, IsRefusal};
+ghost use Rattle.rusty_paseto_generic.specs.Parsers.Held.{rules_of, verdicts_of, with_times};
+ghost use Rattle.rusty_paseto_generic.specs.Parsers.Parsing.{IsParseAnswer, assertion_in};
+ghost use Rattle.rusty_paseto_generic.specs.declared.parsers.checks.Judge.TheVariants.{Boxed};
+ghost use Rattle.rusty_paseto_generic.specs.Parsers.Rules.{AreSame, IsStored, fault_in, no_rule, whole_answer, with_both, with_stored};
+
+use crate::version::BoxlessVersion;
+use jiff::Timestamp;
+use rusty_paseto_core::{
+    Footer, ImplicitAssertion, ImplicitAssertionCapable, Local, PasetoAsymmetricPublicKey,
+    PasetoSymmetricKey, Public, PurposeTrait, SealedBox, V2, Verifies, VersionTrait,
+};
+use rusty_paseto_generic::{GenericParserError, PasetoClaim, TokenParser, ValidatorFn};
+use serde_json::Value;
+use std::alloc::Global;
+
+/// A parser of tokens that refuses what has expired and what may not be used yet, where it is made by
+/// `default`: the usual parser beside a [`PasetoBuilder`](crate::PasetoBuilder).
+///
+/// The moment of both is the one that the parser was made with, or that `set_now` brought since. A claim that is
+/// to be checked beyond that comes with `check_claim`, or with `validate_claim` and the caller's own validator.
+///
+/// A call that refuses leaves the parser as it was. `check_claim` and `validate_claim` lend the parser back, for
+/// chains of calls; `put_check` and `put_validator` are the same edits for code that goes on after a refusal.
+///
+/// ```rust
+/// let mut parser = PasetoParser::<V4, Local>::default(alloc, now)?;
+/// parser.check_claim(&AudienceClaim::from("customers"))?.set_footer(Footer::from("key-1"));
+/// let claims = parser.parse(token, &key)?;
+/// ```
+pub type PasetoParser<'a, V, P> = DefaultParser<'a, V, P, ValidatorFn>;
+
+/// A parser whose validators are of the type `B`: a [`PasetoParser`], where that is a box.
+#[derive(Drop)]
+pub struct DefaultParser<'a, V, P, B> {
+    parser: TokenParser<'a, V, P, B>,
+}
+
+impl<'a, V: VersionTrait, P: PurposeTrait, B: Drop> DefaultParser<'a, V, P, B> {
+    /// A parser with no checks, not even of times, no footer and no implicit assertion. All its memory is asked
+    /// of the allocator, and none is taken yet.
+    pub fn new(alloc: Global) -> Self
+        ensures checks { AreSame (rules_of result.parser.checks) (λ key. no_rule) }
+        ensures footer { result.parser.footer ≡ None }
+        ensures implicit_assertion { result.parser.implicit_assertion ≡ None }
+    {
+        DefaultParser {
+            parser: TokenParser::new(alloc),
+        }
+    }
+
+    /// A parser that checks the times at a moment, as `check_times` of a `GenericParser` does, with no other
+    /// check, no footer and no implicit assertion. Nothing but memory is refused.
+    pub fn default(alloc: Global, now: Timestamp) -> Result<Self, GenericParserError>
+        ensures checks { IfOk result (λ made. AreSame (rules_of made.parser.checks) (with_times (λ key. no_rule))) }
+        ensures moment { IfOk result (λ made. made.parser.moment ≡ now) }
+        ensures footer { IfOk result (λ made. made.parser.footer ≡ None) }
+        ensures implicit_assertion { IfOk result (λ made. made.parser.implicit_assertion ≡ None) }
+        ensures fault { IfErr result IsMemory }
+    {
+        let mut parser = TokenParser::new(alloc);
+        parser.put_times(now)?;
+        Ok(DefaultParser { parser })
+    }
+
+    /// Sets the moment at which the times are judged, and keeps the rest. It changes no answer of a parser that
+    /// checks no times. No memory is taken.
+    pub fn set_now(&mut self, now: Timestamp) -> &mut Self
+        ensures lent { result.ghost_name ≡ self.entry.ghost_name }
+        ensures change { result.now.parser ≡ record self.entry.now.parser { moment = now } }
+    {
+        self.parser.set_now(now);
+        self
+    }
+
+    /// Stores a claim's JSON, as it is, under its key, as `put_check` of a `GenericParser` does. A key that is
+    /// there gets the new value and keeps its judge, so that a stored `exp` or `nbf` has no effect beside the
+    /// checks of the times.
+    ///
+    /// `ClaimError` comes for a value that holds another number than a whole one of 64 bits, `Unexpected`
+    /// with the key, and for a fault of the claim. The parser is then unchanged.
+    pub fn put_check<C: PasetoClaim>(&mut self, claim: &C) -> Result<(), GenericParserError>
+        ensures ok { OnOk result (IsStored (C.key claim.now) (C.json claim.now) with_stored
+            (rules_of self.old.parser.checks) (rules_of self.new.parser.checks)) }
+        ensures moment { self.new.parser.moment ≡ self.old.parser.moment }
+        ensures footer { self.new.parser.footer ≡ self.old.parser.footer }
+        ensures implicit_assertion { self.new.parser.implicit_assertion ≡ self.old.parser.implicit_assertion }
+        ensures err { OnErr result (AreSame (rules_of self.new.parser.checks) (rules_of self.old.parser.checks)) }
+        ensures fault { IfErr result (IsRefusal (fault_in (whole_answer (C.key claim.now) (C.json claim.now)))) }
+    {
+        self.parser.put_check(claim)
+    }
+
+    /// Stores a claim's JSON, as `put_check` does, and lends the parser back.
+    pub fn check_claim<C: PasetoClaim>(
+        &mut self,
+        claim: &C,
+    ) -> Result<&mut Self, GenericParserError>
+        ensures lent { IfOk result (λ parser. parser.ghost_name ≡ self.entry.ghost_name) }
+        ensures ok { IfOk result (λ made. IsStored (C.key claim.now) (C.json claim.now) with_stored
+            (rules_of self.entry.now.parser.checks) (rules_of made.now.parser.checks)) }
+        ensures moment { IfOk result (λ made. made.now.parser.moment ≡ self.entry.now.parser.moment) }
+        ensures footer { IfOk result (λ made. made.now.parser.footer ≡ self.entry.now.parser.footer) }
+        ensures implicit_assertion { IfOk result (λ made. made.now.parser.implicit_assertion ≡ self.entry.now.parser.implicit_assertion) }
+        ensures fault { IfErr result (IsRefusal (fault_in (whole_answer (C.key claim.now) (C.json claim.now)))) }
+    {
+        self.put_check(claim)?;
+        Ok(self)
+    }
+
+    /// Stores a claim's JSON, as `put_check` does, and a validator, which from now on judges the key alone, in
+    /// place of a check of times too.
+    ///
+    /// `ClaimError` comes as in `put_check`. The validator is then dropped, and the parser is unchanged.
+    pub fn put_validator<C: PasetoClaim>(
+        &mut self,
+        claim: &C,
+        validator: B,
+    ) -> Result<(), GenericParserError>
+        ensures ok { OnOk result (IsStored (C.key claim.now) (C.json claim.now) (with_both (Boxed validator))
+            (rules_of self.old.parser.checks) (rules_of self.new.parser.checks)) }
+        ensures moment { self.new.parser.moment ≡ self.old.parser.moment }
+        ensures footer { self.new.parser.footer ≡ self.old.parser.footer }
+        ensures implicit_assertion { self.new.parser.implicit_assertion ≡ self.old.parser.implicit_assertion }
+        ensures err { OnErr result (AreSame (rules_of self.new.parser.checks) (rules_of self.old.parser.checks)) }
+        ensures fault { IfErr result (IsRefusal (fault_in (whole_answer (C.key claim.now) (C.json claim.now)))) }
+    {
+        self.parser.put_validator(claim, validator)
+    }
+
+    /// Stores a claim's JSON and a validator, as `put_validator` does, and lends the parser back.
+    pub fn validate_claim<C: PasetoClaim>(
+        &mut self,
+        claim: &C,
+        validator: B,
+    ) -> Result<&mut Self, GenericParserError>
+        ensures lent { IfOk result (λ parser. parser.ghost_name ≡ self.entry.ghost_name) }
+        ensures ok { IfOk result (λ made. IsStored (C.key claim.now) (C.json claim.now) (with_both (Boxed validator))
+            (rules_of self.entry.now.parser.checks) (rules_of made.now.parser.checks)) }
+        ensures moment { IfOk result (λ made. made.now.parser.moment ≡ self.entry.now.parser.moment) }
+        ensures footer { IfOk result (λ made. made.now.parser.footer ≡ self.entry.now.parser.footer) }
+        ensures implicit_assertion { IfOk result (λ made. made.now.parser.implicit_assertion ≡ self.entry.now.parser.implicit_assertion) }
+        ensures fault { IfErr result (IsRefusal (fault_in (whole_answer (C.key claim.now) (C.json claim.now)))) }
+    {
+        self.put_validator(claim, validator)?;
+        Ok(self)
+    }
+
+    /// Sets the footer, the empty one too, and keeps the rest. No memory is taken.
+    pub fn set_footer(&mut self, footer: Footer<'a>) -> &mut Self
+        ensures lent { result.ghost_name ≡ self.entry.ghost_name }
+        ensures change { result.now.parser ≡ record self.entry.now.parser { footer = Some footer.entry } }
+    {
+        self.parser.set_footer(footer);
+        self
+    }
+}
+
+impl<'a, V: ImplicitAssertionCapable, P: PurposeTrait, B: Drop> DefaultParser<'a, V, P, B> {
+    /// Sets the implicit assertion, the empty one too, and keeps the rest. No memory is taken.
+    pub fn set_implicit_assertion(&mut self, implicit_assertion: ImplicitAssertion<'a>) -> &mut Self
+        ensures lent { result.ghost_name ≡ self.entry.ghost_name }
+        ensures change { result.now.parser ≡ record self.entry.now.parser { implicit_assertion = Some implicit_assertion.entry } }
+    {
+        self.parser.set_implicit_assertion(implicit_assertion);
+        self
+    }
+}
+
+impl<V: BoxlessVersion> DefaultParser<'_, V, Local, ValidatorFn> {
+    /// Opens a token and answers the value of its text, which passes all checks, as `parse` of a `GenericParser`
+    /// does, at the parser's moment and with the same faults in the same order.
+    ///
+    /// Source: PASETO specification, "Version 1", "Version 3" and "Version 4", "Decrypt".
+    pub fn parse(
+        &self,
+        token: &str,
+        key: &PasetoSymmetricKey<V, Local>,
+    ) -> Result<Value, GenericParserError>
+        ensures { let parser = self.now.parser in
+            let binding = binding_of key.now parser.footer (assertion_in V.design.binds_assertion parser.implicit_assertion) in
+            IsParseAnswer (opening V.design binding) (verdicts_of (λ b. verdict b) parser.moment.nanosecond parser.checks) token.now result }
+    {
+        self.parser.parse(token, key)
+    }
+}
+
+impl DefaultParser<'_, V2, Local, ValidatorFn> {
+    /// Opens a token by the caller's box, and answers the value of its text, which passes all checks, as the
+    /// other versions' `parse` does.
+    ///
+    /// Source: PASETO specification, "Version 2", "Decrypt".
+    pub fn parse<S: SealedBox>(
+        &self,
+        sealed_box: &S,
+        token: &str,
+        key: &PasetoSymmetricKey<V2, Local>,
+    ) -> Result<Value, GenericParserError>
+        ensures { let parser = self.now.parser in
+            IsParseAnswer (box_opening S.sealing (binding_of key.now parser.footer None))
+            (verdicts_of (λ b. verdict b) parser.moment.nanosecond parser.checks) token.now result }
+    {
+        self.parser.parse(sealed_box, token, key)
+    }
+}
+
+impl<V> DefaultParser<'_, V, Public, ValidatorFn> {
+    /// Verifies a token by the caller's scheme, and answers the value of its text, which passes all checks, as
+    /// `parse` of local tokens does.
+    ///
+    /// Source: PASETO specification, "Version 1" to "Version 4", "Verify".
+    pub fn parse<S>(
+        &self,
+        scheme: &S,
+        token: &str,
+        key: &PasetoAsymmetricPublicKey<'_, V, Public>,
+    ) -> Result<Value, GenericParserError>
+    where
+        V: Verifies<S>,
+        ensures { let parser = self.now.parser in
+            let binding = binding_of key.now parser.footer (assertion_in V.public_design.binds_assertion parser.implicit_assertion) in
+            IsParseAnswer (verification V.valid V.refused V.public_design binding)
+            (verdicts_of (λ b. verdict b) parser.moment.nanosecond parser.checks) token.now result }
+    {
+        self.parser.parse(scheme, token, key)
+    }
+}
