@@ -2,20 +2,14 @@
 # Checks the built program from outside: what no proof of a function can see, as the status of the
 # process, the words and streams that it is really given, and which stream gets what.
 #
-#   tests/program.sh [--pending] [PROGRAM]
+#   tests/program.sh [PROGRAM]
 #
 # Without PROGRAM it takes the one that `rt run` leaves in the crate's out/, and builds it where it is
-# not there. --pending also runs the checks of what is still to come (see the end of this file). The
-# last line is 'N passed, M failed', and the status is 0 where none failed.
+# not there. The last line is 'N passed, M failed', and the status is 0 where none failed.
 set -u
 export LC_ALL=C
 
 root=$(cd "$(dirname "$0")/.." && pwd)
-with_pending=no
-if [ "${1-}" = --pending ]; then
-    with_pending=yes
-    shift
-fi
 program=${1-$root/crates/paseto_tool/out/paseto_tool}
 if [ $# -eq 0 ] && [ ! -x "$program" ]; then
     echo "building the program"
@@ -186,9 +180,9 @@ gives 'open v4 with a footer' "$v4_footer" '' open v4 "$key" footer
 gives 'open v4 with footer and assertion' "$v4_both" '' open v4 "$key" footer x
 gives 'open v3 with footer and assertion' "$v3_both" '' open v3 "$key" '' x
 gives 'open v1 with a footer' "$v1_footer" '' open v1 "$key" footer
-gives 'open v4 without its footer section' "${v4_footer%.*}" '' open v4 "$key" footer
 
 refuses 'open v4 of the empty text under another key' "$v4_empty$line" "$bad_tag" open v4 "$other_key"
+refuses 'open v4 without its footer section' "${v4_footer%.*}" "$bad_footer" open v4 "$key" footer
 refuses 'open v4 with neither section nor footer' "${v4_footer%.*}" "$bad_tag" open v4 "$key"
 refuses 'open v4 with a footer that is not passed' "$v4_footer" "$bad_footer" open v4 "$key"
 refuses 'open v4 with footer and assertion exchanged' "$v4_both" "$bad_footer" open v4 "$key" x footer
@@ -350,10 +344,10 @@ head -c 300000000 /dev/zero \
     | (ulimit -v 100000; call seal v4 "$key" "$zero" >"$work/out" 2>"$work/err")
 verdict 'seal v4 of more than the memory that it may have' $?
 
-# ---- what is still to come
+# ---- words that are no text, and more words than there is memory for
 
 # A word that is not UTF-8 is a fault of usage.
-pending_words_that_are_no_text() {
+words_that_are_no_text() {
     misuses 'a token that is no text' inspect $'v4.local.payload.\xff'
     misuses 'a command that is no text' $'\xff'
     misuses 'a key that is no text' seal v4 $'\xff' "$zero"
@@ -363,7 +357,7 @@ pending_words_that_are_no_text() {
 # Where there is no memory for the words, that is said. So many words take the program more memory than
 # the shell that starts it, so that under some limits the shell starts it and it has too little. With
 # enough it says that they are no use.
-pending_no_memory_for_the_words() {
+no_memory_for_the_words() {
     local words limit status err refused=no used=no other=none
     words=$(printf 'a %.0s' {1..30000})
     for ((limit = 3000; limit <= 18000; limit += 500)); do
@@ -389,9 +383,7 @@ pending_no_memory_for_the_words() {
     fi
 }
 
-if [ "$with_pending" = yes ]; then
-    pending_words_that_are_no_text
-    pending_no_memory_for_the_words
-fi
+words_that_are_no_text
+no_memory_for_the_words
 
 finish

@@ -4,6 +4,11 @@
 //! allocator. The loop over the repetitions stands on this side of the call, so that what is measured
 //! is what a program in this language pays. Something of each repetition goes into the next one or
 //! into the answer, so that a compiler can leave none out.
+//!
+//! ```c
+//! uint8_t out[32];
+//! uint64_t sum = paseto_bench_blake2b(key, 32, plain, plain_length, out, 32, 1000);
+//! ```
 #![tactic(auto)]
 
 mod primitives;

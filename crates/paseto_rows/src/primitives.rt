@@ -86,7 +86,7 @@ fn check_xchacha20_apply(alloc: Global, fields: &[&str]) -> Result<(), RowError>
     check_xchacha20(alloc, key, nonce, data, output)
 }
 
-/// Checks data masked by XChaCha20.
+/// Checks data encrypted by XChaCha20.
 fn check_xchacha20(
     alloc: Global,
     key: &str,
@@ -101,7 +101,7 @@ fn check_xchacha20(
     compare(&masked, &bytes_of(alloc, output)?)
 }
 
-/// The input, masked by XChaCha20.
+/// The input, encrypted by XChaCha20.
 fn masked(key: &[u8; 32], nonce: &[u8; 24], input: Vec<u8>) -> Vec<u8>
     ensures { result.items ≡ masked (xchacha20_stream key.now nonce.now) input.items }
 {

@@ -1,5 +1,7 @@
 -- The statuses that the program ends with, and the texts of its own errors.
-use Rattle.std.specs.Prelude.{ℕ, ⊤}
+use Rattle.std.specs.Prelude.{ℕ, ⊤, alloc_error}
+use Rattle.std.specs.declared.io.ErrorKind.{ErrorKind}
+use Rattle.std.specs.declared.io.ErrorKind.TheVariants.{InvalidData, OutOfMemory}
 use Rattle.rusty_paseto_parts.specs.declared.error.PasetoError.{PasetoError}
 use Rattle.rusty_paseto_parts.specs.declared.error.PasetoError.TheVariants.{Memory as NoMemory}
 use Rattle.paseto_tool.specs.declared.error.ToolError.{ToolError}
@@ -14,6 +16,13 @@ status_of _ = 1
 abbrev pub tool_error_of : PasetoError → ToolError
 tool_error_of (NoMemory source) = Memory source
 tool_error_of error = Refused error
+
+-- why the words could not be read, by the kind of the system's error: memory was refused, a word is no text, or else
+-- the system failed
+abbrev pub words_error : ErrorKind → ToolError
+words_error OutOfMemory = Memory alloc_error
+words_error InvalidData = Usage
+words_error _ = InputOrOutput
 
 -- an error that says nothing of the words or of the input
 abbrev pub IsOutside : ToolError → Type 0

@@ -7,7 +7,7 @@ use crate::inspect::Inspection;
 use crate::open::Opening;
 use crate::seal::Sealing;
 use crate::version::Version;
-use rusty_paseto_core::{Footer, ImplicitAssertion};
+use rusty_paseto::paseto_core::{Footer, ImplicitAssertion};
 
 /// What the words ask for.
 #[derive(Clone, Copy)]

@@ -3,9 +3,10 @@
 ghost use Rattle.std.specs.Prelude.{◌≡◌};
 ghost use Rattle.paseto_tool.specs.declared.error.ToolError.TheVariants.{Refused, InputOrOutput, Memory};
 ghost use Rattle.rusty_paseto_parts.specs.declared.error.PasetoError.TheVariants.{Utf8Error as NotUtf8};
-ghost use Rattle.paseto_tool.specs.Error.{status_of, tool_error_of};
+ghost use Rattle.std.specs.IoError.{error_kind};
+ghost use Rattle.paseto_tool.specs.Error.{status_of, tool_error_of, words_error};
 
-use rusty_paseto_core::PasetoError;
+use rusty_paseto::paseto_core::PasetoError;
 use std::alloc::AllocError;
 use std::io;
 use std::str::Utf8Error;
@@ -36,6 +37,18 @@ impl ToolError {
         match self {
             ToolError::Usage => 2,
             ToolError::Refused(_) | ToolError::InputOrOutput | ToolError::Memory(_) => 1,
+        }
+    }
+
+    /// Why the words after the program's name could not be read: memory was refused; a word is no text, and so
+    /// asks for nothing that the program does; or else the system failed.
+    pub fn of_words(source: &io::Error) -> ToolError
+        ensures { result ≡ words_error (error_kind source.now) }
+    {
+        match source.kind() {
+            io::ErrorKind::OutOfMemory => ToolError::Memory(AllocError),
+            io::ErrorKind::InvalidData => ToolError::Usage,
+            _ => ToolError::InputOrOutput,
         }
     }
 }

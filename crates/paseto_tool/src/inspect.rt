@@ -4,7 +4,7 @@ ghost use Rattle.std.specs.Prelude.{IfOk, IfErr, string_bytes};
 ghost use Rattle.paseto_tool.specs.Inspect.{Inspects, IsInspectionReason};
 
 use crate::error::ToolError;
-use rusty_paseto_core::UntrustedToken;
+use rusty_paseto::paseto_core::UntrustedToken;
 use std::alloc::Global;
 
 /// `inspect TOKEN`

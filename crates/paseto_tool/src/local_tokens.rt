@@ -10,7 +10,7 @@ ghost use Rattle.paseto_tool.specs.Arguments.{given_assertion, given_footer};
 ghost use Rattle.paseto_tool.specs.Seal.{binding};
 
 use crate::arguments::Attachments;
-use rusty_paseto_core::{
+use rusty_paseto::paseto_core::{
     Local, LocalVersion, PasetoError, PasetoNonce, PasetoSymmetricKey, Payload,
 };
 use std::alloc::Global;

@@ -36,6 +36,8 @@ fn main(rt: HostRuntime) -> ExitCode {
 
 /// The words after the program's name.
 fn words(rt: &HostRuntime) -> Result<Vec<String>, ToolError> {
-    let words = env::args(rt)?.skip(1).collect(rt.alloc())?;
-    Ok(words)
+    match env::args(rt) {
+        Ok(words) => Ok(words.skip(1).collect(rt.alloc())?),
+        Err(error) => Err(ToolError::of_words(&error)),
+    }
 }

@@ -10,7 +10,7 @@ use crate::error::ToolError;
 use crate::input::read_whole;
 use crate::local_tokens::open;
 use crate::version::Version;
-use rusty_paseto_core::{Key, Local, LocalVersion, PasetoSymmetricKey, V1, V3, V4};
+use rusty_paseto::paseto_core::{Key, Local, LocalVersion, PasetoSymmetricKey, V1, V3, V4};
 use std::alloc::Global;
 use std::io::Read;
 use std::str;

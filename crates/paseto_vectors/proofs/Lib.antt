@@ -1,2 +1,3 @@
+mod PrimeLemmas
 mod ToyBlocks
 mod ToyOpening

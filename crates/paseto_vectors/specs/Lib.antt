@@ -1,4 +1,5 @@
 pub mod PlainBox
+pub mod Primes
 pub mod ToyBox
 pub mod ToyBoxLaws
 pub mod ToySchemes

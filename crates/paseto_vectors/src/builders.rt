@@ -2,7 +2,7 @@
 
 mod errors;
 mod every_kind;
-mod generators;
+pub(crate) mod generators;
 mod local;
 pub(crate) mod maps;
 mod payloads;

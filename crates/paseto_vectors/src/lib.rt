@@ -3,6 +3,14 @@
 //!
 //! A toy sealed box stands in for the one that a caller brings to tokens of version 2, and toy
 //! signature schemes for those that a caller brings to public tokens.
+//!
+//! ```rust
+//! let mut paseto = Paseto::<V4, Public>::builder();
+//! let token = paseto.try_sign(alloc, &mut ToyV4, &private_key)?;
+//! let text = Paseto::<V4, Public>::try_verify(alloc, &ToyV4, token.as_str(), &public_key, None, None)?;
+//! ```
+//!
+//! Anyone can sign by a toy, and a toy box keeps nothing secret.
 #![tactic(auto)]
 
 #[cfg(test)]
@@ -11,6 +19,8 @@ mod boxes;
 mod builders;
 #[cfg(test)]
 mod claims;
+#[cfg(test)]
+mod defaults;
 #[cfg(test)]
 mod encoding;
 #[cfg(test)]

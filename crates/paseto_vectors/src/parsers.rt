@@ -7,5 +7,5 @@ mod kinds;
 mod nesting;
 mod refusals;
 mod rows;
-mod steps;
+pub(crate) mod steps;
 mod validators;

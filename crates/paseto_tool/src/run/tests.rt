@@ -1,3 +1,5 @@
+//! The program over readers and writers that fail.
+
 use super::run;
 use std::alloc::{AllocError, Global};
 use std::io;

@@ -78,10 +78,27 @@ fn validators(rt: HostRuntime) -> Result<(), Fail> {
         steps,
         "The claim 'z' failed custom validation",
     )?;
-    check(&rt, alloc, "{\"z\":1}", steps, "")?;
-    let told = "The claim 'seats' failed validation.  Expected '' but received '4'";
+    check(&rt, alloc, "{\"z\":1}", steps, "")
+}
+
+// A validator is handed the value that the payload has, or null where it has none.
+#[test]
+fn a_validator_tells_the_number(rt: HostRuntime) -> Result<(), Fail> {
+    let alloc = rt.alloc();
     let steps = [Step::JudgeKey("seats", Rule::Tells), Step::Nothing];
-    check(&rt, alloc, "{\"seats\":4}", steps, told)
+    'rows: for (payload, text) in [
+        ("{\"seats\":4}", "4"),
+        ("{\"seats\":0,\"row\":4}", "0"),
+        ("{\"seats\":-9223372036854775808}", "-9223372036854775808"),
+        ("{\"seats\":18446744073709551615}", "18446744073709551615"),
+        ("{\"row\":4}", "null"),
+    ] {
+        let told = format!(in alloc;
+            "The claim 'seats' failed validation.  Expected '' but received '{text}'"
+        )?;
+        check(&rt, alloc, payload, steps, told.as_str())?;
+    }
+    Ok(())
 }
 
 #[test]

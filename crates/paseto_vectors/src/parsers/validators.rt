@@ -1,10 +1,9 @@
 //! Validators.
 
-ghost use Rattle.std.specs.Prelude.{None, Some, [], codes};
-ghost use Rattle.rusty_paseto_claims.specs.Error.{invalid};
-ghost use Rattle.paseto_vectors.specs.Validators.{refused_null};
+ghost use Rattle.std.specs.Prelude.{None};
+ghost use Rattle.paseto_vectors.specs.Validators.{refused_null, told};
 
-use rusty_paseto_claims::PasetoClaimError;
+use rusty_paseto_claims::{PasetoClaimError, is_whole};
 use rusty_paseto_generic::Validator;
 use serde_json::Value;
 use std::alloc::Global;
@@ -37,16 +36,19 @@ impl Validator for RefusesNull {
     }
 }
 
-/// A validator that refuses each value, and says that it is 4.
+/// A validator that refuses each value, and tells it as JSON.
 #[derive(Drop)]
 pub(crate) struct Tells;
 
 impl Validator for Tells {
-    ghost verdict = { λ _ key value. Some (invalid key [] (codes "4")) };
+    ghost verdict = { λ _ key value. told key value };
 
-    fn validate(&self, alloc: Global, key: &str, _value: &Value) -> Result<(), PasetoClaimError> {
+    fn validate(&self, alloc: Global, key: &str, value: &Value) -> Result<(), PasetoClaimError> {
         let key = String::from_str(alloc, key)?;
-        let told = String::from_str(alloc, "4")?;
-        Err(PasetoClaimError::Invalid(key, String::new(alloc), told))
+        if !is_whole(value) {
+            return Err(PasetoClaimError::Unexpected(key));
+        }
+        let text = value.to_string(alloc)?;
+        Err(PasetoClaimError::Invalid(key, String::new(alloc), text))
     }
 }

@@ -2,7 +2,7 @@
 
 use super::slow_blake2b::slow_blake2b;
 use crate::hexadecimal::array_of;
-use rusty_paseto_primitives::{Blake2b, blake2b_keyed};
+use rusty_paseto_primitives::{Blake2b, blake2b_keyed, blake2b_keyed_pair};
 use std::test::Fail;
 
 // RFC 7693, appendix A.
@@ -28,6 +28,74 @@ fn digests_of_a_slow_function(rt: HostRuntime) -> Result<(), Fail> {
         assert_eq!(rt; digest.as_slice(), expected.as_slice(), "{length} bytes");
     }
     Ok(())
+}
+
+// The digests of two messages at once, as CPython's hashlib gives them: digests that had changed places
+// would differ from both.
+#[test]
+fn pair_of_digests(rt: HostRuntime) -> Result<(), Fail> {
+    let first_known: [u8; 56] = array_of(concat!(
+        "7ecfce43b3e5057c06d22c97a9a0d669484017dac7dcb559b2cf5688",
+        "f0c3a8aa1c7a0e162fefce32013bfac2d23e961baedb67acc6024ccb",
+    ))?;
+    let second_known: [u8; 32] = array_of(
+        "ced66bf8f64801e5b8dc1f23a94f158101f2786960025c208e7636a44ba5bd36",
+    )?;
+    let first_message = b"the message in the first lane";
+    let second_message = b"and the one in the second";
+    let (first, second): ([u8; 56], [u8; 32]) = blake2b_keyed_pair(
+        &[0x3c; 32],
+        first_message,
+        second_message,
+    );
+    assert_eq!(rt; first.as_slice(), first_known.as_slice());
+    assert_eq!(rt; second.as_slice(), second_known.as_slice());
+    Ok(())
+}
+
+// Each of two messages has the digest that it has alone, whether a block holds both, one or none.
+#[test]
+fn pairs_of_a_slow_function(rt: HostRuntime) -> Result<(), Fail> {
+    let message = [0xa5u8; 256];
+    let key = [0x3cu8; 64];
+    'lengths: for (first_len, second_len) in [
+        (1usize, 128usize),
+        (128, 1),
+        (128, 129),
+        (129, 128),
+        (0, 127),
+        (127, 0),
+        (256, 0),
+    ] {
+        let first_expected = slow_blake2b(rt.alloc(), &key, 64, &message[..first_len])?;
+        let second_expected = slow_blake2b(rt.alloc(), &key, 33, &message[..second_len])?;
+        let (first, second): ([u8; 64], [u8; 33]) = blake2b_keyed_pair(
+            &key,
+            &message[..first_len],
+            &message[..second_len],
+        );
+        assert_eq!(rt;
+            first.as_slice(),
+            first_expected.as_slice(),
+            "{first_len} bytes"
+        );
+        assert_eq!(rt;
+            second.as_slice(),
+            second_expected.as_slice(),
+            "{second_len} bytes"
+        );
+    }
+    Ok(())
+}
+
+// Without a key there is no block of the key, so that the two are made one after the other.
+#[test]
+fn pair_without_a_key(rt: HostRuntime) {
+    let (first, second): ([u8; 64], [u8; 32]) = blake2b_keyed_pair(b"", b"abc", b"abc");
+    let first_alone: [u8; 64] = blake2b_keyed(b"", b"abc");
+    let second_alone: [u8; 32] = blake2b_keyed(b"", b"abc");
+    assert_eq!(&rt; first.as_slice(), first_alone.as_slice());
+    assert_eq!(&rt; second.as_slice(), second_alone.as_slice());
 }
 
 // The message in one piece and in two has one digest, wherever it is cut.

@@ -11,7 +11,8 @@ fn the_bound_pieces(rt: HostRuntime) -> Result<(), Fail> {
     let binding = Binding::of_footer(Some("footer"));
     'kinds: for kind in KINDS {
         let payload = payload_of(rt.alloc(), kind, b"hello", binding)?;
-        let token = token_of_payload(rt.alloc(), kind, &payload)?;
+        let bare = token_of_payload(rt.alloc(), kind, &payload)?;
+        let token = format!(in rt.alloc(); "{bare}.Zm9vdGVy")?;
         let text = kind.read(rt.alloc(), token.as_str(), binding)?;
         assert_eq!(rt; text.as_str(), "hello", "{kind:?}");
     }
@@ -21,7 +22,8 @@ fn the_bound_pieces(rt: HostRuntime) -> Result<(), Fail> {
     };
     'asserted: for kind in ASSERTED_KINDS {
         let payload = payload_of(rt.alloc(), kind, b"hello", binding)?;
-        let token = token_of_payload(rt.alloc(), kind, &payload)?;
+        let bare = token_of_payload(rt.alloc(), kind, &payload)?;
+        let token = format!(in rt.alloc(); "{bare}.Zm9vdGVy")?;
         let text = kind.read(rt.alloc(), token.as_str(), binding)?;
         assert_eq!(rt; text.as_str(), "hello", "{kind:?}");
     }

@@ -53,7 +53,8 @@ fn a_footer_and_an_assertion(rt: HostRuntime) -> Result<(), Fail> {
         let footer = Binding::of_footer(Some("footer"));
         let answer = kind.read(rt.alloc(), token.as_str(), footer);
         assert!(rt; kind.is_refused(&answer), "{kind:?}");
-        let token = kind.make(rt.alloc(), "hello", Binding::of_assertion(Some("footer")))?;
+        let bare = kind.make(rt.alloc(), "hello", Binding::of_assertion(Some("footer")))?;
+        let token = format!(in rt.alloc(); "{bare}.Zm9vdGVy")?;
         let answer = kind.read(rt.alloc(), token.as_str(), footer);
         assert!(rt; kind.is_refused(&answer), "{kind:?}");
     }

@@ -1,7 +1,8 @@
-//! The two forms of a token: with its footer's section and without. The text that a public token shows.
+//! The forms of a token: with its footer's section and, for the empty footer, without. The text that a public token shows.
 
-use crate::kinds::{Binding, Kind, PUBLIC_KINDS};
-use rusty_paseto_core::from_section;
+use crate::kinds::counting::Calls;
+use crate::kinds::{Binding, Kind, PUBLIC_KINDS, SECRET};
+use rusty_paseto_core::{PasetoError, from_section};
 use std::alloc::Global;
 use std::process::Abort;
 use std::test::Fail;
@@ -47,18 +48,43 @@ fn no_footer_and_an_empty_one(rt: HostRuntime) -> Result<(), Fail> {
     Ok(())
 }
 
-// A token whose footer section was taken off is read where the footer is passed.
+// A token whose footer section was taken off is refused where the footer is passed, and neither a box nor a
+// scheme is asked.
 #[test]
 fn a_stripped_footer(rt: HostRuntime) -> Result<(), Fail> {
     'kinds: for (kind, _) in LENGTHS {
         let token = kind.make(rt.alloc(), "", FOOTER)?;
+        let text = kind.read(rt.alloc(), token.as_str(), FOOTER)?;
+        assert_eq!(rt; text.as_str(), "", "{kind:?}");
         let stripped = token.as_str().strip_suffix(".Zm9vdGVy").ok_or("no footer")?;
-        'tokens: for token in [token.as_str(), stripped] {
-            let text = kind.read(rt.alloc(), token, FOOTER)?;
-            assert_eq!(rt; text.as_str(), "", "{kind:?} {token}");
-        }
+        let (answer, calls) = kind.read_counted(rt.alloc(), &SECRET, stripped, FOOTER);
+        assert!(rt;
+            matches!(answer, Err(PasetoError::FooterInvalid)),
+            "{kind:?}"
+        );
+        assert!(rt; calls == Calls::NONE, "{kind:?}");
         let answer = kind.read(rt.alloc(), stripped, Binding::NONE);
         assert!(rt; kind.is_refused(&answer), "{kind:?}");
+    }
+    Ok(())
+}
+
+// That a footer's section is lacking is found after the number of sections, and before the header.
+#[test]
+fn a_footer_that_is_lacking(rt: HostRuntime) -> Result<(), Fail> {
+    'kinds: for (kind, _) in LENGTHS {
+        let answer = kind.read(rt.alloc(), "v5.local.1234", FOOTER);
+        assert!(rt;
+            matches!(answer, Err(PasetoError::FooterInvalid)),
+            "{kind:?}"
+        );
+        let answer = kind.read(rt.alloc(), "v5.local.1234", Binding::NONE);
+        assert!(rt; matches!(answer, Err(PasetoError::WrongHeader)), "{kind:?}");
+        let answer = kind.read(rt.alloc(), "v5.local", FOOTER);
+        assert!(rt;
+            matches!(answer, Err(PasetoError::IncorrectSize)),
+            "{kind:?}"
+        );
     }
     Ok(())
 }

@@ -1,4 +1,4 @@
-//! Tokens put together from the primitives and the toys, with a nonce of zeros.
+//! Tokens put together from the primitives and the toys, with a nonce of zeros where none is given.
 
 ghost use Rattle.std.specs.Prelude.{◌≤◌};
 
@@ -44,15 +44,18 @@ fn derived<const N: usize>(salt: &[u8], info: &[u8]) -> [u8; N]
 }
 
 // Masks data of version 1.
-fn mask_v1(data: &mut [u8]) {
-    let key: [u8; 32] = derived(&[0; 16], ENCRYPTION);
-    aes256_ctr_apply(&key, &[0; 16], data);
+fn mask_v1(nonce: &[u8; 32], data: &mut [u8]) -> Result<(), Fail> {
+    let key: [u8; 32] = derived(&nonce[..16], ENCRYPTION);
+    let counter = nonce.last_chunk::<16>().ok_or("no counter")?;
+    aes256_ctr_apply(&key, counter, data);
+    Ok(())
 }
 
 // Masks data of version 3.
-fn mask_v3(data: &mut [u8]) -> Result<(), Fail> {
+fn mask_v3(nonce: &[u8; 32], data: &mut [u8]) -> Result<(), Fail> {
     let mut info = [0u8; 53];
     info[..21].copy_from_slice(ENCRYPTION);
+    info[21..].copy_from_slice(nonce);
     let keys: [u8; 48] = derived(&[], &info);
     let key = keys.first_chunk::<32>().ok_or("no key")?;
     let counter = keys.last_chunk::<16>().ok_or("no counter")?;
@@ -61,9 +64,10 @@ fn mask_v3(data: &mut [u8]) -> Result<(), Fail> {
 }
 
 // Masks data of version 4.
-fn mask_v4(data: &mut [u8]) -> Result<(), Fail> {
+fn mask_v4(nonce: &[u8; 32], data: &mut [u8]) -> Result<(), Fail> {
     let mut message = [0u8; 53];
     message[..21].copy_from_slice(ENCRYPTION);
+    message[21..].copy_from_slice(nonce);
     let keys: [u8; 56] = blake2b_keyed(&KEY, &message);
     let key = keys.first_chunk::<32>().ok_or("no key")?;
     let start = keys.last_chunk::<24>().ok_or("no start")?;
@@ -72,12 +76,13 @@ fn mask_v4(data: &mut [u8]) -> Result<(), Fail> {
 }
 
 // The tag of an encoding, in the versions 1, 3 and 4.
-fn tag_of(alloc: Global, kind: Kind, encoding: &[u8]) -> Result<Vec<u8>, Fail> {
+fn tag_of(alloc: Global, kind: Kind, nonce: &[u8; 32], encoding: &[u8]) -> Result<Vec<u8>, Fail> {
     let mut info = [0u8; 56];
     info[..24].copy_from_slice(AUTHENTICATION);
+    info[24..].copy_from_slice(nonce);
     let tag = match kind {
         Kind::V1Local => {
-            let key: [u8; 32] = derived(&[0; 16], AUTHENTICATION);
+            let key: [u8; 32] = derived(&nonce[..16], AUTHENTICATION);
             hmac_sha384(&key, encoding).to_vec(alloc)?
         }
         Kind::V3Local => {
@@ -104,23 +109,23 @@ fn pieces<'a>(
     [first, second, third, fourth, fifth]
 }
 
-// The payload of a local token of version 1, 3 or 4.
-fn tagged_payload(
+/// The payload of a local token of version 1, 3 or 4 under a nonce.
+pub(crate) fn payload_under(
     alloc: Global,
     kind: Kind,
+    nonce: &[u8; 32],
     text: &[u8],
     binding: Binding<'_>,
 ) -> Result<Vec<u8>, Fail> {
     let mut masked = text.to_vec(alloc)?;
     match kind {
-        Kind::V1Local => mask_v1(masked.as_mut_slice()),
-        Kind::V3Local => mask_v3(masked.as_mut_slice())?,
-        _ => mask_v4(masked.as_mut_slice())?,
+        Kind::V1Local => mask_v1(nonce, masked.as_mut_slice())?,
+        Kind::V3Local => mask_v3(nonce, masked.as_mut_slice())?,
+        _ => mask_v4(nonce, masked.as_mut_slice())?,
     }
-    let nonce = [0u8; 32];
     let pieces = pieces(
         kind.header().as_bytes(),
-        &nonce,
+        nonce,
         masked.as_slice(),
         binding.footer.unwrap_or("").as_bytes(),
         binding.assertion.unwrap_or("").as_bytes(),
@@ -131,9 +136,9 @@ fn tagged_payload(
         5usize
     };
     let encoding = PreAuthenticationEncoding::parse(alloc, &pieces[..end])?;
-    let tag = tag_of(alloc, kind, encoding.as_bytes())?;
+    let tag = tag_of(alloc, kind, nonce, encoding.as_bytes())?;
     let mut payload = Vec::new(alloc);
-    payload.extend_from_slice(&nonce)?;
+    payload.extend_from_slice(nonce)?;
     payload.extend_from_slice(&masked)?;
     payload.extend_from_slice(&tag)?;
     Ok(payload)
@@ -213,7 +218,7 @@ pub(crate) fn payload_of(
 ) -> Result<Vec<u8>, Fail> {
     match kind {
         Kind::V1Local | Kind::V3Local | Kind::V4Local => {
-            tagged_payload(alloc, kind, text, binding)
+            payload_under(alloc, kind, &[0; 32], text, binding)
         }
         Kind::V2Local => boxed_payload(alloc, text, binding),
         _ => bound_payload(alloc, kind, text, binding),

@@ -1,0 +1,63 @@
+//! A ticket office, as a program over the library would be written: it issues tickets, lets them in, and refuses
+//! one that has expired and one whose signature another key made.
+#![tactic(auto)]
+
+mod keyed_hash_scheme;
+mod signed;
+mod ticket;
+
+use anyhow::Result;
+use jiff::Timestamp;
+use keyed_hash_scheme::KeyedHashScheme;
+use rand::rngs::SysRng;
+use rusty_paseto::prelude::{
+    Key, Local, PasetoAsymmetricPrivateKey, PasetoAsymmetricPublicKey, PasetoSymmetricKey, Public,
+    V4,
+};
+
+fn main(rt: HostRuntime) -> Result<()> {
+    let now = Timestamp::now(&rt)?;
+    let soon = Timestamp::from_second(now.as_second().saturating_add(60))?;
+    show_local(&rt, now, soon)?;
+    show_signed(&rt, now, soon)
+}
+
+/// A ticket that the office alone can read is admitted soon, and refused tomorrow.
+fn show_local(rt: &HostRuntime, now: Timestamp, soon: Timestamp) -> Result<()> {
+    let alloc = rt.alloc();
+    let mut rng = SysRng::new(rt);
+    let key = PasetoSymmetricKey::<V4, Local>::from(Key::<32>::try_new_random(&mut rng)?);
+    let token = ticket::issue(alloc, now, &mut rng, &key)?;
+
+    let claims = ticket::admit(alloc, soon, token.as_str(), &key)?;
+    println!(rt; "admitted: {} seats", ticket::seats(&claims))?;
+
+    let tomorrow = Timestamp::from_second(now.as_second().saturating_add(86_400))?;
+    match ticket::admit(alloc, tomorrow, token.as_str(), &key) {
+        Ok(_) => println!(rt; "admitted tomorrow")?,
+        Err(refusal) => println!(rt; "refused tomorrow: {refusal}")?,
+    }
+    Ok(())
+}
+
+/// A signed ticket is admitted under the public key of the key that signed it, and refused under another.
+fn show_signed(rt: &HostRuntime, now: Timestamp, soon: Timestamp) -> Result<()> {
+    let alloc = rt.alloc();
+    let mut scheme = KeyedHashScheme;
+    let private = Key::<64>::try_new_random(&mut SysRng::new(rt))?;
+    let private_key = PasetoAsymmetricPrivateKey::<V4, Public>::from(&private);
+    let token = signed::issue(alloc, now, &mut scheme, &private_key, "Ada")?;
+
+    let public = Key::<32>::from_slice(&private.as_bytes()[32..]);
+    let public_key = PasetoAsymmetricPublicKey::<V4, Public>::from(&public);
+    let claims = signed::admit(alloc, soon, &scheme, token.as_str(), &public_key)?;
+    println!(rt; "admitted: {}", signed::subject(&claims))?;
+
+    let other = Key::<32>::default();
+    let other_key = PasetoAsymmetricPublicKey::<V4, Public>::from(&other);
+    match signed::admit(alloc, soon, &scheme, token.as_str(), &other_key) {
+        Ok(_) => println!(rt; "admitted under another key")?,
+        Err(refusal) => println!(rt; "refused under another key: {refusal}")?,
+    }
+    Ok(())
+}

@@ -1,0 +1,45 @@
+//! Tickets that everybody can read and the office alone can make: public tokens. The signature scheme, Ed25519 in
+//! version 4, is brought by the program.
+
+use anyhow::{Result, ensure};
+use jiff::Timestamp;
+use rusty_paseto::prelude::{
+    GenericParserError, PasetoAsymmetricPrivateKey, PasetoAsymmetricPublicKey, PasetoBuilder,
+    PasetoParser, Public, SignatureScheme, SubjectClaim, V4, fits_default,
+};
+use serde_json::Value;
+use std::alloc::Global;
+
+/// A signed ticket for the subject, which expires an hour from now.
+pub fn issue<S: SignatureScheme<64>>(
+    alloc: Global,
+    now: Timestamp,
+    scheme: &mut S,
+    key: &PasetoAsymmetricPrivateKey<'_, V4, Public>,
+    subject: &str,
+) -> Result<String> {
+    ensure!(fits_default(now), "the clock is past the year 9999");
+    let mut builder = PasetoBuilder::<V4, Public>::default(alloc, now)?;
+    builder.set_claim(&SubjectClaim::from(subject))?;
+    Ok(builder.build(scheme, key)?)
+}
+
+/// The claims of a signed ticket that is good at the moment, or why it is refused.
+pub fn admit<S: SignatureScheme<64>>(
+    alloc: Global,
+    now: Timestamp,
+    scheme: &S,
+    token: &str,
+    key: &PasetoAsymmetricPublicKey<'_, V4, Public>,
+) -> Result<Value, GenericParserError> {
+    let parser = PasetoParser::<V4, Public>::default(alloc, now)?;
+    parser.parse(scheme, token, key)
+}
+
+/// Whom a ticket is for.
+pub fn subject(claims: &Value) -> &str {
+    claims
+        .get("sub")
+        .and_then(|subject| subject.as_str())
+        .unwrap_or("nobody")
+}

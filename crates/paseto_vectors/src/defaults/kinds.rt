@@ -1,0 +1,177 @@
+//! What default builders and parsers of every kind of token answer.
+
+ghost use Rattle.rusty_paseto.specs.Moment.{FitsDefault};
+
+use crate::builders::generators::Zeros;
+use crate::defaults::claims::{Claim, check, set};
+use crate::kinds::toys::{Keys, ToyVersion};
+use crate::kinds::{Binding, Kind, SECRET, symmetric_key};
+use crate::toy_box::ToyBox;
+use jiff::Timestamp;
+use rusty_paseto::prelude::{
+    BoxlessVersion, Footer, GenericBuilderError, GenericParserError, ImplicitAssertion,
+    ImplicitAssertionCapable, Local, PasetoBuilder, PasetoParser, Public, PurposeTrait, Signs, V1,
+    V2, V3, V4, Verifies, VersionTrait, fits_default,
+};
+use serde_json::Value;
+use std::alloc::Global;
+use std::test::Fail;
+
+/// What a default builder answers.
+pub(crate) type Token = Result<String, GenericBuilderError>;
+
+/// What a default parser answers.
+pub(crate) type Answer = Result<Value, GenericParserError>;
+
+/// The moment so many nanoseconds after the first of 2024.
+pub(crate) fn moment_after(nanoseconds: i128) -> Result<Timestamp, Fail> {
+    let first = Timestamp::from_second(1_704_067_200)?;
+    Ok(Timestamp::from_nanosecond(first.as_nanosecond().wrapping_add(nanoseconds))?)
+}
+
+fn builder_of<'a, V: VersionTrait, P: PurposeTrait>(
+    alloc: Global,
+    now: Timestamp,
+    claims: &[Claim<'_>],
+    binding: Binding<'a>,
+) -> Result<PasetoBuilder<'a, V, P>, Fail> {
+    if !fits_default(now) {
+        return Err(Fail::from("no default builder begins at the moment"));
+    }
+    let mut builder = PasetoBuilder::<V, P>::default(alloc, now)?;
+    'claims: for claim in claims {
+        set(&mut builder, alloc, *claim)?;
+    }
+    if let Some(footer) = binding.footer {
+        builder.set_footer(Footer::from(footer));
+    }
+    Ok(builder)
+}
+
+fn asserting_builder_of<'a, V: ImplicitAssertionCapable, P: PurposeTrait>(
+    alloc: Global,
+    now: Timestamp,
+    claims: &[Claim<'_>],
+    binding: Binding<'a>,
+) -> Result<PasetoBuilder<'a, V, P>, Fail> {
+    let mut builder = builder_of::<V, P>(alloc, now, claims, binding)?;
+    if let Some(assertion) = binding.assertion {
+        builder.set_implicit_assertion(ImplicitAssertion::from(assertion));
+    }
+    Ok(builder)
+}
+
+fn sealed<V: BoxlessVersion>(builder: &PasetoBuilder<'_, V, Local>) -> Token {
+    builder.build(&mut Zeros, &symmetric_key(&SECRET))
+}
+
+fn boxed(builder: &PasetoBuilder<'_, V2, Local>) -> Token {
+    builder.build(&ToyBox, &mut Zeros, &symmetric_key(&SECRET))
+}
+
+fn signed<V: ToyVersion + Signs<V::Toy>>(builder: &PasetoBuilder<'_, V, Public>) -> Token {
+    let keys = Keys::of(&SECRET);
+    builder.build(&mut V::toy(), &V::private_key(&keys))
+}
+
+fn parser_of<'a, V: VersionTrait, P: PurposeTrait>(
+    alloc: Global,
+    now: Timestamp,
+    claims: &[Claim<'_>],
+    binding: Binding<'a>,
+) -> Result<PasetoParser<'a, V, P>, Fail> {
+    let mut parser = PasetoParser::<V, P>::default(alloc, now)?;
+    'claims: for claim in claims {
+        check(&mut parser, alloc, *claim)?;
+    }
+    if let Some(footer) = binding.footer {
+        parser.set_footer(Footer::from(footer));
+    }
+    Ok(parser)
+}
+
+fn asserting_parser_of<'a, V: ImplicitAssertionCapable, P: PurposeTrait>(
+    alloc: Global,
+    now: Timestamp,
+    claims: &[Claim<'_>],
+    binding: Binding<'a>,
+) -> Result<PasetoParser<'a, V, P>, Fail> {
+    let mut parser = parser_of::<V, P>(alloc, now, claims, binding)?;
+    if let Some(assertion) = binding.assertion {
+        parser.set_implicit_assertion(ImplicitAssertion::from(assertion));
+    }
+    Ok(parser)
+}
+
+fn opened<V: BoxlessVersion>(parser: &PasetoParser<'_, V, Local>, token: &str) -> Answer {
+    parser.parse(token, &symmetric_key(&SECRET))
+}
+
+fn unboxed(parser: &PasetoParser<'_, V2, Local>, token: &str) -> Answer {
+    parser.parse(&ToyBox, token, &symmetric_key(&SECRET))
+}
+
+fn verified<V: ToyVersion + Verifies<V::Toy>>(
+    parser: &PasetoParser<'_, V, Public>,
+    token: &str,
+) -> Answer {
+    let keys = Keys::of(&SECRET);
+    let key = V::public_key(&keys)?;
+    parser.parse(&V::toy(), token, &key)
+}
+
+impl Kind {
+    /// What a default builder that begins at the moment, and sets the claims, builds under the secret's keys and a
+    /// nonce of zeros.
+    pub(crate) fn build_default(
+        self,
+        alloc: Global,
+        now: Timestamp,
+        claims: &[Claim<'_>],
+        binding: Binding<'_>,
+    ) -> Result<Token, Fail> {
+        Ok(match self {
+            Kind::V1Local => sealed::<V1>(&builder_of(alloc, now, claims, binding)?),
+            Kind::V2Local => boxed(&builder_of(alloc, now, claims, binding)?),
+            Kind::V3Local => sealed::<V3>(&asserting_builder_of(alloc, now, claims, binding)?),
+            Kind::V4Local => sealed::<V4>(&asserting_builder_of(alloc, now, claims, binding)?),
+            Kind::V1Public => signed::<V1>(&builder_of(alloc, now, claims, binding)?),
+            Kind::V2Public => signed::<V2>(&builder_of(alloc, now, claims, binding)?),
+            Kind::V3Public => signed::<V3>(&asserting_builder_of(alloc, now, claims, binding)?),
+            Kind::V4Public => signed::<V4>(&asserting_builder_of(alloc, now, claims, binding)?),
+        })
+    }
+
+    /// What a default parser at the moment, which checks the claims, answers for a token under the secret's keys.
+    pub(crate) fn parse_default(
+        self,
+        alloc: Global,
+        token: &str,
+        now: Timestamp,
+        claims: &[Claim<'_>],
+        binding: Binding<'_>,
+    ) -> Result<Answer, Fail> {
+        Ok(match self {
+            Kind::V1Local => opened::<V1>(&parser_of(alloc, now, claims, binding)?, token),
+            Kind::V2Local => unboxed(&parser_of(alloc, now, claims, binding)?, token),
+            Kind::V3Local => opened::<V3>(
+                &asserting_parser_of(alloc, now, claims, binding)?,
+                token,
+            ),
+            Kind::V4Local => opened::<V4>(
+                &asserting_parser_of(alloc, now, claims, binding)?,
+                token,
+            ),
+            Kind::V1Public => verified::<V1>(&parser_of(alloc, now, claims, binding)?, token),
+            Kind::V2Public => verified::<V2>(&parser_of(alloc, now, claims, binding)?, token),
+            Kind::V3Public => verified::<V3>(
+                &asserting_parser_of(alloc, now, claims, binding)?,
+                token,
+            ),
+            Kind::V4Public => verified::<V4>(
+                &asserting_parser_of(alloc, now, claims, binding)?,
+                token,
+            ),
+        })
+    }
+}

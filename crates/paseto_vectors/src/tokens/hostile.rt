@@ -1,0 +1,117 @@
+//! Texts that are put in the place of tokens, under a known key.
+
+use super::parts::{payload_under, token_of_payload};
+use crate::kinds::{Binding, KINDS, Kind};
+use rusty_paseto_core::PasetoError;
+use std::alloc::Global;
+use std::process::Abort;
+use std::test::Fail;
+
+// The secret whose key of 32 bytes is `wubbalubbadubdub` twice.
+const KNOWN: [u8; 64] = *b"wubbalubbadubdubwubbalubbadubdubwubbalubbadubdubwubbalubbadubdub";
+
+// The local kinds, and how many bytes the shortest payload has of which more than the length is looked at.
+const SHORTEST: [(Kind, usize); 4] = [
+    (Kind::V1Local, 80),
+    (Kind::V2Local, 24),
+    (Kind::V3Local, 80),
+    (Kind::V4Local, 64),
+];
+
+// What is answered for so many bytes of zeros.
+fn answer_to_zeros(alloc: Global, kind: Kind, len: usize) -> Result<PasetoError, Fail> {
+    let payload = [0u8; 81];
+    let payload = payload.get(..len).ok_or("too long")?;
+    let token = token_of_payload(alloc, kind, payload)?;
+    let (answer, _) = kind.read_counted(alloc, &KNOWN, token.as_str(), Binding::NONE);
+    Ok(answer.err().ok_or("opened")?)
+}
+
+#[test]
+fn payloads_of_zeros(rt: HostRuntime) -> Result<(), Fail> {
+    'kinds: for (kind, shortest) in SHORTEST {
+        'lengths: for len in 0..82usize {
+            let answer = answer_to_zeros(rt.alloc(), kind, len)?;
+            let told = if len < shortest {
+                matches!(&answer, PasetoError::IncorrectSize)
+            } else {
+                kind.is_refused(&Err(answer))
+            };
+            assert!(rt; told, "{kind:?} {len}");
+        }
+    }
+    Ok(())
+}
+
+const BAD_COUNT: &str =
+    "This string has an incorrect number of parts and cannot be parsed into a token";
+
+const BAD_HEADER: &str = "The token header is invalid";
+
+const BAD_BASE64: &str = "A base64 decode error occurred";
+
+const TEXTS: [(&str, &str); 10] = [
+    ("v4.local.", BAD_COUNT),
+    ("v4.local..", BAD_COUNT),
+    ("v4.local...", BAD_COUNT),
+    (
+        "V4.local.AAAAAAAAAAAAAAAAAAAAAAAAAAAAAAAAAAAAAAAAAAAAAAAAAAAAAAAAAAAAAAAAAAAAAAAAAAAAAAAAAAAAAA",
+        BAD_HEADER,
+    ),
+    (".local.AAAA", BAD_HEADER),
+    ("v4.local.A+A/", BAD_BASE64),
+    ("v4.local.\u{e9}", BAD_BASE64),
+    ("v4.local.AAAA\n", BAD_BASE64),
+    ("v4.local.AAAA\r\n", BAD_BASE64),
+    ("v4.local.AAAA=", BAD_BASE64),
+];
+
+// What is answered in version 4 for a text that is no token.
+fn check(rt: &impl Abort, alloc: Global, text: &str, refusal: &str) -> Result<(), Fail> {
+    let (answer, _) = Kind::V4Local.read_counted(alloc, &KNOWN, text, Binding::NONE);
+    let error = answer.err().ok_or("opened")?;
+    assert_eq!(rt; format!(in alloc; "{error}")?.as_str(), refusal, "{text}");
+    Ok(())
+}
+
+#[test]
+fn texts_that_are_no_tokens(rt: HostRuntime) -> Result<(), Fail> {
+    'texts: for (text, refusal) in TEXTS {
+        check(&rt, rt.alloc(), text, refusal)?;
+    }
+    Ok(())
+}
+
+#[test]
+fn a_footer_without_its_last_letter(rt: HostRuntime) -> Result<(), Fail> {
+    let binding = Binding::of_footer(Some("footer"));
+    'kinds: for kind in KINDS {
+        let (made, _) = kind.make_counted(rt.alloc(), &KNOWN, "", binding);
+        let token = made?;
+        let cut = token
+            .as_str()
+            .strip_suffix(".Zm9vdGVy")
+            .ok_or("another footer")?;
+        let cut = format!(in rt.alloc(); "{cut}.Zm9vdGV")?;
+        let (answer, _) = kind.read_counted(rt.alloc(), &KNOWN, cut.as_str(), binding);
+        let refused = matches!(&answer, Err(PasetoError::FooterInvalid));
+        assert!(rt; refused, "{kind:?}");
+    }
+    Ok(())
+}
+
+// In version 1 the counter of a nonce that ends in 16 bytes `ff` begins anew after its first block.
+#[test]
+fn a_nonce_whose_counter_wraps(rt: HostRuntime) -> Result<(), Fail> {
+    let mut nonce = [0u8; 32];
+    nonce[16..].copy_from_slice(&[0xff; 16]);
+    let text = "aaaaaaaaaaaaaaaaaaaaaaaaaaaaaaaaa";
+    assert_eq!(rt; text.len(), 33);
+    'kinds: for kind in [Kind::V1Local, Kind::V3Local, Kind::V4Local] {
+        let payload = payload_under(rt.alloc(), kind, &nonce, text.as_bytes(), Binding::NONE)?;
+        let token = token_of_payload(rt.alloc(), kind, &payload)?;
+        let opened = kind.read(rt.alloc(), token.as_str(), Binding::NONE)?;
+        assert_eq!(rt; opened.as_str(), text, "{kind:?}");
+    }
+    Ok(())
+}
