@@ -7,7 +7,7 @@ ghost use Rattle.rusty_paseto_parts.specs.Error.{IsMemory};
 ghost use Rattle.rusty_paseto_core.specs.Context.{footer_of};
 ghost use Rattle.rusty_paseto_core.specs.Framing.{framing};
 
-use rusty_paseto_parts::{Footer, PasetoError, encode_section};
+use rusty_paseto_parts::{Footer, PasetoError, push_section};
 use std::alloc::{AllocError, Global};
 
 /// The token of a payload, with the footer's section where a footer is given.
@@ -26,12 +26,12 @@ pub(crate) fn frame(
     };
     let mut token = String::with_capacity(alloc, room)?;
     token.push_str(header)?;
-    encode_section(payload, &mut token)?;
+    push_section(payload, &mut token)?;
     let Some(footer) = footer else {
         return Ok(token);
     };
     token.push('.')?;
-    encode_section(footer.as_bytes(), &mut token)?;
+    push_section(footer.as_bytes(), &mut token)?;
     Ok(token)
 }
 

@@ -1,9 +1,32 @@
 -- What is said of errors.
-use Rattle.std.specs.Prelude.{⊤}
+use Rattle.std.specs.Prelude.{⊤, ℕ, List, codes}
 use Rattle.rusty_paseto_parts.specs.declared.error.PasetoError.{PasetoError}
-use Rattle.rusty_paseto_parts.specs.declared.error.PasetoError.TheVariants.{Memory}
+use Rattle.rusty_paseto_parts.specs.declared.error.PasetoError.TheVariants.{PasetoCipherError', Cryption, InvalidKey, Signature, KeyRejected, Cipher, RsaCipher, ECSDAError, InvalidLength, InvalidSignature, TryFromSlice, IncorrectSize, WrongHeader, FooterInvalid, PayloadBase64Decode, Utf8Error, ChaChaCipherError, Infallibale, FromUtf8Error, Memory}
 
 -- memory was refused
 abbrev pub IsMemory : PasetoError → Type 0
 IsMemory (Memory _) = ⊤
 IsMemory _ = ⊥
+
+-- what each error says
+abbrev pub error_text : PasetoError → List ℕ
+error_text (PasetoCipherError' _ _) = codes "A cipher error occurred"
+error_text Cryption = codes "An unspecified cryption error occured"
+error_text InvalidKey = codes "Key was not in the correct format"
+error_text Signature = codes "Could not assemble final signature."
+error_text KeyRejected = codes "A private RSA key was not in the correct format"
+error_text Cipher = codes "An unspecified cipher error occurred"
+error_text RsaCipher = codes "An unspecified cipher error occurred"
+error_text ECSDAError = codes "An unspecified ECSDA error occurred"
+error_text InvalidLength = codes "An unspecified cipher error occurred"
+error_text InvalidSignature = codes "The token signature could not be verified"
+error_text TryFromSlice = codes "A slice conversion error occurred"
+error_text IncorrectSize = codes "This string has an incorrect number of parts and cannot be parsed into a token"
+error_text WrongHeader = codes "The token header is invalid"
+error_text FooterInvalid = codes "The provided footer is invalid"
+error_text (PayloadBase64Decode _) = codes "A base64 decode error occurred"
+error_text (Utf8Error _) = codes "A Utf8 parsing error occurred"
+error_text ChaChaCipherError = codes "An unspecified cipher error occurred"
+error_text Infallibale = codes "A Utf8 parsing error occurred"
+error_text FromUtf8Error = codes "A Utf8 parsing error occurred"
+error_text (Memory _) = codes "No memory was found"

@@ -67,7 +67,7 @@ pub fn to_section(alloc: Global, bytes: &[u8]) -> Result<String, PasetoError>
 /// then the text is as it was.
 ///
 /// Source: RFC 4648, section 5.
-pub fn encode_section(bytes: &[u8], out: &mut String) -> Result<(), PasetoError>
+pub fn push_section(bytes: &[u8], out: &mut String) -> Result<(), PasetoError>
     ensures ok { OnOk result (string_bytes out.new ≡ string_bytes out.old ++ spelling bytes.now) }
     ensures same { OnErr result (string_bytes out.new ≡ string_bytes out.old) }
     ensures err { IfErr result IsMemory }

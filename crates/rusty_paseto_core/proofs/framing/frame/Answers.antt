@@ -12,14 +12,14 @@ with_footer header payload footer first second third whole a b c d = rw (d, c, b
 pub returns-in_default-footer-clause-ok : goal.returns-in_default-footer-clause-ok
 unfolding framing footer_part
 returns-in_default-footer-clause-ok c =
-    rw (c.in_ok-encode_section.ensures.ok, c.in_ok-push_str.ensures.bytes, c.in_ok-token.ensures.bytes, c.in_default-footer.is, append-nil) refl
+    rw (c.in_ok-push_section.ensures.ok, c.in_ok-push_str.ensures.bytes, c.in_ok-token.ensures.bytes, c.in_default-footer.is, append-nil) refl
 
 pub returns-clause-ok : goal.returns-clause-ok
 unfolding framing footer_part encode
 returns-clause-ok c =
     let header = c.in_ok-push_str.ensures.bytes ∙ rw c.in_ok-token.ensures.bytes refl in
-    let payload = c.in_ok-encode_section.ensures.ok in
+    let payload = c.in_ok-push_section.ensures.ok in
     let dot = c.in_ok-push.ensures.bytes in
-    let done = c.in_ok-encode_section-2.ensures.ok in
+    let done = c.in_ok-push_section-2.ensures.ok in
     let footer = c.as_bytes.ensures in
     rw (c.in-Some-footer.is) (with_footer _ _ _ _ _ _ _ header payload dot (rw footer at done))

@@ -1,5 +1,5 @@
 use Rattle.rusty_paseto_parts.specs.Section.{spelling}
-use Rattle.rusty_paseto_parts.proofs.section.encode_section.Goals as goal
+use Rattle.rusty_paseto_parts.proofs.section.push_section.Goals as goal
 
 pub returns-clause-ok : goal.returns-clause-ok
 unfolding spelling
