@@ -1,3 +1,4 @@
 pub mod MomentLemmas
 pub mod KeyLemmas
+pub mod KeyRingLemmas
 pub mod StaysOut

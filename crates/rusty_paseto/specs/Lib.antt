@@ -1,4 +1,5 @@
 pub mod Moment
 pub mod PasetoBuilder
+pub mod KeyRing
 pub mod Held
 pub mod Laws

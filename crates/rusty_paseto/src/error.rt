@@ -1,5 +1,10 @@
-//! The general error.
+//! The general error, and why a key ring refused a token.
 
+ghost use Rattle.std.specs.Prelude.{◌≡◌};
+ghost use Rattle.rusty_paseto.specs.declared.error.KeyRingError.TheVariants.{Memory};
+
+use rusty_paseto_core::PasetoError;
+use std::alloc::AllocError;
 use thiserror::Error;
 
 /// An error of tokens in general. No call of this library answers it: each has an error of its own, which
@@ -15,4 +20,41 @@ pub enum GeneralPasetoError {
     /// A date was malformed.
     #[error("A general date error occurred")]
     RFC3339Date,
+}
+
+/// Why a key ring took no key, or opened no token.
+///
+/// The variants stand in the order in which a token is judged: its footer, what the footer names, and then the
+/// token itself.
+#[derive(Debug, Drop, Error)]
+pub enum KeyRingError {
+    /// The footer could not be read from the token.
+    #[error("{0}")]
+    Untrusted(PasetoError),
+    /// The token has no fourth section.
+    #[error("The token has no footer")]
+    NoFooter,
+    /// The footer is not the JSON of an object.
+    #[error("The footer is not a JSON object")]
+    NotAnObject,
+    /// The object has no text under `kid`.
+    #[error("The footer names no key")]
+    NoKeyId,
+    /// The ring has no key of the id that the footer names.
+    #[error("The key '{0}' is not in the ring")]
+    UnknownKey(String),
+    /// The token was not opened under the key that its footer names.
+    #[error("{0}")]
+    Token(PasetoError),
+    /// Memory was refused.
+    #[error("No memory was found")]
+    Memory(AllocError),
+}
+
+impl From<AllocError> for KeyRingError {
+    ghost from_gives = { λ source error. error ≡ Memory source };
+
+    fn from(source: AllocError) -> KeyRingError {
+        KeyRingError::Memory(source)
+    }
 }

@@ -12,6 +12,7 @@
 
 mod error;
 pub mod generic;
+mod key_ring;
 mod keys;
 pub mod laws;
 mod moment;
@@ -21,8 +22,9 @@ mod paseto_parser;
 pub mod prelude;
 mod version;
 
-pub use error::GeneralPasetoError;
+pub use error::{GeneralPasetoError, KeyRingError};
+pub use key_ring::KeyRing;
 pub use moment::fits_default;
 pub use paseto_builder::PasetoBuilder;
 pub use paseto_parser::{DefaultParser, PasetoParser};
-pub use version::BoxlessVersion;
+pub use version::{AssertingVersion, BoxlessVersion};

@@ -1,7 +1,8 @@
 //! Everything of `generic` and `paseto_core`, and the items of this crate.
 
 pub use crate::{
-    BoxlessVersion, DefaultParser, GeneralPasetoError, PasetoBuilder, PasetoParser, fits_default,
+    AssertingVersion, BoxlessVersion, DefaultParser, GeneralPasetoError, KeyRing, KeyRingError,
+    PasetoBuilder, PasetoParser, fits_default,
 };
 pub use rusty_paseto_generic::{
     AssertionVersion, Audience, AudienceClaim, ClaimValue, CompressedKey, CustomClaim, DateClaim,

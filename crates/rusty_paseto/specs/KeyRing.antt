@@ -1,0 +1,122 @@
+-- A ring of keys, and what it answers for a token, whose footer names the key.
+use Rattle.std.specs.Prelude.{◌≡◌, ◌≢◌, ◌⊎◌, ⊤, ℕ, List, if◌then◌else◌, Option, Some, None, bytes_eq, codes, IsSome, Result, Ok, Err, IfOk, IfErr, MatchResult, String, string_bytes}
+use Rattle.std.specs.Global.{Global}
+use Rattle.std.specs.List.{slice_get}
+use Rattle.serde_json.specs.Data.{Data, string}
+use Rattle.serde_json.specs.Find.{as_object, get}
+use Rattle.serde_json.specs.Read.{read}
+use Rattle.rusty_paseto_core.specs.Reading.{IsFault, IsRead, Reading}
+use Rattle.rusty_paseto_parts.specs.Error.{IsMemory as IsMemoryOfCipher}
+use Rattle.rusty_paseto_parts.specs.Section.{HasCount, sections}
+use Rattle.rusty_paseto_parts.specs.UntrustedToken.{HasFooterText, IsTokenFooterFault}
+use Rattle.rusty_paseto_parts.specs.declared.error.PasetoError.{PasetoError}
+use Rattle.rusty_paseto_parts.specs.declared.error.PasetoError.TheVariants as Cipher
+use Rattle.rusty_paseto.specs.declared.error.KeyRingError.{KeyRingError}
+use Rattle.rusty_paseto.specs.declared.error.KeyRingError.TheVariants.{Untrusted, NoFooter, NotAnObject, NoKeyId, UnknownKey, Token, Memory}
+
+-- ---- the keys
+
+-- the key of each id, where it has one
+abbrev pub Keys : Type 0
+Keys = List ℕ → Option (List ℕ)
+
+-- each id has the same key
+abbrev pub AreSame : Keys → Keys → Type 0
+AreSame keys others = (id : List ℕ) → keys id ≡ others id
+
+-- the id has the key, and every other id has what it had
+abbrev pub with_key : List ℕ → List ℕ → Keys → Keys
+with_key id key old other = if bytes_eq id other then Some key else old other
+
+-- ---- the footer
+
+-- the token has three or four sections, and its footer is this text, or it has none
+pub record HasFooter (token : List ℕ) (footer : Option (List ℕ)) : Type 0 where
+  pub count : HasCount (sections token)
+  pub text : HasFooterText (slice_get (sections token) 3) footer
+
+-- the footer is the JSON of this object
+pub record IsObject (footer : List ℕ) (value : Data) : Type 0 where
+  pub is_json : read footer ≡ Some value
+  pub is_object : IsSome (as_object value)
+
+-- the object has the text under `kid`
+abbrev pub HasId : Data → List ℕ → Type 0
+HasId value id = get (codes "kid") value ≡ Some (string id)
+
+-- the footer names the id
+pub record Names (footer id : List ℕ) : Type 0 where
+  pub value : Data
+  pub object : IsObject footer value
+  pub has : HasId value id
+
+-- the error is the first reason why the footer names no id: it is no object, or the object has no such text
+abbrev pub IsNamingFault : List ℕ → KeyRingError → Type 0
+IsNamingFault footer NotAnObject = (value : Data) → ¬ IsObject footer value
+IsNamingFault footer NoKeyId = (value : Data) × IsObject footer value × ((id : List ℕ) → ¬ HasId value id)
+IsNamingFault footer _ = ⊥
+
+-- ---- the token
+
+-- how a token is read under a key and a footer
+abbrev pub Readings : Type 1
+Readings = List ℕ → List ℕ → Reading
+
+-- the token's footer, which is this text, names the id
+pub record NamesKey (token footer id : List ℕ) : Type 0 where
+  pub has : HasFooter token (Some footer)
+  pub names : Names footer id
+
+-- the token's footer names the id, whose key in the ring reads the token as the text, under the footer as it stands
+pub record IsOpened (keys : Keys) (reading : Readings) (token id text : List ℕ) : Type 0 where
+  pub footer : List ℕ
+  pub named : NamesKey token footer id
+  pub key : List ℕ
+  pub has_key : keys id ≡ Some key
+  pub is_read : IsRead (reading key footer) token text
+
+-- the error is the first fault: one of finding the footer, no footer, one of what it names, an id that is not in the
+-- ring, or one of reading the token under the key
+abbrev pub IsFirstFault : Keys → Readings → List ℕ → KeyRingError → Type 0
+IsFirstFault keys reading token (Untrusted source) = IsTokenFooterFault (sections token) source
+IsFirstFault keys reading token NoFooter = HasFooter token None
+IsFirstFault keys reading token (UnknownKey id) =
+    (footer : List ℕ) × NamesKey token footer (string_bytes id) × (keys (string_bytes id) ≡ None)
+IsFirstFault keys reading token (Token source) =
+    (footer : List ℕ) × (id : List ℕ) × NamesKey token footer id
+    × ((key : List ℕ) × (keys id ≡ Some key) × IsFault (reading key footer) token source)
+IsFirstFault keys reading token error = (footer : List ℕ) × HasFooter token (Some footer) × IsNamingFault footer error
+
+-- memory was refused
+abbrev pub IsMemory : KeyRingError → Type 0
+IsMemory (Memory _) = ⊤
+IsMemory _ = ⊥
+
+-- the answer is this id and this text
+abbrev pub IsPair : List ℕ → List ℕ → String Global × String Global → Type 0
+IsPair id text found = (string_bytes found.0 ≡ id) × (string_bytes found.1 ≡ text)
+
+-- the answer for a token: an id and a text as which it is opened, these wherever there are such unless memory is
+-- refused, and else the first fault; a wrong number of sections whatever memory there is
+pub record IsRingAnswer (keys : Keys) (reading : Readings) (token : List ℕ) (result : Result (String Global × String Global) KeyRingError) : Type 0 where
+  pub opened : IfOk result (λ found. IsOpened keys reading token (string_bytes found.0) (string_bytes found.1))
+  pub complete : (id text : List ℕ) → IsOpened keys reading token id text → MatchResult result (IsPair id text) IsMemory
+  pub count : ¬ HasCount (sections token) → result ≡ Err (Untrusted Cipher.IncorrectSize)
+  pub fault : IfErr result (λ error. IsMemory error ⊎ IsFirstFault keys reading token error)
+
+-- ---- for private clauses
+
+-- the error is the first fault of finding the footer: one of reading the token's sections, or no footer
+abbrev pub IsUntrustedFault : List ℕ → KeyRingError → Type 0
+IsUntrustedFault token (Untrusted source) = IsTokenFooterFault (sections token) source
+IsUntrustedFault token NoFooter = HasFooter token None
+IsUntrustedFault token _ = ⊥
+
+-- the error for one of the core, which is handed on in this variant: want of memory stays want of memory
+abbrev pub IsHandedOn : PasetoError → KeyRingError → KeyRingError → Type 0
+IsHandedOn source handed error = (IsMemoryOfCipher source × IsMemory error) ⊎ ((¬ IsMemoryOfCipher source) × (error ≡ handed))
+
+-- the answer for what the token was opened as under the id's key
+abbrev pub IsOpenedUnder : String Global → Result (String Global) PasetoError → Result (String Global × String Global) KeyRingError → Type 0
+IsOpenedUnder id opened result =
+    MatchResult opened (λ text. result ≡ Ok (id, text)) (λ source. MatchResult result (λ found. ⊥) (IsHandedOn source (Token source)))
