@@ -1,35 +1,58 @@
 //! Why the program does not do what it was asked.
 
-ghost use Rattle.std.specs.Prelude.{◌≡◌};
+ghost use Rattle.std.specs.Prelude.{◌≡◌, ℕ, List};
 ghost use Rattle.paseto_tool.specs.declared.error.ToolError.TheVariants.{Refused, InputOrOutput, Memory};
 ghost use Rattle.rusty_paseto_parts.specs.declared.error.PasetoError.TheVariants.{Utf8Error as NotUtf8};
 ghost use Rattle.std.specs.IoError.{error_kind};
-ghost use Rattle.paseto_tool.specs.Error.{status_of, tool_error_of, words_error};
+ghost use Rattle.std.specs.Io.{StartsWith};
+ghost use Rattle.std.specs.Io.KnownBytes.{Appends};
+ghost use Rattle.paseto_tool.specs.Error.{line_of, status_of, text_of, tool_error_of, words_error};
 
+use crate::output::write_whole;
 use rusty_paseto::paseto_core::PasetoError;
 use std::alloc::AllocError;
-use std::io;
+use std::io::{self, Write};
 use std::str::Utf8Error;
-use thiserror::Error;
 
-/// Why the program ends with another status than 0. The text is what it says on standard error.
-#[derive(Debug, Drop, Error)]
+const USAGE: &str =
+    "usage: paseto_tool inspect TOKEN | seal VERSION KEY NONCE [FOOTER [ASSERTION]] | open VERSION KEY [FOOTER [ASSERTION]]";
+
+/// Why the program ends with another status than 0.
+#[derive(Debug, Drop)]
 pub enum ToolError {
     /// The words ask for nothing that the program does.
-    #[error("usage: paseto_tool inspect TOKEN | seal VERSION KEY NONCE [FOOTER [ASSERTION]] | open VERSION KEY [FOOTER [ASSERTION]]")]
     Usage,
     /// A key, a nonce, a text or a token was refused.
-    #[error("{0}")]
     Refused(PasetoError),
     /// A read or a write failed, or a write took no byte.
-    #[error("input or output failed")]
     InputOrOutput,
     /// Memory was refused.
-    #[error("No memory was found")]
     Memory(AllocError),
 }
 
 impl ToolError {
+    /// What the program says of it on standard error: one line, without its end.
+    fn text(&self) -> &'static str
+        ensures { result.now ≡ text_of self.now }
+    {
+        match self {
+            ToolError::Usage => USAGE,
+            ToolError::Refused(source) => source.text(),
+            ToolError::InputOrOutput => "input or output failed",
+            ToolError::Memory(_) => "No memory was found",
+        }
+    }
+
+    /// Writes the text and a line feed, or a beginning of them where a write fails, which changes nothing else. No
+    /// memory is taken.
+    pub fn say<E: Write>(&self, errors: &mut E)
+        ensures { (said : List ℕ) × StartsWith (line_of self.now) said × Appends (E.contents errors.old) (E.contents errors.new) said }
+    {
+        if write_whole(errors, self.text().as_bytes()).is_ok() {
+            let _ = write_whole(errors, b"\n");
+        }
+    }
+
     /// The status that the program ends with.
     pub fn status(&self) -> u8
         ensures { result ≡ status_of self.now }

@@ -15,7 +15,6 @@ mod version;
 use error::ToolError;
 use run::run;
 use std::env;
-use std::io::Write;
 use std::process::ExitCode;
 
 fn main(rt: HostRuntime) -> ExitCode {
@@ -27,8 +26,7 @@ fn main(rt: HostRuntime) -> ExitCode {
             ExitCode::from(status)
         }
         Err(error) => {
-            // A fault of the error writer changes no status.
-            let _ = errors.writeln(&error);
+            error.say(&mut errors);
             ExitCode::from(error.status())
         }
     }

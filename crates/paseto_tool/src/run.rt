@@ -3,6 +3,9 @@
 ghost use Rattle.std.specs.Prelude.{◌≡◌, ◌≢◌, ◌≤◌, ◌==◌, ◌↔◌, ◌⊎◌, ℕ, List, IfOk, IfErr, IfSome, IsErr, Err, is_ok, string_bytes};
 ghost use Rattle.std.specs.Io.KnownBytes.{Appends};
 ghost use Rattle.paseto_tool.specs.Arguments.{words_of, AsksToInspect, IsUsageFault};
+ghost use Rattle.std.specs.Io.{StartsWith};
+ghost use Rattle.paseto_tool.specs.Error.{line_of, status_of};
+ghost use Rattle.paseto_tool.specs.declared.error.ToolError.{ToolError};
 ghost use Rattle.paseto_tool.specs.Run.{Prints, PrintsNothing, HasBadKey, IsReason, Writes};
 
 use crate::arguments::Command;
@@ -18,7 +21,8 @@ mod tests;
 ///
 /// It is 0 where the whole output was written, 2 where the words ask for nothing that the program
 /// does, and 1 where something was refused, where memory was, or where a read or a write failed; then
-/// the error's text and a line feed go to `errors`. Judged are, in this order, the words (their
+/// the error's text and a line feed go to `errors`, or a beginning of them where a write fails there, which
+/// changes no status. Judged are, in this order, the words (their
 /// number, the command, the version), KEY, NONCE, and the input, which is read whole, save that
 /// `inspect` reads none of it. What is refused writes nothing to `output`, and a write that fails
 /// leaves a beginning of the output there.
@@ -40,12 +44,13 @@ pub fn run<R: Read, W: Write, E: Write>(
         → (input.new ≡ input.old) × (output.new ≡ output.old) }
     ensures untouched { (token : List ℕ) → AsksToInspect (words_of args.now) token → input.new ≡ input.old }
     ensures quiet { result ≡ 0 → errors.new ≡ errors.old }
+    ensures said { result ≢ 0 → (error : ToolError) × (status_of error ≡ result) × IfSome (R.remaining input.old) (λ bytes. IsReason (words_of args.now) bytes error)
+        × ((said : List ℕ) × StartsWith (line_of error) said × Appends (E.contents errors.old) (E.contents errors.new) said) }
 {
     match print(alloc, args, input, output) {
         Ok(()) => 0,
         Err(error) => {
-            // A fault of the error writer changes no status.
-            let _ = errors.writeln(&error);
+            error.say(errors);
             error.status()
         }
     }
