@@ -1,8 +1,9 @@
 //! A ticket office, as a program over the library would be written: it issues tickets, lets them in, and refuses
-//! one that has expired and one whose signature another key made.
+//! one that has expired, one under a key that is retired, and one whose signature another key made.
 #![tactic(auto)]
 
 mod keyed_hash_scheme;
+mod rotation;
 mod signed;
 mod ticket;
 
@@ -11,14 +12,15 @@ use jiff::Timestamp;
 use keyed_hash_scheme::KeyedHashScheme;
 use rand::rngs::SysRng;
 use rusty_paseto::prelude::{
-    Key, Local, PasetoAsymmetricPrivateKey, PasetoAsymmetricPublicKey, PasetoSymmetricKey, Public,
-    V4,
+    Key, KeyRing, Local, PasetoAsymmetricPrivateKey, PasetoAsymmetricPublicKey, PasetoSymmetricKey,
+    Public, V4,
 };
 
 fn main(rt: HostRuntime) -> Result<()> {
     let now = Timestamp::now(&rt)?;
     let soon = Timestamp::from_second(now.as_second().saturating_add(60))?;
     show_local(&rt, now, soon)?;
+    show_rotation(&rt, now)?;
     show_signed(&rt, now, soon)
 }
 
@@ -36,6 +38,25 @@ fn show_local(rt: &HostRuntime, now: Timestamp, soon: Timestamp) -> Result<()> {
     match ticket::admit(alloc, tomorrow, token.as_str(), &key) {
         Ok(_) => println!(rt; "admitted tomorrow")?,
         Err(refusal) => println!(rt; "refused tomorrow: {refusal}")?,
+    }
+    Ok(())
+}
+
+/// A ticket opens under the key in the ring that its footer names, and one of a retired key does not.
+fn show_rotation(rt: &HostRuntime, now: Timestamp) -> Result<()> {
+    let alloc = rt.alloc();
+    let mut rng = SysRng::new(rt);
+    let october = PasetoSymmetricKey::<V4, Local>::from(Key::<32>::try_new_random(&mut rng)?);
+    let november = PasetoSymmetricKey::<V4, Local>::from(Key::<32>::try_new_random(&mut rng)?);
+    let old = rotation::issue(alloc, now, &mut rng, "2026-10", &october)?;
+    let new = rotation::issue(alloc, now, &mut rng, "2026-11", &november)?;
+
+    let mut ring = KeyRing::<V4>::new(alloc);
+    ring.add("2026-11", november)?;
+    println!(rt; "opened under {}", rotation::key_of(&ring, new.as_str())?)?;
+    match rotation::key_of(&ring, old.as_str()) {
+        Ok(id) => println!(rt; "opened under {id}")?,
+        Err(refusal) => println!(rt; "refused: {refusal}")?,
     }
     Ok(())
 }

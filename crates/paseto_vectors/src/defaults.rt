@@ -2,6 +2,7 @@
 
 mod claims;
 mod examples;
+mod key_rings;
 mod kinds;
 mod moments;
 mod primes;

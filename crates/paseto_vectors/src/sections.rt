@@ -2,9 +2,7 @@
 
 use crate::hexadecimal::array_of;
 use crate::long::text_of;
-use rusty_paseto_parts::{
-    PasetoError, encode_section, from_section, laws, split_token, to_section,
-};
+use rusty_paseto_parts::{PasetoError, from_section, laws, push_section, split_token, to_section};
 use std::test::Fail;
 
 #[test]
@@ -57,7 +55,7 @@ fn spellings(rt: HostRuntime) -> Result<(), Fail> {
     );
     assert_eq!(rt; from_section(alloc, "")?.len(), 0);
     let mut token = String::from_str(alloc, "v4.local.")?;
-    encode_section("foo".as_bytes(), &mut token)?;
+    push_section("foo".as_bytes(), &mut token)?;
     assert_eq!(rt; token.as_str(), "v4.local.Zm9v");
     laws::equal_spellings("foo".as_bytes(), "fop".as_bytes());
     Ok(())

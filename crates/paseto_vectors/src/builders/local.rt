@@ -36,7 +36,7 @@ fn is_of_generator(answer: &Result<String, GenericBuilderError>) -> bool {
     )
 }
 
-// The token is the core's under the generator's 32 bytes, twice.
+// The token is the core's under the generator's 32 bytes, twice, and once more after a generator that failed.
 fn check<V: UnboxedVersion>(rt: &impl Abort, alloc: Global) -> Result<(), Fail> {
     let key = PasetoSymmetricKey::<V, Local>::from(Key::from(KEY));
     let builder = builder_of::<V>(alloc)?;
@@ -51,6 +51,8 @@ fn check<V: UnboxedVersion>(rt: &impl Abort, alloc: Global) -> Result<(), Fail> 
     let mut failing = Failing { asked: 0 };
     assert!(rt; is_of_generator(&builder.try_encrypt(&mut failing, &key)));
     assert_eq!(rt; failing.asked, 1);
+    let token = builder.try_encrypt(&mut Counting::new(), &key)?;
+    assert_eq!(rt; token.as_str(), wanted.as_str());
     Ok(())
 }
 
@@ -85,6 +87,8 @@ fn of_version_2(rt: HostRuntime) -> Result<(), Fail> {
     let mut failing = Failing { asked: 0 };
     assert!(rt; is_of_generator(&builder.try_encrypt(&ToyBox, &mut failing, &key)));
     assert_eq!(rt; failing.asked, 1);
+    let token = builder.try_encrypt(&ToyBox, &mut Counting::new(), &key)?;
+    assert_eq!(rt; token.as_str(), wanted.as_str());
     Ok(())
 }
 

@@ -76,6 +76,20 @@ fn all_values_or_none(rt: HostRuntime) -> Result<(), Fail> {
 }
 
 #[test]
+fn extended_by_fractions(rt: HostRuntime) -> Result<(), Fail> {
+    let alloc = rt.alloc();
+    let mut builder = Builder::new(alloc);
+    let mut more = BTreeMap::new(alloc);
+    'rows: for (key, text) in [("a", "1"), ("b", "3.5"), ("c", "4.5")] {
+        drop(more.insert(String::from_str(alloc, key)?, Value::from_str(alloc, text)?)?);
+    }
+    let answer = builder.extend_claims(more).map(drop);
+    assert!(rt; is_unexpected(&answer, "b"));
+    assert_eq!(rt; builder.build_payload_from_claims()?.as_str(), "{}");
+    Ok(())
+}
+
+#[test]
 fn a_claims_own_fault(rt: HostRuntime) -> Result<(), Fail> {
     let mut builder = Builder::new(rt.alloc());
     let answer = builder.put_claim(&Unwritten);

@@ -1,10 +1,14 @@
 //! The times of a token, which a default builder writes and a default parser checks, over all kinds.
 
+use crate::builders::generators::Zeros;
 use crate::defaults::claims::Claim;
 use crate::defaults::kinds::moment_after;
 use crate::defaults::rows::{check_refusal, check_value};
-use crate::kinds::{Binding, KINDS, Kind};
+use crate::kinds::{Binding, KINDS, Kind, SECRET, symmetric_key};
+use crate::parsers::steps::map_of;
 use jiff::Timestamp;
+use rusty_paseto::prelude::{GenericBuilder, Local, PasetoParser, V4};
+use serde_json::Value;
 use std::alloc::Global;
 use std::process::Abort;
 use std::test::Fail;
@@ -175,4 +179,27 @@ fn other_payloads(rt: HostRuntime) -> Result<(), Fail> {
     check_payload(&rt, alloc, "5", &NONE, "")?;
     let unread = "The payload was unable to be serialized into json";
     check_payload(&rt, alloc, "{\"exp\":", &NONE, unread)
+}
+
+// A builder stores any whole number under `exp`, and a default parser refuses it.
+#[test]
+fn an_expiration_that_is_a_number(rt: HostRuntime) -> Result<(), Fail> {
+    let alloc = rt.alloc();
+    let key = symmetric_key(&SECRET);
+    let mut builder = GenericBuilder::<V4, Local>::new(alloc);
+    builder.extend_claims(map_of(alloc, "exp", Value::from(5u64))?)?;
+    assert_eq!(rt;
+        builder.build_payload_from_claims()?.as_str(),
+        "{\"exp\":5}"
+    );
+    let token = builder.try_encrypt(&mut Zeros, &key)?;
+    let parser = PasetoParser::<V4, Local>::default(alloc, moment_after(0)?)?;
+    let odd = "Could not convert claim 'exp' to the expected data type";
+    check_refusal(
+        &rt,
+        alloc,
+        Kind::V4Local,
+        parser.parse(token.as_str(), &key),
+        odd,
+    )
 }

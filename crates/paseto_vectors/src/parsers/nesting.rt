@@ -1,8 +1,13 @@
 //! How deep a payload may be nested.
 
-use crate::kinds::{Binding, KINDS};
+use crate::builders::generators::Zeros;
+use crate::kinds::{Binding, KINDS, SECRET, symmetric_key};
 use crate::parsers::kinds::Expected;
-use rusty_paseto_generic::GenericParserError;
+use crate::parsers::steps::custom;
+use rusty_paseto_claims::same_value;
+use rusty_paseto_core::{Local, V4};
+use rusty_paseto_generic::{GenericBuilder, GenericParser, GenericParserError};
+use serde_json::Value;
 use std::alloc::{AllocError, Global};
 use std::test::Fail;
 
@@ -33,5 +38,27 @@ fn at_most_127_deep(rt: HostRuntime) -> Result<(), Fail> {
         let told = matches!(&answer, Err(GenericParserError::PayloadJsonError { .. }));
         assert!(rt; told, "{kind:?}");
     }
+    Ok(())
+}
+
+// What is read of a token whose claim `a` is nested so deep.
+fn built(alloc: Global, depth: u8) -> Result<Result<Value, GenericParserError>, Fail> {
+    let key = symmetric_key(&SECRET);
+    let mut builder = GenericBuilder::<V4, Local>::new(alloc);
+    builder.put_claim(&custom(alloc, "a", nested(alloc, depth)?.as_str())?)?;
+    let token = builder.try_encrypt(&mut Zeros, &key)?;
+    Ok(GenericParser::<V4, Local>::new(alloc).parse(token.as_str(), &key))
+}
+
+#[test]
+fn a_claim_at_most_126_deep(rt: HostRuntime) -> Result<(), Fail> {
+    let alloc = rt.alloc();
+    let read = built(alloc, 126)??;
+    let wanted = Value::from_str(alloc, nested(alloc, 126)?.as_str())?;
+    let found = read.get("a").ok_or("no claim")?;
+    assert!(rt; same_value(found, &wanted));
+    let answer = built(alloc, 127)?;
+    let told = matches!(&answer, Err(GenericParserError::PayloadJsonError { .. }));
+    assert!(rt; told);
     Ok(())
 }

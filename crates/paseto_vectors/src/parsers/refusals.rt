@@ -50,15 +50,23 @@ fn other_numbers(rt: HostRuntime) -> Result<(), Fail> {
     check_passes(&rt, alloc, &parser, "{\"n\":4}")
 }
 
-#[test]
-fn all_values_or_none(rt: HostRuntime) -> Result<(), Fail> {
-    let alloc = rt.alloc();
-    let mut parser = Parser::new(alloc);
+// A whole number, and two that are none.
+fn fractions(alloc: Global) -> Result<BTreeMap<String, Value>, Fail> {
     let mut more = BTreeMap::new(alloc);
     'rows: for (key, text) in [("a", "1"), ("b", "3.5"), ("c", "4.5")] {
         drop(more.insert(String::from_str(alloc, key)?, Value::from_str(alloc, text)?)?);
     }
-    assert!(rt; is_unexpected(&parser.put_checks(more), "b"));
+    Ok(more)
+}
+
+#[test]
+fn all_values_or_none(rt: HostRuntime) -> Result<(), Fail> {
+    let alloc = rt.alloc();
+    let mut parser = Parser::new(alloc);
+    assert!(rt; is_unexpected(&parser.put_checks(fractions(alloc)?), "b"));
+    check_passes(&rt, alloc, &parser, "{}")?;
+    let answer = parser.extend_check_claims(fractions(alloc)?).map(drop);
+    assert!(rt; is_unexpected(&answer, "b"));
     check_passes(&rt, alloc, &parser, "{}")
 }
 
