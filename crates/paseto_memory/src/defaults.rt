@@ -1,0 +1,337 @@
+//! The calls of default builders and parsers.
+
+use crate::answer::{Answer, Told};
+use crate::boxed_local;
+use crate::claims::numbered;
+use crate::kinds::{Keyed, Keys, footer, symmetric_key};
+use crate::local::seal;
+use crate::parsers::{good, now};
+use crate::run::{Case, Run};
+use crate::signed::sign;
+use crate::toys::{Lenient, PlainBox, Refuses, Zeros, refusing};
+use anyhow::{Result, ensure};
+use rusty_paseto::prelude::{
+    AudienceClaim, BoxlessVersion, CustomClaim, Local, PasetoBuilder, PasetoParser, Public,
+    PurposeTrait, Signs, V1, V2, V3, V4, ValidatorFn, Verifies, VersionTrait, fits_default,
+};
+use std::alloc::Global;
+use std::io::Write;
+
+/// A builder is told by its token.
+impl Told for PasetoBuilder<'_, V4, Local> {
+    fn tell(&self, alloc: Global) -> Result<Vec<u8>> {
+        Answer::of(alloc, self.build(&mut Zeros, &symmetric_key()))?.tell(alloc)
+    }
+}
+
+/// A parser is told by what it answers for a token.
+impl Told for PasetoParser<'_, V4, Local> {
+    fn tell(&self, alloc: Global) -> Result<Vec<u8>> {
+        let token = seal::<V4>(alloc, good(alloc, "customers")?.as_str())?;
+        Answer::of(alloc, self.parse(token.as_str(), &symmetric_key()))?.tell(alloc)
+    }
+}
+
+/// Asks them.
+pub fn ask<W: Write>(run: &mut Run<W>) -> Result<()> {
+    ask_defaults(run)?;
+    ask_claims(run)?;
+    ask_repeated_claims(run)?;
+    ask_no_expiration(run)?;
+    ask_checks(run)?;
+    ask_validators(run)?;
+    ask_kinds(run)
+}
+
+fn ask_kinds<W: Write>(run: &mut Run<W>) -> Result<()> {
+    ask_local::<V1, W>(run, "v1.local")?;
+    ask_local::<V3, W>(run, "v3.local")?;
+    ask_local::<V4, W>(run, "v4.local")?;
+    ask_boxed_local(run)?;
+    let keys = Keys::new();
+    ask_signed::<V1, W>(run, &keys)?;
+    ask_signed::<V2, W>(run, &keys)?;
+    ask_signed::<V3, W>(run, &keys)?;
+    ask_signed::<V4, W>(run, &keys)
+}
+
+/// A builder of five claims and so many more, one of them with the text, and a footer.
+fn builder_of<V: VersionTrait, P: PurposeTrait>(
+    alloc: Global,
+    text: &str,
+    more: u64,
+) -> Result<PasetoBuilder<'static, V, P>> {
+    let now = now()?;
+    ensure!(fits_default(now), "no default builder begins at the moment");
+    let mut builder = PasetoBuilder::default(alloc, now)?;
+    builder.put_claim(&AudienceClaim::from("customers"))?;
+    builder.put_claim(&CustomClaim::try_from_str(alloc, "data", text)?)?;
+    'numbers: for number in 0..more {
+        builder.put_claim(&numbered(alloc, number)?)?;
+    }
+    builder.set_footer(footer());
+    Ok(builder)
+}
+
+/// A parser that checks fifteen claims, and expects the footer.
+fn parser_of<V: VersionTrait, P: PurposeTrait>(
+    alloc: Global,
+) -> Result<PasetoParser<'static, V, P>> {
+    let mut parser = PasetoParser::default(alloc, now()?)?;
+    parser.put_check(&CustomClaim::try_from_str(alloc, "seats", 4u64)?)?;
+    'numbers: for number in 0..12u64 {
+        parser.put_check(&numbered(alloc, number)?)?;
+    }
+    parser.set_footer(footer());
+    Ok(parser)
+}
+
+/// Two of them, of version 4 and local.
+pub fn two_builders(
+    alloc: Global,
+    text: &str,
+    more: u64,
+) -> Result<[PasetoBuilder<'static, V4, Local>; 2]> {
+    Ok([
+        builder_of(alloc, text, more)?,
+        builder_of(alloc, text, more)?,
+    ])
+}
+
+/// Two of them, of version 4 and local.
+pub fn two_parsers(alloc: Global) -> Result<[PasetoParser<'static, V4, Local>; 2]> {
+    Ok([parser_of(alloc)?, parser_of(alloc)?])
+}
+
+fn ask_defaults<W: Write>(run: &mut Run<W>) -> Result<()> {
+    let alloc = run.alloc();
+    let now = now()?;
+    ensure!(fits_default(now), "no default builder begins at the moment");
+    run.ask(
+        Case::of("PasetoBuilder::default", "a moment"),
+        &(),
+        &(),
+        |_| { PasetoBuilder::<V4, Local>::default(alloc, now) },
+    )?;
+    run.ask(
+        Case::of("DefaultParser::default", "a moment"),
+        &(),
+        &(),
+        |_| { PasetoParser::<V4, Local>::default(alloc, now) },
+    )
+}
+
+fn ask_claims<W: Write>(run: &mut Run<W>) -> Result<()> {
+    let alloc = run.alloc();
+    let text = run.text()?;
+    let text = text.as_str();
+    let claim = CustomClaim::try_from_str(alloc, "text", text)?;
+    // With ten more the claims are fifteen, and with thirteen more the keys that are counted.
+    let case = Case::of("PasetoBuilder::put_claim", "a claim");
+    run.change(
+        case,
+        two_builders(alloc, text, 10)?,
+        [(), (), ()],
+        |builder, _| { builder.put_claim(&claim) },
+    )?;
+    let case = Case::of("PasetoBuilder::put_claim", "a claim beside many");
+    run.change(
+        case,
+        two_builders(alloc, text, 13)?,
+        [(), (), ()],
+        |builder, _| { builder.put_claim(&claim) },
+    )?;
+    let case = Case::of("PasetoBuilder::set_claim", "a claim");
+    run.change(
+        case,
+        two_builders(alloc, text, 10)?,
+        [(), (), ()],
+        |builder, _| {
+            match builder.set_claim(&claim) {
+                Ok(_) => Ok(()),
+                Err(error) => Err(error),
+            }
+        },
+    )
+}
+
+// A claim that is set again makes a key the repeated one, for which nothing is built.
+fn ask_repeated_claims<W: Write>(run: &mut Run<W>) -> Result<()> {
+    let alloc = run.alloc();
+    let claim = AudienceClaim::from("others");
+    let case = Case::of("PasetoBuilder::put_claim", "a key that was set");
+    run.change(
+        case,
+        two_builders(alloc, "a", 10)?,
+        [(), (), ()],
+        |builder, _| { builder.put_claim(&claim) },
+    )?;
+    let mut untouched = builder_of::<V4, Local>(alloc, "a", 10)?;
+    let mut builder = builder_of::<V4, Local>(alloc, "a", 10)?;
+    untouched.put_claim(&claim)?;
+    builder.put_claim(&claim)?;
+    let case = Case::refused("PasetoBuilder::build", "a key that was set again");
+    let key = symmetric_key::<V4>();
+    run.ask(
+        case,
+        &untouched,
+        &builder,
+        |builder| builder.build(&mut Zeros, &key),
+    )
+}
+
+fn ask_no_expiration<W: Write>(run: &mut Run<W>) -> Result<()> {
+    let alloc = run.alloc();
+    let call = "PasetoBuilder::put_no_expiration_danger_acknowledged";
+    let builders = two_builders(alloc, "a", 10)?;
+    run.change(
+        Case::of(call, "a builder"),
+        builders,
+        [(), (), ()],
+        |builder, _| { builder.put_no_expiration_danger_acknowledged() },
+    )?;
+    let call = "PasetoBuilder::set_no_expiration_danger_acknowledged";
+    let builders = two_builders(alloc, "a", 10)?;
+    run.change(
+        Case::of(call, "a builder"),
+        builders,
+        [(), (), ()],
+        |builder, _| {
+            match builder.set_no_expiration_danger_acknowledged() {
+                Ok(_) => Ok(()),
+                Err(error) => Err(error),
+            }
+        },
+    )
+}
+
+fn ask_checks<W: Write>(run: &mut Run<W>) -> Result<()> {
+    let alloc = run.alloc();
+    let claim = AudienceClaim::from("others");
+    let case = Case::of("DefaultParser::put_check", "a claim");
+    run.change(
+        case,
+        two_parsers(alloc)?,
+        [(), (), ()],
+        |parser, _| parser.put_check(&claim),
+    )?;
+    let case = Case::of("DefaultParser::check_claim", "a claim");
+    run.change(case, two_parsers(alloc)?, [(), (), ()], |parser, _| {
+        match parser.check_claim(&claim) {
+            Ok(_) => Ok(()),
+            Err(error) => Err(error),
+        }
+    })
+}
+
+fn ask_validators<W: Write>(run: &mut Run<W>) -> Result<()> {
+    let alloc = run.alloc();
+    let claim = AudienceClaim::from("customers");
+    let case = Case::of("DefaultParser::put_validator", "a claim");
+    run.change(
+        case,
+        two_parsers(alloc)?,
+        refusing!(alloc),
+        |parser, validator| { parser.put_validator(&claim, validator) },
+    )?;
+    let case = Case::of("DefaultParser::validate_claim", "a claim");
+    run.change(
+        case,
+        two_parsers(alloc)?,
+        refusing!(alloc),
+        |parser, validator| {
+            match parser.validate_claim(&claim, validator) {
+                Ok(_) => Ok(()),
+                Err(error) => Err(error),
+            }
+        },
+    )
+}
+
+fn ask_local<V: BoxlessVersion, W: Write>(run: &mut Run<W>, kind: &str) -> Result<()> {
+    if !run.asks_of(kind) {
+        return Ok(());
+    }
+    let alloc = run.alloc();
+    let text = run.text()?;
+    let text = text.as_str();
+    let key = symmetric_key::<V>();
+    let untouched = builder_of::<V, Local>(alloc, text, 10)?;
+    let builder = builder_of::<V, Local>(alloc, text, 10)?;
+    run.ask(
+        Case::of("PasetoBuilder::build", kind),
+        &untouched,
+        &builder,
+        |builder| { builder.build(&mut Zeros, &key) },
+    )?;
+    let token = seal::<V>(alloc, good(alloc, text)?.as_str())?;
+    let (untouched, parser) = (parser_of::<V, Local>(alloc)?, parser_of::<V, Local>(alloc)?);
+    run.ask(
+        Case::of("DefaultParser::parse", kind),
+        &untouched,
+        &parser,
+        |parser| { parser.parse(token.as_str(), &key) },
+    )
+}
+
+fn ask_boxed_local<W: Write>(run: &mut Run<W>) -> Result<()> {
+    if !run.asks_of("v2.local") {
+        return Ok(());
+    }
+    let alloc = run.alloc();
+    let text = run.text()?;
+    let text = text.as_str();
+    let key = symmetric_key::<V2>();
+    let untouched = builder_of::<V2, Local>(alloc, text, 10)?;
+    let builder = builder_of::<V2, Local>(alloc, text, 10)?;
+    run.ask(
+        Case::of("PasetoBuilder::build", "v2.local"),
+        &untouched,
+        &builder,
+        |builder| { builder.build(&PlainBox, &mut Zeros, &key) },
+    )?;
+    let token = boxed_local::seal(alloc, good(alloc, text)?.as_str())?;
+    let (untouched, parser) = (
+        parser_of::<V2, Local>(alloc)?,
+        parser_of::<V2, Local>(alloc)?,
+    );
+    run.ask(
+        Case::of("DefaultParser::parse", "v2.local"),
+        &untouched,
+        &parser,
+        |parser| { parser.parse(&PlainBox, token.as_str(), &key) },
+    )
+}
+
+fn ask_signed<V, W: Write>(run: &mut Run<W>, keys: &Keys) -> Result<()>
+where
+    V: Keyed + Signs<Lenient> + Verifies<Lenient>,
+{
+    if !run.asks_of(V::KIND) {
+        return Ok(());
+    }
+    let alloc = run.alloc();
+    let text = run.text()?;
+    let text = text.as_str();
+    let key = V::private_key(keys);
+    let untouched = builder_of::<V, Public>(alloc, text, 10)?;
+    let builder = builder_of::<V, Public>(alloc, text, 10)?;
+    run.ask(
+        Case::of("PasetoBuilder::build", V::KIND),
+        &untouched,
+        &builder,
+        |builder| { builder.build(&mut Lenient, &key) },
+    )?;
+    let token = sign::<V>(alloc, good(alloc, text)?.as_str(), keys)?;
+    let key = V::public_key(keys)?;
+    let (untouched, parser) = (
+        parser_of::<V, Public>(alloc)?,
+        parser_of::<V, Public>(alloc)?,
+    );
+    run.ask(
+        Case::of("DefaultParser::parse", V::KIND),
+        &untouched,
+        &parser,
+        |parser| { parser.parse(&Lenient, token.as_str(), &key) },
+    )
+}

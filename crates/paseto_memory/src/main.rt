@@ -1,0 +1,71 @@
+//! Asks each public call that takes memory, so that `tests/memory.sh` can refuse it: what a call answers then,
+//! and what the same object answers after it.
+#![tactic(auto)]
+
+mod answer;
+mod boxed_local;
+mod builders;
+mod claims;
+mod defaults;
+mod encoding;
+mod key_rings;
+mod kinds;
+mod local;
+mod no_memory;
+mod parsers;
+mod primitives;
+mod run;
+mod signed;
+mod toys;
+
+use anyhow::{Context, Result, ensure};
+use run::Run;
+use std::alloc::{AllocError, Global};
+use std::env;
+use std::io::Write;
+
+/// How long the text is that the calls are about, where no word says so.
+const LENGTH: usize = 100;
+
+/// How long it is at most.
+const LONGEST: usize = 1_000_000;
+
+/// `paseto_memory [CASE [LENGTH]]`. Without a case, or where it is `all`, all cases are asked, with no marks.
+fn main(rt: HostRuntime) -> Result<()> {
+    let alloc = rt.alloc();
+    let words: Vec<String> = env::args(&rt)?.skip(1).collect(alloc)?;
+    let asked = match words.first() {
+        Some(name) if name.as_str() != "all" => Some(name.clone()?),
+        _ => None,
+    };
+    let length = match words.get(1) {
+        Some(length) => length.as_str().parse::<usize>()?,
+        None => LENGTH,
+    };
+    ensure!(length <= LONGEST, "the text is too long");
+    let mut run = Run::new(alloc, rt.stdout(), asked, text_of(alloc, length)?);
+    ask_all(&mut run)?;
+    run.finish().context("no case has this name")
+}
+
+/// A text of so many letters.
+fn text_of(alloc: Global, length: usize) -> Result<String, AllocError> {
+    let mut text = String::new(alloc);
+    'letters: for _ in 0..length {
+        text.push('a')?;
+    }
+    Ok(text)
+}
+
+fn ask_all<W: Write>(run: &mut Run<W>) -> Result<()> {
+    encoding::ask(run)?;
+    claims::ask(run)?;
+    local::ask(run)?;
+    boxed_local::ask(run)?;
+    signed::ask(run)?;
+    builders::ask(run)?;
+    parsers::ask(run)?;
+    defaults::ask(run)?;
+    key_rings::ask(run)?;
+    no_memory::ask(run)
+}

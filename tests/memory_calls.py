@@ -1,0 +1,157 @@
+#!/usr/bin/env python3
+"""Lists the public calls of the libraries that may answer want of memory, as their sources declare them.
+
+    tests/memory_calls.py
+
+Listed is each public function and method, and each method of a public trait's implementation, whose answer is a
+`Result` of an error with a variant `Memory`. A line is the call, as `TokenParser::parse`, and behind ` of ` what it
+is to be asked for: the kinds of tokens that its block is for, as `v1.local`, or the type that implements the trait.
+A trait's method that has no body is its implementers' matter, and is listed with them.
+"""
+import re
+import sys
+from pathlib import Path
+
+CRATES = ["rusty_paseto_parts", "rusty_paseto_core", "rusty_paseto_claims", "rusty_paseto_generic", "rusty_paseto"]
+
+# The versions for which a block is that is bound by one of these traits.
+VERSIONS = {
+    "LocalVersion": [1, 3, 4],
+    "UnboxedVersion": [1, 3, 4],
+    "BoxlessVersion": [1, 3, 4],
+    "AssertionVersion": [3, 4],
+    "AssertingVersion": [3, 4],
+    "PublicVersion": [1, 2, 3, 4],
+    "Signs": [1, 2, 3, 4],
+    "Verifies": [1, 2, 3, 4],
+}
+
+# The purpose of the tokens of a trait whose methods have a version as `Self`.
+PURPOSES = {"LocalVersion": "local", "Signs": "public", "Verifies": "public"}
+
+BLOCK = re.compile(r"^(pub |pub\(crate\) )?(impl|trait)\b")
+FUNCTION = re.compile(r"^(    )?(pub )?(final )?fn (\w+)")
+CLAUSE = re.compile(r"^\s*(requires|ensures)\*?( \w+)? \{")
+
+
+def declared(lines, start):
+    """What is declared from a line on, without its clauses, on one line, and whether a body follows."""
+    text, in_clauses = [], False
+    for line in lines[start:]:
+        in_clauses = in_clauses or bool(CLAUSE.match(line))
+        is_body = line.strip() in ("{", "{}") or (not in_clauses and line.rstrip().endswith("{"))
+        if not in_clauses:
+            text.append(line.strip())
+        if is_body or line.rstrip().endswith(("}", ";") if not in_clauses else ";"):
+            return " ".join(text), is_body
+    raise SystemExit(f"no end of a declaration: {lines[start]}")
+
+
+def errors_of(sources):
+    """The error types that have a variant `Memory`."""
+    found = set()
+    for text in sources.values():
+        for name, body in re.findall(r"^pub enum (\w+) \{\n(.*?)^\}", text, re.M | re.S):
+            if re.search(r"^    Memory\(", body, re.M):
+                found.add(name)
+    return found
+
+
+def without_generics(text):
+    """A type or a trait without its parameters: `Paseto` of `Paseto<'_, V, Local>`."""
+    return re.sub(r"<.*", "", text.strip())
+
+
+def parameters(text):
+    """What stands in the first angle brackets at the front of a text, and what follows them."""
+    if not text.startswith("<"):
+        return "", text
+    depth = 0
+    for place, character in enumerate(text):
+        depth += {"<": 1, ">": -1}.get(character, 0) if text[place - 1:place + 1] != "->" else 0
+        if depth == 0:
+            return text[1:place], text[place + 1:]
+    raise SystemExit(f"no end of the parameters: {text}")
+
+
+def kinds_of(bounds, target, where):
+    """The kinds of tokens that a block is for: none where its version is any."""
+    found = re.search(r"\b(Local|Public)\b", target)
+    if not found:
+        return []
+    purpose = found.group(1).lower()
+    named = re.findall(r"\bV([1-4])\b", target)
+    if named:
+        return [f"v{version}.{purpose}" for version in named]
+    for bound in re.findall(r"\bV(?:ersion)?: (\w+)", bounds + ", " + where):
+        if bound in VERSIONS:
+            return [f"v{version}.{purpose}" for version in VERSIONS[bound]]
+    return []
+
+
+def listed(block, name, where):
+    """The lines for a function of a block, which is empty for a function of its own."""
+    if not block:
+        return [name]
+    bounds, rest = parameters(re.sub(r"^(pub |pub\(crate\) )?(impl|trait)\s*", "", block))
+    rest = rest.strip()
+    if re.match(r"^(pub )?trait", block):
+        trait = re.match(r"\w+", rest).group(0)
+        if trait not in PURPOSES:
+            return [f"{trait}::{name}"]
+        return [f"{trait}::{name} of v{version}.{PURPOSES[trait]}" for version in VERSIONS[trait]]
+    if " for " in rest:
+        trait, target = [without_generics(part) for part in rest.split(" for ", 1)]
+        target = re.sub(r"&'\w+ ", "&", target)
+        version = re.fullmatch(r"V([1-4])", target)
+        if version and trait in PURPOSES:
+            return [f"{trait}::{name} of v{version.group(1)}.{PURPOSES[trait]}"]
+        return [f"{trait}::{name} of {target}"]
+    call = f"{without_generics(rest)}::{name}"
+    return [f"{call} of {kind}" for kind in kinds_of(bounds, rest, where)] or [call]
+
+
+def hidden_traits(sources):
+    """The traits that no caller sees."""
+    return {name for text in sources.values() for name in re.findall(r"^(?:pub\(crate\) )?trait (\w+)", text, re.M)}
+
+
+def is_listed(block, function, hidden):
+    """Whether a function of a block is public, by its own word or its trait's."""
+    trait = re.match(r"(?:pub(?:\(crate\))? )?trait (\w+)", block) or re.match(r".*?(\w+)(?:<.*>)? for ", block)
+    return trait.group(1) not in hidden if trait else bool(function.group(2))
+
+
+def calls_of(text, errors, hidden):
+    """The calls of a source file."""
+    lines = text.split("\n")
+    block, found = "", []
+    for place, line in enumerate(lines):
+        if BLOCK.match(line) and not line.endswith("}"):
+            block = re.sub(r" \{$", "", declared(lines, place)[0])
+        if line == "}":
+            block = ""
+        function = FUNCTION.match(line)
+        if not function or not is_listed(block, function, hidden):
+            continue
+        head, body = declared(lines, place)
+        answer = re.search(r"-> Result<.*, (\w+)>", head)
+        if answer and answer.group(1) in errors and body:
+            where = head.split(" where ", 1)[1] if " where " in head else ""
+            found += listed(block, function.group(4), where)
+    return found
+
+
+def main():
+    root = Path(__file__).resolve().parent.parent / "crates"
+    paths = [path for crate in CRATES for path in sorted((root / crate / "src").rglob("*.rt"))]
+    sources = {path: path.read_text(encoding="utf-8") for path in paths if path.name != "tests.rt"}
+    errors = errors_of(sources)
+    hidden = hidden_traits(sources)
+    calls = sorted({call for text in sources.values() for call in calls_of(text, errors, hidden)})
+    if not calls:
+        sys.exit("no call was found")
+    print("\n".join(calls))
+
+
+main()
