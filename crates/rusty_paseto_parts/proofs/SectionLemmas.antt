@@ -1,10 +1,10 @@
 -- Sections and their spelling.
-use Rattle.std.proofs.Common.{◌≡◌, ◌≢◌, ◌↔◌, ℕ, ◌+◌, ◌*◌, ◌/◌, ◌%◌, ◌<◌, ◌==◌, Bool, true, false, not, List, [], ◌∷◌, ◌++◌, length, get_or, slice_index, Option, Some, Bor, refl, sym, ap, subst, ◌∙◌, arith, inl, inr}
+use Rattle.std.proofs.Common.{◌≡◌, ◌≢◌, ◌↔◌, ℕ, ◌+◌, ◌*◌, ◌/◌, ◌%◌, ◌<◌, ◌==◌, Bool, true, false, not, List, [], ◌∷◌, ◌++◌, length, min, length-append, get_or, slice_index, Option, Some, Bor, refl, sym, ap, subst, ◌∙◌, arith, inl, inr}
 use Rattle.std.specs.Option.{option_map_or}
 use Rattle.std.specs.List.{All, list_all, join_with_byte, slice_split, onto_first}
 use Rattle.std.specs.declared.result.Result.TheVariants.{Ok}
 use Rattle.std.proofs.lemmas.Bool.{cases_Bool, cases_lt, eqb-false, ne_eqb}
-use Rattle.std.proofs.lemmas.List.{append-nil, get_or_default, get_or_past}
+use Rattle.std.proofs.lemmas.List.{append-nil, append_cancel_left, get_or_default, get_or_past, nil_from_length}
 use Rattle.std.proofs.lemmas.List.Elements.{All-nil, All-cons, All-head, All-tail}
 use Rattle.std.proofs.lemmas.List.Sums.{AllPass-from_list_all}
 use Rattle.std.proofs.lemmas.List.Splits.{slice_split_none, slice_split_at, length-slice_split, join_with_byte-slice_split}
@@ -12,7 +12,7 @@ use Rattle.base64.specs.declared.engine.general_purpose.GeneralPurpose.{GeneralP
 use Rattle.base64.specs.Engines.{url_safe_no_pad}
 use Rattle.base64.specs.GeneralPurpose.{IsBytes, IsConsistent, decode_of, encode_of, engine_symbols}
 use Rattle.base64.specs.Rfc4648.{encode_symbols}
-use Rattle.base64.proofs.EngineFacts.{decode_of-encode_of}
+use Rattle.base64.proofs.EngineFacts.{decode_of-encode_of, encode_of-append, encode_of-nil}
 use Rattle.rusty_paseto_parts.specs.Section.{AreSections, HasNoDot, sections, spelling}
 
 -- ---- sections
@@ -97,6 +97,29 @@ injective_of e a b consistent bytes_a bytes_b same =
 pub spelling-injective : (a b : List ℕ) → IsBytes a → IsBytes b → spelling a ≡ spelling b → a ≡ b
 unfolding spelling
 spelling-injective a b bytes_a bytes_b same = injective_of url_safe_no_pad a b refl bytes_a bytes_b same
+
+pub spelling-nil : spelling [] ≡ []
+unfolding spelling
+spelling-nil = encode_of-nil url_safe_no_pad
+
+-- a text is the spelling of all, where its rest after the spelling of a piece, 48 bytes or the last, is that of the
+-- others
+pub spelled_after : (all piece others rest : List ℕ) → all ≡ piece ++ others → length piece ≡ min 48 (length all)
+    → (spelling piece ++ rest ≡ spelling all) ↔ (rest ≡ spelling others)
+unfolding spelling
+spelled_after all piece others rest parts size =
+    let sum = ap length parts ∙ length-append piece others in
+    let whole : spelling all ≡ spelling piece ++ spelling others = elim (cases_lt (length all) 48) [
+      | inl short ↦
+          let none : others ≡ [] = nil_from_length others (omega arith) in
+          ap spelling (parts ∙ ap (λ (t : List ℕ). piece ++ t) none ∙ append-nil piece)
+          ∙ sym (append-nil (spelling piece))
+          ∙ ap (λ (t : List ℕ). spelling piece ++ t) (sym (ap spelling none ∙ spelling-nil))
+      | inr long ↦
+          let third : length piece % 3 ≡ 0 = omega arith in
+          ap spelling parts ∙ encode_of-append url_safe_no_pad piece others third
+    ] in
+    (λ same. append_cancel_left (spelling piece) rest (spelling others) (same ∙ whole), λ same. ap (λ (t : List ℕ). spelling piece ++ t) same ∙ sym whole)
 
 -- the 64 symbols
 abbrev pub symbols : List ℕ

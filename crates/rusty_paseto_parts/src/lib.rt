@@ -33,7 +33,7 @@ pub use pre_authentication_encoding::{PreAuthenticationEncoding, absorb_pieces};
 pub use purpose::PurposeTrait;
 pub use purpose::local::Local;
 pub use purpose::public::Public;
-pub use section::{from_section, push_section, split_token, to_section};
+pub use section::{from_section, is_section_of, push_section, split_token, to_section};
 pub use texts::footer::Footer;
 pub use texts::header::Header;
 pub use texts::implicit_assertion::ImplicitAssertion;

@@ -1,6 +1,6 @@
 //! The sections of a token's text, and the base64url encoding of bytes in them.
 
-ghost use Rattle.std.specs.Prelude.{◌≡◌, ◌↔◌, ◌++◌, ◌∷◌, ◌+◌, ◌≤◌, [], ℕ, List, length, map, take, IsSome, IsErr, IfOk, IfErr, IfSome, OnOk, OnErr, MatchResult};
+ghost use Rattle.std.specs.Prelude.{◌≡◌, ◌≢◌, ◌↔◌, ◌++◌, ◌∷◌, ◌+◌, ◌≤◌, [], ℕ, List, length, map, take, IsTrue, IsSome, IsErr, IfOk, IfErr, IfSome, OnOk, OnErr, MatchOption, MatchResult};
 ghost use Rattle.std.specs.Option.{option_map_or, option_to_list};
 ghost use Rattle.std.specs.String.{string_bytes};
 ghost use Rattle.base64.specs.Decode.{decoded_estimate};
@@ -16,6 +16,11 @@ use std::alloc::{AllocError, Global};
 
 /// How many bytes more than a section has are written past it at most.
 const ROOM: usize = 4;
+
+/// How many bytes are spelled at once where a spelling is compared, and by how many characters.
+const PIECE: usize = 48;
+
+const SPELLED_PIECE: usize = 64;
 
 /// The sections of a token, its parts between dots: version, purpose, payload and, where there is
 /// a fourth, the footer. `None` where the sections are not three or four.
@@ -74,6 +79,35 @@ pub fn push_section(bytes: &[u8], out: &mut String) -> Result<(), PasetoError>
 {
     URL_SAFE_NO_PAD.encode_string(bytes, out)?;
     Ok(())
+}
+
+/// Whether a section's text is the base64url encoding of the bytes without padding. No memory is taken.
+///
+/// Source: RFC 4648, section 5.
+pub fn is_section_of(text: &str, bytes: &[u8]) -> bool
+    ensures { IsTrue result ↔ (text.now ≡ spelling bytes.now) }
+{
+    let mut rest = text.as_bytes();
+    'pieces: for piece in bytes.chunks(PIECE) {
+        let Some(after) = strip_spelling(rest, piece) else {
+            return false;
+        };
+        rest = after;
+    }
+    rest.is_empty()
+}
+
+// What stands after the spelling of a piece, where the text begins with it.
+fn strip_spelling<'a>(text: &'a [u8], piece: &[u8]) -> Option<&'a [u8]>
+    requires { length piece.now ≤ 48 }
+    ensures { MatchOption result ((rest : List ℕ) → text.now ≢ spelling piece.now ++ rest)
+        (λ rest. text.now ≡ spelling piece.now ++ rest.now) }
+{
+    let mut spelled = [0u8; SPELLED_PIECE];
+    let Ok(len) = URL_SAFE_NO_PAD.encode_slice(piece, &mut spelled) else {
+        unreachable!();
+    };
+    text.strip_prefix(&spelled[..len])
 }
 
 /// The bytes of which a section's text is the base64url encoding.
