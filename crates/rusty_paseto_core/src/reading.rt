@@ -1,12 +1,12 @@
 //! The sections of a token that is read, the same for all versions and purposes.
 
-ghost use Rattle.std.specs.Prelude.{◌≡◌, ◌↔◌, ◌≤◌, ◌⊎◌, IsTrue, IfOk, IfErr, OnOk, length, take, option_map};
+ghost use Rattle.std.specs.Prelude.{◌≡◌, ◌↔◌, ◌≤◌, ◌⊎◌, IsTrue, IfOk, IfErr, length, take, option_map};
 ghost use Rattle.rusty_paseto_parts.specs.Error.{IsMemory};
 ghost use Rattle.rusty_paseto_parts.specs.Section.{HasCount, sections};
-ghost use Rattle.rusty_paseto_core.specs.Reading.{IsExpected, IsFramed, IsFramingFault, MayLackSection};
+ghost use Rattle.rusty_paseto_core.specs.Reading.{IsExpected, IsFramed, IsFramingFault};
 
 use rusty_paseto_parts::{
-    PasetoError, PurposeTrait, VersionTrait, from_section, split_token, to_section,
+    PasetoError, PurposeTrait, VersionTrait, from_section, is_section_of, split_token,
 };
 use std::alloc::Global;
 
@@ -25,8 +25,10 @@ pub(crate) fn unframe<V: VersionTrait, P: PurposeTrait>(
     let Some(parts) = split_token(token) else {
         return Err(PasetoError::IncorrectSize);
     };
-    check_footer(alloc, parts.1, footer)?;
     let required = parts.0;
+    if !is_expected(parts.1, footer) {
+        return Err(PasetoError::FooterInvalid);
+    }
     if !is_header::<V, P>(required[0], required[1]) {
         return Err(PasetoError::WrongHeader);
     }
@@ -40,31 +42,13 @@ fn is_header<V: VersionTrait, P: PurposeTrait>(version: &str, purpose: &str) -> 
     version == V::default().as_str() && purpose == P::default().as_str()
 }
 
-// A footer's section has to be that of the expected footer, and may be lacking where that is empty.
-fn check_footer(alloc: Global, found: Option<&str>, footer: &[u8]) -> Result<(), PasetoError>
-    ensures ok { OnOk result (IsExpected footer.now (option_map (λ section. section.now) found.entry)) }
-    ensures err { IfErr result (λ error. IsMemory error
-        ⊎ ((error ≡ PasetoError.FooterInvalid) × (¬ IsExpected footer.now (option_map (λ section. section.now) found.entry)))) }
+// Whether the section that was found is the expected footer's. It may be lacking where that is empty.
+fn is_expected(found: Option<&str>, footer: &[u8]) -> bool
+    ensures { IsTrue result ↔ IsExpected footer.now (option_map (λ section. section.now) found.entry) }
 {
-    let Some(section) = found else {
-        return check_empty(footer);
-    };
-    let expected = to_section(alloc, footer)?;
-    if section != expected.as_str() {
-        return Err(PasetoError::FooterInvalid);
-    }
-    Ok(())
-}
-
-// A footer whose section is lacking has to be empty.
-fn check_empty(footer: &[u8]) -> Result<(), PasetoError>
-    ensures ok { OnOk result (MayLackSection footer.now) }
-    ensures err { IfErr result (λ error. (error ≡ PasetoError.FooterInvalid) × (¬ MayLackSection footer.now)) }
-{
-    if footer.is_empty() {
-        Ok(())
-    } else {
-        Err(PasetoError::FooterInvalid)
+    match found {
+        Some(section) => is_section_of(section, footer),
+        None => footer.is_empty(),
     }
 }
 
