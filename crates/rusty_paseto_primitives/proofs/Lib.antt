@@ -9,10 +9,10 @@ pub mod Quarters
 pub mod StreamBlocks
 pub mod Blake2Blocks
 pub mod Blake2Facts
-pub mod Blake2Halves
 pub mod Blake2Lanes
 pub mod Blake2Hashers
 pub mod Blake2Lengths
+pub mod Blake2Pairs
 pub mod Blake2Rows
 pub mod HkdfBlocks
 pub mod HkdfFacts

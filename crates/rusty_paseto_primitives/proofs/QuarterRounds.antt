@@ -2,7 +2,7 @@
 use Rattle.std.proofs.Common.{◌≡◌, ℕ, suc, List, refl, ap}
 use Rattle.rusty_paseto_primitives.specs.ChaCha.Block.{diagonal_round, double_rounds, quarter_round}
 use Rattle.rusty_paseto_primitives.specs.ChaCha.Lanes.{four, half_mixed_lanes, half_round, mixed_lanes}
-use Rattle.rusty_paseto_primitives.specs.ChaCha.Rows.{state_words}
+use Rattle.rusty_paseto_primitives.specs.Square.{state_words}
 
 -- the second half after the first is the whole
 pub mixed_of_halves : (h g : List ℕ × List ℕ × List ℕ × List ℕ) (a b c d : ℕ → ℕ) → h ≡ half_mixed_lanes a b c d 16 12

@@ -3,3 +3,4 @@ pub mod Chain
 pub mod Hasher
 pub mod Keyed
 pub mod Lanes
+pub mod Rows

@@ -1,4 +1,5 @@
 pub mod Bytes
+pub mod Square
 pub mod Keystream
 pub mod Blake2
 pub mod ChaCha

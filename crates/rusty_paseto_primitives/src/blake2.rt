@@ -6,3 +6,5 @@ pub mod hasher;
 pub mod keyed;
 mod lanes;
 pub mod pair;
+mod rows;
+mod vectors;

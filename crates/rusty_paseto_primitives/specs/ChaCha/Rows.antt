@@ -13,11 +13,3 @@ state_rows s = row s 0 ∷ row s 1 ∷ row s 2 ∷ row s 3 ∷ []
 -- the quarter round of the four words in each lane, as four rows
 abbrev pub mixed_rows : (ℕ → ℕ) → (ℕ → ℕ) → (ℕ → ℕ) → (ℕ → ℕ) → List (List ℕ)
 mixed_rows a b c d = let m = mixed_lanes a b c d in m.0 ∷ m.1 ∷ m.2 ∷ m.3 ∷ []
-
--- the sixteen words
-abbrev pub state_words : List ℕ → List ℕ
-state_words s =
-    slice_index s 0 ∷ slice_index s 1 ∷ slice_index s 2 ∷ slice_index s 3
-    ∷ slice_index s 4 ∷ slice_index s 5 ∷ slice_index s 6 ∷ slice_index s 7
-    ∷ slice_index s 8 ∷ slice_index s 9 ∷ slice_index s 10 ∷ slice_index s 11
-    ∷ slice_index s 12 ∷ slice_index s 13 ∷ slice_index s 14 ∷ slice_index s 15 ∷ []

@@ -3,7 +3,8 @@
 ghost use Rattle.std.specs.Prelude.{◌≡◌, ℕ, List, ◌∷◌, []};
 ghost use Rattle.rusty_paseto_primitives.specs.ChaCha.Block.{column_round, diagonal_round, double_rounds};
 ghost use Rattle.rusty_paseto_primitives.specs.ChaCha.Lanes.{four};
-ghost use Rattle.rusty_paseto_primitives.specs.ChaCha.Rows.{mixed_rows, state_rows, state_words};
+ghost use Rattle.rusty_paseto_primitives.specs.ChaCha.Rows.{mixed_rows, state_rows};
+ghost use Rattle.rusty_paseto_primitives.specs.Square.{state_words};
 
 use super::vectors::half_mixed;
 use std::simd::u32x4;

@@ -1,5 +1,5 @@
 use Rattle.std.proofs.Common.{bit_xor, refl}
-use Rattle.rusty_paseto_primitives.proofs.blake2.lanes.xor_rotated.Goals as goal
+use Rattle.rusty_paseto_primitives.proofs.blake2.vectors.xor_rotated.Goals as goal
 
 pub returns : goal.returns
 returns c f g ea eb = c.rotated.ensures (λ j. bit_xor (f j) (g j)) (rw (ea, eb) refl)

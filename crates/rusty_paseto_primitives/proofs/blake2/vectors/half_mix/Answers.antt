@@ -1,7 +1,7 @@
 use Rattle.std.proofs.Common.{ℕ, ◌+◌, ◌%◌, ◌^◌, bit_xor, refl}
 use Rattle.std.specs.Int.{w64, rotate_right}
 use Rattle.rusty_paseto_primitives.specs.Blake2.Block.{half_mix}
-use Rattle.rusty_paseto_primitives.proofs.blake2.lanes.half_mix.Goals as goal
+use Rattle.rusty_paseto_primitives.proofs.blake2.vectors.half_mix.Goals as goal
 
 pub returns : goal.returns
 unfolding half_mix

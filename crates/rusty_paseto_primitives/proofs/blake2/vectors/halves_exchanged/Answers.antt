@@ -1,6 +1,6 @@
 use Rattle.std.proofs.Common.{arith}
 use Rattle.rusty_paseto_primitives.proofs.Blake2Lanes.{halves_of_words}
-use Rattle.rusty_paseto_primitives.proofs.blake2.lanes.halves_exchanged.Goals as goal
+use Rattle.rusty_paseto_primitives.proofs.blake2.vectors.halves_exchanged.Goals as goal
 
 pub returns : goal.returns
 returns c f e =
