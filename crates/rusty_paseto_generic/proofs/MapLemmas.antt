@@ -1,14 +1,15 @@
 -- The members of a map after each of its calls, and that they stay whole.
-use Rattle.std.proofs.Common.{◌≡◌, ℕ, List, [], ◌∷◌, Bool, true, false, not, ◌||◌, cond, Option, Some, None, Result, Ok, Err, IfOk, OnOk, OnErr, is_eq, nat_eq, ◌≤◌, arith, length, String, BTreeMap, Global, Ordering, Less, Equal, Greater, nat_cmp, string_bytes, refl, sym, ap, ◌∙◌}
+use Rattle.std.proofs.Common.{◌≡◌, ℕ, List, [], ◌∷◌, Bool, true, false, not, ◌||◌, cond, Option, Some, None, Result, Ok, Err, IfOk, OnOk, OnErr, is_eq, nat_eq, ◌≤◌, arith, length, String, BTreeMap, Global, IsSome, Ordering, Less, Equal, Greater, nat_cmp, string_bytes, refl, sym, ap, ◌∙◌}
 use Rattle.std.specs.declared.alloc.AllocError.{AllocError}
 use Rattle.std.specs.BTreeMap.{is_at}
 use Rattle.std.specs.Cmp.Lexicographic.{slice_cmp}
 use Rattle.std.specs.List.{AllZip}
 use Rattle.std.specs.Map.{lookup, remove_entry}
+use Rattle.std.specs.Option.{unwrap_or}
 use Rattle.std.specs.Ordering.{match_ordering}
 use Rattle.std.proofs.lemmas.Bool.{or_parts}
-use Rattle.serde_json.specs.Data.{Data, object, Members, no_members, member, depth, put}
-use Rattle.serde_json.specs.Find.{get_member}
+use Rattle.serde_json.specs.Data.{Data, null, boolean, number, string, array, object, Members, no_members, member, depth, put}
+use Rattle.serde_json.specs.Find.{as_object, get_member}
 use Rattle.serde_json.specs.View.{view, members_view}
 use Rattle.serde_json.specs.Read.{max_depth, read}
 use Rattle.serde_json.specs.Written.{compact_text, has_float, members_have_float}
@@ -113,6 +114,35 @@ pub whole-put_answer : {T E : Type 0} (answer : Result T E) (key : List ℕ) (va
     → members_have_float new ≡ false
 whole-put_answer (Ok x) key value old new ok err whole all = rw ok (whole-put key value old whole all)
 whole-put_answer (Err e) key value old new ok err whole all = rw err all
+
+-- the members of a map's object are those of the map
+pub members_of-Object : (m : BTreeMap (String Global) Value) → unwrap_or (as_object (view (Object m))) no_members ≡ members_view m.entries
+members_of-Object m = rw (view-Object m) refl
+
+pub is_object-Object : (m : BTreeMap (String Global) Value) → IsSome (as_object (view (Object m)))
+is_object-Object m = rw (view-Object m) refl
+
+pub whole-Object : (m : BTreeMap (String Global) Value) → members_have_float (members_view m.entries) ≡ false
+    → has_float (view (Object m)) ≡ false
+whole-Object m whole = rw (view-Object m) whole
+
+-- what has members is the object of them
+pub object_of : (d : Data) → IsSome (as_object d) → d ≡ object (unwrap_or (as_object d) no_members)
+object_of null some = cc some
+object_of (boolean b) some = cc some
+object_of (number n) some = cc some
+object_of (string s) some = cc some
+object_of (array ds) some = cc some
+object_of (object ms) some = refl
+
+-- the members that were found are those that are held
+pub found-held : (d : Data) (found : Members) → Some found ≡ as_object d → unwrap_or (as_object d) no_members ≡ found
+found-held d found is = rw (← is) refl
+
+pub whole-found : (d : Data) (found : Members) → Some found ≡ as_object d → has_float d ≡ false → members_have_float found ≡ false
+whole-found d found is whole =
+    let same : d ≡ object found = object_of d (rw (← is) refl) ∙ ap object (found-held d found is) in
+    rw same at whole
 
 -- ---- what was written is read back
 

@@ -1,10 +1,10 @@
 //! The claims that a builder holds.
 
-ghost use Rattle.std.specs.Prelude.{◌≡◌, ◌⊎◌, false, None, Some, ℕ, List, IfOk, IfErr, OnOk, OnErr, string_bytes};
+ghost use Rattle.std.specs.Prelude.{◌≡◌, ◌⊎◌, false, None, Some, ℕ, List, IsSome, IfOk, IfErr, OnOk, OnErr, string_bytes};
 ghost use Rattle.serde_json.specs.Data.{no_members};
-ghost use Rattle.serde_json.specs.Find.{get_member};
+ghost use Rattle.serde_json.specs.Find.{as_object, get_member};
 ghost use Rattle.serde_json.specs.View.{view, members_view};
-ghost use Rattle.serde_json.specs.Written.{members_have_float};
+ghost use Rattle.serde_json.specs.Written.{has_float};
 ghost use Rattle.rusty_paseto_claims.specs.Error.{IsFault, unexpected};
 ghost use Rattle.rusty_paseto_claims.specs.Whole.{first_odd};
 ghost use Rattle.rusty_paseto_generic.specs.Error.{IsMemory, IsUnexpected};
@@ -20,9 +20,11 @@ use std::alloc::{AllocError, Global};
 #[derive(Drop)]
 pub(crate) struct Claims {
     alloc: Global,
-    members: Map<String, Value>,
-    // Each number in them, at any depth, is a whole number of 64 bits.
-    ghost whole: { members_have_float (members_view members.entries) ≡ false },
+    // The claims are the members of an object, whose text is made with no copy of them.
+    object: Value,
+    ghost is_object: { IsSome (as_object (view object)) },
+    // Each number in it, at any depth, is a whole number of 64 bits.
+    ghost whole: { has_float (view object) ≡ false },
 }
 
 impl Claims {
@@ -34,7 +36,7 @@ impl Claims {
     {
         Claims {
             alloc,
-            members: Map::new(alloc),
+            object: Value::Object(Map::new(alloc)),
         }
     }
 
@@ -72,7 +74,10 @@ impl Claims {
         if !is_whole(&value) {
             return Err(unexpected(String::from_str(self.alloc, key)?));
         }
-        serde_json::put(&mut self.members, self.alloc, key, value)?;
+        let Some(members) = self.object.as_object_mut() else {
+            unreachable!();
+        };
+        serde_json::put(members, self.alloc, key, value)?;
         Ok(())
     }
 
@@ -86,7 +91,10 @@ impl Claims {
         ensures fault { IfErr result (IsRefusal (extended (members_view more.entries) (held self.old))) }
     {
         check_whole(&more)?;
-        self.members = merged(&self.members, more)?;
+        let Some(members) = self.object.as_object() else {
+            unreachable!();
+        };
+        self.object = Value::Object(merged(members, more)?);
         Ok(())
     }
 
@@ -95,7 +103,10 @@ impl Claims {
         ensures rest { held self.new ≡ without key.now (held self.old) }
         ensures gone { get_member key.now (held self.new) ≡ None }
     {
-        drop(self.members.remove(key));
+        let Some(members) = self.object.as_object_mut() else {
+            unreachable!();
+        };
+        drop(members.remove(key));
     }
 
     /// The text of the claims: the object of them as JSON, with no space, its keys in byte order. It is
@@ -104,8 +115,7 @@ impl Claims {
         ensures text { IfOk result (λ text. string_bytes text ≡ payload (held self.now)) }
         ensures read_back { OnOk result (IsReadBack (held self.now)) }
     {
-        let object = Value::Object(self.members.clone()?);
-        object.to_string(self.alloc)
+        self.object.to_string(self.alloc)
     }
 }
 
