@@ -15,6 +15,7 @@ use rusty_paseto::prelude::{
     PasetoClaimError, PasetoError, PasetoNonce, PasetoParser, PasetoSymmetricKey, Payload, Public,
     UntrustedToken, V3, V4, fits_default, is_whole, odd_key, same_value, split_token,
 };
+use rusty_paseto_parts::is_section_of;
 use std::alloc::Global;
 use std::io::Write;
 
@@ -105,7 +106,11 @@ fn parts_of(text: &str) -> Result<u64, PasetoError> {
     if let Some(parts) = split_token(text) {
         let sections = parts.0;
         sum.add(sections[2]);
-        sum.add(parts.1.unwrap_or(""));
+        let footer = parts.1.unwrap_or("");
+        sum.add(footer);
+        sum.0 = sum
+            .0
+            .wrapping_add(u64::from(is_section_of(footer, b"key-1")));
     }
     Ok(sum.0)
 }

@@ -2,7 +2,9 @@
 
 use crate::hexadecimal::array_of;
 use crate::long::text_of;
-use rusty_paseto_parts::{PasetoError, from_section, laws, push_section, split_token, to_section};
+use rusty_paseto_parts::{
+    PasetoError, from_section, is_section_of, laws, push_section, split_token, to_section,
+};
 use std::test::Fail;
 
 #[test]
@@ -58,6 +60,43 @@ fn spellings(rt: HostRuntime) -> Result<(), Fail> {
     push_section("foo".as_bytes(), &mut token)?;
     assert_eq!(rt; token.as_str(), "v4.local.Zm9v");
     laws::equal_spellings("foo".as_bytes(), "fop".as_bytes());
+    Ok(())
+}
+
+#[test]
+fn compared_spellings(rt: HostRuntime) -> Result<(), Fail> {
+    let alloc = rt.alloc();
+    let numbers: [u8; 48] = array_of(NUMBERS)?;
+    assert!(rt; is_section_of(CHARACTERS, &numbers));
+    assert!(rt; is_section_of("Zm9vdGVy", "footer".as_bytes()));
+    'others: for other in ["", "Zm9vdGV", "Zm9vdGVz", "Zm9vdGVy=", "Zm9vdGVyZm9v"] {
+        assert!(rt; !is_section_of(other, "footer".as_bytes()), "of {other}");
+    }
+    'lengths: for (length, longer) in [
+        (0usize, 1usize),
+        (1, 2),
+        (2, 3),
+        (3, 4),
+        (47, 48),
+        (48, 49),
+        (49, 50),
+        (95, 96),
+        (96, 97),
+        (97, 98),
+        (1_000, 1_001),
+    ] {
+        let text = text_of(alloc, length)?;
+        let other = text_of(alloc, longer)?;
+        let section = to_section(alloc, text.as_bytes())?;
+        assert!(rt;
+            is_section_of(section.as_str(), text.as_bytes()),
+            "{length}"
+        );
+        assert!(rt;
+            !is_section_of(section.as_str(), other.as_bytes()),
+            "{length}"
+        );
+    }
     Ok(())
 }
 
