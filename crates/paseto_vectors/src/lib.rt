@@ -26,6 +26,8 @@ mod encoding;
 #[cfg(test)]
 mod errors;
 #[cfg(test)]
+mod expect;
+#[cfg(test)]
 mod hexadecimal;
 #[cfg(test)]
 mod keys;

@@ -1,5 +1,6 @@
 //! The texts of versions, purposes and headers, and those that a token carries.
 
+use crate::expect::{expect_bytes, expect_text};
 use rusty_paseto_core::{
     Footer, Header, ImplicitAssertion, Local, Payload, Public, PurposeTrait, V1, V2, V3, V4,
     VersionTrait,
@@ -13,32 +14,26 @@ fn shown(rt: HostRuntime) -> Result<(), Fail> {
     let purpose = Local::default();
     let header = Header::<V4, Local>::default();
     let same = header;
-    assert_eq!(rt; version.as_str(), "v4");
-    assert_eq!(rt; purpose.as_str(), "local");
-    assert_eq!(rt; header.as_str(), "v4.local.");
-    assert_eq!(rt; same.as_bytes(), "v4.local.".as_bytes());
-    assert_eq!(rt;
-        format!(in alloc; "{version} {purpose} {header}")?.as_str(),
-        "v4 local v4.local."
-    );
+    expect_text(&rt, version.as_str(), "v4");
+    expect_text(&rt, purpose.as_str(), "local");
+    expect_text(&rt, header.as_str(), "v4.local.");
+    expect_bytes(&rt, same.as_bytes(), b"v4.local.");
+    let told = format!(in alloc; "{version} {purpose} {header}")?;
+    expect_text(&rt, told.as_str(), "v4 local v4.local.");
     let signed = Header::<V2, Public>::default();
-    assert_eq!(rt;
-        format!(in alloc; "{} {} {signed}", V2::default(), Public::default())?.as_str(),
-        "v2 public v2.public."
-    );
+    let told = format!(in alloc; "{} {} {signed}", V2::default(), Public::default())?;
+    expect_text(&rt, told.as_str(), "v2 public v2.public.");
     let payload = Payload::from("pay");
     let footer = Footer::from("foot");
     let assertion = ImplicitAssertion::from("said");
-    assert_eq!(rt;
-        format!(in alloc; "{payload} {footer} {assertion}")?.as_str(),
-        "pay foot said"
-    );
-    assert_eq!(rt; payload.as_str(), "pay");
-    assert_eq!(rt; footer.as_str(), "foot");
-    assert_eq!(rt; assertion.as_str(), "said");
-    assert_eq!(rt; payload.as_bytes(), "pay".as_bytes());
-    assert_eq!(rt; footer.as_bytes(), "foot".as_bytes());
-    assert_eq!(rt; assertion.as_bytes(), "said".as_bytes());
+    let told = format!(in alloc; "{payload} {footer} {assertion}")?;
+    expect_text(&rt, told.as_str(), "pay foot said");
+    expect_text(&rt, payload.as_str(), "pay");
+    expect_text(&rt, footer.as_str(), "foot");
+    expect_text(&rt, assertion.as_str(), "said");
+    expect_bytes(&rt, payload.as_bytes(), b"pay");
+    expect_bytes(&rt, footer.as_bytes(), b"foot");
+    expect_bytes(&rt, assertion.as_bytes(), b"said");
     Ok(())
 }
 

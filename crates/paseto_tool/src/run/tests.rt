@@ -157,6 +157,37 @@ fn strings(alloc: Global, words: &[&str]) -> Result<Vec<String>, AllocError> {
     Ok(strings)
 }
 
+/// What a run left.
+#[derive(Drop)]
+struct Outcome {
+    status: u8,
+    printed: Vec<u8>,
+    said: Vec<u8>,
+}
+
+/// Runs the words over a source, and a sink that is told, and one for errors that works.
+fn run_words(
+    alloc: Global,
+    words: &[&str],
+    input: &mut Source<'_>,
+    printed: Sink,
+) -> Result<Outcome, AllocError> {
+    let args = strings(alloc, words)?;
+    let (mut printed, mut said) = (printed, Sink::whole(alloc));
+    let status = run(alloc, &args, input, &mut printed, &mut said);
+    Ok(Outcome {
+        status,
+        printed: printed.taken,
+        said: said.taken,
+    })
+}
+
+fn check(rt: &impl Abort, outcome: &Outcome, status: u8, output: &str, errors: &str) {
+    assert_eq!(rt; outcome.said.as_slice(), errors.as_bytes());
+    assert_eq!(rt; outcome.printed.as_slice(), output.as_bytes());
+    assert_eq!(rt; outcome.status, status);
+}
+
 /// Runs the words over a source and sinks that work, and asserts what is left.
 fn expect(
     rt: &(impl Abort + Eprint),
@@ -167,18 +198,9 @@ fn expect(
     output: &str,
     errors: &str,
 ) -> Result<(), Fail> {
-    let args = strings(alloc, words)?;
-    let (mut printed, mut said) = (Sink::whole(alloc), Sink::whole(alloc));
-    let left = run(
-        alloc,
-        &args,
-        &mut Source::whole(input),
-        &mut printed,
-        &mut said,
-    );
-    assert_eq!(rt; said.taken.as_slice(), errors.as_bytes());
-    assert_eq!(rt; printed.taken.as_slice(), output.as_bytes());
-    assert_eq!(rt; left, status);
+    let mut source = Source::whole(input);
+    let outcome = run_words(alloc, words, &mut source, Sink::whole(alloc))?;
+    check(rt, &outcome, status, output, errors);
     Ok(())
 }
 
@@ -318,13 +340,9 @@ fn expect_unread(
     output: &str,
     errors: &str,
 ) -> Result<(), Fail> {
-    let args = strings(alloc, words)?;
     let mut input = Source::whole(b"\xff");
-    let (mut printed, mut said) = (Sink::whole(alloc), Sink::whole(alloc));
-    let left = run(alloc, &args, &mut input, &mut printed, &mut said);
-    assert_eq!(rt; left, status);
-    assert_eq!(rt; said.taken.as_slice(), errors.as_bytes());
-    assert_eq!(rt; printed.taken.as_slice(), output.as_bytes());
+    let outcome = run_words(alloc, words, &mut input, Sink::whole(alloc))?;
+    check(rt, &outcome, status, output, errors);
     assert!(rt; !input.was_read);
     Ok(())
 }
@@ -415,31 +433,24 @@ fn a_bad_key_or_nonce_is_refused_before_the_input_is_read(rt: HostRuntime) -> Re
 
 #[test]
 fn reads_to_the_end(rt: HostRuntime) -> Result<(), Fail> {
-    let alloc = rt.alloc();
-    let open = strings(alloc, &["open", "v4", KEY])?;
+    let open = ["open", "v4", KEY];
     'steps: for step in [1, 2, 7, 95] {
-        let mut input = Source {
-            rest: OF_A.as_bytes(),
-            step,
-            fails: false,
-            was_read: false,
-        };
-        let (mut printed, mut said) = (Sink::whole(alloc), Sink::whole(alloc));
-        assert_eq!(rt; run(alloc, &open, &mut input, &mut printed, &mut said), 0);
-        assert_eq!(rt; printed.taken.as_slice(), b"a".as_slice());
-        assert!(rt; said.taken.is_empty());
+        let mut input = Source::whole(OF_A.as_bytes());
+        input.step = step;
+        let outcome = run_words(rt.alloc(), &open, &mut input, Sink::whole(rt.alloc()))?;
+        check(&rt, &outcome, 0, "a", "");
     }
+    Ok(())
+}
+
+#[test]
+fn a_reader_that_fails(rt: HostRuntime) -> Result<(), Fail> {
+    let open = ["open", "v4", KEY];
     'lengths: for length in [0, 1, 40] {
-        let mut input = Source {
-            rest: &OF_A.as_bytes()[..length],
-            step: usize::MAX,
-            fails: true,
-            was_read: false,
-        };
-        let (mut printed, mut said) = (Sink::whole(alloc), Sink::whole(alloc));
-        assert_eq!(rt; run(alloc, &open, &mut input, &mut printed, &mut said), 1);
-        assert_eq!(rt; said.taken.as_slice(), INPUT_OR_OUTPUT.as_bytes());
-        assert!(rt; printed.taken.is_empty());
+        let mut input = Source::whole(&OF_A.as_bytes()[..length]);
+        input.fails = true;
+        let outcome = run_words(rt.alloc(), &open, &mut input, Sink::whole(rt.alloc()))?;
+        check(&rt, &outcome, 1, "", INPUT_OR_OUTPUT);
     }
     Ok(())
 }
@@ -447,106 +458,74 @@ fn reads_to_the_end(rt: HostRuntime) -> Result<(), Fail> {
 #[test]
 fn a_long_text_comes_back(rt: HostRuntime) -> Result<(), Fail> {
     let alloc = rt.alloc();
-    let text = vec![in alloc; b'x'; 10_000]?;
-    let seal = strings(alloc, &["seal", "v4", KEY, ZERO, "footer"])?;
-    let (mut token, mut said) = (Sink::whole(alloc), Sink::whole(alloc));
-    assert_eq!(rt;
-        run(
-            alloc,
-            &seal,
-            &mut Source::whole(&text),
-            &mut token,
-            &mut said
-        ),
-        0
-    );
+    let bytes = vec![in alloc; b'x'; 10_000]?;
+    let text = str::from_utf8(&bytes)?;
+    let seal = ["seal", "v4", KEY, ZERO, "footer"];
+    let mut input = Source::whole(&bytes);
+    let sealed = run_words(alloc, &seal, &mut input, Sink::whole(alloc))?;
     // The header, 10,064 bytes in base64, the footer's section and the line feed.
-    assert_eq!(rt; token.taken.len(), 9 + 13_419 + 9 + 1);
-    let open = strings(alloc, &["open", "v4", KEY, "footer"])?;
-    let mut opened = Sink::whole(alloc);
-    let mut input = Source::whole(&token.taken);
-    assert_eq!(rt; run(alloc, &open, &mut input, &mut opened, &mut said), 0);
-    assert_eq!(rt; opened.taken.as_slice(), text.as_slice());
-    assert!(rt; said.taken.is_empty());
+    assert_eq!(rt; sealed.printed.len(), 9 + 13_419 + 9 + 1);
+    let open = ["open", "v4", KEY, "footer"];
+    expect(&rt, alloc, &open, &sealed.printed, 0, text, "")
+}
+
+/// Seals the empty text to a writer that fails, or takes nothing, after so many bytes.
+fn expect_beginning(
+    rt: &(impl Abort + Eprint),
+    alloc: Global,
+    room: usize,
+    fails: bool,
+    status: u8,
+    error: &str,
+) -> Result<(), Fail> {
+    let whole = line(alloc, OF_NOTHING)?;
+    let mut sink = Sink::with_room(alloc, room);
+    sink.fails = fails;
+    let seal = ["seal", "v4", KEY, ZERO];
+    let outcome = run_words(alloc, &seal, &mut Source::whole(b""), sink)?;
+    let beginning = whole.as_str().get(..room).unwrap_or("");
+    check(rt, &outcome, status, beginning, error);
     Ok(())
 }
 
 #[test]
 fn a_writer_that_stops_has_a_beginning(rt: HostRuntime) -> Result<(), Fail> {
-    let alloc = rt.alloc();
-    let seal = strings(alloc, &["seal", "v4", KEY, ZERO])?;
-    let whole = line(alloc, OF_NOTHING)?;
-    assert_eq!(rt; whole.len(), 96);
-    'rooms: for room in 0..97usize {
-        let (status, error) = if room < 96 {
-            (1, INPUT_OR_OUTPUT)
-        } else {
-            (0, "")
-        };
-        'ways: for fails in [true, false] {
-            let mut printed = Sink::with_room(alloc, room);
-            printed.fails = fails;
-            let mut said = Sink::whole(alloc);
-            let left = run(
-                alloc,
-                &seal,
-                &mut Source::whole(b""),
-                &mut printed,
-                &mut said,
-            );
-            assert_eq!(rt; left, status);
-            assert_eq!(rt; printed.taken.len(), room);
-            assert!(rt; whole.as_bytes().starts_with(&printed.taken));
-            assert_eq!(rt; said.taken.as_slice(), error.as_bytes());
-        }
+    'rooms: for room in 0..96usize {
+        expect_beginning(&rt, rt.alloc(), room, true, 1, INPUT_OR_OUTPUT)?;
+        expect_beginning(&rt, rt.alloc(), room, false, 1, INPUT_OR_OUTPUT)?;
     }
-    Ok(())
+    expect_beginning(&rt, rt.alloc(), 96, true, 0, "")?;
+    expect_beginning(&rt, rt.alloc(), 96, false, 0, "")
 }
 
 #[test]
 fn a_writer_may_take_a_byte_a_call(rt: HostRuntime) -> Result<(), Fail> {
     let alloc = rt.alloc();
-    let seal = strings(alloc, &["seal", "v4", KEY, ZERO])?;
-    let (mut printed, mut said) = (Sink::whole(alloc), Sink::whole(alloc));
-    printed.step = 1;
-    assert_eq!(rt;
-        run(
-            alloc,
-            &seal,
-            &mut Source::whole(b""),
-            &mut printed,
-            &mut said
-        ),
-        0
-    );
-    assert_eq!(rt;
-        printed.taken.as_slice(),
-        line(alloc, OF_NOTHING)?.as_bytes()
-    );
-    assert!(rt; said.taken.is_empty());
+    let mut sink = Sink::whole(alloc);
+    sink.step = 1;
+    let seal = ["seal", "v4", KEY, ZERO];
+    let outcome = run_words(alloc, &seal, &mut Source::whole(b""), sink)?;
+    check(&rt, &outcome, 0, line(alloc, OF_NOTHING)?.as_str(), "");
     Ok(())
+}
+
+/// Runs the words where the error writer takes so many bytes.
+fn status_with_room(alloc: Global, words: &[&str], room: usize) -> Result<(u8, bool), AllocError> {
+    let args = strings(alloc, words)?;
+    let (mut printed, mut said) = (Sink::whole(alloc), Sink::with_room(alloc, room));
+    let mut input = Source::whole(b"");
+    let status = run(alloc, &args, &mut input, &mut printed, &mut said);
+    Ok((status, printed.taken.is_empty()))
 }
 
 #[test]
 fn a_fault_of_the_error_writer_changes_no_status(rt: HostRuntime) -> Result<(), Fail> {
     let alloc = rt.alloc();
     'rooms: for room in [0, 5, usize::MAX] {
-        'rows: for (words, status) in [
-            (["seal", "v4", SHORT_KEY, ZERO], 1),
-            (["seal", "v2", KEY, ZERO], 2),
-        ] {
-            let args = strings(alloc, &words)?;
-            let (mut printed, mut said) = (Sink::whole(alloc), Sink::with_room(alloc, room));
-            let left = run(
-                alloc,
-                &args,
-                &mut Source::whole(b""),
-                &mut printed,
-                &mut said,
-            );
-            assert_eq!(rt; left, status);
-            assert!(rt; printed.taken.is_empty());
-        }
+        let refused = status_with_room(alloc, &["seal", "v4", SHORT_KEY, ZERO], room)?;
+        assert_eq!(rt; refused, (1, true));
+        let misused = status_with_room(alloc, &["seal", "v2", KEY, ZERO], room)?;
+        assert_eq!(rt; misused, (2, true));
     }
     Ok(())
 }
