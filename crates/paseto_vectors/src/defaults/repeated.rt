@@ -3,17 +3,32 @@
 use crate::builders::generators::{Failing, Zeros};
 use crate::defaults::claims::Claim;
 use crate::defaults::kinds::moment_after;
+use crate::expect::{expect_refusal, expect_text};
 use crate::kinds::counting::{Calls, Counting};
 use crate::kinds::toys::{Keys, ToyVersion};
 use crate::kinds::{Binding, KINDS, Kind, SECRET, symmetric_key};
 use crate::parsers::steps::custom;
 use crate::toy_schemes::ToyV4;
 use rusty_paseto::prelude::{
-    AudienceClaim, GenericBuilderError, Local, PasetoBuilder, PasetoError, Public, V4, fits_default,
+    AudienceClaim, CustomClaim, GenericBuilderError, Local, PasetoBuilder, PasetoError, Public,
+    PurposeTrait, V4, VersionTrait, fits_default,
 };
+use serde_json::Value;
 use std::alloc::Global;
 use std::process::Abort;
 use std::test::Fail;
+
+// A default builder of the claims, in this kind, is refused with an error of this text.
+fn check_kind(
+    rt: &impl Abort,
+    alloc: Global,
+    kind: Kind,
+    claims: &[Claim<'_>],
+    text: &str,
+) -> Result<(), Fail> {
+    let answer = kind.build_default(alloc, moment_after(0)?, claims, Binding::NONE)?;
+    expect_refusal(rt, alloc, answer, text)
+}
 
 // A default builder of the claims has set this key again last.
 fn check_repeated(
@@ -22,21 +37,11 @@ fn check_repeated(
     claims: &[Claim<'_>],
     key: &str,
 ) -> Result<(), Fail> {
-    let now = moment_after(0)?;
     let text = format!(in alloc;
         "The claim '{key}' appears more than once in the top level payload json"
     )?;
     'kinds: for kind in KINDS {
-        match kind.build_default(alloc, now, claims, Binding::NONE)? {
-            Ok(_) => return Err(Fail::from("built with a key that was set twice")),
-            Err(error) => {
-                assert_eq!(rt;
-                    format!(in alloc; "{error}")?.as_str(),
-                    text.as_str(),
-                    "{kind:?}"
-                );
-            }
-        }
+        check_kind(rt, alloc, kind, claims, text.as_str())?;
     }
     Ok(())
 }
@@ -55,6 +60,12 @@ fn keys_that_are_set_again(rt: HostRuntime) -> Result<(), Fail> {
     check_repeated(&rt, alloc, &[Claim::NoExpiration, expiration], "exp")
 }
 
+// What a default builder of the claims, in this kind, writes.
+fn payload_of_kind(alloc: Global, kind: Kind, claims: &[Claim<'_>]) -> Result<String, Fail> {
+    let token = kind.build_default(alloc, moment_after(0)?, claims, Binding::NONE)??;
+    Ok(kind.read(alloc, token.as_str(), Binding::NONE)?)
+}
+
 // What is built of the claims in every kind.
 fn check_payload(
     rt: &impl Abort,
@@ -63,9 +74,7 @@ fn check_payload(
     payload: &str,
 ) -> Result<(), Fail> {
     'kinds: for kind in KINDS {
-        let token = kind.build_default(alloc, moment_after(0)?, claims, Binding::NONE)??;
-        let text = kind.read(alloc, token.as_str(), Binding::NONE)?;
-        assert_eq!(rt; text.as_str(), payload, "{kind:?}");
+        expect_text(rt, payload_of_kind(alloc, kind, claims)?.as_str(), payload);
     }
     Ok(())
 }
@@ -83,74 +92,101 @@ fn never_expiring(rt: HostRuntime) -> Result<(), Fail> {
 
 type LocalBuilder<'a> = PasetoBuilder<'a, V4, Local>;
 
-fn local_builder<'a>(alloc: Global) -> Result<LocalBuilder<'a>, Fail> {
+// A default builder at the first of 2024.
+fn default_builder<'a, V: VersionTrait, P: PurposeTrait>(
+    alloc: Global,
+) -> Result<PasetoBuilder<'a, V, P>, Fail> {
     let now = moment_after(0)?;
     if !fits_default(now) {
         return Err(Fail::from("no default builder begins at the moment"));
     }
-    Ok(LocalBuilder::default(alloc, now)?)
+    Ok(PasetoBuilder::default(alloc, now)?)
+}
+
+// One that has set the number of seats.
+fn builder_of_seats<'a>(alloc: Global) -> Result<LocalBuilder<'a>, Fail> {
+    let mut builder: LocalBuilder<'a> = default_builder(alloc)?;
+    builder.put_claim(&custom(alloc, "seats", "4")?)?;
+    Ok(builder)
 }
 
 fn check_local(rt: &impl Abort, builder: &LocalBuilder<'_>, payload: &str) -> Result<(), Fail> {
     let token = builder.build(&mut Zeros, &symmetric_key(&SECRET))?;
     let alloc = *token.allocator();
     let text = Kind::V4Local.read(alloc, token.as_str(), Binding::NONE)?;
-    assert_eq!(rt; text.as_str(), payload);
+    expect_text(rt, text.as_str(), payload);
     Ok(())
 }
 
 const SEATS: &str = "{\"exp\":\"2024-01-01T01:00:00Z\",\"iat\":\"2024-01-01T00:00:00Z\",\
     \"nbf\":\"2024-01-01T00:00:00Z\",\"seats\":4}";
 
+// Whether the claim was refused.
+fn is_refused(builder: &mut LocalBuilder<'_>, claim: &CustomClaim<Value>) -> bool {
+    matches!(
+        builder.put_claim(claim),
+        Err(GenericBuilderError::ClaimError { .. })
+    )
+}
+
 #[test]
 fn a_claim_that_is_refused(rt: HostRuntime) -> Result<(), Fail> {
     let alloc = rt.alloc();
-    let mut builder = local_builder(alloc)?;
-    let refused = builder.put_claim(&custom(alloc, "seats", "3.5")?);
-    assert!(rt; matches!(refused, Err(GenericBuilderError::ClaimError { .. })));
+    let mut builder: LocalBuilder<'_> = default_builder(alloc)?;
+    assert!(rt; is_refused(&mut builder, &custom(alloc, "seats", "3.5")?));
     builder.put_claim(&custom(alloc, "seats", "4")?)?;
     check_local(&rt, &builder, SEATS)
 }
 
-#[test]
-fn built_again(rt: HostRuntime) -> Result<(), Fail> {
-    let alloc = rt.alloc();
-    let mut builder = local_builder(alloc)?;
-    builder.put_claim(&custom(alloc, "seats", "4")?)?;
+// Builds with a source of nonces that fails.
+fn build_with_no_nonce(builder: &LocalBuilder<'_>) -> (Result<String, GenericBuilderError>, u8) {
     let mut failing = Failing { asked: 0 };
     let answer = builder.build(&mut failing, &symmetric_key(&SECRET));
-    let is_named = matches!(
+    (answer, failing.asked)
+}
+
+// Whether the source of nonces failed.
+fn is_cipher_fault(answer: &Result<String, GenericBuilderError>) -> bool {
+    matches!(
         answer,
         Err(GenericBuilderError::CipherError {
             source: PasetoError::Cipher
         })
-    );
-    assert!(rt; is_named);
+    )
+}
+
+#[test]
+fn built_again(rt: HostRuntime) -> Result<(), Fail> {
+    let builder = builder_of_seats(rt.alloc())?;
+    let (answer, _) = build_with_no_nonce(&builder);
+    assert!(rt; is_cipher_fault(&answer));
     check_local(&rt, &builder, SEATS)?;
     check_local(&rt, &builder, SEATS)
 }
 
-#[test]
-fn nothing_is_asked_for_a_key_that_was_set_again(rt: HostRuntime) -> Result<(), Fail> {
-    let alloc = rt.alloc();
-    let now = moment_after(0)?;
-    if !fits_default(now) {
-        return Err(Fail::from("no default builder begins at the moment"));
-    }
+fn set_twice<V: VersionTrait, P: PurposeTrait>(
+    builder: &mut PasetoBuilder<'_, V, P>,
+) -> Result<(), Fail> {
     let audience = AudienceClaim::from("customers");
-    let mut builder = local_builder(alloc)?;
     builder.put_claim(&audience)?;
     builder.put_claim(&audience)?;
-    let mut failing = Failing { asked: 0 };
-    assert!(rt;
-        builder
-            .build(&mut failing, &symmetric_key(&SECRET))
-            .is_err()
-    );
-    assert_eq!(rt; failing.asked, 0);
-    let mut builder = PasetoBuilder::<V4, Public>::default(alloc, now)?;
-    builder.put_claim(&audience)?;
-    builder.put_claim(&audience)?;
+    Ok(())
+}
+
+#[test]
+fn no_nonce_is_asked_for_a_key_that_was_set_again(rt: HostRuntime) -> Result<(), Fail> {
+    let mut builder: LocalBuilder<'_> = default_builder(rt.alloc())?;
+    set_twice(&mut builder)?;
+    let (answer, asked) = build_with_no_nonce(&builder);
+    assert!(rt; answer.is_err());
+    assert!(rt; asked == 0);
+    Ok(())
+}
+
+#[test]
+fn no_scheme_is_asked_for_a_key_that_was_set_again(rt: HostRuntime) -> Result<(), Fail> {
+    let mut builder: PasetoBuilder<'_, V4, Public> = default_builder(rt.alloc())?;
+    set_twice(&mut builder)?;
     let mut scheme = Counting::new(ToyV4);
     let keys = Keys::of(&SECRET);
     assert!(rt; builder.build(&mut scheme, &V4::private_key(&keys)).is_err());
