@@ -4,5 +4,4 @@ mod ciphers;
 mod codes;
 mod cuts;
 mod digests;
-mod slow_blake2b;
 mod streams;

@@ -1,8 +1,9 @@
 //! BLAKE2b (RFC 7693).
 
-use super::slow_blake2b::slow_blake2b;
+use crate::expect::expect_bytes;
 use crate::hexadecimal::array_of;
 use rusty_paseto_primitives::{Blake2b, blake2b_keyed, blake2b_keyed_pair};
+use std::process::Abort;
 use std::test::Fail;
 
 // RFC 7693, appendix A.
@@ -13,20 +14,7 @@ fn digest_of_abc(rt: HostRuntime) -> Result<(), Fail> {
         "7d87c5392aab792dc252d5de4533cc9518d38aa8dbf1925ab92386edd4009923",
     ))?;
     let digest: [u8; 64] = blake2b_keyed(b"", b"abc");
-    assert_eq!(rt; digest.as_slice(), known.as_slice());
-    Ok(())
-}
-
-// Messages that end short of a block's edge, at it and past it.
-#[test]
-fn digests_of_a_slow_function(rt: HostRuntime) -> Result<(), Fail> {
-    let message = [0xa5u8; 256];
-    let key = [0x3cu8; 64];
-    'lengths: for length in [0usize, 127, 128, 129, 256] {
-        let expected = slow_blake2b(rt.alloc(), &key, 64, &message[..length])?;
-        let digest: [u8; 64] = blake2b_keyed(&key, &message[..length]);
-        assert_eq!(rt; digest.as_slice(), expected.as_slice(), "{length} bytes");
-    }
+    expect_bytes(&rt, &digest, &known);
     Ok(())
 }
 
@@ -48,44 +36,36 @@ fn pair_of_digests(rt: HostRuntime) -> Result<(), Fail> {
         first_message,
         second_message,
     );
-    assert_eq!(rt; first.as_slice(), first_known.as_slice());
-    assert_eq!(rt; second.as_slice(), second_known.as_slice());
+    expect_bytes(&rt, &first, &first_known);
+    expect_bytes(&rt, &second, &second_known);
     Ok(())
 }
 
-// Each of two messages has the digest that it has alone, whether a block holds both, one or none.
-#[test]
-fn pairs_of_a_slow_function(rt: HostRuntime) -> Result<(), Fail> {
-    let message = [0xa5u8; 256];
+// Each of two messages has the digest that it has alone.
+fn check_pair(rt: &impl Abort, first_message: &[u8], second_message: &[u8]) {
     let key = [0x3cu8; 64];
-    'lengths: for (first_len, second_len) in [
-        (1usize, 128usize),
-        (128, 1),
-        (128, 129),
-        (129, 128),
-        (0, 127),
-        (127, 0),
-        (256, 0),
-    ] {
-        let first_expected = slow_blake2b(rt.alloc(), &key, 64, &message[..first_len])?;
-        let second_expected = slow_blake2b(rt.alloc(), &key, 33, &message[..second_len])?;
-        let (first, second): ([u8; 64], [u8; 33]) = blake2b_keyed_pair(
-            &key,
-            &message[..first_len],
-            &message[..second_len],
-        );
-        assert_eq!(rt;
-            first.as_slice(),
-            first_expected.as_slice(),
-            "{first_len} bytes"
-        );
-        assert_eq!(rt;
-            second.as_slice(),
-            second_expected.as_slice(),
-            "{second_len} bytes"
-        );
-    }
-    Ok(())
+    let (first, second): ([u8; 64], [u8; 33]) = blake2b_keyed_pair(
+        &key,
+        first_message,
+        second_message,
+    );
+    let first_alone: [u8; 64] = blake2b_keyed(&key, first_message);
+    let second_alone: [u8; 33] = blake2b_keyed(&key, second_message);
+    expect_bytes(rt, &first, &first_alone);
+    expect_bytes(rt, &second, &second_alone);
+}
+
+// A block holds both messages, one or none.
+#[test]
+fn pairs_of_all_lengths(rt: HostRuntime) {
+    let message = [0xa5u8; 256];
+    check_pair(&rt, &message[..1], &message[..128]);
+    check_pair(&rt, &message[..128], &message[..1]);
+    check_pair(&rt, &message[..128], &message[..129]);
+    check_pair(&rt, &message[..129], &message[..128]);
+    check_pair(&rt, &message[..0], &message[..127]);
+    check_pair(&rt, &message[..127], &message[..0]);
+    check_pair(&rt, &message[..256], &message[..0]);
 }
 
 // Without a key there is no block of the key, so that the two are made one after the other.
@@ -94,8 +74,8 @@ fn pair_without_a_key(rt: HostRuntime) {
     let (first, second): ([u8; 64], [u8; 32]) = blake2b_keyed_pair(b"", b"abc", b"abc");
     let first_alone: [u8; 64] = blake2b_keyed(b"", b"abc");
     let second_alone: [u8; 32] = blake2b_keyed(b"", b"abc");
-    assert_eq!(&rt; first.as_slice(), first_alone.as_slice());
-    assert_eq!(&rt; second.as_slice(), second_alone.as_slice());
+    expect_bytes(&rt, &first, &first_alone);
+    expect_bytes(&rt, &second, &second_alone);
 }
 
 // The message in one piece and in two has one digest, wherever it is cut.
@@ -125,7 +105,7 @@ fn cut_at_each_place(rt: HostRuntime) {
                 hasher.update(tail);
                 let mut digest = [0u8; 64];
                 hasher.finalize_into(&mut digest);
-                assert_eq!(&rt; digest.as_slice(), whole.as_slice());
+                expect_bytes(&rt, &digest, &whole);
             }
         }
     }
@@ -138,5 +118,5 @@ fn no_update_is_the_empty_message(rt: HostRuntime) {
     let mut digest = [0u8; 32];
     hasher.finalize_into(&mut digest);
     let whole: [u8; 32] = blake2b_keyed(&key, b"");
-    assert_eq!(&rt; digest.as_slice(), whole.as_slice());
+    expect_bytes(&rt, &digest, &whole);
 }
