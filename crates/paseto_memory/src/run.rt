@@ -91,7 +91,7 @@ impl<W: Write> Run<W> {
     where
         T: Told + Drop,
         E: Refusal,
-        F: Fn(&O) -> Result<T, E>,
+        F: Copy + FnOnce(&O) -> Result<T, E>,
         requires { F.IsAlwaysCallable call }
     {
         let name = self.name(case)?;
@@ -125,7 +125,7 @@ impl<W: Write> Run<W> {
         O: Told + Drop,
         A: Drop,
         E: Refusal,
-        F: Fn(&mut O, A) -> Result<(), E>,
+        F: Copy + FnOnce(&mut O, A) -> Result<(), E>,
         requires { F.IsAlwaysCallable call }
     {
         let name = self.name(case)?;
