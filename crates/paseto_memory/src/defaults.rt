@@ -12,7 +12,7 @@ use crate::toys::{Lenient, PlainBox, Refuses, Zeros, refusing};
 use anyhow::{Result, ensure};
 use rusty_paseto::prelude::{
     AudienceClaim, BoxlessVersion, CustomClaim, Local, PasetoBuilder, PasetoParser, Public,
-    PurposeTrait, Signs, V1, V2, V3, V4, ValidatorFn, Verifies, VersionTrait, fits_default,
+    PurposeTrait, Signs, V1, V2, V3, V4, Verifies, VersionTrait, fits_default,
 };
 use std::alloc::Global;
 use std::io::Write;
@@ -86,20 +86,22 @@ fn parser_of<V: VersionTrait, P: PurposeTrait>(
     Ok(parser)
 }
 
-/// Two of them, of version 4 and local.
-pub fn two_builders(
+/// Two of them.
+pub fn two_builders<V: VersionTrait, P: PurposeTrait>(
     alloc: Global,
     text: &str,
     more: u64,
-) -> Result<[PasetoBuilder<'static, V4, Local>; 2]> {
+) -> Result<[PasetoBuilder<'static, V, P>; 2]> {
     Ok([
         builder_of(alloc, text, more)?,
         builder_of(alloc, text, more)?,
     ])
 }
 
-/// Two of them, of version 4 and local.
-pub fn two_parsers(alloc: Global) -> Result<[PasetoParser<'static, V4, Local>; 2]> {
+/// Two of them.
+pub fn two_parsers<V: VersionTrait, P: PurposeTrait>(
+    alloc: Global,
+) -> Result<[PasetoParser<'static, V, P>; 2]> {
     Ok([parser_of(alloc)?, parser_of(alloc)?])
 }
 
@@ -130,21 +132,21 @@ fn ask_claims<W: Write>(run: &mut Run<W>) -> Result<()> {
     let case = Case::of("PasetoBuilder::put_claim", "a claim");
     run.change(
         case,
-        two_builders(alloc, text, 10)?,
+        two_builders::<V4, Local>(alloc, text, 10)?,
         [(), (), ()],
         |builder, _| { builder.put_claim(&claim) },
     )?;
     let case = Case::of("PasetoBuilder::put_claim", "a claim beside many");
     run.change(
         case,
-        two_builders(alloc, text, 13)?,
+        two_builders::<V4, Local>(alloc, text, 13)?,
         [(), (), ()],
         |builder, _| { builder.put_claim(&claim) },
     )?;
     let case = Case::of("PasetoBuilder::set_claim", "a claim");
     run.change(
         case,
-        two_builders(alloc, text, 10)?,
+        two_builders::<V4, Local>(alloc, text, 10)?,
         [(), (), ()],
         |builder, _| {
             match builder.set_claim(&claim) {
@@ -162,12 +164,11 @@ fn ask_repeated_claims<W: Write>(run: &mut Run<W>) -> Result<()> {
     let case = Case::of("PasetoBuilder::put_claim", "a key that was set");
     run.change(
         case,
-        two_builders(alloc, "a", 10)?,
+        two_builders::<V4, Local>(alloc, "a", 10)?,
         [(), (), ()],
         |builder, _| { builder.put_claim(&claim) },
     )?;
-    let mut untouched = builder_of::<V4, Local>(alloc, "a", 10)?;
-    let mut builder = builder_of::<V4, Local>(alloc, "a", 10)?;
+    let [mut untouched, mut builder] = two_builders::<V4, Local>(alloc, "a", 10)?;
     untouched.put_claim(&claim)?;
     builder.put_claim(&claim)?;
     let case = Case::refused("PasetoBuilder::build", "a key that was set again");
@@ -183,7 +184,7 @@ fn ask_repeated_claims<W: Write>(run: &mut Run<W>) -> Result<()> {
 fn ask_no_expiration<W: Write>(run: &mut Run<W>) -> Result<()> {
     let alloc = run.alloc();
     let call = "PasetoBuilder::put_no_expiration_danger_acknowledged";
-    let builders = two_builders(alloc, "a", 10)?;
+    let builders = two_builders::<V4, Local>(alloc, "a", 10)?;
     run.change(
         Case::of(call, "a builder"),
         builders,
@@ -191,7 +192,7 @@ fn ask_no_expiration<W: Write>(run: &mut Run<W>) -> Result<()> {
         |builder, _| { builder.put_no_expiration_danger_acknowledged() },
     )?;
     let call = "PasetoBuilder::set_no_expiration_danger_acknowledged";
-    let builders = two_builders(alloc, "a", 10)?;
+    let builders = two_builders::<V4, Local>(alloc, "a", 10)?;
     run.change(
         Case::of(call, "a builder"),
         builders,
@@ -211,17 +212,22 @@ fn ask_checks<W: Write>(run: &mut Run<W>) -> Result<()> {
     let case = Case::of("DefaultParser::put_check", "a claim");
     run.change(
         case,
-        two_parsers(alloc)?,
+        two_parsers::<V4, Local>(alloc)?,
         [(), (), ()],
         |parser, _| parser.put_check(&claim),
     )?;
     let case = Case::of("DefaultParser::check_claim", "a claim");
-    run.change(case, two_parsers(alloc)?, [(), (), ()], |parser, _| {
-        match parser.check_claim(&claim) {
-            Ok(_) => Ok(()),
-            Err(error) => Err(error),
-        }
-    })
+    run.change(
+        case,
+        two_parsers::<V4, Local>(alloc)?,
+        [(), (), ()],
+        |parser, _| {
+            match parser.check_claim(&claim) {
+                Ok(_) => Ok(()),
+                Err(error) => Err(error),
+            }
+        },
+    )
 }
 
 fn ask_validators<W: Write>(run: &mut Run<W>) -> Result<()> {
@@ -230,15 +236,15 @@ fn ask_validators<W: Write>(run: &mut Run<W>) -> Result<()> {
     let case = Case::of("DefaultParser::put_validator", "a claim");
     run.change(
         case,
-        two_parsers(alloc)?,
-        refusing!(alloc),
+        two_parsers::<V4, Local>(alloc)?,
+        refusing(alloc)?,
         |parser, validator| { parser.put_validator(&claim, validator) },
     )?;
     let case = Case::of("DefaultParser::validate_claim", "a claim");
     run.change(
         case,
-        two_parsers(alloc)?,
-        refusing!(alloc),
+        two_parsers::<V4, Local>(alloc)?,
+        refusing(alloc)?,
         |parser, validator| {
             match parser.validate_claim(&claim, validator) {
                 Ok(_) => Ok(()),
@@ -252,20 +258,27 @@ fn ask_local<V: BoxlessVersion, W: Write>(run: &mut Run<W>, kind: &str) -> Resul
     if !run.asks_of(kind) {
         return Ok(());
     }
-    let alloc = run.alloc();
-    let text = run.text()?;
-    let text = text.as_str();
+    ask_sealing::<V, W>(run, kind)?;
+    ask_opening::<V, W>(run, kind)
+}
+
+fn ask_sealing<V: BoxlessVersion, W: Write>(run: &mut Run<W>, kind: &str) -> Result<()> {
     let key = symmetric_key::<V>();
-    let untouched = builder_of::<V, Local>(alloc, text, 10)?;
-    let builder = builder_of::<V, Local>(alloc, text, 10)?;
+    let [untouched, builder] = two_builders::<V, Local>(run.alloc(), run.text()?.as_str(), 10)?;
     run.ask(
         Case::of("PasetoBuilder::build", kind),
         &untouched,
         &builder,
         |builder| { builder.build(&mut Zeros, &key) },
-    )?;
-    let token = seal::<V>(alloc, good(alloc, text)?.as_str())?;
-    let (untouched, parser) = (parser_of::<V, Local>(alloc)?, parser_of::<V, Local>(alloc)?);
+    )
+}
+
+fn ask_opening<V: BoxlessVersion, W: Write>(run: &mut Run<W>, kind: &str) -> Result<()> {
+    let alloc = run.alloc();
+    let key = symmetric_key::<V>();
+    let payload = good(alloc, run.text()?.as_str())?;
+    let token = seal::<V>(alloc, payload.as_str())?;
+    let [untouched, parser] = two_parsers::<V, Local>(alloc)?;
     run.ask(
         Case::of("DefaultParser::parse", kind),
         &untouched,
@@ -278,23 +291,27 @@ fn ask_boxed_local<W: Write>(run: &mut Run<W>) -> Result<()> {
     if !run.asks_of("v2.local") {
         return Ok(());
     }
-    let alloc = run.alloc();
-    let text = run.text()?;
-    let text = text.as_str();
+    ask_boxing(run)?;
+    ask_unboxing(run)
+}
+
+fn ask_boxing<W: Write>(run: &mut Run<W>) -> Result<()> {
     let key = symmetric_key::<V2>();
-    let untouched = builder_of::<V2, Local>(alloc, text, 10)?;
-    let builder = builder_of::<V2, Local>(alloc, text, 10)?;
+    let [untouched, builder] = two_builders::<V2, Local>(run.alloc(), run.text()?.as_str(), 10)?;
     run.ask(
         Case::of("PasetoBuilder::build", "v2.local"),
         &untouched,
         &builder,
         |builder| { builder.build(&PlainBox, &mut Zeros, &key) },
-    )?;
-    let token = boxed_local::seal(alloc, good(alloc, text)?.as_str())?;
-    let (untouched, parser) = (
-        parser_of::<V2, Local>(alloc)?,
-        parser_of::<V2, Local>(alloc)?,
-    );
+    )
+}
+
+fn ask_unboxing<W: Write>(run: &mut Run<W>) -> Result<()> {
+    let alloc = run.alloc();
+    let key = symmetric_key::<V2>();
+    let payload = good(alloc, run.text()?.as_str())?;
+    let token = boxed_local::seal(alloc, payload.as_str())?;
+    let [untouched, parser] = two_parsers::<V2, Local>(alloc)?;
     run.ask(
         Case::of("DefaultParser::parse", "v2.local"),
         &untouched,
@@ -310,24 +327,30 @@ where
     if !run.asks_of(V::KIND) {
         return Ok(());
     }
-    let alloc = run.alloc();
-    let text = run.text()?;
-    let text = text.as_str();
+    ask_signing::<V, W>(run, keys)?;
+    ask_verifying::<V, W>(run, keys)
+}
+
+fn ask_signing<V: Keyed + Signs<Lenient>, W: Write>(run: &mut Run<W>, keys: &Keys) -> Result<()> {
     let key = V::private_key(keys);
-    let untouched = builder_of::<V, Public>(alloc, text, 10)?;
-    let builder = builder_of::<V, Public>(alloc, text, 10)?;
+    let [untouched, builder] = two_builders::<V, Public>(run.alloc(), run.text()?.as_str(), 10)?;
     run.ask(
         Case::of("PasetoBuilder::build", V::KIND),
         &untouched,
         &builder,
         |builder| { builder.build(&mut Lenient, &key) },
-    )?;
-    let token = sign::<V>(alloc, good(alloc, text)?.as_str(), keys)?;
+    )
+}
+
+fn ask_verifying<V, W: Write>(run: &mut Run<W>, keys: &Keys) -> Result<()>
+where
+    V: Keyed + Signs<Lenient> + Verifies<Lenient>,
+{
+    let alloc = run.alloc();
     let key = V::public_key(keys)?;
-    let (untouched, parser) = (
-        parser_of::<V, Public>(alloc)?,
-        parser_of::<V, Public>(alloc)?,
-    );
+    let payload = good(alloc, run.text()?.as_str())?;
+    let token = sign::<V>(alloc, payload.as_str(), keys)?;
+    let [untouched, parser] = two_parsers::<V, Public>(alloc)?;
     run.ask(
         Case::of("DefaultParser::parse", V::KIND),
         &untouched,

@@ -294,7 +294,7 @@ fn ask_builder<W: Write>(run: &mut Run<W>) -> Result<()> {
             Ok(())
         },
     )?;
-    let builders = defaults::two_builders(run.alloc(), "a", 0)?;
+    let builders = defaults::two_builders::<V4, Local>(run.alloc(), "a", 0)?;
     let case = Case::of(
         "PasetoBuilder::set_footer and others",
         "a builder, with no memory",
@@ -337,7 +337,7 @@ fn ask_parser<W: Write>(run: &mut Run<W>) -> Result<()> {
         "DefaultParser::set_footer and others",
         "a parser, with no memory",
     );
-    let parsers = defaults::two_parsers(run.alloc())?;
+    let parsers = defaults::two_parsers::<V4, Local>(run.alloc())?;
     run.change(
         case,
         parsers,

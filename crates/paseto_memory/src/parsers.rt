@@ -13,7 +13,7 @@ use anyhow::Result;
 use jiff::Timestamp;
 use rusty_paseto::prelude::{
     AudienceClaim, CustomClaim, GenericParser, Local, Public, PurposeTrait, Signs, UnboxedVersion,
-    V1, V2, V3, V4, ValidatorFn, ValidatorMap, Verifies, VersionTrait,
+    V1, V2, V3, V4, ValidatorMap, Verifies, VersionTrait,
 };
 use serde_json::Value;
 use std::alloc::Global;
@@ -108,6 +108,19 @@ fn ask_checks<W: Write>(run: &mut Run<W>) -> Result<()> {
 }
 
 fn ask_refused_checks<W: Write>(run: &mut Run<W>) -> Result<()> {
+    ask_refused_check(run)?;
+    let alloc = run.alloc();
+    let case = Case::refused("TokenParser::put_checks", "a map with a fraction");
+    let maps = three_maps(alloc, "{\"a\":1,\"b\":3.5}")?;
+    run.change(
+        case,
+        two_parsers(alloc)?,
+        maps,
+        |parser, map| parser.put_checks(map),
+    )
+}
+
+fn ask_refused_check<W: Write>(run: &mut Run<W>) -> Result<()> {
     let alloc = run.alloc();
     let claim = CustomClaim::try_from_str(alloc, "odd", Value::from_str(alloc, "[3.5]")?)?;
     let case = Case::refused("TokenParser::put_check", "a fraction");
@@ -121,16 +134,8 @@ fn ask_refused_checks<W: Write>(run: &mut Run<W>) -> Result<()> {
     run.change(
         case,
         two_parsers(alloc)?,
-        refusing!(alloc),
+        refusing(alloc)?,
         |parser, validator| { parser.put_validator(&claim, validator) },
-    )?;
-    let case = Case::refused("TokenParser::put_checks", "a map with a fraction");
-    let maps = three_maps(alloc, "{\"a\":1,\"b\":3.5}")?;
-    run.change(
-        case,
-        two_parsers(alloc)?,
-        maps,
-        |parser, map| parser.put_checks(map),
     )
 }
 
@@ -141,14 +146,14 @@ fn ask_validators<W: Write>(run: &mut Run<W>) -> Result<()> {
     run.change(
         case,
         two_parsers(alloc)?,
-        refusing!(alloc),
+        refusing(alloc)?,
         |parser, validator| { parser.put_validator(&claim, validator) },
     )?;
     let case = Case::of("TokenParser::validate_claim", "a claim");
     run.change(
         case,
         two_parsers(alloc)?,
-        refusing!(alloc),
+        refusing(alloc)?,
         |parser, validator| {
             match parser.validate_claim(&claim, validator) {
                 Ok(_) => Ok(()),
@@ -181,23 +186,23 @@ fn ask_several_checks<W: Write>(run: &mut Run<W>) -> Result<()> {
 }
 
 // Validators of three keys, the last of which has a stored value already.
-fn validators(alloc: Global, boxes: [ValidatorFn; 3]) -> Result<ValidatorMap> {
+fn validators(alloc: Global) -> Result<ValidatorMap> {
     let mut map = BTreeMap::new(alloc);
-    let [first, second, third] = boxes;
+    let [first, second, third] = refusing(alloc)?;
     drop(map.insert(String::from_str(alloc, "a")?, first)?);
     drop(map.insert(String::from_str(alloc, "aud")?, second)?);
     drop(map.insert(String::from_str(alloc, "seats")?, third)?);
     Ok(map)
 }
 
+fn three_validator_maps(alloc: Global) -> Result<[ValidatorMap; 3]> {
+    Ok([validators(alloc)?, validators(alloc)?, validators(alloc)?])
+}
+
 fn ask_several_validators<W: Write>(run: &mut Run<W>) -> Result<()> {
     let alloc = run.alloc();
     let case = Case::of("TokenParser::put_validators", "a map");
-    let maps = [
-        validators(alloc, refusing!(alloc))?,
-        validators(alloc, refusing!(alloc))?,
-        validators(alloc, refusing!(alloc))?,
-    ];
+    let maps = three_validator_maps(alloc)?;
     run.change(
         case,
         two_parsers(alloc)?,
@@ -205,11 +210,7 @@ fn ask_several_validators<W: Write>(run: &mut Run<W>) -> Result<()> {
         |parser, map| parser.put_validators(map),
     )?;
     let case = Case::of("TokenParser::extend_validation_claims", "a map");
-    let maps = [
-        validators(alloc, refusing!(alloc))?,
-        validators(alloc, refusing!(alloc))?,
-        validators(alloc, refusing!(alloc))?,
-    ];
+    let maps = three_validator_maps(alloc)?;
     run.change(case, two_parsers(alloc)?, maps, |parser, map| {
         match parser.extend_validation_claims(map) {
             Ok(_) => Ok(()),
@@ -255,6 +256,12 @@ fn timed<V: VersionTrait, P: PurposeTrait>(alloc: Global) -> Result<GenericParse
     Ok(parser)
 }
 
+fn two_timed<V: VersionTrait, P: PurposeTrait>(
+    alloc: Global,
+) -> Result<[GenericParser<'static, V, P>; 2]> {
+    Ok([timed(alloc)?, timed(alloc)?])
+}
+
 fn ask_opening<V: UnboxedVersion, W: Write>(run: &mut Run<W>, kind: &str) -> Result<()> {
     if !run.asks_of(kind) {
         return Ok(());
@@ -263,7 +270,7 @@ fn ask_opening<V: UnboxedVersion, W: Write>(run: &mut Run<W>, kind: &str) -> Res
     let payload = good(alloc, run.text()?.as_str())?;
     let token = seal::<V>(alloc, payload.as_str())?;
     let key = symmetric_key::<V>();
-    let (untouched, parser) = (timed::<V, Local>(alloc)?, timed::<V, Local>(alloc)?);
+    let [untouched, parser] = two_timed::<V, Local>(alloc)?;
     run.ask(
         Case::of("TokenParser::parse", kind),
         &untouched,
@@ -280,7 +287,7 @@ fn ask_unboxing<W: Write>(run: &mut Run<W>) -> Result<()> {
     let payload = good(alloc, run.text()?.as_str())?;
     let token = boxed_local::seal(alloc, payload.as_str())?;
     let key = symmetric_key::<V2>();
-    let (untouched, parser) = (timed::<V2, Local>(alloc)?, timed::<V2, Local>(alloc)?);
+    let [untouched, parser] = two_timed::<V2, Local>(alloc)?;
     run.ask(
         Case::of("TokenParser::parse", "v2.local"),
         &untouched,
@@ -300,7 +307,7 @@ where
     let payload = good(alloc, run.text()?.as_str())?;
     let token = sign::<V>(alloc, payload.as_str(), keys)?;
     let key = V::public_key(keys)?;
-    let (untouched, parser) = (timed::<V, Public>(alloc)?, timed::<V, Public>(alloc)?);
+    let [untouched, parser] = two_timed::<V, Public>(alloc)?;
     run.ask(
         Case::of("TokenParser::parse", V::KIND),
         &untouched,
@@ -324,18 +331,18 @@ fn ask_failed_checks<W: Write>(run: &mut Run<W>) -> Result<()> {
     ask_failed_validation(run)
 }
 
+/// A parser that checks the times and the audience too.
+fn of_audience(alloc: Global) -> Result<GenericParser<'static, V4, Local>> {
+    let mut parser = timed(alloc)?;
+    parser.put_check(&AudienceClaim::from("customers"))?;
+    Ok(parser)
+}
+
 fn ask_failed_check<W: Write>(run: &mut Run<W>, of: &str, payload: &str) -> Result<()> {
     let alloc = run.alloc();
     let token = seal::<V4>(alloc, payload)?;
     let key = symmetric_key::<V4>();
-    let mut untouched = parser_of::<V4, Local>(alloc)?;
-    let mut parser = parser_of::<V4, Local>(alloc)?;
-    untouched
-        .check_times(now()?)?
-        .check_claim(&AudienceClaim::from("customers"))?;
-    parser
-        .check_times(now()?)?
-        .check_claim(&AudienceClaim::from("customers"))?;
+    let (untouched, parser) = (of_audience(alloc)?, of_audience(alloc)?);
     run.ask(
         Case::refused("TokenParser::parse", of),
         &untouched,
@@ -344,14 +351,18 @@ fn ask_failed_check<W: Write>(run: &mut Run<W>, of: &str, payload: &str) -> Resu
     )
 }
 
+/// A parser that judges three claims by validators too.
+fn judging(alloc: Global) -> Result<GenericParser<'static, V4, Local>> {
+    let mut parser = parser_of(alloc)?;
+    parser.put_validators(validators(alloc)?)?;
+    Ok(parser)
+}
+
 fn ask_failed_validation<W: Write>(run: &mut Run<W>) -> Result<()> {
     let alloc = run.alloc();
     let token = seal::<V4>(alloc, expired(alloc)?.as_str())?;
     let key = symmetric_key::<V4>();
-    let mut untouched = parser_of::<V4, Local>(alloc)?;
-    let mut parser = parser_of::<V4, Local>(alloc)?;
-    untouched.put_validators(validators(alloc, refusing!(alloc))?)?;
-    parser.put_validators(validators(alloc, refusing!(alloc))?)?;
+    let (untouched, parser) = (judging(alloc)?, judging(alloc)?);
     let case = Case::refused("TokenParser::parse", "what a validator refuses");
     run.ask(
         case,
