@@ -168,15 +168,15 @@ fn ask_repeated_claims<W: Write>(run: &mut Run<W>) -> Result<()> {
         [(), (), ()],
         |builder, _| { builder.put_claim(&claim) },
     )?;
-    let [mut untouched, mut builder] = two_builders::<V4, Local>(alloc, "a", 10)?;
-    untouched.put_claim(&claim)?;
-    builder.put_claim(&claim)?;
+    let mut builders = two_builders::<V4, Local>(alloc, "a", 10)?;
+    builders[0].put_claim(&claim)?;
+    builders[1].put_claim(&claim)?;
     let case = Case::refused("PasetoBuilder::build", "a key that was set again");
     let key = symmetric_key::<V4>();
     run.ask(
         case,
-        &untouched,
-        &builder,
+        &builders[0],
+        &builders[1],
         |builder| builder.build(&mut Zeros, &key),
     )
 }
@@ -264,11 +264,11 @@ fn ask_local<V: BoxlessVersion, W: Write>(run: &mut Run<W>, kind: &str) -> Resul
 
 fn ask_sealing<V: BoxlessVersion, W: Write>(run: &mut Run<W>, kind: &str) -> Result<()> {
     let key = symmetric_key::<V>();
-    let [untouched, builder] = two_builders::<V, Local>(run.alloc(), run.text()?.as_str(), 10)?;
+    let builders = two_builders::<V, Local>(run.alloc(), run.text()?.as_str(), 10)?;
     run.ask(
         Case::of("PasetoBuilder::build", kind),
-        &untouched,
-        &builder,
+        &builders[0],
+        &builders[1],
         |builder| { builder.build(&mut Zeros, &key) },
     )
 }
@@ -278,11 +278,11 @@ fn ask_opening<V: BoxlessVersion, W: Write>(run: &mut Run<W>, kind: &str) -> Res
     let key = symmetric_key::<V>();
     let payload = good(alloc, run.text()?.as_str())?;
     let token = seal::<V>(alloc, payload.as_str())?;
-    let [untouched, parser] = two_parsers::<V, Local>(alloc)?;
+    let parsers = two_parsers::<V, Local>(alloc)?;
     run.ask(
         Case::of("DefaultParser::parse", kind),
-        &untouched,
-        &parser,
+        &parsers[0],
+        &parsers[1],
         |parser| { parser.parse(token.as_str(), &key) },
     )
 }
@@ -297,11 +297,11 @@ fn ask_boxed_local<W: Write>(run: &mut Run<W>) -> Result<()> {
 
 fn ask_boxing<W: Write>(run: &mut Run<W>) -> Result<()> {
     let key = symmetric_key::<V2>();
-    let [untouched, builder] = two_builders::<V2, Local>(run.alloc(), run.text()?.as_str(), 10)?;
+    let builders = two_builders::<V2, Local>(run.alloc(), run.text()?.as_str(), 10)?;
     run.ask(
         Case::of("PasetoBuilder::build", "v2.local"),
-        &untouched,
-        &builder,
+        &builders[0],
+        &builders[1],
         |builder| { builder.build(&PlainBox, &mut Zeros, &key) },
     )
 }
@@ -311,11 +311,11 @@ fn ask_unboxing<W: Write>(run: &mut Run<W>) -> Result<()> {
     let key = symmetric_key::<V2>();
     let payload = good(alloc, run.text()?.as_str())?;
     let token = boxed_local::seal(alloc, payload.as_str())?;
-    let [untouched, parser] = two_parsers::<V2, Local>(alloc)?;
+    let parsers = two_parsers::<V2, Local>(alloc)?;
     run.ask(
         Case::of("DefaultParser::parse", "v2.local"),
-        &untouched,
-        &parser,
+        &parsers[0],
+        &parsers[1],
         |parser| { parser.parse(&PlainBox, token.as_str(), &key) },
     )
 }
@@ -333,11 +333,11 @@ where
 
 fn ask_signing<V: Keyed + Signs<Lenient>, W: Write>(run: &mut Run<W>, keys: &Keys) -> Result<()> {
     let key = V::private_key(keys);
-    let [untouched, builder] = two_builders::<V, Public>(run.alloc(), run.text()?.as_str(), 10)?;
+    let builders = two_builders::<V, Public>(run.alloc(), run.text()?.as_str(), 10)?;
     run.ask(
         Case::of("PasetoBuilder::build", V::KIND),
-        &untouched,
-        &builder,
+        &builders[0],
+        &builders[1],
         |builder| { builder.build(&mut Lenient, &key) },
     )
 }
@@ -350,11 +350,11 @@ where
     let key = V::public_key(keys)?;
     let payload = good(alloc, run.text()?.as_str())?;
     let token = sign::<V>(alloc, payload.as_str(), keys)?;
-    let [untouched, parser] = two_parsers::<V, Public>(alloc)?;
+    let parsers = two_parsers::<V, Public>(alloc)?;
     run.ask(
         Case::of("DefaultParser::parse", V::KIND),
-        &untouched,
-        &parser,
+        &parsers[0],
+        &parsers[1],
         |parser| { parser.parse(&Lenient, token.as_str(), &key) },
     )
 }

@@ -270,11 +270,11 @@ fn ask_opening<V: UnboxedVersion, W: Write>(run: &mut Run<W>, kind: &str) -> Res
     let payload = good(alloc, run.text()?.as_str())?;
     let token = seal::<V>(alloc, payload.as_str())?;
     let key = symmetric_key::<V>();
-    let [untouched, parser] = two_timed::<V, Local>(alloc)?;
+    let parsers = two_timed::<V, Local>(alloc)?;
     run.ask(
         Case::of("TokenParser::parse", kind),
-        &untouched,
-        &parser,
+        &parsers[0],
+        &parsers[1],
         |parser| { parser.parse(token.as_str(), &key) },
     )
 }
@@ -287,11 +287,11 @@ fn ask_unboxing<W: Write>(run: &mut Run<W>) -> Result<()> {
     let payload = good(alloc, run.text()?.as_str())?;
     let token = boxed_local::seal(alloc, payload.as_str())?;
     let key = symmetric_key::<V2>();
-    let [untouched, parser] = two_timed::<V2, Local>(alloc)?;
+    let parsers = two_timed::<V2, Local>(alloc)?;
     run.ask(
         Case::of("TokenParser::parse", "v2.local"),
-        &untouched,
-        &parser,
+        &parsers[0],
+        &parsers[1],
         |parser| { parser.parse(&PlainBox, token.as_str(), &key) },
     )
 }
@@ -307,11 +307,11 @@ where
     let payload = good(alloc, run.text()?.as_str())?;
     let token = sign::<V>(alloc, payload.as_str(), keys)?;
     let key = V::public_key(keys)?;
-    let [untouched, parser] = two_timed::<V, Public>(alloc)?;
+    let parsers = two_timed::<V, Public>(alloc)?;
     run.ask(
         Case::of("TokenParser::parse", V::KIND),
-        &untouched,
-        &parser,
+        &parsers[0],
+        &parsers[1],
         |parser| { parser.parse(&Lenient, token.as_str(), &key) },
     )
 }
