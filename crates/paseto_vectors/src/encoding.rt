@@ -5,57 +5,57 @@ use crate::long::text_of;
 use rusty_paseto_core::PreAuthenticationEncoding;
 use std::alloc::Global;
 use std::process::Abort;
-use std::test::Fail;
 
-fn check(rt: &impl Abort, alloc: Global, pieces: &[&[u8]], expected: &str) -> Result<(), Fail> {
-    let encoding = PreAuthenticationEncoding::parse(alloc, pieces)?;
+fn check(rt: &impl Abort, alloc: Global, pieces: &[&[u8]], expected: &str) {
+    let encoding = PreAuthenticationEncoding::parse(alloc, pieces).expect(rt, "an encoding");
     assert_eq!(rt;
         encoding.as_bytes(),
-        bytes_of(alloc, expected)?.as_slice(),
+        bytes_of(rt, alloc, expected).as_slice(),
         "{expected}"
     );
-    Ok(())
 }
 
 // The examples of the PASETO specification, and two lists that only their lengths tell apart.
 #[test]
-fn encodings(rt: HostRuntime) -> Result<(), Fail> {
+fn encodings(rt: HostRuntime) {
     let alloc = rt.alloc();
-    check(&rt, alloc, &[], "0000000000000000")?;
+    check(&rt, alloc, &[], "0000000000000000");
     check(
         &rt,
         alloc,
         &["".as_bytes()],
         "01000000000000000000000000000000",
-    )?;
+    );
     check(
         &rt,
         alloc,
         &["test".as_bytes()],
         "0100000000000000040000000000000074657374",
-    )?;
+    );
     check(
         &rt,
         alloc,
         &["a".as_bytes(), "b".as_bytes()],
         "0200000000000000010000000000000061010000000000000062",
-    )?;
+    );
     check(
         &rt,
         alloc,
         &["ab".as_bytes()],
         "010000000000000002000000000000006162",
-    )
+    );
 }
 
 // The count and the length take eight bytes each.
 #[test]
-fn long_pieces(rt: HostRuntime) -> Result<(), Fail> {
+fn long_pieces(rt: HostRuntime) {
     'lengths: for (length, whole) in [(100_000usize, 100_016usize), (1_000_000, 1_000_016)] {
-        let text = text_of(rt.alloc(), length)?;
-        let encoding = PreAuthenticationEncoding::parse(rt.alloc(), &[text.as_bytes()])?;
+        let text = text_of(rt.alloc(), length).expect(&rt, "memory");
+        let encoding = PreAuthenticationEncoding::parse(rt.alloc(), &[text.as_bytes()]).expect(
+            &rt,
+            "an encoding",
+        );
         assert_eq!(rt; encoding.as_bytes().len(), whole);
         assert!(rt; encoding.as_bytes().ends_with(text.as_bytes()), "{length}");
     }
-    Ok(())
 }

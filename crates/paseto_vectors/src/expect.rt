@@ -3,7 +3,6 @@
 use std::alloc::Global;
 use std::fmt::Display;
 use std::process::Abort;
-use std::test::Fail;
 
 /// The text is the wanted one.
 pub(crate) fn expect_text(rt: &impl Abort, found: &str, wanted: &str) {
@@ -15,14 +14,21 @@ pub(crate) fn expect_bytes(rt: &impl Abort, found: &[u8], wanted: &[u8]) {
     assert_eq!(rt; found, wanted);
 }
 
+/// The bytes are those that the digits spell.
+pub(crate) fn expect_digits(rt: &impl Abort, alloc: Global, found: &[u8], digits: &str) {
+    let wanted = hex::decode(alloc, digits).expect(rt, "hexadecimal digits");
+    expect_bytes(rt, found, wanted.as_slice());
+}
+
 /// The text of the error that a call answered.
 pub(crate) fn refusal_of<T: Drop, E: Display + Drop>(
+    rt: &impl Abort,
     alloc: Global,
     answer: Result<T, E>,
-) -> Result<String, Fail> {
+) -> String {
     match answer {
-        Ok(_) => Err(Fail::from("nothing was refused")),
-        Err(error) => Ok(error.to_string(alloc)?),
+        Ok(_) => panic!(rt; "nothing was refused"),
+        Err(error) => error.to_string(alloc).expect(rt, "memory"),
     }
 }
 
@@ -32,7 +38,6 @@ pub(crate) fn expect_refusal<T: Drop, E: Display + Drop>(
     alloc: Global,
     answer: Result<T, E>,
     wanted: &str,
-) -> Result<(), Fail> {
-    expect_text(rt, refusal_of(alloc, answer)?.as_str(), wanted);
-    Ok(())
+) {
+    expect_text(rt, refusal_of(rt, alloc, answer).as_str(), wanted);
 }

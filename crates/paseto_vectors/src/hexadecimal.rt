@@ -2,12 +2,12 @@
 
 use hex::FromHex;
 use std::alloc::Global;
-use std::test::Fail;
+use std::process::Abort;
 
-pub(crate) fn bytes_of(alloc: Global, digits: &str) -> Result<Vec<u8>, Fail> {
-    Ok(hex::decode(alloc, digits)?)
+pub(crate) fn bytes_of(rt: &impl Abort, alloc: Global, digits: &str) -> Vec<u8> {
+    hex::decode(alloc, digits).expect(rt, "digits")
 }
 
-pub(crate) fn array_of<const N: usize>(digits: &str) -> Result<[u8; N], Fail> {
-    Ok(<[u8; N] as FromHex>::from_hex(digits)?)
+pub(crate) fn array_of<const N: usize>(rt: &impl Abort, digits: &str) -> [u8; N] {
+    <[u8; N] as FromHex>::from_hex(digits).expect(rt, "digits")
 }

@@ -4,15 +4,13 @@ use rusty_paseto_core::{
     Key, Local, PasetoAsymmetricPrivateKey, PasetoAsymmetricPublicKey, PasetoError, PasetoNonce,
     PasetoSymmetricKey, Public, V1, V2, V3, V4,
 };
-use std::test::Fail;
 
 #[test]
-fn digits_of_either_case(rt: HostRuntime) -> Result<(), Fail> {
+fn digits_of_either_case(rt: HostRuntime) {
     'texts: for text in ["0aff", "0AFF", "0aFf"] {
-        let key = Key::<2>::try_from(text)?;
+        let key = Key::<2>::try_from(text).expect(&rt, "a key");
         assert_eq!(rt; key.as_bytes().as_slice(), [10, 255].as_slice(), "{text}");
     }
-    Ok(())
 }
 
 #[test]
@@ -24,7 +22,7 @@ fn other_texts(rt: HostRuntime) {
 }
 
 #[test]
-fn bytes_are_kept(rt: HostRuntime) -> Result<(), Fail> {
+fn bytes_are_kept(rt: HostRuntime) {
     let alloc = rt.alloc();
     let mut bytes = [7u8; 32];
     bytes[0] = 1;
@@ -45,18 +43,17 @@ fn bytes_are_kept(rt: HostRuntime) -> Result<(), Fail> {
         [0, 0, 0].as_slice()
     );
     assert_eq!(rt;
-        format!(in alloc; "{key:?}")?.as_str(),
+        format!(in alloc; "{key:?}").expect(&rt, "memory").as_str(),
         "!!! KEY IS PRIVATE !!!"
     );
     let nonce = PasetoNonce::<V4, Local>::from(&key);
     assert_eq!(rt; nonce.as_bytes(), bytes.as_slice());
     let symmetric = PasetoSymmetricKey::<V4, Local>::from(key.clone());
     assert_eq!(rt; symmetric.as_bytes().as_slice(), bytes.as_slice());
-    Ok(())
 }
 
 #[test]
-fn keeps_asymmetric_keys(rt: HostRuntime) -> Result<(), Fail> {
+fn keeps_asymmetric_keys(rt: HostRuntime) {
     let key = Key::<64>::from([5u8; 64]);
     assert_eq!(rt;
         PasetoAsymmetricPrivateKey::<V4, Public>::from(&key).as_bytes(),
@@ -90,11 +87,10 @@ fn keeps_asymmetric_keys(rt: HostRuntime) -> Result<(), Fail> {
         PasetoNonce::<V2, Local>::from(&nonce).as_bytes(),
         nonce.as_bytes().as_slice()
     );
-    Ok(())
 }
 
 #[test]
-fn takes_compressed_points(rt: HostRuntime) -> Result<(), Fail> {
+fn takes_compressed_points(rt: HostRuntime) {
     'bytes: for first in 0..=255u8 {
         let mut bytes = [9u8; 49];
         bytes[0] = first;
@@ -110,5 +106,4 @@ fn takes_compressed_points(rt: HostRuntime) -> Result<(), Fail> {
             }
         }
     }
-    Ok(())
 }

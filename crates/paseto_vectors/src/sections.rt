@@ -5,7 +5,6 @@ use crate::long::text_of;
 use rusty_paseto_parts::{
     PasetoError, from_section, is_section_of, laws, push_section, split_token, to_section,
 };
-use std::test::Fail;
 
 #[test]
 fn sections_of_tokens(rt: HostRuntime) {
@@ -42,31 +41,37 @@ pub(crate) const NUMBERS: &str = concat!(
 );
 
 #[test]
-fn spellings(rt: HostRuntime) -> Result<(), Fail> {
+fn spellings(rt: HostRuntime) {
     let alloc = rt.alloc();
     let spelled = CHARACTERS;
-    let numbers: [u8; 48] = array_of(NUMBERS)?;
+    let numbers: [u8; 48] = array_of(&rt, NUMBERS);
     assert_eq!(rt;
-        from_section(alloc, spelled)?.as_slice(),
+        from_section(alloc, spelled).expect(&rt, "bytes").as_slice(),
         numbers.as_slice()
     );
-    assert_eq!(rt; to_section(alloc, &numbers)?.as_str(), spelled);
     assert_eq!(rt;
-        to_section(alloc, "footer".as_bytes())?.as_str(),
+        to_section(alloc, &numbers)
+            .expect(&rt, "a section")
+            .as_str(),
+        spelled
+    );
+    assert_eq!(rt;
+        to_section(alloc, "footer".as_bytes())
+            .expect(&rt, "a section")
+            .as_str(),
         "Zm9vdGVy"
     );
-    assert_eq!(rt; from_section(alloc, "")?.len(), 0);
-    let mut token = String::from_str(alloc, "v4.local.")?;
-    push_section("foo".as_bytes(), &mut token)?;
+    assert_eq!(rt; from_section(alloc, "").expect(&rt, "bytes").len(), 0);
+    let mut token = String::from_str(alloc, "v4.local.").expect(&rt, "memory");
+    push_section("foo".as_bytes(), &mut token).expect(&rt, "memory");
     assert_eq!(rt; token.as_str(), "v4.local.Zm9v");
     laws::equal_spellings("foo".as_bytes(), "fop".as_bytes());
-    Ok(())
 }
 
 #[test]
-fn compared_spellings(rt: HostRuntime) -> Result<(), Fail> {
+fn compared_spellings(rt: HostRuntime) {
     let alloc = rt.alloc();
-    let numbers: [u8; 48] = array_of(NUMBERS)?;
+    let numbers: [u8; 48] = array_of(&rt, NUMBERS);
     assert!(rt; is_section_of(CHARACTERS, &numbers));
     assert!(rt; is_section_of("Zm9vdGVy", "footer".as_bytes()));
     'others: for other in ["", "Zm9vdGV", "Zm9vdGVz", "Zm9vdGVy=", "Zm9vdGVyZm9v"] {
@@ -85,9 +90,9 @@ fn compared_spellings(rt: HostRuntime) -> Result<(), Fail> {
         (97, 98),
         (1_000, 1_001),
     ] {
-        let text = text_of(alloc, length)?;
-        let other = text_of(alloc, longer)?;
-        let section = to_section(alloc, text.as_bytes())?;
+        let text = text_of(alloc, length).expect(&rt, "memory");
+        let other = text_of(alloc, longer).expect(&rt, "memory");
+        let section = to_section(alloc, text.as_bytes()).expect(&rt, "a section");
         assert!(rt;
             is_section_of(section.as_str(), text.as_bytes()),
             "{length}"
@@ -97,7 +102,6 @@ fn compared_spellings(rt: HostRuntime) -> Result<(), Fail> {
             "{length}"
         );
     }
-    Ok(())
 }
 
 #[test]
@@ -118,13 +122,12 @@ fn other_spellings(rt: HostRuntime) {
 
 // Three bytes take four characters, and a last one two.
 #[test]
-fn long_sections(rt: HostRuntime) -> Result<(), Fail> {
+fn long_sections(rt: HostRuntime) {
     'lengths: for (length, characters) in [(100_000usize, 133_334usize), (1_000_000, 1_333_334)] {
-        let text = text_of(rt.alloc(), length)?;
-        let section = to_section(rt.alloc(), text.as_bytes())?;
+        let text = text_of(rt.alloc(), length).expect(&rt, "memory");
+        let section = to_section(rt.alloc(), text.as_bytes()).expect(&rt, "a section");
         assert_eq!(rt; section.len(), characters);
-        let bytes = from_section(rt.alloc(), section.as_str())?;
+        let bytes = from_section(rt.alloc(), section.as_str()).expect(&rt, "bytes");
         assert!(rt; bytes.as_slice() == text.as_bytes(), "{length}");
     }
-    Ok(())
 }

@@ -5,10 +5,9 @@ use rusty_paseto_core::{
     Footer, Header, ImplicitAssertion, Local, Payload, Public, PurposeTrait, V1, V2, V3, V4,
     VersionTrait,
 };
-use std::test::Fail;
 
 #[test]
-fn shown(rt: HostRuntime) -> Result<(), Fail> {
+fn shown(rt: HostRuntime) {
     let alloc = rt.alloc();
     let version = V4::default();
     let purpose = Local::default();
@@ -18,15 +17,17 @@ fn shown(rt: HostRuntime) -> Result<(), Fail> {
     expect_text(&rt, purpose.as_str(), "local");
     expect_text(&rt, header.as_str(), "v4.local.");
     expect_bytes(&rt, same.as_bytes(), b"v4.local.");
-    let told = format!(in alloc; "{version} {purpose} {header}")?;
+    let told = format!(in alloc; "{version} {purpose} {header}").expect(&rt, "memory");
     expect_text(&rt, told.as_str(), "v4 local v4.local.");
     let signed = Header::<V2, Public>::default();
-    let told = format!(in alloc; "{} {} {signed}", V2::default(), Public::default())?;
+    let told = format!(in alloc; "{} {} {signed}", V2::default(), Public::default()).expect(
+        &rt, "memory",
+    );
     expect_text(&rt, told.as_str(), "v2 public v2.public.");
     let payload = Payload::from("pay");
     let footer = Footer::from("foot");
     let assertion = ImplicitAssertion::from("said");
-    let told = format!(in alloc; "{payload} {footer} {assertion}")?;
+    let told = format!(in alloc; "{payload} {footer} {assertion}").expect(&rt, "memory");
     expect_text(&rt, told.as_str(), "pay foot said");
     expect_text(&rt, payload.as_str(), "pay");
     expect_text(&rt, footer.as_str(), "foot");
@@ -34,7 +35,6 @@ fn shown(rt: HostRuntime) -> Result<(), Fail> {
     expect_bytes(&rt, payload.as_bytes(), b"pay");
     expect_bytes(&rt, footer.as_bytes(), b"foot");
     expect_bytes(&rt, assertion.as_bytes(), b"said");
-    Ok(())
 }
 
 #[test]

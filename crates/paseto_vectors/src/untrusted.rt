@@ -4,38 +4,47 @@ use crate::hexadecimal::array_of;
 use crate::long::{LENGTHS, text_of};
 use crate::sections::{CHARACTERS, NUMBERS};
 use rusty_paseto_core::{Footer, PasetoError, UntrustedToken, to_section};
-use std::test::Fail;
 
 #[test]
-fn sections_of_a_token(rt: HostRuntime) -> Result<(), Fail> {
-    let untrusted = UntrustedToken::try_parse("v4.local.payload.Zm9vdGVy")?;
+fn sections_of_a_token(rt: HostRuntime) {
+    let untrusted = UntrustedToken::try_parse("v4.local.payload.Zm9vdGVy").expect(&rt, "a token");
     assert_eq!(rt; untrusted.version(), "v4");
     assert_eq!(rt; untrusted.purpose(), "local");
     assert_eq!(rt; untrusted.footer_base64(), Some("Zm9vdGVy"));
     let decoded = untrusted
-        .footer_decoded(rt.alloc())?
+        .footer_decoded(rt.alloc())
+        .expect(&rt, "a footer")
         .unwrap_or(Vec::new(rt.alloc()));
     assert_eq!(rt; decoded.as_slice(), b"footer".as_slice());
     let text = untrusted
-        .footer_str(rt.alloc())?
+        .footer_str(rt.alloc())
+        .expect(&rt, "a text")
         .unwrap_or(String::new(rt.alloc()));
     assert_eq!(rt; text.as_str(), "footer");
-    Ok(())
 }
 
 #[test]
-fn empty_sections(rt: HostRuntime) -> Result<(), Fail> {
-    let untrusted = UntrustedToken::try_parse("..")?;
+fn empty_sections(rt: HostRuntime) {
+    let untrusted = UntrustedToken::try_parse("..").expect(&rt, "a token");
     assert_eq!(rt; untrusted.version(), "");
     assert_eq!(rt; untrusted.purpose(), "");
     assert_eq!(rt; untrusted.footer_base64(), None);
-    assert!(rt; untrusted.footer_decoded(rt.alloc())?.is_none());
-    assert!(rt; untrusted.footer_str(rt.alloc())?.is_none());
-    Ok(())
+    assert!(rt;
+        untrusted
+            .footer_decoded(rt.alloc())
+            .expect(&rt, "a footer")
+            .is_none()
+    );
+    assert!(rt;
+        untrusted
+            .footer_str(rt.alloc())
+            .expect(&rt, "a text")
+            .is_none()
+    );
 }
 
 #[test]
-fn footers_of_tokens(rt: HostRuntime) -> Result<(), Fail> {
+fn footers_of_tokens(rt: HostRuntime) {
     'rows: for (token, text) in [
         ("v4.local.payload.Zm9vdGVy", "footer"),
         (
@@ -44,14 +53,13 @@ fn footers_of_tokens(rt: HostRuntime) -> Result<(), Fail> {
         ),
         ("v4.local.payload.", ""),
     ] {
-        let found = Footer::try_from_token(rt.alloc(), token)?;
+        let found = Footer::try_from_token(rt.alloc(), token).expect(&rt, "a footer");
         assert!(rt; found.is_some());
         let found = found.unwrap_or(String::new(rt.alloc()));
         assert_eq!(rt; found.as_str(), text);
     }
-    let none = Footer::try_from_token(rt.alloc(), "v4.local.payload")?;
+    let none = Footer::try_from_token(rt.alloc(), "v4.local.payload").expect(&rt, "a footer");
     assert!(rt; none.is_none());
-    Ok(())
 }
 
 #[test]
@@ -85,31 +93,38 @@ fn footers_that_are_refused(rt: HostRuntime) {
 }
 
 #[test]
-fn characters_in_order(rt: HostRuntime) -> Result<(), Fail> {
-    let token = format!(in rt.alloc(); "v4.local.payload.{CHARACTERS}")?;
-    let untrusted = UntrustedToken::try_parse(token.as_str())?;
-    let numbers: [u8; 48] = array_of(NUMBERS)?;
+fn characters_in_order(rt: HostRuntime) {
+    let token = format!(in rt.alloc(); "v4.local.payload.{CHARACTERS}").expect(&rt, "memory");
+    let untrusted = UntrustedToken::try_parse(token.as_str()).expect(&rt, "a token");
+    let numbers: [u8; 48] = array_of(&rt, NUMBERS);
     let decoded = untrusted
-        .footer_decoded(rt.alloc())?
+        .footer_decoded(rt.alloc())
+        .expect(&rt, "a footer")
         .unwrap_or(Vec::new(rt.alloc()));
     assert_eq!(rt; decoded.as_slice(), numbers.as_slice());
-    Ok(())
 }
 
 #[test]
-fn long_footers(rt: HostRuntime) -> Result<(), Fail> {
+fn long_footers(rt: HostRuntime) {
     let alloc = rt.alloc();
     'lengths: for length in LENGTHS {
-        let footer = text_of(alloc, length)?;
-        let section = to_section(alloc, footer.as_bytes())?;
-        let token = format!(in alloc; "v4.local.payload.{section}")?;
-        let untrusted = UntrustedToken::try_parse(token.as_str())?;
-        let decoded = untrusted.footer_decoded(alloc)?.ok_or("no footer")?;
+        let footer = text_of(alloc, length).expect(&rt, "memory");
+        let section = to_section(alloc, footer.as_bytes()).expect(&rt, "a section");
+        let token = format!(in alloc; "v4.local.payload.{section}").expect(&rt, "memory");
+        let untrusted = UntrustedToken::try_parse(token.as_str()).expect(&rt, "a token");
+        let decoded = untrusted
+            .footer_decoded(alloc)
+            .expect(&rt, "a footer")
+            .expect(&rt, "a footer");
         assert!(rt; decoded.as_slice() == footer.as_bytes(), "{length}");
-        let text = untrusted.footer_str(alloc)?.ok_or("no footer")?;
+        let text = untrusted
+            .footer_str(alloc)
+            .expect(&rt, "a text")
+            .expect(&rt, "a footer");
         assert!(rt; text.as_str() == footer.as_str(), "{length}");
-        let found = Footer::try_from_token(alloc, token.as_str())?.ok_or("no footer")?;
+        let found = Footer::try_from_token(alloc, token.as_str())
+            .expect(&rt, "a footer")
+            .expect(&rt, "a footer");
         assert!(rt; found.as_str() == footer.as_str(), "{length}");
     }
-    Ok(())
 }

@@ -6,57 +6,52 @@ use rusty_paseto_generic::GenericBuilderError;
 use serde_json::Value;
 use std::alloc::{AllocError, Global};
 use std::process::Abort;
-use std::test::Fail;
 
-fn check(
-    rt: &impl Abort,
-    alloc: Global,
-    error: GenericBuilderError,
-    text: &str,
-) -> Result<(), Fail> {
-    assert_eq!(rt; format!(in alloc; "{error}")?.as_str(), text);
-    Ok(())
+fn check(rt: &impl Abort, alloc: Global, error: GenericBuilderError, text: &str) {
+    assert_eq!(rt;
+        format!(in alloc; "{error}").expect(rt, "memory").as_str(),
+        text
+    );
 }
 
 #[test]
-fn of_claims_and_tokens(rt: HostRuntime) -> Result<(), Fail> {
+fn of_claims_and_tokens(rt: HostRuntime) {
     let alloc = rt.alloc();
     let error = GenericBuilderError::from(PasetoClaimError::Expired);
-    check(&rt, alloc, error, "This token is expired")?;
-    let key = String::from_str(alloc, "n")?;
+    check(&rt, alloc, error, "This token is expired");
+    let key = String::from_str(alloc, "n").expect(&rt, "memory");
     let error = GenericBuilderError::from(PasetoClaimError::Unexpected(key));
     let text = "Could not convert claim 'n' to the expected data type";
-    check(&rt, alloc, error, text)?;
+    check(&rt, alloc, error, text);
     let error = GenericBuilderError::from(PasetoError::Cipher);
-    check(&rt, alloc, error, "A paseto cipher error occurred")
+    check(&rt, alloc, error, "A paseto cipher error occurred");
 }
 
 #[test]
-fn of_texts_and_keys(rt: HostRuntime) -> Result<(), Fail> {
+fn of_texts_and_keys(rt: HostRuntime) {
     let alloc = rt.alloc();
-    let error = GenericBuilderError::BadEmailAddress(String::from_str(alloc, "hello")?);
+    let error = GenericBuilderError::BadEmailAddress(String::from_str(alloc, "hello").expect(
+        &rt, "memory",
+    ));
     let text = "hello is an invalid iso8601 (email) string";
-    check(&rt, alloc, error, text)?;
-    let key = String::from_str(alloc, "iat")?;
+    check(&rt, alloc, error, text);
+    let key = String::from_str(alloc, "iat").expect(&rt, "memory");
     let error = GenericBuilderError::DuplicateTopLevelPayloadClaim(key);
     let text = "The claim 'iat' appears more than once in the top level payload json";
-    check(&rt, alloc, error, text)?;
-    let Err(source) = Value::from_str(alloc, "{") else {
-        return Err(Fail::from("read as JSON"));
-    };
+    check(&rt, alloc, error, text);
+    let source = Value::from_str(alloc, "{").expect_err(&rt, "read as JSON");
     let error = GenericBuilderError::from(source);
     let text = "The payload was unable to be serialized into json";
-    check(&rt, alloc, error, text)
+    check(&rt, alloc, error, text);
 }
 
 #[test]
-fn of_memory(rt: HostRuntime) -> Result<(), Fail> {
+fn of_memory(rt: HostRuntime) {
     let alloc = rt.alloc();
     let text = "No memory was found";
-    check(&rt, alloc, GenericBuilderError::from(AllocError), text)?;
+    check(&rt, alloc, GenericBuilderError::from(AllocError), text);
     let error = GenericBuilderError::from(PasetoClaimError::Memory(AllocError));
     assert!(rt; matches!(&error, GenericBuilderError::Memory(_)));
     let error = GenericBuilderError::from(PasetoError::Memory(AllocError));
     assert!(rt; matches!(&error, GenericBuilderError::Memory(_)));
-    Ok(())
 }

@@ -12,7 +12,6 @@ use rusty_paseto_core::{
 };
 use rusty_paseto_generic::{GenericBuilder, GenericBuilderError, UnboxedVersion};
 use std::alloc::Global;
-use std::test::Fail;
 
 const PAYLOAD: &str = "{\"aud\":\"customers\",\"seats\":4}";
 
@@ -75,54 +74,59 @@ fn token_of(kind: Kind, alloc: Global, audience: &str, binding: Binding<'_>) -> 
 
 // In version 2 the generator gives 24 bytes, so that the token is another one than under 32.
 #[test]
-fn the_cores_tokens(rt: HostRuntime) -> Result<(), Fail> {
+fn the_cores_tokens(rt: HostRuntime) {
     let alloc = rt.alloc();
     'kinds: for kind in KINDS {
         'footers: for footer in [None, Some(""), Some("key-1")] {
             let binding = Binding::of_footer(footer);
-            let token = token_of(kind, alloc, "customers", binding)?;
-            let wanted = kind.make(alloc, PAYLOAD, binding)?;
+            let token = token_of(kind, alloc, "customers", binding).expect(&rt, "a token");
+            let wanted = kind.make(alloc, PAYLOAD, binding).expect(&rt, "a token");
             let is_same = token.as_str() == wanted.as_str();
             assert_eq!(rt; is_same, kind != Kind::V2Local, "{kind:?} {footer:?}");
-            let text = kind.read(alloc, token.as_str(), binding)?;
+            let text = kind
+                .read(alloc, token.as_str(), binding)
+                .expect(&rt, "a text");
             assert_eq!(rt; text.as_str(), PAYLOAD, "{kind:?} {footer:?}");
         }
     }
-    Ok(())
 }
 
 #[test]
-fn with_an_assertion(rt: HostRuntime) -> Result<(), Fail> {
+fn with_an_assertion(rt: HostRuntime) {
     let alloc = rt.alloc();
     let binding = Binding {
         footer: Some("key-1"),
         assertion: Some("more"),
     };
     'kinds: for kind in ASSERTED_KINDS {
-        let token = token_of(kind, alloc, "customers", binding)?;
-        let wanted = kind.make(alloc, PAYLOAD, binding)?;
+        let token = token_of(kind, alloc, "customers", binding).expect(&rt, "a token");
+        let wanted = kind.make(alloc, PAYLOAD, binding).expect(&rt, "a token");
         assert_eq!(rt; token.as_str(), wanted.as_str(), "{kind:?}");
         let answer = kind.read(alloc, token.as_str(), Binding::of_footer(Some("key-1")));
         assert!(rt; kind.is_refused(&answer), "{kind:?}");
     }
-    Ok(())
 }
 
 // Version 2 is left out, since the toy box has no sealing of long messages.
 #[test]
-fn of_long_claims(rt: HostRuntime) -> Result<(), Fail> {
+fn of_long_claims(rt: HostRuntime) {
     let alloc = rt.alloc();
     'lengths: for letters in LENGTHS {
-        let audience = text_of(alloc, letters)?;
-        let payload = format!(in alloc; "{{\"aud\":\"{audience}\",\"seats\":4}}")?;
+        let audience = text_of(alloc, letters).expect(&rt, "memory");
+        let payload = format!(in alloc; "{{\"aud\":\"{audience}\",\"seats\":4}}").expect(
+            &rt, "memory",
+        );
         'kinds: for kind in KINDS {
             if kind == Kind::V2Local {
                 continue 'kinds;
             }
-            let token = token_of(kind, alloc, audience.as_str(), Binding::NONE)?;
-            let text = kind.read(alloc, token.as_str(), Binding::NONE)?;
+            let token = token_of(kind, alloc, audience.as_str(), Binding::NONE).expect(
+                &rt, "a token",
+            );
+            let text = kind
+                .read(alloc, token.as_str(), Binding::NONE)
+                .expect(&rt, "a text");
             assert!(rt; text.as_str() == payload.as_str(), "{kind:?} {letters}");
         }
     }
-    Ok(())
 }

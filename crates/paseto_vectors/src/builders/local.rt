@@ -10,7 +10,6 @@ use rusty_paseto_core::{
 use rusty_paseto_generic::{GenericBuilder, GenericBuilderError, UnboxedVersion};
 use std::alloc::Global;
 use std::process::Abort;
-use std::test::Fail;
 
 /// `wubbalubbadubdubwubbalubbadubdub`
 const KEY: [u8; 32] = *b"wubbalubbadubdubwubbalubbadubdub";
@@ -18,12 +17,19 @@ const KEY: [u8; 32] = *b"wubbalubbadubdubwubbalubbadubdub";
 const PAYLOAD: &str = "{\"aud\":\"customers\",\"seats\":4}";
 
 // A builder of the payload, with a footer.
-fn builder_of<V: VersionTrait>(alloc: Global) -> Result<GenericBuilder<'static, V, Local>, Fail> {
+fn builder_of<V: VersionTrait>(
+    rt: &impl Abort,
+    alloc: Global,
+) -> GenericBuilder<'static, V, Local> {
     let mut builder = GenericBuilder::<V, Local>::new(alloc);
-    builder.put_claim(&CustomClaim::try_from_str(alloc, "seats", 4u64)?)?;
-    builder.put_claim(&AudienceClaim::from("customers"))?;
+    builder
+        .put_claim(&CustomClaim::try_from_str(alloc, "seats", 4u64).expect(rt, "a claim"))
+        .expect(rt, "a claim");
+    builder
+        .put_claim(&AudienceClaim::from("customers"))
+        .expect(rt, "a claim");
     builder.set_footer(Footer::from("key-1"));
-    Ok(builder)
+    builder
 }
 
 // Whether the generator failed.
@@ -37,72 +43,84 @@ fn is_of_generator(answer: &Result<String, GenericBuilderError>) -> bool {
 }
 
 // The token is the core's under the generator's 32 bytes, twice, and once more after a generator that failed.
-fn check<V: UnboxedVersion>(rt: &impl Abort, alloc: Global) -> Result<(), Fail> {
+fn check<V: UnboxedVersion>(rt: &impl Abort, alloc: Global) {
     let key = PasetoSymmetricKey::<V, Local>::from(Key::from(KEY));
-    let builder = builder_of::<V>(alloc)?;
-    let given = Key::<32>::try_new_random(&mut Counting::new())?;
+    let builder = builder_of::<V>(rt, alloc);
+    let given = Key::<32>::try_new_random(&mut Counting::new()).expect(rt, "a key");
     let nonce = PasetoNonce::<V, Local>::from(&given);
     let footer = Some(Footer::from("key-1"));
-    let wanted = V::seal(alloc, &key, &nonce, Payload::from(PAYLOAD), footer, None)?;
+    let wanted = V::seal(alloc, &key, &nonce, Payload::from(PAYLOAD), footer, None).expect(
+        rt, "a token",
+    );
     'times: for _ in 0..2u8 {
-        let token = builder.try_encrypt(&mut Counting::new(), &key)?;
+        let token = builder
+            .try_encrypt(&mut Counting::new(), &key)
+            .expect(rt, "a token");
         assert_eq!(rt; token.as_str(), wanted.as_str());
     }
     let mut failing = Failing { asked: 0 };
     assert!(rt; is_of_generator(&builder.try_encrypt(&mut failing, &key)));
     assert_eq!(rt; failing.asked, 1);
-    let token = builder.try_encrypt(&mut Counting::new(), &key)?;
+    let token = builder
+        .try_encrypt(&mut Counting::new(), &key)
+        .expect(rt, "a token");
     assert_eq!(rt; token.as_str(), wanted.as_str());
-    Ok(())
 }
 
 #[test]
-fn of_version_1(rt: HostRuntime) -> Result<(), Fail> {
-    check::<V1>(&rt, rt.alloc())
+fn of_version_1(rt: HostRuntime) {
+    check::<V1>(&rt, rt.alloc());
 }
 
 #[test]
-fn of_version_3(rt: HostRuntime) -> Result<(), Fail> {
-    check::<V3>(&rt, rt.alloc())
+fn of_version_3(rt: HostRuntime) {
+    check::<V3>(&rt, rt.alloc());
 }
 
 #[test]
-fn of_version_4(rt: HostRuntime) -> Result<(), Fail> {
-    check::<V4>(&rt, rt.alloc())
+fn of_version_4(rt: HostRuntime) {
+    check::<V4>(&rt, rt.alloc());
 }
 
 #[test]
-fn of_version_2(rt: HostRuntime) -> Result<(), Fail> {
+fn of_version_2(rt: HostRuntime) {
     let alloc = rt.alloc();
     let key = PasetoSymmetricKey::<V2, Local>::from(Key::from(KEY));
-    let builder = builder_of::<V2>(alloc)?;
-    let given = Key::<24>::try_new_random(&mut Counting::new())?;
+    let builder = builder_of::<V2>(&rt, alloc);
+    let given = Key::<24>::try_new_random(&mut Counting::new()).expect(&rt, "a key");
     let mut paseto = Paseto::<V2, Local>::builder();
     paseto
         .set_payload(Payload::from(PAYLOAD))
         .set_footer(Footer::from("key-1"));
-    let wanted = paseto.try_encrypt(alloc, &ToyBox, &key, &PasetoNonce::from(&given))?;
-    let token = builder.try_encrypt(&ToyBox, &mut Counting::new(), &key)?;
+    let wanted = paseto
+        .try_encrypt(alloc, &ToyBox, &key, &PasetoNonce::from(&given))
+        .expect(&rt, "a token");
+    let token = builder
+        .try_encrypt(&ToyBox, &mut Counting::new(), &key)
+        .expect(&rt, "a token");
     assert_eq!(rt; token.as_str(), wanted.as_str());
     let mut failing = Failing { asked: 0 };
     assert!(rt; is_of_generator(&builder.try_encrypt(&ToyBox, &mut failing, &key)));
     assert_eq!(rt; failing.asked, 1);
-    let token = builder.try_encrypt(&ToyBox, &mut Counting::new(), &key)?;
+    let token = builder
+        .try_encrypt(&ToyBox, &mut Counting::new(), &key)
+        .expect(&rt, "a token");
     assert_eq!(rt; token.as_str(), wanted.as_str());
-    Ok(())
 }
 
 // The toy box has no sealing of more than 4,096 bytes.
 #[test]
-fn a_payload_that_the_box_does_not_seal(rt: HostRuntime) -> Result<(), Fail> {
+fn a_payload_that_the_box_does_not_seal(rt: HostRuntime) {
     let alloc = rt.alloc();
     let key = PasetoSymmetricKey::<V2, Local>::from(Key::from(KEY));
-    let mut builder = builder_of::<V2>(alloc)?;
+    let mut builder = builder_of::<V2>(&rt, alloc);
     let mut long = String::new(alloc);
     'letters: for _ in 0..5000u16 {
-        long.push('a')?;
+        long.push('a').expect(&rt, "memory");
     }
-    builder.put_claim(&AudienceClaim::from(long.as_str()))?;
+    builder
+        .put_claim(&AudienceClaim::from(long.as_str()))
+        .expect(&rt, "a claim");
     let answer = builder.try_encrypt(&ToyBox, &mut Zeros, &key);
     let told = matches!(
         &answer,
@@ -111,20 +129,20 @@ fn a_payload_that_the_box_does_not_seal(rt: HostRuntime) -> Result<(), Fail> {
         })
     );
     assert!(rt; told);
-    Ok(())
 }
 
 #[test]
-fn of_no_claims(rt: HostRuntime) -> Result<(), Fail> {
+fn of_no_claims(rt: HostRuntime) {
     let alloc = rt.alloc();
     let key = PasetoSymmetricKey::<V4, Local>::from(Key::from(KEY));
     let builder = GenericBuilder::<V4, Local>::default(alloc);
-    let token = builder.try_encrypt(&mut Zeros, &key)?;
+    let token = builder.try_encrypt(&mut Zeros, &key).expect(&rt, "a token");
     assert_eq!(rt; token.len(), 97);
     let mut paseto = Paseto::<V4, Local>::builder();
     paseto.set_payload(Payload::from("{}"));
     let zeros = Key::<32>::from([0u8; 32]);
-    let wanted = paseto.try_encrypt(alloc, &key, &PasetoNonce::from(&zeros))?;
+    let wanted = paseto
+        .try_encrypt(alloc, &key, &PasetoNonce::from(&zeros))
+        .expect(&rt, "a token");
     assert_eq!(rt; token.as_str(), wanted.as_str());
-    Ok(())
 }

@@ -4,7 +4,7 @@ use rusty_paseto_core::{Local, V4};
 use rusty_paseto_generic::GenericBuilder;
 use serde_json::{Map, Value};
 use std::alloc::Global;
-use std::test::Fail;
+use std::process::Abort;
 
 /// Numbers that follow from a seed.
 #[derive(Drop)]
@@ -28,59 +28,65 @@ impl Numbers {
 }
 
 // A key of up to three letters of four, the empty one too.
-fn key_of(alloc: Global, numbers: &mut Numbers) -> Result<String, Fail> {
+fn key_of(rt: &impl Abort, alloc: Global, numbers: &mut Numbers) -> String {
     let mut key = String::new(alloc);
     'letters: for _ in 0..numbers.next() % 4 {
-        key.push(match numbers.next() % 4 {
+        let letter = match numbers.next() % 4 {
             0 => 'a',
             1 => 'Z',
             2 => '"',
             _ => '\u{e9}',
-        })?;
+        };
+        key.push(letter).expect(rt, "memory");
     }
-    Ok(key)
+    key
 }
 
 // A value that holds no others, or an array of two or an object of one.
-fn value_of(alloc: Global, numbers: &mut Numbers) -> Result<Value, Fail> {
+fn value_of(rt: &impl Abort, alloc: Global, numbers: &mut Numbers) -> Value {
     match numbers.next() % 6 {
-        0 => Ok(Value::Null),
-        1 => Ok(Value::from(numbers.next() % 2 == 0)),
-        2 => Ok(Value::from(numbers.next())),
-        3 => Ok(Value::try_from_str(alloc, key_of(alloc, numbers)?.as_str())?),
+        0 => Value::Null,
+        1 => Value::from(numbers.next() % 2 == 0),
+        2 => Value::from(numbers.next()),
+        3 => {
+            let text = key_of(rt, alloc, numbers);
+            Value::try_from_str(alloc, text.as_str()).expect(rt, "memory")
+        }
         4 => {
             let mut items = Vec::new(alloc);
-            items.push(Value::from(numbers.next()))?;
-            items.push(Value::Null)?;
-            Ok(Value::Array(items))
+            items.push(Value::from(numbers.next())).expect(rt, "memory");
+            items.push(Value::Null).expect(rt, "memory");
+            Value::Array(items)
         }
         _ => {
             let mut members = Map::new(alloc);
-            drop(members.insert(key_of(alloc, numbers)?, Value::from(numbers.next()))?);
-            Ok(Value::Object(members))
+            let key = key_of(rt, alloc, numbers);
+            let old: Result<_, _> = members.insert(key, Value::from(numbers.next()));
+            drop(old.expect(rt, "memory"));
+            Value::Object(members)
         }
     }
 }
 
 #[test]
-fn read_back(rt: HostRuntime) -> Result<(), Fail> {
+fn read_back(rt: HostRuntime) {
     let alloc = rt.alloc();
     let mut numbers = Numbers::of_seed(1);
     'maps: for index in 0..1000u16 {
         let mut more = Map::new(alloc);
         'entries: for _ in 0..numbers.next() % 6 {
-            let key = key_of(alloc, &mut numbers)?;
-            drop(more.insert(key, value_of(alloc, &mut numbers)?)?);
+            let key = key_of(&rt, alloc, &mut numbers);
+            let old: Result<_, _> = more.insert(key, value_of(&rt, alloc, &mut numbers));
+            drop(old.expect(&rt, "memory"));
         }
-        let wanted = Value::Object(more.clone()?);
+        let wanted = Value::Object(more.clone().expect(&rt, "memory"));
         let mut builder = GenericBuilder::<V4, Local>::new(alloc);
-        builder.put_claims(more)?;
-        let text = builder.build_payload_from_claims()?;
-        let found = Value::from_str(alloc, text.as_str())?;
+        builder.put_claims(more).expect(&rt, "claims");
+        let text = builder.build_payload_from_claims().expect(&rt, "a payload");
+        let found = Value::from_str(alloc, text.as_str()).expect(&rt, "JSON");
         assert!(rt;
             rusty_paseto_claims::same_value(&found, &wanted),
             "map {index}: {text}"
         );
     }
-    Ok(())
 }

@@ -6,45 +6,44 @@ use crate::refusing::Refusing;
 use rusty_paseto_core::{PasetoAsymmetricPrivateKey, PasetoError, Public, Signs, V1, V2, V3, V4};
 use rusty_paseto_generic::{GenericBuilder, GenericBuilderError};
 use std::alloc::Global;
-use std::test::Fail;
+use std::process::Abort;
 
 // The error of signing no claims under the key, by the scheme that refuses everything.
 fn refusal_of<V: Signs<Refusing>>(
+    rt: &impl Abort,
     alloc: Global,
     key: &PasetoAsymmetricPrivateKey<'_, V, Public>,
-) -> Result<PasetoError, Fail> {
+) -> PasetoError {
     let answer = GenericBuilder::<V, Public>::new(alloc).try_sign(&mut Refusing, key);
-    let Err(GenericBuilderError::CipherError { source }) = answer else {
-        return Err(Fail::from("signed, or refused otherwise"));
-    };
-    Ok(source)
+    match answer {
+        Err(GenericBuilderError::CipherError { source }) => source,
+        _ => panic!(rt; "signed, or refused otherwise"),
+    }
 }
 
 // Whether the scheme's own error is handed on.
-fn is_handed_on<V: ToyVersion + Signs<Refusing>>(alloc: Global) -> Result<bool, Fail> {
+fn is_handed_on<V: ToyVersion + Signs<Refusing>>(rt: &impl Abort, alloc: Global) -> bool {
     let keys = Keys::of(&SECRET);
-    let error = refusal_of::<V>(alloc, &V::private_key(&keys))?;
-    Ok(matches!(&error, PasetoError::Signature))
+    let error = refusal_of::<V>(rt, alloc, &V::private_key(&keys));
+    matches!(&error, PasetoError::Signature)
 }
 
 #[test]
-fn a_scheme_that_refuses(rt: HostRuntime) -> Result<(), Fail> {
+fn a_scheme_that_refuses(rt: HostRuntime) {
     let alloc = rt.alloc();
-    assert!(rt; is_handed_on::<V1>(alloc)?);
-    assert!(rt; is_handed_on::<V2>(alloc)?);
-    assert!(rt; is_handed_on::<V3>(alloc)?);
-    assert!(rt; is_handed_on::<V4>(alloc)?);
-    Ok(())
+    assert!(rt; is_handed_on::<V1>(&rt, alloc));
+    assert!(rt; is_handed_on::<V2>(&rt, alloc));
+    assert!(rt; is_handed_on::<V3>(&rt, alloc));
+    assert!(rt; is_handed_on::<V4>(&rt, alloc));
 }
 
 // The scheme would answer otherwise.
 #[test]
-fn a_private_key_of_another_length(rt: HostRuntime) -> Result<(), Fail> {
+fn a_private_key_of_another_length(rt: HostRuntime) {
     let short = PasetoAsymmetricPrivateKey::from([7u8; 63].as_slice());
-    let error = refusal_of::<V2>(rt.alloc(), &short)?;
+    let error = refusal_of::<V2>(&rt, rt.alloc(), &short);
     assert!(rt; matches!(&error, PasetoError::TryFromSlice));
     let long = PasetoAsymmetricPrivateKey::from([7u8; 65].as_slice());
-    let error = refusal_of::<V4>(rt.alloc(), &long)?;
+    let error = refusal_of::<V4>(&rt, rt.alloc(), &long);
     assert!(rt; matches!(&error, PasetoError::TryFromSlice));
-    Ok(())
 }

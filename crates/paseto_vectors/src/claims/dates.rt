@@ -1,11 +1,11 @@
 //! The claims that are a date and time.
 
 use crate::claims::json;
+use crate::expect::expect_text;
 use rusty_paseto_claims::{ExpirationClaim, IssuedAtClaim, NotBeforeClaim, PasetoClaimError};
-use std::test::Fail;
 
 #[test]
-fn kept_as_given(rt: HostRuntime) -> Result<(), Fail> {
+fn kept_as_given(rt: HostRuntime) {
     let alloc = rt.alloc();
     'texts: for text in [
         "2019-01-01T00:00:00+00:00",
@@ -14,20 +14,25 @@ fn kept_as_given(rt: HostRuntime) -> Result<(), Fail> {
         "1996-12-19T16:39:57-08:00",
         "1937-01-01T12:00:27.87+00:20",
     ] {
-        let claim = ExpirationClaim::try_from_str(alloc, text)?;
+        let claim = ExpirationClaim::try_from_str(alloc, text).expect(&rt, "a claim");
         let (key, kept) = claim.as_pair();
-        assert_eq!(rt; key, "exp");
-        assert_eq!(rt; kept, text);
-        let claim = NotBeforeClaim::try_from_string(alloc, String::from_str(alloc, text)?)?;
+        expect_text(&rt, key, "exp");
+        expect_text(&rt, kept, text);
+        let owned = String::from_str(alloc, text).expect(&rt, "memory");
+        let claim = NotBeforeClaim::try_from_string(alloc, owned).expect(&rt, "a claim");
         let (key, kept) = claim.as_pair();
-        assert_eq!(rt; key, "nbf");
-        assert_eq!(rt; kept, text);
+        expect_text(&rt, key, "nbf");
+        expect_text(&rt, kept, text);
     }
-    Ok(())
+}
+
+/// Whether no instant was read of the text.
+pub(crate) fn is_no_date(answer: Result<(), PasetoClaimError>, text: &str) -> bool {
+    matches!(&answer, Err(PasetoClaimError::RFC3339Date(told)) if told.as_str() == text)
 }
 
 #[test]
-fn refused_where_no_instant_is_read(rt: HostRuntime) -> Result<(), Fail> {
+fn refused_where_no_instant_is_read(rt: HostRuntime) {
     let alloc = rt.alloc();
     'texts: for text in [
         "hello",
@@ -39,27 +44,27 @@ fn refused_where_no_instant_is_read(rt: HostRuntime) -> Result<(), Fail> {
         "2019-01-01T24:00:00Z",
         "2019-01-01T00:00:00Z ",
     ] {
-        let claim = ExpirationClaim::try_from_str(alloc, text);
-        let refused =
-            matches!(&claim, Err(PasetoClaimError::RFC3339Date(told)) if told.as_str() == text);
-        assert!(rt; refused, "{text}");
-        let claim = IssuedAtClaim::try_from_string(alloc, String::from_str(alloc, text)?);
-        let refused =
-            matches!(&claim, Err(PasetoClaimError::RFC3339Date(told)) if told.as_str() == text);
-        assert!(rt; refused, "{text}");
+        let answer = ExpirationClaim::try_from_str(alloc, text).map(drop);
+        assert!(rt; is_no_date(answer, text), "{text}");
+        let owned = String::from_str(alloc, text).expect(&rt, "memory");
+        let answer = IssuedAtClaim::try_from_string(alloc, owned).map(drop);
+        assert!(rt; is_no_date(answer, text), "{text}");
     }
-    Ok(())
 }
 
 #[test]
-fn written_under_their_keys(rt: HostRuntime) -> Result<(), Fail> {
+fn written_under_their_keys(rt: HostRuntime) {
     let alloc = rt.alloc();
-    let claim = ExpirationClaim::try_from_str(alloc, "2050-01-01T00:00:00+00:00")?;
-    let text = "{\"exp\":\"2050-01-01T00:00:00+00:00\"}";
-    json::check(&rt, alloc, &claim, "exp", text)?;
-    json::check(&rt, alloc, &claim.try_clone(alloc)?, "exp", text)?;
-    let text = "{\"iat\":\"2019-01-01T00:00:00+00:00\"}";
-    json::check(&rt, alloc, &IssuedAtClaim::default(alloc)?, "iat", text)?;
-    let text = "{\"nbf\":\"2019-01-01T00:00:00+00:00\"}";
-    json::check(&rt, alloc, &NotBeforeClaim::default(alloc)?, "nbf", text)
+    let text = "2050-01-01T00:00:00+00:00";
+    let claim = ExpirationClaim::try_from_str(alloc, text).expect(&rt, "a claim");
+    let copy = claim.try_clone(alloc).expect(&rt, "a copy");
+    let json = "{\"exp\":\"2050-01-01T00:00:00+00:00\"}";
+    json::check(&rt, alloc, &claim, "exp", json);
+    json::check(&rt, alloc, &copy, "exp", json);
+    let claim = IssuedAtClaim::default(alloc).expect(&rt, "a claim");
+    let json = "{\"iat\":\"2019-01-01T00:00:00+00:00\"}";
+    json::check(&rt, alloc, &claim, "iat", json);
+    let claim = NotBeforeClaim::default(alloc).expect(&rt, "a claim");
+    let json = "{\"nbf\":\"2019-01-01T00:00:00+00:00\"}";
+    json::check(&rt, alloc, &claim, "nbf", json);
 }

@@ -1,9 +1,9 @@
 //! What a claim answers when it is asked for its key and for JSON.
 
+use crate::expect::expect_text;
 use rusty_paseto_claims::PasetoClaim;
 use std::alloc::Global;
 use std::process::Abort;
-use std::test::Fail;
 
 /// Checks the key of a claim, and the compact text of its JSON.
 pub(crate) fn check<C: PasetoClaim>(
@@ -12,9 +12,9 @@ pub(crate) fn check<C: PasetoClaim>(
     claim: &C,
     key: &str,
     json: &str,
-) -> Result<(), Fail> {
-    assert_eq!(rt; claim.get_key(), key);
-    let value = claim.to_json(alloc)?;
-    assert_eq!(rt; value.to_string(alloc)?.as_str(), json);
-    Ok(())
+) {
+    expect_text(rt, claim.get_key(), key);
+    let value = claim.to_json(alloc).expect(rt, "JSON");
+    let text = value.to_string(alloc).expect(rt, "memory");
+    expect_text(rt, text.as_str(), json);
 }

@@ -1,51 +1,43 @@
 //! Claims of long keys and texts.
 
+use crate::claims::dates::is_no_date;
+use crate::long::{LENGTHS, text_of};
 use rusty_paseto_claims::{
-    AudienceClaim, ClaimValue, CustomClaim, ExpirationClaim, PasetoClaim, PasetoClaimError,
-    same_value,
+    AudienceClaim, ClaimValue, CustomClaim, ExpirationClaim, PasetoClaim, same_value,
 };
-use std::alloc::{AllocError, Global};
-use std::test::Fail;
+use serde_json::Value;
+use std::alloc::Global;
+use std::process::Abort;
 
-/// A text of a thousand letters for each of the thousands.
-fn text_of(alloc: Global, thousands: u32) -> Result<String, AllocError> {
-    let line = String::from_utf8([b'x'; 1000].as_slice().to_vec(alloc)?).unwrap_or(String::new(
-        alloc,
-    ));
-    let mut text = String::new(alloc);
-    for _ in 0..thousands {
-        text.push_str(line.as_str())?;
-    }
-    Ok(text)
+fn length_of(rt: &impl Abort, alloc: Global, json: &Value) -> usize {
+    json.to_string(alloc).expect(rt, "memory").len()
 }
 
 #[test]
-fn are_written(rt: HostRuntime) -> Result<(), Fail> {
+fn are_written(rt: HostRuntime) {
     let alloc = rt.alloc();
-    'lengths: for (thousands, audience, custom) in [
-        (100u32, 100_010, 200_007),
-        (1000, 1_000_010, 2_000_007),
+    'lengths: for (length, audience, custom) in [
+        (100_000usize, 100_010usize, 200_007usize),
+        (1_000_000, 1_000_010, 2_000_007),
     ] {
-        let text = text_of(alloc, thousands)?;
-        let claim = AudienceClaim::from(text.as_str());
-        assert_eq!(rt; claim.to_json(alloc)?.to_string(alloc)?.len(), audience);
-        let claim = CustomClaim::try_from_str(alloc, text.as_str(), text.as_str())?;
-        let json = claim.to_json(alloc)?;
-        assert_eq!(rt; json.to_string(alloc)?.len(), custom);
-        assert!(rt; same_value(&json.to_value(alloc)?, &json));
+        let text = text_of(alloc, length).expect(&rt, "memory");
+        let text = text.as_str();
+        let json = AudienceClaim::from(text).to_json(alloc).expect(&rt, "JSON");
+        assert_eq!(rt; length_of(&rt, alloc, &json), audience);
+        let claim = CustomClaim::try_from_str(alloc, text, text).expect(&rt, "a claim");
+        let json = claim.to_json(alloc).expect(&rt, "JSON");
+        assert_eq!(rt; length_of(&rt, alloc, &json), custom);
+        let copy = json.to_value(alloc).expect(&rt, "memory");
+        assert!(rt; same_value(&copy, &json));
     }
-    Ok(())
 }
 
 #[test]
-fn are_no_dates(rt: HostRuntime) -> Result<(), Fail> {
+fn are_no_dates(rt: HostRuntime) {
     let alloc = rt.alloc();
-    'lengths: for thousands in [100u32, 1000] {
-        let text = text_of(alloc, thousands)?;
-        let claim = ExpirationClaim::try_from_str(alloc, text.as_str());
-        let refused =
-            matches!(&claim, Err(PasetoClaimError::RFC3339Date(told)) if told.as_str() == text.as_str());
-        assert!(rt; refused);
+    'lengths: for length in LENGTHS {
+        let text = text_of(alloc, length).expect(&rt, "memory");
+        let answer = ExpirationClaim::try_from_str(alloc, text.as_str()).map(drop);
+        assert!(rt; is_no_date(answer, text.as_str()), "{length}");
     }
-    Ok(())
 }

@@ -1,47 +1,50 @@
 //! The claims that are any text.
 
 use crate::claims::json;
-use rusty_paseto_claims::{AudienceClaim, IssuerClaim, SubjectClaim, TokenIdentifierClaim};
-use std::test::Fail;
+use crate::expect::expect_text;
+use rusty_paseto_claims::{
+    Audience, AudienceClaim, Issuer, ReservedKey, Subject, TextClaim, TokenIdentifier,
+};
+use std::alloc::Global;
+use std::process::Abort;
 
-#[test]
-fn written_under_their_keys(rt: HostRuntime) -> Result<(), Fail> {
-    let alloc = rt.alloc();
-    let claim = AudienceClaim::from("customers");
-    json::check(&rt, alloc, &claim, "aud", "{\"aud\":\"customers\"}")?;
-    let claim = IssuerClaim::from("me");
-    json::check(&rt, alloc, &claim, "iss", "{\"iss\":\"me\"}")?;
-    let claim = SubjectClaim::from("loyal subjects");
-    json::check(&rt, alloc, &claim, "sub", "{\"sub\":\"loyal subjects\"}")?;
-    let claim = TokenIdentifierClaim::from("\"7\"");
-    json::check(&rt, alloc, &claim, "jti", "{\"jti\":\"\\\"7\\\"\"}")
+// The claim of the key is written so of the text `"7"`, and so by default.
+fn check<K: ReservedKey>(rt: &impl Abort, alloc: Global, key: &str, json: &str, empty: &str) {
+    json::check(rt, alloc, &TextClaim::<K>::from("\"7\""), key, json);
+    json::check(rt, alloc, &TextClaim::<K>::default(), key, empty);
 }
 
 #[test]
-fn empty_by_default(rt: HostRuntime) -> Result<(), Fail> {
+fn written_under_their_keys(rt: HostRuntime) {
     let alloc = rt.alloc();
-    json::check(
+    check::<Audience>(
         &rt,
         alloc,
-        &AudienceClaim::default(),
         "aud",
+        "{\"aud\":\"\\\"7\\\"\"}",
         "{\"aud\":\"\"}",
-    )?;
-    json::check(&rt, alloc, &IssuerClaim::default(), "iss", "{\"iss\":\"\"}")?;
-    json::check(
+    );
+    check::<Issuer>(
         &rt,
         alloc,
-        &SubjectClaim::default(),
+        "iss",
+        "{\"iss\":\"\\\"7\\\"\"}",
+        "{\"iss\":\"\"}",
+    );
+    check::<Subject>(
+        &rt,
+        alloc,
         "sub",
+        "{\"sub\":\"\\\"7\\\"\"}",
         "{\"sub\":\"\"}",
-    )?;
-    json::check(
+    );
+    check::<TokenIdentifier>(
         &rt,
         alloc,
-        &TokenIdentifierClaim::default(),
         "jti",
+        "{\"jti\":\"\\\"7\\\"\"}",
         "{\"jti\":\"\"}",
-    )
+    );
 }
 
 #[test]
@@ -49,9 +52,8 @@ fn pairs_of_key_and_text(rt: HostRuntime) {
     let claim = AudienceClaim::from("customers");
     let copy = claim;
     let (key, text) = copy.as_pair();
-    assert_eq!(rt; key, "aud");
-    assert_eq!(rt; text, "customers");
-    let (key, text) = claim.as_pair();
-    assert_eq!(rt; key, "aud");
-    assert_eq!(rt; text, "customers");
+    expect_text(&rt, key, "aud");
+    expect_text(&rt, text, "customers");
+    let (_, text) = claim.as_pair();
+    expect_text(&rt, text, "customers");
 }

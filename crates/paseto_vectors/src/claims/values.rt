@@ -1,48 +1,46 @@
 //! Each kind of value that a claim of a caller's own may have.
 
-use rusty_paseto_claims::ClaimValue;
+use crate::expect::expect_text;
+use rusty_paseto_claims::{ClaimValue, PasetoClaimError};
 use serde_json::Value;
 use std::alloc::Global;
 use std::process::Abort;
-use std::test::Fail;
 
-fn check<T: ClaimValue>(rt: &impl Abort, alloc: Global, value: &T, json: &str) -> Result<(), Fail> {
-    assert_eq!(rt; value.to_value(alloc)?.to_string(alloc)?.as_str(), json);
-    Ok(())
+fn check(rt: &impl Abort, alloc: Global, answer: Result<Value, PasetoClaimError>, json: &str) {
+    let text = answer.expect(rt, "memory").to_string(alloc);
+    expect_text(rt, text.expect(rt, "memory").as_str(), json);
 }
 
 #[test]
-fn texts_and_truths(rt: HostRuntime) -> Result<(), Fail> {
+fn texts_and_truths(rt: HostRuntime) {
     let alloc = rt.alloc();
-    check(&rt, alloc, &"Get schwifty", "\"Get schwifty\"")?;
-    check(&rt, alloc, &String::from_str(alloc, "Earth")?, "\"Earth\"")?;
-    check(&rt, alloc, &true, "true")?;
-    check(&rt, alloc, &false, "false")
+    let text = "Get schwifty";
+    check(&rt, alloc, text.to_value(alloc), "\"Get schwifty\"");
+    let owned = String::from_str(alloc, "Earth").expect(&rt, "memory");
+    check(&rt, alloc, owned.to_value(alloc), "\"Earth\"");
+    check(&rt, alloc, true.to_value(alloc), "true");
+    check(&rt, alloc, false.to_value(alloc), "false");
 }
 
 #[test]
-fn signed_numbers(rt: HostRuntime) -> Result<(), Fail> {
+fn numbers(rt: HostRuntime) {
     let alloc = rt.alloc();
-    check(&rt, alloc, &i8::MIN, "-128")?;
-    check(&rt, alloc, &i16::MIN, "-32768")?;
-    check(&rt, alloc, &i32::MIN, "-2147483648")?;
-    check(&rt, alloc, &i64::MIN, "-9223372036854775808")?;
-    check(&rt, alloc, &i64::MAX, "9223372036854775807")
+    check(&rt, alloc, i8::MIN.to_value(alloc), "-128");
+    check(&rt, alloc, i16::MIN.to_value(alloc), "-32768");
+    check(&rt, alloc, i32::MIN.to_value(alloc), "-2147483648");
+    check(&rt, alloc, i64::MIN.to_value(alloc), "-9223372036854775808");
+    check(&rt, alloc, i64::MAX.to_value(alloc), "9223372036854775807");
+    check(&rt, alloc, u8::MAX.to_value(alloc), "255");
+    check(&rt, alloc, u16::MAX.to_value(alloc), "65535");
+    check(&rt, alloc, u32::MAX.to_value(alloc), "4294967295");
+    check(&rt, alloc, u64::MAX.to_value(alloc), "18446744073709551615");
 }
 
 #[test]
-fn unsigned_numbers(rt: HostRuntime) -> Result<(), Fail> {
+fn json_values(rt: HostRuntime) {
     let alloc = rt.alloc();
-    check(&rt, alloc, &u8::MAX, "255")?;
-    check(&rt, alloc, &u16::MAX, "65535")?;
-    check(&rt, alloc, &u32::MAX, "4294967295")?;
-    check(&rt, alloc, &u64::MAX, "18446744073709551615")
-}
-
-#[test]
-fn json_values(rt: HostRuntime) -> Result<(), Fail> {
-    let alloc = rt.alloc();
-    let text = "{\"a\":[1,{\"b\":null}],\"c\":\"d\"}";
-    check(&rt, alloc, &Value::from_str(alloc, text)?, text)?;
-    check(&rt, alloc, &Value::from_str(alloc, "3.5")?, "3.5")
+    'texts: for text in ["{\"a\":[1,{\"b\":null}],\"c\":\"d\"}", "3.5"] {
+        let value = Value::from_str(alloc, text).expect(&rt, "JSON");
+        check(&rt, alloc, value.to_value(alloc), text);
+    }
 }

@@ -2,14 +2,14 @@
 
 use crate::parsers::steps::custom;
 use rusty_paseto::prelude::{
-    AudienceClaim, ExpirationClaim, IssuedAtClaim, IssuerClaim, NotBeforeClaim, PasetoBuilder,
-    PasetoParser, PurposeTrait, SubjectClaim, TokenIdentifierClaim, VersionTrait,
+    AudienceClaim, DateClaim, Expiration, IssuedAt, IssuerClaim, NotBefore, PasetoBuilder,
+    PasetoParser, PurposeTrait, ReservedKey, SubjectClaim, TokenIdentifierClaim, VersionTrait,
 };
 use std::alloc::Global;
-use std::test::Fail;
+use std::process::Abort;
 
 /// A claim that is set or checked. The JSON of a caller's own claim is given by its text.
-#[derive(Clone, Copy, Debug)]
+#[derive(Clone, Copy)]
 pub(crate) enum Claim<'a> {
     Audience(&'a str),
     Subject(&'a str),
@@ -22,46 +22,54 @@ pub(crate) enum Claim<'a> {
     Custom(&'a str, &'a str),
     /// What is built never expires. A parser checks nothing for it.
     NoExpiration,
+    /// No claim.
+    Nothing,
+}
+
+// The claim of an instant.
+fn date<K: ReservedKey>(rt: &impl Abort, alloc: Global, text: &str) -> DateClaim<K> {
+    DateClaim::try_from_str(alloc, text).expect(rt, "an instant")
 }
 
 /// Sets the claim.
 pub(crate) fn set<V: VersionTrait, P: PurposeTrait>(
+    rt: &impl Abort,
     builder: &mut PasetoBuilder<'_, V, P>,
     alloc: Global,
     claim: Claim<'_>,
-) -> Result<(), Fail> {
-    match claim {
-        Claim::Audience(text) => builder.put_claim(&AudienceClaim::from(text))?,
-        Claim::Subject(text) => builder.put_claim(&SubjectClaim::from(text))?,
-        Claim::Issuer(text) => builder.put_claim(&IssuerClaim::from(text))?,
-        Claim::TokenIdentifier(text) => builder.put_claim(&TokenIdentifierClaim::from(text))?,
-        Claim::IssuedAt(text) => builder.put_claim(&IssuedAtClaim::try_from_str(alloc, text)?)?,
-        Claim::NotBefore(text) => builder.put_claim(&NotBeforeClaim::try_from_str(alloc, text)?)?,
-        Claim::Expiration(text) => {
-            builder.put_claim(&ExpirationClaim::try_from_str(alloc, text)?)?
-        }
-        Claim::Custom(key, json) => builder.put_claim(&custom(alloc, key, json)?)?,
-        Claim::NoExpiration => builder.put_no_expiration_danger_acknowledged()?,
-    }
-    Ok(())
+) {
+    let answer = match claim {
+        Claim::Audience(text) => builder.put_claim(&AudienceClaim::from(text)),
+        Claim::Subject(text) => builder.put_claim(&SubjectClaim::from(text)),
+        Claim::Issuer(text) => builder.put_claim(&IssuerClaim::from(text)),
+        Claim::TokenIdentifier(text) => builder.put_claim(&TokenIdentifierClaim::from(text)),
+        Claim::IssuedAt(text) => builder.put_claim(&date::<IssuedAt>(rt, alloc, text)),
+        Claim::NotBefore(text) => builder.put_claim(&date::<NotBefore>(rt, alloc, text)),
+        Claim::Expiration(text) => builder.put_claim(&date::<Expiration>(rt, alloc, text)),
+        Claim::Custom(key, json) => builder.put_claim(&custom(rt, alloc, key, json)),
+        Claim::NoExpiration => builder.put_no_expiration_danger_acknowledged(),
+        Claim::Nothing => Ok(()),
+    };
+    answer.expect(rt, "a claim");
 }
 
 /// Checks the claim.
 pub(crate) fn check<V: VersionTrait, P: PurposeTrait>(
+    rt: &impl Abort,
     parser: &mut PasetoParser<'_, V, P>,
     alloc: Global,
     claim: Claim<'_>,
-) -> Result<(), Fail> {
-    match claim {
-        Claim::Audience(text) => parser.put_check(&AudienceClaim::from(text))?,
-        Claim::Subject(text) => parser.put_check(&SubjectClaim::from(text))?,
-        Claim::Issuer(text) => parser.put_check(&IssuerClaim::from(text))?,
-        Claim::TokenIdentifier(text) => parser.put_check(&TokenIdentifierClaim::from(text))?,
-        Claim::IssuedAt(text) => parser.put_check(&IssuedAtClaim::try_from_str(alloc, text)?)?,
-        Claim::NotBefore(text) => parser.put_check(&NotBeforeClaim::try_from_str(alloc, text)?)?,
-        Claim::Expiration(text) => parser.put_check(&ExpirationClaim::try_from_str(alloc, text)?)?,
-        Claim::Custom(key, json) => parser.put_check(&custom(alloc, key, json)?)?,
-        Claim::NoExpiration => {}
-    }
-    Ok(())
+) {
+    let answer = match claim {
+        Claim::Audience(text) => parser.put_check(&AudienceClaim::from(text)),
+        Claim::Subject(text) => parser.put_check(&SubjectClaim::from(text)),
+        Claim::Issuer(text) => parser.put_check(&IssuerClaim::from(text)),
+        Claim::TokenIdentifier(text) => parser.put_check(&TokenIdentifierClaim::from(text)),
+        Claim::IssuedAt(text) => parser.put_check(&date::<IssuedAt>(rt, alloc, text)),
+        Claim::NotBefore(text) => parser.put_check(&date::<NotBefore>(rt, alloc, text)),
+        Claim::Expiration(text) => parser.put_check(&date::<Expiration>(rt, alloc, text)),
+        Claim::Custom(key, json) => parser.put_check(&custom(rt, alloc, key, json)),
+        Claim::NoExpiration | Claim::Nothing => Ok(()),
+    };
+    answer.expect(rt, "a check");
 }

@@ -1,12 +1,12 @@
 //! Rings of keys, in which a token's footer picks the key.
 
+use crate::expect::expect_refusal;
 use crate::kinds::{Binding, Kind, SECRET, symmetric_key};
 use rusty_paseto::prelude::{
     BoxlessVersion, ImplicitAssertion, KeyRing, KeyRingError, PasetoError, V1, V3, V4,
 };
 use std::alloc::Global;
 use std::process::Abort;
-use std::test::Fail;
 
 const RING_KINDS: [Kind; 3] = [Kind::V1Local, Kind::V3Local, Kind::V4Local];
 
@@ -46,148 +46,140 @@ fn ring_for<V: BoxlessVersion>(
 }
 
 // What a ring of the kind's version answers.
-fn ask(alloc: Global, kind: Kind, question: Question<'_>) -> Result<Answer, Fail> {
+fn ask(rt: &impl Abort, alloc: Global, kind: Kind, question: Question<'_>) -> Answer {
     let assertion = question.assertion.map(|text| ImplicitAssertion::from(text));
-    Ok(match kind {
-        Kind::V1Local => ring_for::<V1>(alloc, question)?.open(question.token),
-        Kind::V3Local => ring_for::<V3>(alloc, question)?.open(question.token, assertion),
-        Kind::V4Local => ring_for::<V4>(alloc, question)?.open(question.token, assertion),
-        _ => return Err(Fail::from("no ring opens the kind")),
-    })
+    match kind {
+        Kind::V1Local => ring_for::<V1>(alloc, question)
+            .expect(rt, "a ring")
+            .open(question.token),
+        Kind::V3Local => ring_for::<V3>(alloc, question)
+            .expect(rt, "a ring")
+            .open(question.token, assertion),
+        Kind::V4Local => ring_for::<V4>(alloc, question)
+            .expect(rt, "a ring")
+            .open(question.token, assertion),
+        _ => panic!(rt; "no ring opens the kind"),
+    }
 }
 
 // The token of `hi` under the secret's key, with the footer.
-fn sealed(alloc: Global, kind: Kind, footer: Option<&str>) -> Result<String, PasetoError> {
+fn sealed(rt: &impl Abort, alloc: Global, kind: Kind, footer: Option<&str>) -> String {
     kind.make(alloc, "hi", Binding::of_footer(footer))
+        .expect(rt, "a token")
 }
 
 // The answer is `hi`, under this id.
-fn check_opened(rt: &impl Abort, kind: Kind, answer: Answer, id: &str) -> Result<(), Fail> {
-    let (found, text) = answer?;
+fn check_opened(rt: &impl Abort, kind: Kind, answer: Answer, id: &str) {
+    let (found, text) = answer.expect(rt, "a text");
     assert_eq!(rt; found.as_str(), id, "{kind:?}");
     assert_eq!(rt; text.as_str(), "hi", "{kind:?}");
-    Ok(())
 }
 
 // The answer is a refusal of this text, for the token in each version.
-fn check_refused(
-    rt: &impl Abort,
-    alloc: Global,
-    footer: Option<&str>,
-    text: &str,
-) -> Result<(), Fail> {
+fn check_refused(rt: &impl Abort, alloc: Global, footer: Option<&str>, text: &str) {
     'kinds: for kind in RING_KINDS {
-        let token = sealed(alloc, kind, footer)?;
-        let Err(error) = ask(alloc, kind, Question::of(token.as_str()))? else {
-            return Err(Fail::from("a text, where a refusal was due"));
-        };
-        assert_eq!(rt; format!(in alloc; "{error}")?.as_str(), text, "{kind:?}");
+        let token = sealed(rt, alloc, kind, footer);
+        let answer = ask(rt, alloc, kind, Question::of(token.as_str()));
+        expect_refusal(rt, alloc, answer, text);
     }
-    Ok(())
 }
 
 #[test]
-fn the_footer_picks_the_key(rt: HostRuntime) -> Result<(), Fail> {
+fn the_footer_picks_the_key(rt: HostRuntime) {
     'kinds: for kind in RING_KINDS {
         'footers: for footer in ["{\"kid\":\"k1\"}", "{ \"kid\" : \"k1\", \"x\" : 3.5 }"] {
-            let token = sealed(rt.alloc(), kind, Some(footer))?;
-            let answer = ask(rt.alloc(), kind, Question::of(token.as_str()))?;
-            check_opened(&rt, kind, answer, "k1")?;
+            let token = sealed(&rt, rt.alloc(), kind, Some(footer));
+            let answer = ask(&rt, rt.alloc(), kind, Question::of(token.as_str()));
+            check_opened(&rt, kind, answer, "k1");
         }
     }
-    Ok(())
 }
 
 #[test]
-fn no_other_key_is_tried(rt: HostRuntime) -> Result<(), Fail> {
+fn no_other_key_is_tried(rt: HostRuntime) {
     'kinds: for kind in RING_KINDS {
-        let token = sealed(rt.alloc(), kind, Some("{\"kid\":\"k2\"}"))?;
+        let token = sealed(&rt, rt.alloc(), kind, Some("{\"kid\":\"k2\"}"));
         let question = Question::of(token.as_str());
-        let refused = ask(rt.alloc(), kind, question)?;
+        let refused = ask(&rt, rt.alloc(), kind, question);
         let is_refused = matches!(refused, Err(KeyRingError::Token(PasetoError::Cryption)));
         assert!(rt; is_refused, "{kind:?}");
         let changed = Question {
             is_second_changed: true,
             ..question
         };
-        check_opened(&rt, kind, ask(rt.alloc(), kind, changed)?, "k2")?;
+        check_opened(&rt, kind, ask(&rt, rt.alloc(), kind, changed), "k2");
     }
-    Ok(())
 }
 
 #[test]
-fn a_footer_that_names_no_key(rt: HostRuntime) -> Result<(), Fail> {
+fn a_footer_that_names_no_key(rt: HostRuntime) {
     let (alloc, not_an_object) = (rt.alloc(), "The footer is not a JSON object");
-    check_refused(&rt, alloc, None, "The token has no footer")?;
+    check_refused(&rt, alloc, None, "The token has no footer");
     'texts: for footer in ["", "[]", "x"] {
-        check_refused(&rt, alloc, Some(footer), not_an_object)?;
+        check_refused(&rt, alloc, Some(footer), not_an_object);
     }
     'objects: for footer in ["{\"kid\":5}", "{}"] {
-        check_refused(&rt, alloc, Some(footer), "The footer names no key")?;
+        check_refused(&rt, alloc, Some(footer), "The footer names no key");
     }
-    Ok(())
 }
 
 #[test]
-fn an_id_that_is_not_in_the_ring(rt: HostRuntime) -> Result<(), Fail> {
+fn an_id_that_is_not_in_the_ring(rt: HostRuntime) {
     let (alloc, third) = (rt.alloc(), "The key 'k3' is not in the ring");
-    check_refused(&rt, alloc, Some("{\"kid\":\"k3\"}"), third)?;
+    check_refused(&rt, alloc, Some("{\"kid\":\"k3\"}"), third);
     let upper = "The key 'K1' is not in the ring";
-    check_refused(&rt, alloc, Some("{\"kid\":\"K1\"}"), upper)
+    check_refused(&rt, alloc, Some("{\"kid\":\"K1\"}"), upper);
 }
 
 #[test]
-fn a_text_that_is_no_token(rt: HostRuntime) -> Result<(), Fail> {
+fn a_text_that_is_no_token(rt: HostRuntime) {
     'kinds: for kind in RING_KINDS {
-        let answer = ask(rt.alloc(), kind, Question::of("v4.local"))?;
+        let answer = ask(&rt, rt.alloc(), kind, Question::of("v4.local"));
         let is_short = matches!(
             answer,
             Err(KeyRingError::Untrusted(PasetoError::IncorrectSize))
         );
         assert!(rt; is_short, "{kind:?}");
-        let answer = ask(rt.alloc(), kind, Question::of("v4.local.AAAA._w"))?;
+        let answer = ask(&rt, rt.alloc(), kind, Question::of("v4.local.AAAA._w"));
         let is_no_text = matches!(
             answer,
             Err(KeyRingError::Untrusted(PasetoError::Utf8Error { .. }))
         );
         assert!(rt; is_no_text, "{kind:?}");
     }
-    Ok(())
 }
 
 #[test]
-fn a_token_of_another_version(rt: HostRuntime) -> Result<(), Fail> {
+fn a_token_of_another_version(rt: HostRuntime) {
     let others = [
         (Kind::V1Local, Kind::V3Local),
         (Kind::V3Local, Kind::V4Local),
         (Kind::V4Local, Kind::V3Local),
     ];
     'kinds: for (kind, other) in others {
-        let token = sealed(rt.alloc(), kind, Some("{\"kid\":\"k1\"}"))?;
-        let answer = ask(rt.alloc(), other, Question::of(token.as_str()))?;
+        let token = sealed(&rt, rt.alloc(), kind, Some("{\"kid\":\"k1\"}"));
+        let answer = ask(&rt, rt.alloc(), other, Question::of(token.as_str()));
         let is_named = matches!(answer, Err(KeyRingError::Token(PasetoError::WrongHeader)));
         assert!(rt; is_named, "{kind:?}");
     }
-    Ok(())
 }
 
 #[test]
-fn an_assertion_that_is_not_passed(rt: HostRuntime) -> Result<(), Fail> {
+fn an_assertion_that_is_not_passed(rt: HostRuntime) {
     'kinds: for kind in [Kind::V3Local, Kind::V4Local] {
         let binding = Binding {
             footer: Some("{\"kid\":\"k1\"}"),
             assertion: Some("a"),
         };
-        let token = kind.make(rt.alloc(), "hi", binding)?;
+        let token = kind.make(rt.alloc(), "hi", binding).expect(&rt, "a token");
         let question = Question::of(token.as_str());
-        let answer = ask(rt.alloc(), kind, question)?;
+        let answer = ask(&rt, rt.alloc(), kind, question);
         let is_refused = matches!(answer, Err(KeyRingError::Token(PasetoError::Cryption)));
         assert!(rt; is_refused, "{kind:?}");
         let asserted = Question {
             assertion: Some("a"),
             ..question
         };
-        check_opened(&rt, kind, ask(rt.alloc(), kind, asserted)?, "k1")?;
+        check_opened(&rt, kind, ask(&rt, rt.alloc(), kind, asserted), "k1");
     }
-    Ok(())
 }

@@ -15,7 +15,7 @@ use rusty_paseto::prelude::{
 };
 use serde_json::Value;
 use std::alloc::Global;
-use std::test::Fail;
+use std::process::Abort;
 
 /// What a default builder answers.
 pub(crate) type Token = Result<String, GenericBuilderError>;
@@ -24,41 +24,53 @@ pub(crate) type Token = Result<String, GenericBuilderError>;
 pub(crate) type Answer = Result<Value, GenericParserError>;
 
 /// The moment so many nanoseconds after the first of 2024.
-pub(crate) fn moment_after(nanoseconds: i128) -> Result<Timestamp, Fail> {
-    let first = Timestamp::from_second(1_704_067_200)?;
-    Ok(Timestamp::from_nanosecond(first.as_nanosecond().wrapping_add(nanoseconds))?)
+pub(crate) fn moment_after(rt: &impl Abort, nanoseconds: i128) -> Timestamp {
+    let first = Timestamp::from_second(1_704_067_200).expect(rt, "a moment");
+    let later = first.as_nanosecond().wrapping_add(nanoseconds);
+    Timestamp::from_nanosecond(later).expect(rt, "a later moment")
+}
+
+/// A default builder that begins at the moment.
+pub(crate) fn default_builder<'a, V: VersionTrait, P: PurposeTrait>(
+    rt: &impl Abort,
+    alloc: Global,
+    now: Timestamp,
+) -> PasetoBuilder<'a, V, P> {
+    if !fits_default(now) {
+        panic!(rt; "no default builder begins at the moment");
+    }
+    PasetoBuilder::default(alloc, now).expect(rt, "a default builder")
 }
 
 fn builder_of<'a, V: VersionTrait, P: PurposeTrait>(
+    rt: &impl Abort,
     alloc: Global,
     now: Timestamp,
     claims: &[Claim<'_>],
     binding: Binding<'a>,
-) -> Result<PasetoBuilder<'a, V, P>, Fail> {
-    if !fits_default(now) {
-        return Err(Fail::from("no default builder begins at the moment"));
-    }
-    let mut builder = PasetoBuilder::<V, P>::default(alloc, now)?;
+) -> PasetoBuilder<'a, V, P> {
+    let mut builder = default_builder::<V, P>(rt, alloc, now);
     'claims: for claim in claims {
-        set(&mut builder, alloc, *claim)?;
+        set(rt, &mut builder, alloc, *claim);
     }
     if let Some(footer) = binding.footer {
         builder.set_footer(Footer::from(footer));
     }
-    Ok(builder)
+    builder
 }
 
 fn asserting_builder_of<'a, V: ImplicitAssertionCapable, P: PurposeTrait>(
+    rt: &impl Abort,
     alloc: Global,
     now: Timestamp,
     claims: &[Claim<'_>],
     binding: Binding<'a>,
-) -> Result<PasetoBuilder<'a, V, P>, Fail> {
-    let mut builder = builder_of::<V, P>(alloc, now, claims, binding)?;
+) -> PasetoBuilder<'a, V, P> {
+    let mut builder = builder_of::<V, P>(rt, alloc, now, claims, binding);
     if let Some(assertion) = binding.assertion {
         builder.set_implicit_assertion(ImplicitAssertion::from(assertion));
     }
-    Ok(builder)
+    builder
 }
 
 fn sealed<V: BoxlessVersion>(builder: &PasetoBuilder<'_, V, Local>) -> Token {
@@ -75,32 +87,34 @@ fn signed<V: ToyVersion + Signs<V::Toy>>(builder: &PasetoBuilder<'_, V, Public>)
 }
 
 fn parser_of<'a, V: VersionTrait, P: PurposeTrait>(
+    rt: &impl Abort,
     alloc: Global,
     now: Timestamp,
     claims: &[Claim<'_>],
     binding: Binding<'a>,
-) -> Result<PasetoParser<'a, V, P>, Fail> {
-    let mut parser = PasetoParser::<V, P>::default(alloc, now)?;
+) -> PasetoParser<'a, V, P> {
+    let mut parser = PasetoParser::<V, P>::default(alloc, now).expect(rt, "a default parser");
     'claims: for claim in claims {
-        check(&mut parser, alloc, *claim)?;
+        check(rt, &mut parser, alloc, *claim);
     }
     if let Some(footer) = binding.footer {
         parser.set_footer(Footer::from(footer));
     }
-    Ok(parser)
+    parser
 }
 
 fn asserting_parser_of<'a, V: ImplicitAssertionCapable, P: PurposeTrait>(
+    rt: &impl Abort,
     alloc: Global,
     now: Timestamp,
     claims: &[Claim<'_>],
     binding: Binding<'a>,
-) -> Result<PasetoParser<'a, V, P>, Fail> {
-    let mut parser = parser_of::<V, P>(alloc, now, claims, binding)?;
+) -> PasetoParser<'a, V, P> {
+    let mut parser = parser_of::<V, P>(rt, alloc, now, claims, binding);
     if let Some(assertion) = binding.assertion {
         parser.set_implicit_assertion(ImplicitAssertion::from(assertion));
     }
-    Ok(parser)
+    parser
 }
 
 fn opened<V: BoxlessVersion>(parser: &PasetoParser<'_, V, Local>, token: &str) -> Answer {
@@ -125,53 +139,55 @@ impl Kind {
     /// nonce of zeros.
     pub(crate) fn build_default(
         self,
+        rt: &impl Abort,
         alloc: Global,
         now: Timestamp,
         claims: &[Claim<'_>],
         binding: Binding<'_>,
-    ) -> Result<Token, Fail> {
-        Ok(match self {
-            Kind::V1Local => sealed::<V1>(&builder_of(alloc, now, claims, binding)?),
-            Kind::V2Local => boxed(&builder_of(alloc, now, claims, binding)?),
-            Kind::V3Local => sealed::<V3>(&asserting_builder_of(alloc, now, claims, binding)?),
-            Kind::V4Local => sealed::<V4>(&asserting_builder_of(alloc, now, claims, binding)?),
-            Kind::V1Public => signed::<V1>(&builder_of(alloc, now, claims, binding)?),
-            Kind::V2Public => signed::<V2>(&builder_of(alloc, now, claims, binding)?),
-            Kind::V3Public => signed::<V3>(&asserting_builder_of(alloc, now, claims, binding)?),
-            Kind::V4Public => signed::<V4>(&asserting_builder_of(alloc, now, claims, binding)?),
-        })
+    ) -> Token {
+        match self {
+            Kind::V1Local => sealed::<V1>(&builder_of(rt, alloc, now, claims, binding)),
+            Kind::V2Local => boxed(&builder_of(rt, alloc, now, claims, binding)),
+            Kind::V3Local => sealed::<V3>(&asserting_builder_of(rt, alloc, now, claims, binding)),
+            Kind::V4Local => sealed::<V4>(&asserting_builder_of(rt, alloc, now, claims, binding)),
+            Kind::V1Public => signed::<V1>(&builder_of(rt, alloc, now, claims, binding)),
+            Kind::V2Public => signed::<V2>(&builder_of(rt, alloc, now, claims, binding)),
+            Kind::V3Public => signed::<V3>(&asserting_builder_of(rt, alloc, now, claims, binding)),
+            Kind::V4Public => signed::<V4>(&asserting_builder_of(rt, alloc, now, claims, binding)),
+        }
     }
 
     /// What a default parser at the moment, which checks the claims, answers for a token under the secret's keys.
     pub(crate) fn parse_default(
         self,
+        rt: &impl Abort,
         alloc: Global,
         token: &str,
         now: Timestamp,
         claims: &[Claim<'_>],
         binding: Binding<'_>,
-    ) -> Result<Answer, Fail> {
-        Ok(match self {
-            Kind::V1Local => opened::<V1>(&parser_of(alloc, now, claims, binding)?, token),
-            Kind::V2Local => unboxed(&parser_of(alloc, now, claims, binding)?, token),
+    ) -> Answer {
+        match self {
+            Kind::V1Local => opened::<V1>(&parser_of(rt, alloc, now, claims, binding), token),
+            Kind::V2Local => unboxed(&parser_of(rt, alloc, now, claims, binding), token),
             Kind::V3Local => opened::<V3>(
-                &asserting_parser_of(alloc, now, claims, binding)?,
+                &asserting_parser_of(rt, alloc, now, claims, binding),
                 token,
             ),
             Kind::V4Local => opened::<V4>(
-                &asserting_parser_of(alloc, now, claims, binding)?,
+                &asserting_parser_of(rt, alloc, now, claims, binding),
                 token,
             ),
-            Kind::V1Public => verified::<V1>(&parser_of(alloc, now, claims, binding)?, token),
-            Kind::V2Public => verified::<V2>(&parser_of(alloc, now, claims, binding)?, token),
+            Kind::V1Public => verified::<V1>(&parser_of(rt, alloc, now, claims, binding), token),
+            Kind::V2Public => verified::<V2>(&parser_of(rt, alloc, now, claims, binding), token),
             Kind::V3Public => verified::<V3>(
-                &asserting_parser_of(alloc, now, claims, binding)?,
+                &asserting_parser_of(rt, alloc, now, claims, binding),
                 token,
             ),
             Kind::V4Public => verified::<V4>(
-                &asserting_parser_of(alloc, now, claims, binding)?,
+                &asserting_parser_of(rt, alloc, now, claims, binding),
                 token,
             ),
-        })
+        }
     }
 }

@@ -1,13 +1,74 @@
-//! Claims that a default builder sets and a default parser checks, over all kinds.
+//! Tokens, and what default parsers answer for them, over all kinds.
 
 use crate::defaults::claims::Claim;
 use crate::defaults::kinds::{Answer, moment_after};
+use crate::expect::expect_text;
 use crate::kinds::{ASSERTED_KINDS, Binding, KINDS, Kind};
 use rusty_paseto::prelude::{GenericParserError, PasetoError};
-use serde_json::Value;
 use std::alloc::Global;
 use std::process::Abort;
-use std::test::Fail;
+
+/// No claims.
+pub(crate) const NONE: [Claim<'static>; 4] = [Claim::Nothing; 4];
+
+/// The claims that a default builder sets at the first of 2024.
+pub(crate) const USUAL: &str = "{\"exp\":\"2024-01-01T01:00:00Z\",\
+    \"iat\":\"2024-01-01T00:00:00Z\",\"nbf\":\"2024-01-01T00:00:00Z\"}";
+
+/// A token, and what a default parser answers for it.
+#[derive(Clone, Copy)]
+pub(crate) struct Row {
+    /// The token's payload, or none where a default builder makes the token at the first of 2024.
+    pub(crate) payload: Option<&'static str>,
+    /// What that builder sets.
+    pub(crate) claims: [Claim<'static>; 4],
+    /// The footer that the token has, and the one that the parser expects.
+    pub(crate) footers: (Option<&'static str>, Option<&'static str>),
+    /// How many nanoseconds after the first of 2024 the token is parsed.
+    pub(crate) after: i128,
+    /// What the parser checks.
+    pub(crate) checks: [Claim<'static>; 4],
+    /// The value's JSON, or the error's text.
+    pub(crate) answer: &'static str,
+}
+
+fn token_of(rt: &impl Abort, alloc: Global, kind: Kind, row: Row) -> String {
+    let (footer, _) = row.footers;
+    let binding = Binding::of_footer(footer);
+    match row.payload {
+        Some(text) => kind.make(alloc, text, binding).expect(rt, "a token"),
+        None => kind
+            .build_default(rt, alloc, moment_after(rt, 0), &row.claims, binding)
+            .expect(rt, "a token"),
+    }
+}
+
+/// The JSON of the value that was answered, or the error's text.
+pub(crate) fn told(rt: &impl Abort, alloc: Global, answer: Answer) -> String {
+    match answer {
+        Ok(value) => value.to_string(alloc).expect(rt, "memory"),
+        Err(error) => error.to_string(alloc).expect(rt, "memory"),
+    }
+}
+
+fn check_row(rt: &impl Abort, alloc: Global, row: Row) {
+    let now = moment_after(rt, row.after);
+    let (_, footer) = row.footers;
+    let binding = Binding::of_footer(footer);
+    'kinds: for kind in KINDS {
+        let token = token_of(rt, alloc, kind, row);
+        let answer = kind.parse_default(rt, alloc, token.as_str(), now, &row.checks, binding);
+        let found = told(rt, alloc, answer);
+        assert_eq!(rt; found.as_str(), row.answer, "{kind:?}");
+    }
+}
+
+/// Each row's answer is that of a default parser, in every kind.
+pub(crate) fn check_rows(rt: &impl Abort, alloc: Global, rows: &[Row]) {
+    'rows: for row in rows {
+        check_row(rt, alloc, *row);
+    }
+}
 
 const NINE_CLAIMS: [Claim<'static>; 9] = [
     Claim::Audience("customers"),
@@ -25,84 +86,32 @@ const NINE_ENTRIES: &str = "{\"aud\":\"customers\",\"data\":\"this is a secret m
     \"exp\":\"2050-01-01T00:00:00+00:00\",\"iat\":\"2019-01-01T00:00:00+00:00\",\"iss\":\"me\",\
     \"jti\":\"me\",\"nbf\":\"2019-01-01T00:00:00+00:00\",\"seats\":4,\"sub\":\"loyal subjects\"}";
 
-/// The answer is the value of the JSON.
-pub(crate) fn check_value(
-    rt: &impl Abort,
-    alloc: Global,
-    kind: Kind,
-    answer: Answer,
-    json: &str,
-) -> Result<(), Fail> {
-    let wanted = Value::from_str(alloc, json)?;
-    let found = answer?;
-    assert!(rt;
-        rusty_paseto_claims::same_value(&found, &wanted),
-        "{kind:?} {json}"
-    );
-    Ok(())
-}
-
-/// The answer is an error of this text.
-pub(crate) fn check_refusal(
-    rt: &impl Abort,
-    alloc: Global,
-    kind: Kind,
-    answer: Answer,
-    text: &str,
-) -> Result<(), Fail> {
-    match answer {
-        Ok(_) => Err(Fail::from("a value, where a refusal was due")),
-        Err(error) => {
-            assert_eq!(rt; format!(in alloc; "{error}")?.as_str(), text, "{kind:?}");
-            Ok(())
-        }
-    }
-}
-
-// What the default parser checks is what the default builder set, in one kind.
-fn check_nine_claims(
-    rt: &impl Abort,
-    alloc: Global,
-    kind: Kind,
-    binding: Binding<'_>,
-) -> Result<(), Fail> {
-    let now = moment_after(0)?;
-    let token = kind.build_default(alloc, now, &NINE_CLAIMS, binding)??;
-    let answer = kind.parse_default(alloc, token.as_str(), now, &NINE_CLAIMS, binding)?;
-    check_value(rt, alloc, kind, answer, NINE_ENTRIES)
-}
-
+// The implicit assertion is left out in a kind that has none.
 #[test]
-fn nine_claims_with_a_footer(rt: HostRuntime) -> Result<(), Fail> {
-    let alloc = rt.alloc();
+fn nine_claims(rt: HostRuntime) {
+    let (alloc, now) = (rt.alloc(), moment_after(&rt, 0));
+    let binding = Binding {
+        footer: Some("some footer"),
+        assertion: Some("some assertion"),
+    };
     'kinds: for kind in KINDS {
-        let binding = Binding::of_footer(Some("some footer"));
-        check_nine_claims(&rt, alloc, kind, binding)?;
+        let token = kind
+            .build_default(&rt, alloc, now, &NINE_CLAIMS, binding)
+            .expect(&rt, "a token");
+        let answer = kind.parse_default(&rt, alloc, token.as_str(), now, &NINE_CLAIMS, binding);
+        expect_text(&rt, told(&rt, alloc, answer).as_str(), NINE_ENTRIES);
     }
-    Ok(())
 }
 
 #[test]
-fn nine_claims_with_an_assertion(rt: HostRuntime) -> Result<(), Fail> {
-    let alloc = rt.alloc();
+fn an_assertion_that_the_parser_lacks(rt: HostRuntime) {
+    let (alloc, now) = (rt.alloc(), moment_after(&rt, 0));
+    let asserted = Binding::of_assertion(Some("some assertion"));
     'kinds: for kind in ASSERTED_KINDS {
-        let binding = Binding {
-            footer: Some("some footer"),
-            assertion: Some("some assertion"),
-        };
-        check_nine_claims(&rt, alloc, kind, binding)?;
-    }
-    Ok(())
-}
-
-#[test]
-fn an_assertion_that_the_parser_lacks(rt: HostRuntime) -> Result<(), Fail> {
-    let alloc = rt.alloc();
-    'kinds: for kind in ASSERTED_KINDS {
-        let now = moment_after(0)?;
-        let asserted = Binding::of_assertion(Some("some assertion"));
-        let token = kind.build_default(alloc, now, &NINE_CLAIMS, asserted)??;
-        let answer = kind.parse_default(alloc, token.as_str(), now, &NINE_CLAIMS, Binding::NONE)?;
+        let token = kind
+            .build_default(&rt, alloc, now, &NONE, asserted)
+            .expect(&rt, "a token");
+        let answer = kind.parse_default(&rt, alloc, token.as_str(), now, &NONE, Binding::NONE);
         let is_named = matches!(
             answer,
             Err(GenericParserError::CipherError {
@@ -111,29 +120,4 @@ fn an_assertion_that_the_parser_lacks(rt: HostRuntime) -> Result<(), Fail> {
         );
         assert!(rt; is_named, "{kind:?}");
     }
-    Ok(())
-}
-
-#[test]
-fn claims_that_are_checked(rt: HostRuntime) -> Result<(), Fail> {
-    let alloc = rt.alloc();
-    let claims = [
-        Claim::Subject("Get schwifty"),
-        Claim::Custom("Contestant", "\"Earth\""),
-        Claim::Custom("Universe", "137"),
-    ];
-    let wanted = "{\"Contestant\":\"Earth\",\"Universe\":137,\"exp\":\"2024-01-01T01:00:00Z\",\
-        \"iat\":\"2024-01-01T00:00:00Z\",\"nbf\":\"2024-01-01T00:00:00Z\",\"sub\":\"Get schwifty\"}";
-    let others = [Claim::Custom("Universe", "136")];
-    let refusal = "Could not convert claim 'Universe' to the expected data type";
-    let now = moment_after(0)?;
-    let later = moment_after(1)?;
-    'kinds: for kind in KINDS {
-        let token = kind.build_default(alloc, now, &claims, Binding::NONE)??;
-        let answer = kind.parse_default(alloc, token.as_str(), later, &claims, Binding::NONE)?;
-        check_value(&rt, alloc, kind, answer, wanted)?;
-        let answer = kind.parse_default(alloc, token.as_str(), later, &others, Binding::NONE)?;
-        check_refusal(&rt, alloc, kind, answer, refusal)?;
-    }
-    Ok(())
 }

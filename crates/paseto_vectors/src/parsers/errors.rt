@@ -1,46 +1,45 @@
 //! The texts of parsers' errors.
 
+use crate::expect::expect_text;
 use rusty_paseto_claims::PasetoClaimError;
 use rusty_paseto_core::PasetoError;
 use rusty_paseto_generic::GenericParserError;
 use serde_json::Value;
 use std::alloc::{AllocError, Global};
 use std::process::Abort;
-use std::test::Fail;
 
-fn check(
-    rt: &impl Abort,
-    alloc: Global,
-    error: GenericParserError,
-    text: &str,
-) -> Result<(), Fail> {
-    assert_eq!(rt; format!(in alloc; "{error}")?.as_str(), text);
-    Ok(())
+fn check(rt: &impl Abort, alloc: Global, error: GenericParserError, text: &str) {
+    let found = error.to_string(alloc).expect(rt, "memory");
+    expect_text(rt, found.as_str(), text);
 }
 
 #[test]
-fn of_claims_tokens_and_json(rt: HostRuntime) -> Result<(), Fail> {
+fn of_claims_tokens_and_json(rt: HostRuntime) {
     let alloc = rt.alloc();
     let error = GenericParserError::from(PasetoClaimError::Expired);
-    check(&rt, alloc, error, "This token is expired")?;
+    check(&rt, alloc, error, "This token is expired");
     let error = GenericParserError::from(PasetoError::Cryption);
-    check(&rt, alloc, error, "A paseto cipher error occurred")?;
-    let Err(source) = Value::from_str(alloc, "{") else {
-        return Err(Fail::from("read as JSON"));
-    };
+    check(&rt, alloc, error, "A paseto cipher error occurred");
+    let source = Value::from_str(alloc, "{").expect_err(&rt, "no JSON");
     let error = GenericParserError::from(source);
     let text = "The payload was unable to be serialized into json";
-    check(&rt, alloc, error, text)
+    check(&rt, alloc, error, text);
+    check(
+        &rt,
+        alloc,
+        GenericParserError::from(AllocError),
+        "No memory was found",
+    );
+}
+
+fn is_of_memory(error: GenericParserError) -> bool {
+    matches!(&error, GenericParserError::Memory(_))
 }
 
 #[test]
-fn of_memory(rt: HostRuntime) -> Result<(), Fail> {
-    let alloc = rt.alloc();
-    let text = "No memory was found";
-    check(&rt, alloc, GenericParserError::from(AllocError), text)?;
-    let error = GenericParserError::from(PasetoClaimError::Memory(AllocError));
-    assert!(rt; matches!(&error, GenericParserError::Memory(_)));
-    let error = GenericParserError::from(PasetoError::Memory(AllocError));
-    assert!(rt; matches!(&error, GenericParserError::Memory(_)));
-    Ok(())
+fn of_memory(rt: HostRuntime) {
+    let error = PasetoClaimError::Memory(AllocError);
+    assert!(rt; is_of_memory(GenericParserError::from(error)));
+    let error = PasetoError::Memory(AllocError);
+    assert!(rt; is_of_memory(GenericParserError::from(error)));
 }

@@ -1,66 +1,62 @@
 //! Parsers that expect a footer and an implicit assertion.
 
-use crate::kinds::{ASSERTED_KINDS, Binding, KINDS};
-use crate::parsers::kinds::{Answer, Expected};
-use rusty_paseto_core::{Footer, ImplicitAssertion, Local, PasetoError, V4};
-use rusty_paseto_generic::{GenericParser, GenericParserError};
+use crate::expect::expect_text;
+use crate::kinds::{Binding, Kind};
+use crate::parsers::kinds::Expected;
+use rusty_paseto_core::{Footer, ImplicitAssertion, Local, V4};
+use rusty_paseto_generic::GenericParser;
 use std::process::Abort;
-use std::test::Fail;
 
-// Why the core refused the token, where it did.
-fn source_of(answer: &Answer) -> Option<&PasetoError> {
-    match answer {
-        Err(GenericParserError::CipherError { source }) => Some(source),
-        _ => None,
-    }
-}
+const FIRST: Binding<'static> = Binding {
+    footer: Some("key-1"),
+    assertion: None,
+};
 
-#[test]
-fn the_expected_footer(rt: HostRuntime) -> Result<(), Fail> {
-    let alloc = rt.alloc();
-    let binding = Binding::of_footer(Some("key-1"));
-    'kinds: for kind in KINDS {
-        let token = kind.make(alloc, "{}", binding)?;
-        let answer = kind.parse(alloc, token.as_str(), Expected::bound(binding))?;
-        assert!(rt; answer.is_ok(), "{kind:?}");
-        let other = Expected::bound(Binding::of_footer(Some("key-2")));
-        let answer = kind.parse(alloc, token.as_str(), other)?;
-        let told = matches!(source_of(&answer), Some(PasetoError::FooterInvalid));
-        assert!(rt; told, "{kind:?}");
-    }
-    Ok(())
-}
+const SECOND: Binding<'static> = Binding {
+    footer: Some("key-2"),
+    assertion: None,
+};
 
-#[test]
-fn the_expected_assertion(rt: HostRuntime) -> Result<(), Fail> {
-    let alloc = rt.alloc();
-    let binding = Binding::of_assertion(Some("more"));
-    'kinds: for kind in ASSERTED_KINDS {
-        let token = kind.make(alloc, "{}", binding)?;
-        let answer = kind.parse(alloc, token.as_str(), Expected::bound(binding))?;
-        assert!(rt; answer.is_ok(), "{kind:?}");
-        let answer = kind.parse(alloc, token.as_str(), Expected::bound(Binding::NONE))?;
-        let told = matches!(
-            source_of(&answer),
-            Some(PasetoError::Cryption | PasetoError::InvalidSignature)
-        );
-        assert!(rt; told, "{kind:?}");
-    }
-    Ok(())
-}
+const ASSERTED: Binding<'static> = Binding {
+    footer: None,
+    assertion: Some("more"),
+};
+
+const CRYPTION: &str = "An unspecified cryption error occured";
+
+const SIGNATURE: &str = "The token signature could not be verified";
+
+// What a parser that expects no implicit assertion tells of a token that was made for one. The versions
+// 1 and 2 have none.
+const UNASSERTED: [(Kind, &str); 8] = [
+    (Kind::V1Local, "{}"),
+    (Kind::V2Local, "{}"),
+    (Kind::V3Local, CRYPTION),
+    (Kind::V4Local, CRYPTION),
+    (Kind::V1Public, "{}"),
+    (Kind::V2Public, "{}"),
+    (Kind::V3Public, SIGNATURE),
+    (Kind::V4Public, SIGNATURE),
+];
 
 #[test]
-fn no_token(rt: HostRuntime) -> Result<(), Fail> {
+fn of_every_kind(rt: HostRuntime) {
     let alloc = rt.alloc();
-    'kinds: for kind in KINDS {
-        let answer = kind.parse(alloc, "a.b", Expected::bound(Binding::NONE))?;
-        let told = matches!(source_of(&answer), Some(PasetoError::IncorrectSize));
-        assert!(rt; told, "{kind:?}");
-        let answer = kind.parse(alloc, "v5.local.AAAA", Expected::bound(Binding::NONE))?;
-        let told = matches!(source_of(&answer), Some(PasetoError::WrongHeader));
-        assert!(rt; told, "{kind:?}");
+    let first = Expected::bound(FIRST);
+    let second = Expected::bound(SECOND);
+    let asserted = Expected::bound(ASSERTED);
+    let none = Expected::bound(Binding::NONE);
+    let other_footer = "The provided footer is invalid";
+    let sections = "This string has an incorrect number of parts and cannot be parsed into a token";
+    'kinds: for (kind, unasserted) in UNASSERTED {
+        kind.check(&rt, alloc, "{}", FIRST, first, "{}");
+        kind.check(&rt, alloc, "{}", FIRST, second, other_footer);
+        kind.check(&rt, alloc, "{}", ASSERTED, asserted, "{}");
+        kind.check(&rt, alloc, "{}", ASSERTED, none, unasserted);
+        kind.check_token(&rt, alloc, "a.b", none, sections);
+        let header = "The token header is invalid";
+        kind.check_token(&rt, alloc, "v5.local.AAAA", none, header);
     }
-    Ok(())
 }
 
 // The parser has this footer and this implicit assertion.
@@ -70,8 +66,8 @@ fn check_set(
     footer: &str,
     assertion: &str,
 ) {
-    assert_eq!(rt; parser.get_footer().as_str(), footer);
-    assert_eq!(rt; parser.get_implicit_assertion().as_str(), assertion);
+    expect_text(rt, parser.get_footer().as_str(), footer);
+    expect_text(rt, parser.get_implicit_assertion().as_str(), assertion);
 }
 
 #[test]

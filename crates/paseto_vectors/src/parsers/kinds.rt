@@ -11,7 +11,7 @@ use rusty_paseto_core::{
 use rusty_paseto_generic::{GenericParser, GenericParserError, UnboxedVersion};
 use serde_json::Value;
 use std::alloc::Global;
-use std::test::Fail;
+use std::process::Abort;
 
 /// What a parser answers.
 pub(crate) type Answer = Result<Value, GenericParserError>;
@@ -43,29 +43,42 @@ impl<'a> Expected<'a> {
 
 // A parser that checks, with the footer.
 fn parser_of<'a, V: VersionTrait, P: PurposeTrait>(
+    rt: &impl Abort,
     alloc: Global,
     expected: Expected<'a>,
-) -> Result<GenericParser<'a, V, P>, Fail> {
+) -> GenericParser<'a, V, P> {
     let mut parser = GenericParser::<V, P>::new(alloc);
     'steps: for step in expected.steps {
-        add(&mut parser, alloc, step)??;
+        add(rt, &mut parser, alloc, step).expect(rt, "a check");
     }
     if let Some(footer) = expected.binding.footer {
         parser.set_footer(Footer::from(footer));
     }
-    Ok(parser)
+    parser
 }
 
 // The same with the implicit assertion.
 fn asserting_of<'a, V: ImplicitAssertionCapable, P: PurposeTrait>(
+    rt: &impl Abort,
     alloc: Global,
     expected: Expected<'a>,
-) -> Result<GenericParser<'a, V, P>, Fail> {
-    let mut parser = parser_of::<V, P>(alloc, expected)?;
+) -> GenericParser<'a, V, P> {
+    let mut parser = parser_of::<V, P>(rt, alloc, expected);
     if let Some(assertion) = expected.binding.assertion {
         parser.set_implicit_assertion(ImplicitAssertion::from(assertion));
     }
-    Ok(parser)
+    parser
+}
+
+/// What an answer tells: the value as JSON, or the text of the error, the core's own where the core refused the
+/// token.
+pub(crate) fn told(rt: &impl Abort, alloc: Global, answer: &Answer) -> String {
+    let text = match answer {
+        Ok(value) => value.to_string(alloc),
+        Err(GenericParserError::CipherError { source }) => source.to_string(alloc),
+        Err(error) => error.to_string(alloc),
+    };
+    text.expect(rt, "memory")
 }
 
 fn opened<V: UnboxedVersion>(parser: &GenericParser<'_, V, Local>, token: &str) -> Answer {
@@ -89,19 +102,47 @@ impl Kind {
     /// What a parser answers for a token, under the secret's keys.
     pub(crate) fn parse(
         self,
+        rt: &impl Abort,
         alloc: Global,
         token: &str,
         expected: Expected<'_>,
-    ) -> Result<Answer, Fail> {
-        Ok(match self {
-            Kind::V1Local => opened::<V1>(&parser_of(alloc, expected)?, token),
-            Kind::V2Local => unboxed(&parser_of(alloc, expected)?, token),
-            Kind::V3Local => opened::<V3>(&asserting_of(alloc, expected)?, token),
-            Kind::V4Local => opened::<V4>(&asserting_of(alloc, expected)?, token),
-            Kind::V1Public => verified::<V1>(&parser_of(alloc, expected)?, token),
-            Kind::V2Public => verified::<V2>(&parser_of(alloc, expected)?, token),
-            Kind::V3Public => verified::<V3>(&asserting_of(alloc, expected)?, token),
-            Kind::V4Public => verified::<V4>(&asserting_of(alloc, expected)?, token),
-        })
+    ) -> Answer {
+        match self {
+            Kind::V1Local => opened::<V1>(&parser_of(rt, alloc, expected), token),
+            Kind::V2Local => unboxed(&parser_of(rt, alloc, expected), token),
+            Kind::V3Local => opened::<V3>(&asserting_of(rt, alloc, expected), token),
+            Kind::V4Local => opened::<V4>(&asserting_of(rt, alloc, expected), token),
+            Kind::V1Public => verified::<V1>(&parser_of(rt, alloc, expected), token),
+            Kind::V2Public => verified::<V2>(&parser_of(rt, alloc, expected), token),
+            Kind::V3Public => verified::<V3>(&asserting_of(rt, alloc, expected), token),
+            Kind::V4Public => verified::<V4>(&asserting_of(rt, alloc, expected), token),
+        }
+    }
+
+    /// A parser's answer for a token tells this.
+    pub(crate) fn check_token(
+        self,
+        rt: &impl Abort,
+        alloc: Global,
+        token: &str,
+        expected: Expected<'_>,
+        wanted: &str,
+    ) {
+        let answer = self.parse(rt, alloc, token, expected);
+        assert_eq!(rt; told(rt, alloc, &answer).as_str(), wanted, "{self:?}");
+    }
+
+    /// A parser's answer for a token of the payload tells this.
+    pub(crate) fn check(
+        self,
+        rt: &impl Abort,
+        alloc: Global,
+        payload: &str,
+        binding: Binding<'_>,
+        expected: Expected<'_>,
+        wanted: &str,
+    ) {
+        let token = self.make(alloc, payload, binding).expect(rt, "a token");
+        self.check_token(rt, alloc, token.as_str(), expected, wanted);
     }
 }

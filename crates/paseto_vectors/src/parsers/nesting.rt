@@ -1,64 +1,63 @@
 //! How deep a payload may be nested.
 
 use crate::builders::generators::Zeros;
+use crate::expect::expect_text;
 use crate::kinds::{Binding, KINDS, SECRET, symmetric_key};
-use crate::parsers::kinds::Expected;
+use crate::parsers::kinds::{Answer, Expected, told};
 use crate::parsers::steps::custom;
-use rusty_paseto_claims::same_value;
 use rusty_paseto_core::{Local, V4};
-use rusty_paseto_generic::{GenericBuilder, GenericParser, GenericParserError};
-use serde_json::Value;
-use std::alloc::{AllocError, Global};
-use std::test::Fail;
+use rusty_paseto_generic::{GenericBuilder, GenericParser};
+use std::alloc::Global;
+use std::process::Abort;
+
+const UNREAD: &str = "The payload was unable to be serialized into json";
+
+fn push(rt: &impl Abort, text: &mut String, letter: char, times: u8) {
+    'times: for _ in 0..times {
+        text.push(letter).expect(rt, "memory");
+    }
+}
 
 // So many arrays, each in the one before it.
-fn nested(alloc: Global, depth: u8) -> Result<String, AllocError> {
+fn nested(rt: &impl Abort, alloc: Global, depth: u8) -> String {
     let mut text = String::new(alloc);
-    'opening: for _ in 0..depth {
-        text.push('[')?;
-    }
-    'closing: for _ in 0..depth {
-        text.push(']')?;
-    }
-    Ok(text)
+    push(rt, &mut text, '[', depth);
+    push(rt, &mut text, ']', depth);
+    text
 }
 
 #[test]
-fn at_most_127_deep(rt: HostRuntime) -> Result<(), Fail> {
+fn at_most_127_deep(rt: HostRuntime) {
     let alloc = rt.alloc();
-    let deep = nested(alloc, 127)?;
-    let too_deep = nested(alloc, 128)?;
+    let deep = nested(&rt, alloc, 127);
+    let too_deep = nested(&rt, alloc, 128);
+    let (deep, too_deep) = (deep.as_str(), too_deep.as_str());
+    let expected = Expected::bound(Binding::NONE);
     'kinds: for kind in KINDS {
-        let expected = Expected::bound(Binding::NONE);
-        let token = kind.make(alloc, deep.as_str(), Binding::NONE)?;
-        let answer = kind.parse(alloc, token.as_str(), expected)?;
-        assert!(rt; answer.is_ok(), "{kind:?}");
-        let token = kind.make(alloc, too_deep.as_str(), Binding::NONE)?;
-        let answer = kind.parse(alloc, token.as_str(), expected)?;
-        let told = matches!(&answer, Err(GenericParserError::PayloadJsonError { .. }));
-        assert!(rt; told, "{kind:?}");
+        kind.check(&rt, alloc, deep, Binding::NONE, expected, deep);
+        kind.check(&rt, alloc, too_deep, Binding::NONE, expected, UNREAD);
     }
-    Ok(())
 }
 
-// What is read of a token whose claim `a` is nested so deep.
-fn built(alloc: Global, depth: u8) -> Result<Result<Value, GenericParserError>, Fail> {
+// What is read of a token that was built with this claim `a`.
+fn built(rt: &impl Abort, alloc: Global, json: &str) -> Answer {
     let key = symmetric_key(&SECRET);
     let mut builder = GenericBuilder::<V4, Local>::new(alloc);
-    builder.put_claim(&custom(alloc, "a", nested(alloc, depth)?.as_str())?)?;
-    let token = builder.try_encrypt(&mut Zeros, &key)?;
-    Ok(GenericParser::<V4, Local>::new(alloc).parse(token.as_str(), &key))
+    builder
+        .put_claim(&custom(rt, alloc, "a", json))
+        .expect(rt, "a claim");
+    let token = builder.try_encrypt(&mut Zeros, &key).expect(rt, "a token");
+    GenericParser::<V4, Local>::new(alloc).parse(token.as_str(), &key)
 }
 
 #[test]
-fn a_claim_at_most_126_deep(rt: HostRuntime) -> Result<(), Fail> {
+fn a_claim_at_most_126_deep(rt: HostRuntime) {
     let alloc = rt.alloc();
-    let read = built(alloc, 126)??;
-    let wanted = Value::from_str(alloc, nested(alloc, 126)?.as_str())?;
-    let found = read.get("a").ok_or("no claim")?;
-    assert!(rt; same_value(found, &wanted));
-    let answer = built(alloc, 127)?;
-    let told = matches!(&answer, Err(GenericParserError::PayloadJsonError { .. }));
-    assert!(rt; told);
-    Ok(())
+    let deep = nested(&rt, alloc, 126);
+    let read = built(&rt, alloc, deep.as_str()).expect(&rt, "a value");
+    let found = read.get("a").expect(&rt, "a claim");
+    let text = found.to_string(alloc).expect(&rt, "memory");
+    expect_text(&rt, text.as_str(), deep.as_str());
+    let answer = built(&rt, alloc, nested(&rt, alloc, 127).as_str());
+    expect_text(&rt, told(&rt, alloc, &answer).as_str(), UNREAD);
 }

@@ -5,9 +5,9 @@ use rusty_paseto_claims::{AudienceClaim, CustomClaim};
 use rusty_paseto_core::{PurposeTrait, VersionTrait};
 use rusty_paseto_generic::{GenericParser, GenericParserError, ValidatorFn};
 use serde_json::Value;
-use std::alloc::{AllocError, Global};
+use std::alloc::Global;
 use std::collections::BTreeMap;
-use std::test::Fail;
+use std::process::Abort;
 
 /// Which validator judges.
 #[derive(Clone, Copy, Debug)]
@@ -19,11 +19,11 @@ pub(crate) enum Rule {
 
 impl Rule {
     /// The validator.
-    pub(crate) fn boxed(self, alloc: Global) -> Result<ValidatorFn, AllocError> {
+    pub(crate) fn boxed(self, rt: &impl Abort, alloc: Global) -> ValidatorFn {
         match self {
-            Rule::Accepts => Ok(Box::new(alloc, Accepts)?),
-            Rule::RefusesNull => Ok(Box::new(alloc, RefusesNull)?),
-            Rule::Tells => Ok(Box::new(alloc, Tells)?),
+            Rule::Accepts => Box::new(alloc, Accepts).expect(rt, "memory"),
+            Rule::RefusesNull => Box::new(alloc, RefusesNull).expect(rt, "memory"),
+            Rule::Tells => Box::new(alloc, Tells).expect(rt, "memory"),
         }
     }
 }
@@ -46,40 +46,61 @@ pub(crate) enum Step<'a> {
 }
 
 /// A claim of a caller's own.
-pub(crate) fn custom(alloc: Global, key: &str, json: &str) -> Result<CustomClaim<Value>, Fail> {
-    let value = Value::from_str(alloc, json)?;
-    Ok(CustomClaim::try_from_str(alloc, key, value)?)
+pub(crate) fn custom(rt: &impl Abort, alloc: Global, key: &str, json: &str) -> CustomClaim<Value> {
+    let value = Value::from_str(alloc, json).expect(rt, "JSON");
+    CustomClaim::try_from_str(alloc, key, value).expect(rt, "a claim")
 }
 
 /// A map of one key.
 pub(crate) fn map_of<T: Drop>(
+    rt: &impl Abort,
     alloc: Global,
     key: &str,
     value: T,
-) -> Result<BTreeMap<String, T>, Fail> {
+) -> BTreeMap<String, T> {
     let mut map = BTreeMap::new(alloc);
-    drop(map.insert(String::from_str(alloc, key)?, value)?);
-    Ok(map)
+    let key = String::from_str(alloc, key).expect(rt, "memory");
+    let old: Result<_, _> = map.insert(key, value);
+    drop(old.expect(rt, "memory"));
+    map
+}
+
+/// A map of keys and JSON.
+pub(crate) fn values_of(
+    rt: &impl Abort,
+    alloc: Global,
+    rows: &[(&str, &str)],
+) -> BTreeMap<String, Value> {
+    let mut map = BTreeMap::new(alloc);
+    'rows: for (key, json) in rows {
+        let key = String::from_str(alloc, *key).expect(rt, "memory");
+        let value = Value::from_str(alloc, *json).expect(rt, "JSON");
+        let old: Result<_, _> = map.insert(key, value);
+        drop(old.expect(rt, "memory"));
+    }
+    map
 }
 
 /// Makes the call.
 pub(crate) fn add<V: VersionTrait, P: PurposeTrait>(
+    rt: &impl Abort,
     parser: &mut GenericParser<'_, V, P>,
     alloc: Global,
     step: Step<'_>,
-) -> Result<Result<(), GenericParserError>, Fail> {
-    Ok(match step {
+) -> Result<(), GenericParserError> {
+    match step {
         Step::Nothing => Ok(()),
         Step::Audience(text) => parser.put_check(&AudienceClaim::from(text)),
-        Step::Check(key, json) => parser.put_check(&custom(alloc, key, json)?),
+        Step::Check(key, json) => parser.put_check(&custom(rt, alloc, key, json)),
         Step::Store(key, json) => {
-            parser.put_checks(map_of(alloc, key, Value::from_str(alloc, json)?)?)
+            let value = Value::from_str(alloc, json).expect(rt, "JSON");
+            parser.put_checks(map_of(rt, alloc, key, value))
         }
         Step::Judge(key, json, rule) => {
-            parser.put_validator(&custom(alloc, key, json)?, rule.boxed(alloc)?)
+            parser.put_validator(&custom(rt, alloc, key, json), rule.boxed(rt, alloc))
         }
         Step::JudgeKey(key, rule) => {
-            parser.put_validators(map_of(alloc, key, rule.boxed(alloc)?)?)
+            parser.put_validators(map_of(rt, alloc, key, rule.boxed(rt, alloc)))
         }
-    })
+    }
 }

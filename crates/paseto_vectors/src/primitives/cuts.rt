@@ -1,50 +1,43 @@
 //! A message that a hasher is given in two pieces has the code of the whole message, at each place where
 //! it can be cut. The lengths are those at the edges of a block and of what a last block holds.
 
+use super::counted_bytes;
+use crate::expect::expect_bytes;
 use rusty_paseto_primitives::{HmacSha384, hmac_sha384};
 use std::process::Abort;
 
-fn hmac_at_each_cut(rt: &impl Abort, key: &[u8], message: &[u8]) {
+fn check_cuts(rt: &impl Abort, key: &[u8], message: &[u8]) {
     let whole = hmac_sha384(key, message);
     'cuts: for cut in 0..=message.len() {
         let (head, tail) = message.split_at(cut);
         let mut hasher = HmacSha384::new(key);
         hasher.update(head);
         hasher.update(tail);
-        assert_eq!(rt; hasher.finalize().as_slice(), whole.as_slice());
+        expect_bytes(rt, hasher.finalize().as_slice(), whole.as_slice());
     }
 }
 
-#[test]
-fn hmac_of_a_short_key(rt: HostRuntime) {
-    hmac_of_each_length(&rt, b"a key");
-}
+// The lengths of a key and of a message. A key of 128 bytes fills a block, and a longer one is hashed.
+const LENGTHS: [(usize, usize); 12] = [
+    (0, 128),
+    (5, 0),
+    (5, 1),
+    (5, 111),
+    (5, 112),
+    (5, 257),
+    (32, 257),
+    (128, 127),
+    (128, 129),
+    (128, 257),
+    (129, 128),
+    (129, 257),
+];
 
 #[test]
-fn hmac_of_a_key_of_a_block(rt: HostRuntime) {
-    hmac_of_each_length(&rt, &[0x5a; 128]);
-}
-
-#[test]
-fn hmac_of_a_longer_key(rt: HostRuntime) {
-    hmac_of_each_length(&rt, &[0xa5; 129]);
-}
-
-fn hmac_of_each_length(rt: &impl Abort, key: &[u8]) {
-    let mut bytes = [0u8; 257];
-    'fill: for i in 0..257usize {
-        bytes[i] = (i % 251) as u8;
-    }
-    'lengths: for message in [
-        &bytes[..0],
-        &bytes[..1],
-        &bytes[..111],
-        &bytes[..112],
-        &bytes[..127],
-        &bytes[..128],
-        &bytes[..129],
-        &bytes[..257],
-    ] {
-        hmac_at_each_cut(rt, key, message);
+fn hmac_at_each_cut(rt: HostRuntime) {
+    let bytes = counted_bytes();
+    'lengths: for (key, message) in LENGTHS {
+        let key = bytes.get(..key).expect(&rt, "a key");
+        check_cuts(&rt, key, bytes.get(..message).expect(&rt, "a message"));
     }
 }

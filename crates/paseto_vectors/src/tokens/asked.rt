@@ -4,7 +4,6 @@ use super::faults::token_of_zeros;
 use super::refusals::LETTERS;
 use crate::kinds::counting::{Call, Calls};
 use crate::kinds::{Binding, Kind, OTHER_SECRET, SECRET};
-use std::test::Fail;
 
 const FOOTER: Binding<'static> = Binding {
     footer: Some("footer"),
@@ -40,38 +39,37 @@ fn asked_to_read(kind: Kind) -> Calls {
 }
 
 #[test]
-fn made_and_read(rt: HostRuntime) -> Result<(), Fail> {
+fn made_and_read(rt: HostRuntime) {
     'kinds: for kind in ASKING_KINDS {
         let (made, calls) = kind.make_counted(rt.alloc(), &SECRET, "hello", FOOTER);
-        let token = made?;
+        let token = made.expect(&rt, "a token");
         assert_eq!(rt; calls, asked_to_make(kind), "{kind:?}");
         let (read, calls) = kind.read_counted(rt.alloc(), &SECRET, token.as_str(), FOOTER);
-        assert_eq!(rt; read?.as_str(), "hello", "{kind:?}");
+        assert_eq!(rt; read.expect(&rt, "a text").as_str(), "hello", "{kind:?}");
         assert_eq!(rt; calls, asked_to_read(kind), "{kind:?}");
     }
-    Ok(())
 }
 
 // A token under another key is looked at once too.
 #[test]
-fn refused(rt: HostRuntime) -> Result<(), Fail> {
+fn refused(rt: HostRuntime) {
     'kinds: for kind in ASKING_KINDS {
-        let token = kind.make(rt.alloc(), "hello", FOOTER)?;
+        let token = kind
+            .make(rt.alloc(), "hello", FOOTER)
+            .expect(&rt, "a token");
         let (answer, calls) = kind.read_counted(rt.alloc(), &OTHER_SECRET, token.as_str(), FOOTER);
         assert!(rt; kind.is_refused(&answer), "{kind:?}");
         assert_eq!(rt; calls, asked_to_read(kind), "{kind:?}");
     }
-    Ok(())
 }
 
 // The shortest payload that is looked at.
 #[test]
-fn shortest_payloads(rt: HostRuntime) -> Result<(), Fail> {
+fn shortest_payloads(rt: HostRuntime) {
     'kinds: for (kind, letters) in LETTERS {
-        let token = token_of_zeros(rt.alloc(), kind, letters)?;
+        let token = token_of_zeros(&rt, rt.alloc(), kind, letters);
         let (answer, calls) = kind.read_counted(rt.alloc(), &SECRET, token.as_str(), Binding::NONE);
         assert!(rt; kind.is_refused(&answer), "{kind:?}");
         assert_eq!(rt; calls, asked_to_read(kind), "{kind:?}");
     }
-    Ok(())
 }

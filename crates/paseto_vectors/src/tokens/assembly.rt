@@ -3,17 +3,18 @@
 use super::parts::{payload_of, signed_payload, token_of_payload};
 use crate::kinds::{ASSERTED_KINDS, Binding, KINDS, Kind};
 use rusty_paseto_core::PasetoError;
-use std::test::Fail;
 
 // The pieces that are bound, in their order, the implicit assertion the last one.
 #[test]
-fn the_bound_pieces(rt: HostRuntime) -> Result<(), Fail> {
+fn the_bound_pieces(rt: HostRuntime) {
     let binding = Binding::of_footer(Some("footer"));
     'kinds: for kind in KINDS {
-        let payload = payload_of(rt.alloc(), kind, b"hello", binding)?;
-        let bare = token_of_payload(rt.alloc(), kind, &payload)?;
-        let token = format!(in rt.alloc(); "{bare}.Zm9vdGVy")?;
-        let text = kind.read(rt.alloc(), token.as_str(), binding)?;
+        let payload = payload_of(&rt, rt.alloc(), kind, b"hello", binding);
+        let bare = token_of_payload(&rt, rt.alloc(), kind, &payload);
+        let token = format!(in rt.alloc(); "{bare}.Zm9vdGVy").expect(&rt, "memory");
+        let text = kind
+            .read(rt.alloc(), token.as_str(), binding)
+            .expect(&rt, "a text");
         assert_eq!(rt; text.as_str(), "hello", "{kind:?}");
     }
     let binding = Binding {
@@ -21,25 +22,25 @@ fn the_bound_pieces(rt: HostRuntime) -> Result<(), Fail> {
         assertion: Some("more"),
     };
     'asserted: for kind in ASSERTED_KINDS {
-        let payload = payload_of(rt.alloc(), kind, b"hello", binding)?;
-        let bare = token_of_payload(rt.alloc(), kind, &payload)?;
-        let token = format!(in rt.alloc(); "{bare}.Zm9vdGVy")?;
-        let text = kind.read(rt.alloc(), token.as_str(), binding)?;
+        let payload = payload_of(&rt, rt.alloc(), kind, b"hello", binding);
+        let bare = token_of_payload(&rt, rt.alloc(), kind, &payload);
+        let token = format!(in rt.alloc(); "{bare}.Zm9vdGVy").expect(&rt, "memory");
+        let text = kind
+            .read(rt.alloc(), token.as_str(), binding)
+            .expect(&rt, "a text");
         assert_eq!(rt; text.as_str(), "hello", "{kind:?}");
     }
-    Ok(())
 }
 
 // In version 3 a signature over all pieces but the public key is not valid.
 #[test]
-fn the_public_key_is_signed(rt: HostRuntime) -> Result<(), Fail> {
+fn the_public_key_is_signed(rt: HostRuntime) {
     let kind = Kind::V3Public;
     let pieces: [&[u8]; 4] = [b"v3.public.", b"hello", b"", b""];
-    let payload = signed_payload(rt.alloc(), kind, b"hello", &pieces)?;
-    let token = token_of_payload(rt.alloc(), kind, &payload)?;
+    let payload = signed_payload(&rt, rt.alloc(), kind, b"hello", &pieces);
+    let token = token_of_payload(&rt, rt.alloc(), kind, &payload);
     let answer = kind.read(rt.alloc(), token.as_str(), Binding::NONE);
     assert!(rt; matches!(&answer, Err(PasetoError::InvalidSignature)));
-    Ok(())
 }
 
 // Whether a token was refused as one whose bytes are no text.
@@ -54,18 +55,17 @@ fn is_no_text(kind: Kind, answer: &Result<String, PasetoError>) -> bool {
 
 // The tag or the signature is looked at before the text. The one byte `ff` is no text.
 #[test]
-fn bytes_that_are_no_text(rt: HostRuntime) -> Result<(), Fail> {
+fn bytes_that_are_no_text(rt: HostRuntime) {
     'kinds: for kind in KINDS {
-        let mut payload = payload_of(rt.alloc(), kind, b"\xff", Binding::NONE)?;
-        let token = token_of_payload(rt.alloc(), kind, &payload)?;
+        let mut payload = payload_of(&rt, rt.alloc(), kind, b"\xff", Binding::NONE);
+        let token = token_of_payload(&rt, rt.alloc(), kind, &payload);
         let answer = kind.read(rt.alloc(), token.as_str(), Binding::NONE);
         assert!(rt; is_no_text(kind, &answer), "{kind:?}");
         if let Some(last) = payload.last_mut() {
             *last ^= 1;
         }
-        let token = token_of_payload(rt.alloc(), kind, &payload)?;
+        let token = token_of_payload(&rt, rt.alloc(), kind, &payload);
         let answer = kind.read(rt.alloc(), token.as_str(), Binding::NONE);
         assert!(rt; kind.is_refused(&answer), "{kind:?}");
     }
-    Ok(())
 }

@@ -1,62 +1,70 @@
 //! Tokens that are bound to an implicit assertion.
 
 use crate::kinds::{ASSERTED_KINDS, Binding};
-use std::test::Fail;
 
 // A token is read with its own assertion alone.
 #[test]
-fn other_assertions(rt: HostRuntime) -> Result<(), Fail> {
+fn other_assertions(rt: HostRuntime) {
     let own = Binding::of_assertion(Some("x"));
     'kinds: for kind in ASSERTED_KINDS {
-        let token = kind.make(rt.alloc(), "hello", own)?;
-        let text = kind.read(rt.alloc(), token.as_str(), own)?;
+        let token = kind.make(rt.alloc(), "hello", own).expect(&rt, "a token");
+        let text = kind
+            .read(rt.alloc(), token.as_str(), own)
+            .expect(&rt, "a text");
         assert_eq!(rt; text.as_str(), "hello", "{kind:?}");
         'others: for assertion in [None, Some(""), Some("y"), Some("xx")] {
             let other = Binding::of_assertion(assertion);
             let answer = kind.read(rt.alloc(), token.as_str(), other);
             assert!(rt; kind.is_refused(&answer), "{kind:?} {assertion:?}");
         }
-        let token = kind.make(rt.alloc(), "hello", Binding::NONE)?;
+        let token = kind
+            .make(rt.alloc(), "hello", Binding::NONE)
+            .expect(&rt, "a token");
         let answer = kind.read(rt.alloc(), token.as_str(), own);
         assert!(rt; kind.is_refused(&answer), "{kind:?}");
     }
-    Ok(())
 }
 
 // No assertion and an empty one are alike.
 #[test]
-fn no_assertion_and_an_empty_one(rt: HostRuntime) -> Result<(), Fail> {
+fn no_assertion_and_an_empty_one(rt: HostRuntime) {
     let empty = Binding::of_assertion(Some(""));
     'kinds: for kind in ASSERTED_KINDS {
-        let token = kind.make(rt.alloc(), "hello", Binding::NONE)?;
-        let same = kind.make(rt.alloc(), "hello", empty)?;
+        let token = kind
+            .make(rt.alloc(), "hello", Binding::NONE)
+            .expect(&rt, "a token");
+        let same = kind.make(rt.alloc(), "hello", empty).expect(&rt, "a token");
         assert_eq!(rt; same.as_str(), token.as_str(), "{kind:?}");
         'bindings: for binding in [Binding::NONE, empty] {
-            let text = kind.read(rt.alloc(), token.as_str(), binding)?;
+            let text = kind
+                .read(rt.alloc(), token.as_str(), binding)
+                .expect(&rt, "a text");
             assert_eq!(rt; text.as_str(), "hello", "{kind:?}");
         }
     }
-    Ok(())
 }
 
 // A text with a footer and an assertion comes back, and neither takes the other's place.
 #[test]
-fn a_footer_and_an_assertion(rt: HostRuntime) -> Result<(), Fail> {
+fn a_footer_and_an_assertion(rt: HostRuntime) {
     let both = Binding {
         footer: Some("footer"),
         assertion: Some("assertion"),
     };
     'kinds: for kind in ASSERTED_KINDS {
-        let token = kind.make(rt.alloc(), "hello", both)?;
-        let text = kind.read(rt.alloc(), token.as_str(), both)?;
+        let token = kind.make(rt.alloc(), "hello", both).expect(&rt, "a token");
+        let text = kind
+            .read(rt.alloc(), token.as_str(), both)
+            .expect(&rt, "a text");
         assert_eq!(rt; text.as_str(), "hello", "{kind:?}");
         let footer = Binding::of_footer(Some("footer"));
         let answer = kind.read(rt.alloc(), token.as_str(), footer);
         assert!(rt; kind.is_refused(&answer), "{kind:?}");
-        let bare = kind.make(rt.alloc(), "hello", Binding::of_assertion(Some("footer")))?;
-        let token = format!(in rt.alloc(); "{bare}.Zm9vdGVy")?;
+        let bare = kind
+            .make(rt.alloc(), "hello", Binding::of_assertion(Some("footer")))
+            .expect(&rt, "a token");
+        let token = format!(in rt.alloc(); "{bare}.Zm9vdGVy").expect(&rt, "memory");
         let answer = kind.read(rt.alloc(), token.as_str(), footer);
         assert!(rt; kind.is_refused(&answer), "{kind:?}");
     }
-    Ok(())
 }

@@ -10,7 +10,6 @@ use rusty_paseto_core::{
     PasetoNonce, Payload, Public, PurposeTrait, Signs, V1, V2, V3, V4, Verifies, VersionTrait,
 };
 use std::alloc::Global;
-use std::test::Fail;
 
 // The text `hello` with a footer.
 fn hello<V: VersionTrait, P: PurposeTrait>() -> Paseto<'static, V, P> {
@@ -142,43 +141,46 @@ fn read(
 }
 
 #[test]
-fn a_text_with_a_footer(rt: HostRuntime) -> Result<(), Fail> {
+fn a_text_with_a_footer(rt: HostRuntime) {
     let binding = Binding::of_footer(Some("footer"));
     'kinds: for kind in KINDS {
-        let token = make(rt.alloc(), kind)?;
-        let same = kind.make(rt.alloc(), "hello", binding)?;
+        let token = make(rt.alloc(), kind).expect(&rt, "a token");
+        let same = kind
+            .make(rt.alloc(), "hello", binding)
+            .expect(&rt, "a token");
         assert_eq!(rt; token.as_str(), same.as_str(), "{kind:?}");
-        let text = read(rt.alloc(), kind, token.as_str(), None)?;
+        let text = read(rt.alloc(), kind, token.as_str(), None).expect(&rt, "a text");
         assert_eq!(rt; text.as_str(), "hello", "{kind:?}");
     }
-    Ok(())
 }
 
 #[test]
-fn a_text_with_a_footer_and_an_assertion(rt: HostRuntime) -> Result<(), Fail> {
+fn a_text_with_a_footer_and_an_assertion(rt: HostRuntime) {
     let binding = Binding {
         footer: Some("footer"),
         assertion: Some("assertion"),
     };
     let assertion = Some(ImplicitAssertion::from("assertion"));
     'kinds: for kind in ASSERTED_KINDS {
-        let token = make_asserted(rt.alloc(), kind)?;
-        let same = kind.make(rt.alloc(), "hello", binding)?;
+        let token = make_asserted(rt.alloc(), kind).expect(&rt, "a token");
+        let same = kind
+            .make(rt.alloc(), "hello", binding)
+            .expect(&rt, "a token");
         assert_eq!(rt; token.as_str(), same.as_str(), "{kind:?}");
-        let text = read(rt.alloc(), kind, token.as_str(), assertion)?;
+        let text = read(rt.alloc(), kind, token.as_str(), assertion).expect(&rt, "a text");
         assert_eq!(rt; text.as_str(), "hello", "{kind:?}");
         let answer = read(rt.alloc(), kind, token.as_str(), None);
         assert!(rt; kind.is_refused(&answer), "{kind:?}");
     }
-    Ok(())
 }
 
 #[test]
-fn made_by_default(rt: HostRuntime) -> Result<(), Fail> {
+fn made_by_default(rt: HostRuntime) {
     'kinds: for kind in KINDS {
-        let token = make_default(rt.alloc(), kind)?;
-        let same = kind.make(rt.alloc(), "", Binding::NONE)?;
+        let token = make_default(rt.alloc(), kind).expect(&rt, "a token");
+        let same = kind
+            .make(rt.alloc(), "", Binding::NONE)
+            .expect(&rt, "a token");
         assert_eq!(rt; token.as_str(), same.as_str(), "{kind:?}");
     }
-    Ok(())
 }

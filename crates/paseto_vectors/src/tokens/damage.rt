@@ -3,7 +3,7 @@
 use crate::builders::maps::Numbers;
 use crate::kinds::{Binding, KINDS};
 use std::alloc::{AllocError, Global};
-use std::test::Fail;
+use std::process::Abort;
 
 // Another letter than this one.
 fn other_than(letter: char, numbers: &mut Numbers) -> char {
@@ -17,42 +17,43 @@ fn other_than(letter: char, numbers: &mut Numbers) -> char {
 }
 
 // The token with another letter in one place.
-fn damaged(alloc: Global, token: &str, numbers: &mut Numbers) -> Result<String, AllocError> {
+fn damaged(rt: &impl Abort, alloc: Global, token: &str, numbers: &mut Numbers) -> String {
     let place = numbers.next() as usize % token.len().max(1);
     let mut text = String::new(alloc);
     'letters: for (index, letter) in token.char_indices() {
         if index == place {
-            text.push(other_than(letter, numbers))?;
+            text.push(other_than(letter, numbers)).expect(rt, "memory");
         } else {
-            text.push(letter)?;
+            text.push(letter).expect(rt, "memory");
         }
     }
-    Ok(text)
+    text
 }
 
 // A text of up to sixteen letters.
-fn text_of(alloc: Global, numbers: &mut Numbers) -> Result<String, AllocError> {
+fn text_of(rt: &impl Abort, alloc: Global, numbers: &mut Numbers) -> String {
     let mut text = String::new(alloc);
     'letters: for _ in 0..numbers.next() % 17 {
-        text.push('x')?;
+        text.push('x').expect(rt, "memory");
     }
-    Ok(text)
+    text
 }
 
 #[test]
-fn none_is_read(rt: HostRuntime) -> Result<(), Fail> {
+fn none_is_read(rt: HostRuntime) {
     let alloc = rt.alloc();
     let mut numbers = Numbers::of_seed(3);
     'tokens: for index in 0..2500u16 {
-        let text = text_of(alloc, &mut numbers)?;
+        let text = text_of(&rt, alloc, &mut numbers);
         let footer = if index % 2 == 0 { None } else { Some("key-1") };
         let binding = Binding::of_footer(footer);
         'kinds: for kind in KINDS {
-            let token = kind.make(alloc, text.as_str(), binding)?;
-            let token = damaged(alloc, token.as_str(), &mut numbers)?;
+            let token = kind
+                .make(alloc, text.as_str(), binding)
+                .expect(&rt, "a token");
+            let token = damaged(&rt, alloc, token.as_str(), &mut numbers);
             let answer = kind.read(alloc, token.as_str(), binding);
             assert!(rt; answer.is_err(), "{kind:?} {token}");
         }
     }
-    Ok(())
 }

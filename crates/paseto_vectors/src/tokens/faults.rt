@@ -5,7 +5,6 @@ use crate::kinds::{Binding, KINDS, Kind, SECRET};
 use rusty_paseto_core::PasetoError;
 use std::alloc::{AllocError, Global};
 use std::process::Abort;
-use std::test::Fail;
 
 // What is answered for a token with a fault, with nothing asked.
 fn fault_of(
@@ -59,17 +58,16 @@ fn other_footer_and_other_header(rt: HostRuntime) {
 }
 
 // A header is refused where it is not the kind's own.
-fn check_header(rt: &impl Abort, alloc: Global, kind: Kind, header: &str) -> Result<(), Fail> {
-    let token = format!(in alloc; "{header}1234")?;
+fn check_header(rt: &impl Abort, alloc: Global, kind: Kind, header: &str) {
+    let token = format!(in alloc; "{header}1234").expect(rt, "memory");
     let answer = fault_of(rt, alloc, kind, token.as_str(), None);
     let refused = matches!(&answer, Err(PasetoError::WrongHeader));
     assert_eq!(rt; refused, header != kind.header(), "{kind:?} {header}");
-    Ok(())
 }
 
 // Headers of all kinds, and other spellings of them.
 #[test]
-fn other_headers(rt: HostRuntime) -> Result<(), Fail> {
+fn other_headers(rt: HostRuntime) {
     'kinds: for kind in KINDS {
         'headers: for header in [
             "v1.local.",
@@ -91,38 +89,32 @@ fn other_headers(rt: HostRuntime) -> Result<(), Fail> {
             ".local.",
             ".public.",
         ] {
-            check_header(&rt, rt.alloc(), kind, header)?;
+            check_header(&rt, rt.alloc(), kind, header);
         }
     }
-    Ok(())
 }
 
 // Sections that spell no bytes.
 #[test]
-fn other_spellings(rt: HostRuntime) -> Result<(), Fail> {
+fn other_spellings(rt: HostRuntime) {
     'kinds: for kind in KINDS {
         let header = kind.header();
         'sections: for section in ["AB", "AA==", "A", "A+A/", "é", "AAAA\n"] {
-            let token = format!(in rt.alloc(); "{header}{section}")?;
+            let token = format!(in rt.alloc(); "{header}{section}").expect(&rt, "memory");
             let answer = fault_of(&rt, rt.alloc(), kind, token.as_str(), None);
             let refused = matches!(&answer, Err(PasetoError::PayloadBase64Decode { .. }));
             assert!(rt; refused, "{kind:?} {section}");
         }
     }
-    Ok(())
 }
 
 /// A token of so many letters `A`, each of which spells six bits of zeros.
-pub(crate) fn token_of_zeros(
-    alloc: Global,
-    kind: Kind,
-    letters: usize,
-) -> Result<String, AllocError> {
-    let mut token = String::from_str(alloc, kind.header())?;
+pub(crate) fn token_of_zeros(rt: &impl Abort, alloc: Global, kind: Kind, letters: usize) -> String {
+    let mut token = String::from_str(alloc, kind.header()).expect(rt, "memory");
     'letters: for _ in 0..letters {
-        token.push('A')?;
+        token.push('A').expect(rt, "memory");
     }
-    Ok(token)
+    token
 }
 
 // The letters of the longest payload that is too short. In version 2 local 31 letters spell 23 bytes,
@@ -139,21 +131,20 @@ const LETTERS: [(Kind, usize); 8] = [
 ];
 
 #[test]
-fn short_payloads(rt: HostRuntime) -> Result<(), Fail> {
+fn short_payloads(rt: HostRuntime) {
     'kinds: for (kind, most) in LETTERS {
         'lengths: for letters in [0, 4, most] {
-            let token = token_of_zeros(rt.alloc(), kind, letters)?;
+            let token = token_of_zeros(&rt, rt.alloc(), kind, letters);
             let answer = fault_of(&rt, rt.alloc(), kind, token.as_str(), None);
             let refused = matches!(&answer, Err(PasetoError::IncorrectSize));
             assert!(rt; refused, "{kind:?} {letters}");
         }
         let header = kind.header();
-        let token = format!(in rt.alloc(); "{header}.")?;
+        let token = format!(in rt.alloc(); "{header}.").expect(&rt, "memory");
         let answer = fault_of(&rt, rt.alloc(), kind, token.as_str(), None);
         assert!(rt;
             matches!(&answer, Err(PasetoError::IncorrectSize)),
             "{kind:?}"
         );
     }
-    Ok(())
 }

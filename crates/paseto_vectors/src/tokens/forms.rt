@@ -5,7 +5,6 @@ use crate::kinds::{Binding, Kind, PUBLIC_KINDS, SECRET};
 use rusty_paseto_core::{PasetoError, from_section};
 use std::alloc::Global;
 use std::process::Abort;
-use std::test::Fail;
 
 // How many characters the empty text's token has without a footer.
 const LENGTHS: [(Kind, usize); 8] = [
@@ -25,38 +24,47 @@ const FOOTER: Binding<'static> = Binding {
 };
 
 // The token is read as the empty text, with no footer and with the empty one.
-fn check_either(rt: &impl Abort, alloc: Global, kind: Kind, token: &str) -> Result<(), Fail> {
+fn check_either(rt: &impl Abort, alloc: Global, kind: Kind, token: &str) {
     'footers: for footer in [None, Some("")] {
-        let text = kind.read(alloc, token, Binding::of_footer(footer))?;
+        let text = kind
+            .read(alloc, token, Binding::of_footer(footer))
+            .expect(rt, "a text");
         assert_eq!(rt; text.as_str(), "", "{kind:?} {footer:?}");
     }
-    Ok(())
 }
 
 // No footer and an empty one bind alike.
 #[test]
-fn no_footer_and_an_empty_one(rt: HostRuntime) -> Result<(), Fail> {
+fn no_footer_and_an_empty_one(rt: HostRuntime) {
     'kinds: for (kind, len) in LENGTHS {
-        let short = kind.make(rt.alloc(), "", Binding::NONE)?;
+        let short = kind
+            .make(rt.alloc(), "", Binding::NONE)
+            .expect(&rt, "a token");
         assert_eq!(rt; short.len(), len, "{kind:?}");
-        let long = kind.make(rt.alloc(), "", Binding::of_footer(Some("")))?;
+        let long = kind
+            .make(rt.alloc(), "", Binding::of_footer(Some("")))
+            .expect(&rt, "a token");
         let stripped = long.as_str().strip_suffix('.');
         assert_eq!(rt; stripped, Some(short.as_str()), "{kind:?}");
-        check_either(&rt, rt.alloc(), kind, short.as_str())?;
-        check_either(&rt, rt.alloc(), kind, long.as_str())?;
+        check_either(&rt, rt.alloc(), kind, short.as_str());
+        check_either(&rt, rt.alloc(), kind, long.as_str());
     }
-    Ok(())
 }
 
 // A token whose footer section was taken off is refused where the footer is passed, and neither a box nor a
 // scheme is asked.
 #[test]
-fn a_stripped_footer(rt: HostRuntime) -> Result<(), Fail> {
+fn a_stripped_footer(rt: HostRuntime) {
     'kinds: for (kind, _) in LENGTHS {
-        let token = kind.make(rt.alloc(), "", FOOTER)?;
-        let text = kind.read(rt.alloc(), token.as_str(), FOOTER)?;
+        let token = kind.make(rt.alloc(), "", FOOTER).expect(&rt, "a token");
+        let text = kind
+            .read(rt.alloc(), token.as_str(), FOOTER)
+            .expect(&rt, "a text");
         assert_eq!(rt; text.as_str(), "", "{kind:?}");
-        let stripped = token.as_str().strip_suffix(".Zm9vdGVy").ok_or("no footer")?;
+        let stripped = token
+            .as_str()
+            .strip_suffix(".Zm9vdGVy")
+            .expect(&rt, "a footer");
         let (answer, calls) = kind.read_counted(rt.alloc(), &SECRET, stripped, FOOTER);
         assert!(rt;
             matches!(answer, Err(PasetoError::FooterInvalid)),
@@ -66,12 +74,11 @@ fn a_stripped_footer(rt: HostRuntime) -> Result<(), Fail> {
         let answer = kind.read(rt.alloc(), stripped, Binding::NONE);
         assert!(rt; kind.is_refused(&answer), "{kind:?}");
     }
-    Ok(())
 }
 
 // That a footer's section is lacking is found after the number of sections, and before the header.
 #[test]
-fn a_footer_that_is_lacking(rt: HostRuntime) -> Result<(), Fail> {
+fn a_footer_that_is_lacking(rt: HostRuntime) {
     'kinds: for (kind, _) in LENGTHS {
         let answer = kind.read(rt.alloc(), "v5.local.1234", FOOTER);
         assert!(rt;
@@ -86,7 +93,6 @@ fn a_footer_that_is_lacking(rt: HostRuntime) -> Result<(), Fail> {
             "{kind:?}"
         );
     }
-    Ok(())
 }
 
 // How many bytes a signature has.
@@ -100,17 +106,18 @@ fn signature_length(kind: Kind) -> usize {
 
 // The text can be read in the token's payload, before the signature.
 #[test]
-fn a_text_can_be_read(rt: HostRuntime) -> Result<(), Fail> {
+fn a_text_can_be_read(rt: HostRuntime) {
     'kinds: for kind in PUBLIC_KINDS {
-        let token = kind.make(rt.alloc(), "hello", FOOTER)?;
+        let token = kind
+            .make(rt.alloc(), "hello", FOOTER)
+            .expect(&rt, "a token");
         let section = token
             .as_str()
             .strip_prefix(kind.header())
-            .ok_or("no header")?;
-        let section = section.strip_suffix(".Zm9vdGVy").ok_or("no footer")?;
-        let payload = from_section(rt.alloc(), section)?;
-        let signature = payload.strip_prefix(b"hello").ok_or("no text")?;
+            .expect(&rt, "a header");
+        let section = section.strip_suffix(".Zm9vdGVy").expect(&rt, "a footer");
+        let payload = from_section(rt.alloc(), section).expect(&rt, "bytes");
+        let signature = payload.strip_prefix(b"hello").expect(&rt, "a text");
         assert_eq!(rt; signature.len(), signature_length(kind), "{kind:?}");
     }
-    Ok(())
 }

@@ -5,7 +5,6 @@ use crate::kinds::{Binding, KINDS, Kind};
 use rusty_paseto_core::PasetoError;
 use std::alloc::Global;
 use std::process::Abort;
-use std::test::Fail;
 
 // The secret whose key of 32 bytes is `wubbalubbadubdub` twice.
 const KNOWN: [u8; 64] = *b"wubbalubbadubdubwubbalubbadubdubwubbalubbadubdubwubbalubbadubdub";
@@ -19,19 +18,19 @@ const SHORTEST: [(Kind, usize); 4] = [
 ];
 
 // What is answered for so many bytes of zeros.
-fn answer_to_zeros(alloc: Global, kind: Kind, len: usize) -> Result<PasetoError, Fail> {
+fn answer_to_zeros(rt: &impl Abort, alloc: Global, kind: Kind, len: usize) -> PasetoError {
     let payload = [0u8; 81];
-    let payload = payload.get(..len).ok_or("too long")?;
-    let token = token_of_payload(alloc, kind, payload)?;
+    let payload = payload.get(..len).expect(rt, "a length");
+    let token = token_of_payload(rt, alloc, kind, payload);
     let (answer, _) = kind.read_counted(alloc, &KNOWN, token.as_str(), Binding::NONE);
-    Ok(answer.err().ok_or("opened")?)
+    answer.err().expect(rt, "a refusal")
 }
 
 #[test]
-fn payloads_of_zeros(rt: HostRuntime) -> Result<(), Fail> {
+fn payloads_of_zeros(rt: HostRuntime) {
     'kinds: for (kind, shortest) in SHORTEST {
         'lengths: for len in 0..82usize {
-            let answer = answer_to_zeros(rt.alloc(), kind, len)?;
+            let answer = answer_to_zeros(&rt, rt.alloc(), kind, len);
             let told = if len < shortest {
                 matches!(&answer, PasetoError::IncorrectSize)
             } else {
@@ -40,7 +39,6 @@ fn payloads_of_zeros(rt: HostRuntime) -> Result<(), Fail> {
             assert!(rt; told, "{kind:?} {len}");
         }
     }
-    Ok(())
 }
 
 const BAD_COUNT: &str =
@@ -67,51 +65,60 @@ const TEXTS: [(&str, &str); 10] = [
 ];
 
 // What is answered in version 4 for a text that is no token.
-fn check(rt: &impl Abort, alloc: Global, text: &str, refusal: &str) -> Result<(), Fail> {
+fn check(rt: &impl Abort, alloc: Global, text: &str, refusal: &str) {
     let (answer, _) = Kind::V4Local.read_counted(alloc, &KNOWN, text, Binding::NONE);
-    let error = answer.err().ok_or("opened")?;
-    assert_eq!(rt; format!(in alloc; "{error}")?.as_str(), refusal, "{text}");
-    Ok(())
+    let error = answer.err().expect(rt, "a refusal");
+    assert_eq!(rt;
+        format!(in alloc; "{error}").expect(rt, "memory").as_str(),
+        refusal,
+        "{text}"
+    );
 }
 
 #[test]
-fn texts_that_are_no_tokens(rt: HostRuntime) -> Result<(), Fail> {
+fn texts_that_are_no_tokens(rt: HostRuntime) {
     'texts: for (text, refusal) in TEXTS {
-        check(&rt, rt.alloc(), text, refusal)?;
+        check(&rt, rt.alloc(), text, refusal);
     }
-    Ok(())
 }
 
 #[test]
-fn a_footer_without_its_last_letter(rt: HostRuntime) -> Result<(), Fail> {
+fn a_footer_without_its_last_letter(rt: HostRuntime) {
     let binding = Binding::of_footer(Some("footer"));
     'kinds: for kind in KINDS {
         let (made, _) = kind.make_counted(rt.alloc(), &KNOWN, "", binding);
-        let token = made?;
+        let token = made.expect(&rt, "a token");
         let cut = token
             .as_str()
             .strip_suffix(".Zm9vdGVy")
-            .ok_or("another footer")?;
-        let cut = format!(in rt.alloc(); "{cut}.Zm9vdGV")?;
+            .expect(&rt, "the footer");
+        let cut = format!(in rt.alloc(); "{cut}.Zm9vdGV").expect(&rt, "memory");
         let (answer, _) = kind.read_counted(rt.alloc(), &KNOWN, cut.as_str(), binding);
         let refused = matches!(&answer, Err(PasetoError::FooterInvalid));
         assert!(rt; refused, "{kind:?}");
     }
-    Ok(())
 }
 
 // In version 1 the counter of a nonce that ends in 16 bytes `ff` begins anew after its first block.
 #[test]
-fn a_nonce_whose_counter_wraps(rt: HostRuntime) -> Result<(), Fail> {
+fn a_nonce_whose_counter_wraps(rt: HostRuntime) {
     let mut nonce = [0u8; 32];
     nonce[16..].copy_from_slice(&[0xff; 16]);
     let text = "aaaaaaaaaaaaaaaaaaaaaaaaaaaaaaaaa";
     assert_eq!(rt; text.len(), 33);
     'kinds: for kind in [Kind::V1Local, Kind::V3Local, Kind::V4Local] {
-        let payload = payload_under(rt.alloc(), kind, &nonce, text.as_bytes(), Binding::NONE)?;
-        let token = token_of_payload(rt.alloc(), kind, &payload)?;
-        let opened = kind.read(rt.alloc(), token.as_str(), Binding::NONE)?;
+        let payload = payload_under(
+            &rt,
+            rt.alloc(),
+            kind,
+            &nonce,
+            text.as_bytes(),
+            Binding::NONE,
+        );
+        let token = token_of_payload(&rt, rt.alloc(), kind, &payload);
+        let opened = kind
+            .read(rt.alloc(), token.as_str(), Binding::NONE)
+            .expect(&rt, "a text");
         assert_eq!(rt; opened.as_str(), text, "{kind:?}");
     }
-    Ok(())
 }

@@ -6,28 +6,37 @@ use crate::long::text_of;
 use rusty_paseto_core::{Key, Local, Paseto, PasetoError, PasetoNonce, Payload, V2};
 use std::alloc::Global;
 use std::process::Abort;
-use std::test::Fail;
 
 // A text of so many letters comes back.
-fn check_text(rt: &impl Abort, alloc: Global, kind: Kind, letters: usize) -> Result<(), Fail> {
-    let text = text_of(alloc, letters)?;
-    let token = kind.make(alloc, text.as_str(), Binding::NONE)?;
-    let same = kind.read(alloc, token.as_str(), Binding::NONE)?;
+fn check_text(rt: &impl Abort, alloc: Global, kind: Kind, letters: usize) {
+    let text = text_of(alloc, letters).expect(rt, "memory");
+    let token = kind
+        .make(alloc, text.as_str(), Binding::NONE)
+        .expect(rt, "a token");
+    let same = kind
+        .read(alloc, token.as_str(), Binding::NONE)
+        .expect(rt, "a text");
     assert!(rt; same.as_str() == text.as_str(), "{kind:?} {letters}");
-    Ok(())
 }
 
 // A text of so many letters comes back in version 2, by a box that takes any message.
-fn check_boxed_text(rt: &impl Abort, alloc: Global, letters: usize) -> Result<(), Fail> {
-    let text = text_of(alloc, letters)?;
+fn check_boxed_text(rt: &impl Abort, alloc: Global, letters: usize) {
+    let text = text_of(alloc, letters).expect(rt, "memory");
     let key = symmetric_key::<V2>(&SECRET);
     let nonce = Key::from([0u8; 32]);
     let mut paseto = Paseto::<V2, Local>::builder();
     paseto.set_payload(Payload::from(text.as_str()));
-    let token = paseto.try_encrypt(alloc, &PlainBox, &key, &PasetoNonce::from(&nonce))?;
-    let same = Paseto::<V2, Local>::try_decrypt(alloc, &PlainBox, token.as_str(), &key, None)?;
+    let token = paseto
+        .try_encrypt(alloc, &PlainBox, &key, &PasetoNonce::from(&nonce))
+        .expect(rt, "a token");
+    let same = Paseto::<V2, Local>::try_decrypt(
+        alloc,
+        &PlainBox,
+        token.as_str(),
+        &key,
+        None,
+    ).expect(rt, "a text");
     assert!(rt; same.as_str() == text.as_str(), "{letters}");
-    Ok(())
 }
 
 // The kinds that take a text of any length, version 2 aside.
@@ -42,39 +51,41 @@ const ENDLESS_KINDS: [Kind; 7] = [
 ];
 
 #[test]
-fn a_hundred_thousand_letters(rt: HostRuntime) -> Result<(), Fail> {
+fn a_hundred_thousand_letters(rt: HostRuntime) {
     'kinds: for kind in ENDLESS_KINDS {
-        check_text(&rt, rt.alloc(), kind, 100_000)?;
+        check_text(&rt, rt.alloc(), kind, 100_000);
     }
-    check_boxed_text(&rt, rt.alloc(), 100_000)
+    check_boxed_text(&rt, rt.alloc(), 100_000);
 }
 
 #[test]
-fn a_million_letters(rt: HostRuntime) -> Result<(), Fail> {
+fn a_million_letters(rt: HostRuntime) {
     'kinds: for kind in ENDLESS_KINDS {
-        check_text(&rt, rt.alloc(), kind, 1_000_000)?;
+        check_text(&rt, rt.alloc(), kind, 1_000_000);
     }
-    check_boxed_text(&rt, rt.alloc(), 1_000_000)
+    check_boxed_text(&rt, rt.alloc(), 1_000_000);
 }
 
 #[test]
-fn long_footers(rt: HostRuntime) -> Result<(), Fail> {
-    let footer = text_of(rt.alloc(), 100_000)?;
+fn long_footers(rt: HostRuntime) {
+    let footer = text_of(rt.alloc(), 100_000).expect(&rt, "memory");
     let binding = Binding::of_footer(Some(footer.as_str()));
     'kinds: for kind in KINDS {
-        let token = kind.make(rt.alloc(), "hello", binding)?;
-        let text = kind.read(rt.alloc(), token.as_str(), binding)?;
+        let token = kind
+            .make(rt.alloc(), "hello", binding)
+            .expect(&rt, "a token");
+        let text = kind
+            .read(rt.alloc(), token.as_str(), binding)
+            .expect(&rt, "a text");
         assert_eq!(rt; text.as_str(), "hello", "{kind:?}");
     }
-    Ok(())
 }
 
 // The longest text that the toy box takes, and one that is too long for it.
 #[test]
-fn the_longest_text_of_a_box(rt: HostRuntime) -> Result<(), Fail> {
-    check_text(&rt, rt.alloc(), Kind::V2Local, 4_096)?;
-    let text = text_of(rt.alloc(), 4_097)?;
+fn the_longest_text_of_a_box(rt: HostRuntime) {
+    check_text(&rt, rt.alloc(), Kind::V2Local, 4_096);
+    let text = text_of(rt.alloc(), 4_097).expect(&rt, "memory");
     let answer = Kind::V2Local.make(rt.alloc(), text.as_str(), Binding::NONE);
     assert!(rt; matches!(&answer, Err(PasetoError::ChaChaCipherError)));
-    Ok(())
 }

@@ -14,7 +14,6 @@ use rusty_paseto_core::{
 };
 use std::alloc::Global;
 use std::process::Abort;
-use std::test::Fail;
 
 // Signs under a key by a scheme, and counts.
 fn sign_by<V: ToyVersion + Signs<Counting<S>>, S>(
@@ -38,13 +37,7 @@ where
 }
 
 // The scheme that refuses everything is asked once, and what it answers is the answer.
-fn check_refusing<V>(
-    rt: &impl Abort,
-    alloc: Global,
-    kind: Kind,
-    token: &str,
-    asked: Call,
-) -> Result<(), Fail>
+fn check_refusing<V>(rt: &impl Abort, alloc: Global, kind: Kind, token: &str, asked: Call)
 where
     V: ToyVersion + Signs<Counting<Refusing>> + Verifies<Counting<Refusing>>,
 {
@@ -53,29 +46,27 @@ where
     assert!(rt; matches!(&answer, Err(PasetoError::Signature)), "{kind:?}");
     assert_eq!(rt; calls, Calls::once(asked), "{kind:?}");
     let scheme = Counting::new(Refusing);
-    let key = V::public_key(&keys)?;
+    let key = V::public_key(&keys).expect(rt, "a key");
     let answer = V::verify(alloc, &scheme, token, &key, None, V::bound(None));
     assert!(rt; matches!(&answer, Err(PasetoError::Signature)), "{kind:?}");
     assert_eq!(rt; scheme.calls(), Calls::once(Call::Verify), "{kind:?}");
-    Ok(())
 }
 
 // In version 3 a scheme that tells no public key is not asked for a signature.
 #[test]
-fn a_scheme_that_refuses(rt: HostRuntime) -> Result<(), Fail> {
+fn a_scheme_that_refuses(rt: HostRuntime) {
     'kinds: for (kind, letters) in LETTERS {
         let alloc = rt.alloc();
-        let token = token_of_zeros(alloc, kind, letters)?;
+        let token = token_of_zeros(&rt, alloc, kind, letters);
         let token = token.as_str();
         match kind {
-            Kind::V1Public => check_refusing::<V1>(&rt, alloc, kind, token, Call::Sign)?,
-            Kind::V2Public => check_refusing::<V2>(&rt, alloc, kind, token, Call::Sign)?,
-            Kind::V3Public => check_refusing::<V3>(&rt, alloc, kind, token, Call::PublicKey)?,
-            Kind::V4Public => check_refusing::<V4>(&rt, alloc, kind, token, Call::Sign)?,
+            Kind::V1Public => check_refusing::<V1>(&rt, alloc, kind, token, Call::Sign),
+            Kind::V2Public => check_refusing::<V2>(&rt, alloc, kind, token, Call::Sign),
+            Kind::V3Public => check_refusing::<V3>(&rt, alloc, kind, token, Call::PublicKey),
+            Kind::V4Public => check_refusing::<V4>(&rt, alloc, kind, token, Call::Sign),
             _ => {}
         }
     }
-    Ok(())
 }
 
 // Keys that are a byte too short and a byte too long.

@@ -14,7 +14,7 @@ use rusty_paseto_primitives::{
     xchacha20_apply,
 };
 use std::alloc::Global;
-use std::test::Fail;
+use std::process::Abort;
 
 /// The key of local tokens.
 pub(crate) const KEY: [u8; 32] = [7; 32];
@@ -25,13 +25,14 @@ const AUTHENTICATION: &[u8; 24] = b"paseto-auth-key-for-aead";
 
 /// A token of any payload, with no footer.
 pub(crate) fn token_of_payload(
+    rt: &impl Abort,
     alloc: Global,
     kind: Kind,
     payload: &[u8],
-) -> Result<String, PasetoError> {
+) -> String {
     let header = kind.header();
-    let section = to_section(alloc, payload)?;
-    Ok(format!(in alloc; "{header}{section}")?)
+    let section = to_section(alloc, payload).expect(rt, "a section");
+    format!(in alloc; "{header}{section}").expect(rt, "memory")
 }
 
 // What a salt and the info give under the key.
@@ -44,58 +45,65 @@ fn derived<const N: usize>(salt: &[u8], info: &[u8]) -> [u8; N]
 }
 
 // Masks data of version 1.
-fn mask_v1(nonce: &[u8; 32], data: &mut [u8]) -> Result<(), Fail> {
+fn mask_v1(rt: &impl Abort, nonce: &[u8; 32], data: &mut [u8]) {
     let key: [u8; 32] = derived(&nonce[..16], ENCRYPTION);
-    let counter = nonce.last_chunk::<16>().ok_or("no counter")?;
+    let counter = nonce.last_chunk::<16>().expect(rt, "a counter");
     aes256_ctr_apply(&key, counter, data);
-    Ok(())
 }
 
 // Masks data of version 3.
-fn mask_v3(nonce: &[u8; 32], data: &mut [u8]) -> Result<(), Fail> {
+fn mask_v3(rt: &impl Abort, nonce: &[u8; 32], data: &mut [u8]) {
     let mut info = [0u8; 53];
     info[..21].copy_from_slice(ENCRYPTION);
     info[21..].copy_from_slice(nonce);
     let keys: [u8; 48] = derived(&[], &info);
-    let key = keys.first_chunk::<32>().ok_or("no key")?;
-    let counter = keys.last_chunk::<16>().ok_or("no counter")?;
+    let key = keys.first_chunk::<32>().expect(rt, "a key");
+    let counter = keys.last_chunk::<16>().expect(rt, "a counter");
     aes256_ctr_apply(key, counter, data);
-    Ok(())
 }
 
 // Masks data of version 4.
-fn mask_v4(nonce: &[u8; 32], data: &mut [u8]) -> Result<(), Fail> {
+fn mask_v4(rt: &impl Abort, nonce: &[u8; 32], data: &mut [u8]) {
     let mut message = [0u8; 53];
     message[..21].copy_from_slice(ENCRYPTION);
     message[21..].copy_from_slice(nonce);
     let keys: [u8; 56] = blake2b_keyed(&KEY, &message);
-    let key = keys.first_chunk::<32>().ok_or("no key")?;
-    let start = keys.last_chunk::<24>().ok_or("no start")?;
+    let key = keys.first_chunk::<32>().expect(rt, "a key");
+    let start = keys.last_chunk::<24>().expect(rt, "a start");
     xchacha20_apply(key, start, data);
-    Ok(())
 }
 
 // The tag of an encoding, in the versions 1, 3 and 4.
-fn tag_of(alloc: Global, kind: Kind, nonce: &[u8; 32], encoding: &[u8]) -> Result<Vec<u8>, Fail> {
+fn tag_of(
+    rt: &impl Abort,
+    alloc: Global,
+    kind: Kind,
+    nonce: &[u8; 32],
+    encoding: &[u8],
+) -> Vec<u8> {
     let mut info = [0u8; 56];
     info[..24].copy_from_slice(AUTHENTICATION);
     info[24..].copy_from_slice(nonce);
     let tag = match kind {
         Kind::V1Local => {
             let key: [u8; 32] = derived(&nonce[..16], AUTHENTICATION);
-            hmac_sha384(&key, encoding).to_vec(alloc)?
+            hmac_sha384(&key, encoding)
+                .to_vec(alloc)
+                .expect(rt, "memory")
         }
         Kind::V3Local => {
             let key: [u8; 48] = derived(&[], &info);
-            hmac_sha384(&key, encoding).to_vec(alloc)?
+            hmac_sha384(&key, encoding)
+                .to_vec(alloc)
+                .expect(rt, "memory")
         }
         _ => {
             let key: [u8; 32] = blake2b_keyed(&KEY, &info);
             let digest: [u8; 32] = blake2b_keyed(&key, encoding);
-            digest.to_vec(alloc)?
+            digest.to_vec(alloc).expect(rt, "memory")
         }
     };
-    Ok(tag)
+    tag
 }
 
 // The pieces that may be bound.
@@ -111,17 +119,18 @@ fn pieces<'a>(
 
 /// The payload of a local token of version 1, 3 or 4 under a nonce.
 pub(crate) fn payload_under(
+    rt: &impl Abort,
     alloc: Global,
     kind: Kind,
     nonce: &[u8; 32],
     text: &[u8],
     binding: Binding<'_>,
-) -> Result<Vec<u8>, Fail> {
-    let mut masked = text.to_vec(alloc)?;
+) -> Vec<u8> {
+    let mut masked = text.to_vec(alloc).expect(rt, "memory");
     match kind {
-        Kind::V1Local => mask_v1(nonce, masked.as_mut_slice())?,
-        Kind::V3Local => mask_v3(nonce, masked.as_mut_slice())?,
-        _ => mask_v4(nonce, masked.as_mut_slice())?,
+        Kind::V1Local => mask_v1(rt, nonce, masked.as_mut_slice()),
+        Kind::V3Local => mask_v3(rt, nonce, masked.as_mut_slice()),
+        _ => mask_v4(rt, nonce, masked.as_mut_slice()),
     }
     let pieces = pieces(
         kind.header().as_bytes(),
@@ -135,17 +144,20 @@ pub(crate) fn payload_under(
     } else {
         5usize
     };
-    let encoding = PreAuthenticationEncoding::parse(alloc, &pieces[..end])?;
-    let tag = tag_of(alloc, kind, nonce, encoding.as_bytes())?;
+    let encoding = PreAuthenticationEncoding::parse(alloc, &pieces[..end]).expect(
+        rt,
+        "an encoding",
+    );
+    let tag = tag_of(rt, alloc, kind, nonce, encoding.as_bytes());
     let mut payload = Vec::new(alloc);
-    payload.extend_from_slice(nonce)?;
-    payload.extend_from_slice(&masked)?;
-    payload.extend_from_slice(&tag)?;
-    Ok(payload)
+    payload.extend_from_slice(nonce).expect(rt, "memory");
+    payload.extend_from_slice(&masked).expect(rt, "memory");
+    payload.extend_from_slice(&tag).expect(rt, "memory");
+    payload
 }
 
 // The payload of a local token of version 2.
-fn boxed_payload(alloc: Global, text: &[u8], binding: Binding<'_>) -> Result<Vec<u8>, Fail> {
+fn boxed_payload(rt: &impl Abort, alloc: Global, text: &[u8], binding: Binding<'_>) -> Vec<u8> {
     let nonce = [0u8; 24];
     let pieces = pieces(
         Kind::V2Local.header().as_bytes(),
@@ -154,46 +166,68 @@ fn boxed_payload(alloc: Global, text: &[u8], binding: Binding<'_>) -> Result<Vec
         b"",
         b"",
     );
-    let data = PreAuthenticationEncoding::parse(alloc, &pieces[..3])?;
-    let found = ToyBox.seal(alloc, &KEY, &nonce, data.as_bytes(), text)?;
+    let data = PreAuthenticationEncoding::parse(alloc, &pieces[..3]).expect(rt, "an encoding");
+    let found = ToyBox
+        .seal(alloc, &KEY, &nonce, data.as_bytes(), text)
+        .expect(rt, "memory");
     let mut payload = Vec::new(alloc);
-    payload.extend_from_slice(&nonce)?;
-    payload.extend_from_slice(&found.ok_or("no sealing")?)?;
-    Ok(payload)
+    payload.extend_from_slice(&nonce).expect(rt, "memory");
+    payload
+        .extend_from_slice(&found.expect(rt, "a sealing"))
+        .expect(rt, "memory");
+    payload
 }
 
 // The toy's signature of a message.
-fn signature_of(alloc: Global, kind: Kind, message: &[u8]) -> Result<Vec<u8>, Fail> {
+fn signature_of(rt: &impl Abort, alloc: Global, kind: Kind, message: &[u8]) -> Vec<u8> {
     let signature = match kind {
-        Kind::V1Public => ToyV1.sign(alloc, &SECRET, message)?.to_vec(alloc)?,
-        Kind::V2Public => ToyV2.sign(alloc, &SECRET, message)?.to_vec(alloc)?,
-        Kind::V3Public => ToyV3.sign(alloc, &SECRET[..48], message)?.to_vec(alloc)?,
-        _ => ToyV4.sign(alloc, &SECRET, message)?.to_vec(alloc)?,
+        Kind::V1Public => ToyV1
+            .sign(alloc, &SECRET, message)
+            .expect(rt, "a signature")
+            .to_vec(alloc)
+            .expect(rt, "memory"),
+        Kind::V2Public => ToyV2
+            .sign(alloc, &SECRET, message)
+            .expect(rt, "a signature")
+            .to_vec(alloc)
+            .expect(rt, "memory"),
+        Kind::V3Public => ToyV3
+            .sign(alloc, &SECRET[..48], message)
+            .expect(rt, "a signature")
+            .to_vec(alloc)
+            .expect(rt, "memory"),
+        _ => ToyV4
+            .sign(alloc, &SECRET, message)
+            .expect(rt, "a signature")
+            .to_vec(alloc)
+            .expect(rt, "memory"),
     };
-    Ok(signature)
+    signature
 }
 
 /// The payload of a public token: a text, and the signature of these pieces.
 pub(crate) fn signed_payload(
+    rt: &impl Abort,
     alloc: Global,
     kind: Kind,
     text: &[u8],
     pieces: &[&[u8]],
-) -> Result<Vec<u8>, Fail> {
-    let encoding = PreAuthenticationEncoding::parse(alloc, pieces)?;
-    let signature = signature_of(alloc, kind, encoding.as_bytes())?;
-    let mut payload = text.to_vec(alloc)?;
-    payload.extend_from_slice(&signature)?;
-    Ok(payload)
+) -> Vec<u8> {
+    let encoding = PreAuthenticationEncoding::parse(alloc, pieces).expect(rt, "an encoding");
+    let signature = signature_of(rt, alloc, kind, encoding.as_bytes());
+    let mut payload = text.to_vec(alloc).expect(rt, "memory");
+    payload.extend_from_slice(&signature).expect(rt, "memory");
+    payload
 }
 
 // The payload of a public token whose signature covers what the version binds.
 fn bound_payload(
+    rt: &impl Abort,
     alloc: Global,
     kind: Kind,
     text: &[u8],
     binding: Binding<'_>,
-) -> Result<Vec<u8>, Fail> {
+) -> Vec<u8> {
     let public = toy_partner_v3(&SECRET[..48]);
     let pieces = pieces(
         &public,
@@ -206,21 +240,22 @@ fn bound_payload(
     let binds_assertion = kind == Kind::V3Public || kind == Kind::V4Public;
     let start = if binds_key { 0usize } else { 1usize };
     let end = if binds_assertion { 5usize } else { 4usize };
-    signed_payload(alloc, kind, text, &pieces[start..end])
+    signed_payload(rt, alloc, kind, text, &pieces[start..end])
 }
 
 /// The payload of any text, bound to the footer and the implicit assertion.
 pub(crate) fn payload_of(
+    rt: &impl Abort,
     alloc: Global,
     kind: Kind,
     text: &[u8],
     binding: Binding<'_>,
-) -> Result<Vec<u8>, Fail> {
+) -> Vec<u8> {
     match kind {
         Kind::V1Local | Kind::V3Local | Kind::V4Local => {
-            payload_under(alloc, kind, &[0; 32], text, binding)
+            payload_under(rt, alloc, kind, &[0; 32], text, binding)
         }
-        Kind::V2Local => boxed_payload(alloc, text, binding),
-        _ => bound_payload(alloc, kind, text, binding),
+        Kind::V2Local => boxed_payload(rt, alloc, text, binding),
+        _ => bound_payload(rt, alloc, kind, text, binding),
     }
 }

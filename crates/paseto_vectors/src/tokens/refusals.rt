@@ -5,7 +5,7 @@ use super::parts::token_of_payload;
 use crate::kinds::{Binding, KINDS, Kind, OTHER_SECRET};
 use rusty_paseto_core::{PasetoError, from_section};
 use std::alloc::Global;
-use std::test::Fail;
+use std::process::Abort;
 
 /// The letters of the shortest payload that is looked at. In version 2 local 32 letters spell 24 bytes, a
 /// nonce and an empty box; elsewhere they spell a nonce and a tag, or a signature.
@@ -21,12 +21,12 @@ pub(crate) const LETTERS: [(Kind, usize); 8] = [
 ];
 
 #[test]
-fn other_keys_and_footers(rt: HostRuntime) -> Result<(), Fail> {
+fn other_keys_and_footers(rt: HostRuntime) {
     let alloc = rt.alloc();
     let own = Binding::of_footer(Some("footer"));
     'kinds: for kind in KINDS {
-        let token = kind.make(alloc, "hello", own)?;
-        let text = kind.read(alloc, token.as_str(), own)?;
+        let token = kind.make(alloc, "hello", own).expect(&rt, "a token");
+        let text = kind.read(alloc, token.as_str(), own).expect(&rt, "a text");
         assert_eq!(rt; text.as_str(), "hello", "{kind:?}");
         let (answer, _) = kind.read_counted(alloc, &OTHER_SECRET, token.as_str(), own);
         assert!(rt; kind.is_refused(&answer), "{kind:?}");
@@ -37,46 +37,47 @@ fn other_keys_and_footers(rt: HostRuntime) -> Result<(), Fail> {
             "{kind:?}"
         );
         let (made, _) = kind.make_counted(alloc, &OTHER_SECRET, "hello", own);
-        let token = made?;
+        let token = made.expect(&rt, "a token");
         let answer = kind.read(alloc, token.as_str(), own);
         assert!(rt; kind.is_refused(&answer), "{kind:?}");
         let (read, _) = kind.read_counted(alloc, &OTHER_SECRET, token.as_str(), own);
-        assert_eq!(rt; read?.as_str(), "hello", "{kind:?}");
+        assert_eq!(rt; read.expect(&rt, "a text").as_str(), "hello", "{kind:?}");
     }
-    Ok(())
 }
 
 // A token with no footer whose payload has another first and last byte.
 fn with_changes(
+    rt: &impl Abort,
     alloc: Global,
     kind: Kind,
     token: &str,
     first_change: u8,
     last_change: u8,
-) -> Result<String, Fail> {
-    let section = token.strip_prefix(kind.header()).ok_or("no header")?;
-    let mut payload = from_section(alloc, section)?;
+) -> String {
+    let section = token.strip_prefix(kind.header()).expect(rt, "a header");
+    let mut payload = from_section(alloc, section).expect(rt, "bytes");
     if let Some(first) = payload.first_mut() {
         *first ^= first_change;
     }
     if let Some(last) = payload.last_mut() {
         *last ^= last_change;
     }
-    Ok(token_of_payload(alloc, kind, &payload)?)
+    token_of_payload(rt, alloc, kind, &payload)
 }
 
 // Another nonce or another text, and another tag or another signature.
 #[test]
-fn other_payloads(rt: HostRuntime) -> Result<(), Fail> {
+fn other_payloads(rt: HostRuntime) {
     'kinds: for kind in KINDS {
-        let token = kind.make(rt.alloc(), "hello", Binding::NONE)?;
-        let kept = with_changes(rt.alloc(), kind, token.as_str(), 0, 0)?;
+        let token = kind
+            .make(rt.alloc(), "hello", Binding::NONE)
+            .expect(&rt, "a token");
+        let kept = with_changes(&rt, rt.alloc(), kind, token.as_str(), 0, 0);
         assert_eq!(rt; kept.as_str(), token.as_str(), "{kind:?}");
         'changes: for (first, last) in [(1, 0), (0, 1), (0, 128)] {
-            let changed = with_changes(rt.alloc(), kind, token.as_str(), first, last)?;
+            let changed = with_changes(&rt, rt.alloc(), kind, token.as_str(), first, last);
             let answer = kind.read(rt.alloc(), changed.as_str(), Binding::NONE);
             assert!(rt; kind.is_refused(&answer), "{kind:?} {first} {last}");
         }
     }
-    Ok(())
 }

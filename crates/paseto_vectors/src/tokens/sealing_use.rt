@@ -4,7 +4,6 @@ use rusty_paseto_core::{
     Footer, Key, Local, Paseto, PasetoError, PasetoNonce, PasetoSymmetricKey, Payload, V4,
 };
 use std::alloc::Global;
-use std::test::Fail;
 
 /// Seals a message, and opens it again.
 fn there_and_back(
@@ -26,9 +25,8 @@ fn there_and_back(
 }
 
 #[test]
-fn a_message_comes_back(rt: HostRuntime) -> Result<(), Fail> {
+fn a_message_comes_back(rt: HostRuntime) {
     let digits = "000102030405060708090a0b0c0d0e0f101112131415161718191a1b1c1d1e1f";
-    let message = there_and_back(rt.alloc(), digits, digits)?;
+    let message = there_and_back(rt.alloc(), digits, digits).expect(&rt, "a message");
     assert_eq!(rt; message.as_str(), "a message");
-    Ok(())
 }
