@@ -12,7 +12,7 @@ use crate::toys::{Lenient, PlainBox, Refuses, Zeros, refusing};
 use anyhow::{Result, ensure};
 use rusty_paseto::prelude::{
     AudienceClaim, BoxlessVersion, CustomClaim, Local, PasetoBuilder, PasetoParser, Public,
-    PurposeTrait, Signs, V1, V2, V3, V4, Verifies, VersionTrait, fits_default,
+    PurposeTrait, Signs, V1, V2, V3, V4, ValidatorFn, Verifies, VersionTrait, fits_default,
 };
 use std::alloc::Global;
 use std::io::Write;
@@ -237,14 +237,14 @@ fn ask_validators<W: Write>(run: &mut Run<W>) -> Result<()> {
     run.change(
         case,
         two_parsers::<V4, Local>(alloc)?,
-        refusing(alloc)?,
+        refusing!(alloc),
         |parser, validator| { parser.put_validator(&claim, validator) },
     )?;
     let case = Case::of("DefaultParser::validate_claim", "a claim");
     run.change(
         case,
         two_parsers::<V4, Local>(alloc)?,
-        refusing(alloc)?,
+        refusing!(alloc),
         |parser, validator| {
             match parser.validate_claim(&claim, validator) {
                 Ok(_) => Ok(()),

@@ -13,7 +13,7 @@ use anyhow::Result;
 use jiff::Timestamp;
 use rusty_paseto::prelude::{
     AudienceClaim, CustomClaim, GenericParser, Local, Public, PurposeTrait, Signs, UnboxedVersion,
-    V1, V2, V3, V4, ValidatorMap, Verifies, VersionTrait,
+    V1, V2, V3, V4, ValidatorFn, ValidatorMap, Verifies, VersionTrait,
 };
 use serde_json::Value;
 use std::alloc::Global;
@@ -45,6 +45,7 @@ pub fn ask<W: Write>(run: &mut Run<W>) -> Result<()> {
     ask_validators(run)?;
     ask_several_checks(run)?;
     ask_several_validators(run)?;
+    ask_lent_validators(run)?;
     ask_times(run)?;
     ask_kinds(run)
 }
@@ -134,7 +135,7 @@ fn ask_refused_check<W: Write>(run: &mut Run<W>) -> Result<()> {
     run.change(
         case,
         two_parsers(alloc)?,
-        refusing(alloc)?,
+        refusing!(alloc),
         |parser, validator| { parser.put_validator(&claim, validator) },
     )
 }
@@ -146,14 +147,14 @@ fn ask_validators<W: Write>(run: &mut Run<W>) -> Result<()> {
     run.change(
         case,
         two_parsers(alloc)?,
-        refusing(alloc)?,
+        refusing!(alloc),
         |parser, validator| { parser.put_validator(&claim, validator) },
     )?;
     let case = Case::of("TokenParser::validate_claim", "a claim");
     run.change(
         case,
         two_parsers(alloc)?,
-        refusing(alloc)?,
+        refusing!(alloc),
         |parser, validator| {
             match parser.validate_claim(&claim, validator) {
                 Ok(_) => Ok(()),
@@ -186,31 +187,39 @@ fn ask_several_checks<W: Write>(run: &mut Run<W>) -> Result<()> {
 }
 
 // Validators of three keys, the last of which has a stored value already.
-fn validators(alloc: Global) -> Result<ValidatorMap> {
+fn validators(alloc: Global, boxes: [ValidatorFn; 3]) -> Result<ValidatorMap> {
     let mut map = BTreeMap::new(alloc);
-    let [first, second, third] = refusing(alloc)?;
+    let [first, second, third] = boxes;
     drop(map.insert(String::from_str(alloc, "a")?, first)?);
     drop(map.insert(String::from_str(alloc, "aud")?, second)?);
     drop(map.insert(String::from_str(alloc, "seats")?, third)?);
     Ok(map)
 }
 
-fn three_validator_maps(alloc: Global) -> Result<[ValidatorMap; 3]> {
-    Ok([validators(alloc)?, validators(alloc)?, validators(alloc)?])
-}
-
 fn ask_several_validators<W: Write>(run: &mut Run<W>) -> Result<()> {
     let alloc = run.alloc();
     let case = Case::of("TokenParser::put_validators", "a map");
-    let maps = three_validator_maps(alloc)?;
+    let maps = [
+        validators(alloc, refusing!(alloc))?,
+        validators(alloc, refusing!(alloc))?,
+        validators(alloc, refusing!(alloc))?,
+    ];
     run.change(
         case,
         two_parsers(alloc)?,
         maps,
         |parser, map| parser.put_validators(map),
-    )?;
+    )
+}
+
+fn ask_lent_validators<W: Write>(run: &mut Run<W>) -> Result<()> {
+    let alloc = run.alloc();
     let case = Case::of("TokenParser::extend_validation_claims", "a map");
-    let maps = three_validator_maps(alloc)?;
+    let maps = [
+        validators(alloc, refusing!(alloc))?,
+        validators(alloc, refusing!(alloc))?,
+        validators(alloc, refusing!(alloc))?,
+    ];
     run.change(case, two_parsers(alloc)?, maps, |parser, map| {
         match parser.extend_validation_claims(map) {
             Ok(_) => Ok(()),
@@ -351,18 +360,14 @@ fn ask_failed_check<W: Write>(run: &mut Run<W>, of: &str, payload: &str) -> Resu
     )
 }
 
-/// A parser that judges three claims by validators too.
-fn judging(alloc: Global) -> Result<GenericParser<'static, V4, Local>> {
-    let mut parser = parser_of(alloc)?;
-    parser.put_validators(validators(alloc)?)?;
-    Ok(parser)
-}
-
 fn ask_failed_validation<W: Write>(run: &mut Run<W>) -> Result<()> {
     let alloc = run.alloc();
     let token = seal::<V4>(alloc, expired(alloc)?.as_str())?;
     let key = symmetric_key::<V4>();
-    let (untouched, parser) = (judging(alloc)?, judging(alloc)?);
+    let mut untouched = parser_of::<V4, Local>(alloc)?;
+    let mut parser = parser_of::<V4, Local>(alloc)?;
+    untouched.put_validators(validators(alloc, refusing!(alloc))?)?;
+    parser.put_validators(validators(alloc, refusing!(alloc))?)?;
     let case = Case::refused("TokenParser::parse", "what a validator refuses");
     run.ask(
         case,

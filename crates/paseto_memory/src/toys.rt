@@ -8,7 +8,6 @@ ghost use Rattle.paseto_memory.specs.PlainBox.{plain-IsLawfulBox};
 use rand_core::{Infallible, TryRng};
 use rusty_paseto::prelude::{
     CompressedKey, PasetoClaimError, PasetoError, SealedBox, SignatureScheme, Validator,
-    ValidatorFn,
 };
 use serde_json::Value;
 use std::alloc::{AllocError, Global};
@@ -101,14 +100,18 @@ impl Validator for Refuses {
 }
 
 /// So many boxes with such a validator as `Run::change` takes.
-pub fn refusing(alloc: Global) -> Result<[ValidatorFn; 3], AllocError> {
-    let boxes: [ValidatorFn; 3] = [
-        Box::new(alloc, Refuses)?,
-        Box::new(alloc, Refuses)?,
-        Box::new(alloc, Refuses)?,
-    ];
-    Ok(boxes)
+macro_rules! refusing {
+    ($alloc:expr) => {{
+        let boxes: [ValidatorFn; 3] = [
+            Box::new($alloc, Refuses)?,
+            Box::new($alloc, Refuses)?,
+            Box::new($alloc, Refuses)?,
+        ];
+        boxes
+    }};
 }
+
+pub(crate) use refusing;
 
 /// A generator of zeros.
 #[derive(Drop)]
