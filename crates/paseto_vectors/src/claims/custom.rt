@@ -14,10 +14,10 @@ fn is_reserved(answer: Result<(), PasetoClaimError>, key: &str) -> bool {
 fn reserved_keys_are_refused(rt: HostRuntime) {
     let alloc = rt.alloc();
     'keys: for key in RESERVED {
-        let answer = CustomClaim::try_from_str(alloc, key, "").map(drop);
+        let answer = CustomClaim::try_from_str(alloc, key, 4u64).map(drop);
         assert!(rt; is_reserved(answer, key), "{key}");
         let owned = String::from_str(alloc, key).expect(&rt, "memory");
-        let answer = CustomClaim::try_from_string(owned, "").map(drop);
+        let answer = CustomClaim::try_from_string(owned, true).map(drop);
         assert!(rt; is_reserved(answer, key), "{key}");
         let answer = CustomClaim::<&str>::try_from_key(alloc, key).map(drop);
         assert!(rt; is_reserved(answer, key), "{key}");
@@ -50,6 +50,15 @@ fn written_under_their_keys(rt: HostRuntime) {
     let key = String::from_str(alloc, "seats").expect(&rt, "memory");
     let claim = CustomClaim::try_from_string(key, 4u8).expect(&rt, "a claim");
     json::check(&rt, alloc, &claim, "seats", "{\"seats\":4}");
-    let claim = CustomClaim::<&str>::try_from_key(alloc, "").expect(&rt, "a claim");
-    json::check(&rt, alloc, &claim, "", "{\"\":\"\"}");
+    let claim = CustomClaim::<&str>::try_from_key(alloc, "data").expect(&rt, "a claim");
+    json::check(&rt, alloc, &claim, "data", "{\"data\":\"\"}");
+    let claim = CustomClaim::try_from_str(alloc, "", "this is a secret message");
+    let claim = claim.expect(&rt, "a claim");
+    json::check(
+        &rt,
+        alloc,
+        &claim,
+        "",
+        "{\"\":\"this is a secret message\"}",
+    );
 }

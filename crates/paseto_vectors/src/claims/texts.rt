@@ -54,6 +54,7 @@ fn pairs_of_key_and_text(rt: HostRuntime) {
     let (key, text) = copy.as_pair();
     expect_text(&rt, key, "aud");
     expect_text(&rt, text, "customers");
-    let (_, text) = claim.as_pair();
+    let (key, text) = claim.as_pair();
+    expect_text(&rt, key, "aud");
     expect_text(&rt, text, "customers");
 }

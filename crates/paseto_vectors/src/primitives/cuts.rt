@@ -18,18 +18,33 @@ fn check_cuts(rt: &impl Abort, key: &[u8], message: &[u8]) {
 }
 
 // The lengths of a key and of a message. A key of 128 bytes fills a block, and a longer one is hashed.
-const LENGTHS: [(usize, usize); 12] = [
+const LENGTHS: [(usize, usize); 27] = [
     (0, 128),
+    (0, 257),
     (5, 0),
     (5, 1),
     (5, 111),
     (5, 112),
+    (5, 127),
+    (5, 128),
+    (5, 129),
     (5, 257),
     (32, 257),
+    (128, 0),
+    (128, 1),
+    (128, 111),
+    (128, 112),
     (128, 127),
+    (128, 128),
     (128, 129),
     (128, 257),
+    (129, 0),
+    (129, 1),
+    (129, 111),
+    (129, 112),
+    (129, 127),
     (129, 128),
+    (129, 129),
     (129, 257),
 ];
 

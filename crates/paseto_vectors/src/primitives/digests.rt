@@ -102,16 +102,30 @@ fn check_cuts(rt: &impl Abort, key: &[u8], message: &[u8]) {
 }
 
 // The lengths of a key and of a message.
-const CUT: [(usize, usize); 10] = [
+const CUT: [(usize, usize); 24] = [
     (0, 0),
+    (0, 1),
+    (0, 127),
     (0, 128),
+    (0, 129),
+    (0, 255),
+    (0, 256),
     (0, 257),
+    (32, 0),
     (32, 1),
     (32, 127),
+    (32, 128),
+    (32, 129),
+    (32, 255),
     (32, 256),
+    (32, 257),
     (64, 0),
+    (64, 1),
+    (64, 127),
+    (64, 128),
     (64, 129),
     (64, 255),
+    (64, 256),
     (64, 257),
 ];
 
@@ -122,4 +136,14 @@ fn cut_at_each_place(rt: HostRuntime) {
         let key = bytes.get(..key).expect(&rt, "a key");
         check_cuts(&rt, key, bytes.get(..message).expect(&rt, "a message"));
     }
+}
+
+#[test]
+fn no_update_is_the_empty_message(rt: HostRuntime) {
+    let key = [7u8; 32];
+    let hasher = Blake2b::new(&key, 32);
+    let mut digest = [0u8; 32];
+    hasher.finalize_into(&mut digest);
+    let whole: [u8; 32] = blake2b_keyed(&key, b"");
+    expect_bytes(&rt, &digest, &whole);
 }
