@@ -62,14 +62,23 @@ fn builder_of<V: VersionTrait, P: PurposeTrait>(
     text: &str,
 ) -> Result<GenericBuilder<'static, V, P>> {
     let mut builder = GenericBuilder::new(alloc);
+    fill(&mut builder, alloc, text)?;
+    builder.set_footer(footer());
+    Ok(builder)
+}
+
+fn fill<V: VersionTrait, P: PurposeTrait>(
+    builder: &mut GenericBuilder<'static, V, P>,
+    alloc: Global,
+    text: &str,
+) -> Result<()> {
     builder.put_claim(&AudienceClaim::from("customers"))?;
     builder.put_claim(&CustomClaim::try_from_str(alloc, "data", text)?)?;
     builder.put_claim(&CustomClaim::try_from_str(alloc, "seats", 4u64)?)?;
     'numbers: for number in 0..12u64 {
         builder.put_claim(&numbered(alloc, number)?)?;
     }
-    builder.set_footer(footer());
-    Ok(builder)
+    Ok(())
 }
 
 /// Two of them, of version 4 and local.

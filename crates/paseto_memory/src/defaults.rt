@@ -64,13 +64,23 @@ fn builder_of<V: VersionTrait, P: PurposeTrait>(
     let now = now()?;
     ensure!(fits_default(now), "no default builder begins at the moment");
     let mut builder = PasetoBuilder::default(alloc, now)?;
+    fill(&mut builder, alloc, text, more)?;
+    builder.set_footer(footer());
+    Ok(builder)
+}
+
+fn fill<V: VersionTrait, P: PurposeTrait>(
+    builder: &mut PasetoBuilder<'static, V, P>,
+    alloc: Global,
+    text: &str,
+    more: u64,
+) -> Result<()> {
     builder.put_claim(&AudienceClaim::from("customers"))?;
     builder.put_claim(&CustomClaim::try_from_str(alloc, "data", text)?)?;
     'numbers: for number in 0..more {
         builder.put_claim(&numbered(alloc, number)?)?;
     }
-    builder.set_footer(footer());
-    Ok(builder)
+    Ok(())
 }
 
 /// A parser that checks fifteen claims, and expects the footer.

@@ -33,6 +33,45 @@ impl<'a> Case<'a> {
     }
 }
 
+/// What an object answered before a change, what the change answered, and what the object answered then.
+#[derive(Drop)]
+struct Change {
+    before: Vec<u8>,
+    answer: Answer,
+    after: Vec<u8>,
+}
+
+impl Change {
+    fn made<O, A, E, F>(alloc: Global, object: O, given: A, call: F) -> Result<Change>
+    where
+        O: Told + Drop,
+        A: Drop,
+        E: Refusal,
+        F: FnOnce(&mut O, A) -> Result<(), E>,
+        requires { F.IsAlwaysCallable call }
+    {
+        let mut object = object;
+        let before = object.tell(alloc)?;
+        let answer = Answer::of(alloc, call(&mut object, given))?;
+        let after = object.tell(alloc)?;
+        Ok(Change {
+            before,
+            answer,
+            after,
+        })
+    }
+
+    // A refusal changes nothing, and nothing else is one.
+    fn is_of(&self, case: Case<'_>) -> bool {
+        self.answer.is_refusal() == case.is_refused
+            && (self.before == self.after) == case.is_refused
+    }
+
+    fn is(&self, other: &Change) -> bool {
+        self.before == other.before && self.answer.is(&other.answer) && self.after == other.after
+    }
+}
+
 /// A run over all cases, or over one of them with marks around the call: `memory: begin` and `memory: end`, each
 /// written in one piece. Memory may be refused between the two.
 #[derive(Drop)]
@@ -132,27 +171,43 @@ impl<W: Write> Run<W> {
         if !self.is_asked(name.as_str()) {
             return Ok(());
         }
-        let alloc = self.alloc;
-        let [mut untouched, mut object] = objects;
+        let [untouched, object] = objects;
         let [first, second, third] = given;
-        let before = untouched.tell(alloc)?;
-        let expected = Answer::of(alloc, call(&mut untouched, first))?;
-        let after = untouched.tell(alloc)?;
-        if expected.is_refusal() != case.is_refused || (before == after) != case.is_refused {
+        let right = Change::made(self.alloc, untouched, first, call)?;
+        if !right.is_of(case) {
             bail!("{name}: this is another answer than the case is about");
         }
+        let (word, then) = self.change_marked(&right, object, [second, third], call)?;
+        self.tell(name.as_str(), word, then)
+    }
+
+    // The word for what the change answers between the marks, and whether the object is then right.
+    fn change_marked<O, A, E, F>(
+        &mut self,
+        right: &Change,
+        object: O,
+        given: [A; 2],
+        call: F,
+    ) -> Result<(&'static str, bool)>
+    where
+        O: Told + Drop,
+        A: Drop,
+        E: Refusal,
+        F: Copy + FnOnce(&mut O, A) -> Result<(), E>,
+        requires { F.IsAlwaysCallable call }
+    {
+        let mut object = object;
+        let [given, again] = given;
         self.mark("memory: begin\n")?;
-        let met = call(&mut object, second);
+        let met = call(&mut object, given);
         self.mark("memory: end\n")?;
-        let met = Answer::of(alloc, met)?;
-        let state = object.tell(alloc)?;
+        let met = Answer::of(self.alloc, met)?;
         let then = if met.is_memory() {
-            let again = Answer::of(alloc, call(&mut object, third))?;
-            state == before && again.is(&expected) && object.tell(alloc)? == after
+            Change::made(self.alloc, object, again, call)?.is(right)
         } else {
-            state == after
+            object.tell(self.alloc)? == right.after
         };
-        self.tell(name.as_str(), met.word(&expected), then)
+        Ok((met.word(&right.answer), then))
     }
 
     fn name(&self, case: Case<'_>) -> Result<String> {

@@ -34,7 +34,7 @@ pub(crate) enum Kind {
 }
 
 /// All kinds.
-pub(crate) const KINDS: [Kind; 8] = [
+pub(crate) const KINDS: &[Kind] = &[
     Kind::V1Local,
     Kind::V2Local,
     Kind::V3Local,
@@ -46,7 +46,7 @@ pub(crate) const KINDS: [Kind; 8] = [
 ];
 
 /// The kinds that show their text, and are signed by a scheme.
-pub(crate) const PUBLIC_KINDS: [Kind; 4] = [
+pub(crate) const PUBLIC_KINDS: &[Kind] = &[
     Kind::V1Public,
     Kind::V2Public,
     Kind::V3Public,
@@ -54,7 +54,7 @@ pub(crate) const PUBLIC_KINDS: [Kind; 4] = [
 ];
 
 /// The kinds that are bound to an implicit assertion.
-pub(crate) const ASSERTED_KINDS: [Kind; 4] = [
+pub(crate) const ASSERTED_KINDS: &[Kind] = &[
     Kind::V3Local,
     Kind::V4Local,
     Kind::V3Public,

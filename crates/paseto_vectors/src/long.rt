@@ -3,7 +3,7 @@
 use std::alloc::{AllocError, Global};
 
 /// A hundred thousand letters and a million.
-pub(crate) const LENGTHS: [usize; 2] = [100_000, 1_000_000];
+pub(crate) const LENGTHS: &[usize] = &[100_000, 1_000_000];
 
 /// A text of so many letters `x`.
 pub(crate) fn text_of(alloc: Global, letters: usize) -> Result<String, AllocError> {

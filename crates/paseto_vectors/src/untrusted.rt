@@ -107,7 +107,7 @@ fn characters_in_order(rt: HostRuntime) {
 #[test]
 fn long_footers(rt: HostRuntime) {
     let alloc = rt.alloc();
-    'lengths: for length in LENGTHS {
+    'lengths: for &length in LENGTHS {
         let footer = text_of(alloc, length).expect(&rt, "memory");
         let section = to_section(alloc, footer.as_bytes()).expect(&rt, "a section");
         let token = format!(in alloc; "v4.local.payload.{section}").expect(&rt, "memory");

@@ -76,7 +76,7 @@ fn token_of(kind: Kind, alloc: Global, audience: &str, binding: Binding<'_>) -> 
 #[test]
 fn the_cores_tokens(rt: HostRuntime) {
     let alloc = rt.alloc();
-    'kinds: for kind in KINDS {
+    'kinds: for &kind in KINDS {
         'footers: for footer in [None, Some(""), Some("key-1")] {
             let binding = Binding::of_footer(footer);
             let token = token_of(kind, alloc, "customers", binding).expect(&rt, "a token");
@@ -98,7 +98,7 @@ fn with_an_assertion(rt: HostRuntime) {
         footer: Some("key-1"),
         assertion: Some("more"),
     };
-    'kinds: for kind in ASSERTED_KINDS {
+    'kinds: for &kind in ASSERTED_KINDS {
         let token = token_of(kind, alloc, "customers", binding).expect(&rt, "a token");
         let wanted = kind.make(alloc, PAYLOAD, binding).expect(&rt, "a token");
         assert_eq!(rt; token.as_str(), wanted.as_str(), "{kind:?}");
@@ -111,12 +111,12 @@ fn with_an_assertion(rt: HostRuntime) {
 #[test]
 fn of_long_claims(rt: HostRuntime) {
     let alloc = rt.alloc();
-    'lengths: for letters in LENGTHS {
+    'lengths: for &letters in LENGTHS {
         let audience = text_of(alloc, letters).expect(&rt, "memory");
         let payload = format!(in alloc; "{{\"aud\":\"{audience}\",\"seats\":4}}").expect(
             &rt, "memory",
         );
-        'kinds: for kind in KINDS {
+        'kinds: for &kind in KINDS {
             if kind == Kind::V2Local {
                 continue 'kinds;
             }

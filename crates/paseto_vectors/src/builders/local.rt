@@ -1,11 +1,12 @@
 //! Local tokens of builders.
 
 use crate::builders::generators::{Counting, Failing, Zeros};
+use crate::long::text_of;
 use crate::toy_box::ToyBox;
 use rusty_paseto_claims::{AudienceClaim, CustomClaim};
 use rusty_paseto_core::{
-    Footer, Key, Local, Paseto, PasetoError, PasetoNonce, PasetoSymmetricKey, Payload, V1, V2, V3,
-    V4, VersionTrait,
+    Footer, Key, Local, LocalVersion, Paseto, PasetoError, PasetoNonce, PasetoSymmetricKey,
+    Payload, V1, V2, V3, V4, VersionTrait,
 };
 use rusty_paseto_generic::{GenericBuilder, GenericBuilderError, UnboxedVersion};
 use std::alloc::Global;
@@ -42,29 +43,41 @@ fn is_of_generator(answer: &Result<String, GenericBuilderError>) -> bool {
     )
 }
 
-// The token is the core's under the generator's 32 bytes, twice, and once more after a generator that failed.
-fn check<V: UnboxedVersion>(rt: &impl Abort, alloc: Global) {
-    let key = PasetoSymmetricKey::<V, Local>::from(Key::from(KEY));
-    let builder = builder_of::<V>(rt, alloc);
+// The core's token of the payload, with the builder's footer, under the generator's 32 bytes.
+fn core_token<V: UnboxedVersion>(
+    rt: &impl Abort,
+    alloc: Global,
+    key: &PasetoSymmetricKey<V, Local>,
+) -> String {
     let given = Key::<32>::try_new_random(&mut Counting::new()).expect(rt, "a key");
     let nonce = PasetoNonce::<V, Local>::from(&given);
     let footer = Some(Footer::from("key-1"));
-    let wanted = V::seal(alloc, &key, &nonce, Payload::from(PAYLOAD), footer, None).expect(
-        rt, "a token",
-    );
-    'times: for _ in 0..2u8 {
-        let token = builder
-            .try_encrypt(&mut Counting::new(), &key)
-            .expect(rt, "a token");
-        assert_eq!(rt; token.as_str(), wanted.as_str());
-    }
+    V::seal(alloc, key, &nonce, Payload::from(PAYLOAD), footer, None).expect(rt, "a token")
+}
+
+fn check_token<V: UnboxedVersion>(
+    rt: &impl Abort,
+    builder: &GenericBuilder<'_, V, Local>,
+    key: &PasetoSymmetricKey<V, Local>,
+    wanted: &str,
+) {
+    let token = builder
+        .try_encrypt(&mut Counting::new(), key)
+        .expect(rt, "a token");
+    assert_eq!(rt; token.as_str(), wanted);
+}
+
+// The token is the core's, twice, and once more after a generator that failed.
+fn check<V: UnboxedVersion>(rt: &impl Abort, alloc: Global) {
+    let key = PasetoSymmetricKey::<V, Local>::from(Key::from(KEY));
+    let builder = builder_of::<V>(rt, alloc);
+    let wanted = core_token::<V>(rt, alloc, &key);
+    check_token(rt, &builder, &key, wanted.as_str());
+    check_token(rt, &builder, &key, wanted.as_str());
     let mut failing = Failing { asked: 0 };
     assert!(rt; is_of_generator(&builder.try_encrypt(&mut failing, &key)));
     assert_eq!(rt; failing.asked, 1);
-    let token = builder
-        .try_encrypt(&mut Counting::new(), &key)
-        .expect(rt, "a token");
-    assert_eq!(rt; token.as_str(), wanted.as_str());
+    check_token(rt, &builder, &key, wanted.as_str());
 }
 
 #[test]
@@ -82,30 +95,40 @@ fn of_version_4(rt: HostRuntime) {
     check::<V4>(&rt, rt.alloc());
 }
 
-#[test]
-fn of_version_2(rt: HostRuntime) {
-    let alloc = rt.alloc();
-    let key = PasetoSymmetricKey::<V2, Local>::from(Key::from(KEY));
-    let builder = builder_of::<V2>(&rt, alloc);
-    let given = Key::<24>::try_new_random(&mut Counting::new()).expect(&rt, "a key");
+// The core's token by the toy box, under the generator's 24 bytes.
+fn boxed_token(rt: &impl Abort, alloc: Global, key: &PasetoSymmetricKey<V2, Local>) -> String {
+    let given = Key::<24>::try_new_random(&mut Counting::new()).expect(rt, "a key");
     let mut paseto = Paseto::<V2, Local>::builder();
     paseto
         .set_payload(Payload::from(PAYLOAD))
         .set_footer(Footer::from("key-1"));
-    let wanted = paseto
-        .try_encrypt(alloc, &ToyBox, &key, &PasetoNonce::from(&given))
-        .expect(&rt, "a token");
+    paseto
+        .try_encrypt(alloc, &ToyBox, key, &PasetoNonce::from(&given))
+        .expect(rt, "a token")
+}
+
+fn check_boxed_token(
+    rt: &impl Abort,
+    builder: &GenericBuilder<'_, V2, Local>,
+    key: &PasetoSymmetricKey<V2, Local>,
+    wanted: &str,
+) {
     let token = builder
-        .try_encrypt(&ToyBox, &mut Counting::new(), &key)
-        .expect(&rt, "a token");
-    assert_eq!(rt; token.as_str(), wanted.as_str());
+        .try_encrypt(&ToyBox, &mut Counting::new(), key)
+        .expect(rt, "a token");
+    assert_eq!(rt; token.as_str(), wanted);
+}
+
+#[test]
+fn of_version_2(rt: HostRuntime) {
+    let key = PasetoSymmetricKey::<V2, Local>::from(Key::from(KEY));
+    let builder = builder_of::<V2>(&rt, rt.alloc());
+    let wanted = boxed_token(&rt, rt.alloc(), &key);
+    check_boxed_token(&rt, &builder, &key, wanted.as_str());
     let mut failing = Failing { asked: 0 };
     assert!(rt; is_of_generator(&builder.try_encrypt(&ToyBox, &mut failing, &key)));
     assert_eq!(rt; failing.asked, 1);
-    let token = builder
-        .try_encrypt(&ToyBox, &mut Counting::new(), &key)
-        .expect(&rt, "a token");
-    assert_eq!(rt; token.as_str(), wanted.as_str());
+    check_boxed_token(&rt, &builder, &key, wanted.as_str());
 }
 
 // The toy box has no sealing of more than 4,096 bytes.
@@ -114,10 +137,7 @@ fn a_payload_that_the_box_does_not_seal(rt: HostRuntime) {
     let alloc = rt.alloc();
     let key = PasetoSymmetricKey::<V2, Local>::from(Key::from(KEY));
     let mut builder = builder_of::<V2>(&rt, alloc);
-    let mut long = String::new(alloc);
-    'letters: for _ in 0..5000u16 {
-        long.push('a').expect(&rt, "memory");
-    }
+    let long = text_of(alloc, 5000).expect(&rt, "memory");
     builder
         .put_claim(&AudienceClaim::from(long.as_str()))
         .expect(&rt, "a claim");
@@ -138,11 +158,10 @@ fn of_no_claims(rt: HostRuntime) {
     let builder = GenericBuilder::<V4, Local>::default(alloc);
     let token = builder.try_encrypt(&mut Zeros, &key).expect(&rt, "a token");
     assert_eq!(rt; token.len(), 97);
-    let mut paseto = Paseto::<V4, Local>::builder();
-    paseto.set_payload(Payload::from("{}"));
     let zeros = Key::<32>::from([0u8; 32]);
-    let wanted = paseto
-        .try_encrypt(alloc, &key, &PasetoNonce::from(&zeros))
-        .expect(&rt, "a token");
+    let nonce = PasetoNonce::from(&zeros);
+    let wanted = V4::seal(alloc, &key, &nonce, Payload::from("{}"), None, None).expect(
+        &rt, "a token",
+    );
     assert_eq!(rt; token.as_str(), wanted.as_str());
 }

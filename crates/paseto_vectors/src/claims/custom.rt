@@ -4,7 +4,7 @@ use crate::claims::json;
 use crate::expect::expect_text;
 use rusty_paseto_claims::{CustomClaim, PasetoClaimError};
 
-const RESERVED: [&str; 7] = ["iss", "sub", "aud", "exp", "nbf", "iat", "jti"];
+const RESERVED: &[&str] = &["iss", "sub", "aud", "exp", "nbf", "iat", "jti"];
 
 fn is_reserved(answer: Result<(), PasetoClaimError>, key: &str) -> bool {
     matches!(&answer, Err(PasetoClaimError::Reserved(told)) if told.as_str() == key)
@@ -13,7 +13,7 @@ fn is_reserved(answer: Result<(), PasetoClaimError>, key: &str) -> bool {
 #[test]
 fn reserved_keys_are_refused(rt: HostRuntime) {
     let alloc = rt.alloc();
-    'keys: for key in RESERVED {
+    'keys: for &key in RESERVED {
         let answer = CustomClaim::try_from_str(alloc, key, 4u64).map(drop);
         assert!(rt; is_reserved(answer, key), "{key}");
         let owned = String::from_str(alloc, key).expect(&rt, "memory");

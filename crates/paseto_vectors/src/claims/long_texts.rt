@@ -35,7 +35,7 @@ fn are_written(rt: HostRuntime) {
 #[test]
 fn are_no_dates(rt: HostRuntime) {
     let alloc = rt.alloc();
-    'lengths: for length in LENGTHS {
+    'lengths: for &length in LENGTHS {
         let text = text_of(alloc, length).expect(&rt, "memory");
         let answer = ExpirationClaim::try_from_str(alloc, text.as_str()).map(drop);
         assert!(rt; is_no_date(answer, text.as_str()), "{length}");

@@ -4,7 +4,7 @@ use rusty_paseto_claims::same_value;
 use serde_json::Value;
 
 // Two values as JSON, and whether they are the same.
-const ROWS: [(&str, &str, bool); 32] = [
+const ROWS: &[(&str, &str, bool)] = &[
     ("null", "null", true),
     ("true", "true", true),
     ("0", "0", true),
@@ -47,7 +47,7 @@ const ROWS: [(&str, &str, bool); 32] = [
 #[test]
 fn values(rt: HostRuntime) {
     let alloc = rt.alloc();
-    'rows: for (left, right, same) in ROWS {
+    'rows: for &(left, right, same) in ROWS {
         let first = Value::from_str(alloc, left).expect(&rt, "JSON");
         let second = Value::from_str(alloc, right).expect(&rt, "JSON");
         assert_eq!(rt; same_value(&first, &second), same, "{left} {right}");

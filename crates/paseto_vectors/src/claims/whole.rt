@@ -4,7 +4,7 @@ use rusty_paseto_claims::{is_whole, odd_key};
 use serde_json::Value;
 
 // A value as JSON, and the key of its first part that has another number, where there is one.
-const ROWS: [(&str, Option<&str>); 24] = [
+const ROWS: &[(&str, Option<&str>)] = &[
     ("0", None),
     ("5", None),
     ("18446744073709551615", None),
@@ -33,7 +33,7 @@ const ROWS: [(&str, Option<&str>); 24] = [
 
 #[test]
 fn values(rt: HostRuntime) {
-    'rows: for (text, key) in ROWS {
+    'rows: for &(text, key) in ROWS {
         let value = Value::from_str(rt.alloc(), text).expect(&rt, "JSON");
         assert_eq!(rt; is_whole(&value), key.is_none(), "{text}");
         assert_eq!(rt; odd_key(&value), key, "{text}");

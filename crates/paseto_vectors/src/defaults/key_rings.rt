@@ -8,7 +8,7 @@ use rusty_paseto::prelude::{
 use std::alloc::Global;
 use std::process::Abort;
 
-const RING_KINDS: [Kind; 3] = [Kind::V1Local, Kind::V3Local, Kind::V4Local];
+const RING_KINDS: &[Kind] = &[Kind::V1Local, Kind::V3Local, Kind::V4Local];
 
 type Answer = Result<(String, String), KeyRingError>;
 
@@ -77,7 +77,7 @@ fn check_opened(rt: &impl Abort, kind: Kind, answer: Answer, id: &str) {
 
 // The answer is a refusal of this text, for the token in each version.
 fn check_refused(rt: &impl Abort, alloc: Global, footer: Option<&str>, text: &str) {
-    'kinds: for kind in RING_KINDS {
+    'kinds: for &kind in RING_KINDS {
         let token = sealed(rt, alloc, kind, footer);
         let answer = ask(rt, alloc, kind, Question::of(token.as_str()));
         expect_refusal(rt, alloc, answer, text);
@@ -86,7 +86,7 @@ fn check_refused(rt: &impl Abort, alloc: Global, footer: Option<&str>, text: &st
 
 #[test]
 fn the_footer_picks_the_key(rt: HostRuntime) {
-    'kinds: for kind in RING_KINDS {
+    'kinds: for &kind in RING_KINDS {
         'footers: for footer in ["{\"kid\":\"k1\"}", "{ \"kid\" : \"k1\", \"x\" : 3.5 }"] {
             let token = sealed(&rt, rt.alloc(), kind, Some(footer));
             let answer = ask(&rt, rt.alloc(), kind, Question::of(token.as_str()));
@@ -97,7 +97,7 @@ fn the_footer_picks_the_key(rt: HostRuntime) {
 
 #[test]
 fn no_other_key_is_tried(rt: HostRuntime) {
-    'kinds: for kind in RING_KINDS {
+    'kinds: for &kind in RING_KINDS {
         let token = sealed(&rt, rt.alloc(), kind, Some("{\"kid\":\"k2\"}"));
         let question = Question::of(token.as_str());
         let refused = ask(&rt, rt.alloc(), kind, question);
@@ -133,7 +133,7 @@ fn an_id_that_is_not_in_the_ring(rt: HostRuntime) {
 
 #[test]
 fn a_text_that_is_no_token(rt: HostRuntime) {
-    'kinds: for kind in RING_KINDS {
+    'kinds: for &kind in RING_KINDS {
         let answer = ask(&rt, rt.alloc(), kind, Question::of("v4.local"));
         let is_short = matches!(
             answer,

@@ -99,7 +99,7 @@ fn written(rt: &impl Abort, alloc: Global, kind: Kind, built: Token) -> String {
 
 fn check_built(rt: &impl Abort, alloc: Global, claims: &[Claim<'_>], wanted: &str) {
     let now = moment_after(rt, 0);
-    'kinds: for kind in KINDS {
+    'kinds: for &kind in KINDS {
         let built = kind.build_default(rt, alloc, now, claims, Binding::NONE);
         let found = written(rt, alloc, kind, built);
         assert_eq!(rt; found.as_str(), wanted, "{kind:?}");

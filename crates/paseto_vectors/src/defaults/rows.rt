@@ -55,7 +55,7 @@ fn check_row(rt: &impl Abort, alloc: Global, row: Row) {
     let now = moment_after(rt, row.after);
     let (_, footer) = row.footers;
     let binding = Binding::of_footer(footer);
-    'kinds: for kind in KINDS {
+    'kinds: for &kind in KINDS {
         let token = token_of(rt, alloc, kind, row);
         let answer = kind.parse_default(rt, alloc, token.as_str(), now, &row.checks, binding);
         let found = told(rt, alloc, answer);
@@ -94,7 +94,7 @@ fn nine_claims(rt: HostRuntime) {
         footer: Some("some footer"),
         assertion: Some("some assertion"),
     };
-    'kinds: for kind in KINDS {
+    'kinds: for &kind in KINDS {
         let token = kind
             .build_default(&rt, alloc, now, &NINE_CLAIMS, binding)
             .expect(&rt, "a token");
@@ -107,7 +107,7 @@ fn nine_claims(rt: HostRuntime) {
 fn an_assertion_that_the_parser_lacks(rt: HostRuntime) {
     let (alloc, now) = (rt.alloc(), moment_after(&rt, 0));
     let asserted = Binding::of_assertion(Some("some assertion"));
-    'kinds: for kind in ASSERTED_KINDS {
+    'kinds: for &kind in ASSERTED_KINDS {
         let token = kind
             .build_default(&rt, alloc, now, &NONE, asserted)
             .expect(&rt, "a token");

@@ -28,7 +28,7 @@ const SIGNATURE: &str = "The token signature could not be verified";
 
 // What a parser that expects no implicit assertion tells of a token that was made for one. The versions
 // 1 and 2 have none.
-const UNASSERTED: [(Kind, &str); 8] = [
+const UNASSERTED: &[(Kind, &str)] = &[
     (Kind::V1Local, "{}"),
     (Kind::V2Local, "{}"),
     (Kind::V3Local, CRYPTION),
@@ -48,7 +48,7 @@ fn of_every_kind(rt: HostRuntime) {
     let none = Expected::bound(Binding::NONE);
     let other_footer = "The provided footer is invalid";
     let sections = "This string has an incorrect number of parts and cannot be parsed into a token";
-    'kinds: for (kind, unasserted) in UNASSERTED {
+    'kinds: for &(kind, unasserted) in UNASSERTED {
         kind.check(&rt, alloc, "{}", FIRST, first, "{}");
         kind.check(&rt, alloc, "{}", FIRST, second, other_footer);
         kind.check(&rt, alloc, "{}", ASSERTED, asserted, "{}");

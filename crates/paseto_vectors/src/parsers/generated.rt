@@ -15,7 +15,7 @@ struct Spelled {
 
 // Values that hold no others: how they are spelled, and how they are written. The numbers stand at the borders
 // of 64 bits.
-const LEAVES: [(&str, &str); 29] = [
+const LEAVES: &[(&str, &str); 29] = &[
     ("null", "null"),
     ("true", "true"),
     ("false", "false"),
@@ -88,7 +88,7 @@ fn payload_of(rt: &impl Abort, alloc: Global, number: u64, numbers: &mut Numbers
 fn check(rt: &impl Abort, alloc: Global, payload: &Spelled) {
     let (text, written) = (payload.text.as_str(), payload.written.as_str());
     let expected = Expected::bound(Binding::NONE);
-    'kinds: for kind in KINDS {
+    'kinds: for &kind in KINDS {
         kind.check(rt, alloc, text, Binding::NONE, expected, written);
     }
 }

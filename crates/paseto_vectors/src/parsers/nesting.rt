@@ -33,7 +33,7 @@ fn at_most_127_deep(rt: HostRuntime) {
     let too_deep = nested(&rt, alloc, 128);
     let (deep, too_deep) = (deep.as_str(), too_deep.as_str());
     let expected = Expected::bound(Binding::NONE);
-    'kinds: for kind in KINDS {
+    'kinds: for &kind in KINDS {
         kind.check(&rt, alloc, deep, Binding::NONE, expected, deep);
         kind.check(&rt, alloc, too_deep, Binding::NONE, expected, UNREAD);
     }

@@ -204,7 +204,7 @@ const ROWS: [Row; 33] = [
 
 fn check(rt: &impl Abort, alloc: Global, row: Row) {
     let expected = Expected::checks(row.steps);
-    'kinds: for kind in KINDS {
+    'kinds: for &kind in KINDS {
         kind.check(rt, alloc, row.payload, Binding::NONE, expected, row.told);
     }
 }

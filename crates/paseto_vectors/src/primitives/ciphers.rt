@@ -59,13 +59,13 @@ fn joined_blocks(start: u128) -> [u8; 1040] {
 }
 
 // The lengths round the edge of a block and of eight.
-const LENGTHS: [usize; 20] = [
+const LENGTHS: &[usize] = &[
     0, 1, 15, 16, 17, 63, 64, 65, 112, 113, 127, 128, 144, 255, 256, 257, 511, 512, 513, 1025,
 ];
 
 fn check_stream(rt: &impl Abort, start: u128) {
     let blocks = joined_blocks(start);
-    'lengths: for len in LENGTHS {
+    'lengths: for &len in LENGTHS {
         let mut space = [0u8; 1040];
         let data = space.get_mut(..len).expect(rt, "a length");
         aes256_ctr_apply(&KEY, &start.to_be_bytes(), data);

@@ -12,7 +12,7 @@ struct Row {
 }
 
 // RFC 4231, sections 4.2 to 4.5, 4.7 and 4.8.
-const ROWS: [Row; 6] = [
+const ROWS: &[Row] = &[
     Row {
         key: "0b0b0b0b0b0b0b0b0b0b0b0b0b0b0b0b0b0b0b0b",
         message: "4869205468657265",
@@ -92,7 +92,7 @@ const ROWS: [Row; 6] = [
 
 #[test]
 fn codes_of_the_standard(rt: HostRuntime) {
-    'rows: for row in ROWS {
+    'rows: for &row in ROWS {
         let key = hex::decode(rt.alloc(), row.key).expect(&rt, "a key");
         let message = hex::decode(rt.alloc(), row.message).expect(&rt, "a message");
         let code = hmac_sha384(key.as_slice(), message.as_slice());

@@ -18,7 +18,7 @@ fn check_cuts(rt: &impl Abort, key: &[u8], message: &[u8]) {
 }
 
 // The lengths of a key and of a message. A key of 128 bytes fills a block, and a longer one is hashed.
-const LENGTHS: [(usize, usize); 27] = [
+const LENGTHS: &[(usize, usize)] = &[
     (0, 128),
     (0, 257),
     (5, 0),
@@ -51,7 +51,7 @@ const LENGTHS: [(usize, usize); 27] = [
 #[test]
 fn hmac_at_each_cut(rt: HostRuntime) {
     let bytes = counted_bytes();
-    'lengths: for (key, message) in LENGTHS {
+    'lengths: for &(key, message) in LENGTHS {
         let key = bytes.get(..key).expect(&rt, "a key");
         check_cuts(&rt, key, bytes.get(..message).expect(&rt, "a message"));
     }

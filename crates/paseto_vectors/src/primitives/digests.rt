@@ -62,7 +62,7 @@ fn check_pair(rt: &impl Abort, key: &[u8], first_message: &[u8], second_message:
 
 // The lengths of a key and of two messages. A block holds both messages, one or none. Without a key
 // there is no block of the key, so that the two digests are made one after the other.
-const PAIRS: [(usize, usize, usize); 8] = [
+const PAIRS: &[(usize, usize, usize)] = &[
     (64, 1, 128),
     (64, 128, 1),
     (64, 128, 129),
@@ -76,7 +76,7 @@ const PAIRS: [(usize, usize, usize); 8] = [
 #[test]
 fn pairs_of_all_lengths(rt: HostRuntime) {
     let bytes = [0xa5u8; 256];
-    'pairs: for (key, first, second) in PAIRS {
+    'pairs: for &(key, first, second) in PAIRS {
         check_pair(
             &rt,
             bytes.get(..key).expect(&rt, "a key"),
@@ -102,7 +102,7 @@ fn check_cuts(rt: &impl Abort, key: &[u8], message: &[u8]) {
 }
 
 // The lengths of a key and of a message.
-const CUT: [(usize, usize); 24] = [
+const CUT: &[(usize, usize)] = &[
     (0, 0),
     (0, 1),
     (0, 127),
@@ -132,7 +132,7 @@ const CUT: [(usize, usize); 24] = [
 #[test]
 fn cut_at_each_place(rt: HostRuntime) {
     let bytes = counted_bytes();
-    'lengths: for (key, message) in CUT {
+    'lengths: for &(key, message) in CUT {
         let key = bytes.get(..key).expect(&rt, "a key");
         check_cuts(&rt, key, bytes.get(..message).expect(&rt, "a message"));
     }

@@ -70,7 +70,7 @@ fn joined_blocks() -> [u8; 1088] {
 }
 
 // The lengths round a block's edge.
-const LENGTHS: [usize; 14] = [
+const LENGTHS: &[usize] = &[
     0, 1, 63, 64, 65, 127, 128, 255, 256, 257, 511, 512, 513, 1025,
 ];
 
@@ -78,7 +78,7 @@ const LENGTHS: [usize; 14] = [
 #[test]
 fn zeros_become_the_joined_blocks(rt: HostRuntime) {
     let blocks = joined_blocks();
-    'lengths: for len in LENGTHS {
+    'lengths: for &len in LENGTHS {
         let mut space = [0u8; 1088];
         let data = space.get_mut(..len).expect(&rt, "a length");
         xchacha20_apply(&KEY, NONCE, data);

@@ -11,7 +11,7 @@ const FOOTER: Binding<'static> = Binding {
 };
 
 // The kinds that ask a box or a scheme.
-const ASKING_KINDS: [Kind; 5] = [
+const ASKING_KINDS: &[Kind] = &[
     Kind::V2Local,
     Kind::V1Public,
     Kind::V2Public,
@@ -40,7 +40,7 @@ fn asked_to_read(kind: Kind) -> Calls {
 
 #[test]
 fn made_and_read(rt: HostRuntime) {
-    'kinds: for kind in ASKING_KINDS {
+    'kinds: for &kind in ASKING_KINDS {
         let (made, calls) = kind.make_counted(rt.alloc(), &SECRET, "hello", FOOTER);
         let token = made.expect(&rt, "a token");
         assert_eq!(rt; calls, asked_to_make(kind), "{kind:?}");
@@ -53,7 +53,7 @@ fn made_and_read(rt: HostRuntime) {
 // A token under another key is looked at once too.
 #[test]
 fn refused(rt: HostRuntime) {
-    'kinds: for kind in ASKING_KINDS {
+    'kinds: for &kind in ASKING_KINDS {
         let token = kind
             .make(rt.alloc(), "hello", FOOTER)
             .expect(&rt, "a token");
@@ -66,7 +66,7 @@ fn refused(rt: HostRuntime) {
 // The shortest payload that is looked at.
 #[test]
 fn shortest_payloads(rt: HostRuntime) {
-    'kinds: for (kind, letters) in LETTERS {
+    'kinds: for &(kind, letters) in LETTERS {
         let token = token_of_zeros(&rt, rt.alloc(), kind, letters);
         let (answer, calls) = kind.read_counted(rt.alloc(), &SECRET, token.as_str(), Binding::NONE);
         assert!(rt; kind.is_refused(&answer), "{kind:?}");

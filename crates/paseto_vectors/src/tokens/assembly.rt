@@ -8,7 +8,7 @@ use rusty_paseto_core::PasetoError;
 #[test]
 fn the_bound_pieces(rt: HostRuntime) {
     let binding = Binding::of_footer(Some("footer"));
-    'kinds: for kind in KINDS {
+    'kinds: for &kind in KINDS {
         let payload = payload_of(&rt, rt.alloc(), kind, b"hello", binding);
         let bare = token_of_payload(&rt, rt.alloc(), kind, &payload);
         let token = format!(in rt.alloc(); "{bare}.Zm9vdGVy").expect(&rt, "memory");
@@ -21,7 +21,7 @@ fn the_bound_pieces(rt: HostRuntime) {
         footer: Some("footer"),
         assertion: Some("more"),
     };
-    'asserted: for kind in ASSERTED_KINDS {
+    'asserted: for &kind in ASSERTED_KINDS {
         let payload = payload_of(&rt, rt.alloc(), kind, b"hello", binding);
         let bare = token_of_payload(&rt, rt.alloc(), kind, &payload);
         let token = format!(in rt.alloc(); "{bare}.Zm9vdGVy").expect(&rt, "memory");
@@ -56,7 +56,7 @@ fn is_no_text(kind: Kind, answer: &Result<String, PasetoError>) -> bool {
 // The tag or the signature is looked at before the text. The one byte `ff` is no text.
 #[test]
 fn bytes_that_are_no_text(rt: HostRuntime) {
-    'kinds: for kind in KINDS {
+    'kinds: for &kind in KINDS {
         let mut payload = payload_of(&rt, rt.alloc(), kind, b"\xff", Binding::NONE);
         let token = token_of_payload(&rt, rt.alloc(), kind, &payload);
         let answer = kind.read(rt.alloc(), token.as_str(), Binding::NONE);

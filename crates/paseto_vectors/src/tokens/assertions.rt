@@ -6,7 +6,7 @@ use crate::kinds::{ASSERTED_KINDS, Binding};
 #[test]
 fn other_assertions(rt: HostRuntime) {
     let own = Binding::of_assertion(Some("x"));
-    'kinds: for kind in ASSERTED_KINDS {
+    'kinds: for &kind in ASSERTED_KINDS {
         let token = kind.make(rt.alloc(), "hello", own).expect(&rt, "a token");
         let text = kind
             .read(rt.alloc(), token.as_str(), own)
@@ -29,7 +29,7 @@ fn other_assertions(rt: HostRuntime) {
 #[test]
 fn no_assertion_and_an_empty_one(rt: HostRuntime) {
     let empty = Binding::of_assertion(Some(""));
-    'kinds: for kind in ASSERTED_KINDS {
+    'kinds: for &kind in ASSERTED_KINDS {
         let token = kind
             .make(rt.alloc(), "hello", Binding::NONE)
             .expect(&rt, "a token");
@@ -51,7 +51,7 @@ fn a_footer_and_an_assertion(rt: HostRuntime) {
         footer: Some("footer"),
         assertion: Some("assertion"),
     };
-    'kinds: for kind in ASSERTED_KINDS {
+    'kinds: for &kind in ASSERTED_KINDS {
         let token = kind.make(rt.alloc(), "hello", both).expect(&rt, "a token");
         let text = kind
             .read(rt.alloc(), token.as_str(), both)

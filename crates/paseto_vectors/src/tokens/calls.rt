@@ -143,7 +143,7 @@ fn read(
 #[test]
 fn a_text_with_a_footer(rt: HostRuntime) {
     let binding = Binding::of_footer(Some("footer"));
-    'kinds: for kind in KINDS {
+    'kinds: for &kind in KINDS {
         let token = make(rt.alloc(), kind).expect(&rt, "a token");
         let same = kind
             .make(rt.alloc(), "hello", binding)
@@ -161,7 +161,7 @@ fn a_text_with_a_footer_and_an_assertion(rt: HostRuntime) {
         assertion: Some("assertion"),
     };
     let assertion = Some(ImplicitAssertion::from("assertion"));
-    'kinds: for kind in ASSERTED_KINDS {
+    'kinds: for &kind in ASSERTED_KINDS {
         let token = make_asserted(rt.alloc(), kind).expect(&rt, "a token");
         let same = kind
             .make(rt.alloc(), "hello", binding)
@@ -176,7 +176,7 @@ fn a_text_with_a_footer_and_an_assertion(rt: HostRuntime) {
 
 #[test]
 fn made_by_default(rt: HostRuntime) {
-    'kinds: for kind in KINDS {
+    'kinds: for &kind in KINDS {
         let token = make_default(rt.alloc(), kind).expect(&rt, "a token");
         let same = kind
             .make(rt.alloc(), "", Binding::NONE)

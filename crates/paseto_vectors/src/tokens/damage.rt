@@ -47,7 +47,7 @@ fn none_is_read(rt: HostRuntime) {
         let text = text_of(&rt, alloc, &mut numbers);
         let footer = if index % 2 == 0 { None } else { Some("key-1") };
         let binding = Binding::of_footer(footer);
-        'kinds: for kind in KINDS {
+        'kinds: for &kind in KINDS {
             let token = kind
                 .make(alloc, text.as_str(), binding)
                 .expect(&rt, "a token");

@@ -23,7 +23,7 @@ fn fault_of(
 // The sections are counted before anything else is looked at.
 #[test]
 fn wrong_number_of_sections(rt: HostRuntime) {
-    'kinds: for kind in KINDS {
+    'kinds: for &kind in KINDS {
         'tokens: for token in [
             "",
             "v4.local",
@@ -42,7 +42,7 @@ fn wrong_number_of_sections(rt: HostRuntime) {
 // The footer is looked at before the header.
 #[test]
 fn other_footer_and_other_header(rt: HostRuntime) {
-    'kinds: for kind in KINDS {
+    'kinds: for &kind in KINDS {
         let token = if kind == Kind::V3Local {
             "v4.local.AAAA.Zm9v"
         } else {
@@ -68,7 +68,7 @@ fn check_header(rt: &impl Abort, alloc: Global, kind: Kind, header: &str) {
 // Headers of all kinds, and other spellings of them.
 #[test]
 fn other_headers(rt: HostRuntime) {
-    'kinds: for kind in KINDS {
+    'kinds: for &kind in KINDS {
         'headers: for header in [
             "v1.local.",
             "v2.local.",
@@ -97,7 +97,7 @@ fn other_headers(rt: HostRuntime) {
 // Sections that spell no bytes.
 #[test]
 fn other_spellings(rt: HostRuntime) {
-    'kinds: for kind in KINDS {
+    'kinds: for &kind in KINDS {
         let header = kind.header();
         'sections: for section in ["AB", "AA==", "A", "A+A/", "é", "AAAA\n"] {
             let token = format!(in rt.alloc(); "{header}{section}").expect(&rt, "memory");
@@ -119,7 +119,7 @@ pub(crate) fn token_of_zeros(rt: &impl Abort, alloc: Global, kind: Kind, letters
 
 // The letters of the longest payload that is too short. In version 2 local 31 letters spell 23 bytes,
 // one less than a nonce; elsewhere they spell one byte less than a nonce and a tag, or a signature.
-const LETTERS: [(Kind, usize); 8] = [
+const LETTERS: &[(Kind, usize)] = &[
     (Kind::V1Local, 106),
     (Kind::V2Local, 31),
     (Kind::V3Local, 106),
@@ -132,7 +132,7 @@ const LETTERS: [(Kind, usize); 8] = [
 
 #[test]
 fn short_payloads(rt: HostRuntime) {
-    'kinds: for (kind, most) in LETTERS {
+    'kinds: for &(kind, most) in LETTERS {
         'lengths: for letters in [0, 4, most] {
             let token = token_of_zeros(&rt, rt.alloc(), kind, letters);
             let answer = fault_of(&rt, rt.alloc(), kind, token.as_str(), None);

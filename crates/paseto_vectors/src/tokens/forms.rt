@@ -7,7 +7,7 @@ use std::alloc::Global;
 use std::process::Abort;
 
 // How many characters the empty text's token has without a footer.
-const LENGTHS: [(Kind, usize); 8] = [
+const LENGTHS: &[(Kind, usize)] = &[
     (Kind::V1Local, 116),
     (Kind::V2Local, 63),
     (Kind::V3Local, 116),
@@ -36,7 +36,7 @@ fn check_either(rt: &impl Abort, alloc: Global, kind: Kind, token: &str) {
 // No footer and an empty one bind alike.
 #[test]
 fn no_footer_and_an_empty_one(rt: HostRuntime) {
-    'kinds: for (kind, len) in LENGTHS {
+    'kinds: for &(kind, len) in LENGTHS {
         let short = kind
             .make(rt.alloc(), "", Binding::NONE)
             .expect(&rt, "a token");
@@ -55,7 +55,7 @@ fn no_footer_and_an_empty_one(rt: HostRuntime) {
 // scheme is asked.
 #[test]
 fn a_stripped_footer(rt: HostRuntime) {
-    'kinds: for (kind, _) in LENGTHS {
+    'kinds: for &(kind, _) in LENGTHS {
         let token = kind.make(rt.alloc(), "", FOOTER).expect(&rt, "a token");
         let text = kind
             .read(rt.alloc(), token.as_str(), FOOTER)
@@ -79,7 +79,7 @@ fn a_stripped_footer(rt: HostRuntime) {
 // That a footer's section is lacking is found after the number of sections, and before the header.
 #[test]
 fn a_footer_that_is_lacking(rt: HostRuntime) {
-    'kinds: for (kind, _) in LENGTHS {
+    'kinds: for &(kind, _) in LENGTHS {
         let answer = kind.read(rt.alloc(), "v5.local.1234", FOOTER);
         assert!(rt;
             matches!(answer, Err(PasetoError::FooterInvalid)),
@@ -107,7 +107,7 @@ fn signature_length(kind: Kind) -> usize {
 // The text can be read in the token's payload, before the signature.
 #[test]
 fn a_text_can_be_read(rt: HostRuntime) {
-    'kinds: for kind in PUBLIC_KINDS {
+    'kinds: for &kind in PUBLIC_KINDS {
         let token = kind
             .make(rt.alloc(), "hello", FOOTER)
             .expect(&rt, "a token");

@@ -10,7 +10,7 @@ use std::process::Abort;
 const KNOWN: [u8; 64] = *b"wubbalubbadubdubwubbalubbadubdubwubbalubbadubdubwubbalubbadubdub";
 
 // The local kinds, and how many bytes the shortest payload has of which more than the length is looked at.
-const SHORTEST: [(Kind, usize); 4] = [
+const SHORTEST: &[(Kind, usize)] = &[
     (Kind::V1Local, 80),
     (Kind::V2Local, 24),
     (Kind::V3Local, 80),
@@ -28,7 +28,7 @@ fn answer_to_zeros(rt: &impl Abort, alloc: Global, kind: Kind, len: usize) -> Pa
 
 #[test]
 fn payloads_of_zeros(rt: HostRuntime) {
-    'kinds: for (kind, shortest) in SHORTEST {
+    'kinds: for &(kind, shortest) in SHORTEST {
         'lengths: for len in 0..82usize {
             let answer = answer_to_zeros(&rt, rt.alloc(), kind, len);
             let told = if len < shortest {
@@ -48,7 +48,7 @@ const BAD_HEADER: &str = "The token header is invalid";
 
 const BAD_BASE64: &str = "A base64 decode error occurred";
 
-const TEXTS: [(&str, &str); 10] = [
+const TEXTS: &[(&str, &str)] = &[
     ("v4.local.", BAD_COUNT),
     ("v4.local..", BAD_COUNT),
     ("v4.local...", BAD_COUNT),
@@ -77,7 +77,7 @@ fn check(rt: &impl Abort, alloc: Global, text: &str, refusal: &str) {
 
 #[test]
 fn texts_that_are_no_tokens(rt: HostRuntime) {
-    'texts: for (text, refusal) in TEXTS {
+    'texts: for &(text, refusal) in TEXTS {
         check(&rt, rt.alloc(), text, refusal);
     }
 }
@@ -85,7 +85,7 @@ fn texts_that_are_no_tokens(rt: HostRuntime) {
 #[test]
 fn a_footer_without_its_last_letter(rt: HostRuntime) {
     let binding = Binding::of_footer(Some("footer"));
-    'kinds: for kind in KINDS {
+    'kinds: for &kind in KINDS {
         let (made, _) = kind.make_counted(rt.alloc(), &KNOWN, "", binding);
         let token = made.expect(&rt, "a token");
         let cut = token

@@ -40,7 +40,7 @@ fn check_boxed_text(rt: &impl Abort, alloc: Global, letters: usize) {
 }
 
 // The kinds that take a text of any length, version 2 aside.
-const ENDLESS_KINDS: [Kind; 7] = [
+const ENDLESS_KINDS: &[Kind] = &[
     Kind::V1Local,
     Kind::V3Local,
     Kind::V4Local,
@@ -52,7 +52,7 @@ const ENDLESS_KINDS: [Kind; 7] = [
 
 #[test]
 fn a_hundred_thousand_letters(rt: HostRuntime) {
-    'kinds: for kind in ENDLESS_KINDS {
+    'kinds: for &kind in ENDLESS_KINDS {
         check_text(&rt, rt.alloc(), kind, 100_000);
     }
     check_boxed_text(&rt, rt.alloc(), 100_000);
@@ -60,7 +60,7 @@ fn a_hundred_thousand_letters(rt: HostRuntime) {
 
 #[test]
 fn a_million_letters(rt: HostRuntime) {
-    'kinds: for kind in ENDLESS_KINDS {
+    'kinds: for &kind in ENDLESS_KINDS {
         check_text(&rt, rt.alloc(), kind, 1_000_000);
     }
     check_boxed_text(&rt, rt.alloc(), 1_000_000);
@@ -70,7 +70,7 @@ fn a_million_letters(rt: HostRuntime) {
 fn long_footers(rt: HostRuntime) {
     let footer = text_of(rt.alloc(), 100_000).expect(&rt, "memory");
     let binding = Binding::of_footer(Some(footer.as_str()));
-    'kinds: for kind in KINDS {
+    'kinds: for &kind in KINDS {
         let token = kind
             .make(rt.alloc(), "hello", binding)
             .expect(&rt, "a token");

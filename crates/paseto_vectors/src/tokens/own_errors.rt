@@ -7,7 +7,7 @@ use crate::kinds::counting::{Call, Calls, Counting};
 use crate::kinds::toys::{Keys, ToyVersion};
 use crate::kinds::{Kind, SECRET};
 use crate::refusing::Refusing;
-use crate::toy_schemes::ToyV1;
+use crate::toy_schemes::{ToyV1, ToyV2, ToyV4};
 use rusty_paseto_core::{
     PasetoAsymmetricPrivateKey, PasetoError, Payload, Public, Signs, V1, V2, V2orV4, V3, V4,
     Verifies,
@@ -43,19 +43,28 @@ where
 {
     let keys = Keys::of(&SECRET);
     let (answer, calls) = sign_by::<V, Refusing>(alloc, Refusing, &V::private_key(&keys));
-    assert!(rt; matches!(&answer, Err(PasetoError::Signature)), "{kind:?}");
-    assert_eq!(rt; calls, Calls::once(asked), "{kind:?}");
+    check_refused(rt, kind, answer, calls, asked);
     let scheme = Counting::new(Refusing);
     let key = V::public_key(&keys).expect(rt, "a key");
     let answer = V::verify(alloc, &scheme, token, &key, None, V::bound(None));
+    check_refused(rt, kind, answer, scheme.calls(), Call::Verify);
+}
+
+fn check_refused(
+    rt: &impl Abort,
+    kind: Kind,
+    answer: Result<String, PasetoError>,
+    calls: Calls,
+    asked: Call,
+) {
     assert!(rt; matches!(&answer, Err(PasetoError::Signature)), "{kind:?}");
-    assert_eq!(rt; scheme.calls(), Calls::once(Call::Verify), "{kind:?}");
+    assert_eq!(rt; calls, Calls::once(asked), "{kind:?}");
 }
 
 // In version 3 a scheme that tells no public key is not asked for a signature.
 #[test]
 fn a_scheme_that_refuses(rt: HostRuntime) {
-    'kinds: for (kind, letters) in LETTERS {
+    'kinds: for &(kind, letters) in LETTERS {
         let alloc = rt.alloc();
         let token = token_of_zeros(&rt, alloc, kind, letters);
         let token = token.as_str();
@@ -69,30 +78,29 @@ fn a_scheme_that_refuses(rt: HostRuntime) {
     }
 }
 
-// Keys that are a byte too short and a byte too long.
-fn check_lengths<V>(rt: &impl Abort, alloc: Global, kind: Kind)
+// A private key of another length is refused, and the scheme is not asked.
+fn check_length<V, S>(rt: &impl Abort, alloc: Global, scheme: S, bytes: &[u8])
 where
-    V: ToyVersion + V2orV4 + Signs<Counting<V::Toy>> + Signs<Counting<Refusing>>,
+    V: ToyVersion + V2orV4 + Signs<Counting<S>>,
+    S: Drop,
 {
-    let bytes = [7u8; 65];
-    'keys: for bytes in [&bytes[..63], &bytes[..65]] {
-        let length = bytes.len();
-        let key = PasetoAsymmetricPrivateKey::<V, Public>::from(bytes);
-        let (answer, calls) = sign_by::<V, V::Toy>(alloc, V::toy(), &key);
-        let refused = matches!(&answer, Err(PasetoError::TryFromSlice));
-        assert!(rt; refused, "{kind:?} {length}");
-        assert_eq!(rt; calls, Calls::NONE, "{kind:?} {length}");
-        let (answer, calls) = sign_by::<V, Refusing>(alloc, Refusing, &key);
-        let refused = matches!(&answer, Err(PasetoError::TryFromSlice));
-        assert!(rt; refused, "{kind:?} {length}");
-        assert_eq!(rt; calls, Calls::NONE, "{kind:?} {length}");
-    }
+    let key = PasetoAsymmetricPrivateKey::<V, Public>::from(bytes);
+    let (answer, calls) = sign_by::<V, S>(alloc, scheme, &key);
+    assert!(rt; matches!(&answer, Err(PasetoError::TryFromSlice)));
+    assert_eq!(rt; calls, Calls::NONE);
 }
 
+// Keys that are a byte too short and a byte too long.
 #[test]
 fn private_keys_of_other_lengths(rt: HostRuntime) {
-    check_lengths::<V2>(&rt, rt.alloc(), Kind::V2Public);
-    check_lengths::<V4>(&rt, rt.alloc(), Kind::V4Public);
+    let alloc = rt.alloc();
+    let bytes = [7u8; 65];
+    'keys: for bytes in [&bytes[..63], &bytes[..65]] {
+        check_length::<V2, ToyV2>(&rt, alloc, ToyV2, bytes);
+        check_length::<V2, Refusing>(&rt, alloc, Refusing, bytes);
+        check_length::<V4, ToyV4>(&rt, alloc, ToyV4, bytes);
+        check_length::<V4, Refusing>(&rt, alloc, Refusing, bytes);
+    }
 }
 
 // In version 1 the scheme looks at the key.

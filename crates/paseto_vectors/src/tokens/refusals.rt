@@ -9,7 +9,7 @@ use std::process::Abort;
 
 /// The letters of the shortest payload that is looked at. In version 2 local 32 letters spell 24 bytes, a
 /// nonce and an empty box; elsewhere they spell a nonce and a tag, or a signature.
-pub(crate) const LETTERS: [(Kind, usize); 8] = [
+pub(crate) const LETTERS: &[(Kind, usize)] = &[
     (Kind::V1Local, 107),
     (Kind::V2Local, 32),
     (Kind::V3Local, 107),
@@ -24,7 +24,7 @@ pub(crate) const LETTERS: [(Kind, usize); 8] = [
 fn other_keys_and_footers(rt: HostRuntime) {
     let alloc = rt.alloc();
     let own = Binding::of_footer(Some("footer"));
-    'kinds: for kind in KINDS {
+    'kinds: for &kind in KINDS {
         let token = kind.make(alloc, "hello", own).expect(&rt, "a token");
         let text = kind.read(alloc, token.as_str(), own).expect(&rt, "a text");
         assert_eq!(rt; text.as_str(), "hello", "{kind:?}");
@@ -68,7 +68,7 @@ fn with_changes(
 // Another nonce or another text, and another tag or another signature.
 #[test]
 fn other_payloads(rt: HostRuntime) {
-    'kinds: for kind in KINDS {
+    'kinds: for &kind in KINDS {
         let token = kind
             .make(rt.alloc(), "hello", Binding::NONE)
             .expect(&rt, "a token");
