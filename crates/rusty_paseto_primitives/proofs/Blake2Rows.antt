@@ -1,5 +1,5 @@
 -- The rows of the message schedule, and of the work vector in vectors of two words.
-use Rattle.std.proofs.Common.{◌≡◌, ℕ, zero, suc, ◌+◌, ◌*◌, ◌/◌, ◌%◌, ◌<◌, IsTrue, List, [], ◌∷◌, slice_index, slice_index_or, refl, ap, ◌∙◌, arith}
+use Rattle.std.proofs.Common.{◌≡◌, ℕ, zero, suc, ◌+◌, ◌*◌, ◌/◌, ◌<◌, IsTrue, List, [], ◌∷◌, slice_index, slice_index_or, refl, ap, ◌∙◌, arith}
 use Rattle.std.proofs.lemmas.Bool.Decides.{nat_tests}
 use Rattle.rusty_paseto_primitives.specs.Blake2.Block.{all_places, diagonal_step, round, rounds}
 use Rattle.rusty_paseto_primitives.specs.Blake2.Rows.{pair, pairs}
