@@ -61,7 +61,7 @@ impl Change {
         })
     }
 
-    // A refusal changes nothing, and nothing else is one.
+    // What refuses changes nothing, and what does not refuse changes something.
     fn is_of(&self, case: Case<'_>) -> bool {
         self.answer.is_refusal() == case.is_refused
             && (self.before == self.after) == case.is_refused
