@@ -87,21 +87,30 @@ pub fn two_builders(alloc: Global, text: &str) -> Result<[GenericBuilder<'static
 }
 
 fn ask_one_claim<W: Write>(run: &mut Run<W>) -> Result<()> {
-    let alloc = run.alloc();
     let text = run.text()?;
     let text = text.as_str();
-    let claim = CustomClaim::try_from_str(alloc, "text", text)?;
+    ask_claim(run, text)?;
+    ask_lent_claim(run, text)?;
+    ask_repeated_claim(run, text)
+}
+
+fn ask_claim<W: Write>(run: &mut Run<W>, text: &str) -> Result<()> {
+    let claim = CustomClaim::try_from_str(run.alloc(), "text", text)?;
     let case = Case::of("GenericBuilder::put_claim", "a claim");
     run.change(
         case,
-        two_builders(alloc, text)?,
+        two_builders(run.alloc(), text),
         [(), (), ()],
         |builder, _| { builder.put_claim(&claim) },
-    )?;
+    )
+}
+
+fn ask_lent_claim<W: Write>(run: &mut Run<W>, text: &str) -> Result<()> {
+    let claim = CustomClaim::try_from_str(run.alloc(), "text", text)?;
     let case = Case::of("GenericBuilder::set_claim", "a claim");
     run.change(
         case,
-        two_builders(alloc, text)?,
+        two_builders(run.alloc(), text),
         [(), (), ()],
         |builder, _| {
             match builder.set_claim(&claim) {
@@ -109,12 +118,15 @@ fn ask_one_claim<W: Write>(run: &mut Run<W>) -> Result<()> {
                 Err(error) => Err(error),
             }
         },
-    )?;
+    )
+}
+
+fn ask_repeated_claim<W: Write>(run: &mut Run<W>, text: &str) -> Result<()> {
     let claim = AudienceClaim::from("another one");
     let case = Case::of("GenericBuilder::put_claim", "a key that is there");
     run.change(
         case,
-        two_builders(alloc, text)?,
+        two_builders(run.alloc(), text),
         [(), (), ()],
         |builder, _| { builder.put_claim(&claim) },
     )
@@ -126,7 +138,7 @@ fn ask_refused_claim<W: Write>(run: &mut Run<W>) -> Result<()> {
     let case = Case::refused("GenericBuilder::put_claim", "a fraction");
     run.change(
         case,
-        two_builders(alloc, "a")?,
+        two_builders(run.alloc(), "a"),
         [(), (), ()],
         |builder, _| { builder.put_claim(&claim) },
     )
@@ -135,34 +147,45 @@ fn ask_refused_claim<W: Write>(run: &mut Run<W>) -> Result<()> {
 const SEVERAL: &str = "{\"a\":[1,2],\"aud\":null,\"z\":{\"b\":\"c\"}}";
 
 fn ask_several_claims<W: Write>(run: &mut Run<W>) -> Result<()> {
-    let alloc = run.alloc();
     let text = run.text()?;
     let text = text.as_str();
+    ask_claims(run, text)?;
+    ask_lent_claims(run, text)
+}
+
+fn ask_claims<W: Write>(run: &mut Run<W>, text: &str) -> Result<()> {
     let case = Case::of("GenericBuilder::put_claims", "a map");
-    let maps = three_maps(alloc, SEVERAL)?;
+    let maps = three_maps(run.alloc(), SEVERAL)?;
     run.change(
         case,
-        two_builders(alloc, text)?,
+        two_builders(run.alloc(), text),
         maps,
         |builder, map| builder.put_claims(map),
-    )?;
+    )
+}
+
+fn ask_lent_claims<W: Write>(run: &mut Run<W>, text: &str) -> Result<()> {
     let case = Case::of("GenericBuilder::extend_claims", "a map");
-    let maps = three_maps(alloc, SEVERAL)?;
-    run.change(case, two_builders(alloc, text)?, maps, |builder, map| {
-        match builder.extend_claims(map) {
-            Ok(_) => Ok(()),
-            Err(error) => Err(error),
-        }
-    })
+    let maps = three_maps(run.alloc(), SEVERAL)?;
+    run.change(
+        case,
+        two_builders(run.alloc(), text),
+        maps,
+        |builder, map| {
+            match builder.extend_claims(map) {
+                Ok(_) => Ok(()),
+                Err(error) => Err(error),
+            }
+        },
+    )
 }
 
 fn ask_refused_claims<W: Write>(run: &mut Run<W>) -> Result<()> {
-    let alloc = run.alloc();
     let case = Case::refused("GenericBuilder::put_claims", "a map with a fraction");
-    let maps = three_maps(alloc, "{\"a\":1,\"b\":3.5}")?;
+    let maps = three_maps(run.alloc(), "{\"a\":1,\"b\":3.5}")?;
     run.change(
         case,
-        two_builders(alloc, "a")?,
+        two_builders(run.alloc(), "a"),
         maps,
         |builder, map| builder.put_claims(map),
     )

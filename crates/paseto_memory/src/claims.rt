@@ -20,30 +20,36 @@ pub fn ask<W: Write>(run: &mut Run<W>) -> Result<()> {
 
 fn ask_dates<W: Write>(run: &mut Run<W>) -> Result<()> {
     let alloc = run.alloc();
+    let case = Case::of("DateClaim::try_from_str", "a date");
     run.ask(
-        Case::of("DateClaim::try_from_str", "a date"),
+        case,
         &(),
         &(),
-        |_| { ExpirationClaim::try_from_str(alloc, DATE) },
+        |_| ExpirationClaim::try_from_str(alloc, DATE),
     )?;
+    ask_refused_date(run)?;
+    let case = Case::of("DateClaim::default", "its date");
+    run.ask(case, &(), &(), |_| ExpirationClaim::default(alloc))?;
+    ask_copied_date(run)
+}
+
+fn ask_refused_date<W: Write>(run: &mut Run<W>) -> Result<()> {
+    let alloc = run.alloc();
     let text = run.text()?;
-    run.ask(
-        Case::refused("DateClaim::try_from_str", "no date"),
-        &text,
-        &text,
-        |text| { ExpirationClaim::try_from_str(alloc, text.as_str()) },
-    )?;
-    run.ask(Case::of("DateClaim::default", "its date"), &(), &(), |_| {
-        ExpirationClaim::default(alloc)
-    })?;
-    let claim = ExpirationClaim::try_from_str(alloc, DATE)?;
-    let other = ExpirationClaim::try_from_str(alloc, DATE)?;
-    run.ask(
-        Case::of("DateClaim::try_clone", "a claim"),
-        &other,
-        &claim,
-        |claim| { claim.try_clone(alloc) },
-    )
+    let case = Case::refused("DateClaim::try_from_str", "no date");
+    run.ask(case, &text, &text, |text| {
+        ExpirationClaim::try_from_str(alloc, text.as_str())
+    })
+}
+
+fn ask_copied_date<W: Write>(run: &mut Run<W>) -> Result<()> {
+    let alloc = run.alloc();
+    let claims = [
+        ExpirationClaim::try_from_str(alloc, DATE)?,
+        ExpirationClaim::try_from_str(alloc, DATE)?,
+    ];
+    let case = Case::of("DateClaim::try_clone", "a claim");
+    run.ask(case, &claims[0], &claims[1], |claim| claim.try_clone(alloc))
 }
 
 fn ask_custom_claims<W: Write>(run: &mut Run<W>) -> Result<()> {
@@ -121,15 +127,22 @@ fn ask_claim<W: Write, C: PasetoClaim>(run: &mut Run<W>, of: &str, claim: &C) ->
 }
 
 fn ask_json<W: Write>(run: &mut Run<W>) -> Result<()> {
-    let alloc = run.alloc();
     let text = run.text()?;
-    ask_claim(run, "TextClaim", &AudienceClaim::from(text.as_str()))?;
-    let date = ExpirationClaim::try_from_str(alloc, DATE)?;
-    ask_claim(run, "DateClaim", &date)?;
-    let claim = CustomClaim::try_from_str(alloc, "a", text.as_str())?;
-    ask_claim(run, "CustomClaim, a text", &claim)?;
-    let claim = CustomClaim::try_from_str(alloc, "a", 4u64)?;
-    ask_claim(run, "CustomClaim, a number", &claim)?;
-    let claim = CustomClaim::try_from_str(alloc, "a", tree(alloc, text.as_str())?)?;
-    ask_claim(run, "CustomClaim, JSON", &claim)
+    let text = text.as_str();
+    ask_claim(run, "TextClaim", &AudienceClaim::from(text))?;
+    ask_date(run)?;
+    ask_custom(run, "CustomClaim, a text", text)?;
+    ask_custom(run, "CustomClaim, a number", 4u64)?;
+    let value = tree(run.alloc(), text)?;
+    ask_custom(run, "CustomClaim, JSON", value)
+}
+
+fn ask_date<W: Write>(run: &mut Run<W>) -> Result<()> {
+    let claim = ExpirationClaim::try_from_str(run.alloc(), DATE)?;
+    ask_claim(run, "DateClaim", &claim)
+}
+
+fn ask_custom<W: Write, T: ClaimValue + Drop>(run: &mut Run<W>, of: &str, value: T) -> Result<()> {
+    let claim = CustomClaim::try_from_str(run.alloc(), "a", value)?;
+    ask_claim(run, of, &claim)
 }

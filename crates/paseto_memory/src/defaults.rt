@@ -119,44 +119,42 @@ fn ask_defaults<W: Write>(run: &mut Run<W>) -> Result<()> {
     let alloc = run.alloc();
     let now = now()?;
     ensure!(fits_default(now), "no default builder begins at the moment");
-    run.ask(
-        Case::of("PasetoBuilder::default", "a moment"),
-        &(),
-        &(),
-        |_| { PasetoBuilder::<V4, Local>::default(alloc, now) },
-    )?;
-    run.ask(
-        Case::of("DefaultParser::default", "a moment"),
-        &(),
-        &(),
-        |_| { PasetoParser::<V4, Local>::default(alloc, now) },
-    )
+    let case = Case::of("PasetoBuilder::default", "a moment");
+    run.ask(case, &(), &(), |_| {
+        PasetoBuilder::<V4, Local>::default(alloc, now)
+    })?;
+    let case = Case::of("DefaultParser::default", "a moment");
+    run.ask(case, &(), &(), |_| {
+        PasetoParser::<V4, Local>::default(alloc, now)
+    })
 }
 
 fn ask_claims<W: Write>(run: &mut Run<W>) -> Result<()> {
-    let alloc = run.alloc();
     let text = run.text()?;
     let text = text.as_str();
-    let claim = CustomClaim::try_from_str(alloc, "text", text)?;
     // With ten more the claims are fifteen, and with thirteen more the keys that are counted.
-    let case = Case::of("PasetoBuilder::put_claim", "a claim");
+    ask_claim(run, "a claim", text, 10)?;
+    ask_claim(run, "a claim beside many", text, 13)?;
+    ask_lent_claim(run, text)
+}
+
+fn ask_claim<W: Write>(run: &mut Run<W>, of: &str, text: &str, more: u64) -> Result<()> {
+    let claim = CustomClaim::try_from_str(run.alloc(), "text", text)?;
+    let case = Case::of("PasetoBuilder::put_claim", of);
     run.change(
         case,
-        two_builders::<V4, Local>(alloc, text, 10)?,
+        two_builders::<V4, Local>(run.alloc(), text, more),
         [(), (), ()],
-        |builder, _| { builder.put_claim(&claim) },
-    )?;
-    let case = Case::of("PasetoBuilder::put_claim", "a claim beside many");
-    run.change(
-        case,
-        two_builders::<V4, Local>(alloc, text, 13)?,
-        [(), (), ()],
-        |builder, _| { builder.put_claim(&claim) },
-    )?;
+        |builder, _| builder.put_claim(&claim),
+    )
+}
+
+fn ask_lent_claim<W: Write>(run: &mut Run<W>, text: &str) -> Result<()> {
+    let claim = CustomClaim::try_from_str(run.alloc(), "text", text)?;
     let case = Case::of("PasetoBuilder::set_claim", "a claim");
     run.change(
         case,
-        two_builders::<V4, Local>(alloc, text, 10)?,
+        two_builders::<V4, Local>(run.alloc(), text, 10),
         [(), (), ()],
         |builder, _| {
             match builder.set_claim(&claim) {
@@ -169,43 +167,43 @@ fn ask_claims<W: Write>(run: &mut Run<W>) -> Result<()> {
 
 // A claim that is set again makes a key the repeated one, for which nothing is built.
 fn ask_repeated_claims<W: Write>(run: &mut Run<W>) -> Result<()> {
-    let alloc = run.alloc();
     let claim = AudienceClaim::from("others");
     let case = Case::of("PasetoBuilder::put_claim", "a key that was set");
     run.change(
         case,
-        two_builders::<V4, Local>(alloc, "a", 10)?,
+        two_builders::<V4, Local>(run.alloc(), "a", 10),
         [(), (), ()],
-        |builder, _| { builder.put_claim(&claim) },
+        |builder, _| builder.put_claim(&claim),
     )?;
-    let mut builders = two_builders::<V4, Local>(alloc, "a", 10)?;
+    ask_refused_building(run)
+}
+
+fn ask_refused_building<W: Write>(run: &mut Run<W>) -> Result<()> {
+    let claim = AudienceClaim::from("others");
+    let mut builders = two_builders::<V4, Local>(run.alloc(), "a", 10)?;
     builders[0].put_claim(&claim)?;
     builders[1].put_claim(&claim)?;
     let case = Case::refused("PasetoBuilder::build", "a key that was set again");
     let key = symmetric_key::<V4>();
-    run.ask(
-        case,
-        &builders[0],
-        &builders[1],
-        |builder| builder.build(&mut Zeros, &key),
-    )
+    run.ask(case, &builders[0], &builders[1], |builder| {
+        builder.build(&mut Zeros, &key)
+    })
 }
 
 fn ask_no_expiration<W: Write>(run: &mut Run<W>) -> Result<()> {
-    let alloc = run.alloc();
     let call = "PasetoBuilder::put_no_expiration_danger_acknowledged";
-    let builders = two_builders::<V4, Local>(alloc, "a", 10)?;
+    let case = Case::of(call, "a builder");
     run.change(
-        Case::of(call, "a builder"),
-        builders,
+        case,
+        two_builders::<V4, Local>(run.alloc(), "a", 10),
         [(), (), ()],
         |builder, _| { builder.put_no_expiration_danger_acknowledged() },
     )?;
     let call = "PasetoBuilder::set_no_expiration_danger_acknowledged";
-    let builders = two_builders::<V4, Local>(alloc, "a", 10)?;
+    let case = Case::of(call, "a builder");
     run.change(
-        Case::of(call, "a builder"),
-        builders,
+        case,
+        two_builders::<V4, Local>(run.alloc(), "a", 10),
         [(), (), ()],
         |builder, _| {
             match builder.set_no_expiration_danger_acknowledged() {
@@ -217,19 +215,18 @@ fn ask_no_expiration<W: Write>(run: &mut Run<W>) -> Result<()> {
 }
 
 fn ask_checks<W: Write>(run: &mut Run<W>) -> Result<()> {
-    let alloc = run.alloc();
     let claim = AudienceClaim::from("others");
     let case = Case::of("DefaultParser::put_check", "a claim");
     run.change(
         case,
-        two_parsers::<V4, Local>(alloc)?,
+        two_parsers::<V4, Local>(run.alloc()),
         [(), (), ()],
         |parser, _| parser.put_check(&claim),
     )?;
     let case = Case::of("DefaultParser::check_claim", "a claim");
     run.change(
         case,
-        two_parsers::<V4, Local>(alloc)?,
+        two_parsers::<V4, Local>(run.alloc()),
         [(), (), ()],
         |parser, _| {
             match parser.check_claim(&claim) {
@@ -241,20 +238,30 @@ fn ask_checks<W: Write>(run: &mut Run<W>) -> Result<()> {
 }
 
 fn ask_validators<W: Write>(run: &mut Run<W>) -> Result<()> {
-    let alloc = run.alloc();
+    ask_validator(run)?;
+    ask_lent_validator(run)
+}
+
+fn ask_validator<W: Write>(run: &mut Run<W>) -> Result<()> {
     let claim = AudienceClaim::from("customers");
     let case = Case::of("DefaultParser::put_validator", "a claim");
+    let boxes = refusing!(run.alloc());
     run.change(
         case,
-        two_parsers::<V4, Local>(alloc)?,
-        refusing!(alloc),
+        two_parsers::<V4, Local>(run.alloc()),
+        boxes,
         |parser, validator| { parser.put_validator(&claim, validator) },
-    )?;
+    )
+}
+
+fn ask_lent_validator<W: Write>(run: &mut Run<W>) -> Result<()> {
+    let claim = AudienceClaim::from("customers");
     let case = Case::of("DefaultParser::validate_claim", "a claim");
+    let boxes = refusing!(run.alloc());
     run.change(
         case,
-        two_parsers::<V4, Local>(alloc)?,
-        refusing!(alloc),
+        two_parsers::<V4, Local>(run.alloc()),
+        boxes,
         |parser, validator| {
             match parser.validate_claim(&claim, validator) {
                 Ok(_) => Ok(()),

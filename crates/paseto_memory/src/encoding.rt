@@ -32,27 +32,26 @@ fn ask_encodings<W: Write>(run: &mut Run<W>) -> Result<()> {
 fn ask_sections<W: Write>(run: &mut Run<W>) -> Result<()> {
     let alloc = run.alloc();
     let text = run.text()?;
-    let section = to_section(alloc, text.as_str().as_bytes())?;
     run.ask(Case::of("to_section", "a text"), &text, &text, |text| {
         to_section(alloc, text.as_str().as_bytes())
     })?;
-    run.ask(
-        Case::of("from_section", "a section"),
-        &section,
-        &section,
-        |section| { from_section(alloc, section.as_str()) },
-    )?;
-    let objects = [
+    let section = to_section(alloc, text.as_str().as_bytes())?;
+    let case = Case::of("from_section", "a section");
+    run.ask(case, &section, &section, |section| {
+        from_section(alloc, section.as_str())
+    })?;
+    ask_pushed_section(run)
+}
+
+fn ask_pushed_section<W: Write>(run: &mut Run<W>) -> Result<()> {
+    let alloc = run.alloc();
+    let texts = Ok([
         String::from_str(alloc, "v4.")?,
         String::from_str(alloc, "v4.")?,
-    ];
+    ]);
     let bytes = b"behind a text, and so long that it has to grow";
-    run.change(
-        Case::of("push_section", "bytes"),
-        objects,
-        [(), (), ()],
-        |out, _| { push_section(bytes, out) },
-    )
+    let case = Case::of("push_section", "bytes");
+    run.change(case, texts, [(), (), ()], |out, _| push_section(bytes, out))
 }
 
 fn ask_refused_sections<W: Write>(run: &mut Run<W>) -> Result<()> {
@@ -68,35 +67,33 @@ fn ask_refused_sections<W: Write>(run: &mut Run<W>) -> Result<()> {
 }
 
 fn ask_footers<W: Write>(run: &mut Run<W>) -> Result<()> {
+    let section = to_section(run.alloc(), run.text()?.as_str().as_bytes())?;
+    let token = format!(in run.alloc(); "v4.local.AAAA.{section}")?;
+    ask_footer(run, token.as_str())?;
+    ask_untrusted(run, token.as_str())?;
+    ask_missing_footers(run)
+}
+
+fn ask_footer<W: Write>(run: &mut Run<W>, token: &str) -> Result<()> {
     let alloc = run.alloc();
-    let section = to_section(alloc, run.text()?.as_str().as_bytes())?;
-    let token = format!(in alloc; "v4.local.AAAA.{section}")?;
-    let token = token.as_str();
-    run.ask(
-        Case::of("Footer::try_from_token", "a token"),
-        &(),
-        &(),
-        |_| { Footer::try_from_token(alloc, token) },
-    )?;
+    let case = Case::of("Footer::try_from_token", "a token");
+    run.ask(case, &(), &(), |_| Footer::try_from_token(alloc, token))
+}
+
+fn ask_untrusted<W: Write>(run: &mut Run<W>, token: &str) -> Result<()> {
+    let alloc = run.alloc();
     let untrusted = UntrustedToken::try_parse(token)?;
     let case = Case::of("UntrustedToken::footer_decoded", "a token");
-    run.ask(
-        case,
-        &untrusted,
-        &untrusted,
-        |token| token.footer_decoded(alloc),
-    )?;
+    run.ask(case, &untrusted, &untrusted, |token| {
+        token.footer_decoded(alloc)
+    })?;
     let case = Case::of("UntrustedToken::footer_str", "a token");
-    run.ask(
-        case,
-        &untrusted,
-        &untrusted,
-        |token| token.footer_str(alloc),
-    )?;
+    run.ask(case, &untrusted, &untrusted, |token| {
+        token.footer_str(alloc)
+    })?;
     let other = UntrustedToken::try_parse("v4.local.AAAA._w")?;
     let case = Case::refused("UntrustedToken::footer_str", "bytes that are no text");
-    run.ask(case, &other, &other, |token| token.footer_str(alloc))?;
-    ask_missing_footers(run)
+    run.ask(case, &other, &other, |token| token.footer_str(alloc))
 }
 
 // A token with three sections has no footer, which takes no memory to tell.

@@ -93,6 +93,10 @@ fn ring_of<V: Opens>(alloc: Global) -> Result<KeyRing<V>> {
     Ok(ring)
 }
 
+fn two_rings<V: Opens>(alloc: Global) -> Result<[KeyRing<V>; 2]> {
+    Ok([ring_of(alloc)?, ring_of(alloc)?])
+}
+
 fn other_key<V: Opens>() -> PasetoSymmetricKey<V, Local> {
     PasetoSymmetricKey::from(Key::<32>::from([8; 32]))
 }
@@ -107,7 +111,7 @@ fn ask_adding<V: Opens, W: Write>(
     let of = format!(in alloc; "{kind}, {what}")?;
     run.change(
         Case::of("KeyRing::add", of.as_str()),
-        [ring_of::<V>(alloc)?, ring_of::<V>(alloc)?],
+        two_rings::<V>(alloc),
         [symmetric_key(), symmetric_key(), symmetric_key()],
         |ring, key| ring.add(id, key),
     )

@@ -29,7 +29,9 @@ pub fn ask<W: Write>(run: &mut Run<W>) -> Result<()> {
     ask_given_texts(run)?;
     ask_objects(run)?;
     ask_builder(run)?;
+    ask_default_builder(run)?;
     ask_parser(run)?;
+    ask_default_parser(run)?;
     ask_moment(run)?;
     ask_primitives(run)
 }
@@ -67,17 +69,15 @@ fn ask_keys<W: Write>(run: &mut Run<W>) -> Result<()> {
     run.ask(case, &(), &(), |_| Key::<32>::try_from("no digits"))?;
     let case = Case::of("Key::try_new_random", "a generator, with no memory");
     run.ask(case, &(), &(), |_| Key::<32>::try_new_random(&mut Zeros))?;
+    ask_point(run)
+}
+
+fn ask_point<W: Write>(run: &mut Run<W>) -> Result<()> {
     let point = Key::<49>::from([2; 49]);
-    let case = Case::of(
-        "TryFrom::try_from",
-        "PasetoAsymmetricPublicKey, with no memory",
-    );
-    run.ask(
-        case,
-        &(),
-        &(),
-        |_| PasetoAsymmetricPublicKey::<V3, Public>::try_from(&point),
-    )
+    let of = "PasetoAsymmetricPublicKey, with no memory";
+    run.ask(Case::of("TryFrom::try_from", of), &(), &(), |_| {
+        PasetoAsymmetricPublicKey::<V3, Public>::try_from(&point)
+    })
 }
 
 fn ask_sections<W: Write>(run: &mut Run<W>) -> Result<()> {
@@ -203,36 +203,36 @@ fn ask_claims<W: Write>(run: &mut Run<W>) -> Result<()> {
     })
 }
 
-// A claim that is made of a text that is given, and so not copied.
+// Claims that are made of a text that is given, and so not copied.
 fn ask_given_texts<W: Write>(run: &mut Run<W>) -> Result<()> {
-    let alloc = run.alloc();
+    ask_given_key(run)?;
+    ask_given_date(run)
+}
+
+fn ask_given_key<W: Write>(run: &mut Run<W>) -> Result<()> {
     let keys = [run.text()?, run.text()?, run.text()?];
+    let slots = Ok([Slot::empty(), Slot::empty()]);
     let case = Case::of("CustomClaim::try_from_string", "a key, with no memory");
-    run.change(
-        case,
-        [Slot::empty(), Slot::empty()],
-        keys,
-        |slot, key: String| {
-            slot.claim = Some(CustomClaim::try_from_string(key, "a")?);
-            Ok::<(), PasetoClaimError>(())
-        },
-    )?;
+    run.change(case, slots, keys, |slot, key: String| {
+        slot.claim = Some(CustomClaim::try_from_string(key, "a")?);
+        Ok::<(), PasetoClaimError>(())
+    })
+}
+
+fn ask_given_date<W: Write>(run: &mut Run<W>) -> Result<()> {
+    let alloc = run.alloc();
     let date = "2024-01-01T00:00:00Z";
     let dates = [
         String::from_str(alloc, date)?,
         String::from_str(alloc, date)?,
         String::from_str(alloc, date)?,
     ];
+    let slots = Ok([Slot::empty(), Slot::empty()]);
     let case = Case::of("DateClaim::try_from_string", "a date, with no memory");
-    run.change(
-        case,
-        [Slot::empty(), Slot::empty()],
-        dates,
-        |slot, text: String| {
-            slot.date = Some(ExpirationClaim::try_from_string(alloc, text)?);
-            Ok::<(), PasetoClaimError>(())
-        },
-    )
+    run.change(case, slots, dates, |slot, text: String| {
+        slot.date = Some(ExpirationClaim::try_from_string(alloc, text)?);
+        Ok::<(), PasetoClaimError>(())
+    })
 }
 
 // Where a claim may be put.
@@ -277,79 +277,55 @@ fn ask_objects<W: Write>(run: &mut Run<W>) -> Result<()> {
 }
 
 fn ask_builder<W: Write>(run: &mut Run<W>) -> Result<()> {
-    let builders = builders::two_builders(run.alloc(), "a")?;
-    let case = Case::of(
-        "GenericBuilder::remove_claim and others",
-        "a builder, with no memory",
-    );
-    run.change(
-        case,
-        builders,
-        [(), (), ()],
-        |builder, _| -> Result<(), PasetoError> {
-            builder
-                .remove_claim("aud")
-                .set_footer(Footer::from("another"))
-                .set_implicit_assertion(ImplicitAssertion::from("tenant-1"));
-            Ok(())
-        },
-    )?;
-    let builders = defaults::two_builders::<V4, Local>(run.alloc(), "a", 0)?;
-    let case = Case::of(
-        "PasetoBuilder::set_footer and others",
-        "a builder, with no memory",
-    );
-    run.change(
-        case,
-        builders,
-        [(), (), ()],
-        |builder, _| -> Result<(), PasetoError> {
-            builder
-                .set_footer(Footer::from("another"))
-                .set_implicit_assertion(ImplicitAssertion::from("tenant-1"));
-            Ok(())
-        },
-    )
+    let builders = builders::two_builders(run.alloc(), "a");
+    let of = "a builder, with no memory";
+    let case = Case::of("GenericBuilder::remove_claim and others", of);
+    run.change(case, builders, [(), (), ()], |builder, _| {
+        builder
+            .remove_claim("aud")
+            .set_footer(Footer::from("another"))
+            .set_implicit_assertion(ImplicitAssertion::from("tenant-1"));
+        Ok::<(), PasetoError>(())
+    })
+}
+
+fn ask_default_builder<W: Write>(run: &mut Run<W>) -> Result<()> {
+    let builders = defaults::two_builders::<V4, Local>(run.alloc(), "a", 0);
+    let of = "a builder, with no memory";
+    let case = Case::of("PasetoBuilder::set_footer and others", of);
+    run.change(case, builders, [(), (), ()], |builder, _| {
+        builder
+            .set_footer(Footer::from("another"))
+            .set_implicit_assertion(ImplicitAssertion::from("tenant-1"));
+        Ok::<(), PasetoError>(())
+    })
 }
 
 fn ask_parser<W: Write>(run: &mut Run<W>) -> Result<()> {
     let now = now()?;
-    let case = Case::of(
-        "TokenParser::set_footer and others",
-        "a parser, with no memory",
-    );
-    let parsers = parsers::two_parsers(run.alloc())?;
-    run.change(
-        case,
-        parsers,
-        [(), (), ()],
-        |parser, _| -> Result<(), PasetoError> {
-            let footer = if parser.get_footer().as_str().is_empty() {
-                ""
-            } else {
-                "another"
-            };
-            parser.set_now(now).set_footer(Footer::from(footer));
-            Ok(())
-        },
-    )?;
-    let case = Case::of(
-        "DefaultParser::set_footer and others",
-        "a parser, with no memory",
-    );
-    let parsers = defaults::two_parsers::<V4, Local>(run.alloc())?;
-    run.change(
-        case,
-        parsers,
-        [(), (), ()],
-        |parser, _| -> Result<(), PasetoError> {
-            parser
-                .set_now(now)
-                .set_footer(Footer::from("another"))
-                .set_implicit_assertion(ImplicitAssertion::from("tenant-1"));
-            Ok(())
-        },
-    )
+    let parsers = parsers::two_parsers(run.alloc());
+    let of = "a parser, with no memory";
+    let case = Case::of("TokenParser::set_footer and others", of);
+    run.change(case, parsers, [(), (), ()], |parser, _| {
+        let is_empty = parser.get_footer().as_str().is_empty();
+        let footer = if is_empty { "" } else { "another" };
+        parser.set_now(now).set_footer(Footer::from(footer));
+        Ok::<(), PasetoError>(())
+    })
+}
+
+fn ask_default_parser<W: Write>(run: &mut Run<W>) -> Result<()> {
+    let now = now()?;
+    let parsers = defaults::two_parsers::<V4, Local>(run.alloc());
+    let of = "a parser, with no memory";
+    let case = Case::of("DefaultParser::set_footer and others", of);
+    run.change(case, parsers, [(), (), ()], |parser, _| {
+        parser
+            .set_now(now)
+            .set_footer(Footer::from("another"))
+            .set_implicit_assertion(ImplicitAssertion::from("tenant-1"));
+        Ok::<(), PasetoError>(())
+    })
 }
 
 fn ask_moment<W: Write>(run: &mut Run<W>) -> Result<()> {

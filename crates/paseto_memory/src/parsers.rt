@@ -82,27 +82,39 @@ pub fn two_parsers(alloc: Global) -> Result<[GenericParser<'static, V4, Local>; 
 }
 
 fn ask_checks<W: Write>(run: &mut Run<W>) -> Result<()> {
-    let alloc = run.alloc();
+    ask_check(run)?;
+    ask_lent_check(run)?;
+    ask_repeated_check(run)
+}
+
+fn ask_check<W: Write>(run: &mut Run<W>) -> Result<()> {
     let claim = AudienceClaim::from("others");
     let case = Case::of("TokenParser::put_check", "a claim");
     run.change(
         case,
-        two_parsers(alloc)?,
+        two_parsers(run.alloc()),
         [(), (), ()],
         |parser, _| parser.put_check(&claim),
-    )?;
+    )
+}
+
+fn ask_lent_check<W: Write>(run: &mut Run<W>) -> Result<()> {
+    let claim = AudienceClaim::from("others");
     let case = Case::of("TokenParser::check_claim", "a claim");
-    run.change(case, two_parsers(alloc)?, [(), (), ()], |parser, _| {
+    run.change(case, two_parsers(run.alloc()), [(), (), ()], |parser, _| {
         match parser.check_claim(&claim) {
             Ok(_) => Ok(()),
             Err(error) => Err(error),
         }
-    })?;
-    let claim = CustomClaim::try_from_str(alloc, "seats", 5u64)?;
+    })
+}
+
+fn ask_repeated_check<W: Write>(run: &mut Run<W>) -> Result<()> {
+    let claim = CustomClaim::try_from_str(run.alloc(), "seats", 5u64)?;
     let case = Case::of("TokenParser::put_check", "a key that is there");
     run.change(
         case,
-        two_parsers(alloc)?,
+        two_parsers(run.alloc()),
         [(), (), ()],
         |parser, _| parser.put_check(&claim),
     )
@@ -110,75 +122,87 @@ fn ask_checks<W: Write>(run: &mut Run<W>) -> Result<()> {
 
 fn ask_refused_checks<W: Write>(run: &mut Run<W>) -> Result<()> {
     ask_refused_check(run)?;
-    let alloc = run.alloc();
+    ask_refused_validator(run)?;
     let case = Case::refused("TokenParser::put_checks", "a map with a fraction");
-    let maps = three_maps(alloc, "{\"a\":1,\"b\":3.5}")?;
+    let maps = three_maps(run.alloc(), "{\"a\":1,\"b\":3.5}")?;
     run.change(
         case,
-        two_parsers(alloc)?,
+        two_parsers(run.alloc()),
         maps,
         |parser, map| parser.put_checks(map),
     )
 }
 
+// A claim that nothing can be stored of.
+fn odd_claim(alloc: Global) -> Result<CustomClaim<Value>> {
+    let value = Value::from_str(alloc, "[3.5]")?;
+    Ok(CustomClaim::try_from_str(alloc, "odd", value)?)
+}
+
 fn ask_refused_check<W: Write>(run: &mut Run<W>) -> Result<()> {
-    let alloc = run.alloc();
-    let claim = CustomClaim::try_from_str(alloc, "odd", Value::from_str(alloc, "[3.5]")?)?;
+    let claim = odd_claim(run.alloc())?;
     let case = Case::refused("TokenParser::put_check", "a fraction");
     run.change(
         case,
-        two_parsers(alloc)?,
+        two_parsers(run.alloc()),
         [(), (), ()],
         |parser, _| parser.put_check(&claim),
-    )?;
-    let case = Case::refused("TokenParser::put_validator", "a fraction");
-    run.change(
-        case,
-        two_parsers(alloc)?,
-        refusing!(alloc),
-        |parser, validator| { parser.put_validator(&claim, validator) },
     )
 }
 
+fn ask_refused_validator<W: Write>(run: &mut Run<W>) -> Result<()> {
+    let claim = odd_claim(run.alloc())?;
+    let case = Case::refused("TokenParser::put_validator", "a fraction");
+    let boxes = refusing!(run.alloc());
+    run.change(case, two_parsers(run.alloc()), boxes, |parser, validator| {
+        parser.put_validator(&claim, validator)
+    })
+}
+
 fn ask_validators<W: Write>(run: &mut Run<W>) -> Result<()> {
-    let alloc = run.alloc();
+    ask_validator(run)?;
+    ask_lent_validator(run)
+}
+
+fn ask_validator<W: Write>(run: &mut Run<W>) -> Result<()> {
     let claim = AudienceClaim::from("customers");
     let case = Case::of("TokenParser::put_validator", "a claim");
-    run.change(
-        case,
-        two_parsers(alloc)?,
-        refusing!(alloc),
-        |parser, validator| { parser.put_validator(&claim, validator) },
-    )?;
+    let boxes = refusing!(run.alloc());
+    run.change(case, two_parsers(run.alloc()), boxes, |parser, validator| {
+        parser.put_validator(&claim, validator)
+    })
+}
+
+fn ask_lent_validator<W: Write>(run: &mut Run<W>) -> Result<()> {
+    let claim = AudienceClaim::from("customers");
     let case = Case::of("TokenParser::validate_claim", "a claim");
-    run.change(
-        case,
-        two_parsers(alloc)?,
-        refusing!(alloc),
-        |parser, validator| {
-            match parser.validate_claim(&claim, validator) {
-                Ok(_) => Ok(()),
-                Err(error) => Err(error),
-            }
-        },
-    )
+    let boxes = refusing!(run.alloc());
+    run.change(case, two_parsers(run.alloc()), boxes, |parser, validator| {
+        match parser.validate_claim(&claim, validator) {
+            Ok(_) => Ok(()),
+            Err(error) => Err(error),
+        }
+    })
 }
 
 const SEVERAL: &str = "{\"a\":{\"a\":1},\"aud\":{\"aud\":\"others\"},\"seats\":5}";
 
 fn ask_several_checks<W: Write>(run: &mut Run<W>) -> Result<()> {
-    let alloc = run.alloc();
     let case = Case::of("TokenParser::put_checks", "a map");
-    let maps = three_maps(alloc, SEVERAL)?;
+    let maps = three_maps(run.alloc(), SEVERAL)?;
     run.change(
         case,
-        two_parsers(alloc)?,
+        two_parsers(run.alloc()),
         maps,
         |parser, map| parser.put_checks(map),
     )?;
+    ask_lent_checks(run)
+}
+
+fn ask_lent_checks<W: Write>(run: &mut Run<W>) -> Result<()> {
     let case = Case::of("TokenParser::extend_check_claims", "a map");
-    let maps = three_maps(alloc, SEVERAL)?;
-    run.change(case, two_parsers(alloc)?, maps, |parser, map| {
+    let maps = three_maps(run.alloc(), SEVERAL)?;
+    run.change(case, two_parsers(run.alloc()), maps, |parser, map| {
         match parser.extend_check_claims(map) {
             Ok(_) => Ok(()),
             Err(error) => Err(error),
@@ -197,8 +221,8 @@ fn validators(alloc: Global, boxes: [ValidatorFn; 3]) -> Result<ValidatorMap> {
 }
 
 fn ask_several_validators<W: Write>(run: &mut Run<W>) -> Result<()> {
-    let alloc = run.alloc();
     let case = Case::of("TokenParser::put_validators", "a map");
+    let alloc = run.alloc();
     let maps = [
         validators(alloc, refusing!(alloc))?,
         validators(alloc, refusing!(alloc))?,
@@ -206,21 +230,21 @@ fn ask_several_validators<W: Write>(run: &mut Run<W>) -> Result<()> {
     ];
     run.change(
         case,
-        two_parsers(alloc)?,
+        two_parsers(run.alloc()),
         maps,
         |parser, map| parser.put_validators(map),
     )
 }
 
 fn ask_lent_validators<W: Write>(run: &mut Run<W>) -> Result<()> {
-    let alloc = run.alloc();
     let case = Case::of("TokenParser::extend_validation_claims", "a map");
+    let alloc = run.alloc();
     let maps = [
         validators(alloc, refusing!(alloc))?,
         validators(alloc, refusing!(alloc))?,
         validators(alloc, refusing!(alloc))?,
     ];
-    run.change(case, two_parsers(alloc)?, maps, |parser, map| {
+    run.change(case, two_parsers(run.alloc()), maps, |parser, map| {
         match parser.extend_validation_claims(map) {
             Ok(_) => Ok(()),
             Err(error) => Err(error),
@@ -234,17 +258,16 @@ pub fn now() -> Result<Timestamp> {
 }
 
 fn ask_times<W: Write>(run: &mut Run<W>) -> Result<()> {
-    let alloc = run.alloc();
     let now = now()?;
     let case = Case::of("TokenParser::put_times", "a moment");
     run.change(
         case,
-        two_parsers(alloc)?,
+        two_parsers(run.alloc()),
         [(), (), ()],
         |parser, _| parser.put_times(now),
     )?;
     let case = Case::of("TokenParser::check_times", "a moment");
-    run.change(case, two_parsers(alloc)?, [(), (), ()], |parser, _| {
+    run.change(case, two_parsers(run.alloc()), [(), (), ()], |parser, _| {
         match parser.check_times(now) {
             Ok(_) => Ok(()),
             Err(error) => Err(error),
@@ -348,31 +371,41 @@ fn of_audience(alloc: Global) -> Result<GenericParser<'static, V4, Local>> {
 }
 
 fn ask_failed_check<W: Write>(run: &mut Run<W>, of: &str, payload: &str) -> Result<()> {
-    let alloc = run.alloc();
-    let token = seal::<V4>(alloc, payload)?;
+    let parsers = [of_audience(run.alloc())?, of_audience(run.alloc())?];
+    ask_refused_parsing(run, of, payload, &parsers)
+}
+
+fn ask_refused_parsing<W: Write>(
+    run: &mut Run<W>,
+    of: &str,
+    payload: &str,
+    parsers: &[GenericParser<'static, V4, Local>; 2],
+) -> Result<()> {
+    let token = seal::<V4>(run.alloc(), payload)?;
     let key = symmetric_key::<V4>();
-    let (untouched, parser) = (of_audience(alloc)?, of_audience(alloc)?);
-    run.ask(
-        Case::refused("TokenParser::parse", of),
-        &untouched,
-        &parser,
-        |parser| { parser.parse(token.as_str(), &key) },
-    )
+    let case = Case::refused("TokenParser::parse", of);
+    run.ask(case, &parsers[0], &parsers[1], |parser| {
+        parser.parse(token.as_str(), &key)
+    })
+}
+
+/// A parser with three validators.
+fn of_validators(
+    alloc: Global,
+    boxes: [ValidatorFn; 3],
+) -> Result<GenericParser<'static, V4, Local>> {
+    let mut parser = parser_of(alloc)?;
+    parser.put_validators(validators(alloc, boxes)?)?;
+    Ok(parser)
 }
 
 fn ask_failed_validation<W: Write>(run: &mut Run<W>) -> Result<()> {
     let alloc = run.alloc();
-    let token = seal::<V4>(alloc, expired(alloc)?.as_str())?;
-    let key = symmetric_key::<V4>();
-    let mut untouched = parser_of::<V4, Local>(alloc)?;
-    let mut parser = parser_of::<V4, Local>(alloc)?;
-    untouched.put_validators(validators(alloc, refusing!(alloc))?)?;
-    parser.put_validators(validators(alloc, refusing!(alloc))?)?;
-    let case = Case::refused("TokenParser::parse", "what a validator refuses");
-    run.ask(
-        case,
-        &untouched,
-        &parser,
-        |parser| parser.parse(token.as_str(), &key),
-    )
+    let payload = expired(alloc)?;
+    let parsers = [
+        of_validators(alloc, refusing!(alloc))?,
+        of_validators(alloc, refusing!(alloc))?,
+    ];
+    let of = "what a validator refuses";
+    ask_refused_parsing(run, of, payload.as_str(), &parsers)
 }

@@ -149,14 +149,15 @@ impl<W: Write> Run<W> {
         self.tell(name.as_str(), met.word(&expected), then.is(&expected))
     }
 
-    /// Changes the second object between the marks, by the second of the given values. What is right is told by
-    /// the first: by what it answers before and after the same change.
+    /// Changes the second of two alike objects between the marks, by the second of the given values. What is right
+    /// is told by the first: by what it answers before and after the same change. Objects that could not be made
+    /// end the run.
     ///
     /// Where memory was refused, the object is to answer as before the change, and is then changed again.
     pub fn change<O, A, E, F>(
         &mut self,
         case: Case<'_>,
-        objects: [O; 2],
+        objects: Result<[O; 2]>,
         given: [A; 3],
         call: F,
     ) -> Result<()>
@@ -167,11 +168,11 @@ impl<W: Write> Run<W> {
         F: Copy + FnOnce(&mut O, A) -> Result<(), E>,
         requires { F.IsAlwaysCallable call }
     {
+        let [untouched, object] = objects?;
         let name = self.name(case)?;
         if !self.is_asked(name.as_str()) {
             return Ok(());
         }
-        let [untouched, object] = objects;
         let [first, second, third] = given;
         let right = Change::made(self.alloc, untouched, first, call)?;
         if !right.is_of(case) {

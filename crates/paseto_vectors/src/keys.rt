@@ -1,5 +1,6 @@
 //! Keys and nonces.
 
+use crate::expect::{expect_bytes, expect_text};
 use rusty_paseto_core::{
     Key, Local, PasetoAsymmetricPrivateKey, PasetoAsymmetricPublicKey, PasetoError, PasetoNonce,
     PasetoSymmetricKey, Public, V1, V2, V3, V4,
@@ -9,7 +10,7 @@ use rusty_paseto_core::{
 fn digits_of_either_case(rt: HostRuntime) {
     'texts: for text in ["0aff", "0AFF", "0aFf"] {
         let key = Key::<2>::try_from(text).expect(&rt, "a key");
-        assert_eq!(rt; key.as_bytes().as_slice(), [10, 255].as_slice(), "{text}");
+        expect_bytes(&rt, key.as_bytes().as_slice(), &[10, 255]);
     }
 }
 
@@ -21,72 +22,77 @@ fn other_texts(rt: HostRuntime) {
     }
 }
 
-#[test]
-fn bytes_are_kept(rt: HostRuntime) {
-    let alloc = rt.alloc();
-    let mut bytes = [7u8; 32];
-    bytes[0] = 1;
-    bytes[31] = 2;
-    let key = Key::<32>::from(bytes);
-    assert_eq!(rt; key.as_bytes().as_slice(), bytes.as_slice());
-    assert_eq!(rt;
-        Key::<32>::from(&bytes).as_bytes().as_slice(),
-        bytes.as_slice()
-    );
-    assert_eq!(rt;
-        Key::<32>::from_slice(&bytes).as_bytes().as_slice(),
-        bytes.as_slice()
-    );
-    assert_eq!(rt; key.clone().as_bytes().as_slice(), bytes.as_slice());
-    assert_eq!(rt;
-        Key::<3>::default().as_bytes().as_slice(),
-        [0, 0, 0].as_slice()
-    );
-    assert_eq!(rt;
-        format!(in alloc; "{key:?}").expect(&rt, "memory").as_str(),
-        "!!! KEY IS PRIVATE !!!"
-    );
-    let nonce = PasetoNonce::<V4, Local>::from(&key);
-    assert_eq!(rt; nonce.as_bytes(), bytes.as_slice());
-    let symmetric = PasetoSymmetricKey::<V4, Local>::from(key.clone());
-    assert_eq!(rt; symmetric.as_bytes().as_slice(), bytes.as_slice());
+// So many bytes, none of which is like another.
+fn bytes_of<const N: usize>() -> [u8; N] {
+    let mut bytes = [0; N];
+    let mut next = 1u8;
+    'bytes: for byte in bytes.iter_mut() {
+        *byte = next;
+        next = next.wrapping_add(1);
+    }
+    bytes
 }
 
 #[test]
-fn keeps_asymmetric_keys(rt: HostRuntime) {
-    let key = Key::<64>::from([5u8; 64]);
-    assert_eq!(rt;
-        PasetoAsymmetricPrivateKey::<V4, Public>::from(&key).as_bytes(),
-        key.as_bytes().as_slice()
-    );
-    let short = [1u8, 2, 3];
-    assert_eq!(rt;
-        PasetoAsymmetricPrivateKey::<V2, Public>::from(short.as_slice()).as_bytes(),
-        short.as_slice()
-    );
-    assert_eq!(rt;
-        PasetoAsymmetricPrivateKey::<V1, Public>::from(short.as_slice()).as_bytes(),
-        short.as_slice()
-    );
-    let scalar = Key::<48>::from([6u8; 48]);
-    assert_eq!(rt;
-        PasetoAsymmetricPrivateKey::<V3, Public>::from(&scalar).as_bytes(),
-        scalar.as_bytes().as_slice()
-    );
-    let public = Key::<32>::from([7u8; 32]);
-    assert_eq!(rt;
-        PasetoAsymmetricPublicKey::<V2, Public>::from(&public).as_bytes(),
-        public.as_bytes().as_slice()
-    );
-    assert_eq!(rt;
-        PasetoAsymmetricPublicKey::<V1, Public>::from(short.as_slice()).as_bytes(),
-        short.as_slice()
-    );
-    let nonce = Key::<24>::from([8u8; 24]);
-    assert_eq!(rt;
-        PasetoNonce::<V2, Local>::from(&nonce).as_bytes(),
-        nonce.as_bytes().as_slice()
-    );
+fn bytes_are_kept(rt: HostRuntime) {
+    let bytes = bytes_of::<32>();
+    let key = Key::<32>::from(bytes);
+    expect_bytes(&rt, key.as_bytes().as_slice(), &bytes);
+    let key = Key::<32>::from(&bytes);
+    expect_bytes(&rt, key.as_bytes().as_slice(), &bytes);
+    let key = Key::<32>::from_slice(&bytes);
+    expect_bytes(&rt, key.as_bytes().as_slice(), &bytes);
+    expect_bytes(&rt, key.clone().as_bytes().as_slice(), &bytes);
+}
+
+#[test]
+fn a_key_of_zeros(rt: HostRuntime) {
+    let key = Key::<3>::default();
+    expect_bytes(&rt, key.as_bytes().as_slice(), &[0, 0, 0]);
+}
+
+#[test]
+fn no_byte_is_told(rt: HostRuntime) {
+    let key = Key::<32>::from(bytes_of());
+    let told = format!(in rt.alloc(); "{key:?}").expect(&rt, "memory");
+    expect_text(&rt, told.as_str(), "!!! KEY IS PRIVATE !!!");
+}
+
+#[test]
+fn keeps_nonces_and_symmetric_keys(rt: HostRuntime) {
+    let key = Key::<32>::from(bytes_of());
+    let nonce = PasetoNonce::<V4, Local>::from(&key);
+    expect_bytes(&rt, nonce.as_bytes(), &bytes_of::<32>());
+    let symmetric = PasetoSymmetricKey::<V4, Local>::from(key.clone());
+    expect_bytes(&rt, symmetric.as_bytes().as_slice(), &bytes_of::<32>());
+    let short = Key::<24>::from(bytes_of());
+    let nonce = PasetoNonce::<V2, Local>::from(&short);
+    expect_bytes(&rt, nonce.as_bytes(), &bytes_of::<24>());
+}
+
+#[test]
+fn keeps_private_keys(rt: HostRuntime) {
+    let key = Key::<64>::from(bytes_of());
+    let private = PasetoAsymmetricPrivateKey::<V4, Public>::from(&key);
+    expect_bytes(&rt, private.as_bytes(), &bytes_of::<64>());
+    let scalar = Key::<48>::from(bytes_of());
+    let private = PasetoAsymmetricPrivateKey::<V3, Public>::from(&scalar);
+    expect_bytes(&rt, private.as_bytes(), &bytes_of::<48>());
+    let short = bytes_of::<3>();
+    let private = PasetoAsymmetricPrivateKey::<V2, Public>::from(short.as_slice());
+    expect_bytes(&rt, private.as_bytes(), &short);
+    let private = PasetoAsymmetricPrivateKey::<V1, Public>::from(short.as_slice());
+    expect_bytes(&rt, private.as_bytes(), &short);
+}
+
+#[test]
+fn keeps_public_keys(rt: HostRuntime) {
+    let key = Key::<32>::from(bytes_of());
+    let public = PasetoAsymmetricPublicKey::<V2, Public>::from(&key);
+    expect_bytes(&rt, public.as_bytes(), &bytes_of::<32>());
+    let short = bytes_of::<3>();
+    let public = PasetoAsymmetricPublicKey::<V1, Public>::from(short.as_slice());
+    expect_bytes(&rt, public.as_bytes(), &short);
 }
 
 #[test]
@@ -98,7 +104,7 @@ fn takes_compressed_points(rt: HostRuntime) {
         match PasetoAsymmetricPublicKey::<V3, Public>::try_from(&point) {
             Ok(public) => {
                 assert!(rt; first == 2 || first == 3, "of {first}");
-                assert_eq!(rt; public.as_bytes(), bytes.as_slice());
+                expect_bytes(&rt, public.as_bytes(), &bytes);
             }
             Err(error) => {
                 assert!(rt; first != 2 && first != 3, "of {first}");

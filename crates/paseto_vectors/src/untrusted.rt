@@ -1,130 +1,135 @@
 //! Tokens that are looked at before they are opened.
 
+use crate::expect::{expect_bytes, expect_text};
 use crate::hexadecimal::array_of;
 use crate::long::{LENGTHS, text_of};
 use crate::sections::{CHARACTERS, NUMBERS};
 use rusty_paseto_core::{Footer, PasetoError, UntrustedToken, to_section};
+use std::alloc::Global;
+use std::process::Abort;
+
+// The bytes of the footer of a token that has one.
+fn bytes_of(rt: &impl Abort, alloc: Global, token: &str) -> Vec<u8> {
+    let untrusted = UntrustedToken::try_parse(token).expect(rt, "a token");
+    let decoded = untrusted.footer_decoded(alloc).expect(rt, "bytes");
+    decoded.expect(rt, "a footer")
+}
+
+// Their text.
+fn footer_of(rt: &impl Abort, alloc: Global, token: &str) -> String {
+    let untrusted = UntrustedToken::try_parse(token).expect(rt, "a token");
+    let text = untrusted.footer_str(alloc).expect(rt, "a text");
+    text.expect(rt, "a footer")
+}
+
+// The token has this footer, by each call that reads it.
+fn check_footer(rt: &impl Abort, alloc: Global, token: &str, footer: &str) {
+    expect_bytes(rt, bytes_of(rt, alloc, token).as_slice(), footer.as_bytes());
+    expect_text(rt, footer_of(rt, alloc, token).as_str(), footer);
+    let found = Footer::try_from_token(alloc, token).expect(rt, "a text");
+    expect_text(rt, found.expect(rt, "a footer").as_str(), footer);
+}
+
+// The token has no footer, by each call that reads it.
+fn check_no_footer(rt: &impl Abort, alloc: Global, token: &str) {
+    let untrusted = UntrustedToken::try_parse(token).expect(rt, "a token");
+    assert!(rt; untrusted.footer_base64().is_none(), "{token}");
+    let decoded = untrusted.footer_decoded(alloc).expect(rt, "no bytes");
+    assert!(rt; decoded.is_none(), "{token}");
+    let text = untrusted.footer_str(alloc).expect(rt, "no text");
+    assert!(rt; text.is_none(), "{token}");
+    let found = Footer::try_from_token(alloc, token).expect(rt, "no text");
+    assert!(rt; found.is_none(), "{token}");
+}
 
 #[test]
 fn sections_of_a_token(rt: HostRuntime) {
     let untrusted = UntrustedToken::try_parse("v4.local.payload.Zm9vdGVy").expect(&rt, "a token");
-    assert_eq!(rt; untrusted.version(), "v4");
-    assert_eq!(rt; untrusted.purpose(), "local");
-    assert_eq!(rt; untrusted.footer_base64(), Some("Zm9vdGVy"));
-    let decoded = untrusted
-        .footer_decoded(rt.alloc())
-        .expect(&rt, "a footer")
-        .unwrap_or(Vec::new(rt.alloc()));
-    assert_eq!(rt; decoded.as_slice(), b"footer".as_slice());
-    let text = untrusted
-        .footer_str(rt.alloc())
-        .expect(&rt, "a text")
-        .unwrap_or(String::new(rt.alloc()));
-    assert_eq!(rt; text.as_str(), "footer");
+    expect_text(&rt, untrusted.version(), "v4");
+    expect_text(&rt, untrusted.purpose(), "local");
+    expect_text(&rt, untrusted.footer_base64().unwrap_or(""), "Zm9vdGVy");
 }
 
 #[test]
 fn empty_sections(rt: HostRuntime) {
     let untrusted = UntrustedToken::try_parse("..").expect(&rt, "a token");
-    assert_eq!(rt; untrusted.version(), "");
-    assert_eq!(rt; untrusted.purpose(), "");
-    assert_eq!(rt; untrusted.footer_base64(), None);
-    assert!(rt;
-        untrusted
-            .footer_decoded(rt.alloc())
-            .expect(&rt, "a footer")
-            .is_none()
-    );
-    assert!(rt;
-        untrusted
-            .footer_str(rt.alloc())
-            .expect(&rt, "a text")
-            .is_none()
-    );
+    expect_text(&rt, untrusted.version(), "");
+    expect_text(&rt, untrusted.purpose(), "");
+    check_no_footer(&rt, rt.alloc(), "..");
+    check_no_footer(&rt, rt.alloc(), "v4.local.payload");
 }
+
+const FOOTERS: &[(&str, &str)] = &[
+    ("v4.local.payload.Zm9vdGVy", "footer"),
+    (
+        "v4.local.payload.eyJraWQiOiJrZXktMSJ9",
+        "{\"kid\":\"key-1\"}",
+    ),
+    ("v4.local.payload.", ""),
+];
 
 #[test]
 fn footers_of_tokens(rt: HostRuntime) {
-    'rows: for (token, text) in [
-        ("v4.local.payload.Zm9vdGVy", "footer"),
-        (
-            "v4.local.payload.eyJraWQiOiJrZXktMSJ9",
-            "{\"kid\":\"key-1\"}",
-        ),
-        ("v4.local.payload.", ""),
-    ] {
-        let found = Footer::try_from_token(rt.alloc(), token).expect(&rt, "a footer");
-        assert!(rt; found.is_some());
-        let found = found.unwrap_or(String::new(rt.alloc()));
-        assert_eq!(rt; found.as_str(), text);
+    'rows: for &(token, text) in FOOTERS {
+        check_footer(&rt, rt.alloc(), token, text);
     }
-    let none = Footer::try_from_token(rt.alloc(), "v4.local.payload").expect(&rt, "a footer");
-    assert!(rt; none.is_none());
+}
+
+// Whether the answer is `IncorrectSize`.
+fn is_incorrect_size<T: Drop>(answer: Result<T, PasetoError>) -> bool {
+    matches!(answer, Err(PasetoError::IncorrectSize))
 }
 
 #[test]
-fn footers_that_are_refused(rt: HostRuntime) {
-    'counts: for token in ["", "v4.local", "a.b.c.d.e"] {
-        assert!(rt;
-            matches!(
-                &UntrustedToken::try_parse(token),
-                Err(PasetoError::IncorrectSize)
-            )
-        );
+fn other_numbers_of_sections(rt: HostRuntime) {
+    'tokens: for &token in &["", "v4.local", "a.b.c.d.e"] {
+        let answer = UntrustedToken::try_parse(token);
+        assert!(rt; is_incorrect_size(answer), "{token}");
         let answer = Footer::try_from_token(rt.alloc(), token);
-        assert!(rt;
-            matches!(&answer, Err(PasetoError::IncorrectSize)),
-            "{token}"
-        );
+        assert!(rt; is_incorrect_size(answer), "{token}");
     }
+}
+
+#[test]
+fn a_footer_that_is_no_text(rt: HostRuntime) {
     let answer = Footer::try_from_token(rt.alloc(), "v4.local.payload._w");
-    assert!(rt; matches!(&answer, Err(PasetoError::Utf8Error { .. })));
-    'spellings: for token in [
-        "v4.local.payload.!!!invalid!!!",
-        "v4.local.payload.AB",
-        "v4.local.payload.A",
-    ] {
+    assert!(rt; matches!(answer, Err(PasetoError::Utf8Error { .. })));
+}
+
+const UNREADABLE: &[&str] = &[
+    "v4.local.payload.!!!invalid!!!",
+    "v4.local.payload.AB",
+    "v4.local.payload.A",
+];
+
+#[test]
+fn footers_that_spell_no_bytes(rt: HostRuntime) {
+    'tokens: for &token in UNREADABLE {
         let answer = Footer::try_from_token(rt.alloc(), token);
-        assert!(rt;
-            matches!(&answer, Err(PasetoError::PayloadBase64Decode { .. })),
-            "{token}"
-        );
+        let is_named = matches!(answer, Err(PasetoError::PayloadBase64Decode { .. }));
+        assert!(rt; is_named, "{token}");
     }
 }
 
 #[test]
 fn characters_in_order(rt: HostRuntime) {
     let token = format!(in rt.alloc(); "v4.local.payload.{CHARACTERS}").expect(&rt, "memory");
-    let untrusted = UntrustedToken::try_parse(token.as_str()).expect(&rt, "a token");
     let numbers: [u8; 48] = array_of(&rt, NUMBERS);
-    let decoded = untrusted
-        .footer_decoded(rt.alloc())
-        .expect(&rt, "a footer")
-        .unwrap_or(Vec::new(rt.alloc()));
-    assert_eq!(rt; decoded.as_slice(), numbers.as_slice());
+    let decoded = bytes_of(&rt, rt.alloc(), token.as_str());
+    expect_bytes(&rt, decoded.as_slice(), numbers.as_slice());
+}
+
+// A token with the text as its footer.
+fn token_of(rt: &impl Abort, alloc: Global, footer: &str) -> String {
+    let section = to_section(alloc, footer.as_bytes()).expect(rt, "a section");
+    format!(in alloc; "v4.local.payload.{section}").expect(rt, "memory")
 }
 
 #[test]
 fn long_footers(rt: HostRuntime) {
-    let alloc = rt.alloc();
     'lengths: for &length in LENGTHS {
-        let footer = text_of(alloc, length).expect(&rt, "memory");
-        let section = to_section(alloc, footer.as_bytes()).expect(&rt, "a section");
-        let token = format!(in alloc; "v4.local.payload.{section}").expect(&rt, "memory");
-        let untrusted = UntrustedToken::try_parse(token.as_str()).expect(&rt, "a token");
-        let decoded = untrusted
-            .footer_decoded(alloc)
-            .expect(&rt, "a footer")
-            .expect(&rt, "a footer");
-        assert!(rt; decoded.as_slice() == footer.as_bytes(), "{length}");
-        let text = untrusted
-            .footer_str(alloc)
-            .expect(&rt, "a text")
-            .expect(&rt, "a footer");
-        assert!(rt; text.as_str() == footer.as_str(), "{length}");
-        let found = Footer::try_from_token(alloc, token.as_str())
-            .expect(&rt, "a footer")
-            .expect(&rt, "a footer");
-        assert!(rt; found.as_str() == footer.as_str(), "{length}");
+        let footer = text_of(rt.alloc(), length).expect(&rt, "memory");
+        let token = token_of(&rt, rt.alloc(), footer.as_str());
+        check_footer(&rt, rt.alloc(), token.as_str(), footer.as_str());
     }
 }

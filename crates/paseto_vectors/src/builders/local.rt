@@ -1,6 +1,8 @@
 //! Local tokens of builders.
 
 use crate::builders::generators::{Counting, Failing, Zeros};
+use crate::builders::payloads::put;
+use crate::expect::expect_text;
 use crate::long::text_of;
 use crate::toy_box::ToyBox;
 use rusty_paseto_claims::{AudienceClaim, CustomClaim};
@@ -23,12 +25,9 @@ fn builder_of<V: VersionTrait>(
     alloc: Global,
 ) -> GenericBuilder<'static, V, Local> {
     let mut builder = GenericBuilder::<V, Local>::new(alloc);
-    builder
-        .put_claim(&CustomClaim::try_from_str(alloc, "seats", 4u64).expect(rt, "a claim"))
-        .expect(rt, "a claim");
-    builder
-        .put_claim(&AudienceClaim::from("customers"))
-        .expect(rt, "a claim");
+    let seats = CustomClaim::try_from_str(alloc, "seats", 4u64).expect(rt, "a claim");
+    put(rt, &mut builder, seats);
+    put(rt, &mut builder, AudienceClaim::from("customers"));
     builder.set_footer(Footer::from("key-1"));
     builder
 }
@@ -64,7 +63,18 @@ fn check_token<V: UnboxedVersion>(
     let token = builder
         .try_encrypt(&mut Counting::new(), key)
         .expect(rt, "a token");
-    assert_eq!(rt; token.as_str(), wanted);
+    expect_text(rt, token.as_str(), wanted);
+}
+
+// A generator that fails is asked once.
+fn check_failing<V: UnboxedVersion>(
+    rt: &impl Abort,
+    builder: &GenericBuilder<'_, V, Local>,
+    key: &PasetoSymmetricKey<V, Local>,
+) {
+    let mut failing = Failing { asked: 0 };
+    assert!(rt; is_of_generator(&builder.try_encrypt(&mut failing, key)));
+    assert!(rt; failing.asked == 1);
 }
 
 // The token is the core's, twice, and once more after a generator that failed.
@@ -74,9 +84,7 @@ fn check<V: UnboxedVersion>(rt: &impl Abort, alloc: Global) {
     let wanted = core_token::<V>(rt, alloc, &key);
     check_token(rt, &builder, &key, wanted.as_str());
     check_token(rt, &builder, &key, wanted.as_str());
-    let mut failing = Failing { asked: 0 };
-    assert!(rt; is_of_generator(&builder.try_encrypt(&mut failing, &key)));
-    assert_eq!(rt; failing.asked, 1);
+    check_failing(rt, &builder, &key);
     check_token(rt, &builder, &key, wanted.as_str());
 }
 
@@ -116,7 +124,17 @@ fn check_boxed_token(
     let token = builder
         .try_encrypt(&ToyBox, &mut Counting::new(), key)
         .expect(rt, "a token");
-    assert_eq!(rt; token.as_str(), wanted);
+    expect_text(rt, token.as_str(), wanted);
+}
+
+fn check_failing_box(
+    rt: &impl Abort,
+    builder: &GenericBuilder<'_, V2, Local>,
+    key: &PasetoSymmetricKey<V2, Local>,
+) {
+    let mut failing = Failing { asked: 0 };
+    assert!(rt; is_of_generator(&builder.try_encrypt(&ToyBox, &mut failing, key)));
+    assert!(rt; failing.asked == 1);
 }
 
 #[test]
@@ -125,9 +143,7 @@ fn of_version_2(rt: HostRuntime) {
     let builder = builder_of::<V2>(&rt, rt.alloc());
     let wanted = boxed_token(&rt, rt.alloc(), &key);
     check_boxed_token(&rt, &builder, &key, wanted.as_str());
-    let mut failing = Failing { asked: 0 };
-    assert!(rt; is_of_generator(&builder.try_encrypt(&ToyBox, &mut failing, &key)));
-    assert_eq!(rt; failing.asked, 1);
+    check_failing_box(&rt, &builder, &key);
     check_boxed_token(&rt, &builder, &key, wanted.as_str());
 }
 
@@ -138,9 +154,7 @@ fn a_payload_that_the_box_does_not_seal(rt: HostRuntime) {
     let key = PasetoSymmetricKey::<V2, Local>::from(Key::from(KEY));
     let mut builder = builder_of::<V2>(&rt, alloc);
     let long = text_of(alloc, 5000).expect(&rt, "memory");
-    builder
-        .put_claim(&AudienceClaim::from(long.as_str()))
-        .expect(&rt, "a claim");
+    put(&rt, &mut builder, AudienceClaim::from(long.as_str()));
     let answer = builder.try_encrypt(&ToyBox, &mut Zeros, &key);
     let told = matches!(
         &answer,
@@ -157,11 +171,11 @@ fn of_no_claims(rt: HostRuntime) {
     let key = PasetoSymmetricKey::<V4, Local>::from(Key::from(KEY));
     let builder = GenericBuilder::<V4, Local>::default(alloc);
     let token = builder.try_encrypt(&mut Zeros, &key).expect(&rt, "a token");
-    assert_eq!(rt; token.len(), 97);
+    assert!(rt; token.len() == 97);
     let zeros = Key::<32>::from([0u8; 32]);
     let nonce = PasetoNonce::from(&zeros);
     let wanted = V4::seal(alloc, &key, &nonce, Payload::from("{}"), None, None).expect(
         &rt, "a token",
     );
-    assert_eq!(rt; token.as_str(), wanted.as_str());
+    expect_text(&rt, token.as_str(), wanted.as_str());
 }

@@ -1,8 +1,9 @@
 //! The payloads of builders.
 
+use crate::expect::expect_text;
 use crate::parsers::steps::values_of;
-use rusty_paseto_claims::{AudienceClaim, ClaimValue, CustomClaim};
-use rusty_paseto_core::{Local, V4};
+use rusty_paseto_claims::{AudienceClaim, ClaimValue, CustomClaim, PasetoClaim};
+use rusty_paseto_core::{Local, PurposeTrait, V4, VersionTrait};
 use rusty_paseto_generic::GenericBuilder;
 use serde_json::Value;
 use std::alloc::Global;
@@ -10,9 +11,19 @@ use std::process::Abort;
 
 type Builder<'a> = GenericBuilder<'a, V4, Local>;
 
-fn check(rt: &impl Abort, builder: &Builder<'_>, payload: &str) {
+/// The builder's payload is this one.
+pub(crate) fn check(rt: &impl Abort, builder: &Builder<'_>, payload: &str) {
     let built = builder.build_payload_from_claims().expect(rt, "a payload");
-    assert_eq!(rt; built.as_str(), payload);
+    expect_text(rt, built.as_str(), payload);
+}
+
+/// Puts a claim that is accepted.
+pub(crate) fn put<V: VersionTrait, P: PurposeTrait, C: PasetoClaim + Drop>(
+    rt: &impl Abort,
+    builder: &mut GenericBuilder<'_, V, P>,
+    claim: C,
+) {
+    builder.put_claim(&claim).expect(rt, "a claim");
 }
 
 // The payload of one claim of a caller's own.
@@ -24,9 +35,16 @@ fn check_custom<T: ClaimValue + Drop>(
     payload: &str,
 ) {
     let mut builder = Builder::new(alloc);
-    builder
-        .put_claim(&CustomClaim::try_from_str(alloc, key, value).expect(rt, "a claim"))
-        .expect(rt, "a claim");
+    let claim = CustomClaim::try_from_str(alloc, key, value).expect(rt, "a claim");
+    put(rt, &mut builder, claim);
+    check(rt, &builder, payload);
+}
+
+// The payload of one entry of JSON.
+fn check_entry(rt: &impl Abort, alloc: Global, key: &str, json: &str, payload: &str) {
+    let mut builder = Builder::new(alloc);
+    let more = values_of(rt, alloc, &[(key, json)]);
+    builder.extend_claims(more).expect(rt, "claims");
     check(rt, &builder, payload);
 }
 
@@ -64,14 +82,9 @@ fn keys_are_in_byte_order(rt: HostRuntime) {
 
 #[test]
 fn a_key_that_is_there_gets_the_new_value(rt: HostRuntime) {
-    let alloc = rt.alloc();
-    let mut builder = Builder::new(alloc);
-    builder
-        .put_claim(&AudienceClaim::from("customers"))
-        .expect(&rt, "a claim");
-    builder
-        .put_claim(&AudienceClaim::from("others"))
-        .expect(&rt, "a claim");
+    let mut builder = Builder::new(rt.alloc());
+    put(&rt, &mut builder, AudienceClaim::from("customers"));
+    put(&rt, &mut builder, AudienceClaim::from("others"));
     check(&rt, &builder, "{\"aud\":\"others\"}");
 }
 
@@ -80,25 +93,17 @@ fn unwrapped_once(rt: HostRuntime) {
     let alloc = rt.alloc();
     let value = Value::from_str(alloc, "{\"a\":{\"a\":1}}").expect(&rt, "JSON");
     check_custom(&rt, alloc, "a", value, "{\"a\":{\"a\":{\"a\":1}}}");
-    let more = values_of(&rt, alloc, &[("a", "{\"a\":1}")]);
-    let mut builder = Builder::new(alloc);
-    builder.extend_claims(more).expect(&rt, "claims");
-    check(&rt, &builder, "{\"a\":{\"a\":1}}");
+    check_entry(&rt, alloc, "a", "{\"a\":1}", "{\"a\":{\"a\":1}}");
 }
 
 #[test]
 fn the_empty_key(rt: HostRuntime) {
     let alloc = rt.alloc();
     check_custom(&rt, alloc, "", 1u64, "{}");
-    check_custom(
-        &rt,
-        alloc,
-        "",
-        Value::from_str(alloc, "3.5").expect(&rt, "JSON"),
-        "{}",
-    );
-    let more = values_of(&rt, alloc, &[("", "1")]);
+    let fraction = Value::from_str(alloc, "3.5").expect(&rt, "JSON");
+    check_custom(&rt, alloc, "", fraction, "{}");
     let mut builder = Builder::new(alloc);
+    let more = values_of(&rt, alloc, &[("", "1")]);
     builder.put_claims(more).expect(&rt, "claims");
     check(&rt, &builder, "{\"\":1}");
 }
@@ -114,10 +119,5 @@ fn of_each_kind_of_value(rt: HostRuntime) {
 // Any whole number is stored under `exp`, though a default parser refuses it.
 #[test]
 fn an_expiration_that_is_a_number(rt: HostRuntime) {
-    let alloc = rt.alloc();
-    let mut builder = Builder::new(alloc);
-    builder
-        .extend_claims(values_of(&rt, alloc, &[("exp", "5")]))
-        .expect(&rt, "claims");
-    check(&rt, &builder, "{\"exp\":5}");
+    check_entry(&rt, rt.alloc(), "exp", "5", "{\"exp\":5}");
 }

@@ -4,12 +4,14 @@ ghost use Rattle.rusty_paseto_claims.specs.Claim.{refuses};
 ghost use Rattle.rusty_paseto_claims.specs.Error.{expired};
 ghost use Rattle.std.specs.Prelude.{codes};
 
-use crate::parsers::steps::values_of;
-use rusty_paseto_claims::{AudienceClaim, CustomClaim, PasetoClaim, PasetoClaimError};
+use crate::builders::payloads::{check, put};
+use crate::parsers::steps::{custom, values_of};
+use rusty_paseto_claims::{AudienceClaim, PasetoClaim, PasetoClaimError};
 use rusty_paseto_core::{Local, V4};
 use rusty_paseto_generic::{GenericBuilder, GenericBuilderError};
 use serde_json::Value;
 use std::alloc::Global;
+use std::process::Abort;
 
 type Builder<'a> = GenericBuilder<'a, V4, Local>;
 
@@ -43,53 +45,44 @@ fn is_unexpected(answer: &Result<(), GenericBuilderError>, key: &str) -> bool {
     }
 }
 
+const CUSTOMERS: &str = "{\"aud\":\"customers\"}";
+
+// A builder of one claim.
+fn builder_of_customers<'a>(rt: &impl Abort, alloc: Global) -> Builder<'a> {
+    let mut builder = Builder::new(alloc);
+    put(rt, &mut builder, AudienceClaim::from("customers"));
+    builder
+}
+
+const OTHER_NUMBERS: &[&str] = &["3.5", "[1,{\"a\":1.0}]", "18446744073709551616", "1e2"];
+
 #[test]
 fn other_numbers(rt: HostRuntime) {
-    let alloc = rt.alloc();
-    let mut builder = Builder::new(alloc);
-    builder
-        .put_claim(&AudienceClaim::from("customers"))
-        .expect(&rt, "a claim");
-    'texts: for text in ["3.5", "[1,{\"a\":1.0}]", "18446744073709551616", "1e2"] {
-        let value = Value::from_str(alloc, text).expect(&rt, "JSON");
-        let answer = builder.put_claim(&CustomClaim::try_from_str(alloc, "n", value).expect(
-            &rt, "a claim",
-        ));
+    let mut builder = builder_of_customers(&rt, rt.alloc());
+    'texts: for &text in OTHER_NUMBERS {
+        let answer = builder.put_claim(&custom(&rt, rt.alloc(), "n", text));
         assert!(rt; is_unexpected(&answer, "n"), "{text}");
     }
-    let built = builder.build_payload_from_claims().expect(&rt, "a payload");
-    assert_eq!(rt; built.as_str(), "{\"aud\":\"customers\"}");
+    check(&rt, &builder, CUSTOMERS);
 }
 
 #[test]
 fn all_values_or_none(rt: HostRuntime) {
-    let alloc = rt.alloc();
-    let mut builder = Builder::new(alloc);
-    builder
-        .put_claim(&AudienceClaim::from("customers"))
-        .expect(&rt, "a claim");
-    let rows = [("z", "1.5"), ("aud", "null"), ("b", "[2.5]"), ("a", "1")];
-    let more = values_of(&rt, alloc, &rows);
-    let answer = builder.put_claims(more);
+    let mut builder = builder_of_customers(&rt, rt.alloc());
+    let rows = &[("z", "1.5"), ("aud", "null"), ("b", "[2.5]"), ("a", "1")];
+    let answer = builder.put_claims(values_of(&rt, rt.alloc(), rows));
     assert!(rt; is_unexpected(&answer, "b"));
-    let built = builder.build_payload_from_claims().expect(&rt, "a payload");
-    assert_eq!(rt; built.as_str(), "{\"aud\":\"customers\"}");
+    check(&rt, &builder, CUSTOMERS);
 }
 
 #[test]
 fn extended_by_fractions(rt: HostRuntime) {
-    let alloc = rt.alloc();
-    let mut builder = Builder::new(alloc);
-    let more = values_of(&rt, alloc, &[("a", "1"), ("b", "3.5"), ("c", "4.5")]);
+    let mut builder = Builder::new(rt.alloc());
+    let rows = &[("a", "1"), ("b", "3.5"), ("c", "4.5")];
+    let more = values_of(&rt, rt.alloc(), rows);
     let answer = builder.extend_claims(more).map(drop);
     assert!(rt; is_unexpected(&answer, "b"));
-    assert_eq!(rt;
-        builder
-            .build_payload_from_claims()
-            .expect(&rt, "a payload")
-            .as_str(),
-        "{}"
-    );
+    check(&rt, &builder, "{}");
 }
 
 #[test]
@@ -103,11 +96,5 @@ fn a_claims_own_fault(rt: HostRuntime) {
         })
     );
     assert!(rt; told);
-    assert_eq!(rt;
-        builder
-            .build_payload_from_claims()
-            .expect(&rt, "a payload")
-            .as_str(),
-        "{}"
-    );
+    check(&rt, &builder, "{}");
 }

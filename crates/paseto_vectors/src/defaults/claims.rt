@@ -2,8 +2,9 @@
 
 use crate::parsers::steps::custom;
 use rusty_paseto::prelude::{
-    AudienceClaim, DateClaim, Expiration, IssuedAt, IssuerClaim, NotBefore, PasetoBuilder,
-    PasetoParser, PurposeTrait, ReservedKey, SubjectClaim, TokenIdentifierClaim, VersionTrait,
+    AudienceClaim, DateClaim, Expiration, GenericBuilderError, GenericParserError, IssuedAt,
+    IssuerClaim, NotBefore, PasetoBuilder, PasetoClaim, PasetoParser, PurposeTrait, ReservedKey,
+    SubjectClaim, TokenIdentifierClaim, VersionTrait,
 };
 use std::alloc::Global;
 use std::process::Abort;
@@ -22,13 +23,18 @@ pub(crate) enum Claim<'a> {
     Custom(&'a str, &'a str),
     /// What is built never expires. A parser checks nothing for it.
     NoExpiration,
-    /// No claim.
-    Nothing,
 }
 
 // The claim of an instant.
 fn date<K: ReservedKey>(rt: &impl Abort, alloc: Global, text: &str) -> DateClaim<K> {
     DateClaim::try_from_str(alloc, text).expect(rt, "an instant")
+}
+
+fn put<V: VersionTrait, P: PurposeTrait, C: PasetoClaim + Drop>(
+    builder: &mut PasetoBuilder<'_, V, P>,
+    claim: C,
+) -> Result<(), GenericBuilderError> {
+    builder.put_claim(&claim)
 }
 
 /// Sets the claim.
@@ -39,18 +45,24 @@ pub(crate) fn set<V: VersionTrait, P: PurposeTrait>(
     claim: Claim<'_>,
 ) {
     let answer = match claim {
-        Claim::Audience(text) => builder.put_claim(&AudienceClaim::from(text)),
-        Claim::Subject(text) => builder.put_claim(&SubjectClaim::from(text)),
-        Claim::Issuer(text) => builder.put_claim(&IssuerClaim::from(text)),
-        Claim::TokenIdentifier(text) => builder.put_claim(&TokenIdentifierClaim::from(text)),
-        Claim::IssuedAt(text) => builder.put_claim(&date::<IssuedAt>(rt, alloc, text)),
-        Claim::NotBefore(text) => builder.put_claim(&date::<NotBefore>(rt, alloc, text)),
-        Claim::Expiration(text) => builder.put_claim(&date::<Expiration>(rt, alloc, text)),
-        Claim::Custom(key, json) => builder.put_claim(&custom(rt, alloc, key, json)),
+        Claim::Audience(text) => put(builder, AudienceClaim::from(text)),
+        Claim::Subject(text) => put(builder, SubjectClaim::from(text)),
+        Claim::Issuer(text) => put(builder, IssuerClaim::from(text)),
+        Claim::TokenIdentifier(text) => put(builder, TokenIdentifierClaim::from(text)),
+        Claim::IssuedAt(text) => put(builder, date::<IssuedAt>(rt, alloc, text)),
+        Claim::NotBefore(text) => put(builder, date::<NotBefore>(rt, alloc, text)),
+        Claim::Expiration(text) => put(builder, date::<Expiration>(rt, alloc, text)),
+        Claim::Custom(key, json) => put(builder, custom(rt, alloc, key, json)),
         Claim::NoExpiration => builder.put_no_expiration_danger_acknowledged(),
-        Claim::Nothing => Ok(()),
     };
     answer.expect(rt, "a claim");
+}
+
+fn put_check<V: VersionTrait, P: PurposeTrait, C: PasetoClaim + Drop>(
+    parser: &mut PasetoParser<'_, V, P>,
+    claim: C,
+) -> Result<(), GenericParserError> {
+    parser.put_check(&claim)
 }
 
 /// Checks the claim.
@@ -61,15 +73,15 @@ pub(crate) fn check<V: VersionTrait, P: PurposeTrait>(
     claim: Claim<'_>,
 ) {
     let answer = match claim {
-        Claim::Audience(text) => parser.put_check(&AudienceClaim::from(text)),
-        Claim::Subject(text) => parser.put_check(&SubjectClaim::from(text)),
-        Claim::Issuer(text) => parser.put_check(&IssuerClaim::from(text)),
-        Claim::TokenIdentifier(text) => parser.put_check(&TokenIdentifierClaim::from(text)),
-        Claim::IssuedAt(text) => parser.put_check(&date::<IssuedAt>(rt, alloc, text)),
-        Claim::NotBefore(text) => parser.put_check(&date::<NotBefore>(rt, alloc, text)),
-        Claim::Expiration(text) => parser.put_check(&date::<Expiration>(rt, alloc, text)),
-        Claim::Custom(key, json) => parser.put_check(&custom(rt, alloc, key, json)),
-        Claim::NoExpiration | Claim::Nothing => Ok(()),
+        Claim::Audience(text) => put_check(parser, AudienceClaim::from(text)),
+        Claim::Subject(text) => put_check(parser, SubjectClaim::from(text)),
+        Claim::Issuer(text) => put_check(parser, IssuerClaim::from(text)),
+        Claim::TokenIdentifier(text) => put_check(parser, TokenIdentifierClaim::from(text)),
+        Claim::IssuedAt(text) => put_check(parser, date::<IssuedAt>(rt, alloc, text)),
+        Claim::NotBefore(text) => put_check(parser, date::<NotBefore>(rt, alloc, text)),
+        Claim::Expiration(text) => put_check(parser, date::<Expiration>(rt, alloc, text)),
+        Claim::Custom(key, json) => put_check(parser, custom(rt, alloc, key, json)),
+        Claim::NoExpiration => Ok(()),
     };
     answer.expect(rt, "a check");
 }

@@ -29,12 +29,7 @@ const SCHWIFTY: Claim<'static> = Claim::Subject("Get schwifty");
 
 const FROM_EARTH: Claim<'static> = Claim::Custom("Contestant", "\"Earth\"");
 
-const CONTESTANT: [Claim<'static>; 4] = [
-    SCHWIFTY,
-    FROM_EARTH,
-    Claim::Custom("Universe", "137"),
-    Claim::Nothing,
-];
+const CONTESTANT: &[Claim<'static>] = &[SCHWIFTY, FROM_EARTH, Claim::Custom("Universe", "137")];
 
 const CONTESTANT_JSON: &str = "{\"Contestant\":\"Earth\",\"Universe\":137,\
     \"exp\":\"2024-01-01T01:00:00Z\",\"iat\":\"2024-01-01T00:00:00Z\",\
@@ -50,16 +45,11 @@ const USUAL_ROW: Row = Row {
     answer: USUAL,
 };
 
-const ROWS: [Row; 11] = [
+const ROWS: &[Row] = &[
     USUAL_ROW,
     // Validating tokens and handling errors.
     Row {
-        claims: [
-            Claim::Expiration("2019-01-01T00:00:00+00:00"),
-            Claim::Nothing,
-            Claim::Nothing,
-            Claim::Nothing,
-        ],
+        claims: &[Claim::Expiration("2019-01-01T00:00:00+00:00")],
         answer: "This token is expired",
         ..USUAL_ROW
     },
@@ -75,21 +65,21 @@ const ROWS: [Row; 11] = [
     },
     // Setting a different expiration time.
     Row {
-        claims: [IN_5_MINUTES, Claim::Nothing, Claim::Nothing, Claim::Nothing],
+        claims: &[IN_5_MINUTES],
         after: 300 * SECOND - 1,
         answer: "{\"exp\":\"2024-01-01T00:05:00Z\",\"iat\":\"2024-01-01T00:00:00Z\",\
             \"nbf\":\"2024-01-01T00:00:00Z\"}",
         ..USUAL_ROW
     },
     Row {
-        claims: [IN_5_MINUTES, Claim::Nothing, Claim::Nothing, Claim::Nothing],
+        claims: &[IN_5_MINUTES],
         after: 300 * SECOND,
         answer: "This token is expired",
         ..USUAL_ROW
     },
     // Setting PASETO claims.
     Row {
-        claims: [
+        claims: &[
             Claim::Audience("Cromulons"),
             Claim::NotBefore("2024-01-01T00:02:00Z"),
             Claim::Issuer("Earth Cesium-137"),
@@ -99,7 +89,7 @@ const ROWS: [Row; 11] = [
         ..USUAL_ROW
     },
     Row {
-        claims: [
+        claims: &[
             Claim::Audience("Cromulons"),
             Claim::NotBefore("2024-01-01T00:02:00Z"),
             Claim::Issuer("Earth Cesium-137"),
@@ -113,11 +103,9 @@ const ROWS: [Row; 11] = [
     },
     // Setting your own custom claims.
     Row {
-        claims: [
+        claims: &[
             Claim::Custom("Co-star", "\"Morty Smith\""),
             Claim::Custom("Universe", "137"),
-            Claim::Nothing,
-            Claim::Nothing,
         ],
         answer: "{\"Co-star\":\"Morty Smith\",\"Universe\":137,\
             \"exp\":\"2024-01-01T01:00:00Z\",\"iat\":\"2024-01-01T00:00:00Z\",\
@@ -133,12 +121,7 @@ const ROWS: [Row; 11] = [
     },
     Row {
         claims: CONTESTANT,
-        checks: [
-            SCHWIFTY,
-            FROM_EARTH,
-            Claim::Custom("Universe", "136"),
-            Claim::Nothing,
-        ],
+        checks: &[SCHWIFTY, FROM_EARTH, Claim::Custom("Universe", "136")],
         answer: "Could not convert claim 'Universe' to the expected data type",
         ..USUAL_ROW
     },
@@ -146,7 +129,7 @@ const ROWS: [Row; 11] = [
 
 #[test]
 fn tokens_and_their_values(rt: HostRuntime) {
-    check_rows(&rt, rt.alloc(), &ROWS);
+    check_rows(&rt, rt.alloc(), ROWS);
 }
 
 type Parser<'a> = PasetoParser<'a, V4, Local>;
@@ -170,7 +153,7 @@ fn token_of(rt: &impl Abort, alloc: Global, claims: &[Claim<'_>]) -> String {
 #[test]
 fn a_default_parser(rt: HostRuntime) {
     let alloc = rt.alloc();
-    let token = token_of(&rt, alloc, &NONE);
+    let token = token_of(&rt, alloc, NONE);
     let mut parser = default_parser(&rt, alloc);
     expect_text(
         &rt,
@@ -188,7 +171,7 @@ fn a_default_parser(rt: HostRuntime) {
 #[test]
 fn a_parser_that_checks_nothing(rt: HostRuntime) {
     let alloc = rt.alloc();
-    let token = token_of(&rt, alloc, &NONE);
+    let token = token_of(&rt, alloc, NONE);
     let found = read(&rt, alloc, &Parser::new(alloc), token.as_str());
     expect_text(&rt, found.as_str(), USUAL);
 }

@@ -73,15 +73,15 @@ fn asserting_builder_of<'a, V: ImplicitAssertionCapable, P: PurposeTrait>(
     builder
 }
 
-fn sealed<V: BoxlessVersion>(builder: &PasetoBuilder<'_, V, Local>) -> Token {
+fn sealed<V: BoxlessVersion>(builder: PasetoBuilder<'_, V, Local>) -> Token {
     builder.build(&mut Zeros, &symmetric_key(&SECRET))
 }
 
-fn boxed(builder: &PasetoBuilder<'_, V2, Local>) -> Token {
+fn boxed(builder: PasetoBuilder<'_, V2, Local>) -> Token {
     builder.build(&ToyBox, &mut Zeros, &symmetric_key(&SECRET))
 }
 
-fn signed<V: ToyVersion + Signs<V::Toy>>(builder: &PasetoBuilder<'_, V, Public>) -> Token {
+fn signed<V: ToyVersion + Signs<V::Toy>>(builder: PasetoBuilder<'_, V, Public>) -> Token {
     let keys = Keys::of(&SECRET);
     builder.build(&mut V::toy(), &V::private_key(&keys))
 }
@@ -117,16 +117,16 @@ fn asserting_parser_of<'a, V: ImplicitAssertionCapable, P: PurposeTrait>(
     parser
 }
 
-fn opened<V: BoxlessVersion>(parser: &PasetoParser<'_, V, Local>, token: &str) -> Answer {
+fn opened<V: BoxlessVersion>(parser: PasetoParser<'_, V, Local>, token: &str) -> Answer {
     parser.parse(token, &symmetric_key(&SECRET))
 }
 
-fn unboxed(parser: &PasetoParser<'_, V2, Local>, token: &str) -> Answer {
+fn unboxed(parser: PasetoParser<'_, V2, Local>, token: &str) -> Answer {
     parser.parse(&ToyBox, token, &symmetric_key(&SECRET))
 }
 
 fn verified<V: ToyVersion + Verifies<V::Toy>>(
-    parser: &PasetoParser<'_, V, Public>,
+    parser: PasetoParser<'_, V, Public>,
     token: &str,
 ) -> Answer {
     let keys = Keys::of(&SECRET);
@@ -146,14 +146,14 @@ impl Kind {
         binding: Binding<'_>,
     ) -> Token {
         match self {
-            Kind::V1Local => sealed::<V1>(&builder_of(rt, alloc, now, claims, binding)),
-            Kind::V2Local => boxed(&builder_of(rt, alloc, now, claims, binding)),
-            Kind::V3Local => sealed::<V3>(&asserting_builder_of(rt, alloc, now, claims, binding)),
-            Kind::V4Local => sealed::<V4>(&asserting_builder_of(rt, alloc, now, claims, binding)),
-            Kind::V1Public => signed::<V1>(&builder_of(rt, alloc, now, claims, binding)),
-            Kind::V2Public => signed::<V2>(&builder_of(rt, alloc, now, claims, binding)),
-            Kind::V3Public => signed::<V3>(&asserting_builder_of(rt, alloc, now, claims, binding)),
-            Kind::V4Public => signed::<V4>(&asserting_builder_of(rt, alloc, now, claims, binding)),
+            Kind::V1Local => sealed::<V1>(builder_of(rt, alloc, now, claims, binding)),
+            Kind::V2Local => boxed(builder_of(rt, alloc, now, claims, binding)),
+            Kind::V3Local => sealed::<V3>(asserting_builder_of(rt, alloc, now, claims, binding)),
+            Kind::V4Local => sealed::<V4>(asserting_builder_of(rt, alloc, now, claims, binding)),
+            Kind::V1Public => signed::<V1>(builder_of(rt, alloc, now, claims, binding)),
+            Kind::V2Public => signed::<V2>(builder_of(rt, alloc, now, claims, binding)),
+            Kind::V3Public => signed::<V3>(asserting_builder_of(rt, alloc, now, claims, binding)),
+            Kind::V4Public => signed::<V4>(asserting_builder_of(rt, alloc, now, claims, binding)),
         }
     }
 
@@ -168,24 +168,24 @@ impl Kind {
         binding: Binding<'_>,
     ) -> Answer {
         match self {
-            Kind::V1Local => opened::<V1>(&parser_of(rt, alloc, now, claims, binding), token),
-            Kind::V2Local => unboxed(&parser_of(rt, alloc, now, claims, binding), token),
+            Kind::V1Local => opened::<V1>(parser_of(rt, alloc, now, claims, binding), token),
+            Kind::V2Local => unboxed(parser_of(rt, alloc, now, claims, binding), token),
             Kind::V3Local => opened::<V3>(
-                &asserting_parser_of(rt, alloc, now, claims, binding),
+                asserting_parser_of(rt, alloc, now, claims, binding),
                 token,
             ),
             Kind::V4Local => opened::<V4>(
-                &asserting_parser_of(rt, alloc, now, claims, binding),
+                asserting_parser_of(rt, alloc, now, claims, binding),
                 token,
             ),
-            Kind::V1Public => verified::<V1>(&parser_of(rt, alloc, now, claims, binding), token),
-            Kind::V2Public => verified::<V2>(&parser_of(rt, alloc, now, claims, binding), token),
+            Kind::V1Public => verified::<V1>(parser_of(rt, alloc, now, claims, binding), token),
+            Kind::V2Public => verified::<V2>(parser_of(rt, alloc, now, claims, binding), token),
             Kind::V3Public => verified::<V3>(
-                &asserting_parser_of(rt, alloc, now, claims, binding),
+                asserting_parser_of(rt, alloc, now, claims, binding),
                 token,
             ),
             Kind::V4Public => verified::<V4>(
-                &asserting_parser_of(rt, alloc, now, claims, binding),
+                asserting_parser_of(rt, alloc, now, claims, binding),
                 token,
             ),
         }

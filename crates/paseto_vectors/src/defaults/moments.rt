@@ -42,7 +42,7 @@ fn moments_that_fit(rt: HostRuntime) {
 // The text under `iat` of a default token that is built at the moment.
 fn text_at(rt: &impl Abort, alloc: Global, now: Timestamp) -> String {
     let token = Kind::V4Local
-        .build_default(rt, alloc, now, &NONE, Binding::NONE)
+        .build_default(rt, alloc, now, NONE, Binding::NONE)
         .expect(rt, "a token");
     let text = Kind::V4Local
         .read(alloc, token.as_str(), Binding::NONE)

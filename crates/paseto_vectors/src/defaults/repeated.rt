@@ -3,7 +3,7 @@
 use crate::builders::generators::{Failing, Zeros};
 use crate::defaults::claims::Claim;
 use crate::defaults::kinds::{Token, default_builder, moment_after};
-use crate::defaults::rows::USUAL;
+use crate::defaults::rows::{NONE, USUAL};
 use crate::expect::expect_text;
 use crate::kinds::counting::{Calls, Counting};
 use crate::kinds::toys::{Keys, ToyVersion};
@@ -34,57 +34,22 @@ const REPEATED_AUDIENCE: &str =
 const ENDLESS: &str = "{\"iat\":\"2024-01-01T00:00:00Z\",\"nbf\":\"2024-01-01T00:00:00Z\"}";
 
 // What a default builder is told to set, and the payload that is built, or the error's text.
-const ROWS: [([Claim<'static>; 4], &str); 9] = [
-    ([Claim::Nothing; 4], USUAL),
+const ROWS: &[(&[Claim<'static>], &str)] = &[
+    (NONE, USUAL),
+    (&[ISSUED, ISSUED], REPEATED_ISSUED),
+    (&[ISSUED, ISSUED, AUDIENCE, AUDIENCE], REPEATED_AUDIENCE),
+    (&[AUDIENCE, AUDIENCE, ISSUED], REPEATED_AUDIENCE),
     (
-        [ISSUED, ISSUED, Claim::Nothing, Claim::Nothing],
-        REPEATED_ISSUED,
-    ),
-    ([ISSUED, ISSUED, AUDIENCE, AUDIENCE], REPEATED_AUDIENCE),
-    (
-        [AUDIENCE, AUDIENCE, ISSUED, Claim::Nothing],
-        REPEATED_AUDIENCE,
-    ),
-    (
-        [EMPTY, EMPTY, Claim::Nothing, Claim::Nothing],
+        &[EMPTY, EMPTY],
         "The claim '' appears more than once in the top level payload json",
     ),
     (
-        [
-            Claim::NoExpiration,
-            EXPIRATION,
-            Claim::Nothing,
-            Claim::Nothing,
-        ],
+        &[Claim::NoExpiration, EXPIRATION],
         "The claim 'exp' appears more than once in the top level payload json",
     ),
-    (
-        [
-            Claim::NoExpiration,
-            Claim::Nothing,
-            Claim::Nothing,
-            Claim::Nothing,
-        ],
-        ENDLESS,
-    ),
-    (
-        [
-            EXPIRATION,
-            Claim::NoExpiration,
-            Claim::Nothing,
-            Claim::Nothing,
-        ],
-        ENDLESS,
-    ),
-    (
-        [
-            Claim::NoExpiration,
-            Claim::NoExpiration,
-            Claim::Nothing,
-            Claim::Nothing,
-        ],
-        ENDLESS,
-    ),
+    (&[Claim::NoExpiration], ENDLESS),
+    (&[EXPIRATION, Claim::NoExpiration], ENDLESS),
+    (&[Claim::NoExpiration, Claim::NoExpiration], ENDLESS),
 ];
 
 // The payload of a token that was built, or the error's text.
@@ -108,8 +73,8 @@ fn check_built(rt: &impl Abort, alloc: Global, claims: &[Claim<'_>], wanted: &st
 
 #[test]
 fn keys_that_are_set_again(rt: HostRuntime) {
-    'rows: for (claims, wanted) in ROWS {
-        check_built(&rt, rt.alloc(), &claims, wanted);
+    'rows: for &(claims, wanted) in ROWS {
+        check_built(&rt, rt.alloc(), claims, wanted);
     }
 }
 

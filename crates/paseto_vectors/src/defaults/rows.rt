@@ -9,7 +9,7 @@ use std::alloc::Global;
 use std::process::Abort;
 
 /// No claims.
-pub(crate) const NONE: [Claim<'static>; 4] = [Claim::Nothing; 4];
+pub(crate) const NONE: &[Claim<'static>] = &[];
 
 /// The claims that a default builder sets at the first of 2024.
 pub(crate) const USUAL: &str = "{\"exp\":\"2024-01-01T01:00:00Z\",\
@@ -21,13 +21,13 @@ pub(crate) struct Row {
     /// The token's payload, or none where a default builder makes the token at the first of 2024.
     pub(crate) payload: Option<&'static str>,
     /// What that builder sets.
-    pub(crate) claims: [Claim<'static>; 4],
+    pub(crate) claims: &'static [Claim<'static>],
     /// The footer that the token has, and the one that the parser expects.
     pub(crate) footers: (Option<&'static str>, Option<&'static str>),
     /// How many nanoseconds after the first of 2024 the token is parsed.
     pub(crate) after: i128,
     /// What the parser checks.
-    pub(crate) checks: [Claim<'static>; 4],
+    pub(crate) checks: &'static [Claim<'static>],
     /// The value's JSON, or the error's text.
     pub(crate) answer: &'static str,
 }
@@ -38,7 +38,7 @@ fn token_of(rt: &impl Abort, alloc: Global, kind: Kind, row: Row) -> String {
     match row.payload {
         Some(text) => kind.make(alloc, text, binding).expect(rt, "a token"),
         None => kind
-            .build_default(rt, alloc, moment_after(rt, 0), &row.claims, binding)
+            .build_default(rt, alloc, moment_after(rt, 0), row.claims, binding)
             .expect(rt, "a token"),
     }
 }
@@ -57,7 +57,7 @@ fn check_row(rt: &impl Abort, alloc: Global, row: Row) {
     let binding = Binding::of_footer(footer);
     'kinds: for &kind in KINDS {
         let token = token_of(rt, alloc, kind, row);
-        let answer = kind.parse_default(rt, alloc, token.as_str(), now, &row.checks, binding);
+        let answer = kind.parse_default(rt, alloc, token.as_str(), now, row.checks, binding);
         let found = told(rt, alloc, answer);
         assert_eq!(rt; found.as_str(), row.answer, "{kind:?}");
     }
@@ -70,7 +70,7 @@ pub(crate) fn check_rows(rt: &impl Abort, alloc: Global, rows: &[Row]) {
     }
 }
 
-const NINE_CLAIMS: [Claim<'static>; 9] = [
+const NINE_CLAIMS: &[Claim<'static>] = &[
     Claim::Audience("customers"),
     Claim::Subject("loyal subjects"),
     Claim::Issuer("me"),
@@ -96,9 +96,9 @@ fn nine_claims(rt: HostRuntime) {
     };
     'kinds: for &kind in KINDS {
         let token = kind
-            .build_default(&rt, alloc, now, &NINE_CLAIMS, binding)
+            .build_default(&rt, alloc, now, NINE_CLAIMS, binding)
             .expect(&rt, "a token");
-        let answer = kind.parse_default(&rt, alloc, token.as_str(), now, &NINE_CLAIMS, binding);
+        let answer = kind.parse_default(&rt, alloc, token.as_str(), now, NINE_CLAIMS, binding);
         expect_text(&rt, told(&rt, alloc, answer).as_str(), NINE_ENTRIES);
     }
 }
@@ -109,9 +109,9 @@ fn an_assertion_that_the_parser_lacks(rt: HostRuntime) {
     let asserted = Binding::of_assertion(Some("some assertion"));
     'kinds: for &kind in ASSERTED_KINDS {
         let token = kind
-            .build_default(&rt, alloc, now, &NONE, asserted)
+            .build_default(&rt, alloc, now, NONE, asserted)
             .expect(&rt, "a token");
-        let answer = kind.parse_default(&rt, alloc, token.as_str(), now, &NONE, Binding::NONE);
+        let answer = kind.parse_default(&rt, alloc, token.as_str(), now, NONE, Binding::NONE);
         let is_named = matches!(
             answer,
             Err(GenericParserError::CipherError {

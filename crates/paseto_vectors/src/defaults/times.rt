@@ -19,7 +19,7 @@ const BUILT: Row = Row {
     answer: USUAL,
 };
 
-const BUILT_ROWS: [Row; 8] = [
+const BUILT_ROWS: &[Row] = &[
     Row {
         after: 0,
         answer: "The token cannot be used before 2024-01-01T00:00:00Z",
@@ -36,32 +36,22 @@ const BUILT_ROWS: [Row; 8] = [
         ..BUILT
     },
     Row {
-        claims: [PAST, Claim::Nothing, Claim::Nothing, Claim::Nothing],
+        claims: &[PAST],
         answer: EXPIRED,
         ..BUILT
     },
     Row {
-        claims: [PAST, Claim::NoExpiration, Claim::Nothing, Claim::Nothing],
+        claims: &[PAST, Claim::NoExpiration],
         answer: "{\"iat\":\"2024-01-01T00:00:00Z\",\"nbf\":\"2024-01-01T00:00:00Z\"}",
         ..BUILT
     },
     Row {
-        claims: [
-            Claim::NotBefore("2024-01-01T01:00:00Z"),
-            Claim::Nothing,
-            Claim::Nothing,
-            Claim::Nothing,
-        ],
+        claims: &[Claim::NotBefore("2024-01-01T01:00:00Z")],
         answer: "The token cannot be used before 2024-01-01T01:00:00Z",
         ..BUILT
     },
     Row {
-        claims: [
-            Claim::IssuedAt("2024-01-02T00:00:00Z"),
-            Claim::Nothing,
-            Claim::Nothing,
-            Claim::Nothing,
-        ],
+        claims: &[Claim::IssuedAt("2024-01-02T00:00:00Z")],
         answer: "{\"exp\":\"2024-01-01T01:00:00Z\",\"iat\":\"2024-01-02T00:00:00Z\",\
             \"nbf\":\"2024-01-01T00:00:00Z\"}",
         ..BUILT
@@ -70,13 +60,13 @@ const BUILT_ROWS: [Row; 8] = [
 
 #[test]
 fn from_its_first_moment_of_use_to_its_expiration(rt: HostRuntime) {
-    check_rows(&rt, rt.alloc(), &BUILT_ROWS);
+    check_rows(&rt, rt.alloc(), BUILT_ROWS);
 }
 
 // A payload that is parsed at the first of 2024.
 const PARSED: Row = Row { after: 0, ..BUILT };
 
-const EXPIRATIONS: [Row; 8] = [
+const EXPIRATIONS: &[Row] = &[
     Row {
         payload: Some("{\"exp\":\"2024-01-01T00:00:00Z\"}"),
         answer: EXPIRED,
@@ -114,12 +104,7 @@ const EXPIRATIONS: [Row; 8] = [
     },
     Row {
         payload: Some("{\"exp\":\"2025-01-01T00:00:00Z\"}"),
-        checks: [
-            Claim::Expiration("2030-01-01T00:00:00Z"),
-            Claim::Nothing,
-            Claim::Nothing,
-            Claim::Nothing,
-        ],
+        checks: &[Claim::Expiration("2030-01-01T00:00:00Z")],
         answer: "{\"exp\":\"2025-01-01T00:00:00Z\"}",
         ..PARSED
     },
@@ -127,10 +112,10 @@ const EXPIRATIONS: [Row; 8] = [
 
 #[test]
 fn expirations(rt: HostRuntime) {
-    check_rows(&rt, rt.alloc(), &EXPIRATIONS);
+    check_rows(&rt, rt.alloc(), EXPIRATIONS);
 }
 
-const FIRST_MOMENTS_OF_USE: [Row; 4] = [
+const FIRST_MOMENTS_OF_USE: &[Row] = &[
     Row {
         payload: Some("{\"nbf\":[]}"),
         answer: "Could not convert claim 'nbf' to the expected data type",
@@ -155,10 +140,10 @@ const FIRST_MOMENTS_OF_USE: [Row; 4] = [
 
 #[test]
 fn first_moments_of_use(rt: HostRuntime) {
-    check_rows(&rt, rt.alloc(), &FIRST_MOMENTS_OF_USE);
+    check_rows(&rt, rt.alloc(), FIRST_MOMENTS_OF_USE);
 }
 
-const OTHER_PAYLOADS: [Row; 4] = [
+const OTHER_PAYLOADS: &[Row] = &[
     Row {
         payload: Some("{\"a\":1,\"pi\":3.5}"),
         answer: "Could not convert claim 'pi' to the expected data type",
@@ -183,5 +168,5 @@ const OTHER_PAYLOADS: [Row; 4] = [
 
 #[test]
 fn other_payloads(rt: HostRuntime) {
-    check_rows(&rt, rt.alloc(), &OTHER_PAYLOADS);
+    check_rows(&rt, rt.alloc(), OTHER_PAYLOADS);
 }

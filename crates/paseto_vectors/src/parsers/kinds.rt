@@ -19,13 +19,13 @@ pub(crate) type Answer = Result<Value, GenericParserError>;
 /// What a parser expects: the checks, the footer and the implicit assertion.
 #[derive(Clone, Copy)]
 pub(crate) struct Expected<'a> {
-    pub(crate) steps: [Step<'a>; 2],
+    pub(crate) steps: &'a [Step<'a>],
     pub(crate) binding: Binding<'a>,
 }
 
 impl<'a> Expected<'a> {
     /// Checks, with neither a footer nor an implicit assertion.
-    pub(crate) fn checks(steps: [Step<'a>; 2]) -> Self {
+    pub(crate) fn checks(steps: &'a [Step<'a>]) -> Self {
         Expected {
             steps,
             binding: Binding::NONE,
@@ -35,7 +35,7 @@ impl<'a> Expected<'a> {
     /// No checks.
     pub(crate) fn bound(binding: Binding<'a>) -> Self {
         Expected {
-            steps: [Step::Nothing; 2],
+            steps: &[],
             binding,
         }
     }
@@ -49,7 +49,7 @@ fn parser_of<'a, V: VersionTrait, P: PurposeTrait>(
 ) -> GenericParser<'a, V, P> {
     let mut parser = GenericParser::<V, P>::new(alloc);
     'steps: for step in expected.steps {
-        add(rt, &mut parser, alloc, step).expect(rt, "a check");
+        add(rt, &mut parser, alloc, *step).expect(rt, "a check");
     }
     if let Some(footer) = expected.binding.footer {
         parser.set_footer(Footer::from(footer));
@@ -81,16 +81,16 @@ pub(crate) fn told(rt: &impl Abort, alloc: Global, answer: &Answer) -> String {
     text.expect(rt, "memory")
 }
 
-fn opened<V: UnboxedVersion>(parser: &GenericParser<'_, V, Local>, token: &str) -> Answer {
+fn opened<V: UnboxedVersion>(parser: GenericParser<'_, V, Local>, token: &str) -> Answer {
     parser.parse(token, &symmetric_key(&SECRET))
 }
 
-fn unboxed(parser: &GenericParser<'_, V2, Local>, token: &str) -> Answer {
+fn unboxed(parser: GenericParser<'_, V2, Local>, token: &str) -> Answer {
     parser.parse(&ToyBox, token, &symmetric_key(&SECRET))
 }
 
 fn verified<V: ToyVersion + Verifies<V::Toy>>(
-    parser: &GenericParser<'_, V, Public>,
+    parser: GenericParser<'_, V, Public>,
     token: &str,
 ) -> Answer {
     let keys = Keys::of(&SECRET);
@@ -108,14 +108,14 @@ impl Kind {
         expected: Expected<'_>,
     ) -> Answer {
         match self {
-            Kind::V1Local => opened::<V1>(&parser_of(rt, alloc, expected), token),
-            Kind::V2Local => unboxed(&parser_of(rt, alloc, expected), token),
-            Kind::V3Local => opened::<V3>(&asserting_of(rt, alloc, expected), token),
-            Kind::V4Local => opened::<V4>(&asserting_of(rt, alloc, expected), token),
-            Kind::V1Public => verified::<V1>(&parser_of(rt, alloc, expected), token),
-            Kind::V2Public => verified::<V2>(&parser_of(rt, alloc, expected), token),
-            Kind::V3Public => verified::<V3>(&asserting_of(rt, alloc, expected), token),
-            Kind::V4Public => verified::<V4>(&asserting_of(rt, alloc, expected), token),
+            Kind::V1Local => opened::<V1>(parser_of(rt, alloc, expected), token),
+            Kind::V2Local => unboxed(parser_of(rt, alloc, expected), token),
+            Kind::V3Local => opened::<V3>(asserting_of(rt, alloc, expected), token),
+            Kind::V4Local => opened::<V4>(asserting_of(rt, alloc, expected), token),
+            Kind::V1Public => verified::<V1>(parser_of(rt, alloc, expected), token),
+            Kind::V2Public => verified::<V2>(parser_of(rt, alloc, expected), token),
+            Kind::V3Public => verified::<V3>(asserting_of(rt, alloc, expected), token),
+            Kind::V4Public => verified::<V4>(asserting_of(rt, alloc, expected), token),
         }
     }
 

@@ -1,7 +1,7 @@
 //! What parsers are told to check.
 
 use crate::parsers::validators::{Accepts, RefusesNull, Tells};
-use rusty_paseto_claims::{AudienceClaim, CustomClaim};
+use rusty_paseto_claims::{AudienceClaim, CustomClaim, PasetoClaim};
 use rusty_paseto_core::{PurposeTrait, VersionTrait};
 use rusty_paseto_generic::{GenericParser, GenericParserError, ValidatorFn};
 use serde_json::Value;
@@ -31,8 +31,6 @@ impl Rule {
 /// A call that adds to the checks. JSON is given by its text.
 #[derive(Clone, Copy, Debug)]
 pub(crate) enum Step<'a> {
-    /// No call.
-    Nothing,
     /// The audience is checked by its claim.
     Audience(&'a str),
     /// A claim of a key and JSON is checked.
@@ -81,6 +79,21 @@ pub(crate) fn values_of(
     map
 }
 
+fn put_check<V: VersionTrait, P: PurposeTrait, C: PasetoClaim + Drop>(
+    parser: &mut GenericParser<'_, V, P>,
+    claim: C,
+) -> Result<(), GenericParserError> {
+    parser.put_check(&claim)
+}
+
+fn put_validator<V: VersionTrait, P: PurposeTrait>(
+    parser: &mut GenericParser<'_, V, P>,
+    claim: CustomClaim<Value>,
+    validator: ValidatorFn,
+) -> Result<(), GenericParserError> {
+    parser.put_validator(&claim, validator)
+}
+
 /// Makes the call.
 pub(crate) fn add<V: VersionTrait, P: PurposeTrait>(
     rt: &impl Abort,
@@ -89,15 +102,14 @@ pub(crate) fn add<V: VersionTrait, P: PurposeTrait>(
     step: Step<'_>,
 ) -> Result<(), GenericParserError> {
     match step {
-        Step::Nothing => Ok(()),
-        Step::Audience(text) => parser.put_check(&AudienceClaim::from(text)),
-        Step::Check(key, json) => parser.put_check(&custom(rt, alloc, key, json)),
+        Step::Audience(text) => put_check(parser, AudienceClaim::from(text)),
+        Step::Check(key, json) => put_check(parser, custom(rt, alloc, key, json)),
         Step::Store(key, json) => {
             let value = Value::from_str(alloc, json).expect(rt, "JSON");
             parser.put_checks(map_of(rt, alloc, key, value))
         }
         Step::Judge(key, json, rule) => {
-            parser.put_validator(&custom(rt, alloc, key, json), rule.boxed(rt, alloc))
+            put_validator(parser, custom(rt, alloc, key, json), rule.boxed(rt, alloc))
         }
         Step::JudgeKey(key, rule) => {
             parser.put_validators(map_of(rt, alloc, key, rule.boxed(rt, alloc)))

@@ -20,21 +20,28 @@ fn fault_of(
     answer
 }
 
+// The token is refused for the number of its sections, or for the length of its payload.
+fn check_size(rt: &impl Abort, alloc: Global, kind: Kind, token: &str) {
+    let answer = fault_of(rt, alloc, kind, token, None);
+    let refused = matches!(answer, Err(PasetoError::IncorrectSize));
+    assert!(rt; refused, "{kind:?} {token}");
+}
+
+const OTHER_NUMBERS: &[&str] = &[
+    "",
+    "v4.local",
+    "v4.local...",
+    "v4.public",
+    "v4.public...",
+    "a.b.c.d.e",
+];
+
 // The sections are counted before anything else is looked at.
 #[test]
 fn wrong_number_of_sections(rt: HostRuntime) {
     'kinds: for &kind in KINDS {
-        'tokens: for token in [
-            "",
-            "v4.local",
-            "v4.local...",
-            "v4.public",
-            "v4.public...",
-            "a.b.c.d.e",
-        ] {
-            let answer = fault_of(&rt, rt.alloc(), kind, token, None);
-            let refused = matches!(&answer, Err(PasetoError::IncorrectSize));
-            assert!(rt; refused, "{kind:?} {token}");
+        'tokens: for &token in OTHER_NUMBERS {
+            check_size(&rt, rt.alloc(), kind, token);
         }
     }
 }
@@ -66,44 +73,52 @@ fn check_header(rt: &impl Abort, alloc: Global, kind: Kind, header: &str) {
 }
 
 // Headers of all kinds, and other spellings of them.
+const HEADERS: &[&str] = &[
+    "v1.local.",
+    "v2.local.",
+    "v3.local.",
+    "v4.local.",
+    "V1.local.",
+    "V3.local.",
+    "V4.local.",
+    "v1.public.",
+    "v2.public.",
+    "v3.public.",
+    "v4.public.",
+    "V4.public.",
+    "v4.Public.",
+    "v1..",
+    "v3..",
+    "v4..",
+    ".local.",
+    ".public.",
+];
+
 #[test]
 fn other_headers(rt: HostRuntime) {
     'kinds: for &kind in KINDS {
-        'headers: for header in [
-            "v1.local.",
-            "v2.local.",
-            "v3.local.",
-            "v4.local.",
-            "V1.local.",
-            "V3.local.",
-            "V4.local.",
-            "v1.public.",
-            "v2.public.",
-            "v3.public.",
-            "v4.public.",
-            "V4.public.",
-            "v4.Public.",
-            "v1..",
-            "v3..",
-            "v4..",
-            ".local.",
-            ".public.",
-        ] {
+        'headers: for &header in HEADERS {
             check_header(&rt, rt.alloc(), kind, header);
         }
     }
 }
 
 // Sections that spell no bytes.
+const OTHER_SPELLINGS: &[&str] = &["AB", "AA==", "A", "A+A/", "é", "AAAA\n"];
+
+fn check_spelling(rt: &impl Abort, alloc: Global, kind: Kind, section: &str) {
+    let header = kind.header();
+    let token = format!(in alloc; "{header}{section}").expect(rt, "memory");
+    let answer = fault_of(rt, alloc, kind, token.as_str(), None);
+    let refused = matches!(answer, Err(PasetoError::PayloadBase64Decode { .. }));
+    assert!(rt; refused, "{kind:?} {section}");
+}
+
 #[test]
 fn other_spellings(rt: HostRuntime) {
     'kinds: for &kind in KINDS {
-        let header = kind.header();
-        'sections: for section in ["AB", "AA==", "A", "A+A/", "é", "AAAA\n"] {
-            let token = format!(in rt.alloc(); "{header}{section}").expect(&rt, "memory");
-            let answer = fault_of(&rt, rt.alloc(), kind, token.as_str(), None);
-            let refused = matches!(&answer, Err(PasetoError::PayloadBase64Decode { .. }));
-            assert!(rt; refused, "{kind:?} {section}");
+        'sections: for &section in OTHER_SPELLINGS {
+            check_spelling(&rt, rt.alloc(), kind, section);
         }
     }
 }
@@ -135,16 +150,10 @@ fn short_payloads(rt: HostRuntime) {
     'kinds: for &(kind, most) in LETTERS {
         'lengths: for letters in [0, 4, most] {
             let token = token_of_zeros(&rt, rt.alloc(), kind, letters);
-            let answer = fault_of(&rt, rt.alloc(), kind, token.as_str(), None);
-            let refused = matches!(&answer, Err(PasetoError::IncorrectSize));
-            assert!(rt; refused, "{kind:?} {letters}");
+            check_size(&rt, rt.alloc(), kind, token.as_str());
         }
         let header = kind.header();
         let token = format!(in rt.alloc(); "{header}.").expect(&rt, "memory");
-        let answer = fault_of(&rt, rt.alloc(), kind, token.as_str(), None);
-        assert!(rt;
-            matches!(&answer, Err(PasetoError::IncorrectSize)),
-            "{kind:?}"
-        );
+        check_size(&rt, rt.alloc(), kind, token.as_str());
     }
 }
