@@ -1,0 +1,92 @@
+#!/usr/bin/env bash
+# Says within minutes whether a change is sound, while one works on it: the formats, the checks of the crates
+# that changed and of those above them, over the work that earlier checks kept, their tests, run with no
+# proof, and the program from outside.
+#
+#   tests/quick.sh [REVISION]
+#
+# What changed is what differs from REVISION, which is `main` where none is given, files that git does not know
+# yet among them. It tries no must-fail edit, proves no test, refuses no memory, and begins with kept work: it
+# is no gate. Before the last line stands 'N passed, M failed', and the status is 0 where none failed.
+set -u
+export LC_ALL=C
+
+root=$(cd "$(dirname "$0")/.." && pwd)
+base=${1:-main}
+cd "$root" || exit 1
+if ! git rev-parse --quiet --verify "$base^{commit}" >/dev/null; then
+    echo "usage: tests/quick.sh [REVISION]; there is no revision $base" >&2
+    exit 2
+fi
+rattle=$(dirname "$(rt doc)")/bin/rattle
+
+work=$(mktemp -d)
+trap 'rm -rf "$work"' EXIT
+passed=0
+failed=0
+
+# settle NAME STATUS LOG: counts, and shows the end of a log that tells of a failure.
+settle() {
+    if [ "$2" -eq 0 ]; then
+        passed=$((passed + 1))
+        echo "ok: $1"
+    else
+        failed=$((failed + 1))
+        echo "FAILED: $1"
+        tail -n 25 "$3"
+    fi
+}
+
+# The names of the crates whose files, or whose line of crates.txt, differ from the revision.
+changed() {
+    { git diff --name-only "$base" -- crates; git ls-files --others --exclude-standard -- crates; } | cut -d/ -f2
+    git diff --unified=0 "$base" -- crates.txt | sed -nE 's/^[+-]([a-z0-9_]+).*:.*/\1/p'
+}
+
+# The names that are read and those of the crates above them, in the order of crates.txt, where what a crate
+# stands on comes before it.
+with_those_above() {
+    awk 'NR == FNR { hit[$1] = 1; next }
+        /^[a-z]/ { gsub(":", " "); for (i = 1; i <= NF; i++) if (hit[$i]) hit[$1] = 1; if (hit[$1]) print $1 }' \
+        - crates.txt
+}
+
+# The layout of all sources of a crate.
+check_format() {
+    find "crates/$1" -path '*/out' -prune -o \( -name '*.rt' -o -name '*.antt' \) -print0 \
+        | xargs -0 "$rattle" fmt --check >"$work/log" 2>&1
+    settle "format of $1" $? "$work/log"
+}
+
+check_crate() {
+    (cd "crates/$1" && rt check) >"$work/log" 2>&1
+    settle "check of $1: $(tail -n 1 "$work/log" | cut -c 1-100)" $? "$work/log"
+}
+
+try_tests() {
+    (cd "crates/$1" && rt try --test) >"$work/log" 2>&1
+    settle "tests of $1, with no proof" $? "$work/log"
+}
+
+changed | sort -u >"$work/changed"
+echo "changed against $base: $(tr '\n' ' ' <"$work/changed")"
+mapfile -t crates < <(with_those_above <"$work/changed")
+for crate in "${crates[@]}"; do
+    check_format "$crate"
+done
+for crate in "${crates[@]}"; do
+    check_crate "$crate"
+    if grep -rqF '#[test]' "crates/$crate/src"; then
+        try_tests "$crate"
+    fi
+done
+
+# `rt run` builds the program anew where something below it changed.
+(cd crates/paseto_tool && rt run -- inspect v4.local.payload) >"$work/log" 2>&1 </dev/null
+settle 'the program is built' $? "$work/log"
+bash tests/program.sh >"$work/log" 2>&1
+settle "tests/program.sh: $(tail -n 1 "$work/log")" $? "$work/log"
+
+echo "$passed passed, $failed failed"
+echo "tests/quick.sh is no gate: 'bash .ci/run' proves everything from nothing, the tests too, and tries the edits"
+[ "$failed" -eq 0 ]
