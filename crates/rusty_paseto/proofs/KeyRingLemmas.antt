@@ -41,7 +41,7 @@ module _ (keys : Keys) (reading : Readings) (token footer : List ℕ) (has : Has
       token_fault source error (inl memory) fault = inl memory.1
       token_fault source error (inr other) (inl memory) = absurd (other.0 memory)
       token_fault source error (inr other) (inr fault) =
-          rw other.1 (inr (footer, string_bytes id, record { has = has; names = names }, (key, has_key, fault)))
+          rw other.1 (inr (footer, string_bytes id, record { has = has; names = names }, (key, has_key, other.0, fault)))
 
       read_here : (other text : List ℕ) → IsOpened keys reading token other text → IsRead (reading key footer) token text
       read_here other text is =

@@ -78,13 +78,13 @@ pub record IsOpened (keys : Keys) (reading : Readings) (token id text : List ℕ
 -- the error is the first fault: one of finding the footer, no footer, one of what it names, an id that is not in the
 -- ring, or one of reading the token under the key
 abbrev pub IsFirstFault : Keys → Readings → List ℕ → KeyRingError → Type 0
-IsFirstFault keys reading token (Untrusted source) = IsTokenFooterFault (sections token) source
+IsFirstFault keys reading token (Untrusted source) = (¬ IsMemoryOfCipher source) × IsTokenFooterFault (sections token) source
 IsFirstFault keys reading token NoFooter = HasFooter token None
 IsFirstFault keys reading token (UnknownKey id) =
     (footer : List ℕ) × NamesKey token footer (string_bytes id) × (keys (string_bytes id) ≡ None)
 IsFirstFault keys reading token (Token source) =
     (footer : List ℕ) × (id : List ℕ) × NamesKey token footer id
-    × ((key : List ℕ) × (keys id ≡ Some key) × IsFault (reading key footer) token source)
+    × ((key : List ℕ) × (keys id ≡ Some key) × (¬ IsMemoryOfCipher source) × IsFault (reading key footer) token source)
 IsFirstFault keys reading token error = (footer : List ℕ) × HasFooter token (Some footer) × IsNamingFault footer error
 
 -- memory was refused
@@ -108,7 +108,7 @@ pub record IsRingAnswer (keys : Keys) (reading : Readings) (token : List ℕ) (r
 
 -- the error is the first fault of finding the footer: one of reading the token's sections, or no footer
 abbrev pub IsUntrustedFault : List ℕ → KeyRingError → Type 0
-IsUntrustedFault token (Untrusted source) = IsTokenFooterFault (sections token) source
+IsUntrustedFault token (Untrusted source) = (¬ IsMemoryOfCipher source) × IsTokenFooterFault (sections token) source
 IsUntrustedFault token NoFooter = HasFooter token None
 IsUntrustedFault token _ = ⊥
 

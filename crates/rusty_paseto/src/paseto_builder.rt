@@ -5,6 +5,7 @@ ghost use Rattle.serde_json.specs.Data.{put, string};
 ghost use Rattle.serde_json.specs.Find.{get_member};
 ghost use Rattle.serde_json.specs.View.{members_view};
 ghost use Rattle.rusty_paseto_core.specs.Context.{binding_of};
+ghost use Rattle.rusty_paseto_core.specs.Public.{HasPrivateLength};
 ghost use Rattle.rusty_paseto_generic.specs.Error.{IsMemory, IsOfBox, IsOfGenerator};
 ghost use Rattle.rusty_paseto_generic.specs.Builders.Claims.{IsReadBack, IsRefusal, becomes, claim_set, without};
 ghost use Rattle.rusty_paseto_generic.specs.Builders.Held.{held};
@@ -238,7 +239,7 @@ impl<V: BoxlessVersion> PasetoBuilder<'_, V, Local> {
             IfOk result (λ token. IsSealed V.design binding (is_some self.now.builder.paseto.footer) (held self.now.builder.claims)
             (λ nonce. R.may_fill rng.old nonce rng.new) (string_bytes token)) }
         ensures read_back { OnOk result (IsReadBack (held self.now.builder.claims)) }
-        ensures err { (counting self.now.keys).repeated ≡ None → IfErr result (λ error. IsMemory error ⊎ IsOfGenerator error) }
+        ensures err { (counting self.now.keys).repeated ≡ None → IfErr result (λ error. IsMemory error ⊎ IsOfGenerator R.Error error) }
     {
         self.check_keys()?;
         self.builder.try_encrypt(rng, key)
@@ -267,7 +268,7 @@ impl PasetoBuilder<'_, V2, Local> {
         ensures read_back { OnOk result (IsReadBack (held self.now.builder.claims)) }
         ensures err { let binding = binding_of key.now self.now.builder.paseto.footer None in
             (counting self.now.keys).repeated ≡ None
-            → IfErr result (λ error. IsMemory error ⊎ (IsOfGenerator error
+            → IfErr result (λ error. IsMemory error ⊎ (IsOfGenerator R.Error error
             ⊎ (IsOfBox error
             × IsBoxAnswer B.sealing binding (is_some self.now.builder.paseto.footer) (held self.now.builder.claims)
             (λ nonce. R.may_fill rng.old nonce rng.new) None))) }
@@ -294,6 +295,7 @@ impl<V: PublicVersion> PasetoBuilder<'_, V, Public> {
         V: Signs<S>,
         ensures repeated { IsRefusedRepeat (counting self.now.keys).repeated result }
         ensures asked { IsSome (counting self.now.keys).repeated → scheme.new ≡ scheme.old }
+        ensures asked_length { ¬ HasPrivateLength V.public_design key.now → scheme.new ≡ scheme.old }
         ensures answer { (counting self.now.keys).repeated ≡ None
             → IsSignAnswer V.valid (V.declined key.now) V.public_design key.now (V.partner key.now)
             self.now.builder.paseto.footer self.now.builder.paseto.implicit_assertion (held self.now.builder.claims) result }

@@ -1,10 +1,9 @@
 -- The tag of a payload, as it is compared, and the text, as it is unmasked in place.
 use Rattle.std.proofs.Common.{◌≡◌, ◌↔◌, ℕ, ◌+◌, ◌-◌, ◌≤◌, List, Bool, IsTrue, length, take, drop, refl, sym, ap, ◌∙◌, arith, length-drop}
-use Rattle.std.specs.Str.{bytes_eq, IsUtf8}
+use Rattle.std.specs.Str.{IsUtf8}
 use Rattle.std.specs.List.{copy_within}
 use Rattle.std.proofs.lemmas.List.{drop-take}
 use Rattle.std.proofs.lemmas.List.Edits.{take-paste}
-use Rattle.std.proofs.lemmas.Slice.Eq.{bytes_eq-Decides}
 use Rattle.rusty_paseto_core.specs.Context.{Binding}
 use Rattle.rusty_paseto_core.specs.Local.{Design}
 use Rattle.rusty_paseto_core.specs.Local.Sealing.{tag_of}
@@ -28,15 +27,14 @@ module _ (design : Design) (binding : Binding) (payload : List ℕ) (width : ℕ
   pub tag_decides : (same : Bool) (nonce written found : List ℕ) → nonce ≡ take 32 payload
       → written ≡ tag_of design binding nonce (take (length payload - width - 32) (drop 32 payload))
       → found ≡ drop (length payload - width) payload
-      → same ≡ bytes_eq written found
+      → (IsTrue same ↔ (written ≡ found))
       → IsTrue same ↔ HasTag design binding payload
-  tag_decides same nonce written found en ew ef es =
+  tag_decides same nonce written found en ew ef decides =
       let w : written ≡ tag_of design binding (nonce_in payload) (masked_in design payload) =
       rw (ew, en, masked_slice payload (length payload - width) (omega arith), own) refl in
-      let f : found ≡ tag_in design payload = rw (ef, own) refl in
-      let decides = bytes_eq-Decides written found in (
-        λ yes. sym f ∙ sym (decides.0 (sym es ∙ yes)) ∙ w,
-        λ tagged. es ∙ decides.1 (w ∙ sym tagged ∙ sym f),
+      let f : found ≡ tag_in design payload = rw (ef, own) refl in (
+        λ yes. sym f ∙ sym (decides.0 yes) ∙ w,
+        λ tagged. decides.1 (w ∙ sym tagged ∙ sym f),
       )
 
   pub holds_text : (key nonce masked text : List ℕ) → HasTag design binding payload → key ≡ binding.key → nonce ≡ take 32 payload

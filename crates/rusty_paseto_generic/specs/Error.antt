@@ -40,9 +40,9 @@ pub record IsOfJson (source : Error) (error : GenericBuilderError) : Type 0 wher
   pub memory : IsMemoryOfJson source → error ≡ Memory alloc_error
   pub other : ¬ IsMemoryOfJson source → error ≡ PayloadJsonError source
 
--- the generator of random bytes failed
-abbrev pub IsOfGenerator : GenericBuilderError → Type 0
-IsOfGenerator error = error ≡ CipherError Cipher.Cipher
+-- the generator of random bytes failed: there is an error of its type, which nothing but a call of it gives
+abbrev pub IsOfGenerator : Type 0 → GenericBuilderError → Type 0
+IsOfGenerator Failure error = (error ≡ CipherError Cipher.Cipher) × Failure
 
 -- the sealed box has no sealing
 abbrev pub IsOfBox : GenericBuilderError → Type 0

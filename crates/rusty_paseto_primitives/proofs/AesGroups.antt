@@ -1,8 +1,9 @@
 -- Groups of eight blocks: how they stand in vectors, and that they are of bytes.
-use Rattle.std.proofs.Common.{◌≡◌, ℕ, zero, suc, ◌+◌, ◌<◌, ◌*◌, ◌≢◌, Bool, List, [], length, map, take, drop, slice_index, slice_index_or, refl, sym, ◌∙◌, arith, below_more, get_or-set_other, get_or-set_same, length-drop}
+use Rattle.std.proofs.Common.{◌≡◌, ℕ, zero, suc, ◌+◌, ◌<◌, ◌*◌, ◌≢◌, Bool, List, [], ◌∷◌, length, map, take, drop, slice_index, slice_index_or, refl, sym, ◌∙◌, arith, Fits, w8, below_more, get_or-set_other, get_or-set_same, length-drop}
 use Rattle.std.proofs.Math.ListN.{set}
 use Rattle.std.specs.Int.{w128, to_be_bytes}
 use Rattle.std.specs.List.{range_with_len}
+use Rattle.std.specs.Simd.Lanes.{Each1}
 use Rattle.std.proofs.lemmas.List.{ext_get_or, length-take-le, take-take}
 use Rattle.std.proofs.lemmas.List.FromFn.{get_or-map-range_with_len}
 use Rattle.rusty_paseto_primitives.specs.Bytes.{IsBytes}
@@ -13,6 +14,7 @@ use Rattle.rusty_paseto_primitives.specs.Aes.State.{add_round_key, mix_columns, 
 use Rattle.rusty_paseto_primitives.proofs.AesBlocks.{IsBytes-add_round_key, IsBytes-round_key, IsBytes-shift_rows, IsBytes-sub_bytes}
 use Rattle.rusty_paseto_primitives.proofs.AesMixColumns.{IsBytes-mix_columns}
 use Rattle.rusty_paseto_primitives.proofs.AesPlanes.{byte-bit, map_run-agree}
+use Rattle.rusty_paseto_primitives.proofs.ByteLists.{IsBytes_cons, IsBytes-nil}
 use Rattle.rusty_paseto_primitives.proofs.HmacLengths.{IsBytes-bytes_high_first}
 
 -- a block of sixteen bytes, by its bits
@@ -68,3 +70,8 @@ round_keys_more w keys key n width before lt within whole size bytes made =
     made (λ i b. bit (slice_index (round_key w n) i) b) (round_key_vector w n width whole size bytes within) in
     below_more (λ k. slice_index_or (set keys n key) k [] ≡ planes (λ j. round_key w k)) n
     (λ k h. let ne : k ≢ n = omega arith in rw get_or-set_other (before k h)) (rw get_or-set_same here)
+
+-- the lanes of a vector are bytes
+pub IsBytes-lanes : (v : List ℕ) → Each1 (Fits w8) v → IsBytes v
+IsBytes-lanes [] fits = IsBytes-nil
+IsBytes-lanes (x ∷ xs) fits = IsBytes_cons x xs fits.0.fits (IsBytes-lanes xs fits.1)

@@ -1,6 +1,7 @@
 pub mod Below
 pub mod BlockBytes
 pub mod ByteLists
+pub mod Differences
 pub mod ChaChaFacts
 pub mod LaneBytes
 pub mod Masking

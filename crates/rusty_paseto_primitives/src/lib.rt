@@ -11,6 +11,7 @@
 mod aes;
 mod blake2;
 mod chacha;
+mod equality;
 mod hkdf;
 mod hmac;
 mod keystream;
@@ -21,5 +22,6 @@ pub use blake2::hasher::Blake2b;
 pub use blake2::keyed::blake2b_keyed;
 pub use blake2::pair::blake2b_keyed_pair;
 pub use chacha::{chacha20_block, hchacha20, quarter_round, xchacha20_apply};
+pub use equality::same_bytes;
 pub use hkdf::{hkdf_sha384_expand, hkdf_sha384_extract};
 pub use hmac::{HmacSha384, hmac_sha384};

@@ -11,6 +11,7 @@ use crate::local::{LocalSuite, NONCE_LENGTH};
 use crate::reading::{nonce_of, unframe};
 use crate::tag::{LONGEST_TAG, write_tag};
 use rusty_paseto_parts::{Local, PasetoError};
+use rusty_paseto_primitives::same_bytes;
 use std::alloc::Global;
 
 /// The text to which a token opens, or the first fault of reading it.
@@ -70,7 +71,7 @@ fn has_tag<V: LocalSuite>(
     let mut space = [0u8; LONGEST_TAG];
     let tag = &mut space[..V::TAG_LENGTH];
     write_tag::<V>(keys, nonce, &payload[NONCE_LENGTH..end], context, tag);
-    &*tag == &payload[end..]
+    same_bytes(tag, &payload[end..])
 }
 
 // Keeps what stands between the nonce and `end`, with no second buffer.

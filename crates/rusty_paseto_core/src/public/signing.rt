@@ -3,6 +3,7 @@
 ghost use Rattle.std.specs.Prelude.{◌≡◌, ◌⊎◌, ◌++◌, ℕ, List, true, IfOk, IfErr, length, ◌≤◌};
 ghost use Rattle.rusty_paseto_primitives.specs.Bytes.{IsBytes};
 ghost use Rattle.rusty_paseto_parts.specs.Error.{IsMemory};
+ghost use Rattle.rusty_paseto_core.specs.Public.{HasPrivateLength};
 ghost use Rattle.rusty_paseto_core.specs.Public.Signing.{IsSignAnswer};
 
 use crate::context::Context;
@@ -26,8 +27,9 @@ pub(crate) fn sign<V: PublicSuite, S: SignatureScheme<SIG>, const SIG: usize>(
 ) -> Result<String, PasetoError>
     requires size { SIG ≡ V.public_design.signature_length }
     requires partner { V.public_design.binds_key ≡ true → public.now ≡ S.partner private.now }
-    ensures { IsSignAnswer S.valid (S.declined private.now) V.public_design private.now (S.partner private.now)
+    ensures answer { IsSignAnswer S.valid (S.declined private.now) V.public_design private.now (S.partner private.now)
         footer.entry assertion.entry text.now result }
+    ensures asked { ¬ HasPrivateLength V.public_design private.now → scheme.new ≡ scheme.old }
 {
     if !V::has_private_length(private) {
         return Err(PasetoError::TryFromSlice);

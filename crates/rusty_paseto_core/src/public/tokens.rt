@@ -4,7 +4,7 @@ ghost use Rattle.std.specs.Prelude.{◌≡◌, ℕ, List, false, None};
 ghost use Rattle.rusty_paseto_parts.specs.Payload.{payload_text};
 ghost use Rattle.rusty_paseto_parts.specs.declared.error.PasetoError.{PasetoError};
 ghost use Rattle.rusty_paseto_core.specs.Context.{binding_of};
-ghost use Rattle.rusty_paseto_core.specs.Public.{v1_public, v2_public};
+ghost use Rattle.rusty_paseto_core.specs.Public.{HasPrivateLength, v1_public, v2_public};
 ghost use Rattle.rusty_paseto_core.specs.Public.Scheme.{Declining, Refusal, Validity};
 ghost use Rattle.rusty_paseto_core.specs.Public.Signing.{IsSignAnswer};
 ghost use Rattle.rusty_paseto_core.specs.Public.Verifying.{verification};
@@ -48,8 +48,9 @@ pub trait Signs<S>: PublicVersion {
         implicit_assertion: Option<ImplicitAssertion<'_>>,
     ) -> Result<String, PasetoError>
         requires { Self.public_design.binds_assertion ≡ false → implicit_assertion ≡ None }
-        ensures { IsSignAnswer valid (declined key.now) Self.public_design key.now (partner key.now)
-            footer.entry implicit_assertion.entry (payload_text payload.entry) result };
+        ensures answer { IsSignAnswer valid (declined key.now) Self.public_design key.now (partner key.now)
+            footer.entry implicit_assertion.entry (payload_text payload.entry) result }
+        ensures asked { ¬ HasPrivateLength Self.public_design key.now → scheme.new ≡ scheme.old };
 }
 
 /// A version whose public tokens a scheme verifies: version 1 with a `SignatureScheme<256>`, 2 and 4 with
@@ -250,8 +251,9 @@ impl<V: PublicVersion> Paseto<'_, V, Public> {
     ) -> Result<String, PasetoError>
     where
         V: Signs<S>,
-        ensures { IsSignAnswer V.valid (V.declined key.now) V.public_design key.now (V.partner key.now)
+        ensures answer { IsSignAnswer V.valid (V.declined key.now) V.public_design key.now (V.partner key.now)
             self.now.footer self.now.implicit_assertion (payload_text self.now.payload) result }
+        ensures asked { ¬ HasPrivateLength V.public_design key.now → scheme.new ≡ scheme.old }
     {
         let assertion = V::signed_assertion(self.implicit_assertion);
         V::sign(alloc, scheme, key, self.payload, self.footer, assertion)

@@ -1,6 +1,6 @@
 //! The claims that a builder holds.
 
-ghost use Rattle.std.specs.Prelude.{◌≡◌, ◌⊎◌, false, None, Some, ℕ, List, IsSome, IfOk, IfErr, OnOk, OnErr, string_bytes};
+ghost use Rattle.std.specs.Prelude.{◌≡◌, ◌⊎◌, false, None, Some, ℕ, List, [], IsSome, IsOk, IfOk, IfErr, OnOk, OnErr, string_bytes};
 ghost use Rattle.serde_json.specs.Data.{no_members};
 ghost use Rattle.serde_json.specs.Find.{as_object, get_member};
 ghost use Rattle.serde_json.specs.View.{view, members_view};
@@ -56,6 +56,7 @@ impl Claims {
         ensures ok { OnOk result (claim_set (C.key claim.now) (C.json claim.now) (held self.old) ≡ becomes (held self.new)) }
         ensures err { OnErr result (held self.new ≡ held self.old) }
         ensures fault { IfErr result (IsRefusal (claim_set (C.key claim.now) (C.json claim.now) (held self.old))) }
+        ensures empty { C.key claim.now ≡ [] → IsOk result }
     {
         let key = claim.get_key();
         if key.is_empty() {

@@ -1,11 +1,12 @@
 //! The builder of tokens of every version and purpose.
 
-ghost use Rattle.std.specs.Prelude.{◌≡◌, ◌⊎◌, None, Some, IfOk, IfErr, OnOk, OnErr, is_some, string_bytes};
+ghost use Rattle.std.specs.Prelude.{◌≡◌, ◌⊎◌, None, Some, [], IsOk, IfOk, IfErr, OnOk, OnErr, is_some, string_bytes};
 ghost use Rattle.serde_json.specs.Data.{no_members};
 ghost use Rattle.serde_json.specs.Find.{get_member};
 ghost use Rattle.serde_json.specs.View.{members_view};
 ghost use Rattle.rusty_paseto_core.specs.Context.{binding_of};
 ghost use Rattle.rusty_paseto_core.specs.Payload.{payload_text};
+ghost use Rattle.rusty_paseto_core.specs.Public.{HasPrivateLength};
 ghost use Rattle.rusty_paseto_generic.specs.Error.{IsMemory, IsOfBox, IsOfGenerator};
 ghost use Rattle.rusty_paseto_generic.specs.Builders.Claims.{IsReadBack, IsRefusal, becomes, claim_set, extended, payload, without};
 ghost use Rattle.rusty_paseto_generic.specs.Builders.Held.{held};
@@ -90,6 +91,7 @@ impl<'a, V: VersionTrait, P: PurposeTrait> GenericBuilder<'a, V, P> {
         ensures rest { self.new.paseto ≡ self.old.paseto }
         ensures err { OnErr result (held self.new.claims ≡ held self.old.claims) }
         ensures fault { IfErr result (IsRefusal (claim_set (C.key claim.now) (C.json claim.now) (held self.old.claims))) }
+        ensures empty { C.key claim.now ≡ [] → IsOk result }
     {
         self.claims.set(claim)
     }
@@ -102,6 +104,7 @@ impl<'a, V: VersionTrait, P: PurposeTrait> GenericBuilder<'a, V, P> {
         ensures rest { IfOk result (λ builder. builder.now.paseto ≡ self.entry.now.paseto) }
         ensures fault { IfErr result
             (IsRefusal (claim_set (C.key claim.now) (C.json claim.now) (held self.entry.now.claims))) }
+        ensures empty { C.key claim.now ≡ [] → IsOk result }
     {
         self.put_claim(claim)?;
         Ok(self)
@@ -217,7 +220,7 @@ impl<V: UnboxedVersion> GenericBuilder<'_, V, Local> {
             IfOk result (λ token. IsSealed V.design binding (is_some self.now.paseto.footer) (held self.now.claims)
             (λ nonce. R.may_fill rng.old nonce rng.new) (string_bytes token)) }
         ensures read_back { OnOk result (IsReadBack (held self.now.claims)) }
-        ensures err { IfErr result (λ error. IsMemory error ⊎ IsOfGenerator error) }
+        ensures err { IfErr result (λ error. IsMemory error ⊎ IsOfGenerator R.Error error) }
     {
         let payload = self.build_payload_from_claims()?;
         let nonce = Key::<32>::try_new_random(rng)?;
@@ -245,7 +248,7 @@ impl GenericBuilder<'_, V2, Local> {
             (λ nonce. R.may_fill rng.old nonce rng.new) (Some (string_bytes token))) }
         ensures read_back { OnOk result (IsReadBack (held self.now.claims)) }
         ensures err { let binding = binding_of key.now self.now.paseto.footer None in
-            IfErr result (λ error. IsMemory error ⊎ (IsOfGenerator error
+            IfErr result (λ error. IsMemory error ⊎ (IsOfGenerator R.Error error
             ⊎ (IsOfBox error
             × IsBoxAnswer B.sealing binding (is_some self.now.paseto.footer) (held self.now.claims)
             (λ nonce. R.may_fill rng.old nonce rng.new) None))) }
@@ -275,6 +278,7 @@ impl<V: PublicVersion> GenericBuilder<'_, V, Public> {
         V: Signs<S>,
         ensures answer { IsSignAnswer V.valid (V.declined key.now) V.public_design key.now (V.partner key.now)
             self.now.paseto.footer self.now.paseto.implicit_assertion (held self.now.claims) result }
+        ensures asked { ¬ HasPrivateLength V.public_design key.now → scheme.new ≡ scheme.old }
         ensures read_back { OnOk result (IsReadBack (held self.now.claims)) }
     {
         let payload = self.build_payload_from_claims()?;

@@ -1,6 +1,6 @@
 //! Bytes of a fixed number that are to be kept secret.
 
-ghost use Rattle.std.specs.Prelude.{◌≡◌, ℕ, List, Some, codes, length, replicate, IfOk, IfErr};
+ghost use Rattle.std.specs.Prelude.{◌≡◌, ℕ, List, Some, codes, length, replicate, IfOk, IfErr, OnErr};
 ghost use Rattle.rusty_paseto_parts.specs.Key.{ReadsKey};
 
 use crate::error::PasetoError;
@@ -44,6 +44,7 @@ impl<const N: usize> Key<N> {
     pub fn try_new_random<R: TryRng>(rng: &mut R) -> Result<Self, PasetoError>
         ensures given { IfOk result (λ key. R.may_fill rng.old key rng.new) }
         ensures err { IfErr result (λ error. error ≡ PasetoError.Cipher) }
+        ensures failed { OnErr result R.Error }
     {
         let mut bytes = [0u8; N];
         match rng.try_fill_bytes(&mut bytes) {

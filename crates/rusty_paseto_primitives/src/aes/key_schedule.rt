@@ -2,8 +2,11 @@
 
 ghost use Rattle.std.specs.Prelude.{◌≡◌, ◌<◌, ◌≤◌};
 ghost use Rattle.rusty_paseto_primitives.specs.Aes.KeySchedule.{key_expansion, key_word_step, next_word, rot_word, sub_word, word, xor_word};
+ghost use Rattle.rusty_paseto_primitives.specs.Aes.State.{sub_bytes};
 
-use crate::aes::field::sub_byte;
+use crate::aes::circuit::sub_bytes;
+use crate::aes::planes::{repeated, transposed};
+use std::simd::u8x16;
 
 // The first bytes of the words Rcon[1] to Rcon[7].
 const ROUND_CONSTANTS: [u8; 7] = [0x01, 0x02, 0x04, 0x08, 0x10, 0x20, 0x40];
@@ -21,15 +24,21 @@ fn word(schedule: &[u8; 240], i: usize) -> [u8; 4]
     ]
 }
 
+// SubBytes of a block, by the circuit on eight of it: no address depends on a byte, as one in the
+// table of the S-box would.
+#[inline(always)]
+fn sub_block(block: u8x16) -> u8x16
+    ensures { result ≡ sub_bytes block }
+{
+    transposed(sub_bytes(repeated(block)))[0]
+}
+
 fn sub_word(t: [u8; 4]) -> [u8; 4]
     ensures { result ≡ sub_word t }
 {
-    [
-        sub_byte(t[0]),
-        sub_byte(t[1]),
-        sub_byte(t[2]),
-        sub_byte(t[3]),
-    ]
+    let bytes = u8x16::from_array([t[0], t[1], t[2], t[3], 0, 0, 0, 0, 0, 0, 0, 0, 0, 0, 0, 0]);
+    let found = sub_block(bytes).to_array();
+    [found[0], found[1], found[2], found[3]]
 }
 
 fn rot_word(t: [u8; 4]) -> [u8; 4]

@@ -9,5 +9,5 @@ returns g c key split =
     let payload = c.args.payload.now in
     let width = c.TAG_LENGTH.result in
     let own : width ≡ g.V.LocalSuite.design.tag_length = c.TAG_LENGTH.ensures ∙ sym g.met.V.LocalSuite.has_tag_length in
-    tag_decides g.V.LocalSuite.design (bound key c.args.context.now) payload width own c.requires.room c.eq.result c.args.nonce.now c.write_tag.new.tag _
-    c.requires.nonce (c.write_tag.ensures key split) (take_rest payload (length payload - width)) c.eq.ensures
+    tag_decides g.V.LocalSuite.design (bound key c.args.context.now) payload width own c.requires.room c.same_bytes.result c.args.nonce.now c.write_tag.new.tag _
+    c.requires.nonce (c.write_tag.ensures key split) (take_rest payload (length payload - width)) c.same_bytes.ensures

@@ -4,8 +4,8 @@ use Rattle.rusty_paseto_core.specs.Public.{message}
 use Rattle.rusty_paseto_core.proofs.Signatures.{framed_signing, memory_or, message-key, signed_payload}
 use Rattle.rusty_paseto_core.proofs.public.signing.sign.Goals as goal
 
-pub returns : goal.returns
-returns g c =
+pub returns-clause-answer : goal.returns-clause-answer
+returns-clause-answer g c =
     let valid = g.S.SignatureScheme.valid in
     let design = g.V.PublicSuite.public_design in
     let partner = g.S.SignatureScheme.partner c.args.private.now in

@@ -1,0 +1,18 @@
+//! The comparison of tags: where they differ shows in no branch.
+
+ghost use Rattle.std.specs.Prelude.{◌≡◌, ◌↔◌, IsTrue};
+
+/// Whether two lists of bytes are the same. The differences of all bytes are joined, and one
+/// comparison with zero ends it.
+pub fn same_bytes(a: &[u8], b: &[u8]) -> bool
+    ensures { IsTrue result ↔ (a.now ≡ b.now) }
+{
+    if a.len() != b.len() {
+        return false;
+    }
+    let mut difference = 0u8;
+    'bytes: for i in 0..a.len() {
+        difference |= a[i] ^ b[i];
+    }
+    difference == 0
+}
