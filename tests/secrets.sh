@@ -1,0 +1,119 @@
+#!/usr/bin/env bash
+# Asks the machine code whether a jump or an address tells a secret: valgrind runs the driver `secrets.c` over the
+# static library of `paseto_bench`, with the bytes of the key (and, in a second run, of the text) marked as
+# undefined, and reports each conditional jump and each address that depends on them.
+#
+#   tests/secrets.sh [--cpu NAME]
+#
+# --cpu builds the library for another processor, as x86-64-v3. What may be reported, and why that tells nothing,
+# is in `secrets.txt`. The compiler may do otherwise on another processor or at another version, so this is a test
+# of a build, and no promise. The last line is 'N passed, M failed', and the status is 0 where none failed.
+set -u
+export LC_ALL=C
+
+root=$(cd "$(dirname "$0")/.." && pwd)
+cpu=()
+if [ "${1-}" = --cpu ]; then
+    cpu=(--cpu "${2:?--cpu wants a name, as x86-64-v3}")
+    shift 2
+fi
+if [ $# -gt 0 ]; then
+    echo 'usage: tests/secrets.sh [--cpu NAME]' >&2
+    exit 2
+fi
+
+work=$(mktemp -d)
+trap 'rm -rf "$work"' EXIT
+passed=0
+failed=0
+
+pass() {
+    passed=$((passed + 1))
+}
+
+fail() {
+    failed=$((failed + 1))
+    echo "FAILED: $1"
+}
+
+# The last line, and the status.
+finish() {
+    echo "$passed passed, $failed failed"
+    [ "$failed" -eq 0 ]
+    exit
+}
+
+# needs COMMAND PACKAGE
+needs() {
+    command -v "$1" >/dev/null && return
+    fail "$1 is missing. On Debian: apt-get install $2"
+    finish
+}
+
+needs cc gcc
+needs valgrind valgrind
+
+if ! (cd "$root/crates/paseto_bench" && rt lib "${cpu[@]}") >"$work/build" 2>&1; then
+    tail -n 5 "$work/build"
+    fail 'the library is not built'
+    finish
+fi
+kit=$(dirname "$(rt doc)")
+if ! cc -std=c11 -Wall -Wextra -Werror -O1 -o "$work/secrets" "$root/tests/secrets.c" \
+    "$root/crates/paseto_bench/out/libpaseto_bench.a" "$kit/c/liblibc_c.a" "$kit/c/libos_c.a"; then
+    fail 'the driver is not built'
+    finish
+fi
+
+# A line 'kind function' for each report: jump, address, or other.
+reports() {
+    awk '/^==[0-9]+== [A-Z]/ { kind = /Conditional jump/ ? "jump" : /Use of uninitialised/ ? "address" : "other" }
+        /^==[0-9]+==    at / && kind {
+            sub(/^.* at 0x[0-9A-F]+: /, ""); sub(/ \((in )?[^ ()]*\)$/, ""); sub(/::<#[0-9a-f]+>$/, "")
+            print kind, $0
+            kind = ""
+        }' "$1"
+}
+
+# ask VERSION CALL: the reports of a run, in $work/found as lines 'count kind function'.
+ask() {
+    valgrind -q --error-limit=no --num-callers=1 --log-file="$work/log" "$work/secrets" "$1" "$2" >"$work/out" 2>&1
+    status=$?
+    reports "$work/log" | sort | uniq -c >"$work/found"
+}
+
+# may CALL KIND FUNCTION: in how many places secrets.txt lets it be reported.
+may() {
+    awk -v call="$1" -v kind="$2" -v name="$3" \
+        -v build="${cpu[1]:-default}" '($1 == "*" || $1 == build) && $2 == call && $3 == kind && $5 == name { most = $4 }
+        END { print most + 0 }' "$root/tests/secrets.txt"
+}
+
+# check VERSION CALL: nothing is reported but what may be.
+check() {
+    local count kind name told=0
+    ask "$1" "$2"
+    [ "$status" -eq 0 ] || { fail "$1 $2: a call answers wrongly, or valgrind does not run (status $status)"; return; }
+    while read -r count kind name; do
+        if [ "$count" -gt "$(may "$2" "$kind" "$name")" ]; then
+            fail "$1 $2: $count places with a secret $kind in $name"
+            told=1
+        fi
+    done <"$work/found"
+    [ "$told" -eq 1 ] || pass
+    printf '%-4s %-10s %3d places\n' "$1" "$2" "$(reports "$work/log" | wc -l)"
+}
+
+# The test is able to fail: a jump on the key and an address at it, in the driver itself, are reported.
+ask control control
+for kind in jump address; do
+    if grep -qE "^ +1 $kind control$" "$work/found"; then pass; else fail "the control's $kind is not reported"; fi
+done
+if [ "$(may control jump control)" -eq 0 ]; then pass; else fail 'secrets.txt lets the control pass'; fi
+
+for version in v1 v3 v4; do
+    for call in seal seal_text refused open; do
+        check "$version" "$call"
+    done
+done
+finish
