@@ -10,7 +10,7 @@ use lib.Bits.{xor_assoc, xor_self, xor_zero_l, xor_zero_r}
 use Rattle.rusty_paseto_primitives.specs.Bytes.{IsBytes}
 use Rattle.rusty_paseto_primitives.specs.Keystream.{masked, masked_from, stream_of_blocks}
 
-length-masked_from : (s : ℕ → ℕ) (i : ℕ) (b : List ℕ) → length (masked_from s i b) ≡ length b
+pub length-masked_from : (s : ℕ → ℕ) (i : ℕ) (b : List ℕ) → length (masked_from s i b) ≡ length b
 unfolding masked_from
 length-masked_from s i [] = refl
 length-masked_from s i (x ∷ xs) = ap suc (length-masked_from s (i + 1) xs)
@@ -41,7 +41,7 @@ masked_from-append s i (x ∷ xs) ys =
     ap (λ (t : List ℕ). bit_xor x (s i) ∷ t)
     (masked_from-append s (i + 1) xs ys ∙ ap (λ (n : ℕ). masked_from s (i + 1) xs ++ masked_from s n ys) e)
 
-masked_from-twice : (s : ℕ → ℕ) (i : ℕ) (b : List ℕ) → masked_from s i (masked_from s i b) ≡ b
+pub masked_from-twice : (s : ℕ → ℕ) (i : ℕ) (b : List ℕ) → masked_from s i (masked_from s i b) ≡ b
 unfolding masked_from
 masked_from-twice s i [] = refl
 masked_from-twice s i (x ∷ xs) =
@@ -52,7 +52,7 @@ pub masked-masked : (s : ℕ → ℕ) (b : List ℕ) → masked s (masked s b) �
 unfolding masked
 masked-masked s b = masked_from-twice s 0 b
 
-IsBytes-masked_from : (s : ℕ → ℕ) (i : ℕ) (b : List ℕ) → ((k : ℕ) → s k < 256) → IsBytes b → IsBytes (masked_from s i b)
+pub IsBytes-masked_from : (s : ℕ → ℕ) (i : ℕ) (b : List ℕ) → ((k : ℕ) → s k < 256) → IsBytes b → IsBytes (masked_from s i b)
 unfolding masked_from
 IsBytes-masked_from s i [] fits bytes k = bytes k
 IsBytes-masked_from s i (x ∷ xs) fits bytes zero = xor_lt 8 x (s i) (bytes 0) (fits i)

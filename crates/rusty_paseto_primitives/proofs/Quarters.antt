@@ -14,6 +14,10 @@ pub length-quarters : (b : ℕ → List ℕ) (v : List (List ℕ)) → v ≡ qua
 length-quarters b v e size p lt =
     rw (e, quarters-at b p lt) (length-chunk (16 * (p % 4)) 16 (b (p / 4)) (omega (arith, size (p / 4))))
 
+-- the vectors of blocks that are the same
+pub quarters-agree : (b c : ℕ → List ℕ) → ((j : ℕ) → b j ≡ c j) → quarters b ≡ quarters c
+quarters-agree b c same = rw (same 0, same 1, same 2, same 3) refl
+
 -- the stream of the vectors is the blocks' stream
 pub quarters-stream : (block : ℕ → List ℕ) (v : List (List ℕ)) (g i : ℕ) → v ≡ quarters (λ j. block (4 * g + j)) → i < 256
     → stream_of_blocks 16 (λ p. slice_index_or v p []) i ≡ stream_of_blocks 64 block (256 * g + i)

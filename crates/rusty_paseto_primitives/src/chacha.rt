@@ -8,5 +8,5 @@ mod subkey;
 mod vectors;
 
 pub use block::{chacha20_block, quarter_round};
-pub use stream::xchacha20_apply;
+pub use stream::{xchacha20_apply, xchacha20_apply_from};
 pub use subkey::hchacha20;

@@ -21,7 +21,7 @@ pub use aes::{Aes256, aes256_ctr_apply};
 pub use blake2::hasher::Blake2b;
 pub use blake2::keyed::blake2b_keyed;
 pub use blake2::pair::blake2b_keyed_pair;
-pub use chacha::{chacha20_block, hchacha20, quarter_round, xchacha20_apply};
+pub use chacha::{chacha20_block, hchacha20, quarter_round, xchacha20_apply, xchacha20_apply_from};
 pub use equality::same_bytes;
 pub use hkdf::{hkdf_sha384_expand, hkdf_sha384_extract};
 pub use hmac::{HmacSha384, hmac_sha384};

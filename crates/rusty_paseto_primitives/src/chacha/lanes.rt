@@ -79,7 +79,6 @@ fn blocks(start: [u32x4; 16]) -> [u32x4; 16]
 // The starting words of the four blocks from number n on.
 #[inline(always)]
 fn starts(key: &[u32; 8], tail: &[u32; 2], n: u64) -> [u32x4; 16]
-    requires { n + 3 < 2 ^ 64 }
     ensures { result ≡ lanes (λ j. numbered key.now tail.now (n + j)) }
 {
     [
@@ -97,15 +96,15 @@ fn starts(key: &[u32; 8], tail: &[u32; 2], n: u64) -> [u32x4; 16]
         u32x4::splat(key[7]),
         u32x4::from_array([
             low_half(n),
-            low_half(n + 1),
-            low_half(n + 2),
-            low_half(n + 3),
+            low_half(n.wrapping_add(1)),
+            low_half(n.wrapping_add(2)),
+            low_half(n.wrapping_add(3)),
         ]),
         u32x4::from_array([
             high_half(n),
-            high_half(n + 1),
-            high_half(n + 2),
-            high_half(n + 3),
+            high_half(n.wrapping_add(1)),
+            high_half(n.wrapping_add(2)),
+            high_half(n.wrapping_add(3)),
         ]),
         u32x4::splat(tail[0]),
         u32x4::splat(tail[1]),
@@ -135,7 +134,6 @@ fn bytes_of(words: u32x4) -> u8x16
 // The bytes of the four blocks from number n on, in vectors of sixteen, one block after another.
 #[inline(always)]
 pub(super) fn keystream(key: &[u32; 8], tail: &[u32; 2], n: u64) -> [u8x16; 16]
-    requires { n + 3 < 2 ^ 64 }
     ensures { result ≡ quarters (λ j. block_bytes (numbered key.now tail.now (n + j))) }
 {
     let x = blocks(starts(key, tail, n));

@@ -1,7 +1,7 @@
 //! The keystream of XChaCha20, block after block.
 
-ghost use Rattle.std.specs.Prelude.{◌≡◌, ◌+◌, ◌*◌, ◌%◌, ◌<◌, ◌≤◌, ◌^◌, length, take};
-ghost use Rattle.rusty_paseto_primitives.specs.Keystream.{masked, stream_of_blocks};
+ghost use Rattle.std.specs.Prelude.{◌≡◌, ◌+◌, ◌*◌, ◌%◌, ◌≤◌, length, take};
+ghost use Rattle.rusty_paseto_primitives.specs.Keystream.{masked, masked_from, stream_of_blocks};
 ghost use Rattle.rusty_paseto_primitives.specs.ChaCha.Block.{block_bytes, key_words};
 ghost use Rattle.rusty_paseto_primitives.specs.ChaCha.Stream.{numbered, tail_words, xchacha20_stream};
 ghost use Rattle.rusty_paseto_primitives.specs.ChaCha.Subkey.{hchacha20};
@@ -38,14 +38,15 @@ fn block_at(key: &[u32; 8], tail: &[u32; 2], n: u64) -> [u8; 64]
     block::block_bytes(block::start_words(*key, low_half(n), high_half(n), tail[0], tail[1]))
 }
 
-// Masks whole groups of four blocks, from block 0 on.
-fn mask_groups(key: &[u32; 8], tail: &[u32; 2], data: &mut [u8])
+// Masks whole groups of four blocks, from block number `first` on.
+fn mask_groups(key: &[u32; 8], tail: &[u32; 2], first: u64, data: &mut [u8])
     requires { length «data».old % 256 ≡ 0 }
-    ensures { «data».new ≡ masked (stream_of_blocks 64 (λ n. block_bytes (numbered key.now tail.now n))) «data».old }
+    ensures { «data».new ≡ masked (stream_of_blocks 64 (λ n. block_bytes (numbered key.now tail.now (first + n)))) «data».old }
 {
     'groups: for g in 0..data.len() / GROUP_LEN {
         let at = GROUP_LEN * g;
-        let keystream = lanes::keystream(key, tail, 4 * g as u64);
+        let number = first.wrapping_add(4 * g as u64);
+        let keystream = lanes::keystream(key, tail, number);
         mask_by_vectors(&mut data[at..at + GROUP_LEN], &keystream);
     }
 }
@@ -53,8 +54,7 @@ fn mask_groups(key: &[u32; 8], tail: &[u32; 2], data: &mut [u8])
 // Masks no more than a group, from block number `first` on. Four blocks by lanes cost less than two
 // one after the other.
 fn mask_rest(key: &[u32; 8], tail: &[u32; 2], first: u64, data: &mut [u8])
-    requires number { first + 3 < 2 ^ 64 }
-    requires length { length «data».old ≤ 256 }
+    requires { length «data».old ≤ 256 }
     ensures { «data».new ≡ masked (stream_of_blocks 64 (λ n. block_bytes (numbered key.now tail.now (first + n)))) «data».old }
 {
     if data.is_empty() {
@@ -82,10 +82,29 @@ fn mask_rest(key: &[u32; 8], tail: &[u32; 2], first: u64, data: &mut [u8])
 pub fn xchacha20_apply(key: &[u8; 32], nonce: &[u8; 24], data: &mut [u8])
     ensures { «data».new ≡ masked (xchacha20_stream key.now nonce.now) «data».old }
 {
+    xchacha20_apply_from(key, nonce, 0, data);
+}
+
+/// The same as [`xchacha20_apply`], with the keystream from block number `first_block` on, which is its byte
+/// `64 * first_block`: for a protocol that uses the first blocks otherwise, as XChaCha20-Poly1305 uses
+/// block 0 (RFC 8439, section 2.8).
+///
+/// The block after number 2^64 - 1 is block 0 again.
+///
+/// ```rust
+/// // The one-time key stands in block 0, and the text is encrypted from block 1 on.
+/// let mut one_time_key = [0u8; 32];
+/// xchacha20_apply(&key, &nonce, &mut one_time_key);
+/// xchacha20_apply_from(&key, &nonce, 1, &mut text);
+/// ```
+pub fn xchacha20_apply_from(key: &[u8; 32], nonce: &[u8; 24], first_block: u64, data: &mut [u8])
+    ensures { «data».new ≡ masked_from (xchacha20_stream key.now nonce.now) (64 * first_block) «data».old }
+{
     let subkey = subkey_words(key, nonce);
     let tail = tail_words(nonce);
     let group_count = data.len() / GROUP_LEN;
     let end = GROUP_LEN * group_count;
-    mask_groups(&subkey, &tail, &mut data[..end]);
-    mask_rest(&subkey, &tail, 4 * group_count as u64, &mut data[end..]);
+    mask_groups(&subkey, &tail, first_block, &mut data[..end]);
+    let rest = first_block.wrapping_add(4 * group_count as u64);
+    mask_rest(&subkey, &tail, rest, &mut data[end..]);
 }

@@ -1,4 +1,4 @@
-use Rattle.std.proofs.Common.{◌*◌}
+use Rattle.std.proofs.Common.{◌+◌, ◌*◌}
 use Rattle.rusty_paseto_primitives.specs.Keystream.{stream_of_blocks}
 use Rattle.rusty_paseto_primitives.specs.ChaCha.Block.{block_bytes}
 use Rattle.rusty_paseto_primitives.specs.ChaCha.Stream.{numbered}
@@ -7,4 +7,4 @@ use Rattle.rusty_paseto_primitives.proofs.chacha.stream.mask_groups.Given as goa
 
 abbrev pub invariant-groups : goal.invariant-groups
 invariant-groups l =
-    IsMaskedTo (stream_of_blocks 64 (λ n. block_bytes (numbered l.key l.tail n))) (256 * l.g) l.initial.data l.data
+    IsMaskedTo (stream_of_blocks 64 (λ n. block_bytes (numbered l.key l.tail (l.first + n)))) (256 * l.g) l.initial.data l.data

@@ -28,5 +28,5 @@ returns c =
     length-quarters block vectors made (λ j. length-block_bytes _) p (omega arith) in
     c.mask-2.ensures
     ∙ masked_by_zeros stream (stream_of_blocks 16 (λ p. slice_index_or vectors p [])) 256 c.mask_by_vectors.new.data c.args.data.now
-    (c.mask_by_vectors.ensures lanes) c.requires.length
+    (c.mask_by_vectors.ensures lanes) c.requires
     (λ i h. let place : 256 * 0 + i ≡ i = omega arith in quarters-stream block vectors 0 i made h ∙ ap stream place)

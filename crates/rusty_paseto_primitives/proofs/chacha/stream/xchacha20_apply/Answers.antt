@@ -1,9 +1,6 @@
-use Rattle.std.proofs.Common.{◌/◌, length, refl}
-use Rattle.rusty_paseto_primitives.proofs.StreamBlocks.{masked_by_groups}
+use Rattle.rusty_paseto_primitives.specs.Keystream.{masked}
 use Rattle.rusty_paseto_primitives.proofs.chacha.stream.xchacha20_apply.Goals as goal
 
 pub returns : goal.returns
-returns c =
-    masked_by_groups c.args.key.now c.args.nonce.now c.subkey_words-subkey.result c.tail_words-tail.result c.args.data.now
-    c.mask_groups.new.data c.mask_rest.new.data (length c.args.data.now / 256)
-    c.subkey_words-subkey.ensures c.tail_words-tail.ensures refl c.mask_groups.ensures c.mask_rest.ensures
+unfolding masked
+returns c = c.xchacha20_apply_from.ensures
