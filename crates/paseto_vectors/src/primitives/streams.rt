@@ -2,7 +2,9 @@
 
 use crate::expect::{expect_bytes, expect_digits};
 use crate::hexadecimal::array_of;
-use rusty_paseto_primitives::{chacha20_block, hchacha20, quarter_round, xchacha20_apply};
+use rusty_paseto_primitives::{
+    chacha20_block, hchacha20, quarter_round, xchacha20_apply, xchacha20_apply_from,
+};
 
 const COUNTING_KEY: &str = "000102030405060708090a0b0c0d0e0f101112131415161718191a1b1c1d1e1f";
 
@@ -47,6 +49,33 @@ fn subkey_of_the_draft(rt: HostRuntime) {
     );
 }
 
+// draft-irtf-cfrg-xchacha, appendix A.3.1, which encrypts from block 1 on.
+#[test]
+fn text_of_the_draft(rt: HostRuntime) {
+    let mut text =
+        *b"Ladies and Gentlemen of the class of '99: If I could offer you only one tip for the future, sunscreen would be it.";
+    xchacha20_apply_from(
+        &array_of(
+            &rt,
+            "808182838485868788898a8b8c8d8e8f909192939495969798999a9b9c9d9e9f",
+        ),
+        &array_of(&rt, "404142434445464748494a4b4c4d4e4f5051525354555657"),
+        1,
+        &mut text,
+    );
+    expect_digits(
+        &rt,
+        rt.alloc(),
+        text.as_slice(),
+        concat!(
+            "bd6d179d3e83d43b9576579493c0e939572a1700252bfaccbed2902c21396cbb",
+            "731c7f1b0b4aa6440bf3a82f4eda7e39ae64c6708c54c216cb96b72e1213b452",
+            "2f8c9ba40db5d945b11b69b982c1bb9e3f3fac2bc369488f76b2383565d3fff9",
+            "21f9664c97637da9768812f615c68b13b52e",
+        ),
+    );
+}
+
 const KEY: [u8; 32] = [0x5c; 32];
 
 // A nonce: what the subkey is made of, and what each block takes.
@@ -84,4 +113,24 @@ fn zeros_become_the_joined_blocks(rt: HostRuntime) {
         xchacha20_apply(&KEY, NONCE, data);
         expect_bytes(&rt, data, blocks.get(..len).expect(&rt, "a length"));
     }
+}
+
+// From a block on, the stream is that block and those behind it.
+#[test]
+fn zeros_become_the_blocks_from_one_on(rt: HostRuntime) {
+    let blocks = joined_blocks();
+    'firsts: for first in 0..17usize {
+        let mut space = [0u8; 1088];
+        let data = space.get_mut(64 * first..).expect(&rt, "a block");
+        xchacha20_apply_from(&KEY, NONCE, first as u64, data);
+        expect_bytes(&rt, data, blocks.get(64 * first..).expect(&rt, "a block"));
+    }
+}
+
+// Behind the block with the greatest number stands block 0.
+#[test]
+fn first_block_follows_the_last(rt: HostRuntime) {
+    let mut data = [0u8; 384];
+    xchacha20_apply_from(&KEY, NONCE, u64::MAX - 1, &mut data);
+    expect_bytes(&rt, &data[128..], &joined_blocks()[..256]);
 }
