@@ -7,6 +7,12 @@ Listed is each public function and method, and each method of a public trait's i
 `Result` of an error with a variant `Memory`. A line is the call, as `TokenParser::parse`, and behind ` of ` what it
 is to be asked for: the kinds of tokens that its block is for, as `v1.local`, or the type that implements the trait.
 A trait's method that has no body is its implementers' matter, and is listed with them.
+
+It reads the sources as `rt fmt` lays them out, and does not see what only a compiler can: the methods that a derive
+writes, and a call that keeps an error for itself or hands it to a caller's function. It fails, with the line, where
+a function stands in a shape that it does not know: one that is declared in another way or deeper than in a block, an
+answer that has an error in it in another way than `Result<.., Error>`, an alias of a `Result`, an error that holds
+another one and has no variant `Memory`, and a block whose version has a bound that it does not know.
 """
 import re
 import sys
@@ -29,8 +35,15 @@ VERSIONS = {
 # The purpose of the tokens of a trait whose methods have a version as `Self`.
 PURPOSES = {"LocalVersion": "local", "Signs": "public", "Verifies": "public"}
 
+# Bounds by which a version is any.
+ANY_VERSION = {"VersionTrait"}
+
+# Functions that hand on the error of the type that takes the bytes in. Who calls them is listed.
+HAND_ON = {"absorb", "absorb_pieces"}
+
 BLOCK = re.compile(r"^(pub |pub\(crate\) )?(impl|trait)\b")
 FUNCTION = re.compile(r"^(    )?(pub )?(final )?fn (\w+)")
+KNOWN = re.compile(r"^(    )?(pub(\(crate\))? )?(final )?fn \w+")
 CLAUSE = re.compile(r"^\s*(requires|ensures)\*?( \w+)? \{")
 
 
@@ -48,13 +61,48 @@ def declared(lines, start):
 
 
 def errors_of(sources):
-    """The error types that have a variant `Memory`."""
-    found = set()
-    for text in sources.values():
-        for name, body in re.findall(r"^pub enum (\w+) \{\n(.*?)^\}", text, re.M | re.S):
-            if re.search(r"^    Memory\(", body, re.M):
-                found.add(name)
+    """The error types that have a variant `Memory`. An enum that holds one of them has to have it too."""
+    enums = [it for text in sources.values() for it in re.findall(r"^pub enum (\w+)[^{]* \{\n(.*?)^\}", text, re.M | re.S)]
+    found = {name for name, body in enums if re.search(r"^    Memory\b", body, re.M)}
+    for name, body in enums:
+        held = set(re.findall(r"\w+", re.sub(r"//.*|#\[.*|^    \w+", "", body, flags=re.M))) & found
+        if name not in found and held:
+            raise SystemExit(f"an enum that holds an error and has no variant Memory: {name}, {held}")
     return found
+
+
+def refuse_unknown_shapes(path, text):
+    """Fails where a source declares functions, or what they answer, in a way that this script does not know."""
+    for number, line in enumerate(text.split("\n"), 1):
+        code = re.sub(r"//.*", "", line)
+        if re.search(r"\bfn \w+", code) and not KNOWN.match(line):
+            raise SystemExit(f"{path}:{number}: a function in a shape that is not known: {line.strip()}")
+        if re.match(r"\s*(pub )?(type \w+.*= .*\bResult\b|struct \w*Error\b|macro_rules!)", code):
+            raise SystemExit(f"{path}:{number}: what is answered may be hidden here: {line.strip()}")
+
+
+def answer_of(head, name):
+    """What a function answers, of its declaration on one line: empty where it answers nothing."""
+    rest = parameters(head.split(f"fn {name}", 1)[1])[1]
+    depth = 0
+    for place, character in enumerate(rest):
+        depth += {"(": 1, ")": -1}.get(character, 0)
+        if depth == 0:
+            return re.sub(r"( where .*| \{| \{\}|;)$", "", rest[place + 1:]).removeprefix(" -> ").strip()
+    raise SystemExit(f"no end of the parameters: {head}")
+
+
+def error_of(head, name, errors):
+    """The error of what a function answers, if it has one that may tell of memory."""
+    answer = answer_of(head, name)
+    found = re.fullmatch(r"Result<.*, (\w+)>", answer)
+    if found:
+        return found.group(1) if found.group(1) in errors else None
+    words = set(re.findall(r"\w+", answer))
+    is_known = answer == "fmt::Result" or answer in errors or name in HAND_ON
+    if (words & errors or "Result" in words) and not is_known:
+        raise SystemExit(f"{name} answers in a shape that is not known: {answer}")
+    return None
 
 
 def without_generics(text):
@@ -83,9 +131,12 @@ def kinds_of(bounds, target, where):
     named = re.findall(r"\bV([1-4])\b", target)
     if named:
         return [f"v{version}.{purpose}" for version in named]
-    for bound in re.findall(r"\bV(?:ersion)?: (\w+)", bounds + ", " + where):
+    found = [bound for bound in re.findall(r"\bV(?:ersion)?: (\w+)", bounds + ", " + where) if bound not in ANY_VERSION]
+    for bound in found:
         if bound in VERSIONS:
             return [f"v{version}.{purpose}" for version in VERSIONS[bound]]
+    if found:
+        raise SystemExit(f"a version of a bound that is not known: {found}: {target}")
     return []
 
 
@@ -135,8 +186,7 @@ def calls_of(text, errors, hidden):
         if not function or not is_listed(block, function, hidden):
             continue
         head, body = declared(lines, place)
-        answer = re.search(r"-> Result<.*, (\w+)>", head)
-        if answer and answer.group(1) in errors and body:
+        if body and error_of(head, function.group(4), errors):
             where = head.split(" where ", 1)[1] if " where " in head else ""
             found += listed(block, function.group(4), where)
     return found
@@ -146,6 +196,8 @@ def main():
     root = Path(__file__).resolve().parent.parent / "crates"
     paths = [path for crate in CRATES for path in sorted((root / crate / "src").rglob("*.rt"))]
     sources = {path: path.read_text(encoding="utf-8") for path in paths if path.name != "tests.rt"}
+    for path, text in sources.items():
+        refuse_unknown_shapes(path, text)
     errors = errors_of(sources)
     hidden = hidden_traits(sources)
     calls = sorted({call for text in sources.values() for call in calls_of(text, errors, hidden)})
