@@ -132,5 +132,6 @@ fn zeros_become_the_blocks_from_one_on(rt: HostRuntime) {
 fn first_block_follows_the_last(rt: HostRuntime) {
     let mut data = [0u8; 384];
     xchacha20_apply_from(&KEY, NONCE, u64::MAX - 1, &mut data);
-    expect_bytes(&rt, &data[128..], &joined_blocks()[..256]);
+    let blocks = joined_blocks();
+    expect_bytes(&rt, &data[128..], blocks.get(..256).expect(&rt, "blocks"));
 }
