@@ -1,0 +1,4 @@
+pub mod Limbs
+pub mod Tag
+pub mod Hasher
+pub mod Sealing

@@ -1,0 +1,18 @@
+//! XChaCha20-Poly1305, the sealed box of local tokens of version 2, and Poly1305, by which it authenticates.
+//!
+//! ```rust
+//! let token = Paseto::<V2, Local>::default()
+//!     .set_payload(payload)
+//!     .try_encrypt_by(alloc, &XChaCha20Poly1305, &key, &nonce)?;
+//! let tag: [u8; 16] = poly1305(&one_time_key, b"a message");
+//! ```
+#![tactic(auto)]
+
+mod hasher;
+mod limbs;
+mod sealing;
+mod tag;
+
+pub use hasher::Poly1305Hasher;
+pub use sealing::XChaCha20Poly1305;
+pub use tag::poly1305;
