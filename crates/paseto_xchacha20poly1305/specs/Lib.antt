@@ -1,4 +1,5 @@
-pub mod Limbs
-pub mod Tag
 pub mod Hasher
+pub mod Limbs
 pub mod Sealing
+pub mod SealingLaws
+pub mod Tag

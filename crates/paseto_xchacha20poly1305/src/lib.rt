@@ -1,13 +1,13 @@
 //! XChaCha20-Poly1305, the sealed box of local tokens of version 2, and Poly1305, by which it authenticates.
 //!
 //! ```rust
-//! let token = Paseto::<V2, Local>::default()
-//!     .set_payload(payload)
-//!     .try_encrypt_by(alloc, &XChaCha20Poly1305, &key, &nonce)?;
+//! let token = paseto.try_encrypt(alloc, &XChaCha20Poly1305, &key, &nonce)?;
+//! let text = Paseto::<V2, Local>::try_decrypt(alloc, &XChaCha20Poly1305, token.as_str(), &key, None)?;
 //! let tag: [u8; 16] = poly1305(&one_time_key, b"a message");
 //! ```
 #![tactic(auto)]
 
+mod arithmetic;
 mod hasher;
 mod limbs;
 mod sealing;

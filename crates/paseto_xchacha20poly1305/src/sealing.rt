@@ -3,7 +3,7 @@
 ghost use Rattle.std.specs.Prelude.{◌≡◌, ◌++◌, ◌-◌, ◌%◌, ℕ, List, length, replicate};
 ghost use Rattle.paseto_xchacha20poly1305.specs.Hasher.{Holds};
 ghost use Rattle.paseto_xchacha20poly1305.specs.Sealing.{box_sealing, masked_text, one_time_key, text_tag};
-ghost use Rattle.paseto_xchacha20poly1305.proofs.SealingLaws.{box-IsLawful};
+ghost use Rattle.paseto_xchacha20poly1305.specs.SealingLaws.{box-IsLawful};
 
 use super::hasher::Poly1305Hasher;
 use rusty_paseto_core::SealedBox;
@@ -26,9 +26,8 @@ const LONGEST_MESSAGE: usize = 274_877_906_880;
 /// nonce, so that it is another one for another text.
 ///
 /// ```rust
-/// let token = Paseto::<V2, Local>::default()
-///     .set_payload(payload)
-///     .try_encrypt_by(alloc, &XChaCha20Poly1305, &key, &nonce)?;
+/// let token = paseto.try_encrypt(alloc, &XChaCha20Poly1305, &key, &nonce)?;
+/// let text = Paseto::<V2, Local>::try_decrypt(alloc, &XChaCha20Poly1305, token.as_str(), &key, None)?;
 /// ```
 #[derive(Drop)]
 pub struct XChaCha20Poly1305;
