@@ -31,15 +31,15 @@ absorbed-short s key m x h some ex =
     rw (count, add-one, last, ← h.2, ← h.0) ex
 
 -- what update leaves where no block is filled
-pub Holds-short : (s t : Poly1305Hasher) (key m d : List ℕ) (j : ℕ) → Holds s key m → length s.buffer ≡ 16
-    → s.held + length d < 16 → t.accumulator ≡ s.accumulator → t.r ≡ s.r → t.s ≡ s.s → t.held ≡ s.held + length d
-    → t.buffer ≡ put_mid s.held j s.buffer d → Holds t key (m ++ d)
+pub Holds-short : (s t : Poly1305Hasher) (key m d ys : List ℕ) (j : ℕ) → Holds s key m → length s.buffer ≡ 16
+    → s.held + length d < 16 → ys ≡ d → t.accumulator ≡ s.accumulator → t.r ≡ s.r → t.s ≡ s.s → t.held ≡ s.held + length d
+    → t.buffer ≡ put_mid s.held j s.buffer ys → Holds t key (m ++ d)
 unfolding Holds
-Holds-short s t key m d j h len short acc er es eh buffer =
+Holds-short s t key m d ys j h len short same_bytes acc er es eh buffer =
     let n : ℕ = length m / 16 in
     let same : length (m ++ d) / 16 ≡ n = omega (arith, length-append m d, h.3) in
     let placed : take (s.held + length d) t.buffer ≡ take s.held s.buffer ++ d =
-    rw buffer (take-put_mid s.held j s.buffer d (s.held + length d) refl (omega arith)) in (
+    rw (buffer, same_bytes) (take-put_mid s.held j s.buffer d (s.held + length d) refl (omega arith)) in (
       rw er h.0,
       es ∙ h.1,
       rw (acc, same, absorbed-append (clamped key) 0 m d n (omega arith)) h.2,

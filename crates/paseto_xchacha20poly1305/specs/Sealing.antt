@@ -1,6 +1,6 @@
 -- What the box makes of a key, a nonce, data and a message (RFC 8439, section 2.8, on the keystream of
 -- draft-irtf-cfrg-xchacha, section 2).
-use Rattle.std.specs.Prelude.{ℕ, ◌+◌, ◌-◌, ◌*◌, ◌%◌, ◌/◌, ◌^◌, List, ◌++◌, Some, None, length, replicate, nat_le, if◌then◌else◌}
+use Rattle.std.specs.Prelude.{ℕ, ◌-◌, ◌%◌, List, ◌++◌, Some, None, length, replicate, nat_le, if◌then◌else◌}
 use Rattle.std.specs.Int.{w64, to_le_bytes}
 use Rattle.rusty_paseto_primitives.specs.Keystream.{masked, masked_from}
 use Rattle.rusty_paseto_primitives.specs.ChaCha.Stream.{xchacha20_stream}

@@ -2,7 +2,7 @@ use Rattle.std.proofs.Common.{◌≡◌, ℕ, ◌+◌, ◌/◌, ◌%◌, ◌^◌
 use Rattle.std.specs.Int.{w128, to_le_bytes}
 use Rattle.paseto_xchacha20poly1305.specs.Hasher.{Holds}
 use Rattle.paseto_xchacha20poly1305.specs.Limbs.{value}
-use Rattle.paseto_xchacha20poly1305.specs.Tag.{absorbed, addend, clamped, poly1305, prime}
+use Rattle.paseto_xchacha20poly1305.specs.Tag.{absorbed, clamped, poly1305, prime}
 use Rattle.paseto_xchacha20poly1305.proofs.Hashing.{absorbed-short, absorbed-whole}
 use Rattle.paseto_xchacha20poly1305.proofs.hasher.Poly1305Hasher.finalize.Goals as goal
 use Rattle.paseto_xchacha20poly1305.proofs.hasher.Poly1305Hasher.finalize.Goals.{then-self-eq0, else-self-eq0}

@@ -6,8 +6,8 @@ use Rattle.paseto_xchacha20poly1305.proofs.hasher.Poly1305Hasher.update.Goals as
 
 pub returns-then-data-room : goal.returns-then-data-room
 returns-then-data-room c = λ key message held.
-    Holds-short c.args.self.now _ key message c.args.data.now _ held refl (omega arith) refl refl refl refl
-    c.copy_from_slice.ensures.after
+    Holds-short c.args.self.now _ key message c.args.data.now _ _ held (omega arith) (omega arith) c.copy_from_slice.ensures.after
+    refl refl refl refl refl
 
 pub returns : goal.returns
 returns c = λ key message held.

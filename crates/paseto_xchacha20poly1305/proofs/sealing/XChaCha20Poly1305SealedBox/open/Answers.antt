@@ -1,0 +1,42 @@
+use Rattle.std.proofs.Common.{◌≡◌, ◌-◌, List, ℕ, length, take, drop, refl, sym, ap, ◌∙◌, arith}
+use Rattle.std.proofs.lemmas.List.{take_at}
+use Rattle.paseto_xchacha20poly1305.specs.Sealing.{masked_text, text_tag}
+use Rattle.paseto_xchacha20poly1305.proofs.Opening.{alike, apart, other_tag, own_tag, too_long, too_short}
+use Rattle.paseto_xchacha20poly1305.proofs.sealing.XChaCha20Poly1305SealedBox.open.Goals as goal
+use Rattle.paseto_xchacha20poly1305.proofs.sealing.XChaCha20Poly1305SealedBox.open.Goals.{then-boxed-lt-TAG_LENGTH-via-then-boxed-lt-TAG_LENGTH, then-boxed-lt-TAG_LENGTH-via-else-boxed-lt-TAG_LENGTH+then-boxed}
+
+pub returns-then-boxed-lt-TAG_LENGTH : goal.returns-then-boxed-lt-TAG_LENGTH
+returns-then-boxed-lt-TAG_LENGTH c =
+    elim c.then-boxed-lt-TAG_LENGTH.branch [
+      | then-boxed-lt-TAG_LENGTH-via-then-boxed-lt-TAG_LENGTH w ↦
+          too_short c.args.key.now c.args.nonce.now c.args.data.now c.args.boxed.now (omega arith)
+      | then-boxed-lt-TAG_LENGTH-via-else-boxed-lt-TAG_LENGTH+then-boxed w ↦
+          too_long c.args.key.now c.args.nonce.now c.args.data.now c.args.boxed.now (omega arith)
+    ]
+
+pub returns-then-ne : goal.returns-then-ne
+returns-then-ne c =
+    let own = c.as_slice.ensures ∙ c.tag_of-own.ensures
+    ∙ ap (λ (t : List ℕ). text_tag c.args.key.now c.args.nonce.now c.args.data.now t) c.split_at.ensures.front in
+    other_tag c.args.key.now c.args.nonce.now c.args.data.now c.args.boxed.now
+    (λ same. apart c.ne.result _ _ c.ne.ensures c.if-ne.true (own ∙ same ∙ sym c.split_at.ensures.back))
+
+pub returns : goal.returns
+unfolding masked_text
+returns c =
+    let key = c.args.key.now in
+    let nonce = c.args.nonce.now in
+    let boxed = c.args.boxed.now in
+    let own = c.as_slice.ensures ∙ c.tag_of-own.ensures
+    ∙ ap (λ (t : List ℕ). text_tag key nonce c.args.data.now t) c.split_at.ensures.front in
+    let found = alike c.ne.result _ _ c.ne.ensures c.if-ne.false in
+    let copied = c.in_ok-message.ensures.items_if_clones_equal (λ x y same. same) ∙ c.split_at.ensures.front in
+    let copy = c.in_ok-message.message in
+    let text : List ℕ = c.xchacha20_apply_from.new.data in
+    let same : length text ≡ copy.len = omega (arith, c.xchacha20_apply_from.auto.data, c.deref_mut.ensures.len) in
+    let back = take_at text (drop (length text) copy.items) copy.len same in
+    let masked : text ≡ masked_text key nonce (take (length boxed - 16) boxed) =
+    c.xchacha20_apply_from.ensures ∙ rw (c.deref_mut.ensures.value, copied) refl in
+    rw (back, masked)
+    (own_tag key nonce c.args.data.now boxed (omega arith) (omega arith)
+    (λ i. let fits = c.type_inv.boxed i in omega arith) (sym own ∙ found ∙ c.split_at.ensures.back))
