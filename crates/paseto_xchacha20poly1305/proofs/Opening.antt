@@ -1,29 +1,12 @@
 -- What the box opens: a masked message and its tag, and nothing else.
-use Rattle.std.proofs.Common.{◌≡◌, ◌≢◌, ℕ, ◌+◌, ◌-◌, ◌<◌, ◌≤◌, Bool, true, false, not, List, ◌++◌, Some, None, length, take, drop, refl, sym, ap, ◌∙◌, arith, length-append}
-use Rattle.std.specs.Str.{bytes_eq}
+use Rattle.std.proofs.Common.{◌≡◌, ◌≢◌, ℕ, ◌+◌, ◌-◌, ◌<◌, ◌≤◌, List, ◌++◌, Some, None, length, take, drop, refl, sym, ap, ◌∙◌, arith, length-append}
 use Rattle.std.proofs.lemmas.Bool.{le-leb, lt-leb}
 use Rattle.std.proofs.lemmas.List.{take_at, drop_at, take-append-drop, length-take-le}
-use Rattle.std.proofs.lemmas.Slice.Eq.{bytes_eq-Decides}
 use Rattle.rusty_paseto_primitives.specs.Bytes.{IsBytes}
 use Rattle.rusty_paseto_primitives.proofs.ByteLists.{IsBytes-take}
 use Rattle.rusty_paseto_core.specs.Local.SealedBox.{IsOpening}
 use Rattle.paseto_xchacha20poly1305.specs.Sealing.{box_sealing, masked_text, text_tag}
 use Rattle.paseto_xchacha20poly1305.specs.SealingLaws.{box_sealing-parts, IsBytes-masked_text, length-masked_text, length-text_tag, masked_text-twice}
-
-turned : (b : Bool) → not b ≡ false → b ≡ true
-turned true e = refl
-turned false e = sym e
-
--- a tag and what was found in its place, as `!=` tells
-module _ (differ : Bool) (own found : List ℕ) (is : differ ≡ not (bytes_eq own found)) where
-  pub alike : differ ≡ false → own ≡ found
-  alike told = (bytes_eq-Decides own found).0 (turned (bytes_eq own found) (sym is ∙ told))
-
-  pub apart : differ ≡ true → own ≢ found
-  apart told same =
-      let equal : bytes_eq own found ≡ true = (bytes_eq-Decides own found).1 same in
-      let never : true ≡ not true = rw equal at (sym told ∙ is) in
-      cc
 
 module _ (key nonce associated : List ℕ) where
   -- a message that is not too long

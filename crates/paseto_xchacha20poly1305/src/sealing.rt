@@ -7,7 +7,7 @@ ghost use Rattle.paseto_xchacha20poly1305.specs.SealingLaws.{box-IsLawful};
 
 use super::hasher::Poly1305Hasher;
 use rusty_paseto_core::SealedBox;
-use rusty_paseto_primitives::{xchacha20_apply, xchacha20_apply_from};
+use rusty_paseto_primitives::{same_bytes, xchacha20_apply, xchacha20_apply_from};
 use std::alloc::{AllocError, Global};
 
 /// How many bytes a tag has.
@@ -69,7 +69,7 @@ impl SealedBox for XChaCha20Poly1305 {
         }
         let (text, tag) = boxed.split_at(boxed.len() - TAG_LENGTH);
         let own = tag_of(key, nonce, data, text);
-        if own.as_slice() != tag {
+        if !same_bytes(&own, tag) {
             return Ok(None);
         }
         let mut message = text.to_vec(alloc)?;

@@ -1,7 +1,7 @@
-use Rattle.std.proofs.Common.{◌≡◌, ◌-◌, List, ℕ, length, take, drop, refl, sym, ap, ◌∙◌, arith}
+use Rattle.std.proofs.Common.{◌≡◌, true, false, ◌-◌, List, ℕ, length, take, drop, refl, sym, ap, ◌∙◌, arith}
 use Rattle.std.proofs.lemmas.List.{take_at}
 use Rattle.paseto_xchacha20poly1305.specs.Sealing.{masked_text, text_tag}
-use Rattle.paseto_xchacha20poly1305.proofs.Opening.{alike, apart, other_tag, own_tag, too_long, too_short}
+use Rattle.paseto_xchacha20poly1305.proofs.Opening.{other_tag, own_tag, too_long, too_short}
 use Rattle.paseto_xchacha20poly1305.proofs.sealing.XChaCha20Poly1305SealedBox.open.Goals as goal
 use Rattle.paseto_xchacha20poly1305.proofs.sealing.XChaCha20Poly1305SealedBox.open.Goals.{then-boxed-lt-TAG_LENGTH-via-then-boxed-lt-TAG_LENGTH, then-boxed-lt-TAG_LENGTH-via-else-boxed-lt-TAG_LENGTH+then-boxed}
 
@@ -14,12 +14,14 @@ returns-then-boxed-lt-TAG_LENGTH c =
           too_long c.args.key.now c.args.nonce.now c.args.data.now c.args.boxed.now (omega arith)
     ]
 
-pub returns-then-ne : goal.returns-then-ne
-returns-then-ne c =
-    let own = c.as_slice.ensures ∙ c.tag_of-own.ensures
+pub returns-then-not-same_bytes : goal.returns-then-not-same_bytes
+returns-then-not-same_bytes c =
+    let own = c.tag_of-own.ensures
     ∙ ap (λ (t : List ℕ). text_tag c.args.key.now c.args.nonce.now c.args.data.now t) c.split_at.ensures.front in
     other_tag c.args.key.now c.args.nonce.now c.args.data.now c.args.boxed.now
-    (λ same. apart c.ne.result _ _ c.ne.ensures c.if-ne.true (own ∙ same ∙ sym c.split_at.ensures.back))
+    (λ same.
+    let told : false ≡ true = sym c.if-not-same_bytes.true ∙ c.same_bytes.ensures.1 (own ∙ same ∙ sym c.split_at.ensures.back) in
+    cc)
 
 pub returns : goal.returns
 unfolding masked_text
@@ -27,9 +29,9 @@ returns c =
     let key = c.args.key.now in
     let nonce = c.args.nonce.now in
     let boxed = c.args.boxed.now in
-    let own = c.as_slice.ensures ∙ c.tag_of-own.ensures
+    let own = c.tag_of-own.ensures
     ∙ ap (λ (t : List ℕ). text_tag key nonce c.args.data.now t) c.split_at.ensures.front in
-    let found = alike c.ne.result _ _ c.ne.ensures c.if-ne.false in
+    let found = c.same_bytes.ensures.0 c.if-not-same_bytes.false in
     let copied = c.in_ok-message.ensures.items_if_clones_equal (λ x y same. same) ∙ c.split_at.ensures.front in
     let copy = c.in_ok-message.message in
     let text : List ℕ = c.xchacha20_apply_from.new.data in
