@@ -1,6 +1,6 @@
 //! Sealings of the draft, of another implementation, and in a token.
 
-use super::{array_of, counted_bytes, counting_from};
+use super::{KEY, NONCE, array_of, counted_bytes};
 use crate::XChaCha20Poly1305;
 use rusty_paseto_core::{
     Key, Local, Paseto, PasetoNonce, PasetoSymmetricKey, Payload, SealedBox, V2,
@@ -12,8 +12,8 @@ fn sealed(rt: &impl Abort, alloc: Global, data: &[u8], message: &[u8]) -> Vec<u8
     XChaCha20Poly1305
         .seal(
             alloc,
-            &counting_from(0x80),
-            &counting_from(0x40),
+            &array_of(rt, KEY),
+            &array_of(rt, NONCE),
             data,
             message,
         )
@@ -23,13 +23,7 @@ fn sealed(rt: &impl Abort, alloc: Global, data: &[u8], message: &[u8]) -> Vec<u8
 
 fn opened(rt: &impl Abort, alloc: Global, data: &[u8], boxed: &[u8]) -> Vec<u8> {
     XChaCha20Poly1305
-        .open(
-            alloc,
-            &counting_from(0x80),
-            &counting_from(0x40),
-            data,
-            boxed,
-        )
+        .open(alloc, &array_of(rt, KEY), &array_of(rt, NONCE), data, boxed)
         .expect(rt, "memory")
         .expect(rt, "a message")
 }
@@ -126,7 +120,10 @@ fn sealings_of_another_implementation(rt: HostRuntime) {
 fn token_of_the_specification(rt: HostRuntime) {
     let alloc = rt.alloc();
     let text = "{\"data\":\"this is a signed message\",\"exp\":\"2019-01-01T00:00:00+00:00\"}";
-    let key = PasetoSymmetricKey::<V2, Local>::from(Key::from(counting_from(0x70)));
+    let key = PasetoSymmetricKey::<V2, Local>::from(Key::from(array_of::<32>(
+        &rt,
+        "707172737475767778797a7b7c7d7e7f808182838485868788898a8b8c8d8e8f",
+    )));
     let nonce = Key::from([0u8; 24]);
     let mut paseto = Paseto::<V2, Local>::builder();
     paseto.set_payload(Payload::from(text));

@@ -1,12 +1,12 @@
 //! A message that a hasher is given in two pieces has the tag of the whole message, at each place where it can
 //! be cut.
 
-use super::{counted_bytes, counting_from};
+use super::{KEY, array_of, counted_bytes};
 use crate::{Poly1305Hasher, poly1305};
 use std::process::Abort;
 
 fn check_cuts(rt: &impl Abort, message: &[u8]) {
-    let key = counting_from(0x85);
+    let key = array_of(rt, KEY);
     let whole = poly1305(&key, message);
     'cuts: for cut in 0..=message.len() {
         let (head, tail) = message.split_at(cut);

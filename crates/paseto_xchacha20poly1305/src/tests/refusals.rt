@@ -1,6 +1,6 @@
 //! What the box does not open.
 
-use super::{counted_bytes, counting_from};
+use super::{KEY, NONCE, array_of, counted_bytes};
 use crate::XChaCha20Poly1305;
 use rusty_paseto_core::SealedBox;
 use std::alloc::Global;
@@ -8,12 +8,14 @@ use std::process::Abort;
 
 const DATA: &[u8; 5] = b"bound";
 
+const OTHER_NONCE: &str = "404142434445464748494a4b4c4d4e4f5051525354555658";
+
 fn boxed_bytes(rt: &impl Abort, alloc: Global) -> Vec<u8> {
     XChaCha20Poly1305
         .seal(
             alloc,
-            &counting_from(0x80),
-            &counting_from(0x40),
+            &array_of(rt, KEY),
+            &array_of(rt, NONCE),
             DATA,
             b"a message of twenty-five.",
         )
@@ -21,16 +23,10 @@ fn boxed_bytes(rt: &impl Abort, alloc: Global) -> Vec<u8> {
         .expect(rt, "a sealing")
 }
 
-// Whether the box opens these bytes, under a nonce that counts from `first`.
-fn opens(rt: &impl Abort, alloc: Global, first: u8, data: &[u8], boxed: &[u8]) -> bool {
+// Whether the box opens these bytes.
+fn opens(rt: &impl Abort, alloc: Global, nonce: &str, data: &[u8], boxed: &[u8]) -> bool {
     XChaCha20Poly1305
-        .open(
-            alloc,
-            &counting_from(0x80),
-            &counting_from(first),
-            data,
-            boxed,
-        )
+        .open(alloc, &array_of(rt, KEY), &array_of(rt, nonce), data, boxed)
         .expect(rt, "memory")
         .is_some()
 }
@@ -39,10 +35,10 @@ fn opens(rt: &impl Abort, alloc: Global, first: u8, data: &[u8], boxed: &[u8]) -
 fn another_nonce_and_other_data(rt: HostRuntime) {
     let alloc = rt.alloc();
     let boxed = boxed_bytes(&rt, alloc);
-    assert!(rt; opens(&rt, alloc, 0x40, DATA, &boxed));
-    assert!(rt; !opens(&rt, alloc, 0x41, DATA, &boxed));
-    assert!(rt; !opens(&rt, alloc, 0x40, b"bounds", &boxed));
-    assert!(rt; !opens(&rt, alloc, 0x40, b"", &boxed));
+    assert!(rt; opens(&rt, alloc, NONCE, DATA, &boxed));
+    assert!(rt; !opens(&rt, alloc, OTHER_NONCE, DATA, &boxed));
+    assert!(rt; !opens(&rt, alloc, NONCE, b"bounds", &boxed));
+    assert!(rt; !opens(&rt, alloc, NONCE, b"", &boxed));
 }
 
 #[test]
@@ -51,7 +47,7 @@ fn fewer_than_sixteen_bytes(rt: HostRuntime) {
     'lengths: for length in 0..16usize {
         let boxed = bytes.get(..length).expect(&rt, "bytes");
         assert!(rt;
-            !opens(&rt, rt.alloc(), 0x40, DATA, boxed),
+            !opens(&rt, rt.alloc(), NONCE, DATA, boxed),
             "{length} bytes"
         );
     }
@@ -60,14 +56,13 @@ fn fewer_than_sixteen_bytes(rt: HostRuntime) {
 // Each byte of the ciphertext and of the tag.
 #[test]
 fn a_changed_byte(rt: HostRuntime) {
-    let mut boxed = boxed_bytes(&rt, rt.alloc());
-    'places: for place in 0..boxed.len() {
-        boxed[place] ^= 1;
+    'places: for place in 0..41usize {
+        let mut boxed = boxed_bytes(&rt, rt.alloc());
+        let byte = boxed.get_mut(place).expect(&rt, "a byte");
+        *byte ^= 1;
         assert!(rt;
-            !opens(&rt, rt.alloc(), 0x40, DATA, &boxed),
+            !opens(&rt, rt.alloc(), NONCE, DATA, &boxed),
             "the byte {place}"
         );
-        boxed[place] ^= 1;
     }
-    assert!(rt; opens(&rt, rt.alloc(), 0x40, DATA, &boxed));
 }
