@@ -1,5 +1,6 @@
 use Rattle.std.proofs.Common.{◌≡◌, true, false, ◌-◌, List, ℕ, length, take, drop, refl, sym, ap, ◌∙◌, arith}
 use Rattle.std.proofs.lemmas.List.{take_at}
+use Rattle.rusty_paseto_primitives.specs.Bytes.{IsBytes}
 use Rattle.paseto_xchacha20poly1305.specs.Sealing.{masked_text, text_tag}
 use Rattle.paseto_xchacha20poly1305.proofs.Opening.{other_tag, own_tag, too_long, too_short}
 use Rattle.paseto_xchacha20poly1305.proofs.sealing.XChaCha20Poly1305SealedBox.open.Goals as goal
@@ -39,6 +40,6 @@ returns c =
     let back = take_at text (drop (length text) copy.items) copy.len same in
     let masked : text ≡ masked_text key nonce (take (length boxed - 16) boxed) =
     c.xchacha20_apply_from.ensures ∙ rw (c.deref_mut.ensures.value, copied) refl in
+    let bytes : IsBytes boxed = c.type_inv.boxed in
     rw (back, masked)
-    (own_tag key nonce c.args.data.now boxed (omega arith) (omega arith)
-    (λ i. let fits = c.type_inv.boxed i in omega arith) (sym own ∙ found ∙ c.split_at.ensures.back))
+    (own_tag key nonce c.args.data.now boxed (omega arith) (omega arith) bytes (sym own ∙ found ∙ c.split_at.ensures.back))
