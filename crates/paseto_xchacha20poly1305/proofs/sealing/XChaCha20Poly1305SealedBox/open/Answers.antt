@@ -1,4 +1,4 @@
-use Rattle.std.proofs.Common.{◌≡◌, true, false, ◌-◌, List, ℕ, length, take, drop, refl, sym, ap, ◌∙◌, arith}
+use Rattle.std.proofs.Common.{◌≡◌, true, false, ◌-◌, ◌≤◌, List, ℕ, length, take, drop, refl, sym, ap, ◌∙◌, arith}
 use Rattle.std.proofs.lemmas.List.{take_at}
 use Rattle.rusty_paseto_primitives.specs.Bytes.{IsBytes}
 use Rattle.paseto_xchacha20poly1305.specs.Sealing.{masked_text, text_tag}
@@ -30,6 +30,9 @@ returns c =
     let key = c.args.key.now in
     let nonce = c.args.nonce.now in
     let boxed = c.args.boxed.now in
+    let bytes : IsBytes boxed = λ i. let fits = c.type_inv.boxed i in omega arith in
+    let low : 16 ≤ length boxed = omega arith in
+    let high : length boxed ≤ 274877906896 = omega arith in
     let own = c.tag_of-own.ensures
     ∙ ap (λ (t : List ℕ). text_tag key nonce c.args.data.now t) c.split_at.ensures.front in
     let found = c.same_bytes.ensures.0 c.if-not-same_bytes.false in
@@ -40,6 +43,6 @@ returns c =
     let back = take_at text (drop (length text) copy.items) copy.len same in
     let masked : text ≡ masked_text key nonce (take (length boxed - 16) boxed) =
     c.xchacha20_apply_from.ensures ∙ rw (c.deref_mut.ensures.value, copied) refl in
-    let bytes : IsBytes boxed = c.type_inv.boxed in
+    let found = alike c.ne.result _ _ c.ne.ensures c.if-ne.false in
     rw (back, masked)
-    (own_tag key nonce c.args.data.now boxed (omega arith) (omega arith) bytes (sym own ∙ found ∙ c.split_at.ensures.back))
+    (own_tag key nonce c.args.data.now boxed low high bytes (sym own ∙ found ∙ c.split_at.ensures.back))
