@@ -1,0 +1,6 @@
+use Rattle.std.proofs.Common.{◌≡◌}
+use Rattle.paseto_ed25519.specs.Point.{coordinates, multiple}
+use Rattle.paseto_ed25519.proofs.point.multiply.Given as goal
+
+abbrev pub invariant-bits : goal.invariant-bits
+invariant-bits l = coordinates l.sum ≡ multiple (coordinates l.p) l.scalar l.i

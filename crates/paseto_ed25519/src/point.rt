@@ -1,0 +1,116 @@
+//! Points of the curve: sums and multiples, by the formulas of RFC 8032, section 5.1.4.
+
+ghost use Rattle.std.specs.Prelude.{◌≡◌, ◌<◌};
+ghost use Rattle.paseto_ed25519.specs.Point.{base, bit, coordinates, joint_multiple, multiple, negated, neutral, point_add, point_add_by, point_double};
+
+mod extended;
+
+use crate::field;
+use crate::field::constants::{base_t, base_x, base_y, one, twice_d, zero};
+use crate::field::{add_loose, choose, mul, square, sub_loose};
+pub(crate) use extended::ExtendedPoint;
+
+// How many bits a scalar has.
+const SCALAR_BITS: usize = 256;
+
+/// The neutral point.
+pub(crate) fn neutral() -> ExtendedPoint
+    ensures { coordinates result ≡ neutral }
+{
+    ExtendedPoint {
+        x: zero(),
+        y: one(),
+        z: one(),
+        t: zero(),
+    }
+}
+
+/// The base point B.
+pub(crate) fn base() -> ExtendedPoint
+    ensures { coordinates result ≡ base }
+{
+    ExtendedPoint {
+        x: base_x(),
+        y: base_y(),
+        z: one(),
+        t: base_t(),
+    }
+}
+
+/// The sum of two points.
+pub(crate) fn add(p: ExtendedPoint, q: ExtendedPoint) -> ExtendedPoint
+    ensures { coordinates result ≡ point_add (coordinates p) (coordinates q) }
+{
+    let a = mul(field::sub(p.y, p.x), field::sub(q.y, q.x));
+    let b = mul(field::add(p.y, p.x), field::add(q.y, q.x));
+    let c = mul(mul(p.t, twice_d()), q.t);
+    let zz = mul(p.z, q.z);
+    let d = field::add(zz, zz);
+    let e = field::sub(b, a);
+    let f = sub_loose(d, c);
+    let g = add_loose(d, c);
+    let h = field::add(b, a);
+    ExtendedPoint {
+        x: mul(e, f),
+        y: mul(g, h),
+        z: mul(f, g),
+        t: mul(e, h),
+    }
+}
+
+/// The double of a point.
+pub(crate) fn double(p: ExtendedPoint) -> ExtendedPoint
+    ensures { coordinates result ≡ point_double (coordinates p) }
+{
+    let a = square(p.x);
+    let b = square(p.y);
+    let zz = square(p.z);
+    let c = field::add(zz, zz);
+    let h = field::add(a, b);
+    let e = sub_loose(h, square(field::add(p.x, p.y)));
+    let g = field::sub(a, b);
+    let f = add_loose(c, g);
+    ExtendedPoint {
+        x: mul(e, f),
+        y: mul(g, h),
+        z: mul(f, g),
+        t: mul(e, h),
+    }
+}
+
+// The first point where `choice` is 1, and the second where it is 0, with no branch.
+#[inline(always)]
+fn choose_point(choice: u64, p: ExtendedPoint, q: ExtendedPoint) -> ExtendedPoint
+    requires { choice < 2 }
+    ensures one { choice ≡ 1 → coordinates result ≡ coordinates p }
+    ensures zero { choice ≡ 0 → coordinates result ≡ coordinates q }
+{
+    ExtendedPoint {
+        x: choose(choice, p.x, q.x),
+        y: choose(choice, p.y, q.y),
+        z: choose(choice, p.z, q.z),
+        t: choose(choice, p.t, q.t),
+    }
+}
+
+// Bit `at` of a number in bytes, lowest byte first.
+#[inline(always)]
+fn bit(bytes: &[u8; 32], at: usize) -> u64
+    requires { at < 256 }
+    ensures value { result ≡ bit bytes.now at }
+    ensures bound { result < 2 }
+{
+    ((bytes[at / 8] >> (at % 8)) % 2) as u64
+}
+
+/// The multiple of a point, in a fixed number of steps and with no branch on the scalar.
+pub(crate) fn multiply(p: ExtendedPoint, scalar: &[u8; 32]) -> ExtendedPoint
+    ensures { coordinates result ≡ multiple (coordinates p) scalar.now 256 }
+{
+    let mut sum = neutral();
+    'bits: for i in 0..SCALAR_BITS {
+        let doubled = double(sum);
+        sum = choose_point(bit(scalar, SCALAR_BITS - 1 - i), add(doubled, p), doubled);
+    }
+    sum
+}

@@ -1,0 +1,15 @@
+//! A point of the curve, in extended homogeneous coordinates.
+
+ghost use Rattle.paseto_ed25519.specs.Field.{IsCarried};
+
+use crate::field::FieldElement;
+
+/// A point (X, Y, Z, T) with x = X / Z, y = Y / Z and x * y = T / Z (RFC 8032, section 5.1.4).
+#[derive(Clone, Copy)]
+pub(crate) struct ExtendedPoint {
+    pub(crate) x: FieldElement,
+    pub(crate) y: FieldElement,
+    pub(crate) z: FieldElement,
+    pub(crate) t: FieldElement,
+    ghost carried: { IsCarried x × IsCarried y × IsCarried z × IsCarried t },
+}
