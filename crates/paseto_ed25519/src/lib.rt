@@ -1,5 +1,7 @@
 //! Ed25519 (RFC 8032), the signature scheme of PASETO's public tokens in the versions 2 and 4.
 #![tactic(auto)]
 
+mod bytes;
 mod field;
 mod point;
+mod scalar;
