@@ -1,2 +1,3 @@
 pub mod FieldLaws
 pub mod PointLaws
+pub mod ScalarLaws

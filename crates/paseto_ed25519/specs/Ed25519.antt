@@ -29,13 +29,17 @@ square_root u v =
     if nat_eq product u then Some x
     else (if nat_eq product (minus 0 u) then Some (times x square_root_of_minus_one) else None)
 
+-- the point (x, y)
+abbrev pub affine : ℕ → ℕ → Point
+affine x y = record { x = x; y = y; z = 1; t = times x y }
+
 -- the point of y and of x or -x, whose lowest bit is to be this; 0 has no sign (5.1.3, step 4)
 unfoldable pub point_of : ℕ → ℕ → Option ℕ → Option Point
 point_of y sign None = None
 point_of y sign (Some x) =
-    if nat_eq (x % 2) sign then Some (record { x = x; y = y; z = 1; t = times x y })
+    if nat_eq (x % 2) sign then Some (affine x y)
     else (if nat_eq x 0 then None
-    else Some (record { x = minus 0 x; y = y; z = 1; t = times (minus 0 x) y }))
+    else Some (affine (minus 0 x) y))
 
 -- the point that 32 bytes are (5.1.3)
 unfoldable pub decoded : List ℕ → Option Point

@@ -2,6 +2,7 @@
 #![tactic(auto)]
 
 mod bytes;
+mod encoding;
 mod field;
 mod point;
 mod scalar;
