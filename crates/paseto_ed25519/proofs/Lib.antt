@@ -1,3 +1,4 @@
+pub mod EncodingLaws
 pub mod FieldLaws
 pub mod PointLaws
 pub mod ScalarLaws

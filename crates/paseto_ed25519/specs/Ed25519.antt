@@ -29,6 +29,10 @@ square_root u v =
     if nat_eq product u then Some x
     else (if nat_eq product (minus 0 u) then Some (times x square_root_of_minus_one) else None)
 
+-- x or -x at y: x ^ 2 is (y ^ 2 - 1) / (d y ^ 2 + 1) (5.1.3, step 2)
+unfoldable pub root_at : ℕ → Option ℕ
+root_at y = square_root (minus (times y y) 1) (plus (times d (times y y)) 1)
+
 -- the point (x, y)
 abbrev pub affine : ℕ → ℕ → Point
 affine x y = record { x = x; y = y; z = 1; t = times x y }
@@ -47,7 +51,7 @@ decoded bytes =
     let y = number32 bytes % 2 ^ 255 in
     let sign = number32 bytes / 2 ^ 255 in
     if nat_lt y prime
-    then point_of y sign (square_root (minus (times y y) 1) (plus (times d (times y y)) 1))
+    then point_of y sign (root_at y)
     else None
 
 -- the scalar that the first half of a digest gives: the three lowest bits and the highest cleared, the second
