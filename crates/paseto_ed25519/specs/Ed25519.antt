@@ -74,9 +74,9 @@ reduced digest = number64 digest % order
 abbrev pub challenge : List ℕ → List ℕ → List ℕ → ℕ
 challenge r public message = reduced (sha512 ((r ++ public) ++ message))
 
--- R and S of a signature (5.1.6)
+-- r, whose multiple of the base point is R (5.1.6, step 2)
 abbrev pub nonce : List ℕ → List ℕ → ℕ
-nonce seed message = reduced (sha512 (drop 32 (sha512 seed) ++ message))
+nonce prefix message = reduced (sha512 (prefix ++ message))
 
 abbrev pub commitment : ℕ → List ℕ
 commitment r = encoded (multiple base (bytes32 r) 256)
@@ -88,7 +88,7 @@ response r k scalar = bytes32 ((r + k * number32 scalar) % order)
 unfoldable pub ed25519_sign : List ℕ → List ℕ → List ℕ
 ed25519_sign private message =
     let seed = take 32 private in
-    let r = nonce seed message in
+    let r = nonce (drop 32 (sha512 seed)) message in
     commitment r ++ response r (challenge (commitment r) (drop 32 private) message) (secret_scalar seed)
 
 -- [S]B + [k](-A) is encoded as R; no signature is valid for a public key that is no point

@@ -2,7 +2,10 @@
 #![tactic(auto)]
 
 mod bytes;
+mod ed25519;
 mod encoding;
 mod field;
 mod point;
 mod scalar;
+
+pub use ed25519::Ed25519;

@@ -4,11 +4,14 @@ ghost use Rattle.std.specs.Prelude.{◌≡◌, ◌<◌};
 ghost use Rattle.paseto_ed25519.specs.Point.{base, bit, coordinates, joint_multiple, multiple, negated, neutral, point_add, point_add_by, point_double};
 
 mod extended;
+mod pair;
 
 use crate::field;
+use crate::field::canonical::negative;
 use crate::field::constants::{base_t, base_x, base_y, one, twice_d, zero};
 use crate::field::{add_loose, choose, mul, square, sub_loose};
 pub(crate) use extended::ExtendedPoint;
+use pair::Pair;
 
 // How many bits a scalar has.
 const SCALAR_BITS: usize = 256;
@@ -111,6 +114,56 @@ pub(crate) fn multiply(p: ExtendedPoint, scalar: &[u8; 32]) -> ExtendedPoint
     'bits: for i in 0..SCALAR_BITS {
         let doubled = double(sum);
         sum = choose_point(bit(scalar, SCALAR_BITS - 1 - i), add(doubled, p), doubled);
+    }
+    sum
+}
+
+/// The opposite of a point.
+pub(crate) fn negate(p: ExtendedPoint) -> ExtendedPoint
+    ensures { coordinates result ≡ negated (coordinates p) }
+{
+    ExtendedPoint {
+        x: negative(p.x),
+        y: p.y,
+        z: p.z,
+        t: negative(p.t),
+    }
+}
+
+// A point and what two bits ask to be added to it. The bits are no secret.
+fn add_by(sum: ExtendedPoint, points: &Pair, i: u64, j: u64) -> ExtendedPoint
+    ensures { coordinates result ≡ point_add_by (coordinates sum) (coordinates points.now.first) (coordinates points.now.second) i j }
+{
+    if i == 1 {
+        if j == 1 {
+            return add(sum, points.both);
+        }
+        return add(sum, points.first);
+    }
+    if j == 1 {
+        return add(sum, points.second);
+    }
+    sum
+}
+
+/// The sum of a multiple of a point and a multiple of another, by one pass over both scalars, which are no secret.
+pub(crate) fn multiply_both(
+    p: ExtendedPoint,
+    s: &[u8; 32],
+    q: ExtendedPoint,
+    k: &[u8; 32],
+) -> ExtendedPoint
+    ensures { coordinates result ≡ joint_multiple (coordinates p) (coordinates q) s.now k.now 256 }
+{
+    let points = Pair {
+        first: p,
+        second: q,
+        both: add(p, q),
+    };
+    let mut sum = neutral();
+    'bits: for i in 0..SCALAR_BITS {
+        let at = SCALAR_BITS - 1 - i;
+        sum = add_by(double(sum), &points, bit(s, at), bit(k, at));
     }
     sum
 }
