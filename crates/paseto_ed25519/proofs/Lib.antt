@@ -2,3 +2,4 @@ pub mod EncodingLaws
 pub mod FieldLaws
 pub mod PointLaws
 pub mod ScalarLaws
+pub mod Validity

@@ -57,7 +57,9 @@ decoded bytes =
 -- the scalar that the first half of a digest gives: the three lowest bits and the highest cleared, the second
 -- highest set (5.1.5, step 2)
 unfoldable pub clamped : List ℕ → List ℕ
-clamped half = slice_set (slice_set half 0 (slice_index half 0 / 8 * 8)) 31 (slice_index half 31 % 64 + 64)
+clamped half =
+    let cleared = slice_set half 0 (slice_index half 0 / 8 * 8) in
+    slice_set cleared 31 (slice_index cleared 31 % 64 + 64)
 
 abbrev pub secret_scalar : List ℕ → List ℕ
 secret_scalar seed = clamped (take 32 (sha512 seed))

@@ -163,8 +163,9 @@ impl SignatureScheme<64> for Ed25519 {
         if private.len() != PRIVATE_LENGTH {
             return Err(PasetoError::KeyRejected);
         }
+        let (_seed, public) = private.split_at(HALF_LENGTH);
         let signature = signature(private, message);
-        if !is_valid(&private[HALF_LENGTH..], message, &signature) {
+        if !is_valid(public, message, &signature) {
             return Err(PasetoError::Signature);
         }
         Ok(signature)

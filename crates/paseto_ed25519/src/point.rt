@@ -146,7 +146,19 @@ fn add_by(sum: ExtendedPoint, points: &Pair, i: u64, j: u64) -> ExtendedPoint
     sum
 }
 
-/// The sum of a multiple of a point and a multiple of another, by one pass over both scalars, which are no secret.
+// The sum of a multiple of each of two points, by one pass over both scalars.
+fn multiply_pair(points: &Pair, s: &[u8; 32], k: &[u8; 32]) -> ExtendedPoint
+    ensures { coordinates result ≡ joint_multiple (coordinates points.now.first) (coordinates points.now.second) s.now k.now 256 }
+{
+    let mut sum = neutral();
+    'bits: for i in 0..SCALAR_BITS {
+        let at = SCALAR_BITS - 1 - i;
+        sum = add_by(double(sum), points, bit(s, at), bit(k, at));
+    }
+    sum
+}
+
+/// The sum of the multiple of `p` by `s` and of `q` by `k`, which are no secret.
 pub(crate) fn multiply_both(
     p: ExtendedPoint,
     s: &[u8; 32],
@@ -160,10 +172,5 @@ pub(crate) fn multiply_both(
         second: q,
         both: add(p, q),
     };
-    let mut sum = neutral();
-    'bits: for i in 0..SCALAR_BITS {
-        let at = SCALAR_BITS - 1 - i;
-        sum = add_by(double(sum), &points, bit(s, at), bit(k, at));
-    }
-    sum
+    multiply_pair(&points, s, k)
 }
