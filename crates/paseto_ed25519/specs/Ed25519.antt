@@ -1,9 +1,8 @@
 -- Keys, signing and verifying (RFC 8032, sections 5.1.2, 5.1.3 and 5.1.5 to 5.1.7).
 use Rattle.std.specs.Prelude.{◌≡◌, ◌≢◌, ◌⊎◌, ℕ, ◌+◌, ◌-◌, ◌*◌, ◌/◌, ◌%◌, ◌^◌, ◌<◌, List, ◌++◌, length, take, drop, slice_index, slice_set, Option, None, Some, nat_eq, nat_lt, if◌then◌else◌}
 use Rattle.sha2.specs.Sha512.{sha512}
-use Rattle.rusty_paseto_parts.specs.declared.error.PasetoError.{PasetoError}
 use Rattle.rusty_paseto_parts.specs.declared.error.PasetoError.TheVariants.{InvalidSignature, KeyRejected, Signature}
-use Rattle.rusty_paseto_core.specs.Public.Scheme.{Declining, Refusal, Validity}
+use Rattle.rusty_paseto_core.specs.Public.Scheme.{Declining, Refusal}
 use Rattle.paseto_ed25519.specs.Field.{minus, plus, power, prime, times}
 use Rattle.paseto_ed25519.specs.Point.{Point, base, d, joint_multiple, multiple, negated, square_root_of_minus_one}
 use Rattle.paseto_ed25519.specs.Scalar.{bytes32, number32, number64, order}

@@ -1,4 +1,4 @@
-use Rattle.std.proofs.Common.{◌≡◌, ◌∙◌, ap, refl}
+use Rattle.std.proofs.Common.{◌∙◌, ap, refl}
 use Rattle.std.proofs.lemmas.Bool.{false≢true}
 use Rattle.paseto_ed25519.specs.Scalar.{bytes32}
 use Rattle.paseto_ed25519.proofs.Validity.{valid_below, valid_length, valid_sum}

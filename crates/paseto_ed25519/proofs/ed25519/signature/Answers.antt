@@ -1,4 +1,3 @@
-use Rattle.std.proofs.Common.{◌++◌, ◌∙◌, drop, ap, ap₂}
 use Rattle.paseto_ed25519.specs.Ed25519.{ed25519_sign}
 use Rattle.paseto_ed25519.proofs.ed25519.signature.Goals as goal
 

@@ -1,4 +1,4 @@
-use Rattle.std.proofs.Common.{◌≡◌, ◌∙◌, sym, ap, refl, inl, inr, length-drop, arith}
+use Rattle.std.proofs.Common.{refl, inl, inr, length-drop, arith}
 use Rattle.std.proofs.lemmas.Bool.{false≢true}
 use Rattle.paseto_ed25519.proofs.Validity.{valid_length}
 use Rattle.paseto_ed25519.proofs.ed25519.Ed25519SignatureScheme64.sign.Goals as goal
