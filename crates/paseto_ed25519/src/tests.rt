@@ -1,0 +1,285 @@
+//! Values of RFC 8032, section 7.1, and signatures that OpenSSL made, with what is to be refused.
+
+use super::Ed25519;
+use rand_core::{Infallible, TryRng};
+use rusty_paseto_core::SignatureScheme;
+use rusty_paseto_parts::{Key, PasetoError};
+use std::alloc::Global;
+use std::process::Abort;
+
+// The private key of RFC 8032's third vector, and its message.
+const PRIVATE: &str = concat!(
+    "c5aa8df43f9f837bedb7442f31dcb7b166d38535076f094b85ce3a2e0b4458f7",
+    "fc51cd8e6218a1a38da47ed00230f0580816ed13ba3303ac5deb911548908025",
+);
+
+const PUBLIC: &str = "fc51cd8e6218a1a38da47ed00230f0580816ed13ba3303ac5deb911548908025";
+
+const MESSAGE: &[u8] = &[0xaf, 0x82];
+
+const SIGNATURE: &str = concat!(
+    "6291d657deec24024827e69c3abe01a30ce548a284743a445e3680d7db5ac3ac",
+    "18ff9b538d16f290ae67f760984dc6594a7c15e9716ed28dc027beceea1ec40a",
+);
+
+// The encoding of the neutral point.
+const NEUTRAL: &str = "0100000000000000000000000000000000000000000000000000000000000000";
+
+// R is the neutral point, and S is 0.
+const NEUTRAL_SIGNATURE: &str = concat!(
+    "0100000000000000000000000000000000000000000000000000000000000000",
+    "0000000000000000000000000000000000000000000000000000000000000000",
+);
+
+// The bytes that digits spell.
+fn bytes<const N: usize>(rt: &impl Abort, digits: &str) -> [u8; N] {
+    *Key::<N>::try_from(digits)
+        .expect(rt, "hexadecimal digits")
+        .as_bytes()
+}
+
+// Whether a signature is valid; a refusal is by its name.
+fn is_valid(
+    rt: &impl Abort,
+    alloc: Global,
+    public: &[u8],
+    message: &[u8],
+    signature: &str,
+) -> bool {
+    match Ed25519.verify(alloc, public, message, &bytes::<64>(rt, signature)) {
+        Ok(()) => true,
+        Err(PasetoError::InvalidSignature) => false,
+        Err(_) => panic!(rt; "refused by another name"),
+    }
+}
+
+// The key pair of a seed signs as the vector says, and the signature is valid.
+fn expect_vector(rt: &impl Abort, alloc: Global, private: &str, message: &[u8], signature: &str) {
+    let private = bytes::<64>(rt, private);
+    let seed = *private.first_chunk::<32>().expect(rt, "a seed");
+    let public = Ed25519::public_key(&seed);
+    assert_eq!(rt; &public[..], &private[32..]);
+    let made = Ed25519
+        .sign(alloc, &private, message)
+        .expect(rt, "a signature");
+    assert_eq!(rt; made, bytes::<64>(rt, signature));
+    assert!(rt; is_valid(rt, alloc, &public, message, signature));
+}
+
+#[test]
+fn empty_message(rt: HostRuntime) {
+    expect_vector(
+        &rt,
+        rt.alloc(),
+        concat!(
+            "9d61b19deffd5a60ba844af492ec2cc44449c5697b326919703bac031cae7f60",
+            "d75a980182b10ab7d54bfed3c964073a0ee172f3daa62325af021a68f707511a",
+        ),
+        b"",
+        concat!(
+            "e5564300c360ac729086e2cc806e828a84877f1eb8e5d974d873e06522490155",
+            "5fb8821590a33bacc61e39701cf9b46bd25bf5f0595bbe24655141438e7a100b",
+        ),
+    );
+}
+
+#[test]
+fn message_of_one_byte(rt: HostRuntime) {
+    expect_vector(
+        &rt,
+        rt.alloc(),
+        concat!(
+            "4ccd089b28ff96da9db6c346ec114e0f5b8a319f35aba624da8cf6ed4fb8a6fb",
+            "3d4017c3e843895a92b70aa74d1b7ebc9c982ccf2ec4968cc0cd55f12af4660c",
+        ),
+        &[0x72],
+        concat!(
+            "92a009a9f0d4cab8720e820b5f642540a2b27b5416503f8fb3762223ebdb69da",
+            "085ac1e43e15996e458f3613d0f11d8c387b2eaeb4302aeeb00d291612bb0c00",
+        ),
+    );
+}
+
+#[test]
+fn message_of_two_bytes(rt: HostRuntime) {
+    expect_vector(&rt, rt.alloc(), PRIVATE, MESSAGE, SIGNATURE);
+}
+
+#[test]
+fn message_of_a_digest(rt: HostRuntime) {
+    // SHA-512 of "abc".
+    let message = bytes::<64>(
+        &rt,
+        concat!(
+            "ddaf35a193617abacc417349ae20413112e6fa4e89a97ea20a9eeee64b55d39a",
+            "2192992a274fc1a836ba3c23a3feebbd454d4423643ce80e2a9ac94fa54ca49f",
+        ),
+    );
+    expect_vector(
+        &rt,
+        rt.alloc(),
+        concat!(
+            "833fe62409237b9d62ec77587520911e9a759cec1d19755b7da901b96dca3d42",
+            "ec172b93ad5e563bf4932c70e1245034c35467ef2efd4d64ebf819683467e2bf",
+        ),
+        &message,
+        concat!(
+            "dc2a4459e7369633a52b1bf277839a00201009a3efbf3ecb69bea2186c26b589",
+            "09351fc9ac90b3ecfdfbc7c66431e0303dca179c138ac17ad9bef1177331a704",
+        ),
+    );
+}
+
+// The message of 1,023 bytes, which count to 250 and begin anew, was signed by OpenSSL.
+#[test]
+fn message_of_many_blocks(rt: HostRuntime) {
+    let mut message = [0u8; 1023];
+    for (i, byte) in message.iter_mut().enumerate() {
+        *byte = (i % 251) as u8;
+    }
+    expect_vector(
+        &rt,
+        rt.alloc(),
+        PRIVATE,
+        &message,
+        concat!(
+            "90a199a965bdb74b69ed5ced73eb230d093176a1b1fce0dd979bcb291ce0dd28",
+            "3c44e8fc0aaab62672c2d507704b66616c86dbd89c38e61de1f4efc5e0357b0e",
+        ),
+    );
+}
+
+// S and the order: the same multiple of the base point, which would be a second signature.
+#[test]
+fn s_above_the_order_is_refused(rt: HostRuntime) {
+    let public = bytes::<32>(&rt, PUBLIC);
+    let signature = concat!(
+        "6291d657deec24024827e69c3abe01a30ce548a284743a445e3680d7db5ac3ac",
+        "05d391b0a77904e98404ef037747a56e4a7c15e9716ed28dc027beceea1ec41a",
+    );
+    assert!(rt; !is_valid(&rt, rt.alloc(), &public, MESSAGE, signature));
+    let order = concat!(
+        "0100000000000000000000000000000000000000000000000000000000000000",
+        "edd3f55c1a631258d69cf7a2def9de1400000000000000000000000000000010",
+    );
+    assert!(rt; !is_valid(&rt, rt.alloc(), &bytes::<32>(&rt, NEUTRAL), MESSAGE, order));
+}
+
+// A signature of the neutral point is valid under the neutral point, which has no multiple but itself; OpenSSL
+// says so too. Under another encoding of the neutral point, whose y is p + 1 or whose x = 0 has a sign, it is not.
+#[test]
+fn public_keys_have_one_encoding(rt: HostRuntime) {
+    let neutral = bytes::<32>(&rt, NEUTRAL);
+    assert!(rt; is_valid(&rt, rt.alloc(), &neutral, MESSAGE, NEUTRAL_SIGNATURE));
+    let others = [
+        "eeffffffffffffffffffffffffffffffffffffffffffffffffffffffffffff7f",
+        "0100000000000000000000000000000000000000000000000000000000000080",
+        "0200000000000000000000000000000000000000000000000000000000000000",
+    ];
+    for other in others {
+        let public = bytes::<32>(&rt, other);
+        assert!(rt; !is_valid(&rt, rt.alloc(), &public, MESSAGE, NEUTRAL_SIGNATURE));
+    }
+    assert!(rt; !is_valid(&rt, rt.alloc(), b"", MESSAGE, NEUTRAL_SIGNATURE));
+}
+
+// R is the neutral point, with y = p + 1.
+#[test]
+fn r_has_one_encoding(rt: HostRuntime) {
+    let signature = concat!(
+        "eeffffffffffffffffffffffffffffffffffffffffffffffffffffffffffff7f",
+        "0000000000000000000000000000000000000000000000000000000000000000",
+    );
+    assert!(rt;
+        !is_valid(
+            &rt,
+            rt.alloc(),
+            &bytes::<32>(&rt, NEUTRAL),
+            MESSAGE,
+            signature
+        )
+    );
+}
+
+// Under the point of order two a signature of the neutral point is valid where k is even, as OpenSSL finds of these
+// two messages.
+#[test]
+fn order_two(rt: HostRuntime) {
+    let public = bytes::<32>(
+        &rt,
+        "ecffffffffffffffffffffffffffffffffffffffffffffffffffffffffffff7f",
+    );
+    assert!(rt; is_valid(&rt, rt.alloc(), &public, &[1], NEUTRAL_SIGNATURE));
+    assert!(rt; !is_valid(&rt, rt.alloc(), &public, &[0], NEUTRAL_SIGNATURE));
+}
+
+#[test]
+fn every_bit_of_a_signature_counts(rt: HostRuntime) {
+    let public = bytes::<32>(&rt, PUBLIC);
+    let signature = bytes::<64>(&rt, SIGNATURE);
+    for i in 0..512usize {
+        let mut changed = signature;
+        changed[i / 8] ^= 1 << (i % 8);
+        assert!(rt;
+            Ed25519
+                .verify(rt.alloc(), &public, MESSAGE, &changed)
+                .is_err()
+        );
+    }
+}
+
+// A signature with another seed's public half would give the seed away.
+#[test]
+fn mismatched_halves_sign_nothing(rt: HostRuntime) {
+    let mut private = bytes::<64>(&rt, PRIVATE);
+    private[0] ^= 1;
+    match Ed25519.sign(rt.alloc(), &private, MESSAGE) {
+        Err(PasetoError::Signature) => {}
+        _ => panic!(&rt; "not refused by its name"),
+    }
+    match Ed25519.sign(rt.alloc(), &private[..63], MESSAGE) {
+        Err(PasetoError::KeyRejected) => {}
+        _ => panic!(&rt; "not refused by its name"),
+    }
+}
+
+// A generator that gives one byte again and again.
+#[derive(Drop)]
+struct Sevens;
+
+impl TryRng for Sevens {
+    type Error = Infallible;
+
+    fn try_next_u32(&mut self) -> Result<u32, Infallible> {
+        Ok(7)
+    }
+
+    fn try_next_u64(&mut self) -> Result<u64, Infallible> {
+        Ok(7)
+    }
+
+    fn try_fill_bytes(&mut self, bytes: &mut [u8]) -> Result<(), Infallible> {
+        bytes.fill(7);
+        Ok(())
+    }
+}
+
+#[test]
+fn key_pairs_sign(rt: HostRuntime) {
+    let (private, public) = Ed25519::key_pair(&mut Sevens).expect(&rt, "a pair of keys");
+    assert_eq!(rt;
+        public.as_bytes(),
+        &bytes::<32>(
+            &rt,
+            "ea4a6c63e29c520abef5507b132ec5f9954776aebebe7b92421eea691446d22c"
+        )
+    );
+    let signature = Ed25519
+        .sign(rt.alloc(), private.as_bytes(), b"text")
+        .expect(&rt, "a signature");
+    assert!(rt;
+        Ed25519
+            .verify(rt.alloc(), public.as_bytes(), b"text", &signature)
+            .is_ok()
+    );
+}
