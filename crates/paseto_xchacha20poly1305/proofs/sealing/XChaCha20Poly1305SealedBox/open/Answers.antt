@@ -43,6 +43,5 @@ returns c =
     let back = take_at text (drop (length text) copy.items) copy.len same in
     let masked : text ≡ masked_text key nonce (take (length boxed - 16) boxed) =
     c.xchacha20_apply_from.ensures ∙ rw (c.deref_mut.ensures.value, copied) refl in
-    let found = alike c.ne.result _ _ c.ne.ensures c.if-ne.false in
     rw (back, masked)
     (own_tag key nonce c.args.data.now boxed low high bytes (sym own ∙ found ∙ c.split_at.ensures.back))
