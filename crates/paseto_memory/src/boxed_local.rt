@@ -2,8 +2,8 @@
 
 use crate::kinds::{footer, symmetric_key};
 use crate::run::{Case, Run};
-use crate::toys::PlainBox;
 use anyhow::Result;
+use paseto_toys::PlainBox;
 use rusty_paseto::prelude::{Key, Local, Paseto, PasetoError, PasetoNonce, Payload, V2};
 use std::alloc::Global;
 use std::io::Write;

@@ -2,10 +2,12 @@
 
 use crate::answer::{Answer, Told};
 use crate::claims::numbered;
-use crate::kinds::{Keyed, Keys, footer, symmetric_key};
+use crate::kinds::{footer, symmetric_key};
 use crate::run::{Case, Run};
-use crate::toys::{Lenient, PlainBox, Zeros};
 use anyhow::{Result, bail};
+use paseto_toys::generators::Zeros;
+use paseto_toys::keys::{Keys, SECRET, ToyVersion};
+use paseto_toys::{Lenient, PlainBox};
 use rusty_paseto::prelude::{
     AudienceClaim, CustomClaim, GenericBuilder, Local, Public, PurposeTrait, Signs, UnboxedVersion,
     V1, V2, V3, V4, VersionTrait,
@@ -32,7 +34,7 @@ pub fn ask<W: Write>(run: &mut Run<W>) -> Result<()> {
     ask_sealing::<V3, W>(run, "v3.local")?;
     ask_sealing::<V4, W>(run, "v4.local")?;
     ask_boxing(run)?;
-    let keys = Keys::new();
+    let keys = Keys::of(&SECRET);
     ask_signing::<V1, W>(run, &keys)?;
     ask_signing::<V2, W>(run, &keys)?;
     ask_signing::<V3, W>(run, &keys)?;
@@ -237,7 +239,10 @@ fn ask_boxing<W: Write>(run: &mut Run<W>) -> Result<()> {
     })
 }
 
-fn ask_signing<V: Keyed + Signs<Lenient>, W: Write>(run: &mut Run<W>, keys: &Keys) -> Result<()> {
+fn ask_signing<V: ToyVersion + Signs<Lenient>, W: Write>(
+    run: &mut Run<W>,
+    keys: &Keys,
+) -> Result<()> {
     if !run.asks_of(V::KIND) {
         return Ok(());
     }

@@ -3,13 +3,16 @@
 use crate::answer::{Answer, Told};
 use crate::boxed_local;
 use crate::claims::numbered;
-use crate::kinds::{Keyed, Keys, footer, symmetric_key};
+use crate::kinds::{footer, symmetric_key};
 use crate::local::seal;
 use crate::parsers::{good, now};
 use crate::run::{Case, Run};
 use crate::signed::sign;
-use crate::toys::{Lenient, PlainBox, Refuses, Zeros, refusing};
+use crate::validators::{Refuses, refusing};
 use anyhow::{Result, ensure};
+use paseto_toys::generators::Zeros;
+use paseto_toys::keys::{Keys, SECRET, ToyVersion};
+use paseto_toys::{Lenient, PlainBox};
 use rusty_paseto::prelude::{
     AudienceClaim, BoxlessVersion, CustomClaim, Local, PasetoBuilder, PasetoParser, Public,
     PurposeTrait, Signs, V1, V2, V3, V4, ValidatorFn, Verifies, VersionTrait, fits_default,
@@ -48,7 +51,7 @@ fn ask_kinds<W: Write>(run: &mut Run<W>) -> Result<()> {
     ask_local::<V3, W>(run, "v3.local")?;
     ask_local::<V4, W>(run, "v4.local")?;
     ask_boxed_local(run)?;
-    let keys = Keys::new();
+    let keys = Keys::of(&SECRET);
     ask_signed::<V1, W>(run, &keys)?;
     ask_signed::<V2, W>(run, &keys)?;
     ask_signed::<V3, W>(run, &keys)?;
@@ -339,7 +342,7 @@ fn ask_unboxing<W: Write>(run: &mut Run<W>) -> Result<()> {
 
 fn ask_signed<V, W: Write>(run: &mut Run<W>, keys: &Keys) -> Result<()>
 where
-    V: Keyed + Signs<Lenient> + Verifies<Lenient>,
+    V: ToyVersion + Signs<Lenient> + Verifies<Lenient>,
 {
     if !run.asks_of(V::KIND) {
         return Ok(());
@@ -348,7 +351,10 @@ where
     ask_verifying::<V, W>(run, keys)
 }
 
-fn ask_signing<V: Keyed + Signs<Lenient>, W: Write>(run: &mut Run<W>, keys: &Keys) -> Result<()> {
+fn ask_signing<V: ToyVersion + Signs<Lenient>, W: Write>(
+    run: &mut Run<W>,
+    keys: &Keys,
+) -> Result<()> {
     let key = V::private_key(keys);
     let builders = two_builders::<V, Public>(run.alloc(), run.text()?.as_str(), 10)?;
     run.ask(
@@ -361,7 +367,7 @@ fn ask_signing<V: Keyed + Signs<Lenient>, W: Write>(run: &mut Run<W>, keys: &Key
 
 fn ask_verifying<V, W: Write>(run: &mut Run<W>, keys: &Keys) -> Result<()>
 where
-    V: Keyed + Signs<Lenient> + Verifies<Lenient>,
+    V: ToyVersion + Signs<Lenient> + Verifies<Lenient>,
 {
     let alloc = run.alloc();
     let key = V::public_key(keys)?;

@@ -16,7 +16,7 @@ mod parsers;
 mod primitives;
 mod run;
 mod signed;
-mod toys;
+mod validators;
 
 use anyhow::{Context, Result, ensure};
 use run::Run;

@@ -3,12 +3,12 @@
 
 use crate::answer::Told;
 use crate::claims::tree;
-use crate::kinds::{Keyed, Keys};
 use crate::parsers::now;
 use crate::run::{Case, Run};
-use crate::toys::Zeros;
 use crate::{builders, defaults, parsers, primitives};
 use anyhow::Result;
+use paseto_toys::generators::Zeros;
+use paseto_toys::keys::{Keys, SECRET, ToyVersion};
 use rusty_paseto::prelude::{
     AudienceClaim, ClaimValue, CustomClaim, ExpirationClaim, Footer, GenericBuilder, GenericParser,
     Header, ImplicitAssertion, Key, Local, Paseto, PasetoAsymmetricPublicKey, PasetoClaim,
@@ -140,7 +140,7 @@ fn texts_of(text: &str) -> Result<u64, PasetoError> {
     sum.add(ImplicitAssertion::from(text).as_str());
     let key = Key::<32>::from_slice(&[7; 32]).clone();
     let nonce = PasetoNonce::<V4, Local>::from(&key);
-    let keys = Keys::new();
+    let keys = Keys::of(&SECRET);
     let bytes = [
         V4::private_key(&keys).as_bytes().len(),
         V4::public_key(&keys)?.as_bytes().len(),

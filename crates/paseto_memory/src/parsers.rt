@@ -4,13 +4,15 @@ use crate::answer::{Answer, Told};
 use crate::boxed_local;
 use crate::builders::three_maps;
 use crate::claims::numbered;
-use crate::kinds::{Keyed, Keys, footer, symmetric_key};
+use crate::kinds::{footer, symmetric_key};
 use crate::local::seal;
 use crate::run::{Case, Run};
 use crate::signed::sign;
-use crate::toys::{Lenient, PlainBox, Refuses, refusing};
+use crate::validators::{Refuses, refusing};
 use anyhow::Result;
 use jiff::Timestamp;
+use paseto_toys::keys::{Keys, SECRET, ToyVersion};
+use paseto_toys::{Lenient, PlainBox};
 use rusty_paseto::prelude::{
     AudienceClaim, CustomClaim, GenericParser, Local, Public, PurposeTrait, Signs, UnboxedVersion,
     V1, V2, V3, V4, ValidatorFn, ValidatorMap, Verifies, VersionTrait,
@@ -55,7 +57,7 @@ fn ask_kinds<W: Write>(run: &mut Run<W>) -> Result<()> {
     ask_opening::<V3, W>(run, "v3.local")?;
     ask_opening::<V4, W>(run, "v4.local")?;
     ask_unboxing(run)?;
-    let keys = Keys::new();
+    let keys = Keys::of(&SECRET);
     ask_verifying::<V1, W>(run, &keys)?;
     ask_verifying::<V2, W>(run, &keys)?;
     ask_verifying::<V3, W>(run, &keys)?;
@@ -330,7 +332,7 @@ fn ask_unboxing<W: Write>(run: &mut Run<W>) -> Result<()> {
 
 fn ask_verifying<V, W: Write>(run: &mut Run<W>, keys: &Keys) -> Result<()>
 where
-    V: Keyed + Signs<Lenient> + Verifies<Lenient>,
+    V: ToyVersion + Signs<Lenient> + Verifies<Lenient>,
 {
     if !run.asks_of(V::KIND) {
         return Ok(());

@@ -1,9 +1,10 @@
 //! The calls of public tokens, over a signature scheme.
 
-use crate::kinds::{Keyed, Keys, footer};
+use crate::kinds::footer;
 use crate::run::{Case, Run};
-use crate::toys::Lenient;
 use anyhow::Result;
+use paseto_toys::Lenient;
+use paseto_toys::keys::{Keys, SECRET, ToyVersion};
 use rusty_paseto::prelude::{
     AssertionVersion, Paseto, PasetoError, Payload, Public, Signs, V1, V2, V3, V4, Verifies,
 };
@@ -12,7 +13,7 @@ use std::io::Write;
 
 /// Asks them.
 pub fn ask<W: Write>(run: &mut Run<W>) -> Result<()> {
-    let keys = Keys::new();
+    let keys = Keys::of(&SECRET);
     ask_version::<V1, W>(run, &keys)?;
     ask_version::<V2, W>(run, &keys)?;
     ask_version::<V3, W>(run, &keys)?;
@@ -25,7 +26,7 @@ pub fn ask<W: Write>(run: &mut Run<W>) -> Result<()> {
 
 fn ask_version<V, W: Write>(run: &mut Run<W>, keys: &Keys) -> Result<()>
 where
-    V: Keyed + Signs<Lenient> + Verifies<Lenient>,
+    V: ToyVersion + Signs<Lenient> + Verifies<Lenient>,
 {
     if !run.asks_of(V::KIND) {
         return Ok(());
@@ -35,7 +36,7 @@ where
 }
 
 /// The token of a text.
-pub fn sign<V: Keyed + Signs<Lenient>>(
+pub fn sign<V: ToyVersion + Signs<Lenient>>(
     alloc: Global,
     text: &str,
     keys: &Keys,
@@ -51,7 +52,7 @@ pub fn sign<V: Keyed + Signs<Lenient>>(
     )
 }
 
-fn verify<V: Keyed + Verifies<Lenient>>(
+fn verify<V: ToyVersion + Verifies<Lenient>>(
     alloc: Global,
     token: &str,
     keys: &Keys,
@@ -60,7 +61,10 @@ fn verify<V: Keyed + Verifies<Lenient>>(
     V::verify(alloc, &Lenient, token, &key, Some(footer()), None)
 }
 
-fn ask_signing<V: Keyed + Signs<Lenient>, W: Write>(run: &mut Run<W>, keys: &Keys) -> Result<()> {
+fn ask_signing<V: ToyVersion + Signs<Lenient>, W: Write>(
+    run: &mut Run<W>,
+    keys: &Keys,
+) -> Result<()> {
     let alloc = run.alloc();
     let text = run.text()?;
     run.ask(Case::of("Signs::sign", V::KIND), &text, &text, |text| {
@@ -82,7 +86,7 @@ fn ask_signing<V: Keyed + Signs<Lenient>, W: Write>(run: &mut Run<W>, keys: &Key
 
 fn ask_trait_verifying<V, W: Write>(run: &mut Run<W>, keys: &Keys) -> Result<()>
 where
-    V: Keyed + Signs<Lenient> + Verifies<Lenient>,
+    V: ToyVersion + Signs<Lenient> + Verifies<Lenient>,
 {
     let alloc = run.alloc();
     let token = sign::<V>(alloc, run.text()?.as_str(), keys)?;
@@ -96,7 +100,7 @@ where
 
 fn ask_verifying<V, W: Write>(run: &mut Run<W>, keys: &Keys) -> Result<()>
 where
-    V: Keyed + AssertionVersion + Signs<Lenient> + Verifies<Lenient>,
+    V: ToyVersion + AssertionVersion + Signs<Lenient> + Verifies<Lenient>,
 {
     if !run.asks_of(V::KIND) {
         return Ok(());

@@ -1,3 +1,1 @@
 mod PrimeLemmas
-mod ToyBlocks
-mod ToyOpening

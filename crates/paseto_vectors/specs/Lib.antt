@@ -1,7 +1,2 @@
-pub mod PlainBox
 pub mod Primes
-pub mod ToyBox
-pub mod ToyBoxLaws
-pub mod ToySchemes
-pub mod ToySignature
 pub mod Validators

@@ -1,7 +1,7 @@
 //! The toy box by itself.
 
 use crate::long::text_of;
-use crate::toy_box::ToyBox;
+use paseto_toys::ToyBox;
 use rusty_paseto_core::SealedBox;
 use std::alloc::{AllocError, Global};
 use std::process::Abort;

@@ -2,7 +2,6 @@
 
 mod errors;
 mod every_kind;
-pub(crate) mod generators;
 mod local;
 pub(crate) mod maps;
 mod payloads;

@@ -1,20 +1,14 @@
 //! The eight kinds of tokens, each made and read by one call, under the keys that a secret tells.
 
-pub(crate) mod counting;
-pub(crate) mod plain_box;
-pub(crate) mod toys;
-
-use crate::toy_box::ToyBox;
-use counting::{Calls, Counting};
+use paseto_toys::ToyBox;
+use paseto_toys::counting::{Calls, Counting};
+pub(crate) use paseto_toys::keys::{SECRET, symmetric_key};
+use paseto_toys::keys::{Keys, ToyVersion};
 use rusty_paseto_core::{
-    Footer, ImplicitAssertion, Key, Local, LocalVersion, Paseto, PasetoError, PasetoNonce,
-    PasetoSymmetricKey, Payload, Signs, V1, V2, V3, V4, Verifies, VersionTrait,
+    Footer, ImplicitAssertion, Key, Local, LocalVersion, Paseto, PasetoError, PasetoNonce, Payload,
+    Signs, V1, V2, V3, V4, Verifies,
 };
 use std::alloc::Global;
-use toys::{Keys, ToyVersion};
-
-/// The secret that tells the keys. A key of 32 bytes or of 48 is the front of it.
-pub(crate) const SECRET: [u8; 64] = [7; 64];
 
 /// Another secret.
 pub(crate) const OTHER_SECRET: [u8; 64] = [8; 64];
@@ -191,11 +185,6 @@ impl Kind {
         let (answer, _) = self.read_counted(alloc, &SECRET, token, binding);
         answer
     }
-}
-
-/// The key of local tokens.
-pub(crate) fn symmetric_key<V: VersionTrait>(secret: &[u8; 64]) -> PasetoSymmetricKey<V, Local> {
-    PasetoSymmetricKey::from(Key::<32>::from_slice(&secret[..32]))
 }
 
 fn seal<V: LocalVersion>(

@@ -1,7 +1,7 @@
 //! The toy signature schemes by themselves, and the scheme that refuses everything.
 
 use crate::hexadecimal::array_of;
-use crate::{Refusing, ToyV1, ToyV2, ToyV3, ToyV4, toy_partner, toy_partner_v3};
+use paseto_toys::{Refusing, ToyV1, ToyV2, ToyV3, ToyV4, toy_partner, toy_partner_v3};
 use rusty_paseto_core::{CompressedKey, PasetoError, SignatureScheme};
 use std::alloc::Global;
 use std::process::Abort;

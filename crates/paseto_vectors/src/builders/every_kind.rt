@@ -1,11 +1,11 @@
 //! The tokens of builders of every kind: the core's tokens of the payload.
 
-use crate::builders::generators::Zeros;
 use crate::expect::expect_text;
-use crate::kinds::toys::{Keys, ToyVersion};
 use crate::kinds::{ASSERTED_KINDS, Binding, KINDS, Kind, SECRET, symmetric_key};
 use crate::long::{LENGTHS, text_of};
-use crate::toy_box::ToyBox;
+use paseto_toys::ToyBox;
+use paseto_toys::generators::Zeros;
+use paseto_toys::keys::{Keys, ToyVersion};
 use rusty_paseto_claims::{AudienceClaim, CustomClaim};
 use rusty_paseto_core::{
     Footer, ImplicitAssertion, ImplicitAssertionCapable, Local, Public, PurposeTrait, Signs, V1,

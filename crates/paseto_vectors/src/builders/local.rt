@@ -1,10 +1,10 @@
 //! Local tokens of builders.
 
-use crate::builders::generators::{Counting, Failing, Zeros};
 use crate::builders::payloads::put;
 use crate::expect::expect_text;
 use crate::long::text_of;
-use crate::toy_box::ToyBox;
+use paseto_toys::ToyBox;
+use paseto_toys::generators::{Counting, Failing, Zeros};
 use rusty_paseto_claims::{AudienceClaim, CustomClaim};
 use rusty_paseto_core::{
     Footer, Key, Local, LocalVersion, Paseto, PasetoError, PasetoNonce, PasetoSymmetricKey,

@@ -1,8 +1,8 @@
 //! What signature schemes and versions refuse to sign, and the builder with them.
 
 use crate::kinds::SECRET;
-use crate::kinds::toys::{Keys, ToyVersion};
-use crate::refusing::Refusing;
+use paseto_toys::Refusing;
+use paseto_toys::keys::{Keys, ToyVersion};
 use rusty_paseto_core::{PasetoAsymmetricPrivateKey, PasetoError, Public, Signs, V1, V2, V3, V4};
 use rusty_paseto_generic::{GenericBuilder, GenericBuilderError};
 use std::alloc::Global;

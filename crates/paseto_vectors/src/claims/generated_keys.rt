@@ -1,7 +1,7 @@
 //! Keys of bytes that a generator gives.
 
-use crate::builders::generators::{Counting, Failing};
 use crate::expect::expect_bytes;
+use paseto_toys::generators::{Counting, Failing};
 use rusty_paseto_core::{Key, PasetoError};
 
 #[test]

@@ -1,12 +1,12 @@
 //! The examples of the Rust crate's documentation, each under its title.
 
-use crate::builders::generators::Zeros;
 use crate::defaults::claims::Claim;
 use crate::defaults::kinds::{default_builder, moment_after};
 use crate::defaults::primes::Primes;
 use crate::defaults::rows::{NONE, Row, USUAL, check_rows, told};
 use crate::expect::expect_text;
 use crate::kinds::{Binding, Kind, SECRET, symmetric_key};
+use paseto_toys::generators::Zeros;
 use rusty_paseto::prelude::{
     CustomClaim, ExpirationClaim, Footer, ImplicitAssertion, Local, PasetoBuilder, PasetoParser,
     SubjectClaim, V4,

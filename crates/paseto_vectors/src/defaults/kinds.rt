@@ -2,12 +2,12 @@
 
 ghost use Rattle.rusty_paseto.specs.Moment.{FitsDefault};
 
-use crate::builders::generators::Zeros;
 use crate::defaults::claims::{Claim, check, set};
-use crate::kinds::toys::{Keys, ToyVersion};
 use crate::kinds::{Binding, Kind, SECRET, symmetric_key};
-use crate::toy_box::ToyBox;
 use jiff::Timestamp;
+use paseto_toys::ToyBox;
+use paseto_toys::generators::Zeros;
+use paseto_toys::keys::{Keys, ToyVersion};
 use rusty_paseto::prelude::{
     BoxlessVersion, Footer, GenericBuilderError, GenericParserError, ImplicitAssertion,
     ImplicitAssertionCapable, Local, PasetoBuilder, PasetoParser, Public, PurposeTrait, Signs, V1,

@@ -1,15 +1,15 @@
 //! Keys that are set again, claims that are refused, and builders that are used again.
 
-use crate::builders::generators::{Failing, Zeros};
 use crate::defaults::claims::Claim;
 use crate::defaults::kinds::{Token, default_builder, moment_after};
 use crate::defaults::rows::{NONE, USUAL};
 use crate::expect::expect_text;
-use crate::kinds::counting::{Calls, Counting};
-use crate::kinds::toys::{Keys, ToyVersion};
 use crate::kinds::{Binding, KINDS, Kind, SECRET, symmetric_key};
 use crate::parsers::steps::custom;
-use crate::toy_schemes::ToyV4;
+use paseto_toys::ToyV4;
+use paseto_toys::counting::{Calls, Counting};
+use paseto_toys::generators::{Failing, Zeros};
+use paseto_toys::keys::{Keys, ToyVersion};
 use rusty_paseto::prelude::{
     AudienceClaim, GenericBuilderError, Local, PasetoBuilder, PasetoError, Public, PurposeTrait,
     V4, VersionTrait,

@@ -1,9 +1,9 @@
 //! What parsers of every kind of token answer.
 
-use crate::kinds::toys::{Keys, ToyVersion};
 use crate::kinds::{Binding, Kind, SECRET, symmetric_key};
 use crate::parsers::steps::{Step, add};
-use crate::toy_box::ToyBox;
+use paseto_toys::ToyBox;
+use paseto_toys::keys::{Keys, ToyVersion};
 use rusty_paseto_core::{
     Footer, ImplicitAssertion, ImplicitAssertionCapable, Local, Public, PurposeTrait, V1, V2, V3,
     V4, Verifies, VersionTrait,

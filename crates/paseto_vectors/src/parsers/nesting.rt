@@ -1,10 +1,10 @@
 //! How deep a payload may be nested.
 
-use crate::builders::generators::Zeros;
 use crate::expect::expect_text;
 use crate::kinds::{Binding, KINDS, SECRET, symmetric_key};
 use crate::parsers::kinds::{Answer, Expected, told};
 use crate::parsers::steps::custom;
+use paseto_toys::generators::Zeros;
 use rusty_paseto_core::{Local, V4};
 use rusty_paseto_generic::{GenericBuilder, GenericParser};
 use std::alloc::Global;

@@ -2,8 +2,8 @@
 
 use super::faults::token_of_zeros;
 use super::refusals::LETTERS;
-use crate::kinds::counting::{Call, Calls};
 use crate::kinds::{Binding, Kind, OTHER_SECRET, SECRET};
+use paseto_toys::counting::{Call, Calls};
 
 const FOOTER: Binding<'static> = Binding {
     footer: Some("footer"),

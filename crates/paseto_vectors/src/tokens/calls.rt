@@ -1,10 +1,9 @@
 //! The calls of `Paseto`, which make the same tokens and read the same texts as those of the versions'
 //! traits.
 
-use crate::kinds::toys::{Keys, ToyVersion};
 use crate::kinds::{ASSERTED_KINDS, Binding, KINDS, Kind, SECRET, symmetric_key};
-use crate::toy_box::ToyBox;
-use crate::toy_schemes::{ToyV1, ToyV2};
+use paseto_toys::keys::{Keys, ToyVersion};
+use paseto_toys::{ToyBox, ToyV1, ToyV2};
 use rusty_paseto_core::{
     AssertionVersion, Footer, ImplicitAssertion, Key, Local, LocalVersion, Paseto, PasetoError,
     PasetoNonce, Payload, Public, PurposeTrait, Signs, V1, V2, V3, V4, Verifies, VersionTrait,

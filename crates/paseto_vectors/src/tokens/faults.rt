@@ -1,7 +1,7 @@
 //! The faults of reading a token, each by its name. Neither a box nor a scheme is asked.
 
-use crate::kinds::counting::Calls;
 use crate::kinds::{Binding, KINDS, Kind, SECRET};
+use paseto_toys::counting::Calls;
 use rusty_paseto_core::PasetoError;
 use std::alloc::{AllocError, Global};
 use std::process::Abort;

@@ -1,7 +1,7 @@
 //! The forms of a token: with its footer's section and, for the empty footer, without. The text that a public token shows.
 
-use crate::kinds::counting::Calls;
 use crate::kinds::{Binding, Kind, PUBLIC_KINDS, SECRET};
+use paseto_toys::counting::Calls;
 use rusty_paseto_core::{PasetoError, from_section};
 use std::alloc::Global;
 use std::process::Abort;

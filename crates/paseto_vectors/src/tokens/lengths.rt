@@ -1,8 +1,8 @@
 //! Long texts and long footers, which become tokens and come back.
 
-use crate::kinds::plain_box::PlainBox;
 use crate::kinds::{Binding, KINDS, Kind, SECRET, symmetric_key};
 use crate::long::text_of;
+use paseto_toys::PlainBox;
 use rusty_paseto_core::{Key, Local, Paseto, PasetoError, PasetoNonce, Payload, V2};
 use std::alloc::Global;
 use std::process::Abort;

@@ -2,7 +2,7 @@
 
 use super::parts::KEY;
 use crate::kinds::{Binding, Kind};
-use crate::toy_box::ToyBox;
+use paseto_toys::ToyBox;
 use rusty_paseto_core::{Key, Local, Paseto, PasetoNonce, PasetoSymmetricKey, V2, to_section};
 use rusty_paseto_primitives::blake2b_keyed;
 

@@ -3,11 +3,10 @@
 
 use super::faults::token_of_zeros;
 use super::refusals::LETTERS;
-use crate::kinds::counting::{Call, Calls, Counting};
-use crate::kinds::toys::{Keys, ToyVersion};
 use crate::kinds::{Kind, SECRET};
-use crate::refusing::Refusing;
-use crate::toy_schemes::{ToyV1, ToyV2, ToyV4};
+use paseto_toys::counting::{Call, Calls, Counting};
+use paseto_toys::keys::{Keys, ToyVersion};
+use paseto_toys::{Refusing, ToyV1, ToyV2, ToyV4};
 use rusty_paseto_core::{
     PasetoAsymmetricPrivateKey, PasetoError, Payload, Public, Signs, V1, V2, V2orV4, V3, V4,
     Verifies,

@@ -3,9 +3,7 @@
 ghost use Rattle.std.specs.Prelude.{◌≤◌};
 
 use crate::kinds::{Binding, Kind, SECRET};
-use crate::toy_box::ToyBox;
-use crate::toy_schemes::{ToyV1, ToyV2, ToyV3, ToyV4};
-use crate::toy_signature::toy_partner_v3;
+use paseto_toys::{ToyBox, ToyV1, ToyV2, ToyV3, ToyV4, toy_partner_v3};
 use rusty_paseto_core::{
     PasetoError, PreAuthenticationEncoding, SealedBox, SignatureScheme, to_section,
 };

@@ -1,8 +1,7 @@
 //! Public keys that the scheme refuses.
 
 use crate::kinds::{Binding, Kind, SECRET};
-use crate::toy_schemes::ToyV3;
-use crate::toy_signature::toy_partner_v3;
+use paseto_toys::{ToyV3, toy_partner_v3};
 use rusty_paseto_core::{Key, Paseto, PasetoAsymmetricPublicKey, PasetoError, Public, V3};
 
 // A point that begins with 3 is a key of version 3, but none of the toy's.

@@ -1,7 +1,6 @@
 //! The example of signing in the README.
 
-use crate::toy_schemes::ToyV4;
-use crate::toy_signature::toy_partner;
+use paseto_toys::{ToyV4, toy_partner};
 use rusty_paseto_core::{
     Key, Paseto, PasetoAsymmetricPrivateKey, PasetoAsymmetricPublicKey, PasetoError, Payload,
     Public, SignatureScheme, V4,

@@ -1,0 +1,2 @@
+mod ToyBlocks
+mod ToyOpening

@@ -1,0 +1,5 @@
+pub mod PlainBox
+pub mod ToyBox
+pub mod ToyBoxLaws
+pub mod ToySchemes
+pub mod ToySignature
