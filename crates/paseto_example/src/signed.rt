@@ -4,8 +4,8 @@
 use anyhow::{Result, ensure};
 use jiff::Timestamp;
 use rusty_paseto::prelude::{
-    GenericParserError, PasetoAsymmetricPrivateKey, PasetoAsymmetricPublicKey, PasetoBuilder,
-    PasetoParser, Public, SignatureScheme, SubjectClaim, V4, fits_default,
+    CountingSetter, GenericParserError, PasetoAsymmetricPrivateKey, PasetoAsymmetricPublicKey,
+    PasetoBuilder, PasetoParser, Public, SignatureScheme, SubjectClaim, V4, fits_default,
 };
 use serde_json::Value;
 use std::alloc::Global;

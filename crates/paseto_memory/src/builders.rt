@@ -9,8 +9,8 @@ use paseto_toys::generators::Zeros;
 use paseto_toys::keys::{Keys, SECRET, ToyVersion};
 use paseto_toys::{Lenient, PlainBox};
 use rusty_paseto::prelude::{
-    AudienceClaim, CustomClaim, GenericBuilder, Local, Public, PurposeTrait, Signs, UnboxedVersion,
-    V1, V2, V3, V4, VersionTrait,
+    AudienceClaim, ClaimSetter, CustomClaim, GenericBuilder, Local, Public, PurposeTrait, Signs,
+    UnboxedVersion, V1, V2, V3, V4, VersionTrait,
 };
 use serde_json::{Map, Value};
 use std::alloc::Global;

@@ -14,8 +14,9 @@ use paseto_toys::generators::Zeros;
 use paseto_toys::keys::{Keys, SECRET, ToyVersion};
 use paseto_toys::{Lenient, PlainBox};
 use rusty_paseto::prelude::{
-    AudienceClaim, BoxlessVersion, CustomClaim, Local, PasetoBuilder, PasetoParser, Public,
-    PurposeTrait, Signs, V1, V2, V3, V4, ValidatorFn, Verifies, VersionTrait, fits_default,
+    AudienceClaim, BoxlessVersion, CheckSetter, CountingSetter, CustomClaim, Local, PasetoBuilder,
+    PasetoParser, Public, PurposeTrait, Signs, V1, V2, V3, V4, ValidatorFn, Verifies, VersionTrait,
+    fits_default,
 };
 use std::alloc::Global;
 use std::io::Write;

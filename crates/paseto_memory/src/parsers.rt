@@ -14,8 +14,8 @@ use jiff::Timestamp;
 use paseto_toys::keys::{Keys, SECRET, ToyVersion};
 use paseto_toys::{Lenient, PlainBox};
 use rusty_paseto::prelude::{
-    AudienceClaim, CustomClaim, GenericParser, Local, Public, PurposeTrait, Signs, UnboxedVersion,
-    V1, V2, V3, V4, ValidatorFn, ValidatorMap, Verifies, VersionTrait,
+    AudienceClaim, CheckSetter, CustomClaim, GenericParser, Local, Public, PurposeTrait, Signs,
+    UnboxedVersion, V1, V2, V3, V4, ValidatorFn, ValidatorMap, Verifies, VersionTrait,
 };
 use serde_json::Value;
 use std::alloc::Global;

@@ -20,6 +20,7 @@ mod paseto_builder;
 pub mod paseto_core;
 mod paseto_parser;
 pub mod prelude;
+mod setter;
 mod version;
 
 pub use error::{GeneralPasetoError, KeyRingError};
@@ -27,4 +28,5 @@ pub use key_ring::KeyRing;
 pub use moment::fits_default;
 pub use paseto_builder::PasetoBuilder;
 pub use paseto_parser::{DefaultParser, PasetoParser};
+pub use setter::CountingSetter;
 pub use version::{AssertingVersion, BoxlessVersion};

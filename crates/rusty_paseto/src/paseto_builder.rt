@@ -16,6 +16,7 @@ ghost use Rattle.rusty_paseto.specs.PasetoBuilder.{IsDefaultClaims, IsDuplicate,
 
 use crate::keys::Keys;
 use crate::moment::{hour_after, text_of};
+use crate::setter::CountingSetter;
 use crate::version::BoxlessVersion;
 use jiff::Timestamp;
 use rand_core::TryRng;
@@ -23,7 +24,7 @@ use rusty_paseto_core::{
     Footer, ImplicitAssertion, ImplicitAssertionCapable, Local, PasetoAsymmetricPrivateKey,
     PasetoSymmetricKey, Public, PublicVersion, PurposeTrait, SealedBox, Signs, V2, VersionTrait,
 };
-use rusty_paseto_generic::{GenericBuilder, GenericBuilderError, PasetoClaim};
+use rusty_paseto_generic::{ClaimSetter, GenericBuilder, GenericBuilderError, PasetoClaim};
 use serde_json::{Map, Value};
 use std::alloc::{AllocError, Global};
 
@@ -75,30 +76,6 @@ impl<'a, V: VersionTrait, P: PurposeTrait> PasetoBuilder<'a, V, P> {
         })
     }
 
-    /// Stores a claim under its key, as `put_claim` of a `GenericBuilder` does, and counts the key, the empty
-    /// one too. A key that was counted before becomes the repeated key.
-    ///
-    /// `ClaimError` comes for a value that holds another number than a whole one of 64 bits, `Unexpected`
-    /// with the key, and for a fault of the claim. The builder is then unchanged.
-    pub fn put_claim<C: PasetoClaim>(&mut self, claim: &C) -> Result<(), GenericBuilderError>
-        ensures ok { OnOk result (claim_set (C.key claim.now) (C.json claim.now) (held self.old.builder.claims)
-            ≡ becomes (held self.new.builder.claims)) }
-        ensures keys { OnOk result (IsSame (counted (C.key claim.now) (counting self.old.keys)) (counting self.new.keys)) }
-        ensures rest { self.new.builder.paseto ≡ self.old.builder.paseto }
-        ensures err { OnErr result (held self.new.builder.claims ≡ held self.old.builder.claims) }
-        ensures err_keys { OnErr result (IsSame (counting self.old.keys) (counting self.new.keys)) }
-        ensures fault { IfErr result
-            (IsRefusal (claim_set (C.key claim.now) (C.json claim.now) (held self.old.builder.claims))) }
-    {
-        let key = String::from_str(self.alloc, claim.get_key())?;
-        if self.keys.has(key.as_str()) {
-            self.builder.put_claim(claim)?;
-            self.keys.repeat(key);
-            return Ok(());
-        }
-        self.put_new(key, claim)
-    }
-
     // The same for a key that was not counted. It is counted first, which takes memory, and taken out again
     // where the claim is refused.
     fn put_new<C: PasetoClaim>(&mut self, key: String, claim: &C) -> Result<(), GenericBuilderError>
@@ -121,40 +98,6 @@ impl<'a, V: VersionTrait, P: PurposeTrait> PasetoBuilder<'a, V, P> {
         Ok(())
     }
 
-    /// Stores a claim, as `put_claim` does, and lends the builder back.
-    pub fn set_claim<C: PasetoClaim>(&mut self, claim: &C) -> Result<&mut Self, GenericBuilderError>
-        ensures lent { IfOk result (λ made. made.ghost_name ≡ self.entry.ghost_name) }
-        ensures ok { IfOk result (λ made. claim_set (C.key claim.now) (C.json claim.now) (held self.entry.now.builder.claims)
-            ≡ becomes (held made.now.builder.claims)) }
-        ensures keys { IfOk result (λ made.
-            IsSame (counted (C.key claim.now) (counting self.entry.now.keys)) (counting made.now.keys)) }
-        ensures rest { IfOk result (λ made. made.now.builder.paseto ≡ self.entry.now.builder.paseto) }
-        ensures fault { IfErr result
-            (IsRefusal (claim_set (C.key claim.now) (C.json claim.now) (held self.entry.now.builder.claims))) }
-    {
-        self.put_claim(claim)?;
-        Ok(self)
-    }
-
-    /// Takes out the expiration and counts its key, which does not become a repeated key by that: what is
-    /// built from now on never expires. A token that never expires is a danger where it is stolen. An
-    /// expiration that is set later is set again, so that nothing is built.
-    ///
-    /// Nothing but memory is refused. The builder is then unchanged.
-    pub fn put_no_expiration_danger_acknowledged(&mut self) -> Result<(), GenericBuilderError>
-        ensures ok { OnOk result (held self.new.builder.claims ≡ without expiration_key (held self.old.builder.claims)) }
-        ensures keys { OnOk result (IsSame (acknowledged expiration_key (counting self.old.keys)) (counting self.new.keys)) }
-        ensures never { OnOk result (NeverExpires (held self.new.builder.claims) (counting self.new.keys)) }
-        ensures rest { self.new.builder.paseto ≡ self.old.builder.paseto }
-        ensures err { OnErr result (held self.new.builder.claims ≡ held self.old.builder.claims) }
-        ensures err_keys { OnErr result (IsSame (counting self.old.keys) (counting self.new.keys)) }
-        ensures fault { IfErr result IsMemory }
-    {
-        self.keys.add(String::from_str(self.alloc, EXPIRATION)?)?;
-        self.take_out_expiration();
-        Ok(())
-    }
-
     // Takes out the expiration.
     fn take_out_expiration(&mut self)
         ensures claims { held self.new.builder.claims ≡ without expiration_key (held self.old.builder.claims) }
@@ -163,23 +106,6 @@ impl<'a, V: VersionTrait, P: PurposeTrait> PasetoBuilder<'a, V, P> {
         ensures rest { self.new.builder.paseto ≡ self.old.builder.paseto }
     {
         self.builder.remove_claim(EXPIRATION);
-    }
-
-    /// Takes out the expiration, as `put_no_expiration_danger_acknowledged` does, and lends the builder back.
-    pub fn set_no_expiration_danger_acknowledged(
-        &mut self,
-    ) -> Result<&mut Self, GenericBuilderError>
-        ensures lent { IfOk result (λ made. made.ghost_name ≡ self.entry.ghost_name) }
-        ensures ok { IfOk result (λ made.
-            held made.now.builder.claims ≡ without expiration_key (held self.entry.now.builder.claims)) }
-        ensures keys { IfOk result (λ made.
-            IsSame (acknowledged expiration_key (counting self.entry.now.keys)) (counting made.now.keys)) }
-        ensures never { IfOk result (λ made. NeverExpires (held made.now.builder.claims) (counting made.now.keys)) }
-        ensures rest { IfOk result (λ made. made.now.builder.paseto ≡ self.entry.now.builder.paseto) }
-        ensures fault { IfErr result IsMemory }
-    {
-        self.put_no_expiration_danger_acknowledged()?;
-        Ok(self)
     }
 
     /// Sets the footer, the empty one too, and keeps the rest. No memory is taken.
@@ -204,6 +130,30 @@ impl<'a, V: VersionTrait, P: PurposeTrait> PasetoBuilder<'a, V, P> {
         };
         let key = String::from_str(self.alloc, key)?;
         Err(GenericBuilderError::DuplicateTopLevelPayloadClaim(key))
+    }
+}
+
+impl<'a, V: VersionTrait, P: PurposeTrait> CountingSetter for PasetoBuilder<'a, V, P> {
+    ghost claims = { λ made. held made.builder.claims };
+
+    ghost keys = { λ made. counting made.keys };
+
+    ghost is_rest = { λ made other. made.builder.paseto ≡ other.builder.paseto };
+
+    fn put_claim<C: PasetoClaim>(&mut self, claim: &C) -> Result<(), GenericBuilderError> {
+        let key = String::from_str(self.alloc, claim.get_key())?;
+        if self.keys.has(key.as_str()) {
+            self.builder.put_claim(claim)?;
+            self.keys.repeat(key);
+            return Ok(());
+        }
+        self.put_new(key, claim)
+    }
+
+    fn put_no_expiration_danger_acknowledged(&mut self) -> Result<(), GenericBuilderError> {
+        self.keys.add(String::from_str(self.alloc, EXPIRATION)?)?;
+        self.take_out_expiration();
+        Ok(())
     }
 }
 

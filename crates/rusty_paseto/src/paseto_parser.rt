@@ -5,11 +5,10 @@ ghost use Rattle.rusty_paseto_core.specs.Context.{binding_of};
 ghost use Rattle.rusty_paseto_core.specs.Local.Boxed.{box_opening};
 ghost use Rattle.rusty_paseto_core.specs.Local.Opening.{opening};
 ghost use Rattle.rusty_paseto_core.specs.Public.Verifying.{verification};
-ghost use Rattle.rusty_paseto_generic.specs.Error.Parser.{IsMemory, IsRefusal};
-ghost use Rattle.rusty_paseto_generic.specs.Parsers.Held.{rules_of, verdicts_of, with_times};
+ghost use Rattle.rusty_paseto_generic.specs.Error.Parser.{IsMemory};
+ghost use Rattle.rusty_paseto_generic.specs.Parsers.Held.{judges_of, rules_of, verdicts_of, with_times};
 ghost use Rattle.rusty_paseto_generic.specs.Parsers.Parsing.{IsParseAnswer, assertion_in};
-ghost use Rattle.rusty_paseto_generic.specs.declared.parsers.checks.Judge.TheVariants.{Boxed};
-ghost use Rattle.rusty_paseto_generic.specs.Parsers.Rules.{AreSame, IsStored, fault_in, no_rule, whole_answer, with_both, with_stored};
+ghost use Rattle.rusty_paseto_generic.specs.Parsers.Rules.{AreSame, all_judged, no_rule};
 
 use crate::version::BoxlessVersion;
 use jiff::Timestamp;
@@ -17,9 +16,12 @@ use rusty_paseto_core::{
     Footer, ImplicitAssertion, ImplicitAssertionCapable, Local, PasetoAsymmetricPublicKey,
     PasetoSymmetricKey, Public, PurposeTrait, SealedBox, V2, Verifies, VersionTrait,
 };
-use rusty_paseto_generic::{GenericParserError, PasetoClaim, TokenParser, ValidatorFn};
+use rusty_paseto_generic::{
+    CheckSetter, GenericParserError, PasetoClaim, TokenParser, ValidatorFn,
+};
 use serde_json::Value;
 use std::alloc::Global;
+use std::collections::BTreeMap;
 
 /// A parser of tokens that refuses what has expired and what may not be used yet, where it is made by
 /// `default`: the usual parser beside a [`PasetoBuilder`](crate::PasetoBuilder).
@@ -80,79 +82,6 @@ impl<'a, V: VersionTrait, P: PurposeTrait, B: Drop> DefaultParser<'a, V, P, B> {
         self
     }
 
-    /// Stores a claim's JSON, as it is, under its key, as `put_check` of a `GenericParser` does. A key that is
-    /// there gets the new value and keeps its judge, so that a stored `exp` or `nbf` has no effect beside the
-    /// checks of the times.
-    ///
-    /// `ClaimError` comes for a value that holds another number than a whole one of 64 bits, `Unexpected`
-    /// with the key, and for a fault of the claim. The parser is then unchanged.
-    pub fn put_check<C: PasetoClaim>(&mut self, claim: &C) -> Result<(), GenericParserError>
-        ensures ok { OnOk result (IsStored (C.key claim.now) (C.json claim.now) with_stored
-            (rules_of self.old.parser.checks) (rules_of self.new.parser.checks)) }
-        ensures moment { self.new.parser.moment ≡ self.old.parser.moment }
-        ensures footer { self.new.parser.footer ≡ self.old.parser.footer }
-        ensures implicit_assertion { self.new.parser.implicit_assertion ≡ self.old.parser.implicit_assertion }
-        ensures err { OnErr result (AreSame (rules_of self.new.parser.checks) (rules_of self.old.parser.checks)) }
-        ensures fault { IfErr result (IsRefusal (fault_in (whole_answer (C.key claim.now) (C.json claim.now)))) }
-    {
-        self.parser.put_check(claim)
-    }
-
-    /// Stores a claim's JSON, as `put_check` does, and lends the parser back.
-    pub fn check_claim<C: PasetoClaim>(
-        &mut self,
-        claim: &C,
-    ) -> Result<&mut Self, GenericParserError>
-        ensures lent { IfOk result (λ parser. parser.ghost_name ≡ self.entry.ghost_name) }
-        ensures ok { IfOk result (λ made. IsStored (C.key claim.now) (C.json claim.now) with_stored
-            (rules_of self.entry.now.parser.checks) (rules_of made.now.parser.checks)) }
-        ensures moment { IfOk result (λ made. made.now.parser.moment ≡ self.entry.now.parser.moment) }
-        ensures footer { IfOk result (λ made. made.now.parser.footer ≡ self.entry.now.parser.footer) }
-        ensures implicit_assertion { IfOk result (λ made. made.now.parser.implicit_assertion ≡ self.entry.now.parser.implicit_assertion) }
-        ensures fault { IfErr result (IsRefusal (fault_in (whole_answer (C.key claim.now) (C.json claim.now)))) }
-    {
-        self.put_check(claim)?;
-        Ok(self)
-    }
-
-    /// Stores a claim's JSON, as `put_check` does, and a validator, which from now on judges the key alone, in
-    /// place of a check of times too.
-    ///
-    /// `ClaimError` comes as in `put_check`. The validator is then dropped, and the parser is unchanged.
-    pub fn put_validator<C: PasetoClaim>(
-        &mut self,
-        claim: &C,
-        validator: B,
-    ) -> Result<(), GenericParserError>
-        ensures ok { OnOk result (IsStored (C.key claim.now) (C.json claim.now) (with_both (Boxed validator))
-            (rules_of self.old.parser.checks) (rules_of self.new.parser.checks)) }
-        ensures moment { self.new.parser.moment ≡ self.old.parser.moment }
-        ensures footer { self.new.parser.footer ≡ self.old.parser.footer }
-        ensures implicit_assertion { self.new.parser.implicit_assertion ≡ self.old.parser.implicit_assertion }
-        ensures err { OnErr result (AreSame (rules_of self.new.parser.checks) (rules_of self.old.parser.checks)) }
-        ensures fault { IfErr result (IsRefusal (fault_in (whole_answer (C.key claim.now) (C.json claim.now)))) }
-    {
-        self.parser.put_validator(claim, validator)
-    }
-
-    /// Stores a claim's JSON and a validator, as `put_validator` does, and lends the parser back.
-    pub fn validate_claim<C: PasetoClaim>(
-        &mut self,
-        claim: &C,
-        validator: B,
-    ) -> Result<&mut Self, GenericParserError>
-        ensures lent { IfOk result (λ parser. parser.ghost_name ≡ self.entry.ghost_name) }
-        ensures ok { IfOk result (λ made. IsStored (C.key claim.now) (C.json claim.now) (with_both (Boxed validator))
-            (rules_of self.entry.now.parser.checks) (rules_of made.now.parser.checks)) }
-        ensures moment { IfOk result (λ made. made.now.parser.moment ≡ self.entry.now.parser.moment) }
-        ensures footer { IfOk result (λ made. made.now.parser.footer ≡ self.entry.now.parser.footer) }
-        ensures implicit_assertion { IfOk result (λ made. made.now.parser.implicit_assertion ≡ self.entry.now.parser.implicit_assertion) }
-        ensures fault { IfErr result (IsRefusal (fault_in (whole_answer (C.key claim.now) (C.json claim.now)))) }
-    {
-        self.put_validator(claim, validator)?;
-        Ok(self)
-    }
-
     /// Sets the footer, the empty one too, and keeps the rest. No memory is taken.
     pub fn set_footer(&mut self, footer: Footer<'a>) -> &mut Self
         ensures lent { result.ghost_name ≡ self.entry.ghost_name }
@@ -160,6 +89,45 @@ impl<'a, V: VersionTrait, P: PurposeTrait, B: Drop> DefaultParser<'a, V, P, B> {
     {
         self.parser.set_footer(footer);
         self
+    }
+}
+
+impl<'a, V: VersionTrait, P: PurposeTrait, B: Drop> CheckSetter<B> for DefaultParser<'a, V, P, B> {
+    ghost rules = { λ made. rules_of made.parser.checks };
+
+    ghost moment = { λ made. made.parser.moment };
+
+    ghost is_rest = { λ made other. (made.parser.footer ≡ other.parser.footer)
+        × (made.parser.implicit_assertion ≡ other.parser.implicit_assertion) };
+
+    fn put_check<C: PasetoClaim>(&mut self, claim: &C) -> Result<(), GenericParserError> {
+        self.parser.put_check(claim)
+    }
+
+    fn put_validator<C: PasetoClaim>(
+        &mut self,
+        claim: &C,
+        validator: B,
+    ) -> Result<(), GenericParserError> {
+        self.parser.put_validator(claim, validator)
+    }
+
+    fn put_checks(&mut self, claims: BTreeMap<String, Value>) -> Result<(), GenericParserError> {
+        self.parser.put_checks(claims)
+    }
+
+    fn put_validators(&mut self, validators: BTreeMap<String, B>) -> Result<(), GenericParserError>
+        ensures ok { OnOk result (AreSame (rules_of self.new.parser.checks) (all_judged (judges_of validators.entries) (rules_of self.old.parser.checks))) }
+        ensures moment { self.new.parser.moment ≡ self.old.parser.moment }
+        ensures rest { (self.new.parser.footer ≡ self.old.parser.footer) × (self.new.parser.implicit_assertion ≡ self.old.parser.implicit_assertion) }
+        ensures err { OnErr result (AreSame (rules_of self.new.parser.checks) (rules_of self.old.parser.checks)) }
+        ensures fault { IfErr result IsMemory }
+    {
+        self.parser.put_validators(validators)
+    }
+
+    fn put_times(&mut self, now: Timestamp) -> Result<(), GenericParserError> {
+        self.parser.put_times(now)
     }
 }
 

@@ -2,5 +2,7 @@
 
 mod claims;
 mod generic_builder;
+mod setter;
 
 pub use generic_builder::{GenericBuilder, UnboxedVersion};
+pub use setter::ClaimSetter;

@@ -14,14 +14,16 @@
 
 mod builders;
 mod error;
+mod itself;
 pub mod laws;
 mod parsers;
 mod validator;
 mod whole;
 
-pub use builders::{GenericBuilder, UnboxedVersion};
+pub use builders::{ClaimSetter, GenericBuilder, UnboxedVersion};
 pub use error::{GenericBuilderError, GenericParserError};
-pub use parsers::{GenericParser, TokenParser};
+pub use itself::Itself;
+pub use parsers::{CheckSetter, GenericParser, TokenParser};
 pub use rusty_paseto_claims::{
     Audience, AudienceClaim, ClaimValue, CustomClaim, DateClaim, Expiration, ExpirationClaim,
     IssuedAt, IssuedAtClaim, Issuer, IssuerClaim, NotBefore, NotBeforeClaim, PasetoClaim,

@@ -5,7 +5,9 @@ mod generic_parser;
 mod judge;
 mod parsing;
 mod reading;
+mod setter;
 mod times;
 mod walk;
 
 pub use generic_parser::{GenericParser, TokenParser};
+pub use setter::CheckSetter;

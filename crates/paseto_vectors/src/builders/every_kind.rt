@@ -11,7 +11,7 @@ use rusty_paseto_core::{
     Footer, ImplicitAssertion, ImplicitAssertionCapable, Local, Public, PurposeTrait, Signs, V1,
     V2, V3, V4, VersionTrait,
 };
-use rusty_paseto_generic::{GenericBuilder, GenericBuilderError, UnboxedVersion};
+use rusty_paseto_generic::{ClaimSetter, GenericBuilder, GenericBuilderError, UnboxedVersion};
 use std::alloc::Global;
 use std::process::Abort;
 

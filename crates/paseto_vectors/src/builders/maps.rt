@@ -1,7 +1,7 @@
 //! Many maps, which are read back as they were stored.
 
 use rusty_paseto_core::{Local, V4};
-use rusty_paseto_generic::GenericBuilder;
+use rusty_paseto_generic::{ClaimSetter, GenericBuilder};
 use serde_json::{Map, Value};
 use std::alloc::Global;
 use std::process::Abort;

@@ -4,7 +4,7 @@ use crate::expect::expect_text;
 use crate::parsers::steps::values_of;
 use rusty_paseto_claims::{AudienceClaim, ClaimValue, CustomClaim, PasetoClaim};
 use rusty_paseto_core::{Local, PurposeTrait, V4, VersionTrait};
-use rusty_paseto_generic::GenericBuilder;
+use rusty_paseto_generic::{ClaimSetter, GenericBuilder};
 use serde_json::Value;
 use std::alloc::Global;
 use std::process::Abort;

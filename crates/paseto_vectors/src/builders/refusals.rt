@@ -8,7 +8,7 @@ use crate::builders::payloads::{check, put};
 use crate::parsers::steps::{custom, values_of};
 use rusty_paseto_claims::{AudienceClaim, PasetoClaim, PasetoClaimError};
 use rusty_paseto_core::{Local, V4};
-use rusty_paseto_generic::{GenericBuilder, GenericBuilderError};
+use rusty_paseto_generic::{ClaimSetter, GenericBuilder, GenericBuilderError};
 use serde_json::Value;
 use std::alloc::Global;
 use std::process::Abort;

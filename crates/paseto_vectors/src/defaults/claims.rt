@@ -1,11 +1,13 @@
 //! What default builders are told to set, and default parsers to check.
 
 use crate::parsers::steps::custom;
+use rusty_paseto::CountingSetter;
 use rusty_paseto::prelude::{
     AudienceClaim, DateClaim, Expiration, GenericBuilderError, GenericParserError, IssuedAt,
     IssuerClaim, NotBefore, PasetoBuilder, PasetoClaim, PasetoParser, PurposeTrait, ReservedKey,
     SubjectClaim, TokenIdentifierClaim, VersionTrait,
 };
+use rusty_paseto_generic::CheckSetter;
 use std::alloc::Global;
 use std::process::Abort;
 

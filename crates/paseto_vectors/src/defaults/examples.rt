@@ -7,10 +7,12 @@ use crate::defaults::rows::{NONE, Row, USUAL, check_rows, told};
 use crate::expect::expect_text;
 use crate::kinds::{Binding, Kind, SECRET, symmetric_key};
 use paseto_toys::generators::Zeros;
+use rusty_paseto::CountingSetter;
 use rusty_paseto::prelude::{
     CustomClaim, ExpirationClaim, Footer, ImplicitAssertion, Local, PasetoBuilder, PasetoParser,
     SubjectClaim, V4,
 };
+use rusty_paseto_generic::CheckSetter;
 use std::alloc::Global;
 use std::process::Abort;
 

@@ -10,6 +10,7 @@ use paseto_toys::ToyV4;
 use paseto_toys::counting::{Calls, Counting};
 use paseto_toys::generators::{Failing, Zeros};
 use paseto_toys::keys::{Keys, ToyVersion};
+use rusty_paseto::CountingSetter;
 use rusty_paseto::prelude::{
     AudienceClaim, GenericBuilderError, Local, PasetoBuilder, PasetoError, Public, PurposeTrait,
     V4, VersionTrait,

@@ -6,7 +6,7 @@ use crate::parsers::kinds::{Answer, Expected, told};
 use crate::parsers::steps::custom;
 use paseto_toys::generators::Zeros;
 use rusty_paseto_core::{Local, V4};
-use rusty_paseto_generic::{GenericBuilder, GenericParser};
+use rusty_paseto_generic::{ClaimSetter, GenericBuilder, GenericParser};
 use std::alloc::Global;
 use std::process::Abort;
 

@@ -4,7 +4,7 @@ use crate::kinds::{Binding, Kind, SECRET, symmetric_key};
 use crate::parsers::steps::{Rule, custom, map_of, values_of};
 use rusty_paseto_claims::PasetoClaimError;
 use rusty_paseto_core::{Local, V4};
-use rusty_paseto_generic::{GenericParser, GenericParserError};
+use rusty_paseto_generic::{CheckSetter, GenericParser, GenericParserError};
 use serde_json::Value;
 use std::alloc::Global;
 use std::collections::BTreeMap;

@@ -3,7 +3,7 @@
 use crate::parsers::validators::{Accepts, RefusesNull, Tells};
 use rusty_paseto_claims::{AudienceClaim, CustomClaim, PasetoClaim};
 use rusty_paseto_core::{PurposeTrait, VersionTrait};
-use rusty_paseto_generic::{GenericParser, GenericParserError, ValidatorFn};
+use rusty_paseto_generic::{CheckSetter, GenericParser, GenericParserError, ValidatorFn};
 use serde_json::Value;
 use std::alloc::Global;
 use std::collections::BTreeMap;

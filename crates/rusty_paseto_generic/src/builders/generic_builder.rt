@@ -1,18 +1,18 @@
 //! The builder of tokens of every version and purpose.
 
-ghost use Rattle.std.specs.Prelude.{◌≡◌, ◌⊎◌, None, Some, [], IsOk, IfOk, IfErr, OnOk, OnErr, is_some, string_bytes};
+ghost use Rattle.std.specs.Prelude.{◌≡◌, ◌⊎◌, None, Some, IfOk, IfErr, OnOk, is_some, string_bytes};
 ghost use Rattle.serde_json.specs.Data.{no_members};
 ghost use Rattle.serde_json.specs.Find.{get_member};
-ghost use Rattle.serde_json.specs.View.{members_view};
 ghost use Rattle.rusty_paseto_core.specs.Context.{binding_of};
 ghost use Rattle.rusty_paseto_core.specs.Payload.{payload_text};
 ghost use Rattle.rusty_paseto_core.specs.Public.{HasPrivateLength};
 ghost use Rattle.rusty_paseto_generic.specs.Error.{IsMemory, IsOfBox, IsOfGenerator};
-ghost use Rattle.rusty_paseto_generic.specs.Builders.Claims.{IsReadBack, IsRefusal, becomes, claim_set, extended, payload, without};
+ghost use Rattle.rusty_paseto_generic.specs.Builders.Claims.{IsReadBack, payload, without};
 ghost use Rattle.rusty_paseto_generic.specs.Builders.Held.{held};
 ghost use Rattle.rusty_paseto_generic.specs.Builders.GenericBuilder.{IsBoxAnswer, IsSealed, IsSignAnswer};
 
 use crate::builders::claims::Claims;
+use crate::builders::setter::ClaimSetter;
 use crate::error::GenericBuilderError;
 use rand_core::TryRng;
 use rusty_paseto_claims::PasetoClaim;
@@ -79,67 +79,6 @@ impl<'a, V: VersionTrait, P: PurposeTrait> GenericBuilder<'a, V, P> {
         GenericBuilder::new(alloc)
     }
 
-    /// Stores a claim under its key: the value of an object whose only key is the claim's, as the claims of
-    /// this library answer it, and else the claim's JSON as it is. A key that is there gets the new value.
-    /// The empty key changes nothing, and the claim is then not asked for its JSON.
-    ///
-    /// `ClaimError` comes for a value that holds another number than a whole one of 64 bits, `Unexpected`
-    /// with the key, and for a fault of the claim. The builder is then unchanged.
-    pub fn put_claim<C: PasetoClaim>(&mut self, claim: &C) -> Result<(), GenericBuilderError>
-        ensures ok { OnOk result (claim_set (C.key claim.now) (C.json claim.now) (held self.old.claims)
-            ≡ becomes (held self.new.claims)) }
-        ensures rest { self.new.paseto ≡ self.old.paseto }
-        ensures err { OnErr result (held self.new.claims ≡ held self.old.claims) }
-        ensures fault { IfErr result (IsRefusal (claim_set (C.key claim.now) (C.json claim.now) (held self.old.claims))) }
-        ensures empty { C.key claim.now ≡ [] → IsOk result }
-    {
-        self.claims.set(claim)
-    }
-
-    /// Stores a claim, as `put_claim` does, and lends the builder back.
-    pub fn set_claim<C: PasetoClaim>(&mut self, claim: &C) -> Result<&mut Self, GenericBuilderError>
-        ensures lent { IfOk result (λ builder. builder.ghost_name ≡ self.entry.ghost_name) }
-        ensures ok { IfOk result (λ builder. claim_set (C.key claim.now) (C.json claim.now) (held self.entry.now.claims)
-            ≡ becomes (held builder.now.claims)) }
-        ensures rest { IfOk result (λ builder. builder.now.paseto ≡ self.entry.now.paseto) }
-        ensures fault { IfErr result
-            (IsRefusal (claim_set (C.key claim.now) (C.json claim.now) (held self.entry.now.claims))) }
-        ensures empty { C.key claim.now ≡ [] → IsOk result }
-    {
-        self.put_claim(claim)?;
-        Ok(self)
-    }
-
-    /// Stores all values as they are, each under its key, the empty one too. Keys that are there get the
-    /// new values.
-    ///
-    /// `ClaimError` of `Unexpected` with the key comes for the first key in byte order whose value holds
-    /// another number than a whole one of 64 bits. None of the values is then stored.
-    pub fn put_claims(&mut self, claims: BTreeMap<String, Value>) -> Result<(), GenericBuilderError>
-        ensures ok { OnOk result (extended (members_view claims.entries) (held self.old.claims)
-            ≡ becomes (held self.new.claims)) }
-        ensures rest { self.new.paseto ≡ self.old.paseto }
-        ensures err { OnErr result (held self.new.claims ≡ held self.old.claims) }
-        ensures fault { IfErr result (IsRefusal (extended (members_view claims.entries) (held self.old.claims))) }
-    {
-        self.claims.extend(claims)
-    }
-
-    /// Stores all values, as `put_claims` does, and lends the builder back.
-    pub fn extend_claims(
-        &mut self,
-        claims: BTreeMap<String, Value>,
-    ) -> Result<&mut Self, GenericBuilderError>
-        ensures lent { IfOk result (λ builder. builder.ghost_name ≡ self.entry.ghost_name) }
-        ensures ok { IfOk result (λ builder. extended (members_view claims.entries) (held self.entry.now.claims)
-            ≡ becomes (held builder.now.claims)) }
-        ensures rest { IfOk result (λ builder. builder.now.paseto ≡ self.entry.now.paseto) }
-        ensures fault { IfErr result (IsRefusal (extended (members_view claims.entries) (held self.entry.now.claims))) }
-    {
-        self.put_claims(claims)?;
-        Ok(self)
-    }
-
     /// Takes out the claim under the key, where there is one. No memory is taken.
     pub fn remove_claim(&mut self, key: &str) -> &mut Self
         ensures lent { result.ghost_name ≡ self.entry.ghost_name }
@@ -188,6 +127,20 @@ impl<'a, V: VersionTrait, P: PurposeTrait> GenericBuilder<'a, V, P> {
         let mut paseto = self.lent();
         paseto.set_payload(Payload::from(text));
         paseto
+    }
+}
+
+impl<'a, V: VersionTrait, P: PurposeTrait> ClaimSetter for GenericBuilder<'a, V, P> {
+    ghost claims = { λ builder. held builder.claims };
+
+    ghost is_rest = { λ builder other. builder.paseto ≡ other.paseto };
+
+    fn put_claim<C: PasetoClaim>(&mut self, claim: &C) -> Result<(), GenericBuilderError> {
+        self.claims.set(claim)
+    }
+
+    fn put_claims(&mut self, claims: BTreeMap<String, Value>) -> Result<(), GenericBuilderError> {
+        self.claims.extend(claims)
     }
 }
 

@@ -16,8 +16,9 @@ ghost use Rattle.rusty_paseto_generic.specs.Parsers.Rules.{AreSame, IsStored, al
 
 use crate::builders::UnboxedVersion;
 use crate::error::GenericParserError;
-use crate::parsers::checks::{Checks, Judge};
+use crate::parsers::checks::Checks;
 use crate::parsers::parsing::parse_opened;
+use crate::parsers::setter::CheckSetter;
 use crate::validator::ValidatorFn;
 use jiff::Timestamp;
 use rusty_paseto_claims::PasetoClaim;
@@ -89,183 +90,6 @@ impl<'a, V: VersionTrait, P: PurposeTrait, B: Drop> TokenParser<'a, V, P, B> {
         TokenParser::new(alloc)
     }
 
-    /// Stores a claim's JSON, as it is, under its key, the empty one too: `parse` then asks that the token's
-    /// value under the key is there and is the same as the JSON's entry under the key. A key that is there gets
-    /// the new value and keeps its validator.
-    ///
-    /// `ClaimError` comes for a value that holds another number than a whole one of 64 bits, `Unexpected`
-    /// with the key, and for a fault of the claim. The parser is then unchanged.
-    pub fn put_check<C: PasetoClaim>(&mut self, claim: &C) -> Result<(), GenericParserError>
-        ensures ok { OnOk result (IsStored (C.key claim.now) (C.json claim.now) with_stored
-            (rules_of self.old.checks) (rules_of self.new.checks)) }
-        ensures moment { self.new.moment ≡ self.old.moment }
-        ensures footer { self.new.footer ≡ self.old.footer }
-        ensures implicit_assertion { self.new.implicit_assertion ≡ self.old.implicit_assertion }
-        ensures err { OnErr result (AreSame (rules_of self.new.checks) (rules_of self.old.checks)) }
-        ensures fault { IfErr result (IsRefusal (fault_in (whole_answer (C.key claim.now) (C.json claim.now)))) }
-    {
-        self.checks.store(claim)
-    }
-
-    /// Stores a claim's JSON, as `put_check` does, and lends the parser back.
-    pub fn check_claim<C: PasetoClaim>(
-        &mut self,
-        claim: &C,
-    ) -> Result<&mut Self, GenericParserError>
-        ensures lent { IfOk result (λ parser. parser.ghost_name ≡ self.entry.ghost_name) }
-        ensures ok { IfOk result (λ parser. IsStored (C.key claim.now) (C.json claim.now) with_stored
-            (rules_of self.entry.now.checks) (rules_of parser.now.checks)) }
-        ensures moment { IfOk result (λ parser. parser.now.moment ≡ self.entry.now.moment) }
-        ensures footer { IfOk result (λ parser. parser.now.footer ≡ self.entry.now.footer) }
-        ensures implicit_assertion { IfOk result (λ parser. parser.now.implicit_assertion ≡ self.entry.now.implicit_assertion) }
-        ensures fault { IfErr result (IsRefusal (fault_in (whole_answer (C.key claim.now) (C.json claim.now)))) }
-    {
-        self.put_check(claim)?;
-        Ok(self)
-    }
-
-    /// Stores a claim's JSON, as `put_check` does, and a validator, which from now on judges the key alone. A
-    /// key that is there gets the new ones.
-    ///
-    /// `ClaimError` comes as in `put_check`. The validator is then dropped, and the parser is unchanged.
-    pub fn put_validator<C: PasetoClaim>(
-        &mut self,
-        claim: &C,
-        validator: B,
-    ) -> Result<(), GenericParserError>
-        ensures ok { OnOk result (IsStored (C.key claim.now) (C.json claim.now) (with_both (Judge.Boxed validator))
-            (rules_of self.old.checks) (rules_of self.new.checks)) }
-        ensures moment { self.new.moment ≡ self.old.moment }
-        ensures footer { self.new.footer ≡ self.old.footer }
-        ensures implicit_assertion { self.new.implicit_assertion ≡ self.old.implicit_assertion }
-        ensures err { OnErr result (AreSame (rules_of self.new.checks) (rules_of self.old.checks)) }
-        ensures fault { IfErr result (IsRefusal (fault_in (whole_answer (C.key claim.now) (C.json claim.now)))) }
-    {
-        self.checks.store_judged(claim, validator)
-    }
-
-    /// Stores a claim's JSON and a validator, as `put_validator` does, and lends the parser back.
-    pub fn validate_claim<C: PasetoClaim>(
-        &mut self,
-        claim: &C,
-        validator: B,
-    ) -> Result<&mut Self, GenericParserError>
-        ensures lent { IfOk result (λ parser. parser.ghost_name ≡ self.entry.ghost_name) }
-        ensures ok { IfOk result (λ parser. IsStored (C.key claim.now) (C.json claim.now) (with_both (Judge.Boxed validator))
-            (rules_of self.entry.now.checks) (rules_of parser.now.checks)) }
-        ensures moment { IfOk result (λ parser. parser.now.moment ≡ self.entry.now.moment) }
-        ensures footer { IfOk result (λ parser. parser.now.footer ≡ self.entry.now.footer) }
-        ensures implicit_assertion { IfOk result (λ parser. parser.now.implicit_assertion ≡ self.entry.now.implicit_assertion) }
-        ensures fault { IfErr result (IsRefusal (fault_in (whole_answer (C.key claim.now) (C.json claim.now)))) }
-    {
-        self.put_validator(claim, validator)?;
-        Ok(self)
-    }
-
-    /// Stores all values as they are, each under its key, as `put_check` does for a claim's JSON.
-    ///
-    /// `ClaimError` of `Unexpected` with the key comes for the first key in byte order whose value holds
-    /// another number than a whole one of 64 bits. None of the values is then stored.
-    pub fn put_checks(&mut self, claims: BTreeMap<String, Value>) -> Result<(), GenericParserError>
-        ensures ok { OnOk result (AreSame (rules_of self.new.checks) (all_stored (members_view claims.entries) (rules_of self.old.checks))) }
-        ensures whole { OnOk result (first_odd (members_view claims.entries) ≡ None) }
-        ensures moment { self.new.moment ≡ self.old.moment }
-        ensures footer { self.new.footer ≡ self.old.footer }
-        ensures implicit_assertion { self.new.implicit_assertion ≡ self.old.implicit_assertion }
-        ensures err { OnErr result (AreSame (rules_of self.new.checks) (rules_of self.old.checks)) }
-        ensures fault { IfErr result (IsRefusal (odd_fault (members_view claims.entries))) }
-    {
-        self.checks.store_all(claims)
-    }
-
-    /// Stores all values, as `put_checks` does, and lends the parser back.
-    pub fn extend_check_claims(
-        &mut self,
-        claims: BTreeMap<String, Value>,
-    ) -> Result<&mut Self, GenericParserError>
-        ensures lent { IfOk result (λ parser. parser.ghost_name ≡ self.entry.ghost_name) }
-        ensures ok { IfOk result (λ parser. AreSame (rules_of parser.now.checks)
-            (all_stored (members_view claims.entries) (rules_of self.entry.now.checks))) }
-        ensures whole { OnOk result (first_odd (members_view claims.entries) ≡ None) }
-        ensures moment { IfOk result (λ parser. parser.now.moment ≡ self.entry.now.moment) }
-        ensures footer { IfOk result (λ parser. parser.now.footer ≡ self.entry.now.footer) }
-        ensures implicit_assertion { IfOk result (λ parser. parser.now.implicit_assertion ≡ self.entry.now.implicit_assertion) }
-        ensures fault { IfErr result (IsRefusal (odd_fault (members_view claims.entries))) }
-    {
-        self.put_checks(claims)?;
-        Ok(self)
-    }
-
-    /// Stores all validators, each under its key, which from now on they judge alone. A key that is there
-    /// gets the new validator and keeps its stored value. Nothing but memory is refused, and none of the
-    /// validators is then stored.
-    pub fn put_validators(
-        &mut self,
-        validators: BTreeMap<String, B>,
-    ) -> Result<(), GenericParserError>
-        ensures ok { OnOk result (AreSame (rules_of self.new.checks) (all_judged (judges_of validators.entries) (rules_of self.old.checks))) }
-        ensures moment { self.new.moment ≡ self.old.moment }
-        ensures footer { self.new.footer ≡ self.old.footer }
-        ensures implicit_assertion { self.new.implicit_assertion ≡ self.old.implicit_assertion }
-        ensures err { OnErr result (AreSame (rules_of self.new.checks) (rules_of self.old.checks)) }
-        ensures fault { IfErr result IsMemory }
-    {
-        Ok(self.checks.judge_all(validators)?)
-    }
-
-    /// Stores all validators, as `put_validators` does, and lends the parser back.
-    pub fn extend_validation_claims(
-        &mut self,
-        validators: BTreeMap<String, B>,
-    ) -> Result<&mut Self, GenericParserError>
-        ensures lent { IfOk result (λ parser. parser.ghost_name ≡ self.entry.ghost_name) }
-        ensures ok { IfOk result (λ parser. AreSame (rules_of parser.now.checks)
-            (all_judged (judges_of validators.entries) (rules_of self.entry.now.checks))) }
-        ensures moment { IfOk result (λ parser. parser.now.moment ≡ self.entry.now.moment) }
-        ensures footer { IfOk result (λ parser. parser.now.footer ≡ self.entry.now.footer) }
-        ensures implicit_assertion { IfOk result (λ parser. parser.now.implicit_assertion ≡ self.entry.now.implicit_assertion) }
-        ensures fault { IfErr result IsMemory }
-    {
-        self.put_validators(validators)?;
-        Ok(self)
-    }
-
-    /// Stores `exp` and `nbf` with their claims by default, sets what judges them alone from now on, and the
-    /// moment at which it does. A key that is there gets the new ones.
-    ///
-    /// `parse` then skips a value that is missing or null. Another one that is no text is `Unexpected` with the
-    /// key, and a text from which `jiff` reads no `Timestamp` is `RFC3339Date` with the text. A token is `Expired`
-    /// where the instant under `exp` is at or before the moment, and `UseBeforeAvailable`, with the text, where
-    /// the one under `nbf` is at or after it. Nothing but memory is refused, and the parser is then unchanged.
-    ///
-    /// Source: PASETO specification, "Registered Claims"; RFC 3339, section 5.6.
-    pub fn put_times(&mut self, moment: Timestamp) -> Result<(), GenericParserError>
-        ensures ok { OnOk result (AreSame (rules_of self.new.checks) (with_times (rules_of self.old.checks))) }
-        ensures moment { OnOk result (self.new.moment ≡ moment) }
-        ensures footer { self.new.footer ≡ self.old.footer }
-        ensures implicit_assertion { self.new.implicit_assertion ≡ self.old.implicit_assertion }
-        ensures err { OnErr result (AreSame (rules_of self.new.checks) (rules_of self.old.checks)) }
-        ensures kept { OnErr result (self.new.moment ≡ self.old.moment) }
-        ensures fault { IfErr result IsMemory }
-    {
-        self.checks.judge_times()?;
-        self.moment = moment;
-        Ok(())
-    }
-
-    /// Checks the times at a moment, as `put_times` does, and lends the parser back.
-    pub fn check_times(&mut self, now: Timestamp) -> Result<&mut Self, GenericParserError>
-        ensures lent { IfOk result (λ parser. parser.ghost_name ≡ self.entry.ghost_name) }
-        ensures ok { IfOk result (λ parser. AreSame (rules_of parser.now.checks) (with_times (rules_of self.entry.now.checks))) }
-        ensures moment { IfOk result (λ parser. parser.now.moment ≡ now) }
-        ensures footer { IfOk result (λ parser. parser.now.footer ≡ self.entry.now.footer) }
-        ensures implicit_assertion { IfOk result (λ parser. parser.now.implicit_assertion ≡ self.entry.now.implicit_assertion) }
-        ensures fault { IfErr result IsMemory }
-    {
-        self.put_times(now)?;
-        Ok(self)
-    }
-
     /// Sets the moment at which the times are judged, and keeps the rest. It changes no answer of a parser that
     /// checks no times. No memory is taken.
     pub fn set_now(&mut self, now: Timestamp) -> &mut Self
@@ -291,6 +115,46 @@ impl<'a, V: VersionTrait, P: PurposeTrait, B: Drop> TokenParser<'a, V, P, B> {
     {
         self.footer = Some(footer);
         self
+    }
+}
+
+impl<'a, V: VersionTrait, P: PurposeTrait, B: Drop> CheckSetter<B> for TokenParser<'a, V, P, B> {
+    ghost rules = { λ parser. rules_of parser.checks };
+
+    ghost moment = { λ parser. parser.moment };
+
+    ghost is_rest = { λ parser other. (parser.footer ≡ other.footer) × (parser.implicit_assertion ≡ other.implicit_assertion) };
+
+    fn put_check<C: PasetoClaim>(&mut self, claim: &C) -> Result<(), GenericParserError> {
+        self.checks.store(claim)
+    }
+
+    fn put_validator<C: PasetoClaim>(
+        &mut self,
+        claim: &C,
+        validator: B,
+    ) -> Result<(), GenericParserError> {
+        self.checks.store_judged(claim, validator)
+    }
+
+    fn put_checks(&mut self, claims: BTreeMap<String, Value>) -> Result<(), GenericParserError> {
+        self.checks.store_all(claims)
+    }
+
+    fn put_validators(&mut self, validators: BTreeMap<String, B>) -> Result<(), GenericParserError>
+        ensures ok { OnOk result (AreSame (rules_of self.new.checks) (all_judged (judges_of validators.entries) (rules_of self.old.checks))) }
+        ensures moment { self.new.moment ≡ self.old.moment }
+        ensures rest { (self.new.footer ≡ self.old.footer) × (self.new.implicit_assertion ≡ self.old.implicit_assertion) }
+        ensures err { OnErr result (AreSame (rules_of self.new.checks) (rules_of self.old.checks)) }
+        ensures fault { IfErr result IsMemory }
+    {
+        Ok(self.checks.judge_all(validators)?)
+    }
+
+    fn put_times(&mut self, moment: Timestamp) -> Result<(), GenericParserError> {
+        self.checks.judge_times()?;
+        self.moment = moment;
+        Ok(())
     }
 }
 

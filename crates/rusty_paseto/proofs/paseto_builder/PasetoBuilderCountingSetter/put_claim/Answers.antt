@@ -2,7 +2,7 @@ use Rattle.std.proofs.Common.{◌≡◌, true, string_bytes, sym, subst, ◌∙�
 use Rattle.rusty_paseto.specs.Held.{counting}
 use Rattle.rusty_paseto.specs.PasetoBuilder.{IsSame, counted}
 use Rattle.rusty_paseto.proofs.KeyLemmas.{repeated_again}
-use Rattle.rusty_paseto.proofs.paseto_builder.PasetoBuilder.put_claim.Goals as goal
+use Rattle.rusty_paseto.proofs.paseto_builder.PasetoBuilderCountingSetter.put_claim.Goals as goal
 
 pub returns-then-has-clause-keys : goal.returns-then-has-clause-keys
 returns-then-has-clause-keys g c =
