@@ -5,6 +5,9 @@ use rusty_paseto_core::{
     Key, Local, PasetoAsymmetricPrivateKey, PasetoAsymmetricPublicKey, PasetoError, PasetoNonce,
     PasetoSymmetricKey, Public, V1, V2, V3, V4,
 };
+use std::alloc::Global;
+use std::fmt;
+use std::process::Abort;
 
 #[test]
 fn digits_of_either_case(rt: HostRuntime) {
@@ -51,11 +54,38 @@ fn a_key_of_zeros(rt: HostRuntime) {
     expect_bytes(&rt, key.as_bytes().as_slice(), &[0, 0, 0]);
 }
 
+// What is told of a key is this.
+fn check_told(rt: &impl Abort, alloc: Global, key: &impl fmt::Debug, expected: &str) {
+    let told = format!(in alloc; "{key:?}").expect(rt, "memory");
+    expect_text(rt, told.as_str(), expected);
+}
+
 #[test]
 fn no_byte_is_told(rt: HostRuntime) {
     let key = Key::<32>::from(bytes_of());
-    let told = format!(in rt.alloc(); "{key:?}").expect(&rt, "memory");
-    expect_text(&rt, told.as_str(), "!!! KEY IS PRIVATE !!!");
+    let long = Key::<64>::from(bytes_of());
+    let symmetric = PasetoSymmetricKey::<V4, Local>::from(key.clone());
+    let private = PasetoAsymmetricPrivateKey::<V4, Public>::from(&long);
+    let public = PasetoAsymmetricPublicKey::<V4, Public>::from(&key);
+    let nonce = PasetoNonce::<V4, Local>::from(&key);
+    check_told(&rt, rt.alloc(), &key, "!!! KEY IS PRIVATE !!!");
+    check_told(&rt, rt.alloc(), &symmetric, "!!! KEY IS PRIVATE !!!");
+    check_told(&rt, rt.alloc(), &private, "!!! KEY IS PRIVATE !!!");
+    check_told(&rt, rt.alloc(), &public, "PasetoAsymmetricPublicKey { .. }");
+    check_told(&rt, rt.alloc(), &nonce, "PasetoNonce { .. }");
+}
+
+// A clone has the same bytes.
+#[test]
+fn cloned(rt: HostRuntime) {
+    let key = Key::<32>::from(bytes_of());
+    let long = Key::<64>::from(bytes_of());
+    let symmetric = PasetoSymmetricKey::<V4, Local>::from(key.clone()).clone();
+    expect_bytes(&rt, symmetric.as_bytes().as_slice(), &bytes_of::<32>());
+    let private = PasetoAsymmetricPrivateKey::<V4, Public>::from(&long).clone();
+    expect_bytes(&rt, private.as_bytes(), &bytes_of::<64>());
+    let public = PasetoAsymmetricPublicKey::<V4, Public>::from(&key).clone();
+    expect_bytes(&rt, public.as_bytes(), &bytes_of::<32>());
 }
 
 #[test]

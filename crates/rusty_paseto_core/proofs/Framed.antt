@@ -4,11 +4,12 @@ use Rattle.std.proofs.lemmas.List.{append-nil}
 use Rattle.std.specs.List.{join_with_byte}
 use Rattle.std.proofs.lemmas.List.Splits.{join_with_byte-slice_split}
 use Rattle.rusty_paseto_primitives.specs.Bytes.{IsBytes}
+use Rattle.rusty_paseto_parts.specs.Error.{IsMemory}
 use Rattle.rusty_paseto_parts.specs.Section.{HasCount, spelling, sections}
 use Rattle.rusty_paseto_parts.specs.declared.error.PasetoError.{PasetoError}
-use Rattle.rusty_paseto_parts.specs.declared.error.PasetoError.TheVariants.{IncorrectSize, WrongHeader, FooterInvalid, PayloadBase64Decode}
+use Rattle.rusty_paseto_parts.specs.declared.error.PasetoError.TheVariants.{IncorrectSize, Memory, WrongHeader, FooterInvalid, PayloadBase64Decode}
 use Rattle.rusty_paseto_core.specs.Framing.{IsHeader, footer_part, framing}
-use Rattle.rusty_paseto_core.specs.Reading.{HasFooter, HasHeader, IsForm, IsFramed, IsFramingFault, Spells}
+use Rattle.rusty_paseto_core.specs.Reading.{HasFooter, HasHeader, IsForm, IsFramed, IsFramingFault, IsThirdFault, Spells}
 use Rattle.rusty_paseto_parts.proofs.SectionLemmas.{HasNoDot-spelling, spelling-injective, sections-dot, sections-dotless}
 
 regroup : (version purpose section rest : List ℕ)
@@ -96,11 +97,21 @@ pub IsFramed-payload : (version purpose footer token a b : List ℕ) → IsFrame
 IsFramed-payload version purpose footer token a b fa fb =
     spelling-injective a b fa.bytes fb.bytes (same_spelling a b (sections token) fa.spells fb.spells)
 
+third_spells : (payload : List ℕ) (error : PasetoError) (parts : List (List ℕ)) → IsBytes payload → Spells payload parts
+    → ¬ IsMemory error → IsThirdFault parts error → ⊥
+third_spells payload error [] bytes spells own fault = fault
+third_spells payload error (_ ∷ []) bytes spells own fault = fault
+third_spells payload error (_ ∷ _ ∷ []) bytes spells own fault = fault
+third_spells payload (Memory _) (_ ∷ _ ∷ section ∷ _) bytes spells own fault = own tt
+third_spells payload (PayloadBase64Decode _) (_ ∷ _ ∷ section ∷ _) bytes spells own fault = fault.0 payload bytes spells
+third_spells payload _ (_ ∷ _ ∷ section ∷ _) bytes spells own fault = fault
+
 -- what is framed has no fault of the framing
 pub IsFramed-fault : (version purpose footer token payload : List ℕ) (error : PasetoError) → IsFramed version purpose footer token payload
     → IsFramingFault version purpose footer token error → ⊥
 IsFramed-fault version purpose footer token payload IncorrectSize f h = h f.count
 IsFramed-fault version purpose footer token payload FooterInvalid f h = h.1 f.footer
 IsFramed-fault version purpose footer token payload WrongHeader f h = h.2 f.header
-IsFramed-fault version purpose footer token payload (PayloadBase64Decode _) f h = h.3 payload f.bytes f.spells
+IsFramed-fault version purpose footer token payload (PayloadBase64Decode source) f h =
+    third_spells payload (PayloadBase64Decode source) (sections token) f.bytes f.spells (λ memory. memory) h.3
 IsFramed-fault version purpose footer token payload _ f h = h

@@ -5,7 +5,7 @@ use Rattle.std.specs.String.{string_bytes}
 use Rattle.rusty_paseto_primitives.specs.Bytes.{IsBytes}
 use Rattle.rusty_paseto_parts.specs.Error.{IsMemory}
 use Rattle.rusty_paseto_parts.specs.Header.{header_text}
-use Rattle.rusty_paseto_parts.specs.Section.{HasCount, sections, spelling}
+use Rattle.rusty_paseto_parts.specs.Section.{HasCount, IsSectionFault, sections, spelling}
 use Rattle.rusty_paseto_parts.specs.declared.error.PasetoError.{PasetoError}
 use Rattle.rusty_paseto_parts.specs.declared.error.PasetoError.TheVariants.{IncorrectSize, WrongHeader, FooterInvalid, PayloadBase64Decode}
 use Rattle.rusty_paseto_core.specs.Framing.{framing}
@@ -49,6 +49,11 @@ pub record IsFramed (version purpose expected token payload : List ℕ) : Type 0
   pub bytes : IsBytes payload
   pub spells : Spells payload (sections token)
 
+-- the error is the fault of the third section, which spells no bytes
+abbrev pub IsThirdFault : List (List ℕ) → PasetoError → Type 0
+IsThirdFault (_ ∷ _ ∷ section ∷ _) error = IsSectionFault section error
+IsThirdFault _ error = ⊥
+
 -- the error is the first fault of the framing, in this order: the number of sections, the footer,
 -- the header, a third section that spells no bytes at all
 abbrev pub IsFramingFault : List ℕ → List ℕ → List ℕ → List ℕ → PasetoError → Type 0
@@ -58,10 +63,10 @@ IsFramingFault version purpose footer token FooterInvalid =
 IsFramingFault version purpose footer token WrongHeader =
     HasCount (sections token) × HasFooter footer (sections token)
     × (¬ HasHeader version purpose (sections token))
-IsFramingFault version purpose footer token (PayloadBase64Decode _) =
+IsFramingFault version purpose footer token (PayloadBase64Decode source) =
     HasCount (sections token) × HasFooter footer (sections token)
     × HasHeader version purpose (sections token)
-    × ((payload : List ℕ) → IsBytes payload → ¬ Spells payload (sections token))
+    × IsThirdFault (sections token) (PayloadBase64Decode source)
 IsFramingFault version purpose footer token _ = ⊥
 
 -- ---- the payload

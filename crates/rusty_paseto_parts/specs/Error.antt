@@ -1,5 +1,8 @@
 -- What is said of errors.
-use Rattle.std.specs.Prelude.{⊤, ℕ, List, codes}
+use Rattle.std.specs.Prelude.{◌≡◌, ⊤, ℕ, List, codes, drop}
+use Rattle.std.specs.declared.str.Utf8Error.{Utf8Error as Utf8Fault}
+use Rattle.std.specs.Str.{error_len, valid_up_to}
+use Rattle.std.specs.Str.Lossy.{utf8_error_len, utf8_valid_len}
 use Rattle.rusty_paseto_parts.specs.declared.error.PasetoError.{PasetoError}
 use Rattle.rusty_paseto_parts.specs.declared.error.PasetoError.TheVariants.{PasetoCipherError', Cryption, InvalidKey, Signature, KeyRejected, Cipher, RsaCipher, ECSDAError, InvalidLength, InvalidSignature, TryFromSlice, IncorrectSize, WrongHeader, FooterInvalid, PayloadBase64Decode, Utf8Error, ChaChaCipherError, Infallibale, FromUtf8Error, Memory}
 
@@ -7,6 +10,11 @@ use Rattle.rusty_paseto_parts.specs.declared.error.PasetoError.TheVariants.{Pase
 abbrev pub IsMemory : PasetoError → Type 0
 IsMemory (Memory _) = ⊤
 IsMemory _ = ⊥
+
+-- what the reading of the bytes as UTF-8 finds: how many of them are text, and how long the fault behind them is
+abbrev pub IsUtf8Fault : List ℕ → Utf8Fault → Type 0
+IsUtf8Fault bytes fault = (valid_up_to fault ≡ utf8_valid_len bytes)
+    × (error_len fault ≡ utf8_error_len (drop (valid_up_to fault) bytes))
 
 -- what each error says
 abbrev pub error_text : PasetoError → List ℕ

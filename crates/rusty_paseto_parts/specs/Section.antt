@@ -1,8 +1,9 @@
 -- The sections of a token's text, and their spelling (PASETO specification, "PASETO Message Format").
-use Rattle.std.specs.Prelude.{◌≡◌, ◌≢◌, ℕ, ◌<◌, ◌≤◌, ◌==◌, List, length, ⊤, All}
+use Rattle.std.specs.Prelude.{◌≡◌, ◌≢◌, ℕ, ◌<◌, ◌≤◌, ◌==◌, List, length, ⊤, All, Err}
 use Rattle.std.specs.List.{slice_split, join_with_byte}
 use Rattle.base64.specs.Engines.{url_safe_no_pad}
-use Rattle.base64.specs.GeneralPurpose.{IsBytes, encode_of}
+use Rattle.base64.specs.GeneralPurpose.{IsBytes, decode_of, encode_of}
+use Rattle.base64.specs.declared.decode.DecodeError.{DecodeError}
 use Rattle.rusty_paseto_parts.specs.declared.error.PasetoError.{PasetoError}
 use Rattle.rusty_paseto_parts.specs.declared.error.PasetoError.TheVariants.{Memory, PayloadBase64Decode}
 
@@ -32,8 +33,12 @@ spelling bytes = encode_of url_safe_no_pad bytes
 abbrev pub IsNoSpelling : List ℕ → Type 0
 IsNoSpelling text = (bytes : List ℕ) → IsBytes bytes → text ≢ spelling bytes
 
+-- what base64's own reading finds wrong with the text
+abbrev pub IsDecodeFault : List ℕ → DecodeError → Type 0
+IsDecodeFault text fault = decode_of url_safe_no_pad text ≡ Err fault
+
 -- the errors of reading a section's text, and when they come
 abbrev pub IsSectionFault : List ℕ → PasetoError → Type 0
 IsSectionFault text (Memory _) = ⊤
-IsSectionFault text (PayloadBase64Decode _) = IsNoSpelling text
+IsSectionFault text (PayloadBase64Decode source) = IsNoSpelling text × IsDecodeFault text source
 IsSectionFault text _ = ⊥

@@ -1,7 +1,9 @@
 -- What stands in a token before it is opened: nothing of it is to be trusted.
 use Rattle.std.specs.Prelude.{◌≡◌, ℕ, List, Option, Some, None, option_map, IfSome, IsUtf8, ⊤}
 use Rattle.std.specs.List.{slice_get}
+use Rattle.std.specs.declared.str.Utf8Error.{Utf8Error as Utf8Fault}
 use Rattle.base64.specs.GeneralPurpose.{IsBytes}
+use Rattle.rusty_paseto_parts.specs.Error.{IsUtf8Fault}
 use Rattle.rusty_paseto_parts.specs.Section.{HasCount, IsSectionFault, spelling}
 use Rattle.rusty_paseto_parts.specs.declared.error.PasetoError.{PasetoError}
 use Rattle.rusty_paseto_parts.specs.declared.error.PasetoError.TheVariants.{IncorrectSize, Utf8Error}
@@ -38,16 +40,17 @@ abbrev pub IsFooterFault : Option (List ℕ) → PasetoError → Type 0
 IsFooterFault (Some section) error = IsSectionFault section error
 IsFooterFault None error = ⊥
 
--- the section spells bytes that are no text
-pub record SpellsNoText (section : List ℕ) : Type 0 where
+-- the section spells bytes that are no text, in which this is found
+pub record SpellsNoText (section : List ℕ) (fault : Utf8Fault) : Type 0 where
   pub footer : List ℕ
   pub bytes : IsBytes footer
   pub spelled : section ≡ spelling footer
   pub no_text : ¬ IsUtf8 footer
+  pub found : IsUtf8Fault footer fault
 
 -- the errors of reading a footer's text, and when they come
 abbrev pub IsFooterTextFault : Option (List ℕ) → PasetoError → Type 0
-IsFooterTextFault (Some section) (Utf8Error _) = SpellsNoText section
+IsFooterTextFault (Some section) (Utf8Error source) = SpellsNoText section source
 IsFooterTextFault section error = IsFooterFault section error
 
 -- the errors of reading the footer's text in a token of these sections, and when they come

@@ -1,11 +1,12 @@
 //! Pre-authentication encoding.
 
-ghost use Rattle.std.specs.Prelude.{◌≡◌, ◌≤◌, ◌^◌, ℕ, List, map, length, IfOk, IfErr, IfSome, IsNone, OnOk};
+ghost use Rattle.std.specs.Prelude.{◌≡◌, ◌≤◌, ◌^◌, ℕ, List, map, length, IfOk, IfErr, IsErr, OnOk};
 ghost use Rattle.rusty_paseto_parts.specs.Error.{IsMemory};
 ghost use Rattle.rusty_paseto_parts.specs.PreAuthenticationEncoding.{pae};
 
 use crate::absorb::Absorb;
 use crate::error::PasetoError;
+use crate::lengths::add_lengths;
 use std::alloc::{AllocError, Global};
 use std::marker::Model;
 
@@ -32,9 +33,7 @@ impl PreAuthenticationEncoding {
         ensures ok { IfOk result (λ encoding. encoding ≡ pae (map (λ piece. piece.now) pieces.now)) }
         ensures err { IfErr result IsMemory }
     {
-        let Some(len) = encoded_len(pieces) else {
-            return Err(PasetoError::Memory(AllocError));
-        };
+        let len = encoded_len(pieces)?;
         let mut bytes = Vec::with_capacity(alloc, len)?;
         absorb_pieces(pieces, &mut bytes)?;
         Ok(PreAuthenticationEncoding { bytes })
@@ -63,14 +62,14 @@ pub fn absorb_pieces<A: Absorb>(pieces: &[&[u8]], absorber: &mut A) -> Result<()
     Ok(())
 }
 
-// How many bytes the encoding has, or `None` exactly where no `usize` holds the number.
-fn encoded_len(pieces: &[&[u8]]) -> Option<usize>
-    ensures some { IfSome result (λ len. len ≡ length (pae (map (λ piece. piece.now) pieces.now))) }
-    ensures none { IsNone result → 2 ^ 64 ≤ length (pae (map (λ piece. piece.now) pieces.now)) }
+// How many bytes the encoding has. It fails exactly where no `usize` holds the number.
+fn encoded_len(pieces: &[&[u8]]) -> Result<usize, AllocError>
+    ensures ok { IfOk result (λ len. len ≡ length (pae (map (λ piece. piece.now) pieces.now))) }
+    ensures err { IsErr result → 2 ^ 64 ≤ length (pae (map (λ piece. piece.now) pieces.now)) }
 {
     let mut len = 8usize;
     'pieces: for piece in pieces {
-        len = len.checked_add(8)?.checked_add(piece.len())?;
+        len = add_lengths(add_lengths(len, 8)?, piece.len())?;
     }
-    Some(len)
+    Ok(len)
 }

@@ -2,7 +2,7 @@
 
 ghost use Rattle.rusty_paseto_claims.specs.Claim.{refuses};
 ghost use Rattle.rusty_paseto_claims.specs.Error.{expired};
-ghost use Rattle.std.specs.Prelude.{codes};
+ghost use Rattle.std.specs.Prelude.{[], codes};
 
 use crate::builders::payloads::{check, put};
 use crate::parsers::steps::{custom, values_of};
@@ -11,6 +11,7 @@ use rusty_paseto_core::{Local, V4};
 use rusty_paseto_generic::{ClaimSetter, GenericBuilder, GenericBuilderError};
 use serde_json::Value;
 use std::alloc::Global;
+use std::cell::Cell;
 use std::process::Abort;
 
 type Builder<'a> = GenericBuilder<'a, V4, Local>;
@@ -29,6 +30,27 @@ impl PasetoClaim for Unwritten {
     }
 
     fn to_json(&self, _alloc: Global) -> Result<Value, PasetoClaimError> {
+        Err(PasetoClaimError::Expired)
+    }
+}
+
+/// A claim with the empty key, which notes whether it was asked for its JSON.
+#[derive(Drop)]
+struct Keyless {
+    is_asked: Cell<bool>,
+}
+
+impl PasetoClaim for Keyless {
+    ghost key = { λ _. [] };
+
+    ghost json = { λ _. refuses expired };
+
+    fn get_key(&self) -> &str {
+        ""
+    }
+
+    fn to_json(&self, _alloc: Global) -> Result<Value, PasetoClaimError> {
+        self.is_asked.set(true);
         Err(PasetoClaimError::Expired)
     }
 }
@@ -97,4 +119,15 @@ fn a_claims_own_fault(rt: HostRuntime) {
     );
     assert!(rt; told);
     check(&rt, &builder, "{}");
+}
+
+#[test]
+fn the_empty_key(rt: HostRuntime) {
+    let mut builder = builder_of_customers(&rt, rt.alloc());
+    let claim = Keyless {
+        is_asked: Cell::new(false),
+    };
+    let answer = builder.put_claim(&claim);
+    assert!(rt; answer.is_ok() && !claim.is_asked.get());
+    check(&rt, &builder, CUSTOMERS);
 }

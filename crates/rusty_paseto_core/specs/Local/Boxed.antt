@@ -4,6 +4,7 @@ use Rattle.std.specs.Prelude.{◌≡◌, ℕ, ◌≤◌, Bool, List, [], ◌∷�
 use Rattle.rusty_paseto_primitives.specs.Blake2.Keyed.{blake2b}
 use Rattle.rusty_paseto_parts.specs.Header.{header_text}
 use Rattle.rusty_paseto_parts.specs.PreAuthenticationEncoding.{pae}
+use Rattle.rusty_paseto_parts.specs.Error.{IsUtf8Fault}
 use Rattle.rusty_paseto_parts.specs.declared.error.PasetoError.{PasetoError}
 use Rattle.rusty_paseto_parts.specs.declared.error.PasetoError.TheVariants.{IncorrectSize, ChaChaCipherError, Utf8Error}
 use Rattle.rusty_paseto_core.specs.Context.{Binding}
@@ -77,8 +78,9 @@ pub record HoldsBoxed (box : BoxSealing) (binding : Binding) (payload text : Lis
 abbrev pub IsBoxedFault : BoxSealing → Binding → List ℕ → PasetoError → Type 0
 IsBoxedFault box binding payload IncorrectSize = ¬ HasRoom payload
 IsBoxedFault box binding payload ChaChaCipherError = HasRoom payload × IsFound box binding payload None
-IsBoxedFault box binding payload (Utf8Error _) =
-    HasRoom payload × ((message : List ℕ) × IsFound box binding payload (Some message) × (¬ IsUtf8 message))
+IsBoxedFault box binding payload (Utf8Error source) =
+    HasRoom payload × ((message : List ℕ) × IsFound box binding payload (Some message)
+    × (¬ IsUtf8 message) × IsUtf8Fault message source)
 IsBoxedFault box binding payload _ = ⊥
 
 -- how the version's local tokens are read: opened by a box under a key and a footer

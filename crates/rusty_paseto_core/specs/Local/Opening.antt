@@ -1,5 +1,6 @@
 -- When a payload is the sealed one of a text, and which fault is answered where it is of none.
 use Rattle.std.specs.Prelude.{◌≡◌, ℕ, ◌+◌, ◌-◌, ◌≤◌, List, take, drop, length, IsUtf8}
+use Rattle.rusty_paseto_parts.specs.Error.{IsUtf8Fault}
 use Rattle.rusty_paseto_parts.specs.declared.error.PasetoError.{PasetoError}
 use Rattle.rusty_paseto_parts.specs.declared.error.PasetoError.TheVariants.{IncorrectSize, Cryption, Utf8Error}
 use Rattle.rusty_paseto_core.specs.Context.{Binding}
@@ -49,9 +50,10 @@ abbrev pub IsSealedFault : Design → Binding → List ℕ → PasetoError → T
 IsSealedFault design binding payload IncorrectSize = ¬ HasRoom design payload
 IsSealedFault design binding payload Cryption =
     HasRoom design payload × (¬ HasTag design binding payload)
-IsSealedFault design binding payload (Utf8Error _) =
+IsSealedFault design binding payload (Utf8Error source) =
     HasRoom design payload × HasTag design binding payload
     × (¬ IsUtf8 (unmasked design binding payload))
+    × IsUtf8Fault (unmasked design binding payload) source
 IsSealedFault design binding payload _ = ⊥
 
 -- how a version's local tokens are read: opened under a key, a footer and an implicit assertion

@@ -1,11 +1,12 @@
 //! Nonces.
 
-ghost use Rattle.std.specs.Prelude.{◌≡◌, ℕ, List, length, IsTrue};
+ghost use Rattle.std.specs.Prelude.{◌≡◌, ℕ, List, Some, codes, length, IsTrue};
 
 use crate::keys::key::Key;
 use crate::purpose::local::Local;
 use crate::version::VersionTrait;
 use crate::version::v2::V2;
+use std::fmt;
 use std::marker::{Model, PhantomData};
 
 /// A nonce for sealing tokens, of a length that the version has. Use each nonce once under a key.
@@ -56,5 +57,13 @@ impl<'a> From<&'a Key<24>> for PasetoNonce<'a, V2, Local> {
             version: PhantomData,
             purpose: PhantomData,
         }
+    }
+}
+
+impl<V: VersionTrait, P> fmt::Debug for PasetoNonce<'_, V, P> {
+    ghost debug_output = { λ _. Some (codes "PasetoNonce { .. }") };
+
+    fn fmt<W: fmt::Write>(&self, f: &mut fmt::Formatter<W>) -> fmt::Result {
+        f.write_str("PasetoNonce { .. }")
     }
 }

@@ -1,18 +1,20 @@
 //! The key that signs public tokens.
 
-ghost use Rattle.std.specs.Prelude.{◌≡◌, ℕ, List, IsTrue};
+ghost use Rattle.std.specs.Prelude.{◌≡◌, ℕ, List, Some, codes, IsTrue};
 
 use crate::keys::key::Key;
 use crate::purpose::public::Public;
 use crate::version::v1::V1;
 use crate::version::v3::V3;
 use crate::version::{V2orV4, VersionTrait};
+use std::fmt;
 use std::marker::{Model, PhantomData};
 
 /// The key that signs the public tokens of a version. Its bytes are lent and not copied: no memory is
 /// taken.
 ///
-/// A key of version 3 has 48 bytes. Those of the other versions may have any number of bytes.
+/// A key of version 3 has 48 bytes. Those of the other versions may have any number of bytes. It is not
+/// printed: its debug text is the same for all keys.
 ///
 /// Source: PASETO specification, "Version 1" to "Version 4".
 #[derive(Drop)]
@@ -37,6 +39,17 @@ impl<'a, V: VersionTrait, P> PasetoAsymmetricPrivateKey<'a, V, P> {
         ensures form { IsTrue (V.is_private_key self.now) }
     {
         self.bytes
+    }
+
+    /// A key of the same bytes, which are not copied.
+    pub fn clone(&self) -> Self
+        ensures { result ≡ self.now }
+    {
+        PasetoAsymmetricPrivateKey {
+            bytes: self.bytes,
+            version: PhantomData,
+            purpose: PhantomData,
+        }
     }
 }
 
@@ -89,5 +102,13 @@ impl<'a> From<&'a Key<48>> for PasetoAsymmetricPrivateKey<'a, V3, Public> {
             version: PhantomData,
             purpose: PhantomData,
         }
+    }
+}
+
+impl<V: VersionTrait, P> fmt::Debug for PasetoAsymmetricPrivateKey<'_, V, P> {
+    ghost debug_output = { λ _. Some (codes "!!! KEY IS PRIVATE !!!") };
+
+    fn fmt<W: fmt::Write>(&self, f: &mut fmt::Formatter<W>) -> fmt::Result {
+        f.write_str("!!! KEY IS PRIVATE !!!")
     }
 }

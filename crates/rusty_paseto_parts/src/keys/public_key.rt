@@ -1,6 +1,6 @@
 //! The key that verifies public tokens.
 
-ghost use Rattle.std.specs.Prelude.{◌≡◌, ℕ, List, IsTrue};
+ghost use Rattle.std.specs.Prelude.{◌≡◌, ℕ, List, Some, codes, IsTrue};
 ghost use Rattle.rusty_paseto_parts.specs.PublicKey.{ReadsPublicKey};
 
 use crate::error::PasetoError;
@@ -9,6 +9,7 @@ use crate::purpose::public::Public;
 use crate::version::v1::V1;
 use crate::version::v3::V3;
 use crate::version::{V2orV4, VersionTrait};
+use std::fmt;
 use std::marker::{Model, PhantomData};
 
 /// The key that verifies the public tokens of a version. Its bytes are lent and not copied: no memory
@@ -40,6 +41,17 @@ impl<'a, V: VersionTrait, P> PasetoAsymmetricPublicKey<'a, V, P> {
         ensures form { IsTrue (V.is_public_key self.now) }
     {
         self.bytes
+    }
+
+    /// A key of the same bytes, which are not copied.
+    pub fn clone(&self) -> Self
+        ensures { result ≡ self.now }
+    {
+        PasetoAsymmetricPublicKey {
+            bytes: self.bytes,
+            version: PhantomData,
+            purpose: PhantomData,
+        }
     }
 }
 
@@ -88,5 +100,13 @@ impl<'a> TryFrom<&'a Key<49>> for PasetoAsymmetricPublicKey<'a, V3, Public> {
             }),
             _ => Err(PasetoError::InvalidKey),
         }
+    }
+}
+
+impl<V: VersionTrait, P> fmt::Debug for PasetoAsymmetricPublicKey<'_, V, P> {
+    ghost debug_output = { λ _. Some (codes "PasetoAsymmetricPublicKey { .. }") };
+
+    fn fmt<W: fmt::Write>(&self, f: &mut fmt::Formatter<W>) -> fmt::Result {
+        f.write_str("PasetoAsymmetricPublicKey { .. }")
     }
 }

@@ -1,12 +1,15 @@
 //! The key of local tokens.
 
-ghost use Rattle.std.specs.Prelude.{◌≡◌, ℕ, List, length};
+ghost use Rattle.std.specs.Prelude.{◌≡◌, ℕ, List, Some, codes, length};
 
 use crate::keys::key::Key;
 use crate::purpose::local::Local;
+use std::fmt;
 use std::marker::{Model, PhantomData};
 
 /// The key that seals and opens the local tokens of a version: 32 bytes.
+///
+/// It is not printed: its debug text is the same for all keys.
 #[derive(Drop)]
 pub struct PasetoSymmetricKey<V, P> {
     key: Key<32>,
@@ -28,6 +31,17 @@ impl<V, P> PasetoSymmetricKey<V, P> {
     {
         self.key.as_bytes()
     }
+
+    /// A key of the same bytes. No memory is taken.
+    pub fn clone(&self) -> Self
+        ensures { result ≡ self.now }
+    {
+        PasetoSymmetricKey {
+            key: self.key.clone(),
+            version: PhantomData,
+            purpose: PhantomData,
+        }
+    }
 }
 
 impl<V> From<Key<32>> for PasetoSymmetricKey<V, Local> {
@@ -39,5 +53,13 @@ impl<V> From<Key<32>> for PasetoSymmetricKey<V, Local> {
             version: PhantomData,
             purpose: PhantomData,
         }
+    }
+}
+
+impl<V, P> fmt::Debug for PasetoSymmetricKey<V, P> {
+    ghost debug_output = { λ _. Some (codes "!!! KEY IS PRIVATE !!!") };
+
+    fn fmt<W: fmt::Write>(&self, f: &mut fmt::Formatter<W>) -> fmt::Result {
+        f.write_str("!!! KEY IS PRIVATE !!!")
     }
 }

@@ -9,10 +9,10 @@ with_footer : (header payload footer first second third whole : List ℕ) → fi
     → third ≡ second ++ (46 ∷ []) → whole ≡ third ++ spelling footer → whole ≡ header ++ spelling payload ++ (46 ∷ spelling footer)
 with_footer header payload footer first second third whole a b c d = rw (d, c, b, a) (simp append_assoc)
 
-pub returns-in_default-footer-clause-ok : goal.returns-in_default-footer-clause-ok
+pub returns-in_default-clause-ok : goal.returns-in_default-clause-ok
 unfolding framing footer_part
-returns-in_default-footer-clause-ok c =
-    rw (c.in_ok-push_section.ensures.ok, c.in_ok-push_str.ensures.bytes, c.in_ok-token.ensures.bytes, c.in_default-footer.is, append-nil) refl
+returns-in_default-clause-ok c =
+    rw (c.in_ok-push_section.ensures.ok, c.in_ok-push_str.ensures.bytes, c.in_ok-token.ensures.bytes, c.in_default.is, append-nil) refl
 
 pub returns-clause-ok : goal.returns-clause-ok
 unfolding framing footer_part encode
@@ -22,4 +22,4 @@ returns-clause-ok c =
     let dot = c.in_ok-push.ensures.bytes in
     let done = c.in_ok-push_section-2.ensures.ok in
     let footer = c.as_bytes.ensures in
-    rw (c.in-Some-footer.is) (with_footer _ _ _ _ _ _ _ header payload dot (rw footer at done))
+    rw (c.in-Some.is) (with_footer _ _ _ _ _ _ _ header payload dot (rw footer at done))

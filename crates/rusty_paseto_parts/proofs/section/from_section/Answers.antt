@@ -1,5 +1,5 @@
 use Rattle.std.proofs.Common.{refl, sym, ◌∙◌}
-use Rattle.rusty_paseto_parts.specs.Section.{spelling}
+use Rattle.rusty_paseto_parts.specs.Section.{IsNoSpelling, spelling}
 use Rattle.rusty_paseto_parts.proofs.SectionLemmas.{spelling-injective}
 use Rattle.rusty_paseto_parts.proofs.section.from_section.Goals as goal
 
@@ -21,11 +21,13 @@ returns-in-Ok-clause-none c = λ none. absurd (none c.in-Ok.bytes.items c.in-Ok.
 
 pub returns-in-Err-DecodeError-clause-err : goal.returns-in-Err-DecodeError-clause-err
 unfolding spelling
-returns-in-Err-DecodeError-clause-err c = λ bytes is same.
-    let decoded = (c.decode.ensures.strict (refl, refl) bytes is).1 (c.as_bytes.ensures.value ∙ same) in
+returns-in-Err-DecodeError-clause-err c =
     let refused = rw c.in-Err-DecodeError.field-0-is at c.in-Err-DecodeError.ensures.err in
+    let none : IsNoSpelling c.args.text.now = λ bytes is same.
+    let decoded = (c.decode.ensures.strict (refl, refl) bytes is).1 (c.as_bytes.ensures.value ∙ same) in
     let both = sym decoded ∙ refused in
-    cc both
+    cc both in
+    (none, rw c.as_bytes.ensures.value at refused)
 
 pub returns-in-Err-DecodeError-clause-read : goal.returns-in-Err-DecodeError-clause-read
-returns-in-Err-DecodeError-clause-read c = returns-in-Err-DecodeError-clause-err c
+returns-in-Err-DecodeError-clause-read c = (returns-in-Err-DecodeError-clause-err c).0
