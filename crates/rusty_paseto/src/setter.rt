@@ -9,7 +9,8 @@ ghost use Rattle.rusty_paseto.specs.PasetoBuilder.{Counting, IsSame, NeverExpire
 
 use rusty_paseto_generic::{GenericBuilderError, Itself, PasetoClaim};
 
-/// A builder that counts the keys of its claims. Its setters lend it back, for chains of calls.
+/// A builder that counts the keys of its claims. Its setters lend it back, for chains of calls: as an `O`, which
+/// is the builder's own type under another name, and which the compiler finds by itself.
 pub trait CountingSetter {
     // The claims.
     ghost claims: { Self → Members };

@@ -13,7 +13,8 @@ use rusty_paseto_claims::PasetoClaim;
 use serde_json::Value;
 use std::collections::BTreeMap;
 
-/// A builder, into which claims are put. Its setters lend it back, for chains of calls.
+/// A builder, into which claims are put. Its setters lend it back, for chains of calls: as an `O`, which is the
+/// builder's own type under another name, and which the compiler finds by itself.
 pub trait ClaimSetter {
     // The claims.
     ghost claims: { Self → Members };

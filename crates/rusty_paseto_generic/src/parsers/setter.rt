@@ -18,7 +18,8 @@ use rusty_paseto_claims::PasetoClaim;
 use serde_json::Value;
 use std::collections::BTreeMap;
 
-/// A parser, into which checks are put. Its setters lend it back, for chains of calls.
+/// A parser, into which checks are put. Its setters lend it back, for chains of calls: as an `O`, which is the
+/// parser's own type under another name, and which the compiler finds by itself.
 pub trait CheckSetter<B> {
     // What is checked under each key.
     ghost rules: { Self → Rules (JudgeOf B) };
