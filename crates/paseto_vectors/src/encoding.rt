@@ -59,3 +59,19 @@ fn long_pieces(rt: HostRuntime) {
         assert!(rt; encoding.as_bytes().ends_with(text.as_bytes()), "{length}");
     }
 }
+
+// Each piece of one letter takes nine bytes more.
+#[test]
+fn up_to_three_hundred_pieces(rt: HostRuntime) {
+    let mut pieces = Vec::<&[u8]>::new(rt.alloc());
+    let mut whole = 8usize;
+    'counts: for _ in 0..300u16 {
+        let encoding = PreAuthenticationEncoding::parse(rt.alloc(), &pieces).expect(
+            &rt,
+            "an encoding",
+        );
+        assert_eq!(rt; encoding.as_bytes().len(), whole);
+        pieces.push("a".as_bytes()).expect(&rt, "memory");
+        whole = whole.saturating_add(9);
+    }
+}

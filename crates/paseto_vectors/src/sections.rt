@@ -124,3 +124,11 @@ fn long_sections(rt: HostRuntime) {
         assert!(rt; bytes.as_slice() == text.as_bytes(), "{length}");
     }
 }
+
+#[test]
+fn sixteen_mebibytes(rt: HostRuntime) {
+    let text = text_of(rt.alloc(), 16_777_216).expect(&rt, "memory");
+    let section = to_section(rt.alloc(), text.as_bytes()).expect(&rt, "a section");
+    let bytes = from_section(rt.alloc(), section.as_str()).expect(&rt, "bytes");
+    assert!(rt; bytes.as_slice() == text.as_bytes());
+}

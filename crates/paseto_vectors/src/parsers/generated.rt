@@ -97,7 +97,7 @@ fn check(rt: &impl Abort, alloc: Global, payload: &Spelled) {
 fn come_back(rt: HostRuntime) {
     let alloc = rt.alloc();
     let mut numbers = Numbers::of_seed(2);
-    'payloads: for number in 0..2000u64 {
+    'payloads: for number in 0..650u64 {
         check(&rt, alloc, &payload_of(&rt, alloc, number, &mut numbers));
     }
 }

@@ -57,7 +57,7 @@ fn open_each(alloc: Global, key: &LocalKey, tokens: &[String]) -> Result<(), Pas
 fn under_twice_the_time_of_opening(rt: HostRuntime) {
     let alloc = rt.alloc();
     let key = symmetric_key::<V4>(&SECRET);
-    let tokens = tokens_of(&rt, alloc, 20_000);
+    let tokens = tokens_of(&rt, alloc, 7_000);
     let openings = openings_of(&rt, alloc, &key, &tokens);
     let mut is_fast = false;
     'rounds: for _ in 0..3 {
@@ -70,5 +70,5 @@ fn under_twice_the_time_of_opening(rt: HostRuntime) {
         assert!(rt; found.is_none());
         is_fast = is_fast || searched.saturating_sub(opened) < opened;
     }
-    assert!(rt; is_fast, "20,000 tokens");
+    assert!(rt; is_fast, "7,000 tokens");
 }

@@ -123,3 +123,21 @@ fn the_first_that_does_not_open(rt: HostRuntime) {
     let answer = Paseto::<V4, Local>::tag_collision(alloc, &openings);
     assert!(rt; matches!(&answer, Err(PasetoError::WrongHeader)));
 }
+
+// Openings of one token share a nonce and a tag, and one content.
+#[test]
+fn none_of_seventy_thousand(rt: HostRuntime) {
+    let alloc = rt.alloc();
+    let key = symmetric_key::<V4>(&SECRET);
+    let token = Kind::V4Local
+        .make(alloc, "hello", Binding::NONE)
+        .expect(&rt, "a token");
+    let mut openings = Vec::new(alloc);
+    'openings: for _ in 0..70_000u32 {
+        openings
+            .push(opening_of::<V4>(&key, token.as_str()))
+            .expect(&rt, "memory");
+    }
+    let found = Paseto::<V4, Local>::tag_collision(alloc, &openings).expect(&rt, "an answer");
+    assert!(rt; found.is_none());
+}

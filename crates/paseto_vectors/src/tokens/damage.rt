@@ -43,7 +43,7 @@ fn text_of(rt: &impl Abort, alloc: Global, numbers: &mut Numbers) -> String {
 fn none_is_read(rt: HostRuntime) {
     let alloc = rt.alloc();
     let mut numbers = Numbers::of_seed(3);
-    'tokens: for index in 0..2500u16 {
+    'tokens: for index in 0..800u16 {
         let text = text_of(&rt, alloc, &mut numbers);
         let footer = if index % 2 == 0 { None } else { Some("key-1") };
         let binding = Binding::of_footer(footer);

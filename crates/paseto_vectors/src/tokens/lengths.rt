@@ -1,4 +1,4 @@
-//! Long texts and long footers, which become tokens and come back.
+//! Long texts and long footers, and texts of odd letters, which become tokens and come back.
 
 use crate::kinds::{Binding, KINDS, Kind, SECRET, symmetric_key};
 use crate::long::text_of;
@@ -88,4 +88,21 @@ fn the_longest_text_of_a_box(rt: HostRuntime) {
     let text = text_of(rt.alloc(), 4_097).expect(&rt, "memory");
     let answer = Kind::V2Local.make(rt.alloc(), text.as_str(), Binding::NONE);
     assert!(rt; matches!(&answer, Err(PasetoError::ChaChaCipherError)));
+}
+
+// Control characters, and a letter of four bytes.
+#[test]
+fn odd_letters(rt: HostRuntime) {
+    let text = "\0\u{7}\r\n\u{1b}\u{1f600}";
+    let binding = Binding {
+        footer: Some(text),
+        assertion: Some(text),
+    };
+    'kinds: for &kind in KINDS {
+        let token = kind.make(rt.alloc(), text, binding).expect(&rt, "a token");
+        let same = kind
+            .read(rt.alloc(), token.as_str(), binding)
+            .expect(&rt, "a text");
+        assert!(rt; same.as_str() == text, "{kind:?}");
+    }
 }
