@@ -1,7 +1,8 @@
 //! A ticket office, as a program over the library would be written: it issues tickets, lets them in, and refuses
-//! one that has expired, one under a key that is retired, and one whose signature another key made.
+//! one that has expired, one under a key that is retired or another one, and one whose signature another key made.
 #![tactic(auto)]
 
+mod boxed;
 mod keyed_hash_scheme;
 mod rotation;
 mod signed;
@@ -10,10 +11,11 @@ mod ticket;
 use anyhow::Result;
 use jiff::Timestamp;
 use keyed_hash_scheme::KeyedHashScheme;
+use paseto_ed25519::Ed25519;
 use rand::rngs::SysRng;
 use rusty_paseto::prelude::{
     Key, KeyRing, Local, PasetoAsymmetricPrivateKey, PasetoAsymmetricPublicKey, PasetoSymmetricKey,
-    Public, V4,
+    Public, V2, V4,
 };
 
 fn main(rt: HostRuntime) -> Result<()> {
@@ -21,7 +23,9 @@ fn main(rt: HostRuntime) -> Result<()> {
     let soon = Timestamp::from_second(now.as_second().saturating_add(60))?;
     show_local(&rt, now, soon)?;
     show_rotation(&rt, now)?;
-    show_signed(&rt, now, soon)
+    show_boxed(&rt, now, soon)?;
+    show_signed(&rt, now, soon)?;
+    show_own_scheme(&rt, now, soon)
 }
 
 /// A ticket that the office alone can read is admitted soon, and refused tomorrow.
@@ -61,8 +65,47 @@ fn show_rotation(rt: &HostRuntime, now: Timestamp) -> Result<()> {
     Ok(())
 }
 
+/// A ticket of version 2 is admitted under its key, and refused under another.
+fn show_boxed(rt: &HostRuntime, now: Timestamp, soon: Timestamp) -> Result<()> {
+    let alloc = rt.alloc();
+    let mut rng = SysRng::new(rt);
+    let key = PasetoSymmetricKey::<V2, Local>::from(Key::<32>::try_new_random(&mut rng)?);
+    let token = boxed::issue(alloc, now, &mut rng, &key, "Ada")?;
+
+    let claims = boxed::admit(alloc, soon, token.as_str(), &key)?;
+    println!(rt; "admitted in version 2: {}", signed::subject(&claims))?;
+
+    let other = PasetoSymmetricKey::<V2, Local>::from(Key::<32>::default());
+    match boxed::admit(alloc, soon, token.as_str(), &other) {
+        Ok(_) => println!(rt; "admitted under another key")?,
+        Err(refusal) => println!(rt; "refused under another key: {refusal}")?,
+    }
+    Ok(())
+}
+
 /// A signed ticket is admitted under the public key of the key that signed it, and refused under another.
 fn show_signed(rt: &HostRuntime, now: Timestamp, soon: Timestamp) -> Result<()> {
+    let alloc = rt.alloc();
+    let mut rng = SysRng::new(rt);
+    let (private, public) = Ed25519::key_pair(&mut rng)?;
+    let private_key = PasetoAsymmetricPrivateKey::<V4, Public>::from(&private);
+    let token = signed::issue(alloc, now, &mut Ed25519, &private_key, "Ada")?;
+
+    let public_key = PasetoAsymmetricPublicKey::<V4, Public>::from(&public);
+    let claims = signed::admit(alloc, soon, &Ed25519, token.as_str(), &public_key)?;
+    println!(rt; "admitted: {}", signed::subject(&claims))?;
+
+    let (_, other) = Ed25519::key_pair(&mut rng)?;
+    let other_key = PasetoAsymmetricPublicKey::<V4, Public>::from(&other);
+    match signed::admit(alloc, soon, &Ed25519, token.as_str(), &other_key) {
+        Ok(_) => println!(rt; "admitted under another key")?,
+        Err(refusal) => println!(rt; "refused under another key: {refusal}")?,
+    }
+    Ok(())
+}
+
+/// A scheme that the program itself has is used in the same way.
+fn show_own_scheme(rt: &HostRuntime, now: Timestamp, soon: Timestamp) -> Result<()> {
     let alloc = rt.alloc();
     let mut scheme = KeyedHashScheme;
     let private = Key::<64>::try_new_random(&mut SysRng::new(rt))?;
@@ -72,13 +115,9 @@ fn show_signed(rt: &HostRuntime, now: Timestamp, soon: Timestamp) -> Result<()> 
     let public = Key::<32>::from_slice(&private.as_bytes()[32..]);
     let public_key = PasetoAsymmetricPublicKey::<V4, Public>::from(&public);
     let claims = signed::admit(alloc, soon, &scheme, token.as_str(), &public_key)?;
-    println!(rt; "admitted: {}", signed::subject(&claims))?;
-
-    let other = Key::<32>::default();
-    let other_key = PasetoAsymmetricPublicKey::<V4, Public>::from(&other);
-    match signed::admit(alloc, soon, &scheme, token.as_str(), &other_key) {
-        Ok(_) => println!(rt; "admitted under another key")?,
-        Err(refusal) => println!(rt; "refused under another key: {refusal}")?,
-    }
+    println!(rt;
+        "admitted under a scheme of our own: {}",
+        signed::subject(&claims)
+    )?;
     Ok(())
 }

@@ -1,5 +1,5 @@
-//! Tickets that everybody can read and the office alone can make: public tokens. The signature scheme, Ed25519 in
-//! version 4, is brought by the program.
+//! Tickets that everybody can read and the office alone can make: public tokens, over any signature scheme of version
+//! 4. The program hands in `Ed25519`, and once a scheme of its own.
 
 use anyhow::{Result, ensure};
 use jiff::Timestamp;

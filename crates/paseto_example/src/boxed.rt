@@ -1,0 +1,37 @@
+//! Tickets of version 2 that the office alone can read. Their sealed box is handed in.
+
+use anyhow::{Result, ensure};
+use jiff::Timestamp;
+use paseto_xchacha20poly1305::XChaCha20Poly1305;
+use rand_core::TryRng;
+use rusty_paseto::prelude::{
+    GenericParserError, Local, PasetoBuilder, PasetoParser, PasetoSymmetricKey, SubjectClaim, V2,
+    fits_default,
+};
+use serde_json::Value;
+use std::alloc::Global;
+
+/// A ticket for the subject, which expires an hour from now.
+pub fn issue<R: TryRng>(
+    alloc: Global,
+    now: Timestamp,
+    rng: &mut R,
+    key: &PasetoSymmetricKey<V2, Local>,
+    subject: &str,
+) -> Result<String> {
+    ensure!(fits_default(now), "the clock is past the year 9999");
+    let mut builder = PasetoBuilder::<V2, Local>::default(alloc, now)?;
+    builder.set_claim(&SubjectClaim::from(subject))?;
+    Ok(builder.build(&XChaCha20Poly1305, rng, key)?)
+}
+
+/// The claims of a ticket that is good at the moment, or why it is refused.
+pub fn admit(
+    alloc: Global,
+    now: Timestamp,
+    token: &str,
+    key: &PasetoSymmetricKey<V2, Local>,
+) -> Result<Value, GenericParserError> {
+    let parser = PasetoParser::<V2, Local>::default(alloc, now)?;
+    parser.parse(&XChaCha20Poly1305, token, key)
+}
