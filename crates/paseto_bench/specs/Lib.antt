@@ -1,1 +1,3 @@
+pub mod Boxed
+pub mod Signed
 pub mod Tokens

@@ -1,4 +1,5 @@
-//! Sealing, opening and the primitives, each many times over, for a C program that measures them.
+//! Sealing, opening, signing, verifying and the primitives, each many times over, for a C program that
+//! measures them.
 //!
 //! C passes a slice as a pointer, which is not null, and a length, and passes nothing for the
 //! allocator. The loop over the repetitions stands on this side of the call, so that what is measured
@@ -11,11 +12,22 @@
 //! ```
 #![tactic(auto)]
 
+mod boxed;
+mod copying;
 mod primitives;
+mod schemes;
 mod tokens;
 
+pub use boxed::{
+    paseto_bench_v2_open, paseto_bench_v2_seal, paseto_bench_xchacha20poly1305_open,
+    paseto_bench_xchacha20poly1305_seal,
+};
 pub use primitives::{
     paseto_bench_aes256_ctr, paseto_bench_blake2b, paseto_bench_hmac_sha384, paseto_bench_xchacha20,
+};
+pub use schemes::{
+    paseto_bench_ed25519_public_key, paseto_bench_ed25519_sign, paseto_bench_ed25519_verify,
+    paseto_bench_v4_sign, paseto_bench_v4_verify,
 };
 pub use tokens::{
     paseto_bench_v1_open, paseto_bench_v1_seal, paseto_bench_v3_open, paseto_bench_v3_seal,

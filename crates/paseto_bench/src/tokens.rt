@@ -7,6 +7,7 @@ ghost use Rattle.rusty_paseto_core.specs.Local.V3.{v3};
 ghost use Rattle.rusty_paseto_core.specs.Local.V4.{v4};
 ghost use Rattle.paseto_bench.specs.Tokens.{OpensTo, token_of};
 
+use crate::copying::{copy_bytes, last_byte};
 use rusty_paseto_core::LocalVersion;
 use rusty_paseto_parts::{Key, Local, PasetoNonce, PasetoSymmetricKey, Payload, V1, V3, V4};
 use std::alloc::Global;
@@ -131,12 +132,12 @@ fn seal_all<V: LocalVersion>(
         numbered[..4].copy_from_slice(&repetition.to_le_bytes());
         let nonce = Key::from(numbered);
         let sealed = V::seal(alloc, &key, &PasetoNonce::from(&nonce), text, None, None).ok()?;
-        sum = sum.wrapping_add(last_byte(&sealed));
+        sum = sum.wrapping_add(last_byte(sealed.as_bytes()));
     }
     let nonce = Key::from(nonce);
     let sealed = V::seal(alloc, &key, &PasetoNonce::from(&nonce), text, None, None).ok()?;
-    copy_text(&sealed, token)?;
-    Some(sum.wrapping_add(last_byte(&sealed)))
+    copy_bytes(sealed.as_bytes(), token)?;
+    Some(sum.wrapping_add(last_byte(sealed.as_bytes())))
 }
 
 /// Opens the token `reps` times, and at least once, and adds up the texts' last bytes.
@@ -154,28 +155,9 @@ fn open_all<V: LocalVersion>(
     let mut sum = 0u64;
     'repetitions: for _ in 1..reps {
         let opened = V::open(alloc, token, &key, None, None).ok()?;
-        sum = sum.wrapping_add(last_byte(&opened));
+        sum = sum.wrapping_add(last_byte(opened.as_bytes()));
     }
     let opened = V::open(alloc, token, &key, None, None).ok()?;
-    copy_text(&opened, text)?;
-    Some(sum.wrapping_add(last_byte(&opened)))
-}
-
-/// The last byte of a text, or 0 where it is empty.
-fn last_byte(text: &str) -> u64 {
-    match text.as_bytes() {
-        [.., last] => *last as u64,
-        [] => 0,
-    }
-}
-
-/// Copies a text to where there is just room for it.
-fn copy_text(text: &str, room: &mut [u8]) -> Option<()>
-    ensures { IsSome result → room.new ≡ text.now }
-{
-    if room.len() != text.len() {
-        return None;
-    }
-    room.copy_from_slice(text.as_bytes());
-    Some(())
+    copy_bytes(opened.as_bytes(), text)?;
+    Some(sum.wrapping_add(last_byte(opened.as_bytes())))
 }
