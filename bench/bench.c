@@ -19,7 +19,7 @@ static const size_t sizes[SIZES] = {0, 100, 1000, 10000, LARGEST};
 static const char *size_names[SIZES] = {"0 B", "100 B", "1 KB", "10 KB", "1 MB"};
 
 /* Room for the token of the largest text. */
-#define ROOM (LARGEST / 3 * 4 + 200)
+#define ROOM (LARGEST / 3 * 4 + 300)
 
 /* How many repetitions the comparison of bytes has. */
 #define COMPARED 3
@@ -28,6 +28,7 @@ static const double slice_seconds = 0.001;
 static double row_seconds = 1.5;
 
 static uint8_t key[32], long_key[48], nonce[32], plain[LARGEST], token[ROOM], ours_out[ROOM], peer_out[ROOM];
+static uint8_t private_key[64], public_key[32];
 static size_t plain_length, token_length;
 
 static double seconds(void)
@@ -41,9 +42,13 @@ static double seconds(void)
    answers a number that both sides agree on. */
 struct subject {
     const char *name;
+    /* Whether the length of the text is nothing to it, so that one row tells all. */
+    bool has_one_row;
     uint64_t (*ours)(const struct subject *subject, uint8_t *out, uint32_t reps);
     uint64_t (*peer)(const struct subject *subject, uint8_t *out, uint32_t reps);
     size_t (*out_length)(void);
+    /* The peer's token, box or signature of the text, where what is measured reads one or has to be as long. */
+    struct peer_bytes (*prepared)(const struct subject *subject);
     paseto_bench_seal *ours_seal;
     peer_seal *peer_seal;
     paseto_bench_open *ours_open;
@@ -71,7 +76,7 @@ static size_t plain_size(void)
     return plain_length;
 }
 
-static size_t blake2b_size(void)
+static size_t digest_size(void)
 {
     return 32;
 }
@@ -79,6 +84,21 @@ static size_t blake2b_size(void)
 static size_t hmac_size(void)
 {
     return 48;
+}
+
+static size_t signature_size(void)
+{
+    return 64;
+}
+
+static size_t nothing(void)
+{
+    return 0;
+}
+
+static struct peer_bytes local_token(const struct subject *subject)
+{
+    return subject->peer_seal(key, nonce, plain, plain_length);
 }
 
 static uint64_t ours_seal(const struct subject *subject, uint8_t *out, uint32_t reps)
@@ -216,32 +236,234 @@ static uint64_t peer_aes256(const struct subject *subject, uint8_t *out, uint32_
     return 0;
 }
 
-#define TOKENS(number)                                                                             \
-    {"v" #number " seal", ours_seal, peer_seals, token_size, paseto_bench_v##number##_seal,        \
-     peer_v##number##_seal, NULL, NULL},                                                           \
-        {"v" #number " open", ours_open, peer_opens, plain_size, NULL, peer_v##number##_seal,      \
-         paseto_bench_v##number##_open, peer_v##number##_open}
+/* A box has the long key's bytes as the data beside it. */
+static uint64_t ours_box_seal(const struct subject *subject, uint8_t *out, uint32_t reps)
+{
+    (void)subject;
+    return paseto_bench_xchacha20poly1305_seal(key, 32, nonce, 24, long_key, sizeof long_key, plain, plain_length,
+                                               out, token_length, reps);
+}
 
-#define SUBJECTS 10
+static uint64_t peer_box_seal(const struct subject *subject, uint8_t *out, uint32_t reps)
+{
+    (void)subject;
+    uint8_t numbered[24];
+    uint64_t sum = 0;
+    memcpy(numbered, nonce, sizeof numbered);
+    for (uint32_t repetition = 1; repetition <= reps; repetition++) {
+        write_number(numbered, repetition);
+        const uint8_t *used = repetition == reps ? nonce : numbered;
+        uint8_t *boxed = malloc(token_length);
+        if (boxed == NULL) {
+            return FAILED;
+        }
+        crypto_aead_xchacha20poly1305_ietf_encrypt(boxed, NULL, plain, plain_length, long_key, sizeof long_key, NULL,
+                                                   used, key);
+        sum += boxed[token_length - 1];
+        if (repetition == reps) {
+            memcpy(out, boxed, token_length);
+        }
+        free(boxed);
+    }
+    return sum;
+}
+
+static uint64_t ours_box_open(const struct subject *subject, uint8_t *out, uint32_t reps)
+{
+    (void)subject;
+    return paseto_bench_xchacha20poly1305_open(key, 32, nonce, 24, long_key, sizeof long_key, token, token_length,
+                                               out, plain_length, reps);
+}
+
+static uint64_t peer_box_open(const struct subject *subject, uint8_t *out, uint32_t reps)
+{
+    (void)subject;
+    uint64_t sum = 0;
+    for (uint32_t repetition = 0; repetition < reps; repetition++) {
+        uint8_t *text = malloc(plain_length + 1);
+        if (text == NULL
+            || crypto_aead_xchacha20poly1305_ietf_decrypt(text, NULL, NULL, token, token_length, long_key,
+                                                          sizeof long_key, nonce, key)
+                != 0) {
+            return FAILED;
+        }
+        sum += plain_length == 0 ? 0 : text[plain_length - 1];
+        if (repetition + 1 == reps) {
+            memcpy(out, text, plain_length);
+        }
+        free(text);
+    }
+    return sum;
+}
+
+static struct peer_bytes peer_boxed(const struct subject *subject)
+{
+    (void)subject;
+    size_t length = plain_length + crypto_aead_xchacha20poly1305_ietf_ABYTES;
+    uint8_t *boxed = malloc(length);
+    if (boxed != NULL) {
+        crypto_aead_xchacha20poly1305_ietf_encrypt(boxed, NULL, plain, plain_length, long_key, sizeof long_key, NULL,
+                                                   nonce, key);
+    }
+    return (struct peer_bytes){boxed, length};
+}
+
+/* The last public key is that of the seed as it is. */
+static uint64_t ours_public_key(const struct subject *subject, uint8_t *out, uint32_t reps)
+{
+    (void)subject;
+    return paseto_bench_ed25519_public_key(key, 32, out, 32, reps);
+}
+
+static uint64_t peer_public_key(const struct subject *subject, uint8_t *out, uint32_t reps)
+{
+    (void)subject;
+    uint8_t numbered[32], pair[64];
+    uint64_t sum = 0;
+    memcpy(numbered, key, sizeof numbered);
+    for (uint32_t repetition = 1; repetition <= reps; repetition++) {
+        write_number(numbered, repetition);
+        crypto_sign_seed_keypair(out, pair, repetition == reps ? key : numbered);
+        sum += out[31];
+    }
+    return sum;
+}
+
+static uint64_t ours_sign(const struct subject *subject, uint8_t *out, uint32_t reps)
+{
+    (void)subject;
+    return paseto_bench_ed25519_sign(private_key, 64, plain, plain_length, out, 64, reps);
+}
+
+static uint64_t peer_sign(const struct subject *subject, uint8_t *out, uint32_t reps)
+{
+    (void)subject;
+    uint64_t sum = 0;
+    for (uint32_t repetition = 0; repetition < reps; repetition++) {
+        crypto_sign_detached(out, NULL, plain, plain_length, private_key);
+        sum += out[63];
+    }
+    return sum;
+}
+
+static struct peer_bytes peer_signature(const struct subject *subject)
+{
+    (void)subject;
+    uint8_t *signature = malloc(64);
+    if (signature != NULL) {
+        crypto_sign_detached(signature, NULL, plain, plain_length, private_key);
+    }
+    return (struct peer_bytes){signature, 64};
+}
+
+static uint64_t ours_verify(const struct subject *subject, uint8_t *out, uint32_t reps)
+{
+    (void)subject, (void)out;
+    return paseto_bench_ed25519_verify(public_key, 32, plain, plain_length, token, 64, reps);
+}
+
+static uint64_t peer_verify(const struct subject *subject, uint8_t *out, uint32_t reps)
+{
+    (void)subject, (void)out;
+    for (uint32_t repetition = 0; repetition < reps; repetition++) {
+        if (crypto_sign_verify_detached(token, plain, plain_length, public_key) != 0) {
+            return FAILED;
+        }
+    }
+    return 0;
+}
+
+static struct peer_bytes signed_token(const struct subject *subject)
+{
+    (void)subject;
+    return peer_v4_sign(private_key, plain, plain_length);
+}
+
+static uint64_t ours_sign_token(const struct subject *subject, uint8_t *out, uint32_t reps)
+{
+    (void)subject;
+    return paseto_bench_v4_sign(private_key, 64, plain, plain_length, out, token_length, reps);
+}
+
+static uint64_t peer_sign_token(const struct subject *subject, uint8_t *out, uint32_t reps)
+{
+    uint64_t sum = 0;
+    for (uint32_t repetition = 0; repetition < reps; repetition++) {
+        struct peer_bytes made = signed_token(subject);
+        if (made.bytes == NULL || made.length != token_length) {
+            return FAILED;
+        }
+        sum += made.bytes[made.length - 1];
+        memcpy(out, made.bytes, repetition + 1 == reps ? made.length : 0);
+        free(made.bytes);
+    }
+    return sum;
+}
+
+static uint64_t ours_verify_token(const struct subject *subject, uint8_t *out, uint32_t reps)
+{
+    (void)subject;
+    return paseto_bench_v4_verify(public_key, 32, token, token_length, out, plain_length, reps);
+}
+
+static uint64_t peer_verify_token(const struct subject *subject, uint8_t *out, uint32_t reps)
+{
+    (void)subject;
+    uint64_t sum = 0;
+    for (uint32_t repetition = 0; repetition < reps; repetition++) {
+        struct peer_bytes read = peer_v4_verify(public_key, token, token_length);
+        if (read.bytes == NULL || read.length != plain_length) {
+            return FAILED;
+        }
+        sum += read.length == 0 ? 0 : read.bytes[read.length - 1];
+        memcpy(out, read.bytes, repetition + 1 == reps ? read.length : 0);
+        free(read.bytes);
+    }
+    return sum;
+}
+
+#define TOKENS(number)                                                                             \
+    {.name = "v" #number " seal", .ours = ours_seal, .peer = peer_seals, .out_length = token_size, \
+     .prepared = local_token, .ours_seal = paseto_bench_v##number##_seal,                          \
+     .peer_seal = peer_v##number##_seal},                                                          \
+        {.name = "v" #number " open", .ours = ours_open, .peer = peer_opens,                       \
+         .out_length = plain_size, .prepared = local_token, .peer_seal = peer_v##number##_seal,    \
+         .ours_open = paseto_bench_v##number##_open, .peer_open = peer_v##number##_open}
+
+#define SUBJECTS 19
 static const struct subject subjects[SUBJECTS] = {
     TOKENS(4),
     TOKENS(3),
+    TOKENS(2),
     TOKENS(1),
-    {.name = "BLAKE2b", .ours = ours_blake2b, .peer = peer_blake2b, .out_length = blake2b_size},
+    {.name = "v4 sign", .ours = ours_sign_token, .peer = peer_sign_token, .out_length = token_size,
+     .prepared = signed_token},
+    {.name = "v4 verify", .ours = ours_verify_token, .peer = peer_verify_token, .out_length = plain_size,
+     .prepared = signed_token},
+    {.name = "box seal", .ours = ours_box_seal, .peer = peer_box_seal, .out_length = token_size,
+     .prepared = peer_boxed},
+    {.name = "box open", .ours = ours_box_open, .peer = peer_box_open, .out_length = plain_size,
+     .prepared = peer_boxed},
+    {.name = "Ed25519 key", .has_one_row = true, .ours = ours_public_key, .peer = peer_public_key,
+     .out_length = digest_size},
+    {.name = "Ed25519 sign", .ours = ours_sign, .peer = peer_sign, .out_length = signature_size},
+    {.name = "Ed25519 verify", .ours = ours_verify, .peer = peer_verify, .out_length = nothing,
+     .prepared = peer_signature},
+    {.name = "BLAKE2b", .ours = ours_blake2b, .peer = peer_blake2b, .out_length = digest_size},
     {.name = "XChaCha20", .ours = ours_xchacha20, .peer = peer_xchacha20, .out_length = plain_size},
     {.name = "AES-256-CTR", .ours = ours_aes256_ctr, .peer = peer_aes256, .out_length = plain_size},
     {.name = "HMAC-SHA384", .ours = ours_hmac, .peer = peer_hmac, .out_length = hmac_size},
 };
 
-/* The text of a row, and, where tokens are measured, the peer's token of it. */
+/* The text of a row, and, where one is read, the peer's token, box or signature of it. */
 static bool prepare(const struct subject *subject, size_t length)
 {
     plain_length = length;
     token_length = 0;
-    if (subject->peer_seal == NULL) {
+    if (subject->prepared == NULL) {
         return true;
     }
-    struct peer_bytes made = subject->peer_seal(key, nonce, plain, plain_length);
+    struct peer_bytes made = subject->prepared(subject);
     if (made.bytes == NULL || made.length > sizeof token) {
         return false;
     }
@@ -300,10 +522,15 @@ static void best_of_rounds(const struct subject *subject, double *ours, double *
     }
 }
 
+static int rows(const struct subject *subject)
+{
+    return subject->has_one_row ? 1 : SIZES;
+}
+
 /* Measures every row of a subject, and keeps the ratios. */
 static bool run(const struct subject *subject, double ratios[SIZES])
 {
-    for (int i = 0; i < SIZES; i++) {
+    for (int i = 0; i < rows(subject); i++) {
         if (!prepare(subject, sizes[i]) || !agrees(subject)) {
             printf("%s, %s: the bytes differ\n", subject->name, size_names[i]);
             return false;
@@ -311,7 +538,7 @@ static bool run(const struct subject *subject, double ratios[SIZES])
         double ours, peer;
         best_of_rounds(subject, &ours, &peer);
         ratios[i] = ours / peer;
-        printf("%-12s %6s %13.0f %13.0f %8.2f", subject->name, size_names[i], ours, peer, ratios[i]);
+        printf("%-14s %6s %13.0f %13.0f %8.2f", subject->name, size_names[i], ours, peer, ratios[i]);
         if (sizes[i] >= 10000) {
             printf(" %9.1f %9.1f", (double)sizes[i] * 1e3 / ours, (double)sizes[i] * 1e3 / peer);
         }
@@ -332,11 +559,15 @@ static bool is_asked(const struct subject *subject, int count, char **words)
     return count == 0;
 }
 
-static void print_ratios(const char *name, const double ratios[SIZES])
+static void print_ratios(const struct subject *subject, const double ratios[SIZES])
 {
-    printf("| %s |", name);
+    printf("| %s |", subject->name);
     for (int i = 0; i < SIZES; i++) {
-        printf(" %.2f |", ratios[i]);
+        if (i < rows(subject)) {
+            printf(" %.2f |", ratios[i]);
+        } else {
+            printf(" |");
+        }
     }
     printf("\n");
 }
@@ -359,11 +590,12 @@ int main(int count, char **words)
     for (size_t i = 0; i < sizeof long_key; i++) {
         long_key[i] = (uint8_t)(3 * i + 5);
     }
+    crypto_sign_seed_keypair(public_key, private_key, key);
     for (size_t i = 0; i < sizeof plain; i++) {
         plain[i] = (uint8_t)(' ' + i % 95);
     }
     printf("peers: libsodium %s, %s\n\n", sodium_version_string(), OpenSSL_version(OPENSSL_VERSION));
-    printf("%-12s %6s %13s %13s %8s %9s %9s\n", "", "", "ours, ns", "peer, ns", "ratio", "MB/s",
+    printf("%-14s %6s %13s %13s %8s %9s %9s\n", "", "", "ours, ns", "peer, ns", "ratio", "MB/s",
            "peer's");
     bool is_measured[SUBJECTS];
     static double ratios[SUBJECTS][SIZES];
@@ -376,7 +608,7 @@ int main(int count, char **words)
     printf("\n| ours / peer | 0 B | 100 B | 1 KB | 10 KB | 1 MB |\n|---|---|---|---|---|---|\n");
     for (int s = 0; s < SUBJECTS; s++) {
         if (is_measured[s]) {
-            print_ratios(subjects[s].name, ratios[s]);
+            print_ratios(&subjects[s], ratios[s]);
         }
     }
     return 0;

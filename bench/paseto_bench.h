@@ -25,9 +25,28 @@ typedef uint64_t paseto_bench_cipher(const uint8_t *key, size_t key_length, cons
                                      size_t start_length, uint8_t *data, size_t data_length,
                                      uint32_t reps);
 
-paseto_bench_seal paseto_bench_v1_seal, paseto_bench_v3_seal, paseto_bench_v4_seal;
-paseto_bench_open paseto_bench_v1_open, paseto_bench_v3_open, paseto_bench_v4_open;
-paseto_bench_digest paseto_bench_blake2b, paseto_bench_hmac_sha384;
+typedef uint64_t paseto_bench_box(const uint8_t *key, size_t key_length, const uint8_t *nonce,
+                                  size_t nonce_length, const uint8_t *data, size_t data_length,
+                                  const uint8_t *input, size_t input_length, uint8_t *output,
+                                  size_t output_length, uint32_t reps);
+
+typedef uint64_t paseto_bench_key(const uint8_t *seed, size_t seed_length, uint8_t *public_key,
+                                  size_t public_key_length, uint32_t reps);
+
+typedef uint64_t paseto_bench_verify(const uint8_t *public_key, size_t public_key_length,
+                                     const uint8_t *message, size_t message_length,
+                                     const uint8_t *signature, size_t signature_length,
+                                     uint32_t reps);
+
+paseto_bench_seal paseto_bench_v1_seal, paseto_bench_v2_seal, paseto_bench_v3_seal,
+    paseto_bench_v4_seal;
+paseto_bench_open paseto_bench_v1_open, paseto_bench_v2_open, paseto_bench_v3_open,
+    paseto_bench_v4_open, paseto_bench_v4_verify;
+paseto_bench_digest paseto_bench_blake2b, paseto_bench_hmac_sha384, paseto_bench_ed25519_sign,
+    paseto_bench_v4_sign;
 paseto_bench_cipher paseto_bench_xchacha20, paseto_bench_aes256_ctr;
+paseto_bench_box paseto_bench_xchacha20poly1305_seal, paseto_bench_xchacha20poly1305_open;
+paseto_bench_key paseto_bench_ed25519_public_key;
+paseto_bench_verify paseto_bench_ed25519_verify;
 
 #endif

@@ -1,5 +1,5 @@
-/* Local PASETO tokens as a user of libsodium (version 4) and of OpenSSL (versions 1 and 3) writes them,
-   with no footer and no implicit assertion. */
+/* PASETO tokens as a user of libsodium (local ones of versions 2 and 4, and public ones of version 4) and of
+   OpenSSL (local ones of versions 1 and 3) writes them, with no footer and no implicit assertion. */
 #ifndef PEER_H
 #define PEER_H
 
@@ -18,8 +18,14 @@ typedef struct peer_bytes peer_seal(const uint8_t key[32], const uint8_t nonce[3
 
 typedef struct peer_bytes peer_open(const uint8_t key[32], const uint8_t *token, size_t length);
 
-peer_seal peer_v1_seal, peer_v3_seal, peer_v4_seal;
-peer_open peer_v1_open, peer_v3_open, peer_v4_open;
+peer_seal peer_v1_seal, peer_v2_seal, peer_v3_seal, peer_v4_seal;
+peer_open peer_v1_open, peer_v2_open, peer_v3_open, peer_v4_open;
+
+/* A public token of version 4: it is signed under a private key, which is a seed and its public key. */
+struct peer_bytes peer_v4_sign(const uint8_t private_key[64], const uint8_t *text, size_t length);
+
+/* The text of such a token. */
+struct peer_bytes peer_v4_verify(const uint8_t public_key[32], const uint8_t *token, size_t length);
 
 /* Readies both libraries. It is called once, before all else. */
 bool peer_start(void);

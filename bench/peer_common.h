@@ -4,6 +4,7 @@
 
 #include "peer.h"
 
+/* Of local tokens. */
 #define HEADER_LENGTH 9
 #define NONCE_LENGTH 32
 
