@@ -176,7 +176,7 @@ fn seal_token(
     nonce: [u8; 32],
     text: Payload<'_>,
 ) -> Option<String>
-    ensures { IfSome result (λ token. Some (string_bytes token) ≡ boxed_token key.now nonce (payload_text text)) }
+    ensures { IfSome result (λ token. Some (string_bytes token) ≡ boxed_token key.now nonce (payload_text text.entry)) }
 {
     let nonce = Key::from(nonce);
     let mut paseto = Paseto::<V2, Local>::default();
