@@ -1,11 +1,13 @@
-/* Seals and opens tokens with a key whose bytes count as undefined, so that valgrind's memcheck reports each
+/* Seals, opens and signs with a key whose bytes count as undefined, so that valgrind's memcheck reports each
    conditional jump and each address in the library that depends on it. What its reports may be is in
-   secrets.txt, and secrets.sh compares.
+   secrets.txt, and secrets.sh compares. A VERSION is v1, v2, v3 or v4, or box, the sealed box of version 2.
 
      secrets VERSION seal       the key is undefined, and tokens of each length are sealed
      secrets VERSION seal_text  the key and the text are undefined
      secrets VERSION refused    the key is undefined, and tokens are opened that one bit of their tag was changed in
      secrets VERSION open       the key is undefined, and tokens are opened
+     secrets ed25519 key        the seeds are undefined, and their public keys are made
+     secrets ed25519 sign       the seed of the private key is undefined, and messages of each length are signed
      secrets control control    no call: a jump and an address of this file itself, which have to be reported
 
    The status is 0 where each call answered as it should. */
@@ -17,23 +19,45 @@
 #include <string.h>
 #include <valgrind/memcheck.h>
 
-enum { KEY = 32, NONCE = 32, LONGEST_TEXT = 1000, HEADER = 9 };
+enum { KEY = 32, NONCE = 32, BOX_NONCE = 24, LONGEST_TEXT = 1000, HEADER = 9, SIGNATURE = 64 };
 
 /* Around one block of each cipher and of each hash. */
 static const size_t LENGTHS[] = {0, 1, 63, 64, 65, 127, 128, 129, 256, 300, LONGEST_TEXT};
 enum { LENGTH_COUNT = sizeof LENGTHS / sizeof *LENGTHS };
 
+/* What is sealed: a token, of a header and the base64url encoding of a nonce, the ciphertext and a tag; or a box,
+   of the ciphertext and a tag alone. */
 typedef struct {
     const char *name;
     paseto_bench_seal *seal;
     paseto_bench_open *open;
-    size_t tag;
+    size_t nonce, tag;
+    bool is_token;
 } version;
 
+/* The data beside a box, and its nonce. */
+static const uint8_t DATA[] = "data that are not encrypted, and fill more than two blocks";
+static const uint8_t BOX_NONCES[BOX_NONCE] = "a nonce for 1 key alone";
+
+static uint64_t box_seal(const uint8_t *key, size_t key_length, const uint8_t *nonce, size_t nonce_length,
+                         const uint8_t *text, size_t text_length, uint8_t *boxed, size_t length, uint32_t reps) {
+    (void)nonce, (void)nonce_length;
+    return paseto_bench_xchacha20poly1305_seal(key, key_length, BOX_NONCES, BOX_NONCE, DATA, sizeof DATA, text,
+                                               text_length, boxed, length, reps);
+}
+
+static uint64_t box_open(const uint8_t *key, size_t key_length, const uint8_t *boxed, size_t length, uint8_t *text,
+                         size_t text_length, uint32_t reps) {
+    return paseto_bench_xchacha20poly1305_open(key, key_length, BOX_NONCES, BOX_NONCE, DATA, sizeof DATA, boxed,
+                                               length, text, text_length, reps);
+}
+
 static const version VERSIONS[] = {
-    {"v1", paseto_bench_v1_seal, paseto_bench_v1_open, 48},
-    {"v3", paseto_bench_v3_seal, paseto_bench_v3_open, 48},
-    {"v4", paseto_bench_v4_seal, paseto_bench_v4_open, 32},
+    {"v1", paseto_bench_v1_seal, paseto_bench_v1_open, 32, 48, true},
+    {"v2", paseto_bench_v2_seal, paseto_bench_v2_open, BOX_NONCE, 16, true},
+    {"v3", paseto_bench_v3_seal, paseto_bench_v3_open, 32, 48, true},
+    {"v4", paseto_bench_v4_seal, paseto_bench_v4_open, 32, 32, true},
+    {"box", box_seal, box_open, 0, 16, false},
 };
 
 /* The version's text, whose key is marked, and the tokens, which are made before it is marked. */
@@ -45,7 +69,8 @@ typedef struct {
 static size_t encoded(size_t length) { return (4 * length + 2) / 3; }
 
 static size_t token_length(const version *v, size_t text) {
-    return HEADER + encoded(NONCE + text + v->tag);
+    size_t payload = v->nonce + text + v->tag;
+    return v->is_token ? HEADER + encoded(payload) : payload;
 }
 
 static material *make_material(void) {
@@ -101,6 +126,35 @@ static int open_all(const version *v, bool changed) {
     return right;
 }
 
+static int make_public_keys(void) {
+    int right = 0;
+    for (size_t i = 0; i < LENGTH_COUNT; i++) {
+        material *m = make_material();
+        uint8_t public_key[KEY];
+        m->key[0] = (uint8_t)i;
+        VALGRIND_MAKE_MEM_UNDEFINED(m->key, KEY);
+        right += done(paseto_bench_ed25519_public_key(m->key, KEY, public_key, KEY, 1));
+        free(m);
+    }
+    return right;
+}
+
+/* The seed of the private key is undefined, and its public half is not. */
+static int sign_all(void) {
+    material *m = make_material();
+    uint8_t private_key[2 * KEY], signature[SIGNATURE];
+    memcpy(private_key, m->key, KEY);
+    if (!done(paseto_bench_ed25519_public_key(private_key, KEY, private_key + KEY, KEY, 1))) return 0;
+    VALGRIND_MAKE_MEM_UNDEFINED(private_key, KEY);
+    int right = 0;
+    for (size_t i = 0; i < LENGTH_COUNT; i++) {
+        right += done(paseto_bench_ed25519_sign(private_key, sizeof private_key, m->text, LENGTHS[i], signature,
+                                                SIGNATURE, 1));
+    }
+    free(m);
+    return right;
+}
+
 /* What this test has to find: a jump on a bit of the key, and a place in a table at a byte of it. */
 __attribute__((noinline)) static int control(void) {
     static const uint8_t table[256] = {1, 2, 3};
@@ -117,6 +171,8 @@ int main(int argc, char **argv) {
     if (argc != 3) return 2;
     int right = -1;
     if (strcmp(argv[1], "control") == 0) right = control();
+    if (strcmp(argv[1], "ed25519") == 0 && strcmp(argv[2], "key") == 0) right = make_public_keys();
+    if (strcmp(argv[1], "ed25519") == 0 && strcmp(argv[2], "sign") == 0) right = sign_all();
     for (size_t i = 0; i < sizeof VERSIONS / sizeof *VERSIONS; i++) {
         const version *v = &VERSIONS[i];
         if (strcmp(argv[1], v->name) != 0) continue;

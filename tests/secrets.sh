@@ -101,7 +101,7 @@ check() {
         fi
     done <"$work/found"
     [ "$told" -eq 1 ] || pass
-    printf '%-4s %-10s %3d places\n' "$1" "$2" "$(reports "$work/log" | wc -l)"
+    printf '%-7s %-10s %3d places\n' "$1" "$2" "$(reports "$work/log" | wc -l)"
 }
 
 # The test is able to fail: a jump on the key and an address at it, in the driver itself, are reported.
@@ -111,9 +111,12 @@ for kind in jump address; do
 done
 if [ "$(may control jump control)" -eq 0 ]; then pass; else fail 'secrets.txt lets the control pass'; fi
 
-for version in v1 v3 v4; do
+for version in v1 v2 v3 v4 box; do
     for call in seal seal_text refused open; do
         check "$version" "$call"
     done
+done
+for call in key sign; do
+    check ed25519 "$call"
 done
 finish
