@@ -9,7 +9,7 @@ ghost use Rattle.paseto_ed25519.specs.Scalar.{bytes32};
 
 use crate::bytes::joined;
 use crate::encoding::{decode, encode};
-use crate::point::{base, multiply, multiply_both, negate};
+use crate::point::{base, multiply_base, multiply_both, negate};
 use crate::scalar::{Scalar, is_reduced, multiply_add, reduce, to_bytes};
 use rand_core::TryRng;
 use rusty_paseto_core::SignatureScheme;
@@ -79,7 +79,7 @@ fn signature(private: &[u8], message: &[u8]) -> [u8; 64]
     let (half, prefix) = digest.split_at(HALF_LENGTH);
     let scalar = clamped(half);
     let r = nonce(prefix, message);
-    let commitment = encode(multiply(base(), &to_bytes(r)));
+    let commitment = encode(multiply_base(&to_bytes(r)));
     let k = challenge(&commitment, public, message);
     joined(&commitment, &to_bytes(multiply_add(r, k, &scalar)))
 }
@@ -118,7 +118,7 @@ impl Ed25519 {
     {
         let digest = Sha512::digest(seed);
         let (half, _prefix) = digest.split_at(HALF_LENGTH);
-        encode(multiply(base(), &clamped(half)))
+        encode(multiply_base(&clamped(half)))
     }
 
     /// A new private key, which is a seed that the generator gives and its public key, and that public key. No

@@ -1,15 +1,18 @@
 //! Points of the curve: sums and multiples, by the formulas of RFC 8032, section 5.1.4.
 
 ghost use Rattle.std.specs.Prelude.{◌≡◌, ◌<◌};
+ghost use Rattle.paseto_ed25519.specs.Field.{IsCarried, number, times};
 ghost use Rattle.paseto_ed25519.specs.Point.{base, bit, coordinates, joint_multiple, multiple, negated, neutral, point_add, point_add_by, point_double};
 
+mod addend;
 mod extended;
 mod pair;
 
 use crate::field;
 use crate::field::canonical::negative;
 use crate::field::constants::{base_t, base_x, base_y, one, twice_d, zero};
-use crate::field::{add_loose, choose, mul, square, sub_loose};
+use crate::field::{FieldElement, add_loose, choose, mul, square, sub_loose};
+use addend::Addend;
 pub(crate) use extended::ExtendedPoint;
 use pair::Pair;
 
@@ -40,14 +43,28 @@ pub(crate) fn base() -> ExtendedPoint
     }
 }
 
-/// The sum of two points.
-pub(crate) fn add(p: ExtendedPoint, q: ExtendedPoint) -> ExtendedPoint
-    ensures { coordinates result ≡ point_add (coordinates p) (coordinates q) }
+// What sums with this point need of it.
+fn prepared(q: ExtendedPoint) -> Addend
+    ensures { coordinates result.point ≡ coordinates q }
 {
-    let a = mul(field::sub(p.y, p.x), field::sub(q.y, q.x));
-    let b = mul(field::add(p.y, p.x), field::add(q.y, q.x));
-    let c = mul(mul(p.t, twice_d()), q.t);
-    let zz = mul(p.z, q.z);
+    Addend {
+        point: q,
+        difference: field::sub(q.y, q.x),
+        sum: field::add(q.y, q.x),
+        scaled: mul(twice_d(), q.t),
+    }
+}
+
+// The sum of two points, the product of whose coordinates Z is `zz`.
+#[inline(always)]
+fn add_at(p: ExtendedPoint, q: &Addend, zz: FieldElement) -> ExtendedPoint
+    requires carried { IsCarried zz }
+    requires product { number zz ≡ times (number p.z) (number q.now.point.z) }
+    ensures { coordinates result ≡ point_add (coordinates p) (coordinates q.now.point) }
+{
+    let a = mul(field::sub(p.y, p.x), q.difference);
+    let b = mul(field::add(p.y, p.x), q.sum);
+    let c = mul(p.t, q.scaled);
     let d = field::add(zz, zz);
     let e = field::sub(b, a);
     let f = sub_loose(d, c);
@@ -59,6 +76,21 @@ pub(crate) fn add(p: ExtendedPoint, q: ExtendedPoint) -> ExtendedPoint
         z: mul(f, g),
         t: mul(e, h),
     }
+}
+
+// The sum of two points.
+fn add(p: ExtendedPoint, q: &Addend) -> ExtendedPoint
+    ensures { coordinates result ≡ point_add (coordinates p) (coordinates q.now.point) }
+{
+    add_at(p, q, mul(p.z, q.point.z))
+}
+
+// The sum of two points, of which the second has Z = 1.
+fn add_affine(p: ExtendedPoint, q: &Addend) -> ExtendedPoint
+    requires { number q.now.point.z ≡ 1 }
+    ensures { coordinates result ≡ point_add (coordinates p) (coordinates q.now.point) }
+{
+    add_at(p, q, p.z)
 }
 
 /// The double of a point.
@@ -106,16 +138,25 @@ fn bit(bytes: &[u8; 32], at: usize) -> u64
     ((bytes[at / 8] >> (at % 8)) % 2) as u64
 }
 
-/// The multiple of a point, in a fixed number of steps and with no branch on the scalar.
-pub(crate) fn multiply(p: ExtendedPoint, scalar: &[u8; 32]) -> ExtendedPoint
-    ensures { coordinates result ≡ multiple (coordinates p) scalar.now 256 }
+// The multiple of a point with Z = 1, in a fixed number of steps and with no branch on the scalar.
+fn multiply(q: &Addend, scalar: &[u8; 32]) -> ExtendedPoint
+    requires { number q.now.point.z ≡ 1 }
+    ensures { coordinates result ≡ multiple (coordinates q.now.point) scalar.now 256 }
 {
     let mut sum = neutral();
     'bits: for i in 0..SCALAR_BITS {
         let doubled = double(sum);
-        sum = choose_point(bit(scalar, SCALAR_BITS - 1 - i), add(doubled, p), doubled);
+        let added = add_affine(doubled, q);
+        sum = choose_point(bit(scalar, SCALAR_BITS - 1 - i), added, doubled);
     }
     sum
+}
+
+/// The multiple of the base point, in a fixed number of steps and with no branch on the scalar.
+pub(crate) fn multiply_base(scalar: &[u8; 32]) -> ExtendedPoint
+    ensures { coordinates result ≡ multiple base scalar.now 256 }
+{
+    multiply(&prepared(base()), scalar)
 }
 
 /// The opposite of a point.
@@ -132,23 +173,23 @@ pub(crate) fn negate(p: ExtendedPoint) -> ExtendedPoint
 
 // A point and what two bits ask to be added to it. The bits are no secret.
 fn add_by(sum: ExtendedPoint, points: &Pair, i: u64, j: u64) -> ExtendedPoint
-    ensures { coordinates result ≡ point_add_by (coordinates sum) (coordinates points.now.first) (coordinates points.now.second) i j }
+    ensures { coordinates result ≡ point_add_by (coordinates sum) (coordinates points.now.first.point) (coordinates points.now.second.point) i j }
 {
     if i == 1 {
         if j == 1 {
-            return add(sum, points.both);
+            return add(sum, &points.both);
         }
-        return add(sum, points.first);
+        return add(sum, &points.first);
     }
     if j == 1 {
-        return add(sum, points.second);
+        return add(sum, &points.second);
     }
     sum
 }
 
 // The sum of a multiple of each of two points, by one pass over both scalars.
 fn multiply_pair(points: &Pair, s: &[u8; 32], k: &[u8; 32]) -> ExtendedPoint
-    ensures { coordinates result ≡ joint_multiple (coordinates points.now.first) (coordinates points.now.second) s.now k.now 256 }
+    ensures { coordinates result ≡ joint_multiple (coordinates points.now.first.point) (coordinates points.now.second.point) s.now k.now 256 }
 {
     let mut sum = neutral();
     'bits: for i in 0..SCALAR_BITS {
@@ -167,10 +208,11 @@ pub(crate) fn multiply_both(
 ) -> ExtendedPoint
     ensures { coordinates result ≡ joint_multiple (coordinates p) (coordinates q) s.now k.now 256 }
 {
+    let (first, second) = (prepared(p), prepared(q));
     let points = Pair {
-        first: p,
-        second: q,
-        both: add(p, q),
+        first,
+        second,
+        both: prepared(add(p, &second)),
     };
     multiply_pair(&points, s, k)
 }

@@ -3,13 +3,13 @@
 ghost use Rattle.std.specs.Prelude.{◌≡◌};
 ghost use Rattle.paseto_ed25519.specs.Point.{coordinates, point_add};
 
-use super::ExtendedPoint;
+use super::Addend;
 
 /// Two points, and their sum, which is made once.
 #[derive(Clone, Copy)]
 pub(crate) struct Pair {
-    pub(crate) first: ExtendedPoint,
-    pub(crate) second: ExtendedPoint,
-    pub(crate) both: ExtendedPoint,
-    ghost summed: { coordinates both ≡ point_add (coordinates first) (coordinates second) },
+    pub(crate) first: Addend,
+    pub(crate) second: Addend,
+    pub(crate) both: Addend,
+    ghost summed: { coordinates both.point ≡ point_add (coordinates first.point) (coordinates second.point) },
 }

@@ -8,7 +8,7 @@ bits-init c = c.neutral-sum.ensures ∙ sym (multiple_none _ _)
 
 pub bits-preserved : goal.bits-preserved
 bits-preserved c =
-    let p = coordinates c.args.p in
+    let p = coordinates c.args.q.now.point in
     let bytes = c.args.scalar.now in
     rw add-one (elim (bit_cases c.bit.result c.bit.ensures.bound) [
       | inl clear ↦ cc (c.choose_point-sum.ensures.zero clear, multiple_clear p bytes c.bits.i (sym c.bit.ensures.value ∙ clear))

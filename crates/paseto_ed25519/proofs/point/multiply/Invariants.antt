@@ -3,4 +3,4 @@ use Rattle.paseto_ed25519.specs.Point.{coordinates, multiple}
 use Rattle.paseto_ed25519.proofs.point.multiply.Given as goal
 
 abbrev pub invariant-bits : goal.invariant-bits
-invariant-bits l = coordinates l.sum ≡ multiple (coordinates l.p) l.scalar l.i
+invariant-bits l = coordinates l.sum ≡ multiple (coordinates l.q.point) l.scalar l.i

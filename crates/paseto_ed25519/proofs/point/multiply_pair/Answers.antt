@@ -8,7 +8,7 @@ bits-init c = c.neutral-sum.ensures ∙ sym (joint_none _ _ _ _)
 
 pub bits-preserved : goal.bits-preserved
 bits-preserved c =
-    let p = coordinates c.args.points.now.first in
-    let q = coordinates c.args.points.now.second in
+    let p = coordinates c.args.points.now.first.point in
+    let q = coordinates c.args.points.now.second.point in
     let step = joint_step p q c.args.s.now c.args.k.now c.bits.i in
     rw add-one (cc (c.bits.invariant, step))
