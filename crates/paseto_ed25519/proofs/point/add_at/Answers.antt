@@ -7,5 +7,10 @@ pub returns : goal.returns
 unfolding point_add
 returns c =
     let q = c.args.q.now in
-    cc (c.requires.product, q.is_difference, q.is_sum, q.is_scaled,
-    times_times (number c.args.p.t) twice_d (number q.point.t))
+    cc (
+      c.requires.product,
+      q.is_difference,
+      q.is_sum,
+      q.is_scaled,
+      times_times (number c.args.p.t) twice_d (number q.point.t),
+    )
