@@ -1,3 +1,4 @@
 pub mod Fields
 pub mod Primitives
+pub mod Schemes
 pub mod Tokens

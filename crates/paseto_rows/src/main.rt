@@ -6,6 +6,7 @@ mod error;
 mod fields;
 mod primitives;
 mod rows;
+mod schemes;
 mod tally;
 mod tokens;
 
@@ -20,7 +21,11 @@ fn main(rt: HostRuntime) -> Result<()> {
     let folder = env::args(&rt)?.nth(1).context("usage: paseto_rows FOLDER")?;
     let primitives = check_file(&rt, folder.as_str(), Rows::Primitives)?;
     let local_tokens = check_file(&rt, folder.as_str(), Rows::LocalTokens)?;
-    ensure!(primitives && local_tokens, "not every row agrees");
+    let schemes = check_file(&rt, folder.as_str(), Rows::Schemes)?;
+    ensure!(
+        primitives && local_tokens && schemes,
+        "not every row agrees"
+    );
     Ok(())
 }
 

@@ -34,7 +34,7 @@ pub fn check(alloc: Global, name: &str, fields: &[&str]) -> Result<(), RowError>
 }
 
 /// Agrees where the answer is the expected one.
-fn compare(answer: &[u8], expected: &[u8]) -> Result<(), RowError>
+pub(crate) fn compare(answer: &[u8], expected: &[u8]) -> Result<(), RowError>
     ensures { IsOk result ↔ (answer.now ≡ expected.now) }
 {
     if answer != expected {

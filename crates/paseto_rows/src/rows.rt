@@ -3,7 +3,7 @@
 
 use crate::error::RowError;
 use crate::tally::Tally;
-use crate::{primitives, tokens};
+use crate::{primitives, schemes, tokens};
 use std::alloc::Global;
 
 /// The kind of a file's rows.
@@ -13,6 +13,8 @@ pub enum Rows {
     Primitives,
     /// Local tokens.
     LocalTokens,
+    /// The box of version 2, and Ed25519.
+    Schemes,
 }
 
 impl Rows {
@@ -21,13 +23,14 @@ impl Rows {
         match self {
             Rows::Primitives => "primitives.txt",
             Rows::LocalTokens => "local_tokens.txt",
+            Rows::Schemes => "schemes.txt",
         }
     }
 
     /// What is said of rows that agree.
     pub fn agreement(self) -> &'static str {
         match self {
-            Rows::Primitives => "rows",
+            Rows::Primitives | Rows::Schemes => "rows",
             Rows::LocalTokens => "tokens sealed and opened",
         }
     }
@@ -46,6 +49,7 @@ impl Rows {
         match self {
             Rows::Primitives => primitives::check(alloc, name, fields)?,
             Rows::LocalTokens => tokens::check(alloc, name, fields)?,
+            Rows::Schemes => schemes::check(alloc, name, fields)?,
         }
         tally.count(name)?;
         Ok(())
