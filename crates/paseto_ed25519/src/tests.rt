@@ -1,5 +1,7 @@
 //! Values of RFC 8032, section 7.1, and signatures that OpenSSL made, with what is to be refused.
 
+mod tokens;
+
 use super::Ed25519;
 use rand_core::{Infallible, TryRng};
 use rusty_paseto_core::SignatureScheme;
