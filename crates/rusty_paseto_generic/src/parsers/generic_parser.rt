@@ -11,13 +11,13 @@ ghost use Rattle.rusty_paseto_core.specs.Local.Opening.{opening};
 ghost use Rattle.rusty_paseto_core.specs.Public.Verifying.{verification};
 ghost use Rattle.rusty_paseto_generic.specs.Error.Parser.{IsMemory, IsRefusal};
 ghost use Rattle.rusty_paseto_generic.specs.Parsers.Held.{judges_of, rules_of, verdicts_of, with_times};
-ghost use Rattle.rusty_paseto_generic.specs.Parsers.Parsing.{IsParseAnswer, assertion_in};
+ghost use Rattle.rusty_paseto_generic.specs.Parsers.Parsing.{IsParseAnswer, IsTextAnswer, assertion_in};
 ghost use Rattle.rusty_paseto_generic.specs.Parsers.Rules.{AreSame, IsStored, all_judged, all_stored, fault_in, no_rule, odd_fault, whole_answer, with_both, with_stored};
 
 use crate::builders::UnboxedVersion;
 use crate::error::GenericParserError;
 use crate::parsers::checks::Checks;
-use crate::parsers::parsing::parse_opened;
+use crate::parsers::parsing::{parse_opened, parse_text};
 use crate::parsers::setter::CheckSetter;
 use crate::validator::ValidatorFn;
 use jiff::Timestamp;
@@ -108,6 +108,20 @@ impl<'a, V: VersionTrait, P: PurposeTrait, B: Drop> TokenParser<'a, V, P, B> {
         self.footer.unwrap_or_default()
     }
 
+    /// The footer that was set, the empty one too, or `None` where none was. No memory is taken.
+    pub fn expected_footer(&self) -> Option<Footer<'a>>
+        ensures { result ≡ self.now.footer }
+    {
+        self.footer
+    }
+
+    /// The implicit assertion that was set, the empty one too, or `None` where none was. No memory is taken.
+    pub fn expected_assertion(&self) -> Option<ImplicitAssertion<'a>>
+        ensures { result ≡ self.now.implicit_assertion }
+    {
+        self.implicit_assertion
+    }
+
     /// Sets the footer, the empty one too, and keeps the rest. No memory is taken.
     pub fn set_footer(&mut self, footer: Footer<'a>) -> &mut Self
         ensures lent { result.ghost_name ≡ self.entry.ghost_name }
@@ -174,6 +188,19 @@ impl<'a, V: ImplicitAssertionCapable, P: PurposeTrait, B: Drop> TokenParser<'a, 
     {
         self.implicit_assertion = Some(implicit_assertion);
         self
+    }
+}
+
+impl<V: VersionTrait, P: PurposeTrait> TokenParser<'_, V, P, ValidatorFn> {
+    /// The value of a text that was opened or verified in another way, as by a key ring: what `parse` answers for a
+    /// token that holds this text.
+    ///
+    /// Else it answers the first fault of `parse` that is none of the token: `PayloadJsonError` or `ClaimError`.
+    /// `Memory` may come in place of any answer.
+    pub fn value_of(&self, text: &str) -> Result<Value, GenericParserError>
+        ensures { IsTextAnswer (verdicts_of (λ b. verdict b) self.now.moment.nanosecond self.now.checks) text.now result }
+    {
+        parse_text(&self.checks, self.moment, text)
     }
 }
 

@@ -15,10 +15,10 @@ use jiff::Timestamp;
 use rusty_paseto_core::PasetoError;
 use serde_json::Value;
 
-// The value of a text, which passes all checks at the moment. Else it answers the first of these: `PayloadJsonError` for
-// a text that is no JSON, `ClaimError` of `Unexpected` for a number that is not a whole number of 64 bits, and
-// `ClaimError` for the first key in byte order that fails its check.
-fn parse_text(
+/// The value of a text, which passes all checks at the moment. Else it answers the first of these: `PayloadJsonError` for
+/// a text that is no JSON, `ClaimError` of `Unexpected` for a number that is not a whole number of 64 bits, and
+/// `ClaimError` for the first key in byte order that fails its check.
+pub(crate) fn parse_text(
     checks: &Checks<ValidatorFn>,
     now: Timestamp,
     text: &str,

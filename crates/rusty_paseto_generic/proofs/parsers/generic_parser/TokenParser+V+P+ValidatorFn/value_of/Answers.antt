@@ -1,0 +1,5 @@
+use Rattle.rusty_paseto_generic.proofs.ParseLemmas.{text_answer}
+use Rattle.rusty_paseto_generic.proofs.parsers.generic_parser.TokenParser+V+P+ValidatorFn.value_of.Goals as goal
+
+pub returns : goal.returns
+returns g c = text_answer _ _ c.parse_text.result c.parse_text.ensures.ok c.parse_text.ensures.err
