@@ -1,15 +1,22 @@
 -- What a ring answers for a token.
-use Rattle.std.proofs.Common.{◌≡◌, ◌⊎◌, inl, inr, ℕ, List, Some, None, Result, Ok, Err, String, Global, string_bytes, sym, subst}
+use Rattle.std.proofs.Common.{◌≡◌, ◌⊎◌, inl, inr, ℕ, List, Option, Some, None, refl, unwrap_or, Result, Ok, Err, String, Global, string_bytes, sym, subst}
 use Rattle.rusty_paseto_core.specs.Reading.{IsAnswer, IsFault, IsRead}
 use Rattle.rusty_paseto_parts.specs.Error.{IsMemory as IsMemoryOfCipher}
+use Rattle.rusty_paseto_parts.specs.Footer.{footer_text}
+use Rattle.rusty_paseto_parts.specs.declared.texts.footer.Footer.{Footer}
 use Rattle.rusty_paseto_parts.specs.declared.error.PasetoError.{PasetoError}
-use Rattle.rusty_paseto.specs.KeyRing.{HasFooter, IsFirstFault, IsHandedOn, IsMemory, IsOpened, IsOpenedUnder, IsRingAnswer, Keys, Names, NamesKey, Readings}
+use Rattle.rusty_paseto.specs.KeyRing.{HasFooter, IsFirstFault, IsHandedOn, IsMemory, IsOpened, IsOpenedUnder, IsRingAnswer, Keys, Names, NamesKey, Readings, read_under}
 use Rattle.rusty_paseto.specs.declared.error.KeyRingError.{KeyRingError}
 use Rattle.rusty_paseto.specs.declared.error.KeyRingError.TheVariants.{UnknownKey, Token}
 
 stays_memory : (source : PasetoError) (handed error : KeyRingError) → IsHandedOn source handed error → IsMemoryOfCipher source → IsMemory error
 stays_memory source handed error (inl both) memory = both.1
 stays_memory source handed error (inr other) memory = absurd (other.0 memory)
+
+-- the footer under which a token is read, as a text
+pub bound_text : (expected : Option Footer) (own : Footer) → footer_text (unwrap_or expected own) ≡ read_under expected (footer_text own)
+bound_text (Some other) own = refl
+bound_text None own = refl
 
 -- an error that is not want of memory is handed on
 pub handed_on : (source known : PasetoError) (handed error : KeyRingError) → source ≡ known → ¬ IsMemoryOfCipher known → IsHandedOn source handed error → error ≡ handed

@@ -1,6 +1,6 @@
 -- What a contract sees of the keys that a default builder counts, and of those that a ring holds.
-use Rattle.std.specs.Prelude.{option_map, string_bytes}
-use Rattle.std.specs.BTreeMap.{get_by_text}
+use Rattle.std.specs.Prelude.{ℕ, List, map, option_map, string_bytes}
+use Rattle.std.specs.BTreeMap.{get_by_text, keys}
 use Rattle.std.specs.BTreeSet.{contains_text}
 use Rattle.rusty_paseto.specs.KeyRing as ring
 use Rattle.rusty_paseto.specs.PasetoBuilder.{Counting}
@@ -9,6 +9,10 @@ use Rattle.rusty_paseto.specs.declared.keys.Keys.{Keys}
 
 abbrev pub counting : Keys → Counting
 counting keys = record { is_counted = λ key. contains_text keys.counted key; repeated = option_map string_bytes keys.repeated }
+
+-- the ids of a ring's keys, in their order
+abbrev pub ids_of : {V : Type 0} → KeyRing V → List (List ℕ)
+ids_of held = map string_bytes (keys held.keys)
 
 -- the keys of a ring by their ids
 abbrev pub keys_of : {V : Type 0} → KeyRing V → ring.Keys

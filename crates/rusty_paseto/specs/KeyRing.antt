@@ -6,6 +6,8 @@ use Rattle.serde_json.specs.Data.{Data, string}
 use Rattle.serde_json.specs.Find.{as_object, get}
 use Rattle.serde_json.specs.Read.{read}
 use Rattle.rusty_paseto_core.specs.Reading.{IsFault, IsRead, Reading}
+use Rattle.rusty_paseto_parts.specs.Footer.{footer_text}
+use Rattle.rusty_paseto_parts.specs.declared.texts.footer.Footer.{Footer}
 use Rattle.rusty_paseto_parts.specs.Error.{IsMemory as IsMemoryOfCipher}
 use Rattle.rusty_paseto_parts.specs.Section.{HasCount, sections}
 use Rattle.rusty_paseto_parts.specs.UntrustedToken.{HasFooterText, IsTokenFooterFault}
@@ -27,6 +29,10 @@ AreSame keys others = (id : List ℕ) → keys id ≡ others id
 -- the id has the key, and every other id has what it had
 abbrev pub with_key : List ℕ → List ℕ → Keys → Keys
 with_key id key old other = if bytes_eq id other then Some key else old other
+
+-- the id has no key, and every other id has what it had
+abbrev pub without_key : List ℕ → Keys → Keys
+without_key id old other = if bytes_eq id other then None else old other
 
 -- ---- the footer
 
@@ -55,6 +61,16 @@ abbrev pub IsNamingFault : List ℕ → KeyRingError → Type 0
 IsNamingFault footer NotAnObject = (value : Data) → ¬ IsObject footer value
 IsNamingFault footer NoKeyId = (value : Data) × IsObject footer value × ((id : List ℕ) → ¬ HasId value id)
 IsNamingFault footer _ = ⊥
+
+-- the error is the first reason why the footer names no key of these: it names no id, or one that has none
+abbrev pub IsKeyFault : Keys → List ℕ → KeyRingError → Type 0
+IsKeyFault keys footer (UnknownKey id) = Names footer (string_bytes id) × (keys (string_bytes id) ≡ None)
+IsKeyFault keys footer error = IsNamingFault footer error
+
+-- the footer under which a token is read: the one that is expected, where one is, and else its own
+abbrev pub read_under : Option Footer → List ℕ → List ℕ
+read_under (Some expected) own = footer_text expected
+read_under None own = own
 
 -- ---- the token
 

@@ -1,14 +1,16 @@
 //! A ring of keys, in which a token's footer picks the key.
 
-ghost use Rattle.std.specs.Prelude.{◌≡◌, ◌⊎◌, ℕ, List, [], false, Some, None, Err, IfOk, IfErr, OnOk, OnErr, MatchResult, string_bytes};
+ghost use Rattle.std.specs.Prelude.{◌≡◌, ◌⊎◌, ℕ, List, [], false, length, map, Some, None, String, Err, IfOk, IfErr, OnOk, OnErr, MatchResult, is_some, option_map, string_bytes};
 ghost use Rattle.serde_json.specs.View.{view};
 ghost use Rattle.rusty_paseto_core.specs.Context.{assertion_of};
 ghost use Rattle.rusty_paseto_core.specs.Local.Opening.{opening};
 ghost use Rattle.rusty_paseto_core.specs.Local.V1.{v1};
 ghost use Rattle.rusty_paseto_parts.specs.Section.{HasCount, sections};
 ghost use Rattle.rusty_paseto_parts.specs.declared.error.PasetoError.TheVariants.{IncorrectSize};
-ghost use Rattle.rusty_paseto.specs.Held.{keys_of};
-ghost use Rattle.rusty_paseto.specs.KeyRing.{AreSame, HasFooter, IsMemory, IsHandedOn, IsNamingFault, IsObject, IsOpenedUnder, IsRingAnswer, IsUntrustedFault, Names, with_key};
+ghost use Rattle.std.specs.Map.Iter.{ShowsInOrder, deref};
+ghost use Rattle.std.specs.Global.{Global};
+ghost use Rattle.rusty_paseto.specs.Held.{ids_of, keys_of};
+ghost use Rattle.rusty_paseto.specs.KeyRing.{AreSame, HasFooter, IsMemory, IsHandedOn, IsKeyFault, IsNamingFault, IsObject, IsOpenedUnder, IsRingAnswer, IsUntrustedFault, Names, read_under, with_key, without_key};
 ghost use Rattle.rusty_paseto.specs.declared.error.KeyRingError.TheVariants.{NotAnObject, Untrusted};
 
 use crate::error::KeyRingError;
@@ -17,9 +19,13 @@ use rusty_paseto_core::{Footer, ImplicitAssertion, Local, PasetoError, PasetoSym
 use serde_json::Value;
 use std::alloc::{AllocError, Global};
 use std::collections::BTreeMap;
+use std::collections::btree_map::Keys;
 
 /// Keys by their ids, of which a token's footer names the one that opens it: the footer is the JSON of an object
 /// with the id as the text under `kid`.
+///
+/// `open` checks no claim: it answers the text of a token that has expired, too. `parse` answers the claims where they
+/// pass a parser's checks.
 ///
 /// A service that changes its keys puts the new one beside the old one, and seals under the new one with its id in
 /// the footer. Tokens of both open until the old key is left out of the ring.
@@ -30,7 +36,7 @@ use std::collections::BTreeMap;
 /// ```rust
 /// let mut ring = KeyRing::<V4>::new(alloc);
 /// ring.add("2026-11", key)?;
-/// let (id, text) = ring.open(token, None)?;
+/// let (id, claims) = ring.parse(&PasetoParser::default(alloc, now)?, token)?;
 /// ```
 #[derive(Drop)]
 pub struct KeyRing<V> {
@@ -61,6 +67,53 @@ impl<V: BoxlessVersion> KeyRing<V> {
         Ok(())
     }
 
+    /// Takes the key of an id out, and answers whether there was one. Every other key stays, and tokens of this one
+    /// open no more. No memory is taken.
+    pub fn remove(&mut self, id: &str) -> bool
+        ensures change { AreSame (keys_of self.new) (without_key id.now (keys_of self.old)) }
+        ensures found { result ≡ is_some (keys_of self.old id.now) }
+    {
+        self.keys.remove(id).is_some()
+    }
+
+    /// The key of an id, as the one to seal under. No memory is taken.
+    pub fn key(&self, id: &str) -> Option<&PasetoSymmetricKey<V, Local>>
+        ensures { option_map (λ key. key.now) result ≡ keys_of self.now id.now }
+    {
+        self.keys.get(id)
+    }
+
+    /// The ids of the keys, in the order of their bytes. No memory is taken.
+    pub fn ids(&self) -> Keys<'_, String, PasetoSymmetricKey<V, Local>>
+        ensures ids { map string_bytes result ≡ ids_of self.now }
+        ensures runs { ShowsInOrder (deref {X = String Global}) }
+    {
+        self.keys.keys()
+    }
+
+    /// How many keys there are. No memory is taken.
+    pub fn len(&self) -> usize
+        ensures { result ≡ length (ids_of self.now) }
+    {
+        self.keys.len()
+    }
+
+    /// The key that a footer names, for a parser that is to open the token under it: the footer is that of
+    /// `Footer::try_from_token`, and the parser's has to be the same. `parse` does all of it.
+    ///
+    /// Else it answers the first of these: `NotAnObject`; `NoKeyId`; `UnknownKey` with the id. `Memory` may come in
+    /// place of any answer.
+    pub fn key_of(&self, footer: &str) -> Result<&PasetoSymmetricKey<V, Local>, KeyRingError>
+        ensures ok { IfOk result (λ key. (id : List ℕ) × Names footer.now id × (keys_of self.now id ≡ Some key.now)) }
+        ensures err { IfErr result (λ error. IsMemory error ⊎ IsKeyFault (keys_of self.now) footer.now error) }
+    {
+        let id = key_id(self.alloc, footer)?;
+        match self.keys.get(id.as_str()) {
+            Some(key) => Ok(key),
+            None => Err(KeyRingError::UnknownKey(id)),
+        }
+    }
+
     // Puts a key under the id that is handed in.
     fn put(&mut self, id: String, key: PasetoSymmetricKey<V, Local>) -> Result<(), AllocError>
         ensures ok { OnOk result (AreSame (keys_of self.new) (with_key (string_bytes id) key (keys_of self.old))) }
@@ -70,15 +123,16 @@ impl<V: BoxlessVersion> KeyRing<V> {
         Ok(())
     }
 
-    // The id that the token's footer names, and the text as which the token opens under that id's key. In version 1,
-    // which has no implicit assertion, none may be given.
+    // The id that the token's footer names, and the text as which the token opens under that id's key and the footer
+    // that is expected, its own where none is. In version 1, which has no implicit assertion, none may be given.
     fn open_bound(
         &self,
         token: &str,
+        expected: Option<Footer<'_>>,
         implicit_assertion: Option<ImplicitAssertion<'_>>,
     ) -> Result<(String, String), KeyRingError>
         requires { V.design.binds_assertion ≡ false → implicit_assertion ≡ None }
-        ensures { IsRingAnswer (keys_of self.now) (λ key footer. opening V.design (record { key = key; footer = footer; assertion = assertion_of implicit_assertion.entry })) token.now result }
+        ensures { IsRingAnswer (keys_of self.now) (λ key footer. opening V.design (record { key = key; footer = read_under expected.entry footer; assertion = assertion_of implicit_assertion.entry })) token.now result }
     {
         let footer = footer_of(self.alloc, token)?;
         let id = key_id(self.alloc, footer.as_str())?;
@@ -86,15 +140,16 @@ impl<V: BoxlessVersion> KeyRing<V> {
             return Err(KeyRingError::UnknownKey(id));
         };
         let footer = Footer::from(footer.as_str());
+        let bound = expected.unwrap_or(footer);
         answer(
             id,
-            V::open(self.alloc, token, key, Some(footer), implicit_assertion),
+            V::open(self.alloc, token, key, Some(bound), implicit_assertion),
         )
     }
 }
 
 impl KeyRing<V1> {
-    /// Opens a token under the key that its footer names: the id, and the text that was sealed.
+    /// Opens a token under the key that its footer names, and checks no claim: the id, and the text that was sealed.
     ///
     /// Else it answers the first of these: `Untrusted` of `IncorrectSize` for a number of sections other than three
     /// or four, and of `PayloadBase64Decode` or `Utf8Error` for a fourth section that holds no text; `NoFooter`;
@@ -103,13 +158,13 @@ impl KeyRing<V1> {
     pub fn open(&self, token: &str) -> Result<(String, String), KeyRingError>
         ensures { IsRingAnswer (keys_of self.now) (λ key footer. opening v1 (record { key = key; footer = footer; assertion = [] })) token.now result }
     {
-        self.open_bound(token, None)
+        self.open_bound(token, None, None)
     }
 }
 
 impl<V: AssertingVersion> KeyRing<V> {
-    /// Opens a token under the key that its footer names, and under the implicit assertion: the id, and the text
-    /// that was sealed. An absent assertion and the empty one are the same. The faults are those of version 1, in
+    /// Opens a token under the key that its footer names, and under the implicit assertion, and checks no claim: the
+    /// id, and the text that was sealed. An absent assertion and the empty one are the same. The faults are those of version 1, in
     /// the same order.
     pub fn open(
         &self,
@@ -118,7 +173,7 @@ impl<V: AssertingVersion> KeyRing<V> {
     ) -> Result<(String, String), KeyRingError>
         ensures { IsRingAnswer (keys_of self.now) (λ key footer. opening V.design (record { key = key; footer = footer; assertion = assertion_of implicit_assertion.entry })) token.now result }
     {
-        self.open_bound(token, implicit_assertion)
+        self.open_bound(token, None, implicit_assertion)
     }
 }
 
