@@ -1,4 +1,5 @@
 pub mod MomentLemmas
 pub mod KeyLemmas
 pub mod KeyRingLemmas
+pub mod KeyRingParsing
 pub mod StaysOut

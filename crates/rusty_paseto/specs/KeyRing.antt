@@ -5,6 +5,8 @@ use Rattle.std.specs.List.{slice_get}
 use Rattle.serde_json.specs.Data.{Data, string}
 use Rattle.serde_json.specs.Find.{as_object, get}
 use Rattle.serde_json.specs.Read.{read}
+use Rattle.serde_json.specs.View.{view}
+use Rattle.serde_json.specs.declared.value.Value.{Value}
 use Rattle.rusty_paseto_core.specs.Reading.{IsFault, IsRead, Reading}
 use Rattle.rusty_paseto_parts.specs.Footer.{footer_text}
 use Rattle.rusty_paseto_parts.specs.declared.texts.footer.Footer.{Footer}
@@ -14,6 +16,13 @@ use Rattle.rusty_paseto_parts.specs.UntrustedToken.{HasFooterText, IsTokenFooter
 use Rattle.rusty_paseto_parts.specs.declared.error.PasetoError.{PasetoError}
 use Rattle.rusty_paseto_parts.specs.declared.error.PasetoError.TheVariants as Cipher
 use Rattle.rusty_paseto.specs.declared.error.KeyRingError.{KeyRingError}
+use Rattle.rusty_paseto_generic.specs.Parsers.Parsing.{IsTextFault, IsValueOf}
+use Rattle.rusty_paseto_generic.specs.Parsers.Rules.{Rules}
+use Rattle.rusty_paseto_generic.specs.Validator.{Verdict}
+use Rattle.rusty_paseto_generic.specs.declared.error.GenericParserError.{GenericParserError}
+use Rattle.rusty_paseto_generic.specs.declared.error.GenericParserError.TheVariants as Generic
+use Rattle.rusty_paseto.specs.declared.error.KeyRingParserError.{KeyRingParserError}
+use Rattle.rusty_paseto.specs.declared.error.KeyRingParserError.TheVariants.{Ring, Parser, Memory as NoMemory}
 use Rattle.rusty_paseto.specs.declared.error.KeyRingError.TheVariants.{Untrusted, NoFooter, NotAnObject, NoKeyId, UnknownKey, Token, Memory}
 
 -- ---- the keys
@@ -120,7 +129,51 @@ pub record IsRingAnswer (keys : Keys) (reading : Readings) (token : List ℕ) (r
   pub count : ¬ HasCount (sections token) → result ≡ Err (Untrusted Cipher.IncorrectSize)
   pub fault : IfErr result (λ error. IsMemory error ⊎ IsFirstFault keys reading token error)
 
+-- ---- the claims
+
+-- the token opens as a text, and that is read as the value, which passes what is checked under every key
+pub record IsParsed (keys : Keys) (reading : Readings) (rules : Rules Verdict) (token id : List ℕ) (value : Data) : Type 0 where
+  pub text : List ℕ
+  pub is_opened : IsOpened keys reading token id text
+  pub is_value : IsValueOf rules text value
+
+-- the error is the first fault: one of opening the token, or else of the text as which it opens
+abbrev pub IsFirstParsingFault : Keys → Readings → Rules Verdict → List ℕ → KeyRingParserError → Type 0
+IsFirstParsingFault keys reading rules token (Ring source) = IsFirstFault keys reading token source
+IsFirstParsingFault keys reading rules token (Parser source) =
+    (id : List ℕ) × (text : List ℕ) × IsOpened keys reading token id text × IsTextFault rules text source
+IsFirstParsingFault keys reading rules token (NoMemory _) = ⊥
+
+-- memory was refused
+abbrev pub IsNoMemory : KeyRingParserError → Type 0
+IsNoMemory (NoMemory _) = ⊤
+IsNoMemory _ = ⊥
+
+-- the answer is this id and this value
+abbrev pub IsIdAndValue : List ℕ → Data → String Global × Value → Type 0
+IsIdAndValue id value found = (string_bytes found.0 ≡ id) × (view found.1 ≡ value)
+
+-- the answer for a token: an id and the value as which it is parsed, these wherever there are such unless memory is
+-- refused, and else the first fault; a wrong number of sections whatever memory there is
+pub record IsParsingAnswer (keys : Keys) (reading : Readings) (rules : Rules Verdict) (token : List ℕ)
+    (result : Result (String Global × Value) KeyRingParserError) : Type 0 where
+  pub parsed : IfOk result (λ found. IsParsed keys reading rules token (string_bytes found.0) (view found.1))
+  pub complete : (id : List ℕ) (value : Data) → IsParsed keys reading rules token id value
+      → MatchResult result (IsIdAndValue id value) IsNoMemory
+  pub count : ¬ HasCount (sections token) → result ≡ Err (Ring (Untrusted Cipher.IncorrectSize))
+  pub fault : IfErr result (λ error. IsNoMemory error ⊎ IsFirstParsingFault keys reading rules token error)
+
 -- ---- for private clauses
+
+-- the error of a ring as one of parsing: out of memory stays so
+abbrev pub of_ring : KeyRingError → KeyRingParserError
+of_ring (Memory refused) = NoMemory refused
+of_ring error = Ring error
+
+-- the error of a parser as one of parsing by a ring: out of memory stays so
+abbrev pub of_parser : GenericParserError → KeyRingParserError
+of_parser (Generic.Memory refused) = NoMemory refused
+of_parser error = Parser error
 
 -- the error is the first fault of finding the footer: one of reading the token's sections, or no footer
 abbrev pub IsUntrustedFault : List ℕ → KeyRingError → Type 0

@@ -1,9 +1,11 @@
 //! The general error, and why a key ring refused a token.
 
 ghost use Rattle.std.specs.Prelude.{◌≡◌};
+ghost use Rattle.rusty_paseto.specs.KeyRing.{of_parser, of_ring};
 ghost use Rattle.rusty_paseto.specs.declared.error.KeyRingError.TheVariants.{Memory};
 
 use rusty_paseto_core::PasetoError;
+use rusty_paseto_generic::GenericParserError;
 use std::alloc::AllocError;
 use thiserror::Error;
 
@@ -56,5 +58,43 @@ impl From<AllocError> for KeyRingError {
 
     fn from(source: AllocError) -> KeyRingError {
         KeyRingError::Memory(source)
+    }
+}
+
+/// Why a key ring answered no claims for a token.
+///
+/// The variants stand in the order in which a token is judged.
+#[derive(Debug, Drop, Error)]
+pub enum KeyRingParserError {
+    /// The ring opened no token. Never `KeyRingError::Memory`.
+    #[error("{0}")]
+    Ring(KeyRingError),
+    /// The text that was opened is no JSON, or did not pass the checks. Neither `CipherError` nor `Memory`.
+    #[error("{0}")]
+    Parser(GenericParserError),
+    /// Memory was refused.
+    #[error("No memory was found")]
+    Memory(AllocError),
+}
+
+impl From<KeyRingError> for KeyRingParserError {
+    ghost from_gives = { λ source error. error ≡ of_ring source };
+
+    fn from(source: KeyRingError) -> KeyRingParserError {
+        match source {
+            KeyRingError::Memory(refused) => KeyRingParserError::Memory(refused),
+            fault => KeyRingParserError::Ring(fault),
+        }
+    }
+}
+
+impl From<GenericParserError> for KeyRingParserError {
+    ghost from_gives = { λ source error. error ≡ of_parser source };
+
+    fn from(source: GenericParserError) -> KeyRingParserError {
+        match source {
+            GenericParserError::Memory(refused) => KeyRingParserError::Memory(refused),
+            fault => KeyRingParserError::Parser(fault),
+        }
     }
 }

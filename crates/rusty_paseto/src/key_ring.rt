@@ -5,17 +5,21 @@ ghost use Rattle.serde_json.specs.View.{view};
 ghost use Rattle.rusty_paseto_core.specs.Context.{assertion_of};
 ghost use Rattle.rusty_paseto_core.specs.Local.Opening.{opening};
 ghost use Rattle.rusty_paseto_core.specs.Local.V1.{v1};
+ghost use Rattle.rusty_paseto_generic.specs.Parsers.Held.{verdicts_of};
+ghost use Rattle.rusty_paseto_generic.specs.Parsers.Parsing.{assertion_in};
 ghost use Rattle.rusty_paseto_parts.specs.Section.{HasCount, sections};
 ghost use Rattle.rusty_paseto_parts.specs.declared.error.PasetoError.TheVariants.{IncorrectSize};
 ghost use Rattle.std.specs.Map.Iter.{ShowsInOrder, deref};
 ghost use Rattle.std.specs.Global.{Global};
 ghost use Rattle.rusty_paseto.specs.Held.{ids_of, keys_of};
-ghost use Rattle.rusty_paseto.specs.KeyRing.{AreSame, HasFooter, IsMemory, IsHandedOn, IsKeyFault, IsNamingFault, IsObject, IsOpenedUnder, IsRingAnswer, IsUntrustedFault, Names, read_under, with_key, without_key};
+ghost use Rattle.rusty_paseto.specs.KeyRing.{AreSame, HasFooter, IsMemory, IsHandedOn, IsKeyFault, IsNamingFault, IsObject, IsOpenedUnder, IsParsingAnswer, IsRingAnswer, IsUntrustedFault, Names, read_under, with_key, without_key};
 ghost use Rattle.rusty_paseto.specs.declared.error.KeyRingError.TheVariants.{NotAnObject, Untrusted};
 
-use crate::error::KeyRingError;
+use crate::error::{KeyRingError, KeyRingParserError};
+use crate::paseto_parser::PasetoParser;
 use crate::version::{AssertingVersion, BoxlessVersion};
 use rusty_paseto_core::{Footer, ImplicitAssertion, Local, PasetoError, PasetoSymmetricKey, V1};
+use rusty_paseto_generic::GenericParser;
 use serde_json::Value;
 use std::alloc::{AllocError, Global};
 use std::collections::BTreeMap;
@@ -121,6 +125,41 @@ impl<V: BoxlessVersion> KeyRing<V> {
     {
         drop(self.keys.insert(id, key)?);
         Ok(())
+    }
+
+    /// Opens a token under the key that its footer names and under the parser's implicit assertion, and answers the
+    /// id and the value of its text, which passes the parser's checks at the parser's moment. Where a footer was set
+    /// in the parser, the token's has to be that one.
+    ///
+    /// Else it answers the first of these: `Ring` with the fault of `open`, where `Token` of `FooterInvalid` tells of
+    /// another footer than the parser's; `Parser` with the fault of the text, as `parse` of the parser answers it.
+    /// `Memory` may come in place of any answer but that of a wrong number of sections.
+    pub fn parse(
+        &self,
+        parser: &PasetoParser<'_, V, Local>,
+        token: &str,
+    ) -> Result<(String, Value), KeyRingParserError>
+        ensures { let assertion = assertion_in V.design.binds_assertion parser.now.parser.implicit_assertion in
+            IsParsingAnswer (keys_of self.now) (λ key footer. opening V.design (record { key = key; footer = read_under parser.now.parser.footer footer; assertion = assertion_of assertion }))
+            (verdicts_of (λ b. verdict b) parser.now.parser.moment.nanosecond parser.now.parser.checks) token.now result }
+    {
+        self.parse_by(&parser.parser, token)
+    }
+
+    /// The same by a generic parser.
+    pub fn parse_by(
+        &self,
+        parser: &GenericParser<'_, V, Local>,
+        token: &str,
+    ) -> Result<(String, Value), KeyRingParserError>
+        ensures { let assertion = assertion_in V.design.binds_assertion parser.now.implicit_assertion in
+            IsParsingAnswer (keys_of self.now) (λ key footer. opening V.design (record { key = key; footer = read_under parser.now.footer footer; assertion = assertion_of assertion }))
+            (verdicts_of (λ b. verdict b) parser.now.moment.nanosecond parser.now.checks) token.now result }
+    {
+        let assertion = V::bound_assertion(parser.expected_assertion());
+        let (id, text) = self.open_bound(token, parser.expected_footer(), assertion)?;
+        let value = parser.value_of(text.as_str())?;
+        Ok((id, value))
     }
 
     // The id that the token's footer names, and the text as which the token opens under that id's key and the footer

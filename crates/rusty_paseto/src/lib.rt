@@ -23,7 +23,7 @@ pub mod prelude;
 mod setter;
 mod version;
 
-pub use error::{GeneralPasetoError, KeyRingError};
+pub use error::{GeneralPasetoError, KeyRingError, KeyRingParserError};
 pub use key_ring::KeyRing;
 pub use moment::fits_default;
 pub use paseto_builder::PasetoBuilder;

@@ -42,7 +42,7 @@ pub type PasetoParser<'a, V, P> = DefaultParser<'a, V, P, ValidatorFn>;
 /// A parser whose validators are of the type `B`: a [`PasetoParser`], where that is a box.
 #[derive(Drop)]
 pub struct DefaultParser<'a, V, P, B> {
-    parser: TokenParser<'a, V, P, B>,
+    pub(crate) parser: TokenParser<'a, V, P, B>,
 }
 
 impl<'a, V: VersionTrait, P: PurposeTrait, B: Drop> DefaultParser<'a, V, P, B> {
