@@ -6,9 +6,10 @@
 #   tests/memory.sh [PROGRAM TOOL]
 #
 # Without words it takes the programs that `rt run` leaves in the crates' out/, and builds them where they are
-# not there. A row of the table is a call, how many requests it makes, and how often a run that met a refusal
-# answered want of memory, or what is right all the same. The last line is 'N passed, M failed', and the
-# status is 0 where none failed.
+# not there. A row of the table is a call, how many requests it makes, for how many bytes in all, and how often a
+# run that met a refusal answered want of memory, or what is right all the same. The table is compared with
+# tests/memory.txt, row by row, so that a call that takes more memory than before fails. The last line is
+# 'N passed, M failed', and the status is 0 where none failed.
 set -u
 export LC_ALL=C
 
@@ -77,14 +78,19 @@ declare -A unharmed=()
 
 # ---- the cases
 
-# ask VARIABLE N NAME: runs a case. Sets requests, refused and answer.
+# row NAME REQUESTS BYTES MEMORY RIGHT: a row of the table, printed and kept.
+row() {
+    printf '%-74s %8d %8d %8d %8d\n' "$@" | tee -a "$work/table"
+}
+
+# ask VARIABLE N NAME: runs a case. Sets requests, bytes, refused and answer.
 ask() {
     local output
     output=$(timeout 60 env LD_PRELOAD="$library" "$1=$2" "$program" "$3" 2>&1)
-    if [[ $output =~ ^'requests '([0-9]+)' refused '([0-9]+)$'\n'"$3: "(.*)$ ]]; then
-        requests=${BASH_REMATCH[1]} refused=${BASH_REMATCH[2]} answer=${BASH_REMATCH[3]}
+    if [[ $output =~ ^'requests '([0-9]+)' bytes '([0-9]+)' refused '([0-9]+)$'\n'"$3: "(.*)$ ]]; then
+        requests=${BASH_REMATCH[1]} bytes=${BASH_REMATCH[2]} refused=${BASH_REMATCH[3]} answer=${BASH_REMATCH[4]}
     else
-        requests=0 refused=0 answer=${output:0:200}
+        requests=0 bytes=0 refused=0 answer=${output:0:200}
     fi
 }
 
@@ -92,7 +98,7 @@ ask() {
 most=1000
 
 # check_mode NAME VARIABLE: refuses by the variable, counting upwards. Adds to memory and harmless, and sets
-# total to what the call requests where none is refused.
+# total and size to how many requests the call makes where none is refused, and for how many bytes.
 check_mode() {
     local n
     for ((n = 1; n <= most; n++)); do
@@ -100,7 +106,7 @@ check_mode() {
         case "$refused $answer" in
             '0 right, then right')
                 pass
-                total=$requests
+                total=$requests size=$bytes
                 return ;;
             0\ *) ;;
             *' memory, then right')
@@ -119,10 +125,10 @@ check_mode() {
 
 # check_case NAME: refuses in both ways, and prints the row.
 check_case() {
-    local memory=0 harmless=0 total=0
+    local memory=0 harmless=0 total=0 size=0
     check_mode "$1" REFUSE_AT
     check_mode "$1" REFUSE_FROM
-    printf '%-74s %8d %8d %8d\n' "$1" "$total" "$memory" "$harmless"
+    row "$1" "$total" "$size" "$memory" "$harmless"
     case "$1" in
         *'with no memory'*)
             if [ "$total" -eq 0 ]; then pass; else fail "$1: makes requests"; fi ;;
@@ -136,7 +142,7 @@ if ! "$program" >"$work/cases" 2>"$work/err" || grep -qv ': right, then right$' 
 fi
 sed 's/: right, then right$//' "$work/cases" >"$work/names"
 
-printf '%-74s %8s %8s %8s\n' 'call' 'requests' 'memory' 'right'
+printf '%-74s %8s %8s %8s %8s\n' 'call' 'requests' 'bytes' 'memory' 'right'
 while IFS= read -r name; do
     check_case "$name"
 done <"$work/names"
@@ -169,7 +175,7 @@ echo 'texts of 0 to 1,000,000 bytes: no call wants memory'
 key=77756262616c7562626164756264756277756262616c75626261647562647562
 zero=0000000000000000000000000000000000000000000000000000000000000000
 
-# call VARIABLE N WORD..: runs the program on $work/in. Sets requests, refused and status.
+# call VARIABLE N WORD..: runs the program on $work/in. Sets requests, bytes, refused and status.
 call() {
     local variable=$1 n=$2
     shift 2
@@ -177,8 +183,8 @@ call() {
     timeout 10 env LD_PRELOAD="$library" REFUSE_REPORT="$work/report" "$variable=$n" \
         "$tool" "$@" <"$work/in" >"$work/out" 2>"$work/err"
     status=$?
-    requests=0 refused=0
-    [ -f "$work/report" ] && read -r _ requests _ refused <"$work/report"
+    requests=0 bytes=0 refused=0
+    [ -f "$work/report" ] && read -r _ requests _ bytes _ refused <"$work/report"
 }
 
 # ends_as NAME: whether standard output and standard error are as in these files.
@@ -216,19 +222,19 @@ check_calls() {
 
 # check_tool INPUT WORD..: a command, whose status and output are first told without refusal.
 check_tool() {
-    local memory=0 harmless=0 total wanted end=
+    local memory=0 harmless=0 total size wanted end=
     printf %s "$1" >"$work/in"
     shift
     : >"$work/memory.out"
     echo 'No memory was found' >"$work/memory.err"
     call REFUSE_AT 0 "$@"
-    wanted=$status total=$requests
+    wanted=$status total=$requests size=$bytes
     [ "$wanted" -eq 0 ] || end=', refused'
     mv "$work/out" "$work/right.out"
     mv "$work/err" "$work/right.err"
     check_calls REFUSE_AT "$@"
     check_calls REFUSE_FROM "$@"
-    printf '%-74s %8d %8d %8d\n' "paseto_tool $1 ${2:0:2}$end" "$total" "$memory" "$harmless"
+    row "paseto_tool $1 ${2:0:2}$end" "$total" "$size" "$memory" "$harmless"
     if [ "$total" -gt 0 ]; then pass; else fail "paseto_tool $*: makes no request"; fi
 }
 
@@ -241,5 +247,13 @@ for version in v1 v3 v4; do
     check_tool 'no token' open $version "$key"
 done
 check_tool '' reveal v4.local.payload
+
+# ---- no call takes more than it did
+
+if differences=$(diff "$root/tests/memory.txt" "$work/table"); then
+    pass
+else
+    fail "the table is not that of tests/memory.txt: $differences"
+fi
 
 finish

@@ -35,6 +35,9 @@ VERSIONS = {
 # The purpose of the tokens of a trait whose methods have a version as `Self`.
 PURPOSES = {"LocalVersion": "local", "Signs": "public", "Verifies": "public"}
 
+# The traits of setters, each of which is listed with the types that have it: `TokenParser::put_check`.
+SETTERS = {"ClaimSetter", "CheckSetter", "CountingSetter"}
+
 # Bounds by which a version is any.
 ANY_VERSION = {"VersionTrait"}
 
@@ -140,7 +143,7 @@ def kinds_of(bounds, target, where):
     return []
 
 
-def listed(block, name, where):
+def listed(block, name, where, setters):
     """The lines for a function of a block, which is empty for a function of its own."""
     if not block:
         return [name]
@@ -148,18 +151,35 @@ def listed(block, name, where):
     rest = rest.strip()
     if re.match(r"^(pub )?trait", block):
         trait = re.match(r"\w+", rest).group(0)
+        if trait in SETTERS:
+            return [f"{target}::{name}" for target in setters[trait]]
         if trait not in PURPOSES:
             return [f"{trait}::{name}"]
         return [f"{trait}::{name} of v{version}.{PURPOSES[trait]}" for version in VERSIONS[trait]]
     if " for " in rest:
         trait, target = [without_generics(part) for part in rest.split(" for ", 1)]
         target = re.sub(r"&'\w+ ", "&", target)
+        if trait in SETTERS:
+            return [f"{target}::{name}"]
         version = re.fullmatch(r"V([1-4])", target)
         if version and trait in PURPOSES:
             return [f"{trait}::{name} of v{version.group(1)}.{PURPOSES[trait]}"]
         return [f"{trait}::{name} of {target}"]
     call = f"{without_generics(rest)}::{name}"
     return [f"{call} of {kind}" for kind in kinds_of(bounds, rest, where)] or [call]
+
+
+def setters_of(sources):
+    """The types that have each trait of setters."""
+    found = {trait: set() for trait in SETTERS}
+    for text in sources.values():
+        for trait, target in re.findall(r"^impl<.*> (\w+)(?:<\w+>)? for (\w+)", text, re.M):
+            if trait in SETTERS:
+                found[trait].add(target)
+    empty = [trait for trait, targets in found.items() if not targets]
+    if empty:
+        raise SystemExit(f"traits that no type has: {empty}")
+    return found
 
 
 def hidden_traits(sources):
@@ -173,7 +193,7 @@ def is_listed(block, function, hidden):
     return trait.group(1) not in hidden if trait else bool(function.group(2))
 
 
-def calls_of(text, errors, hidden):
+def calls_of(text, errors, hidden, setters):
     """The calls of a source file."""
     lines = text.split("\n")
     block, found = "", []
@@ -188,7 +208,7 @@ def calls_of(text, errors, hidden):
         head, body = declared(lines, place)
         if body and error_of(head, function.group(4), errors):
             where = head.split(" where ", 1)[1] if " where " in head else ""
-            found += listed(block, function.group(4), where)
+            found += listed(block, function.group(4), where, setters)
     return found
 
 
@@ -199,8 +219,8 @@ def main():
     for path, text in sources.items():
         refuse_unknown_shapes(path, text)
     errors = errors_of(sources)
-    hidden = hidden_traits(sources)
-    calls = sorted({call for text in sources.values() for call in calls_of(text, errors, hidden)})
+    hidden, setters = hidden_traits(sources), setters_of(sources)
+    calls = sorted({call for text in sources.values() for call in calls_of(text, errors, hidden, setters)})
     if not calls:
         sys.exit("no call was found")
     print("\n".join(calls))

@@ -218,6 +218,10 @@ misuses 'help is no command' --help
 misuses 'seal without a nonce' seal v4 "$key"
 misuses 'open v1 with an assertion' open v1 "$key" footer x
 misuses 'open of a version with no box' open v2 "$key"
+# Words are taken as they are: these are no commands.
+for word in -- -h -V ' inspect' 'inspect '; do
+    misuses "the command '$word'" "$word" v4.local.payload
+done
 
 # ---- closed and full outputs
 
@@ -321,6 +325,43 @@ if [ "$sealed $opened" = '0 0' ] && [ "$(sha256sum <"$work/back")" = "$(sha256su
 else
     fail 'a text of a million bytes, sealed and opened'
 fi
+
+# Sixteen mebibytes come and go within the ten seconds that a call may take.
+head -c 16777216 /dev/zero | tr '\0' a >"$work/longer"
+if call seal v4 "$key" "$ones" <"$work/longer" >"$work/token" 2>"$work/err" \
+    && call open v4 "$key" <"$work/token" 2>>"$work/err" | cmp -s - "$work/longer" && [ ! -s "$work/err" ]; then
+    pass
+else
+    fail 'a text of sixteen mebibytes, sealed and opened'
+fi
+
+# A footer and an assertion of 100,000 letters, and a text of control characters and a letter of four bytes.
+letters=$(head -c 100000 "$work/long")
+odd=$'\a\r\n\e\xf0\x9f\x98\x80'
+printf 'a\0%s' "$odd" >"$work/in"
+want_status=0 want_err=
+call seal v4 "$key" "$ones" "$letters" "$letters" <"$work/in" >"$work/token" 2>"$work/err"
+call open v4 "$key" "$letters" "$letters" <"$work/token" >"$work/back" 2>>"$work/err"
+if cmp -s "$work/in" "$work/back" && [ ! -s "$work/err" ]; then
+    pass
+else
+    fail 'a long footer, a long assertion and an odd text'
+fi
+gives 'seal v4 with an odd footer, and open it' "$(printf hello | call seal v4 "$key" "$zero" "$odd")" hello \
+    open v4 "$key" "$odd"
+
+# A word has at most 128 KiB; this one is the longest of them that is a token.
+gives 'inspect of a long token' '' "version: v4${line}purpose: local${line}footer: none${line}" \
+    inspect "v4.local.$(head -c 131000 "$work/long")"
+
+# `inspect` does not wait for its input, and no variable changes what is said.
+want_status=0 want_out="version: v4${line}purpose: local${line}footer: none${line}" want_err=
+sleep 2 | timeout 1 "$program" inspect v4.local.payload >"$work/out" 2>"$work/err"
+verdict 'inspect, an open pipe as input' ${PIPESTATUS[1]}
+want_status=1 want_out= want_err=$bad_tag$line
+printf %s "$v4_empty" | RUST_BACKTRACE=full RUST_LOG=trace DEBUG=1 LANG=de_DE.UTF-8 call open v4 "$other_key" \
+    >"$work/out" 2>"$work/err"
+verdict 'open v4, other variables' $?
 
 want_status=0 want_out=${hello[v4]}$line want_err=
 { printf 'hello'; sleep 0.1; printf ', wor'; sleep 0.1; printf 'ld'; } \

@@ -5,7 +5,8 @@
  *   REFUSE_FROM=N    refuses the Nth and all that follow.
  *
  * Counted is between two marks, which a program writes to standard output in one piece each. The first is
- * swallowed. In place of the second comes a line `requests 7 refused 1`. Where REFUSE_REPORT names a file,
+ * swallowed. In place of the second comes a line `requests 7 bytes 900 refused 1`, where the bytes are those of
+ * all requests. Where REFUSE_REPORT names a file,
  * all requests of the process are counted, and the line goes into that file as the process ends.
  */
 #define _GNU_SOURCE
@@ -23,14 +24,15 @@ extern void *__libc_calloc(size_t count, size_t size);
 extern void *__libc_realloc(void *place, size_t size);
 
 static int counting;
-static unsigned long requests, refused, at, from;
+static unsigned long requests, bytes, refused, at, from;
 
-/* Counts a request, and says whether it is refused. */
-static int refuses(void)
+/* Counts a request for so many bytes, and says whether it is refused. */
+static int refuses(size_t size)
 {
     if (!counting)
         return 0;
     requests++;
+    bytes += size;
     if (requests != at && (from == 0 || requests < from))
         return 0;
     refused++;
@@ -40,17 +42,17 @@ static int refuses(void)
 
 void *malloc(size_t size)
 {
-    return refuses() ? NULL : __libc_malloc(size);
+    return refuses(size) ? NULL : __libc_malloc(size);
 }
 
 void *calloc(size_t count, size_t size)
 {
-    return refuses() ? NULL : __libc_calloc(count, size);
+    return refuses(count * size) ? NULL : __libc_calloc(count, size);
 }
 
 void *realloc(void *place, size_t size)
 {
-    return refuses() ? NULL : __libc_realloc(place, size);
+    return refuses(size) ? NULL : __libc_realloc(place, size);
 }
 
 static unsigned long number_in(const char *name)
@@ -61,29 +63,29 @@ static unsigned long number_in(const char *name)
 
 static void report(int file)
 {
-    char line[64];
-    int length = snprintf(line, sizeof line, "requests %lu refused %lu\n", requests, refused);
+    char line[96];
+    int length = snprintf(line, sizeof line, "requests %lu bytes %lu refused %lu\n", requests, bytes, refused);
     syscall(SYS_write, file, line, length);
 }
 
-static int is_text(const char *text, const void *bytes, size_t size)
+static int is_text(const char *text, const void *written, size_t size)
 {
-    return size == strlen(text) && memcmp(text, bytes, size) == 0;
+    return size == strlen(text) && memcmp(text, written, size) == 0;
 }
 
-ssize_t write(int file, const void *bytes, size_t size)
+ssize_t write(int file, const void *written, size_t size)
 {
-    if (is_text("memory: begin\n", bytes, size)) {
-        requests = refused = 0;
+    if (is_text("memory: begin\n", written, size)) {
+        requests = bytes = refused = 0;
         counting = 1;
         return size;
     }
-    if (is_text("memory: end\n", bytes, size)) {
+    if (is_text("memory: end\n", written, size)) {
         counting = 0;
         report(file);
         return size;
     }
-    return syscall(SYS_write, file, bytes, size);
+    return syscall(SYS_write, file, written, size);
 }
 
 __attribute__((constructor)) static void begin(void)

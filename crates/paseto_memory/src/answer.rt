@@ -2,8 +2,9 @@
 
 use anyhow::Result;
 use rusty_paseto::prelude::{
-    CustomClaim, DateClaim, GenericBuilderError, GenericParserError, KeyRingError, PasetoClaim,
-    PasetoClaimError, PasetoError, PreAuthenticationEncoding, ReservedKey, TagCollision,
+    CustomClaim, DateClaim, GenericBuilderError, GenericParserError, KeyRingError,
+    KeyRingParserError, PasetoClaim, PasetoClaimError, PasetoError, PreAuthenticationEncoding,
+    ReservedKey, TagCollision,
 };
 use serde_json::Value;
 use std::alloc::{AllocError, Global};
@@ -115,6 +116,12 @@ impl Refusal for KeyRingError {
     }
 }
 
+impl Refusal for KeyRingParserError {
+    fn is_memory(&self) -> bool {
+        matches!(self, KeyRingParserError::Memory(_))
+    }
+}
+
 impl Told for () {
     fn tell(&self, alloc: Global) -> Result<Vec<u8>> {
         Ok(Vec::new(alloc))
@@ -133,12 +140,12 @@ impl Told for String {
     }
 }
 
-/// A pair of texts is told by the first, a byte that no text has, and the second.
-impl Told for (String, String) {
+/// A text and what stands beside it are told by the text, a byte that no text has, and the other.
+impl<T: Told> Told for (String, T) {
     fn tell(&self, alloc: Global) -> Result<Vec<u8>> {
         let mut told = self.0.tell(alloc)?;
         told.push(0xff).map_err(AllocError::from)?;
-        told.extend_from_slice(self.1.as_bytes())?;
+        told.extend_from_slice(&self.1.tell(alloc)?)?;
         Ok(told)
     }
 }

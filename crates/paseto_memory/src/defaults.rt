@@ -7,15 +7,15 @@ use crate::kinds::{footer, symmetric_key};
 use crate::local::seal;
 use crate::parsers::{good, now};
 use crate::run::{Case, Run};
+use crate::setters::{self, Checked};
 use crate::signed::sign;
-use crate::validators::{Refuses, refusing};
 use anyhow::{Result, ensure};
 use paseto_toys::generators::Zeros;
 use paseto_toys::keys::{Keys, SECRET, ToyVersion};
 use paseto_toys::{Lenient, PlainBox};
 use rusty_paseto::prelude::{
     AudienceClaim, BoxlessVersion, CheckSetter, CountingSetter, CustomClaim, Local, PasetoBuilder,
-    PasetoParser, Public, PurposeTrait, Signs, V1, V2, V3, V4, ValidatorFn, Verifies, VersionTrait,
+    PasetoParser, Public, PurposeTrait, Signs, V1, V2, V3, V4, Verifies, VersionTrait,
     fits_default,
 };
 use std::alloc::Global;
@@ -42,8 +42,7 @@ pub fn ask<W: Write>(run: &mut Run<W>) -> Result<()> {
     ask_claims(run)?;
     ask_repeated_claims(run)?;
     ask_no_expiration(run)?;
-    ask_checks(run)?;
-    ask_validators(run)?;
+    setters::ask::<PasetoParser<'static, V4, Local>, W>(run)?;
     ask_kinds(run)
 }
 
@@ -110,6 +109,14 @@ pub fn two_builders<V: VersionTrait, P: PurposeTrait>(
         builder_of(alloc, text, more)?,
         builder_of(alloc, text, more)?,
     ])
+}
+
+impl Checked for PasetoParser<'static, V4, Local> {
+    const NAME: &'static str = "DefaultParser";
+
+    fn made(alloc: Global) -> Result<Self> {
+        parser_of(alloc)
+    }
 }
 
 /// Two of them.
@@ -211,63 +218,6 @@ fn ask_no_expiration<W: Write>(run: &mut Run<W>) -> Result<()> {
         [(), (), ()],
         |builder, _| {
             match builder.set_no_expiration_danger_acknowledged() {
-                Ok(_) => Ok(()),
-                Err(error) => Err(error),
-            }
-        },
-    )
-}
-
-fn ask_checks<W: Write>(run: &mut Run<W>) -> Result<()> {
-    let claim = AudienceClaim::from("others");
-    let case = Case::of("DefaultParser::put_check", "a claim");
-    run.change(
-        case,
-        two_parsers::<V4, Local>(run.alloc()),
-        [(), (), ()],
-        |parser, _| parser.put_check(&claim),
-    )?;
-    let case = Case::of("DefaultParser::check_claim", "a claim");
-    run.change(
-        case,
-        two_parsers::<V4, Local>(run.alloc()),
-        [(), (), ()],
-        |parser, _| {
-            match parser.check_claim(&claim) {
-                Ok(_) => Ok(()),
-                Err(error) => Err(error),
-            }
-        },
-    )
-}
-
-fn ask_validators<W: Write>(run: &mut Run<W>) -> Result<()> {
-    ask_validator(run)?;
-    ask_lent_validator(run)
-}
-
-fn ask_validator<W: Write>(run: &mut Run<W>) -> Result<()> {
-    let claim = AudienceClaim::from("customers");
-    let case = Case::of("DefaultParser::put_validator", "a claim");
-    let boxes = refusing!(run.alloc());
-    run.change(
-        case,
-        two_parsers::<V4, Local>(run.alloc()),
-        boxes,
-        |parser, validator| { parser.put_validator(&claim, validator) },
-    )
-}
-
-fn ask_lent_validator<W: Write>(run: &mut Run<W>) -> Result<()> {
-    let claim = AudienceClaim::from("customers");
-    let case = Case::of("DefaultParser::validate_claim", "a claim");
-    let boxes = refusing!(run.alloc());
-    run.change(
-        case,
-        two_parsers::<V4, Local>(run.alloc()),
-        boxes,
-        |parser, validator| {
-            match parser.validate_claim(&claim, validator) {
                 Ok(_) => Ok(()),
                 Err(error) => Err(error),
             }

@@ -2,11 +2,12 @@
 
 use crate::answer::{Answer, Told};
 use crate::kinds::symmetric_key;
+use crate::parsers::{good, now};
 use crate::run::{Case, Run};
 use anyhow::Result;
 use rusty_paseto::prelude::{
-    BoxlessVersion, Footer, Key, KeyRing, KeyRingError, Local, LocalVersion, PasetoError,
-    PasetoNonce, PasetoSymmetricKey, Payload, V1, V3, V4,
+    BoxlessVersion, Footer, GenericParser, Key, KeyRing, KeyRingError, Local, LocalVersion,
+    PasetoError, PasetoNonce, PasetoParser, PasetoSymmetricKey, Payload, V1, V3, V4,
 };
 use std::alloc::Global;
 use std::io::Write;
@@ -67,7 +68,9 @@ fn ask_version<V: Opens, W: Write>(run: &mut Run<W>, kind: &str) -> Result<()> {
     ask_adding::<V, W>(run, kind, "new", "a new id")?;
     ask_adding::<V, W>(run, kind, "old", "an id that is there")?;
     ask_opening::<V, W>(run, kind)?;
-    ask_refused_opening::<V, W>(run, kind)
+    ask_refused_opening::<V, W>(run, kind)?;
+    ask_key::<V, W>(run, kind)?;
+    ask_parsing::<V, W>(run, kind)
 }
 
 fn seal<V: LocalVersion>(alloc: Global, text: &str, footer: &str) -> Result<String, PasetoError> {
@@ -138,4 +141,31 @@ fn ask_refused_opening<V: Opens, W: Write>(run: &mut Run<W>, kind: &str) -> Resu
         &ring,
         |ring| V::open_by(ring, token.as_str()),
     )
+}
+
+fn ask_key<V: Opens, W: Write>(run: &mut Run<W>, kind: &str) -> Result<()> {
+    let mut ring = ring_of::<V>(run.alloc())?;
+    ring.add("new", symmetric_key())?;
+    run.ask(Case::of("KeyRing::key_of", kind), &ring, &ring, |ring| {
+        match ring.key_of(NEW) {
+            Ok(_) => Ok(()),
+            Err(error) => Err(error),
+        }
+    })
+}
+
+fn ask_parsing<V: Opens, W: Write>(run: &mut Run<W>, kind: &str) -> Result<()> {
+    let alloc = run.alloc();
+    let payload = good(alloc, run.text()?.as_str())?;
+    let token = seal::<V>(alloc, payload.as_str(), NEW)?;
+    let mut ring = ring_of::<V>(alloc)?;
+    ring.add("new", symmetric_key())?;
+    let parser = PasetoParser::<V, Local>::default(alloc, now()?)?;
+    run.ask(Case::of("KeyRing::parse", kind), &ring, &ring, |ring| {
+        ring.parse(&parser, token.as_str())
+    })?;
+    let parser = GenericParser::<V, Local>::new(alloc);
+    run.ask(Case::of("KeyRing::parse_by", kind), &ring, &ring, |ring| {
+        ring.parse_by(&parser, token.as_str())
+    })
 }

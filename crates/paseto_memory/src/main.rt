@@ -15,6 +15,7 @@ mod no_memory;
 mod parsers;
 mod primitives;
 mod run;
+mod setters;
 mod signed;
 mod validators;
 

@@ -2,7 +2,7 @@
 
 pub use crate::{
     AssertingVersion, BoxlessVersion, CountingSetter, DefaultParser, GeneralPasetoError, KeyRing,
-    KeyRingError, PasetoBuilder, PasetoParser, fits_default,
+    KeyRingError, KeyRingParserError, PasetoBuilder, PasetoParser, fits_default,
 };
 pub use rusty_paseto_generic::{
     AssertionVersion, Audience, AudienceClaim, CheckSetter, ClaimSetter, ClaimValue, CompressedKey,

@@ -76,7 +76,7 @@ struct Source<'a> {
     rest: &'a [u8],
     step: usize,
     fails: bool,
-    was_read: bool,
+    reads: u32,
 }
 
 impl<'a> Source<'a> {
@@ -85,14 +85,14 @@ impl<'a> Source<'a> {
             rest: bytes,
             step: usize::MAX,
             fails: false,
-            was_read: false,
+            reads: 0,
         }
     }
 }
 
 impl Read for Source<'_> {
     fn read(&mut self, buf: &mut [u8]) -> io::Result<usize> {
-        self.was_read = true;
+        self.reads = self.reads.saturating_add(1);
         let rest = self.rest;
         if rest.is_empty() && self.fails {
             return Err(io::Error::from(ErrorKind::BrokenPipe));
@@ -343,7 +343,7 @@ fn expect_unread(
     let mut input = Source::whole(b"\xff");
     let outcome = run_words(alloc, words, &mut input, Sink::whole(alloc))?;
     check(rt, &outcome, status, output, errors);
-    assert!(rt; !input.was_read);
+    assert_eq!(rt; input.reads, 0);
     Ok(())
 }
 
@@ -527,5 +527,32 @@ fn a_fault_of_the_error_writer_changes_no_status(rt: HostRuntime) -> Result<(), 
         let misused = status_with_room(alloc, &["seal", "v2", KEY, ZERO], room)?;
         assert_eq!(rt; misused, (2, true));
     }
+    Ok(())
+}
+
+// Of 10,000 bytes: 4,096, then the rest, and then the end.
+#[test]
+fn few_reads(rt: HostRuntime) -> Result<(), Fail> {
+    let alloc = rt.alloc();
+    let text = vec![in alloc; b'a'; 10_000]?;
+    let mut input = Source::whole(&text);
+    let words = ["seal", "v4", KEY, ZERO];
+    let outcome = run_words(alloc, &words, &mut input, Sink::whole(alloc))?;
+    assert_eq!(rt; outcome.status, 0);
+    assert_eq!(rt; input.reads, 3);
+    Ok(())
+}
+
+#[test]
+fn an_error_told_byte_by_byte(rt: HostRuntime) -> Result<(), Fail> {
+    let alloc = rt.alloc();
+    let args = strings(alloc, &["open", "v4", OTHER_KEY])?;
+    let mut input = Source::whole(OF_NOTHING.as_bytes());
+    let mut printed = Sink::whole(alloc);
+    let mut said = Sink::whole(alloc);
+    said.step = 1;
+    let status = run(alloc, &args, &mut input, &mut printed, &mut said);
+    assert_eq!(rt; status, 1);
+    assert_eq!(rt; said.taken.as_slice(), CRYPTION.as_bytes());
     Ok(())
 }
