@@ -7,5 +7,6 @@ mod kinds;
 mod moments;
 mod primes;
 mod repeated;
+mod ring_parsing;
 mod rows;
 mod times;
