@@ -1,6 +1,8 @@
 //! Looks at, seals and opens PASETO tokens.
 #![tactic(auto)]
 
+ghost use Rattle.std.specs.Prelude.{◌≡◌, drop};
+
 mod arguments;
 mod error;
 mod input;
@@ -35,7 +37,18 @@ fn main(rt: HostRuntime) -> ExitCode {
 /// The words after the program's name.
 fn words(rt: &HostRuntime) -> Result<Vec<String>, ToolError> {
     match env::args(rt) {
-        Ok(words) => Ok(words.skip(1).collect(rt.alloc())?),
+        Ok(words) => Ok(after_name(words.collect(rt.alloc())?)),
         Err(error) => Err(ToolError::of_words(&error)),
     }
+}
+
+/// The words without the first, which is the program's name.
+fn after_name(words: Vec<String>) -> Vec<String>
+    ensures { result.items ≡ drop 1 words.items }
+{
+    let mut words = words;
+    if !words.is_empty() {
+        drop(words.remove(0));
+    }
+    words
 }
