@@ -1,6 +1,6 @@
 //! Keys, signing and verifying (RFC 8032, sections 5.1.5 to 5.1.7).
 
-ghost use Rattle.std.specs.Prelude.{◌≡◌, ◌↔◌, ℕ, ◌++◌, ◌<◌, length, take, drop, IfOk, IfErr, OnOk, IsTrue};
+ghost use Rattle.std.specs.Prelude.{◌≡◌, ◌↔◌, ℕ, ◌++◌, ◌<◌, length, take, drop, IfOk, IfErr, OnErr, OnOk, IsTrue};
 ghost use Rattle.sha2.specs.Sha512.{sha512};
 ghost use Rattle.rusty_paseto_parts.specs.declared.error.PasetoError.TheVariants.{Signature};
 ghost use Rattle.paseto_ed25519.specs.Ed25519.{Ed25519Verifies, IsDeclined, IsRefused, IsSum, challenge, clamped, commitment, decoded, ed25519_public, ed25519_sign, nonce, partner, response, secret_scalar};
@@ -127,6 +127,7 @@ impl Ed25519 {
         ensures ok { IfOk result (λ pair. R.may_fill rng.old (take 32 pair.0) rng.new
             × (pair.1 ≡ ed25519_public (take 32 pair.0)) × (drop 32 pair.0 ≡ pair.1)) }
         ensures err { IfErr result (λ error. error ≡ PasetoError.Cipher) }
+        ensures failed { OnErr result R.Error }
     {
         let seed = Key::<32>::try_new_random(rng)?;
         let public = Ed25519::public_key(seed.as_bytes());
