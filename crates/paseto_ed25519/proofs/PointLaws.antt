@@ -1,7 +1,8 @@
 -- The steps of double and add.
 use Rattle.std.proofs.Common.{◌≡◌, ◌≢◌, ℕ, zero, suc, ◌-◌, ◌<◌, ◌⊎◌, List, refl, inl, inr, arith}
 use Rattle.std.proofs.lemmas.Bool.Decides.{nat_tests}
-use Rattle.paseto_ed25519.specs.Point.{Point, bit, joint_multiple, multiple, neutral, point_add, point_add_by, point_double}
+use Rattle.paseto_ed25519.specs.Ed25519.{encoded}
+use Rattle.paseto_ed25519.specs.Point.{Point, bit, flat, joint_multiple, multiple, neutral, point_add, point_add_by, point_double}
 
 -- a bit is 0 or 1
 pub bit_cases : (n : ℕ) → n < 2 → (n ≡ 0) ⊎ (n ≡ 1)
@@ -48,3 +49,11 @@ add_by_second sum p q i j e f = grind (arith, nat_tests)
 pub add_by_none : (sum p q : Point) (i j : ℕ) → i ≢ 1 → j ≢ 1 → sum ≡ point_add_by sum p q i j
 unfolding point_add_by
 add_by_none sum p q i j e f = grind (arith, nat_tests)
+
+pub double_flat : (p : Point) → point_double (flat p) ≡ point_double p
+unfolding point_double
+double_flat p = refl
+
+pub encoded_flat : (p : Point) → encoded (flat p) ≡ encoded p
+unfolding encoded
+encoded_flat p = refl

@@ -1,7 +1,9 @@
 -- Points of the curve in extended homogeneous coordinates (RFC 8032, section 5.1.4). A point (x, y) is
 -- (X, Y, Z, T) with x = X / Z, y = Y / Z and x * y = T / Z.
 use Rattle.std.specs.Prelude.{ℕ, zero, suc, ◌-◌, ◌*◌, ◌/◌, ◌%◌, ◌^◌, List, slice_index, nat_eq, if◌then◌else◌}
+use Rattle.paseto_ed25519.specs.declared.point.completed.Completed.{Completed}
 use Rattle.paseto_ed25519.specs.declared.point.extended.ExtendedPoint.{ExtendedPoint}
+use Rattle.paseto_ed25519.specs.declared.point.projective.ProjectivePoint.{ProjectivePoint}
 use Rattle.paseto_ed25519.specs.Field.{minus, number, plus, prime, times}
 
 pub record Point : Type 0 where
@@ -96,3 +98,20 @@ joint_multiple p q s k (suc n) =
 -- the point that four elements of the field are
 abbrev pub coordinates : ExtendedPoint → Point
 coordinates p = record { x = number p.x; y = number p.y; z = number p.z; t = number p.t }
+
+-- a point without t, which a double does not read
+abbrev pub flat : Point → Point
+flat p = record { x = p.x; y = p.y; z = p.z; t = 0 }
+
+-- the point without t that three elements of the field are
+abbrev pub projected : ProjectivePoint → Point
+projected p = record { x = number p.x; y = number p.y; z = number p.z; t = 0 }
+
+-- the point that four factors give
+abbrev pub completed : Completed → Point
+completed c = record {
+  x = times (number c.e) (number c.f);
+  y = times (number c.g) (number c.h);
+  z = times (number c.f) (number c.g);
+  t = times (number c.e) (number c.h);
+}

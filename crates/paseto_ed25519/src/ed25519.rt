@@ -3,13 +3,14 @@
 ghost use Rattle.std.specs.Prelude.{◌≡◌, ◌↔◌, ℕ, ◌++◌, ◌<◌, length, take, drop, IfOk, IfErr, OnErr, OnOk, IsTrue};
 ghost use Rattle.sha2.specs.Sha512.{sha512};
 ghost use Rattle.rusty_paseto_parts.specs.declared.error.PasetoError.TheVariants.{Signature};
-ghost use Rattle.paseto_ed25519.specs.Ed25519.{Ed25519Verifies, IsDeclined, IsRefused, IsSum, challenge, clamped, commitment, decoded, ed25519_public, ed25519_sign, nonce, partner, response, secret_scalar};
+ghost use Rattle.paseto_ed25519.specs.Ed25519.{Ed25519Verifies, IsDeclined, IsRefused, IsSum, challenge, clamped, commitment, decoded, encoded, ed25519_public, ed25519_sign, nonce, partner, response, secret_scalar};
+ghost use Rattle.paseto_ed25519.specs.Point.{base, coordinates, joint_multiple, multiple, negated};
 ghost use Rattle.paseto_ed25519.specs.Residue.{residue};
 ghost use Rattle.paseto_ed25519.specs.Scalar.{bytes32};
 
 use crate::bytes::joined;
 use crate::encoding::{decode, encode};
-use crate::point::{base, multiply_base, multiply_both, negate};
+use crate::point::{ExtendedPoint, base, multiply_base, multiply_both, negate};
 use crate::scalar::{Scalar, is_reduced, multiply_add, reduce, to_bytes};
 use rand_core::TryRng;
 use rusty_paseto_core::SignatureScheme;
@@ -69,6 +70,20 @@ fn nonce(prefix: &[u8], message: &[u8]) -> Scalar
     reduce(&hasher.finalize())
 }
 
+// The multiple of the base point, encoded.
+fn encoded_multiple(scalar: &[u8; 32]) -> [u8; 32]
+    ensures { result ≡ encoded (multiple base scalar.now 256) }
+{
+    encode(multiply_base(scalar))
+}
+
+// [s]B - [k]A, encoded.
+fn encoded_sum(a: ExtendedPoint, s: &[u8; 32], k: &[u8; 32]) -> [u8; 32]
+    ensures { result ≡ encoded (joint_multiple base (negated (coordinates a)) s.now k.now 256) }
+{
+    encode(multiply_both(base(), s, negate(a), k))
+}
+
 // The signature of a message under a private key (section 5.1.6).
 fn signature(private: &[u8], message: &[u8]) -> [u8; 64]
     requires { length private.now ≡ 64 }
@@ -79,7 +94,7 @@ fn signature(private: &[u8], message: &[u8]) -> [u8; 64]
     let (half, prefix) = digest.split_at(HALF_LENGTH);
     let scalar = clamped(half);
     let r = nonce(prefix, message);
-    let commitment = encode(multiply_base(&to_bytes(r)));
+    let commitment = encoded_multiple(&to_bytes(r));
     let k = challenge(&commitment, public, message);
     joined(&commitment, &to_bytes(multiply_add(r, k, &scalar)))
 }
@@ -90,7 +105,7 @@ fn is_sum(public: &[u8], s: &[u8; 32], k: &[u8; 32], r: &[u8; 32]) -> bool
     ensures { IsTrue result ↔ IsSum (decoded public.now) s.now k.now r.now }
 {
     match decode(public) {
-        Some(a) => encode(multiply_both(base(), s, negate(a), k)) == *r,
+        Some(a) => encoded_sum(a, s, k) == *r,
         None => false,
     }
 }
@@ -118,7 +133,7 @@ impl Ed25519 {
     {
         let digest = Sha512::digest(seed);
         let (half, _prefix) = digest.split_at(HALF_LENGTH);
-        encode(multiply_base(&clamped(half)))
+        encoded_multiple(&clamped(half))
     }
 
     /// A new private key, which is a seed that the generator gives and its public key, and that public key. No

@@ -2,32 +2,35 @@
 
 ghost use Rattle.std.specs.Prelude.{◌≡◌, ◌<◌};
 ghost use Rattle.paseto_ed25519.specs.Field.{IsCarried, number, times};
-ghost use Rattle.paseto_ed25519.specs.Point.{base, bit, coordinates, joint_multiple, multiple, negated, neutral, point_add, point_add_by, point_double};
+ghost use Rattle.paseto_ed25519.specs.Point.{base, bit, completed, coordinates, flat, joint_multiple, multiple, negated, neutral, point_add, point_add_by, point_double, projected};
 
 mod addend;
+mod completed;
 mod extended;
 mod pair;
+mod projective;
 
 use crate::field;
 use crate::field::canonical::negative;
 use crate::field::constants::{base_t, base_x, base_y, one, twice_d, zero};
 use crate::field::{FieldElement, add_loose, choose, mul, square, sub_loose};
 use addend::Addend;
+use completed::Completed;
 pub(crate) use extended::ExtendedPoint;
 use pair::Pair;
+pub(crate) use projective::ProjectivePoint;
 
 // How many bits a scalar has.
 const SCALAR_BITS: usize = 256;
 
-/// The neutral point.
-pub(crate) fn neutral() -> ExtendedPoint
-    ensures { coordinates result ≡ neutral }
+// The neutral point.
+fn neutral() -> ProjectivePoint
+    ensures { projected result ≡ neutral }
 {
-    ExtendedPoint {
+    ProjectivePoint {
         x: zero(),
         y: one(),
         z: one(),
-        t: zero(),
     }
 }
 
@@ -55,76 +58,107 @@ fn prepared(q: ExtendedPoint) -> Addend
     }
 }
 
+// The point that the factors give.
+#[inline(always)]
+fn to_extended(c: Completed) -> ExtendedPoint
+    ensures { coordinates result ≡ completed c }
+{
+    ExtendedPoint {
+        x: mul(c.e, c.f),
+        y: mul(c.g, c.h),
+        z: mul(c.f, c.g),
+        t: mul(c.e, c.h),
+    }
+}
+
+// The point that the factors give, without T.
+#[inline(always)]
+fn to_projective(c: Completed) -> ProjectivePoint
+    ensures { projected result ≡ flat (completed c) }
+{
+    ProjectivePoint {
+        x: mul(c.e, c.f),
+        y: mul(c.g, c.h),
+        z: mul(c.f, c.g),
+    }
+}
+
+// The same point, without T.
+#[inline(always)]
+fn flattened(p: ExtendedPoint) -> ProjectivePoint
+    ensures { projected result ≡ flat (coordinates p) }
+{
+    ProjectivePoint {
+        x: p.x,
+        y: p.y,
+        z: p.z,
+    }
+}
+
 // The sum of two points, the product of whose coordinates Z is `zz`.
 #[inline(always)]
-fn add_at(p: ExtendedPoint, q: &Addend, zz: FieldElement) -> ExtendedPoint
+fn add_at(p: ExtendedPoint, q: &Addend, zz: FieldElement) -> Completed
     requires carried { IsCarried zz }
     requires product { number zz ≡ times (number p.z) (number q.now.point.z) }
-    ensures { coordinates result ≡ point_add (coordinates p) (coordinates q.now.point) }
+    ensures { completed result ≡ point_add (coordinates p) (coordinates q.now.point) }
 {
     let a = mul(field::sub(p.y, p.x), q.difference);
     let b = mul(field::add(p.y, p.x), q.sum);
     let c = mul(p.t, q.scaled);
     let d = field::add(zz, zz);
-    let e = field::sub(b, a);
-    let f = sub_loose(d, c);
-    let g = add_loose(d, c);
-    let h = field::add(b, a);
-    ExtendedPoint {
-        x: mul(e, f),
-        y: mul(g, h),
-        z: mul(f, g),
-        t: mul(e, h),
+    Completed {
+        e: field::sub(b, a),
+        f: sub_loose(d, c),
+        g: add_loose(d, c),
+        h: field::add(b, a),
     }
 }
 
 // The sum of two points.
-fn add(p: ExtendedPoint, q: &Addend) -> ExtendedPoint
-    ensures { coordinates result ≡ point_add (coordinates p) (coordinates q.now.point) }
+fn add(p: ExtendedPoint, q: &Addend) -> Completed
+    ensures { completed result ≡ point_add (coordinates p) (coordinates q.now.point) }
 {
     add_at(p, q, mul(p.z, q.point.z))
 }
 
 // The sum of two points, of which the second has Z = 1.
-fn add_affine(p: ExtendedPoint, q: &Addend) -> ExtendedPoint
+#[inline(always)]
+fn add_affine(p: ExtendedPoint, q: &Addend) -> Completed
     requires { number q.now.point.z ≡ 1 }
-    ensures { coordinates result ≡ point_add (coordinates p) (coordinates q.now.point) }
+    ensures { completed result ≡ point_add (coordinates p) (coordinates q.now.point) }
 {
     add_at(p, q, p.z)
 }
 
-/// The double of a point.
-pub(crate) fn double(p: ExtendedPoint) -> ExtendedPoint
-    ensures { coordinates result ≡ point_double (coordinates p) }
+// The double of a point, of which T is not read.
+fn double(p: ProjectivePoint) -> Completed
+    ensures { completed result ≡ point_double (projected p) }
 {
     let a = square(p.x);
     let b = square(p.y);
     let zz = square(p.z);
     let c = field::add(zz, zz);
     let h = field::add(a, b);
-    let e = sub_loose(h, square(field::add(p.x, p.y)));
     let g = field::sub(a, b);
-    let f = add_loose(c, g);
-    ExtendedPoint {
-        x: mul(e, f),
-        y: mul(g, h),
-        z: mul(f, g),
-        t: mul(e, h),
+    Completed {
+        e: sub_loose(h, square(field::add(p.x, p.y))),
+        f: add_loose(c, g),
+        g,
+        h,
     }
 }
 
 // The first point where `choice` is 1, and the second where it is 0, with no branch.
 #[inline(always)]
-fn choose_point(choice: u64, p: ExtendedPoint, q: ExtendedPoint) -> ExtendedPoint
+fn choose_point(choice: u64, p: ProjectivePoint, q: ProjectivePoint) -> ProjectivePoint
     requires { choice < 2 }
-    ensures one { choice ≡ 1 → coordinates result ≡ coordinates p }
-    ensures zero { choice ≡ 0 → coordinates result ≡ coordinates q }
+    ensures one { choice ≡ 1 → projected result ≡ projected p }
+    ensures zero { choice ≡ 0 → projected result ≡ projected q }
 {
-    ExtendedPoint {
+    ProjectivePoint {
         x: choose(choice, p.x, q.x),
         y: choose(choice, p.y, q.y),
         z: choose(choice, p.z, q.z),
-        t: choose(choice, p.t, q.t),
     }
 }
 
@@ -139,22 +173,23 @@ fn bit(bytes: &[u8; 32], at: usize) -> u64
 }
 
 // The multiple of a point with Z = 1, in a fixed number of steps and with no branch on the scalar.
-fn multiply(q: &Addend, scalar: &[u8; 32]) -> ExtendedPoint
+fn multiply(q: &Addend, scalar: &[u8; 32]) -> ProjectivePoint
     requires { number q.now.point.z ≡ 1 }
-    ensures { coordinates result ≡ multiple (coordinates q.now.point) scalar.now 256 }
+    ensures { projected result ≡ flat (multiple (coordinates q.now.point) scalar.now 256) }
 {
     let mut sum = neutral();
     'bits: for i in 0..SCALAR_BITS {
-        let doubled = double(sum);
-        let added = add_affine(doubled, q);
-        sum = choose_point(bit(scalar, SCALAR_BITS - 1 - i), added, doubled);
+        let doubled = to_extended(double(sum));
+        let added = to_projective(add_affine(doubled, q));
+        let bit = bit(scalar, SCALAR_BITS - 1 - i);
+        sum = choose_point(bit, added, flattened(doubled));
     }
     sum
 }
 
 /// The multiple of the base point, in a fixed number of steps and with no branch on the scalar.
-pub(crate) fn multiply_base(scalar: &[u8; 32]) -> ExtendedPoint
-    ensures { coordinates result ≡ multiple base scalar.now 256 }
+pub(crate) fn multiply_base(scalar: &[u8; 32]) -> ProjectivePoint
+    ensures { projected result ≡ flat (multiple base scalar.now 256) }
 {
     multiply(&prepared(base()), scalar)
 }
@@ -172,24 +207,24 @@ pub(crate) fn negate(p: ExtendedPoint) -> ExtendedPoint
 }
 
 // A point and what two bits ask to be added to it. The bits are no secret.
-fn add_by(sum: ExtendedPoint, points: &Pair, i: u64, j: u64) -> ExtendedPoint
-    ensures { coordinates result ≡ point_add_by (coordinates sum) (coordinates points.now.first.point) (coordinates points.now.second.point) i j }
+fn add_by(sum: Completed, points: &Pair, i: u64, j: u64) -> ProjectivePoint
+    ensures { projected result ≡ flat (point_add_by (completed sum) (coordinates points.now.first.point) (coordinates points.now.second.point) i j) }
 {
     if i == 1 {
         if j == 1 {
-            return add(sum, &points.both);
+            return to_projective(add(to_extended(sum), &points.both));
         }
-        return add(sum, &points.first);
+        return to_projective(add(to_extended(sum), &points.first));
     }
     if j == 1 {
-        return add(sum, &points.second);
+        return to_projective(add(to_extended(sum), &points.second));
     }
-    sum
+    to_projective(sum)
 }
 
 // The sum of a multiple of each of two points, by one pass over both scalars.
-fn multiply_pair(points: &Pair, s: &[u8; 32], k: &[u8; 32]) -> ExtendedPoint
-    ensures { coordinates result ≡ joint_multiple (coordinates points.now.first.point) (coordinates points.now.second.point) s.now k.now 256 }
+fn multiply_pair(points: &Pair, s: &[u8; 32], k: &[u8; 32]) -> ProjectivePoint
+    ensures { projected result ≡ flat (joint_multiple (coordinates points.now.first.point) (coordinates points.now.second.point) s.now k.now 256) }
 {
     let mut sum = neutral();
     'bits: for i in 0..SCALAR_BITS {
@@ -205,14 +240,14 @@ pub(crate) fn multiply_both(
     s: &[u8; 32],
     q: ExtendedPoint,
     k: &[u8; 32],
-) -> ExtendedPoint
-    ensures { coordinates result ≡ joint_multiple (coordinates p) (coordinates q) s.now k.now 256 }
+) -> ProjectivePoint
+    ensures { projected result ≡ flat (joint_multiple (coordinates p) (coordinates q) s.now k.now 256) }
 {
     let (first, second) = (prepared(p), prepared(q));
     let points = Pair {
         first,
         second,
-        both: prepared(add(p, &second)),
+        both: prepared(to_extended(add(p, &second))),
     };
     multiply_pair(&points, s, k)
 }
