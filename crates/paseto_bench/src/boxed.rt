@@ -33,7 +33,8 @@ pub extern "C" fn paseto_bench_xchacha20poly1305_seal(
     boxed: &mut [u8],
     reps: u32,
 ) -> u64
-    ensures { result ≢ 2 ^ 64 - 1 → Some boxed.new ≡ box_sealing key.now nonce.now «data».now message.now }
+    ensures { result ≢ 2 ^ 64 - 1
+        → Some boxed.new ≡ box_sealing key.now nonce.now «data».now message.now }
 {
     seal_boxes(alloc, key, nonce, data, message, boxed, reps).unwrap_or(FAILED)
 }
@@ -53,7 +54,8 @@ pub extern "C" fn paseto_bench_xchacha20poly1305_open(
     message: &mut [u8],
     reps: u32,
 ) -> u64
-    ensures { result ≢ 2 ^ 64 - 1 → IsOpening (box_sealing key.now nonce.now «data».now) boxed.now (Some message.new) }
+    ensures { result ≢ 2 ^ 64 - 1
+        → IsOpening (box_sealing key.now nonce.now «data».now) boxed.now (Some message.new) }
 {
     open_boxes(alloc, key, nonce, data, boxed, message, reps).unwrap_or(FAILED)
 }
@@ -97,7 +99,8 @@ fn seal_boxes(
     boxed: &mut [u8],
     reps: u32,
 ) -> Option<u64>
-    ensures { IsSome result → Some boxed.new ≡ box_sealing key.now nonce.now «data».now message.now }
+    ensures { IsSome result
+        → Some boxed.new ≡ box_sealing key.now nonce.now «data».now message.now }
 {
     let (key, nonce) = (key.as_array::<32>()?, nonce.as_array::<24>()?);
     let mut sum = 0u64;
@@ -126,7 +129,8 @@ fn open_boxes(
     message: &mut [u8],
     reps: u32,
 ) -> Option<u64>
-    ensures { IsSome result → IsOpening (box_sealing key.now nonce.now «data».now) boxed.now (Some message.new) }
+    ensures { IsSome result
+        → IsOpening (box_sealing key.now nonce.now «data».now) boxed.now (Some message.new) }
 {
     let (key, nonce) = (key.as_array::<32>()?, nonce.as_array::<24>()?);
     let mut sum = 0u64;
@@ -176,7 +180,8 @@ fn seal_token(
     nonce: [u8; 32],
     text: Payload<'_>,
 ) -> Option<String>
-    ensures { IfSome result (λ token. Some (string_bytes token) ≡ boxed_token key.now nonce (payload_text text.entry)) }
+    ensures { IfSome result (λ token. Some (string_bytes token)
+        ≡ boxed_token key.now nonce (payload_text text.entry)) }
 {
     let nonce = Key::from(nonce);
     let mut paseto = Paseto::<V2, Local>::default();

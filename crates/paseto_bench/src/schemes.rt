@@ -173,7 +173,8 @@ fn sign_tokens(
 
 /// The signed token of a text.
 fn sign_token(alloc: Global, private: &Key<64>, text: Payload<'_>) -> Option<String>
-    ensures { IfSome result (λ token. IsSignedToken private.now (payload_text text.entry) (string_bytes token)) }
+    ensures { IfSome result (λ token.
+        IsSignedToken private.now (payload_text text.entry) (string_bytes token)) }
 {
     let mut paseto = Paseto::<V4, Public>::default();
     paseto.set_payload(text);

@@ -208,7 +208,9 @@ pub(crate) fn negate(p: ExtendedPoint) -> ExtendedPoint
 
 // A point and what two bits ask to be added to it. The bits are no secret.
 fn add_by(sum: Completed, points: &Pair, i: u64, j: u64) -> ProjectivePoint
-    ensures { projected result ≡ flat (point_add_by (completed sum) (coordinates points.now.first.point) (coordinates points.now.second.point) i j) }
+    ensures { let first = coordinates points.now.first.point in
+        let second = coordinates points.now.second.point in
+        projected result ≡ flat (point_add_by (completed sum) first second i j) }
 {
     if i == 1 {
         if j == 1 {
@@ -224,7 +226,9 @@ fn add_by(sum: Completed, points: &Pair, i: u64, j: u64) -> ProjectivePoint
 
 // The sum of a multiple of each of two points, by one pass over both scalars.
 fn multiply_pair(points: &Pair, s: &[u8; 32], k: &[u8; 32]) -> ProjectivePoint
-    ensures { projected result ≡ flat (joint_multiple (coordinates points.now.first.point) (coordinates points.now.second.point) s.now k.now 256) }
+    ensures { let first = coordinates points.now.first.point in
+        let second = coordinates points.now.second.point in
+        projected result ≡ flat (joint_multiple first second s.now k.now 256) }
 {
     let mut sum = neutral();
     'bits: for i in 0..SCALAR_BITS {
@@ -241,7 +245,8 @@ pub(crate) fn multiply_both(
     q: ExtendedPoint,
     k: &[u8; 32],
 ) -> ProjectivePoint
-    ensures { projected result ≡ flat (joint_multiple (coordinates p) (coordinates q) s.now k.now 256) }
+    ensures { projected result
+        ≡ flat (joint_multiple (coordinates p) (coordinates q) s.now k.now 256) }
 {
     let (first, second) = (prepared(p), prepared(q));
     let points = Pair {

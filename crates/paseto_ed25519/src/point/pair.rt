@@ -11,5 +11,6 @@ pub(crate) struct Pair {
     pub(crate) first: Addend,
     pub(crate) second: Addend,
     pub(crate) both: Addend,
-    ghost summed: { coordinates both.point ≡ point_add (coordinates first.point) (coordinates second.point) },
+    ghost summed: { coordinates both.point
+        ≡ point_add (coordinates first.point) (coordinates second.point) },
 }
