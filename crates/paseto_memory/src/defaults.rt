@@ -2,21 +2,23 @@
 
 use crate::answer::{Answer, Told};
 use crate::boxed_local;
+use crate::builders::three_maps;
 use crate::claims::numbered;
 use crate::kinds::{footer, symmetric_key};
 use crate::local::seal;
-use crate::parsers::{good, now};
+use crate::parsers::{SEVERAL, good, now, validators};
 use crate::run::{Case, Run};
-use crate::setters::{self, Checked};
 use crate::signed::sign;
+use crate::validators::{Refuses, refusing};
 use anyhow::{Result, ensure};
+use jiff::Timestamp;
 use paseto_toys::generators::Zeros;
 use paseto_toys::keys::{Keys, SECRET, ToyVersion};
 use paseto_toys::{Lenient, PlainBox};
 use rusty_paseto::prelude::{
     AudienceClaim, BoxlessVersion, CheckSetter, CountingSetter, CustomClaim, Local, PasetoBuilder,
-    PasetoParser, Public, PurposeTrait, Signs, V1, V2, V3, V4, Verifies, VersionTrait,
-    fits_default,
+    PasetoParser, Public, PurposeTrait, Signs, V1, V2, V3, V4, ValidatorFn, ValidatorMap, Verifies,
+    VersionTrait, fits_default,
 };
 use std::alloc::Global;
 use std::io::Write;
@@ -42,7 +44,11 @@ pub fn ask<W: Write>(run: &mut Run<W>) -> Result<()> {
     ask_claims(run)?;
     ask_repeated_claims(run)?;
     ask_no_expiration(run)?;
-    setters::ask::<PasetoParser<'static, V4, Local>, W>(run)?;
+    ask_checks(run)?;
+    ask_several_checks(run)?;
+    ask_validators(run)?;
+    ask_several_validators(run)?;
+    ask_times(run)?;
     ask_kinds(run)
 }
 
@@ -109,14 +115,6 @@ pub fn two_builders<V: VersionTrait, P: PurposeTrait>(
         builder_of(alloc, text, more)?,
         builder_of(alloc, text, more)?,
     ])
-}
-
-impl Checked for PasetoParser<'static, V4, Local> {
-    const NAME: &'static str = "DefaultParser";
-
-    fn made(alloc: Global) -> Result<Self> {
-        parser_of(alloc)
-    }
 }
 
 /// Two of them.
@@ -222,6 +220,120 @@ fn ask_no_expiration<W: Write>(run: &mut Run<W>) -> Result<()> {
                 Err(error) => Err(error),
             }
         },
+    )
+}
+
+fn ask_checks<W: Write>(run: &mut Run<W>) -> Result<()> {
+    let claim = AudienceClaim::from("others");
+    let case = Case::of("DefaultParser::put_check", "a claim");
+    run.change(
+        case,
+        two_parsers::<V4, Local>(run.alloc()),
+        [(), (), ()],
+        |parser, _| parser.put_check(&claim),
+    )?;
+    let case = Case::of("DefaultParser::check_claim", "a claim");
+    run.change(
+        case,
+        two_parsers::<V4, Local>(run.alloc()),
+        [(), (), ()],
+        |parser, _| {
+            match parser.check_claim(&claim) {
+                Ok(_) => Ok(()),
+                Err(error) => Err(error),
+            }
+        },
+    )
+}
+
+fn ask_validators<W: Write>(run: &mut Run<W>) -> Result<()> {
+    ask_validator(run)?;
+    ask_lent_validator(run)
+}
+
+fn ask_validator<W: Write>(run: &mut Run<W>) -> Result<()> {
+    let claim = AudienceClaim::from("customers");
+    let case = Case::of("DefaultParser::put_validator", "a claim");
+    let boxes = refusing!(run.alloc());
+    run.change(
+        case,
+        two_parsers::<V4, Local>(run.alloc()),
+        boxes,
+        |parser, validator| { parser.put_validator(&claim, validator) },
+    )
+}
+
+fn ask_lent_validator<W: Write>(run: &mut Run<W>) -> Result<()> {
+    let claim = AudienceClaim::from("customers");
+    let case = Case::of("DefaultParser::validate_claim", "a claim");
+    let boxes = refusing!(run.alloc());
+    run.change(
+        case,
+        two_parsers::<V4, Local>(run.alloc()),
+        boxes,
+        |parser, validator| {
+            match parser.validate_claim(&claim, validator) {
+                Ok(_) => Ok(()),
+                Err(error) => Err(error),
+            }
+        },
+    )
+}
+
+fn ask_several_checks<W: Write>(run: &mut Run<W>) -> Result<()> {
+    let alloc = run.alloc();
+    let case = Case::of("DefaultParser::put_checks", "a map");
+    let maps = three_maps(alloc, SEVERAL)?;
+    run.change(case, two_parsers::<V4, Local>(alloc), maps, |parser, map| {
+        parser.put_checks(map)
+    })?;
+    let case = Case::of("DefaultParser::extend_check_claims", "a map");
+    let maps = three_maps(alloc, SEVERAL)?;
+    run.change(case, two_parsers::<V4, Local>(alloc), maps, |parser, map| {
+        parser.extend_check_claims(map).map(drop)
+    })
+}
+
+// So many maps of validators as `Run::change` takes.
+fn three_validators(alloc: Global) -> Result<[ValidatorMap; 3]> {
+    Ok([
+        validators(alloc, refusing!(alloc))?,
+        validators(alloc, refusing!(alloc))?,
+        validators(alloc, refusing!(alloc))?,
+    ])
+}
+
+fn ask_several_validators<W: Write>(run: &mut Run<W>) -> Result<()> {
+    let alloc = run.alloc();
+    let case = Case::of("DefaultParser::put_validators", "a map");
+    let maps = three_validators(alloc)?;
+    run.change(case, two_parsers::<V4, Local>(alloc), maps, |parser, map| {
+        parser.put_validators(map)
+    })?;
+    let case = Case::of("DefaultParser::extend_validation_claims", "a map");
+    let maps = three_validators(alloc)?;
+    run.change(case, two_parsers::<V4, Local>(alloc), maps, |parser, map| {
+        parser.extend_validation_claims(map).map(drop)
+    })
+}
+
+// At the first moment of 2060 all tokens of the cases have expired.
+fn ask_times<W: Write>(run: &mut Run<W>) -> Result<()> {
+    let late = Timestamp::from_second(2_840_140_800)?;
+    let nothing = [(), (), ()];
+    let case = Case::of("DefaultParser::put_times", "a moment");
+    run.change(
+        case,
+        two_parsers::<V4, Local>(run.alloc()),
+        nothing,
+        |parser, _| { parser.put_times(late) },
+    )?;
+    let case = Case::of("DefaultParser::check_times", "a moment");
+    run.change(
+        case,
+        two_parsers::<V4, Local>(run.alloc()),
+        nothing,
+        |parser, _| { parser.check_times(late).map(drop) },
     )
 }
 

@@ -15,7 +15,6 @@ mod no_memory;
 mod parsers;
 mod primitives;
 mod run;
-mod setters;
 mod signed;
 mod validators;
 

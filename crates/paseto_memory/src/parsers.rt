@@ -2,11 +2,11 @@
 
 use crate::answer::{Answer, Told};
 use crate::boxed_local;
+use crate::builders::three_maps;
 use crate::claims::numbered;
 use crate::kinds::{footer, symmetric_key};
 use crate::local::seal;
 use crate::run::{Case, Run};
-use crate::setters::{self, Checked, validators};
 use crate::signed::sign;
 use crate::validators::{Refuses, refusing};
 use anyhow::Result;
@@ -15,9 +15,11 @@ use paseto_toys::keys::{Keys, SECRET, ToyVersion};
 use paseto_toys::{Lenient, PlainBox};
 use rusty_paseto::prelude::{
     AudienceClaim, CheckSetter, CustomClaim, GenericParser, Local, Public, PurposeTrait, Signs,
-    UnboxedVersion, V1, V2, V3, V4, ValidatorFn, Verifies, VersionTrait,
+    UnboxedVersion, V1, V2, V3, V4, ValidatorFn, ValidatorMap, Verifies, VersionTrait,
 };
+use serde_json::Value;
 use std::alloc::Global;
+use std::collections::BTreeMap;
 use std::io::Write;
 
 /// The entries that all parsers check.
@@ -40,7 +42,13 @@ impl Told for GenericParser<'_, V4, Local> {
 
 /// Asks them.
 pub fn ask<W: Write>(run: &mut Run<W>) -> Result<()> {
-    setters::ask::<GenericParser<'static, V4, Local>, W>(run)?;
+    ask_checks(run)?;
+    ask_refused_checks(run)?;
+    ask_validators(run)?;
+    ask_several_checks(run)?;
+    ask_several_validators(run)?;
+    ask_lent_validators(run)?;
+    ask_times(run)?;
     ask_text(run)?;
     ask_kinds(run)
 }
@@ -76,29 +84,199 @@ pub fn two_parsers(alloc: Global) -> Result<[GenericParser<'static, V4, Local>; 
     Ok([parser_of(alloc)?, parser_of(alloc)?])
 }
 
-impl Checked for GenericParser<'static, V4, Local> {
-    const NAME: &'static str = "TokenParser";
-
-    fn made(alloc: Global) -> Result<Self> {
-        parser_of(alloc)
-    }
+fn ask_checks<W: Write>(run: &mut Run<W>) -> Result<()> {
+    ask_check(run)?;
+    ask_lent_check(run)?;
+    ask_repeated_check(run)
 }
 
-fn ask_text<W: Write>(run: &mut Run<W>) -> Result<()> {
-    let alloc = run.alloc();
-    let payload = good(alloc, run.text()?.as_str())?;
-    let parsers = two_timed::<V4, Local>(alloc)?;
-    run.ask(
-        Case::of("TokenParser::value_of", "a text"),
-        &parsers[0],
-        &parsers[1],
-        |parser| parser.value_of(payload.as_str()),
+fn ask_check<W: Write>(run: &mut Run<W>) -> Result<()> {
+    let claim = AudienceClaim::from("others");
+    let case = Case::of("TokenParser::put_check", "a claim");
+    run.change(
+        case,
+        two_parsers(run.alloc()),
+        [(), (), ()],
+        |parser, _| parser.put_check(&claim),
     )
+}
+
+fn ask_lent_check<W: Write>(run: &mut Run<W>) -> Result<()> {
+    let claim = AudienceClaim::from("others");
+    let case = Case::of("TokenParser::check_claim", "a claim");
+    run.change(case, two_parsers(run.alloc()), [(), (), ()], |parser, _| {
+        match parser.check_claim(&claim) {
+            Ok(_) => Ok(()),
+            Err(error) => Err(error),
+        }
+    })
+}
+
+fn ask_repeated_check<W: Write>(run: &mut Run<W>) -> Result<()> {
+    let claim = CustomClaim::try_from_str(run.alloc(), "seats", 5u64)?;
+    let case = Case::of("TokenParser::put_check", "a key that is there");
+    run.change(
+        case,
+        two_parsers(run.alloc()),
+        [(), (), ()],
+        |parser, _| parser.put_check(&claim),
+    )
+}
+
+fn ask_refused_checks<W: Write>(run: &mut Run<W>) -> Result<()> {
+    ask_refused_check(run)?;
+    ask_refused_validator(run)?;
+    let case = Case::refused("TokenParser::put_checks", "a map with a fraction");
+    let maps = three_maps(run.alloc(), "{\"a\":1,\"b\":3.5}")?;
+    run.change(
+        case,
+        two_parsers(run.alloc()),
+        maps,
+        |parser, map| parser.put_checks(map),
+    )
+}
+
+// A claim that nothing can be stored of.
+fn odd_claim(alloc: Global) -> Result<CustomClaim<Value>> {
+    let value = Value::from_str(alloc, "[3.5]")?;
+    Ok(CustomClaim::try_from_str(alloc, "odd", value)?)
+}
+
+fn ask_refused_check<W: Write>(run: &mut Run<W>) -> Result<()> {
+    let claim = odd_claim(run.alloc())?;
+    let case = Case::refused("TokenParser::put_check", "a fraction");
+    run.change(
+        case,
+        two_parsers(run.alloc()),
+        [(), (), ()],
+        |parser, _| parser.put_check(&claim),
+    )
+}
+
+fn ask_refused_validator<W: Write>(run: &mut Run<W>) -> Result<()> {
+    let claim = odd_claim(run.alloc())?;
+    let case = Case::refused("TokenParser::put_validator", "a fraction");
+    let boxes = refusing!(run.alloc());
+    run.change(case, two_parsers(run.alloc()), boxes, |parser, validator| {
+        parser.put_validator(&claim, validator)
+    })
+}
+
+fn ask_validators<W: Write>(run: &mut Run<W>) -> Result<()> {
+    ask_validator(run)?;
+    ask_lent_validator(run)
+}
+
+fn ask_validator<W: Write>(run: &mut Run<W>) -> Result<()> {
+    let claim = AudienceClaim::from("customers");
+    let case = Case::of("TokenParser::put_validator", "a claim");
+    let boxes = refusing!(run.alloc());
+    run.change(case, two_parsers(run.alloc()), boxes, |parser, validator| {
+        parser.put_validator(&claim, validator)
+    })
+}
+
+fn ask_lent_validator<W: Write>(run: &mut Run<W>) -> Result<()> {
+    let claim = AudienceClaim::from("customers");
+    let case = Case::of("TokenParser::validate_claim", "a claim");
+    let boxes = refusing!(run.alloc());
+    run.change(case, two_parsers(run.alloc()), boxes, |parser, validator| {
+        match parser.validate_claim(&claim, validator) {
+            Ok(_) => Ok(()),
+            Err(error) => Err(error),
+        }
+    })
+}
+
+/// Entries of several keys, one of which is stored already.
+pub const SEVERAL: &str = "{\"a\":{\"a\":1},\"aud\":{\"aud\":\"others\"},\"seats\":5}";
+
+fn ask_several_checks<W: Write>(run: &mut Run<W>) -> Result<()> {
+    let case = Case::of("TokenParser::put_checks", "a map");
+    let maps = three_maps(run.alloc(), SEVERAL)?;
+    run.change(
+        case,
+        two_parsers(run.alloc()),
+        maps,
+        |parser, map| parser.put_checks(map),
+    )?;
+    ask_lent_checks(run)
+}
+
+fn ask_lent_checks<W: Write>(run: &mut Run<W>) -> Result<()> {
+    let case = Case::of("TokenParser::extend_check_claims", "a map");
+    let maps = three_maps(run.alloc(), SEVERAL)?;
+    run.change(case, two_parsers(run.alloc()), maps, |parser, map| {
+        match parser.extend_check_claims(map) {
+            Ok(_) => Ok(()),
+            Err(error) => Err(error),
+        }
+    })
+}
+
+/// Validators of three keys, the last of which has a stored value already.
+pub fn validators(alloc: Global, boxes: [ValidatorFn; 3]) -> Result<ValidatorMap> {
+    let mut map = BTreeMap::new(alloc);
+    let [first, second, third] = boxes;
+    drop(map.insert(String::from_str(alloc, "a")?, first)?);
+    drop(map.insert(String::from_str(alloc, "aud")?, second)?);
+    drop(map.insert(String::from_str(alloc, "seats")?, third)?);
+    Ok(map)
+}
+
+fn ask_several_validators<W: Write>(run: &mut Run<W>) -> Result<()> {
+    let case = Case::of("TokenParser::put_validators", "a map");
+    let alloc = run.alloc();
+    let maps = [
+        validators(alloc, refusing!(alloc))?,
+        validators(alloc, refusing!(alloc))?,
+        validators(alloc, refusing!(alloc))?,
+    ];
+    run.change(
+        case,
+        two_parsers(run.alloc()),
+        maps,
+        |parser, map| parser.put_validators(map),
+    )
+}
+
+fn ask_lent_validators<W: Write>(run: &mut Run<W>) -> Result<()> {
+    let case = Case::of("TokenParser::extend_validation_claims", "a map");
+    let alloc = run.alloc();
+    let maps = [
+        validators(alloc, refusing!(alloc))?,
+        validators(alloc, refusing!(alloc))?,
+        validators(alloc, refusing!(alloc))?,
+    ];
+    run.change(case, two_parsers(run.alloc()), maps, |parser, map| {
+        match parser.extend_validation_claims(map) {
+            Ok(_) => Ok(()),
+            Err(error) => Err(error),
+        }
+    })
 }
 
 /// A moment at which a token of the cases is good.
 pub fn now() -> Result<Timestamp> {
     Ok(Timestamp::from_second(1_704_067_200)?)
+}
+
+fn ask_times<W: Write>(run: &mut Run<W>) -> Result<()> {
+    let now = now()?;
+    let case = Case::of("TokenParser::put_times", "a moment");
+    run.change(
+        case,
+        two_parsers(run.alloc()),
+        [(), (), ()],
+        |parser, _| parser.put_times(now),
+    )?;
+    let case = Case::of("TokenParser::check_times", "a moment");
+    run.change(case, two_parsers(run.alloc()), [(), (), ()], |parser, _| {
+        match parser.check_times(now) {
+            Ok(_) => Ok(()),
+            Err(error) => Err(error),
+        }
+    })
 }
 
 /// A payload that passes the checks of the cases, and holds the text.
@@ -118,6 +296,18 @@ fn two_timed<V: VersionTrait, P: PurposeTrait>(
     alloc: Global,
 ) -> Result<[GenericParser<'static, V, P>; 2]> {
     Ok([timed(alloc)?, timed(alloc)?])
+}
+
+fn ask_text<W: Write>(run: &mut Run<W>) -> Result<()> {
+    let alloc = run.alloc();
+    let payload = good(alloc, run.text()?.as_str())?;
+    let parsers = two_timed::<V4, Local>(alloc)?;
+    run.ask(
+        Case::of("TokenParser::value_of", "a text"),
+        &parsers[0],
+        &parsers[1],
+        |parser| parser.value_of(payload.as_str()),
+    )
 }
 
 fn ask_opening<V: UnboxedVersion, W: Write>(run: &mut Run<W>, kind: &str) -> Result<()> {
