@@ -1,0 +1,6 @@
+use Rattle.paseto_p384.specs.Point.{cross}
+use Rattle.paseto_p384.proofs.point.cross.Goals as goal
+
+pub returns : goal.returns
+unfolding cross
+returns c = cc

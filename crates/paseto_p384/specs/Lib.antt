@@ -1,0 +1,4 @@
+pub mod Curve
+pub mod Element
+pub mod Field
+pub mod Point

@@ -1,0 +1,90 @@
+-- Points in projective coordinates: (X, Y, Z) is the point (X / Z, Y / Z), and the neutral point where Z is 0. Their
+-- sums are defined by the complete formulas of J. Renes, C. Costello and L. Batina ("Complete Addition Formulas for
+-- Prime Order Elliptic Curves", EUROCRYPT 2016), where a is -3.
+use Rattle.std.specs.Prelude.{ℕ, zero, suc, ◌/◌, ◌%◌, nat_eq, if◌then◌else◌}
+use Rattle.paseto_p384.specs.Curve.{base_x, base_y, curve_b}
+use Rattle.paseto_p384.specs.Element.{number}
+use Rattle.paseto_p384.specs.Field.{minus, plus, times, triple}
+use Rattle.paseto_p384.specs.declared.point.projective.ProjectivePoint.{ProjectivePoint}
+
+pub record Point : Type 0 where
+  pub x : ℕ
+  pub y : ℕ
+  pub z : ℕ
+
+-- p * s + q * r, from the products p * r and q * s
+unfoldable pub cross : ℕ → ℕ → ℕ → ℕ → ℕ → ℕ → ℕ
+cross p q r s first second = minus (times (plus p q) (plus r s)) (plus first second)
+
+-- the sum of two points (algorithm 4)
+unfoldable pub point_add : Point → Point → Point
+point_add p q =
+    let xx = times p.x q.x in
+    let yy = times p.y q.y in
+    let zz = times p.z q.z in
+    let xy = cross p.x p.y q.x q.y xx yy in
+    let yz = cross p.y p.z q.y q.z yy zz in
+    let xz = cross p.x p.z q.x q.z xx zz in
+    let part = triple (minus xz (times curve_b zz)) in
+    let low = minus yy part in
+    let high = plus yy part in
+    let zzz = triple zz in
+    let inner = triple (minus (minus (times curve_b xz) zzz) xx) in
+    let outer = minus (triple xx) zzz in
+    record {
+      x = minus (times xy high) (times yz inner);
+      y = plus (times high low) (times outer inner);
+      z = plus (times yz low) (times xy outer);
+    }
+
+-- the double of a point (algorithm 6)
+unfoldable pub point_double : Point → Point
+point_double p =
+    let xx = times p.x p.x in
+    let yy = times p.y p.y in
+    let zz = times p.z p.z in
+    let xy = plus (times p.x p.y) (times p.x p.y) in
+    let xz = plus (times p.x p.z) (times p.x p.z) in
+    let yz = plus (times p.y p.z) (times p.y p.z) in
+    let part = triple (minus (times curve_b zz) xz) in
+    let low = minus yy part in
+    let high = plus yy part in
+    let zzz = triple zz in
+    let inner = triple (minus (minus (times curve_b xz) zzz) xx) in
+    let outer = minus (triple xx) zzz in
+    let half = plus (times yz yy) (times yz yy) in
+    record {
+      x = minus (times low xy) (times yz inner);
+      y = plus (times low high) (times outer inner);
+      z = plus half half;
+    }
+
+abbrev pub neutral : Point
+neutral = record { x = 0; y = 1; z = 0 }
+
+abbrev pub base : Point
+base = record { x = base_x; y = base_y; z = 1 }
+
+-- the multiple of a point by a number of n bits: double and add from the highest bit
+unfoldable pub multiple : Point → ℕ → ℕ → Point
+multiple p zero k = neutral
+multiple p (suc n) k =
+    let doubled = point_double (multiple p n (k / 2)) in
+    if nat_eq (k % 2) 1 then point_add doubled p else doubled
+
+-- a point and what two bits ask to be added to it: p, q, or p + q
+unfoldable pub point_add_by : Point → Point → Point → ℕ → ℕ → Point
+point_add_by sum p q i j =
+    if nat_eq i 1
+    then (if nat_eq j 1 then point_add sum (point_add p q) else point_add sum p)
+    else (if nat_eq j 1 then point_add sum q else sum)
+
+-- [k]P + [l]Q by numbers of n bits: double and add over both from the highest bit
+unfoldable pub joint_multiple : Point → Point → ℕ → ℕ → ℕ → Point
+joint_multiple p q zero k l = neutral
+joint_multiple p q (suc n) k l =
+    point_add_by (point_double (joint_multiple p q n (k / 2) (l / 2))) p q (k % 2) (l % 2)
+
+-- the point that three elements of the field are
+abbrev pub coordinates : ProjectivePoint → Point
+coordinates p = record { x = number p.x; y = number p.y; z = number p.z }
