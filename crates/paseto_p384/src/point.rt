@@ -1,15 +1,22 @@
-//! Points of the curve: sums and doubles, by complete formulas.
+//! Points of the curve: sums, doubles and multiples, by complete formulas.
 
-ghost use Rattle.std.specs.Prelude.{◌≡◌};
+ghost use Rattle.std.specs.Prelude.{◌≡◌, ◌<◌};
+ghost use Rattle.paseto_montgomery.specs.Words.{value};
 ghost use Rattle.paseto_p384.specs.Element.{number};
-ghost use Rattle.paseto_p384.specs.Point.{base, coordinates, cross, neutral, point_add, point_double};
+ghost use Rattle.paseto_p384.specs.Point.{base, coordinates, cross, joint_multiple, multiple, neutral, point_add, point_add_by, point_double};
 
+mod pair;
 mod projective;
 
 use crate::field;
 use crate::field::constants::{base_x, base_y, curve_b, one, zero};
-use crate::field::{FieldElement, mul, sub, triple};
+use crate::field::{FieldElement, choose, mul, sub, triple};
+use pair::Pair;
+use paseto_montgomery::bit;
 pub(crate) use projective::ProjectivePoint;
+
+// How many bits a scalar has.
+const SCALAR_BITS: usize = 384;
 
 /// The neutral point.
 pub(crate) fn neutral() -> ProjectivePoint
@@ -100,4 +107,78 @@ pub(crate) fn double(p: ProjectivePoint) -> ProjectivePoint
         y: field::add(mul(low, high), mul(outer, inner)),
         z: field::add(half, half),
     }
+}
+
+// The first point where `choice` is 1, and the second where it is 0, with no branch.
+#[inline(always)]
+fn choose_point(choice: u64, p: ProjectivePoint, q: ProjectivePoint) -> ProjectivePoint
+    requires { choice < 2 }
+    ensures one { choice ≡ 1 → coordinates result ≡ coordinates p }
+    ensures zero { choice ≡ 0 → coordinates result ≡ coordinates q }
+{
+    ProjectivePoint {
+        x: choose(choice, p.x, q.x),
+        y: choose(choice, p.y, q.y),
+        z: choose(choice, p.z, q.z),
+    }
+}
+
+/// The multiple of a point, in a fixed number of steps and with no branch on the scalar.
+pub(crate) fn multiply(p: ProjectivePoint, scalar: &[u64; 6]) -> ProjectivePoint
+    ensures { coordinates result ≡ multiple (coordinates p) 384 (value scalar.now 6) }
+{
+    let mut sum = neutral();
+    'bits: for i in 0..SCALAR_BITS {
+        let doubled = double(sum);
+        sum = choose_point(bit(scalar, SCALAR_BITS - 1 - i), add(doubled, p), doubled);
+    }
+    sum
+}
+
+// A point and what two bits ask to be added to it. The bits are no secret.
+fn add_by(sum: ProjectivePoint, points: &Pair, i: u64, j: u64) -> ProjectivePoint
+    ensures { coordinates result
+        ≡ point_add_by (coordinates sum) (coordinates points.now.first) (coordinates points.now.second) i j }
+{
+    if i == 1 {
+        if j == 1 {
+            return add(sum, points.both);
+        }
+        return add(sum, points.first);
+    }
+    if j == 1 {
+        return add(sum, points.second);
+    }
+    sum
+}
+
+// The sum of a multiple of each of two points, by one pass over both scalars.
+fn multiply_pair(points: &Pair, k: &[u64; 6], l: &[u64; 6]) -> ProjectivePoint
+    ensures { coordinates result
+        ≡ joint_multiple (coordinates points.now.first) (coordinates points.now.second) 384 (value k.now 6) (value l.now 6) }
+{
+    let mut sum = neutral();
+    'bits: for i in 0..SCALAR_BITS {
+        let at = SCALAR_BITS - 1 - i;
+        sum = add_by(double(sum), points, bit(k, at), bit(l, at));
+    }
+    sum
+}
+
+/// The sum of the multiple of `p` by `k` and of `q` by `l`, which are no secret.
+pub(crate) fn multiply_both(
+    p: ProjectivePoint,
+    k: &[u64; 6],
+    q: ProjectivePoint,
+    l: &[u64; 6],
+) -> ProjectivePoint
+    ensures { coordinates result
+        ≡ joint_multiple (coordinates p) (coordinates q) 384 (value k.now 6) (value l.now 6) }
+{
+    let points = Pair {
+        first: p,
+        second: q,
+        both: add(p, q),
+    };
+    multiply_pair(&points, k, l)
 }
