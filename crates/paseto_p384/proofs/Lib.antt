@@ -1,1 +1,2 @@
+pub mod EncodingLaws
 pub mod PointLaws

@@ -1,4 +1,7 @@
 pub mod Curve
 pub mod Element
+pub mod Encoding
 pub mod Field
 pub mod Point
+pub mod Residue
+pub mod Scalar

@@ -1,0 +1,43 @@
+-- The cases of decoding.
+use Rattle.std.proofs.Common.{◌≡◌, ◌≢◌, ◌≤◌, ℕ, ◌+◌, ◌-◌, ◌/◌, ◌%◌, ◌<◌, List, ◌∷◌, drop, slice_index, refl, arith}
+use Rattle.std.specs.Prelude.{None, Some}
+use Rattle.std.proofs.lemmas.Bool.Decides.{nat_tests}
+use Rattle.paseto_montgomery.specs.Octets.{i2osp, os2ip}
+use Rattle.paseto_p384.specs.Encoding.{decoded, encoded, point_at, right_side, signed}
+use Rattle.paseto_p384.specs.Field.{minus, power, prime, times}
+use Rattle.paseto_p384.specs.Point.{Point}
+
+pub encoded-is : (p : Point) (x y inverse : ℕ) → inverse ≡ power p.z (prime - 2) → x ≡ times p.x inverse → y ≡ times p.y inverse
+    → (2 + y % 2) ∷ i2osp x 48 ≡ encoded p
+unfolding encoded
+encoded-is p x y inverse e f g = cc
+
+pub signed-same : (odd y : ℕ) → y % 2 ≡ odd → y ≡ signed odd y
+unfolding signed
+signed-same odd y h = grind (arith, nat_tests)
+
+pub signed-other : (odd y : ℕ) → y % 2 ≢ odd → minus 0 y ≡ signed odd y
+unfolding signed
+signed-other odd y h = grind (arith, nat_tests)
+
+pub point_at-none : (odd x y : ℕ) → y ≡ power (right_side x) ((prime + 1) / 4) → times y y ≢ right_side x → None ≡ point_at odd x
+unfolding point_at
+point_at-none odd x y e h = rw (← e) (grind (arith, nat_tests))
+
+pub point_at-some : (odd x y : ℕ) → y ≡ power (right_side x) ((prime + 1) / 4) → times y y ≡ right_side x
+    → Some (record { x = x; y = signed odd y; z = 1 }) ≡ point_at odd x
+unfolding point_at
+point_at-some odd x y e h = rw (← e, h) (grind (arith, nat_tests))
+
+pub decoded-first : (octets : List ℕ) → slice_index octets 0 / 2 ≢ 1 → None ≡ decoded octets
+unfolding decoded
+decoded-first octets h = grind (arith, nat_tests)
+
+pub decoded-above : (octets : List ℕ) (x : ℕ) → slice_index octets 0 / 2 ≡ 1 → x ≡ os2ip (drop 1 octets) → prime ≤ x → None ≡ decoded octets
+unfolding decoded
+decoded-above octets x h e above = rw (← e) (grind (arith, nat_tests))
+
+pub decoded-at : (octets : List ℕ) (x : ℕ) → slice_index octets 0 / 2 ≡ 1 → x ≡ os2ip (drop 1 octets) → x < prime
+    → point_at (slice_index octets 0 % 2) x ≡ decoded octets
+unfolding decoded
+decoded-at octets x h e below = rw (← e) (grind (arith, nat_tests))
