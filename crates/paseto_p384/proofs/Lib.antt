@@ -1,2 +1,4 @@
+pub mod EcdsaLaws
 pub mod EncodingLaws
+pub mod FieldLaws
 pub mod PointLaws

@@ -1,4 +1,5 @@
 pub mod Curve
+pub mod Ecdsa
 pub mod Element
 pub mod Encoding
 pub mod Field
