@@ -2,3 +2,4 @@ pub mod EcdsaLaws
 pub mod EncodingLaws
 pub mod FieldLaws
 pub mod PointLaws
+pub mod Validity

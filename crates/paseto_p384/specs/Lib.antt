@@ -3,6 +3,8 @@ pub mod Ecdsa
 pub mod Element
 pub mod Encoding
 pub mod Field
+pub mod Nonce
+pub mod P384
 pub mod Point
 pub mod Residue
 pub mod Scalar

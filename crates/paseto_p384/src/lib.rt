@@ -4,5 +4,9 @@
 mod ecdsa;
 mod encoding;
 mod field;
+mod nonce;
+mod p384;
 mod point;
 mod scalar;
+
+pub use p384::P384;

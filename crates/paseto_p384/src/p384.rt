@@ -1,0 +1,214 @@
+//! Keys, signing and verifying of messages (FIPS 186-5, section 6.4).
+
+ghost use Rattle.std.specs.Prelude.{◌≡◌, ◌↔◌, ◌⊎◌, ℕ, ◌<◌, List, length, None, Some, IfErr, IfOk, MatchOption, OnOk, IsTrue};
+ghost use Rattle.rusty_paseto_parts.specs.declared.error.PasetoError.TheVariants.{KeyRejected, Signature};
+ghost use Rattle.paseto_montgomery.specs.Octets.{os2ip};
+ghost use Rattle.paseto_montgomery.specs.Words.{value};
+ghost use Rattle.paseto_p384.specs.Curve.{order};
+ghost use Rattle.paseto_p384.specs.P384.{IsDeclined, IsPrivate, IsRefused, P384Verifies, first_candidate, hash_number, p384_public, p384_sign, signed_by};
+
+use crate::ecdsa::{accepts, attempt};
+use crate::encoding::{decode, encode};
+use crate::nonce::NonceGenerator;
+use crate::point::{base, multiply};
+use crate::scalar::{from_words, is_scalar, to_words};
+use paseto_montgomery::{from_octets, to_octets};
+use rand_core::TryRng;
+use rusty_paseto_core::{CompressedKey, SignatureScheme};
+use rusty_paseto_parts::{Key, PasetoError};
+use sha2::{Digest, Sha384};
+use std::alloc::Global;
+
+// How many octets a number has.
+const NUMBER_LENGTH: usize = 48;
+
+// How many octets a public key has.
+const PUBLIC_LENGTH: usize = 49;
+
+/// ECDSA over P-384 with SHA-384 (FIPS 186-5, section 6.4), the signature scheme of version 3.
+#[derive(Drop)]
+pub struct P384;
+
+// The number of the hash of a message.
+fn hash_number(message: &[u8]) -> [u64; 6]
+    ensures { value result 6 ≡ hash_number message.now }
+{
+    from_octets(&Sha384::digest(message))
+}
+
+// The number that a private key is.
+fn private_number(private: &[u8]) -> Option<[u64; 6]>
+    ensures { MatchOption result (¬ IsPrivate private.now)
+        (λ d. IsPrivate private.now × (value d 6 ≡ os2ip private.now) × (value d 6 < order)) }
+{
+    if private.len() != NUMBER_LENGTH {
+        return None;
+    }
+    let d = from_octets(private);
+    if !is_scalar(&d) {
+        return None;
+    }
+    Some(d)
+}
+
+// The public key of a private key, given as a number.
+fn public_octets(d: &[u64; 6]) -> [u8; 49]
+    ensures { (private : List ℕ) → value d.now 6 ≡ os2ip private → result ≡ p384_public private }
+{
+    encode(multiply(base(), d))
+}
+
+// The generator whose value is the first candidate for a private key and a message.
+fn first_candidate(private: &[u8], e: &[u64; 6]) -> NonceGenerator
+    ensures { (message : List ℕ) → value e.now 6 ≡ hash_number message
+        → result ≡ first_candidate private.now message }
+{
+    let mut hash = [0; NUMBER_LENGTH];
+    to_octets(&to_words(from_words(e)), &mut hash);
+    NonceGenerator::start(private, &hash).draw()
+}
+
+// The signature by a candidate.
+fn signed_by(d: &[u64; 6], e: &[u64; 6], g: &NonceGenerator) -> Option<[u8; 96]>
+    requires { value d.now 6 < order }
+    ensures { (private message : List ℕ) → value d.now 6 ≡ os2ip private
+        → value e.now 6 ≡ hash_number message → result ≡ signed_by private message g.now }
+{
+    attempt(d, e, &from_octets(&g.value))
+}
+
+// The signature of a message under a private key, which is the number d.
+fn signature(private: &[u8], d: &[u64; 6], message: &[u8]) -> Option<[u8; 96]>
+    requires private { value d.now 6 ≡ os2ip private.now }
+    requires below { value d.now 6 < order }
+    ensures { result ≡ p384_sign private.now message.now }
+{
+    let e = hash_number(message);
+    let g = first_candidate(private, &e);
+    match signed_by(d, &e, &g) {
+        Some(signature) => Some(signature),
+        None => signed_by(d, &e, &g.retry().draw()),
+    }
+}
+
+// Whether a signature is valid.
+fn is_valid(public: &[u8], message: &[u8], signature: &[u8; 96]) -> bool
+    ensures { IsTrue result ↔ P384Verifies public.now message.now signature.now }
+{
+    if public.len() != PUBLIC_LENGTH {
+        return false;
+    }
+    let (front, back) = signature.split_at(NUMBER_LENGTH);
+    match decode(public) {
+        Some(q) => accepts(
+            q,
+            &hash_number(message),
+            &from_octets(front),
+            &from_octets(back),
+        ),
+        None => false,
+    }
+}
+
+// A signature that is valid.
+fn checked(
+    public: &[u8],
+    message: &[u8],
+    signature: Option<[u8; 96]>,
+) -> Result<[u8; 96], PasetoError>
+    ensures ok { IfOk result (λ valid. (signature ≡ Some valid) × P384Verifies public.now message.now valid) }
+    ensures err { IfErr result (λ error. (error ≡ PasetoError.Signature)
+        × ((made : List ℕ) → signature ≡ Some made → ¬ P384Verifies public.now message.now made)) }
+{
+    match signature {
+        Some(made) => {
+            if !is_valid(public, message, &made) {
+                return Err(PasetoError::Signature);
+            }
+            Ok(made)
+        }
+        None => Err(PasetoError::Signature),
+    }
+}
+
+impl P384 {
+    /// A new private key, which the generator gives, and its public key. No memory is taken. `Cipher` comes where
+    /// the generator fails, and `KeyRejected` where it gives 0 or a number that is not below n, which a good one
+    /// does less than once in 2^189 times.
+    pub fn key_pair<R: TryRng>(rng: &mut R) -> Result<(Key<48>, Key<49>), PasetoError>
+        ensures ok { IfOk result (λ pair. R.may_fill rng.old pair.0 rng.new
+            × IsPrivate pair.0 × (pair.1 ≡ p384_public pair.0)) }
+        ensures err { IfErr result (λ error. (error ≡ PasetoError.Cipher)
+            ⊎ ((error ≡ PasetoError.KeyRejected)
+            × ((drawn : List ℕ) × R.may_fill rng.old drawn rng.new × (¬ IsPrivate drawn)))) }
+    {
+        let private = Key::<48>::try_new_random(rng)?;
+        match private_number(private.as_bytes()) {
+            Some(d) => Ok((private, Key::from(public_octets(&d)))),
+            None => Err(PasetoError::KeyRejected),
+        }
+    }
+}
+
+impl SignatureScheme<96> for P384 {
+    ghost valid = { P384Verifies };
+
+    ghost partner = { p384_public };
+
+    ghost refused = { IsRefused };
+
+    ghost declined = { IsDeclined };
+
+    /// The signature of FIPS 186-5, section 6.4.1, with the nonce of RFC 6979, which is checked against the public
+    /// key of the private key before it is answered. `KeyRejected` comes for what is no private key: another length
+    /// than 48 bytes, 0, or a number that is not below n; and `Signature` where two candidates for a nonce are none,
+    /// or what was made is not valid. No memory is taken.
+    fn sign(
+        &mut self,
+        _alloc: Global,
+        private: &[u8],
+        message: &[u8],
+    ) -> Result<[u8; 96], PasetoError>
+        ensures ok { IfOk result (λ signature. P384Verifies (p384_public private.now) message.now signature
+            × (p384_sign private.now message.now ≡ Some signature) × IsPrivate private.now) }
+        ensures err { IfErr result (λ error. IsDeclined private.now error
+            × (IsPrivate private.now → (made : List ℕ) → p384_sign private.now message.now ≡ Some made
+            → ¬ P384Verifies (p384_public private.now) message.now made)) }
+    {
+        match private_number(private) {
+            Some(d) => {
+                let made = signature(private, &d, message);
+                checked(&public_octets(&d), message, made)
+            }
+            None => Err(PasetoError::KeyRejected),
+        }
+    }
+
+    /// Is `Ok` exactly where the signature is valid, and else `InvalidSignature`. No memory is taken.
+    fn verify(
+        &self,
+        _alloc: Global,
+        public: &[u8],
+        message: &[u8],
+        signature: &[u8; 96],
+    ) -> Result<(), PasetoError> {
+        if is_valid(public, message, signature) {
+            return Ok(());
+        }
+        Err(PasetoError::InvalidSignature)
+    }
+}
+
+impl CompressedKey for P384 {
+    /// The public key of a private key, or `KeyRejected` for what is none: another length than 48 bytes, 0, or a
+    /// number that is not below n. No memory is taken.
+    fn public_key(&self, _alloc: Global, private: &[u8]) -> Result<[u8; 49], PasetoError>
+        ensures ok { IfOk result (λ public. IsPrivate private.now × (public ≡ p384_public private.now)) }
+        ensures err { IfErr result (λ error. (¬ IsPrivate private.now) × (error ≡ PasetoError.KeyRejected)) }
+    {
+        match private_number(private) {
+            Some(d) => Ok(public_octets(&d)),
+            None => Err(PasetoError::KeyRejected),
+        }
+    }
+}
