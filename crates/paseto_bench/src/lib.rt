@@ -14,6 +14,7 @@
 
 mod boxed;
 mod copying;
+mod p384;
 mod primitives;
 mod schemes;
 mod tokens;
@@ -22,6 +23,7 @@ pub use boxed::{
     paseto_bench_v2_open, paseto_bench_v2_seal, paseto_bench_xchacha20poly1305_open,
     paseto_bench_xchacha20poly1305_seal,
 };
+pub use p384::{paseto_bench_p384_public_key, paseto_bench_p384_sign, paseto_bench_p384_verify};
 pub use primitives::{
     paseto_bench_aes256_ctr, paseto_bench_blake2b, paseto_bench_hmac_sha384, paseto_bench_xchacha20,
 };

@@ -2,10 +2,11 @@
 use Rattle.std.proofs.Common.{◌≡◌, ◌≢◌, ◌≤◌, ◌⊎◌, ℕ, ◌+◌, ◌-◌, ◌%◌, ◌<◌, ap, arith}
 use Rattle.std.specs.Prelude.{None, Some}
 use Rattle.std.proofs.lemmas.Bool.Decides.{nat_tests}
+use Rattle.paseto_p384.specs.Base.{base_multiple}
 use Rattle.paseto_p384.specs.Curve.{order}
 use Rattle.paseto_p384.specs.Ecdsa.{Accepts, IsFirst, attempt, first, halves, named, nonzero, second}
 use Rattle.paseto_p384.specs.Field.{power, prime, times}
-use Rattle.paseto_p384.specs.Point.{Point, base, multiple}
+use Rattle.paseto_p384.specs.Point.{Point}
 
 pub first-parts : (p : Point) (r : ℕ) → IsFirst p r
     → (p.z ≢ 0) × ((times r p.z ≡ p.x) ⊎ ((r + order < prime) × (times (r + order) p.z ≡ p.x)))
@@ -17,7 +18,7 @@ pub first-of : (p : Point) (r : ℕ)
 unfolding IsFirst
 first-of p r h = h
 
-pub first-is : (p : Point) (k : ℕ) → p ≡ multiple base 384 k → times p.x (power p.z (prime - 2)) % order ≡ first k
+pub first-is : (p : Point) (k : ℕ) → p ≡ base_multiple k → times p.x (power p.z (prime - 2)) % order ≡ first k
 unfolding first
 first-is p k e = ap (λ (q : Point). times q.x (power q.z (prime - 2)) % order) e
 

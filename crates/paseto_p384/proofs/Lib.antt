@@ -1,3 +1,4 @@
+pub mod BaseLaws
 pub mod EcdsaLaws
 pub mod EncodingLaws
 pub mod FieldLaws

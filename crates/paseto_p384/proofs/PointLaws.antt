@@ -2,7 +2,7 @@
 use Rattle.std.proofs.Common.{◌≡◌, ◌≢◌, ℕ, zero, suc, ◌+◌, ◌-◌, ◌/◌, ◌%◌, ◌^◌, ◌<◌, ◌⊎◌, refl, sym, ◌∙◌, ap, inl, inr, arith}
 use Rattle.std.proofs.lemmas.Bool.Decides.{nat_tests}
 use Rattle.std.proofs.lemmas.Nat.{shr-shr}
-use Rattle.paseto_p384.specs.Point.{Point, joint_multiple, multiple, neutral, point_add, point_add_by, point_double}
+use Rattle.paseto_p384.specs.Point.{Point, joint_multiple, neutral, point_add, point_add_by, point_double}
 
 -- a bit is 0 or 1
 pub bit_cases : (n : ℕ) → n < 2 → (n ≡ 0) ⊎ (n ≡ 1)
@@ -20,19 +20,6 @@ pub lower-bit : (v i b : ℕ) → i < 384 → b ≡ v / 2 ^ (384 - 1 - i) % 2 �
 lower-bit v i b h e =
     let place : 384 - 1 - i ≡ 384 - (i + 1) = omega arith in
     e ∙ ap (λ k. v / 2 ^ k % 2) place
-
-pub multiple-none : (p : Point) (k : ℕ) → multiple p 0 k ≡ neutral
-unfolding multiple
-multiple-none p k = refl
-
-pub multiple-set : (p : Point) (n k : ℕ) → k % 2 ≡ 1
-    → multiple p (suc n) k ≡ point_add (point_double (multiple p n (k / 2))) p
-unfolding multiple
-multiple-set p n k h = rw h refl
-
-pub multiple-clear : (p : Point) (n k : ℕ) → k % 2 ≡ 0 → multiple p (suc n) k ≡ point_double (multiple p n (k / 2))
-unfolding multiple
-multiple-clear p n k h = rw h refl
 
 pub joint-none : (p q : Point) (k l : ℕ) → joint_multiple p q 0 k l ≡ neutral
 unfolding joint_multiple

@@ -1,9 +1,10 @@
 -- Verifying and signing of a hash, as numbers (FIPS 186-5, sections 6.4.1 and 6.4.2).
 use Rattle.std.specs.Prelude.{◌≡◌, ◌≢◌, ◌⊎◌, ℕ, ◌+◌, ◌-◌, ◌%◌, ◌<◌, List, ◌++◌, Option, None, Some, nat_eq, nat_lt, if◌then◌else◌}
 use Rattle.paseto_montgomery.specs.Octets.{i2osp}
+use Rattle.paseto_p384.specs.Base.{base, base_multiple}
 use Rattle.paseto_p384.specs.Curve.{order}
 use Rattle.paseto_p384.specs.Field.{power, prime, times}
-use Rattle.paseto_p384.specs.Point.{Point, base, joint_multiple, multiple}
+use Rattle.paseto_p384.specs.Point.{Point, joint_multiple}
 use Rattle.paseto_p384.specs.Scalar.{scalar_inverse, scalar_plus, scalar_times}
 
 -- R = [u1]G + [u2]Q of a hash e and a signature (r, s): u1 is e / s and u2 is r / s modulo n (6.4.2, steps 3 to 5)
@@ -23,7 +24,7 @@ Accepts q e r s = ((0 < r) × (r < order)) × ((0 < s) × (s < order)) × IsFirs
 
 -- r: the coordinate X / Z of [k]G modulo n (6.4.1, steps 5 to 7)
 unfoldable pub first : ℕ → ℕ
-first k = let p = multiple base 384 k in times p.x (power p.z (prime - 2)) % order
+first k = let p = base_multiple k in times p.x (power p.z (prime - 2)) % order
 
 -- s: (e + r * d) / k modulo n (6.4.1, step 9)
 unfoldable pub second : ℕ → ℕ → ℕ → ℕ → ℕ

@@ -1,3 +1,4 @@
+pub mod Base
 pub mod Curve
 pub mod Ecdsa
 pub mod Element

@@ -4,11 +4,12 @@ use Rattle.sha2.specs.Sha512.{sha384}
 use Rattle.rusty_paseto_parts.specs.declared.error.PasetoError.TheVariants.{InvalidSignature, KeyRejected, Signature}
 use Rattle.rusty_paseto_core.specs.Public.Scheme.{Declining, Refusal}
 use Rattle.paseto_montgomery.specs.Octets.{i2osp, os2ip}
+use Rattle.paseto_p384.specs.Base.{base_multiple}
 use Rattle.paseto_p384.specs.Curve.{order}
 use Rattle.paseto_p384.specs.Ecdsa.{Accepts, attempt}
 use Rattle.paseto_p384.specs.Encoding.{decoded, encoded}
 use Rattle.paseto_p384.specs.Nonce.{drawn, retried, started}
-use Rattle.paseto_p384.specs.Point.{Point, base, multiple}
+use Rattle.paseto_p384.specs.Point.{Point}
 use Rattle.paseto_p384.specs.declared.nonce.NonceGenerator.{NonceGenerator}
 
 -- e, the number of the hash: the leftmost 384 bits of its digest, which are all (6.4.1, step 2)
@@ -21,7 +22,7 @@ IsPrivate private = (length private ≡ 48) × ((0 < os2ip private) × (os2ip pr
 
 -- the public key of a private key, a compressed point
 unfoldable pub p384_public : List ℕ → List ℕ
-p384_public private = encoded (multiple base 384 (os2ip private))
+p384_public private = encoded (base_multiple (os2ip private))
 
 -- no signature is valid for a public key that is no point
 abbrev pub AcceptsBy : Option Point → ℕ → ℕ → ℕ → Type 0

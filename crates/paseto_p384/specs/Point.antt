@@ -2,7 +2,7 @@
 -- sums are defined by the complete formulas of J. Renes, C. Costello and L. Batina ("Complete Addition Formulas for
 -- Prime Order Elliptic Curves", EUROCRYPT 2016), where a is -3.
 use Rattle.std.specs.Prelude.{ℕ, zero, suc, ◌/◌, ◌%◌, nat_eq, if◌then◌else◌}
-use Rattle.paseto_p384.specs.Curve.{base_x, base_y, curve_b}
+use Rattle.paseto_p384.specs.Curve.{curve_b}
 use Rattle.paseto_p384.specs.Element.{number}
 use Rattle.paseto_p384.specs.Field.{minus, plus, times, triple}
 use Rattle.paseto_p384.specs.declared.point.projective.ProjectivePoint.{ProjectivePoint}
@@ -61,16 +61,6 @@ point_double p =
 
 abbrev pub neutral : Point
 neutral = record { x = 0; y = 1; z = 0 }
-
-abbrev pub base : Point
-base = record { x = base_x; y = base_y; z = 1 }
-
--- the multiple of a point by a number of n bits: double and add from the highest bit
-unfoldable pub multiple : Point → ℕ → ℕ → Point
-multiple p zero k = neutral
-multiple p (suc n) k =
-    let doubled = point_double (multiple p n (k / 2)) in
-    if nat_eq (k % 2) 1 then point_add doubled p else doubled
 
 -- a point and what two bits ask to be added to it: p, q, or p + q
 unfoldable pub point_add_by : Point → Point → Point → ℕ → ℕ → Point

@@ -8,13 +8,13 @@ ghost use Rattle.paseto_p384.specs.Ecdsa.{Accepts, IsFirst, attempt, first, halv
 ghost use Rattle.paseto_p384.specs.Field.{prime};
 ghost use Rattle.paseto_p384.specs.Point.{coordinates};
 
-use crate::field;
+use crate::base::{base, multiply_base};
 use crate::field::constants::{order_element, zero};
 use crate::field::is_equal;
 use crate::field::powers::inverse;
-use crate::point::{ProjectivePoint, base, multiply, multiply_both};
-use crate::scalar;
+use crate::point::{ProjectivePoint, multiply_both};
 use crate::scalar::is_scalar;
+use crate::{field, scalar};
 use paseto_montgomery::{is_less, to_octets};
 
 // p - n, from which on r + n is no coordinate.
@@ -63,12 +63,7 @@ fn named(q: ProjectivePoint, e: &[u64; 6], r: &[u64; 6], s: &[u64; 6]) -> Projec
 }
 
 /// Whether the signature (r, s) of the hash e is valid for the public key q.
-pub(crate) fn accepts(
-    q: ProjectivePoint,
-    e: &[u64; 6],
-    r: &[u64; 6],
-    s: &[u64; 6],
-) -> bool
+pub(crate) fn accepts(q: ProjectivePoint, e: &[u64; 6], r: &[u64; 6], s: &[u64; 6]) -> bool
     ensures { IsTrue result
         ↔ Accepts (coordinates q) (value e.now 6) (value r.now 6) (value s.now 6) }
 {
@@ -86,7 +81,7 @@ fn first(k: &[u64; 6]) -> [u64; 6]
     ensures value { value result 6 ≡ first (value k.now 6) }
     ensures below { value result 6 < order }
 {
-    let p = multiply(base(), k);
+    let p = multiply_base(k);
     let x = field::to_words(field::mul(p.x, inverse(p.z)));
     scalar::to_words(scalar::from_words(&x))
 }

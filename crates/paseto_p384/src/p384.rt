@@ -7,10 +7,10 @@ ghost use Rattle.paseto_montgomery.specs.Words.{value};
 ghost use Rattle.paseto_p384.specs.Curve.{order};
 ghost use Rattle.paseto_p384.specs.P384.{IsDeclined, IsPrivate, IsRefused, P384Verifies, first_candidate, hash_number, p384_public, p384_sign, signed_by};
 
+use crate::base::multiply_base;
 use crate::ecdsa::{accepts, attempt};
 use crate::encoding::{decode, encode};
 use crate::nonce::NonceGenerator;
-use crate::point::{base, multiply};
 use crate::scalar::{from_words, is_scalar, to_words};
 use paseto_montgomery::{from_octets, to_octets};
 use rand_core::TryRng;
@@ -55,7 +55,7 @@ fn private_number(private: &[u8]) -> Option<[u64; 6]>
 fn public_octets(d: &[u64; 6]) -> [u8; 49]
     ensures { (private : List ℕ) → value d.now 6 ≡ os2ip private → result ≡ p384_public private }
 {
-    encode(multiply(base(), d))
+    encode(multiply_base(d))
 }
 
 // The generator whose value is the first candidate for a private key and a message.

@@ -3,15 +3,15 @@
 ghost use Rattle.std.specs.Prelude.{◌≡◌, ◌<◌};
 ghost use Rattle.paseto_montgomery.specs.Words.{value};
 ghost use Rattle.paseto_p384.specs.Element.{number};
-ghost use Rattle.paseto_p384.specs.Point.{base, coordinates, cross, joint_multiple, multiple, neutral, point_add, point_add_by, point_double};
+ghost use Rattle.paseto_p384.specs.Point.{coordinates, cross, joint_multiple, neutral, point_add, point_add_by, point_double};
 
 mod pair;
 mod projective;
 
 use crate::field;
-use crate::field::constants::{base_x, base_y, curve_b, one, zero};
+use crate::field::constants::{curve_b, one, zero};
 use crate::field::{FieldElement, choose, mul, sub, triple};
-use pair::Pair;
+pub(crate) use pair::Pair;
 use paseto_montgomery::bit;
 pub(crate) use projective::ProjectivePoint;
 
@@ -26,17 +26,6 @@ pub(crate) fn neutral() -> ProjectivePoint
         x: zero(),
         y: one(),
         z: zero(),
-    }
-}
-
-/// The base point G.
-pub(crate) fn base() -> ProjectivePoint
-    ensures { coordinates result ≡ base }
-{
-    ProjectivePoint {
-        x: base_x(),
-        y: base_y(),
-        z: one(),
     }
 }
 
@@ -109,9 +98,9 @@ pub(crate) fn double(p: ProjectivePoint) -> ProjectivePoint
     }
 }
 
-// The first point where `choice` is 1, and the second where it is 0, with no branch.
+/// The first point where `choice` is 1, and the second where it is 0, with no branch.
 #[inline(always)]
-fn choose_point(choice: u64, p: ProjectivePoint, q: ProjectivePoint) -> ProjectivePoint
+pub(crate) fn choose_point(choice: u64, p: ProjectivePoint, q: ProjectivePoint) -> ProjectivePoint
     requires { choice < 2 }
     ensures one { choice ≡ 1 → coordinates result ≡ coordinates p }
     ensures zero { choice ≡ 0 → coordinates result ≡ coordinates q }
@@ -121,18 +110,6 @@ fn choose_point(choice: u64, p: ProjectivePoint, q: ProjectivePoint) -> Projecti
         y: choose(choice, p.y, q.y),
         z: choose(choice, p.z, q.z),
     }
-}
-
-/// The multiple of a point, in a fixed number of steps and with no branch on the scalar.
-pub(crate) fn multiply(p: ProjectivePoint, scalar: &[u64; 6]) -> ProjectivePoint
-    ensures { coordinates result ≡ multiple (coordinates p) 384 (value scalar.now 6) }
-{
-    let mut sum = neutral();
-    'bits: for i in 0..SCALAR_BITS {
-        let doubled = double(sum);
-        sum = choose_point(bit(scalar, SCALAR_BITS - 1 - i), add(doubled, p), doubled);
-    }
-    sum
 }
 
 // A point and what two bits ask to be added to it. The bits are no secret.

@@ -19,8 +19,7 @@ returns c =
     let e : ℕ = value c.args.e.now 6 in
     let r : ℕ = value c.args.r.now 6 in
     let s : ℕ = value c.args.s.now 6 in
-    let found = rw c.named.ensures at c.is_first.ensures in
-    (
+    let found = rw c.named.ensures at c.is_first.ensures in (
       (λ h. accepts-of q e r s (c.if-not-is_scalar.ensures.0 refl, c.if-not-is_scalar-2.ensures.0 refl, found.0 h)),
       (λ h. found.1 (accepts-parts q e r s h).2),
     )

@@ -45,8 +45,7 @@ returns c =
     λ h. false≢true (c.if-is_equal-2.ensures.1 (c.mul.ensures ∙ ap (λ n. times n p.z) x ∙ h)) in
     let below : r + order < prime = omega (arith, rw c.room.ensures at c.if-not-is_less.ensures.0 refl) in
     let sum = c.add.ensures ∙ ap (λ n. plus n (number c.order_element.result)) x ∙ ap (plus r) c.order_element.ensures ∙ plus-below r order below in
-    let product = c.mul-2.ensures ∙ ap (λ n. times n p.z) sum in
-    (
+    let product = c.mul-2.ensures ∙ ap (λ n. times n p.z) sum in (
       (λ h. first-of p r (some, inr (below, sym product ∙ c.is_equal-3.ensures.0 h))),
       (λ h. elim ((first-parts p r h).1) [ inl low ↦ absurd (other low) | inr high ↦ c.is_equal-3.ensures.1 (product ∙ high.1) ]),
     )
