@@ -2,7 +2,7 @@
 
 ghost use Rattle.std.specs.Prelude.{◌≡◌, ◌<◌};
 ghost use Rattle.paseto_montgomery.specs.Words.{value};
-ghost use Rattle.paseto_p384.specs.Base.{base, base_multiple, high_base};
+ghost use Rattle.paseto_p384.specs.Base.{base, base_multiple, fourth_base, second_base, third_base};
 ghost use Rattle.paseto_p384.specs.Point.{coordinates, point_add, point_add_by};
 
 use crate::field::FieldElement;
@@ -10,8 +10,8 @@ use crate::field::constants::{base_x, base_y, one};
 use crate::point::{Pair, ProjectivePoint, add, choose_point, double, neutral};
 use paseto_montgomery::bit;
 
-// How many bits each half of a number has.
-const HALF_BITS: usize = 192;
+// How many bits each of the four parts of a number has.
+const PART_BITS: usize = 96;
 
 /// The base point G.
 pub(crate) fn base() -> ProjectivePoint
@@ -24,9 +24,47 @@ pub(crate) fn base() -> ProjectivePoint
     }
 }
 
+// [2^96]G.
+fn second_base() -> ProjectivePoint
+    ensures { coordinates result ≡ second_base }
+{
+    ProjectivePoint {
+        x: FieldElement {
+            words: [
+                0xb4a167ec2f2f8f71,
+                0x679f4d75313f8b4e,
+                0xe5980edf2996e0e9,
+                0x4caedce572751ad5,
+                0x5b60de28d1f29d87,
+                0x21099ade9fdba33f,
+            ],
+        },
+        y: FieldElement {
+            words: [
+                0x2015c06df5a1a373,
+                0x7abca48ec462f58f,
+                0x53e8ed0dfa7614af,
+                0x362575224b7267ee,
+                0x6771d580f9ccbea7,
+                0x709fe440274ce0c4,
+            ],
+        },
+        z: FieldElement {
+            words: [
+                0xbb7a7301ed28f6a0,
+                0x39824b5cc3dbac29,
+                0x04876ac9a5634116,
+                0x672747a8359a89de,
+                0x8138e206593a754c,
+                0x660fbe338679888b,
+            ],
+        },
+    }
+}
+
 // [2^192]G.
-fn high_base() -> ProjectivePoint
-    ensures { coordinates result ≡ high_base }
+fn third_base() -> ProjectivePoint
+    ensures { coordinates result ≡ third_base }
 {
     ProjectivePoint {
         x: FieldElement {
@@ -62,39 +100,115 @@ fn high_base() -> ProjectivePoint
     }
 }
 
-// G + [2^192]G.
-fn base_sum() -> ProjectivePoint
-    ensures { coordinates result ≡ point_add base high_base }
+// [2^288]G.
+fn fourth_base() -> ProjectivePoint
+    ensures { coordinates result ≡ fourth_base }
 {
     ProjectivePoint {
         x: FieldElement {
             words: [
-                0xfebe53017a49c2da,
-                0x254edd9cec4de79a,
-                0xcb05d7f715e9eaf8,
-                0xa176578fb6ced7b8,
-                0x5c6ec7360996550c,
-                0x41bfce6115144d0f,
+                0xf5df4b82b2e1fd9b,
+                0x49dd0669b29a0067,
+                0x88a8e19539748e32,
+                0xd68511334b5470d8,
+                0x761639f99b486cc1,
+                0x3123196458528a0c,
             ],
         },
         y: FieldElement {
             words: [
-                0x283a5a09a3d1be0f,
-                0xac3dc570e1e190ac,
-                0x0a9c243d9d3878cf,
-                0x42b492aeafd08ee6,
-                0x3b7b0492efd04893,
-                0x0c750f43ecbea925,
+                0x94fe01ad3e8687ba,
+                0x201dbe45714468d3,
+                0x4bd380f8b22fbf22,
+                0x2dcb9128b64a23ca,
+                0x3ab0dac0bfb78529,
+                0x15a2ca227464889e,
             ],
         },
         z: FieldElement {
             words: [
-                0x4e958ce5e14cff71,
-                0x87839094b5895dfd,
-                0xbf24bf25b6119e2a,
-                0x280a3221dc13bce1,
-                0x75f342b10a7958af,
-                0x35c9bdfe149b2a58,
+                0xac267034657088e1,
+                0x22099e29897b64e2,
+                0xfbdf2e3ddbb5b390,
+                0x2b7ac3f3fb2acd2f,
+                0xde4838c0786815cb,
+                0x28e160734ce2699e,
+            ],
+        },
+    }
+}
+
+// G + [2^96]G.
+fn lower_sum() -> ProjectivePoint
+    ensures { coordinates result ≡ point_add base second_base }
+{
+    ProjectivePoint {
+        x: FieldElement {
+            words: [
+                0x932552aeed67d899,
+                0x16ff8912a49105ad,
+                0xd4192c40250a2bb1,
+                0xf6bb66b2d6c54e39,
+                0xd0367747790b809c,
+                0x1b85767a1fbc4eff,
+            ],
+        },
+        y: FieldElement {
+            words: [
+                0x62e198add1f2a359,
+                0x0e764cd962f2ac7f,
+                0x8176708c4161bf24,
+                0x4a1e2ba88cb4ef28,
+                0x442c7dffcc132ddf,
+                0x8ff47ed0cd8aa116,
+            ],
+        },
+        z: FieldElement {
+            words: [
+                0x059639c2a36dcaad,
+                0x9ec8d1fd0f07461f,
+                0x3df4975a0a242148,
+                0x6c111dc691f6a053,
+                0xca8cc2534ed1a417,
+                0x6a4edd78d8fbe55a,
+            ],
+        },
+    }
+}
+
+// [2^192]G + [2^288]G.
+fn upper_sum() -> ProjectivePoint
+    ensures { coordinates result ≡ point_add third_base fourth_base }
+{
+    ProjectivePoint {
+        x: FieldElement {
+            words: [
+                0xf27fadf49bf029c4,
+                0x319fbe08570cc5a6,
+                0x4cf5273cf562b4be,
+                0x0488f647afeef43a,
+                0x127f7b2502d42942,
+                0xb2c748bafd5c6dd1,
+            ],
+        },
+        y: FieldElement {
+            words: [
+                0x3a3fffa1e93fe069,
+                0x3bfe17a18c553f08,
+                0x6e6eecb78783fe63,
+                0x65f3cb12f1849dd6,
+                0x8ea49bee3e72569e,
+                0xeb709153f77f6919,
+            ],
+        },
+        z: FieldElement {
+            words: [
+                0xa101d0b0dbc8db7e,
+                0xd199288b586aa5ac,
+                0xc3d99f7cc573f6f4,
+                0x9eb2e6cbb6873680,
+                0x134bb416df4c3367,
+                0xe0bb7f0ba9ed4237,
             ],
         },
     }
@@ -112,19 +226,41 @@ fn add_chosen(sum: ProjectivePoint, points: &Pair, i: u64, j: u64) -> Projective
     choose_point(i | j, add(sum, chosen), sum)
 }
 
+// G and [2^96]G.
+fn lower_pair() -> Pair
+    ensures first { coordinates result.first ≡ base }
+    ensures second { coordinates result.second ≡ second_base }
+{
+    Pair {
+        first: base(),
+        second: second_base(),
+        both: lower_sum(),
+    }
+}
+
+// [2^192]G and [2^288]G.
+fn upper_pair() -> Pair
+    ensures first { coordinates result.first ≡ third_base }
+    ensures second { coordinates result.second ≡ fourth_base }
+{
+    Pair {
+        first: third_base(),
+        second: fourth_base(),
+        both: upper_sum(),
+    }
+}
+
 /// The multiple of the base point, in a fixed number of steps and with no branch on the number.
 pub(crate) fn multiply_base(k: &[u64; 6]) -> ProjectivePoint
     ensures { coordinates result ≡ base_multiple (value k.now 6) }
 {
-    let points = Pair {
-        first: base(),
-        second: high_base(),
-        both: base_sum(),
-    };
+    let lower = lower_pair();
+    let upper = upper_pair();
     let mut sum = neutral();
-    'bits: for i in 0..HALF_BITS {
-        let at = HALF_BITS - 1 - i;
-        sum = add_chosen(double(sum), &points, bit(k, at), bit(k, at + HALF_BITS));
+    'bits: for i in 0..PART_BITS {
+        let at = PART_BITS - 1 - i;
+        let part = add_chosen(double(sum), &lower, bit(k, at), bit(k, at + 96));
+        sum = add_chosen(part, &upper, bit(k, at + 192), bit(k, at + 288));
     }
     sum
 }
