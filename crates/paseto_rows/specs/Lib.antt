@@ -1,4 +1,5 @@
 pub mod Fields
+pub mod P384
 pub mod Primitives
 pub mod Schemes
 pub mod Tokens

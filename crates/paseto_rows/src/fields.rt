@@ -1,6 +1,6 @@
 //! The fields of a row.
 
-ghost use Rattle.std.specs.Prelude.{◌≡◌, Ok, IfOk};
+ghost use Rattle.std.specs.Prelude.{◌≡◌, ◌↔◌, Ok, IfOk, IsOk};
 ghost use Rattle.std.specs.String.{string_bytes};
 ghost use Rattle.hex.specs.Hex.{decode_of};
 ghost use Rattle.paseto_rows.specs.Fields.{Says};
@@ -34,4 +34,14 @@ pub fn text_of(alloc: Global, field: &str) -> Result<String, RowError>
         Ok(text) => Ok(text),
         Err(_) => Err(RowError::Utf8),
     }
+}
+
+/// Agrees where the answer is the expected one.
+pub fn compare(answer: &[u8], expected: &[u8]) -> Result<(), RowError>
+    ensures { IsOk result ↔ (answer.now ≡ expected.now) }
+{
+    if answer != expected {
+        return Err(RowError::Differs);
+    }
+    Ok(())
 }

@@ -4,6 +4,7 @@
 
 mod error;
 mod fields;
+mod p384;
 mod primitives;
 mod rows;
 mod schemes;
@@ -22,8 +23,9 @@ fn main(rt: HostRuntime) -> Result<()> {
     let primitives = check_file(&rt, folder.as_str(), Rows::Primitives)?;
     let local_tokens = check_file(&rt, folder.as_str(), Rows::LocalTokens)?;
     let schemes = check_file(&rt, folder.as_str(), Rows::Schemes)?;
+    let p384 = check_file(&rt, folder.as_str(), Rows::P384)?;
     ensure!(
-        primitives && local_tokens && schemes,
+        primitives && local_tokens && schemes && p384,
         "not every row agrees"
     );
     Ok(())

@@ -1,6 +1,6 @@
 //! Rows of the primitives, a function for each call.
 
-ghost use Rattle.std.specs.Prelude.{◌≡◌, ◌≤◌, ◌↔◌, IsOk, IfOk};
+ghost use Rattle.std.specs.Prelude.{◌≡◌, ◌≤◌, IfOk};
 ghost use Rattle.rusty_paseto_primitives.specs.Hkdf.{hkdf};
 ghost use Rattle.rusty_paseto_primitives.specs.Keystream.{masked};
 ghost use Rattle.rusty_paseto_primitives.specs.Aes.Counter.{aes256_ctr_stream};
@@ -8,7 +8,7 @@ ghost use Rattle.rusty_paseto_primitives.specs.ChaCha.Stream.{xchacha20_stream};
 ghost use Rattle.paseto_rows.specs.Primitives.{IsCodeRow, IsDerivationRow, IsDigestRow, IsMaskingRow};
 
 use crate::error::RowError;
-use crate::fields::{array_of, bytes_of};
+use crate::fields::{array_of, bytes_of, compare};
 use rusty_paseto_primitives::{
     aes256_ctr_apply, blake2b_keyed, hkdf_sha384_expand, hkdf_sha384_extract, hmac_sha384,
     xchacha20_apply,
@@ -31,16 +31,6 @@ pub fn check(alloc: Global, name: &str, fields: &[&str]) -> Result<(), RowError>
         "hkdf_sha384" => check_hkdf_sha384(alloc, fields),
         _ => Err(RowError::Form),
     }
-}
-
-/// Agrees where the answer is the expected one.
-pub(crate) fn compare(answer: &[u8], expected: &[u8]) -> Result<(), RowError>
-    ensures { IsOk result ↔ (answer.now ≡ expected.now) }
-{
-    if answer != expected {
-        return Err(RowError::Differs);
-    }
-    Ok(())
 }
 
 /// `OUTPUT_LENGTH KEY MESSAGE OUTPUT`

@@ -3,7 +3,7 @@
 
 use crate::error::RowError;
 use crate::tally::Tally;
-use crate::{primitives, schemes, tokens};
+use crate::{p384, primitives, schemes, tokens};
 use std::alloc::Global;
 
 /// The kind of a file's rows.
@@ -15,6 +15,8 @@ pub enum Rows {
     LocalTokens,
     /// The box of version 2, and Ed25519.
     Schemes,
+    /// Signatures of version 3.
+    P384,
 }
 
 impl Rows {
@@ -24,13 +26,14 @@ impl Rows {
             Rows::Primitives => "primitives.txt",
             Rows::LocalTokens => "local_tokens.txt",
             Rows::Schemes => "schemes.txt",
+            Rows::P384 => "p384.txt",
         }
     }
 
     /// What is said of rows that agree.
     pub fn agreement(self) -> &'static str {
         match self {
-            Rows::Primitives | Rows::Schemes => "rows",
+            Rows::Primitives | Rows::Schemes | Rows::P384 => "rows",
             Rows::LocalTokens => "tokens sealed and opened",
         }
     }
@@ -50,6 +53,7 @@ impl Rows {
             Rows::Primitives => primitives::check(alloc, name, fields)?,
             Rows::LocalTokens => tokens::check(alloc, name, fields)?,
             Rows::Schemes => schemes::check(alloc, name, fields)?,
+            Rows::P384 => p384::check(alloc, name, fields)?,
         }
         tally.count(name)?;
         Ok(())

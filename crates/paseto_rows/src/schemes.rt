@@ -4,8 +4,7 @@ ghost use Rattle.std.specs.Prelude.{◌≡◌, ◌↔◌, ◌++◌, IfOk, IsTrue
 ghost use Rattle.paseto_rows.specs.Schemes.{IsBoxRow, IsSigningRow, IsVerdictRow};
 
 use crate::error::RowError;
-use crate::fields::{array_of, bytes_of};
-use crate::primitives::compare;
+use crate::fields::{array_of, bytes_of, compare};
 use paseto_ed25519::Ed25519;
 use paseto_xchacha20poly1305::XChaCha20Poly1305;
 use rusty_paseto_core::{PasetoError, SealedBox, SignatureScheme};
