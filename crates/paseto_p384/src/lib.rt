@@ -11,3 +11,6 @@ mod point;
 mod scalar;
 
 pub use p384::P384;
+
+#[cfg(test)]
+mod tests;

@@ -1,0 +1,235 @@
+//! Values of RFC 6979, appendix A.2.6, published tokens, and what is to be refused.
+
+use super::P384;
+use rand_core::{Infallible, TryRng};
+use rusty_paseto_core::{
+    CompressedKey, Footer, Paseto, PasetoAsymmetricPublicKey, PasetoError, Public, SignatureScheme,
+    V3,
+};
+use rusty_paseto_parts::Key;
+use std::alloc::Global;
+use std::process::Abort;
+
+// The private key of RFC 6979, appendix A.2.6.
+const PRIVATE: &str = concat!(
+    "6b9d3dad2e1b8c1c05b19875b6659f4de23c3b667bf297ba",
+    "9aa47740787137d896d5724e4c70a825f872c9ea60d2edf5",
+);
+
+// Its public key, compressed.
+const PUBLIC: &str = concat!(
+    "02ec3a4e415b4e19a4568618029f427fa5da9a8bc4ae92e02e",
+    "06aae5286b300c64def8f0ea9055866064a254515480bc13",
+);
+
+// The signature of "sample" there, with SHA-384.
+const SAMPLE: &str = concat!(
+    "94edbb92a5ecb8aad4736e56c691916b3f88140666ce9fa73d64c4ea95ad133c81a648152e44acf96e36dd1e80fabe46",
+    "99ef4aeb15f178cea1fe40db2603138f130e740a19624526203b6351d0a3a94fa329c145786e679e7b82c71a38628ac8",
+);
+
+// The public key of the published tokens.
+const TOKENS_PUBLIC: &str = concat!(
+    "02fbcb7c69ee1c60579be7a334134878d9c5c5bf35d552dab6",
+    "3c0140397ed14cef637d7720925c44699ea30e72874c72fb",
+);
+
+// The public key of 48 bytes of 7, by OpenSSL.
+const SEVENS: &str = concat!(
+    "03b01bfc4a2d7fe2095e6627cc5caf9abd153d5b551fe7f6da",
+    "615da9d1bfd101e8d191e85902c0a34eaa3a16e666880b73",
+);
+
+// The bytes that digits spell.
+fn bytes<const N: usize>(rt: &impl Abort, digits: &str) -> [u8; N] {
+    *Key::<N>::try_from(digits)
+        .expect(rt, "hexadecimal digits")
+        .as_bytes()
+}
+
+// The public key of a private key.
+fn public_of(rt: &impl Abort, alloc: Global, private: &str) -> [u8; 49] {
+    P384.public_key(alloc, &bytes::<48>(rt, private))
+        .expect(rt, "a public key")
+}
+
+// The signature of a message under the private key of RFC 6979.
+fn signature_of(rt: &impl Abort, alloc: Global, message: &[u8]) -> [u8; 96] {
+    P384.sign(alloc, &bytes::<48>(rt, PRIVATE), message)
+        .expect(rt, "a signature")
+}
+
+#[test]
+fn public_keys(rt: HostRuntime) {
+    assert_eq!(rt;
+        public_of(&rt, rt.alloc(), PRIVATE),
+        bytes::<49>(&rt, PUBLIC)
+    );
+    // The private key of the published tokens.
+    let private = concat!(
+        "20347609607477aca8fbfbc5e6218455f3199669792ef8b4",
+        "66faa87bdc67798144c848dd03661eed5ac62461340cea96",
+    );
+    assert_eq!(rt;
+        public_of(&rt, rt.alloc(), private),
+        bytes::<49>(&rt, TOKENS_PUBLIC)
+    );
+}
+
+#[test]
+fn sample(rt: HostRuntime) {
+    let made = signature_of(&rt, rt.alloc(), b"sample");
+    assert_eq!(rt; made, bytes::<96>(&rt, SAMPLE));
+}
+
+#[test]
+fn test(rt: HostRuntime) {
+    let expected = concat!(
+        "8203b63d3c853e8d77227fb377bcf7b7b772e97892a80f36ab775d509d7a5feb0542a7f0812998da8f1dd3ca3cf023db",
+        "ddd0760448d42d8a43af45af836fce4de8be06b485e9b61b827c2f13173923e06a739f040649a667bf3b828246baa5a5",
+    );
+    assert_eq!(rt;
+        signature_of(&rt, rt.alloc(), b"test"),
+        bytes::<96>(&rt, expected)
+    );
+}
+
+// Opens a published token.
+fn expect_token(rt: &impl Abort, alloc: Global, token: &str, footer: Option<Footer<'_>>) {
+    let key = Key::<49>::try_from(TOKENS_PUBLIC).expect(rt, "a key");
+    let key = PasetoAsymmetricPublicKey::<V3, Public>::try_from(&key).expect(rt, "a public key");
+    let text = Paseto::<V3, Public>::try_verify(alloc, &P384, token, &key, footer, None).expect(
+        rt,
+        "a valid token",
+    );
+    assert_eq!(rt;
+        text.as_str(),
+        "{\"data\":\"this is a signed message\",\"exp\":\"2022-01-01T00:00:00+00:00\"}"
+    );
+}
+
+#[test]
+fn published_token_without_footer(rt: HostRuntime) {
+    let token = concat!(
+        "v3.public.eyJkYXRhIjoidGhpcyBpcyBhIHNpZ25lZCBtZXNzYWdlIiwiZXhwIjoiMjAyMi0wMS0wMVQwMDowMDowMCswMDowMCJ9",
+        "qqEwwrKHKi5lJ7b9MBKc0G4MGZy0ptUiMv3lAUAaz-JY_zjoqBSIxMxhfAoeNYiSyvfUErj76KOPWm1OeNnBPkTSespeSXDGaDfxeIrl",
+        "3bRrPEIy7tLwLAIsRzsXkfph",
+    );
+    expect_token(&rt, rt.alloc(), token, None);
+}
+
+#[test]
+fn published_token_with_footer(rt: HostRuntime) {
+    let token = concat!(
+        "v3.public.eyJkYXRhIjoidGhpcyBpcyBhIHNpZ25lZCBtZXNzYWdlIiwiZXhwIjoiMjAyMi0wMS0wMVQwMDowMDowMCswMDowMCJ9",
+        "ZWrbGZ6L0MDK72skosUaS0Dz7wJ_2bMcM6tOxFuCasO9GhwHrvvchqgXQNLQQyWzGC2wkr-VKII71AvkLpC8tJOrzJV1cap9NRwoFzbc",
+        "XjzMZyxQ0wkshxZxx8ImmNWP.eyJraWQiOiJkWWtJU3lseFFlZWNFY0hFTGZ6Rjg4VVpyd2JMb2xOaUNkcHpVSEd3OVVxbiJ9",
+    );
+    let footer = Footer::from("{\"kid\":\"dYkISylxQeecEcHELfzF88UZrwbLolNiCdpzUHGw9Uqn\"}");
+    expect_token(&rt, rt.alloc(), token, Some(footer));
+}
+
+// Whether a signature of "sample" is valid; a refusal is by its name.
+fn is_valid(rt: &impl Abort, alloc: Global, public: &[u8], signature: &[u8; 96]) -> bool {
+    match P384.verify(alloc, public, b"sample", signature) {
+        Ok(()) => true,
+        Err(PasetoError::InvalidSignature) => false,
+        Err(_) => panic!(rt; "refused by another name"),
+    }
+}
+
+#[test]
+fn every_bit_of_a_signature_counts(rt: HostRuntime) {
+    let public = bytes::<49>(&rt, PUBLIC);
+    let signature = bytes::<96>(&rt, SAMPLE);
+    assert!(rt; is_valid(&rt, rt.alloc(), &public, &signature));
+    for i in 0..768usize {
+        let mut changed = signature;
+        changed[i / 8] ^= 1 << (i % 8);
+        assert!(rt; !is_valid(&rt, rt.alloc(), &public, &changed));
+    }
+}
+
+#[test]
+fn every_bit_of_a_public_key_counts(rt: HostRuntime) {
+    let public = bytes::<49>(&rt, PUBLIC);
+    let signature = bytes::<96>(&rt, SAMPLE);
+    for i in 0..392usize {
+        let mut changed = public;
+        changed[i / 8] ^= 1 << (i % 8);
+        assert!(rt; !is_valid(&rt, rt.alloc(), &changed, &signature));
+    }
+}
+
+// Expects that neither call takes a private key.
+fn expect_rejected(rt: &impl Abort, alloc: Global, private: &[u8]) {
+    match P384.sign(alloc, private, b"sample") {
+        Err(PasetoError::KeyRejected) => {}
+        _ => panic!(rt; "not refused by its name"),
+    }
+    match P384.public_key(alloc, private) {
+        Err(PasetoError::KeyRejected) => {}
+        _ => panic!(rt; "not refused by its name"),
+    }
+}
+
+#[test]
+fn no_private_keys(rt: HostRuntime) {
+    expect_rejected(&rt, rt.alloc(), &[0; 48]);
+    expect_rejected(&rt, rt.alloc(), &[255; 48]);
+    expect_rejected(&rt, rt.alloc(), &[1; 47]);
+    expect_rejected(&rt, rt.alloc(), &[1; 49]);
+    // n is none, and n - 1 is one.
+    let mut order = bytes::<48>(
+        &rt,
+        concat!(
+            "ffffffffffffffffffffffffffffffffffffffffffffffff",
+            "c7634d81f4372ddf581a0db248b0a77aecec196accc52973",
+        ),
+    );
+    expect_rejected(&rt, rt.alloc(), &order);
+    order[47] = 0x72;
+    assert!(rt; P384.public_key(rt.alloc(), &order).is_ok());
+}
+
+// A generator that gives one byte again and again.
+#[derive(Drop)]
+struct Repeated {
+    byte: u8,
+}
+
+impl TryRng for Repeated {
+    type Error = Infallible;
+
+    fn try_next_u32(&mut self) -> Result<u32, Infallible> {
+        Ok(7)
+    }
+
+    fn try_next_u64(&mut self) -> Result<u64, Infallible> {
+        Ok(7)
+    }
+
+    fn try_fill_bytes(&mut self, bytes: &mut [u8]) -> Result<(), Infallible> {
+        bytes.fill(self.byte);
+        Ok(())
+    }
+}
+
+#[test]
+fn key_pairs_sign(rt: HostRuntime) {
+    let mut sevens = Repeated { byte: 7 };
+    let (private, public) = P384::key_pair(&mut sevens).expect(&rt, "a pair of keys");
+    assert_eq!(rt; public.as_bytes(), &bytes::<49>(&rt, SEVENS));
+    let signature = P384
+        .sign(rt.alloc(), private.as_bytes(), b"sample")
+        .expect(&rt, "a signature");
+    assert!(rt; is_valid(&rt, rt.alloc(), public.as_bytes(), &signature));
+}
+
+#[test]
+fn a_generator_that_gives_no_private_key(rt: HostRuntime) {
+    match P384::key_pair(&mut Repeated { byte: 0 }) {
+        Err(PasetoError::KeyRejected) => {}
+        _ => panic!(&rt; "not refused by its name"),
+    }
+}
