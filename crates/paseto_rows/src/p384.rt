@@ -28,12 +28,7 @@ fn check_verified(alloc: Global, fields: &[&str]) -> Result<(), RowError> {
 }
 
 /// Checks that a signature is valid.
-fn check_valid(
-    alloc: Global,
-    public: &str,
-    message: &str,
-    signature: &str,
-) -> Result<(), RowError>
+fn check_valid(alloc: Global, public: &str, message: &str, signature: &str) -> Result<(), RowError>
     ensures { IfOk result (λ _. IsVerifiedRow public.now message.now signature.now) }
 {
     let (public, message) = (bytes_of(alloc, public)?, bytes_of(alloc, message)?);

@@ -2,7 +2,6 @@ use Rattle.std.proofs.Common.{◌≡◌, ℕ, ◌+◌, ◌-◌, ◌/◌, ◌%◌
 use Rattle.std.proofs.Math.Nat.{div-one}
 use Rattle.paseto_montgomery.specs.Words.{value}
 use Rattle.paseto_p384.specs.Base.{base_multiple, base_parts}
-use Rattle.paseto_p384.specs.Point.{coordinates}
 use Rattle.paseto_p384.proofs.BaseLaws.{lowest-bit, part-bit, part-bits, parts-none, parts-same, parts-step}
 use Rattle.paseto_p384.proofs.base.multiply_base.Goals as goal
 

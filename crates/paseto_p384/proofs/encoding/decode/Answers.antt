@@ -1,4 +1,4 @@
-use Rattle.std.proofs.Common.{◌≡◌, ◌≤◌, ℕ, ◌/◌, ◌%◌, ◌<◌, slice_index, drop, sym, ◌∙◌, ap, refl, arith}
+use Rattle.std.proofs.Common.{◌≤◌, ℕ, ◌%◌, ◌<◌, slice_index, ◌∙◌, ap, refl, arith}
 use Rattle.std.proofs.lemmas.Bool.{false≢true}
 use Rattle.std.proofs.Math.Nat.{mod-eq_of_lt}
 use Rattle.paseto_montgomery.specs.Octets.{os2ip}

@@ -1,9 +1,8 @@
-use Rattle.std.proofs.Common.{◌≡◌, ℕ, ◌+◌, ◌-◌, ◌%◌, ◌/◌, ◌^◌, List, [], ◌∷◌, ◌++◌, length, refl, sym, ◌∙◌, ap, ap₂, rules, arith}
+use Rattle.std.proofs.Common.{◌≡◌, ℕ, ◌+◌, ◌%◌, List, [], ◌∷◌, ◌++◌, length, refl, ◌∙◌, ap₂, rules, arith}
 use Rattle.std.proofs.Math.ListN.{set}
 use Rattle.paseto_montgomery.specs.Octets.{i2osp}
 use Rattle.paseto_montgomery.specs.Words.{value}
 use Rattle.paseto_p384.specs.Element.{number}
-use Rattle.paseto_p384.specs.Field.{times}
 use Rattle.paseto_p384.specs.Point.{coordinates}
 use Rattle.paseto_p384.proofs.EncodingLaws.{encoded-is}
 use Rattle.paseto_p384.proofs.encoding.encode.Goals as goal

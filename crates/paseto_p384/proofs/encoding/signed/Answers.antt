@@ -1,5 +1,4 @@
-use Rattle.std.proofs.Common.{◌≡◌, ◌≢◌, ℕ, ◌%◌, ◌/◌, ◌^◌, length, sym, ◌∙◌, ap, ap₂, rules, arith}
-use Rattle.paseto_montgomery.specs.Words.{value}
+use Rattle.std.proofs.Common.{◌≡◌, ℕ, ◌%◌, ◌/◌, ◌^◌, length, sym, ◌∙◌, ap, rules, arith}
 use Rattle.paseto_p384.specs.Element.{number}
 use Rattle.paseto_p384.specs.Field.{minus}
 use Rattle.paseto_p384.proofs.EncodingLaws.{signed-other, signed-same}

@@ -1,4 +1,4 @@
-use Rattle.std.proofs.Common.{List, [], ◌∷◌, ◌++◌}
+use Rattle.std.proofs.Common.{[]}
 use Rattle.paseto_p384.specs.Nonce.{mixed}
 use Rattle.paseto_p384.proofs.nonce.mixed.Goals as goal
 

@@ -1,5 +1,4 @@
 use Rattle.std.proofs.Common.{◌≡◌, ◌%◌, ◌∙◌, length, ap, rules}
-use Rattle.paseto_montgomery.specs.Octets.{i2osp}
 use Rattle.paseto_p384.specs.Curve.{order}
 use Rattle.paseto_p384.specs.Nonce.{drawn, started}
 use Rattle.paseto_p384.specs.P384.{first_candidate}

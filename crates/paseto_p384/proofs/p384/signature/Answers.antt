@@ -1,5 +1,5 @@
-use Rattle.std.proofs.Common.{◌≡◌, List, ◌∙◌, sym, ap}
-use Rattle.paseto_p384.specs.Nonce.{drawn, retried}
+use Rattle.std.proofs.Common.{◌∙◌, sym, ap}
+use Rattle.paseto_p384.specs.Nonce.{drawn}
 use Rattle.paseto_p384.specs.P384.{signed_by}
 use Rattle.paseto_p384.proofs.Validity.{sign-first, sign-second}
 use Rattle.paseto_p384.proofs.p384.signature.Goals as goal

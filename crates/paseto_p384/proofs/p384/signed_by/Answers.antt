@@ -1,4 +1,3 @@
-use Rattle.std.proofs.Common.{◌∙◌, ap}
 use Rattle.paseto_p384.specs.P384.{signed_by}
 use Rattle.paseto_p384.proofs.p384.signed_by.Goals as goal
 

@@ -1,4 +1,4 @@
-use Rattle.std.proofs.Common.{List, [], ◌∷◌, ◌++◌}
+use Rattle.std.proofs.Common.{[]}
 use Rattle.paseto_p384.specs.Nonce.{retried}
 use Rattle.paseto_p384.proofs.nonce.NonceGenerator.retry.Goals as goal
 
