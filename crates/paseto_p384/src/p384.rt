@@ -116,7 +116,8 @@ fn checked(
     message: &[u8],
     signature: Option<[u8; 96]>,
 ) -> Result<[u8; 96], PasetoError>
-    ensures ok { IfOk result (λ valid. (signature ≡ Some valid) × P384Verifies public.now message.now valid) }
+    ensures ok { IfOk result (λ valid. (signature ≡ Some valid)
+        × P384Verifies public.now message.now valid) }
     ensures err { IfErr result (λ error. (error ≡ PasetoError.Signature)
         × ((made : List ℕ) → signature ≡ Some made → ¬ P384Verifies public.now message.now made)) }
 {
@@ -169,7 +170,8 @@ impl SignatureScheme<96> for P384 {
         private: &[u8],
         message: &[u8],
     ) -> Result<[u8; 96], PasetoError>
-        ensures ok { IfOk result (λ signature. P384Verifies (p384_public private.now) message.now signature
+        ensures ok { IfOk result (λ signature.
+            P384Verifies (p384_public private.now) message.now signature
             × (p384_sign private.now message.now ≡ Some signature) × IsPrivate private.now) }
         ensures err { IfErr result (λ error. IsDeclined private.now error
             × (IsPrivate private.now → (made : List ℕ) → p384_sign private.now message.now ≡ Some made
@@ -203,8 +205,10 @@ impl CompressedKey for P384 {
     /// The public key of a private key, or `KeyRejected` for what is none: another length than 48 bytes, 0, or a
     /// number that is not below n. No memory is taken.
     fn public_key(&self, _alloc: Global, private: &[u8]) -> Result<[u8; 49], PasetoError>
-        ensures ok { IfOk result (λ public. IsPrivate private.now × (public ≡ p384_public private.now)) }
-        ensures err { IfErr result (λ error. (¬ IsPrivate private.now) × (error ≡ PasetoError.KeyRejected)) }
+        ensures ok { IfOk result (λ public. IsPrivate private.now
+            × (public ≡ p384_public private.now)) }
+        ensures err { IfErr result (λ error. (¬ IsPrivate private.now)
+            × (error ≡ PasetoError.KeyRejected)) }
     {
         match private_number(private) {
             Some(d) => Ok(public_octets(&d)),

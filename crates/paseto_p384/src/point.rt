@@ -132,7 +132,8 @@ fn add_by(sum: ProjectivePoint, points: &Pair, i: u64, j: u64) -> ProjectivePoin
 // The sum of a multiple of each of two points, by one pass over both scalars.
 fn multiply_pair(points: &Pair, k: &[u64; 6], l: &[u64; 6]) -> ProjectivePoint
     ensures { coordinates result
-        ≡ joint_multiple (coordinates points.now.first) (coordinates points.now.second) 384 (value k.now 6) (value l.now 6) }
+        ≡ joint_multiple (coordinates points.now.first) (coordinates points.now.second) 384
+        (value k.now 6) (value l.now 6) }
 {
     let mut sum = neutral();
     'bits: for i in 0..SCALAR_BITS {
