@@ -430,7 +430,91 @@ static uint64_t peer_verify_token(const struct subject *subject, uint8_t *out, u
          .out_length = plain_size, .prepared = local_token, .peer_seal = peer_v##number##_seal,    \
          .ours_open = paseto_bench_v##number##_open, .peer_open = peer_v##number##_open}
 
-#define SUBJECTS 19
+/* The keys of P-384, and the peer's signature of the row's text. */
+static uint8_t point[49], signature[96];
+
+static size_t point_size(void)
+{
+    return sizeof point;
+}
+
+static size_t no_size(void)
+{
+    return 0;
+}
+
+static uint64_t ours_p384_key(const struct subject *subject, uint8_t *out, uint32_t reps)
+{
+    (void)subject;
+    return paseto_bench_p384_public_key(long_key, 48, out, 49, reps);
+}
+
+/* The last public key is that of the key as it is. */
+static uint64_t peer_p384_key(const struct subject *subject, uint8_t *out, uint32_t reps)
+{
+    (void)subject;
+    uint8_t numbered[48];
+    uint64_t sum = 0;
+    memcpy(numbered, long_key, sizeof numbered);
+    for (uint32_t repetition = 1; repetition <= reps; repetition++) {
+        write_number(numbered + 44, repetition);
+        if (!peer_p384_public_key(repetition == reps ? long_key : numbered, out)) {
+            return FAILED;
+        }
+        sum += out[48];
+    }
+    return sum;
+}
+
+static uint64_t ours_p384_sign(const struct subject *subject, uint8_t *out, uint32_t reps)
+{
+    (void)subject;
+    return paseto_bench_p384_sign(long_key, 48, plain, plain_length, out, 96, reps);
+}
+
+static uint64_t peer_p384_signs(const struct subject *subject, uint8_t *out, uint32_t reps)
+{
+    (void)subject;
+    for (uint32_t repetition = 0; repetition < reps; repetition++) {
+        if (!peer_p384_sign(plain, plain_length, out)) {
+            return FAILED;
+        }
+    }
+    return 0;
+}
+
+static uint64_t ours_p384_verify(const struct subject *subject, uint8_t *out, uint32_t reps)
+{
+    (void)subject;
+    (void)out;
+    return paseto_bench_p384_verify(point, 49, plain, plain_length, signature, 96, reps);
+}
+
+/* The last signature is the one as it is. */
+static uint64_t peer_p384_verifies(const struct subject *subject, uint8_t *out, uint32_t reps)
+{
+    (void)subject;
+    (void)out;
+    uint8_t numbered[96];
+    uint64_t valid = 0;
+    memcpy(numbered, signature, sizeof numbered);
+    for (uint32_t repetition = 1; repetition <= reps; repetition++) {
+        write_number(numbered + 92, repetition);
+        valid += peer_p384_verify(plain, plain_length, repetition == reps ? signature : numbered);
+    }
+    return valid == 0 ? FAILED : valid;
+}
+
+/* Makes the row's signature, and sees that each side takes what the other makes. */
+static bool prepare_p384(void)
+{
+    uint8_t made[96];
+    return ours_p384_sign(NULL, made, 1) == 0 && peer_p384_verify(plain, plain_length, made)
+           && peer_p384_sign(plain, plain_length, signature)
+           && ours_p384_verify(NULL, NULL, 1) == 1;
+}
+
+#define SUBJECTS 22
 static const struct subject subjects[SUBJECTS] = {
     TOKENS(4),
     TOKENS(3),
@@ -453,6 +537,9 @@ static const struct subject subjects[SUBJECTS] = {
     {.name = "XChaCha20", .ours = ours_xchacha20, .peer = peer_xchacha20, .out_length = plain_size},
     {.name = "AES-256-CTR", .ours = ours_aes256_ctr, .peer = peer_aes256, .out_length = plain_size},
     {.name = "HMAC-SHA384", .ours = ours_hmac, .peer = peer_hmac, .out_length = hmac_size},
+    {.name = "P-384 key", .ours = ours_p384_key, .peer = peer_p384_key, .out_length = point_size},
+    {.name = "P-384 sign", .ours = ours_p384_sign, .peer = peer_p384_signs, .out_length = no_size},
+    {.name = "P-384 verify", .ours = ours_p384_verify, .peer = peer_p384_verifies, .out_length = no_size},
 };
 
 /* The text of a row, and, where one is read, the peer's token, box or signature of it. */
@@ -460,6 +547,9 @@ static bool prepare(const struct subject *subject, size_t length)
 {
     plain_length = length;
     token_length = 0;
+    if (subject->ours == ours_p384_sign || subject->ours == ours_p384_verify) {
+        return prepare_p384();
+    }
     if (subject->prepared == NULL) {
         return true;
     }
@@ -591,6 +681,11 @@ int main(int count, char **words)
         long_key[i] = (uint8_t)(3 * i + 5);
     }
     crypto_sign_seed_keypair(public_key, private_key, key);
+    if (paseto_bench_p384_public_key(long_key, 48, point, 49, 1) == FAILED
+        || !peer_p384_start(long_key, point)) {
+        fprintf(stderr, "P-384 does not start\n");
+        return 1;
+    }
     for (size_t i = 0; i < sizeof plain; i++) {
         plain[i] = (uint8_t)(' ' + i % 95);
     }

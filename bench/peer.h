@@ -38,4 +38,16 @@ bool peer_hmac_sha384(const uint8_t *key, size_t key_length, const uint8_t *mess
 bool peer_aes256_ctr(const uint8_t key[32], const uint8_t counter[16], uint8_t *data,
                      size_t length);
 
+/* Readies the keys of P-384. It is called once, before the other calls. */
+bool peer_p384_start(const uint8_t private[48], const uint8_t public[49]);
+
+/* The compressed public key of a private key. */
+bool peer_p384_public_key(const uint8_t private[48], uint8_t public[49]);
+
+/* A signature of a message, by SHA-384. */
+bool peer_p384_sign(const uint8_t *message, size_t length, uint8_t signature[96]);
+
+/* Whether a signature of a message is valid. */
+bool peer_p384_verify(const uint8_t *message, size_t length, const uint8_t signature[96]);
+
 #endif
