@@ -8,6 +8,8 @@
      secrets VERSION open       the key is undefined, and tokens are opened
      secrets ed25519 key        the seeds are undefined, and their public keys are made
      secrets ed25519 sign       the seed of the private key is undefined, and messages of each length are signed
+     secrets p384 key           private keys are undefined, and their public keys are made
+     secrets p384 sign          private keys are undefined, and texts of each length are signed
      secrets control control    no call: a jump and an address of this file itself, which have to be reported
 
    The status is 0 where each call answered as it should. */
@@ -155,6 +157,26 @@ static int sign_all(void) {
     return right;
 }
 
+/* The private keys of P-384: small, large, and of mixed bits. */
+static void private_key(uint8_t key[48], size_t i) {
+    memset(key, i % 3 == 0 ? 0 : i % 3 == 1 ? 0xa5 : 0x3c, 48);
+    key[47] = (uint8_t)(i + 1);
+}
+
+static int p384_all(bool sign) {
+    material *m = make_material();
+    int right = 0;
+    for (size_t i = 0; i < LENGTH_COUNT; i++) {
+        uint8_t key[48], point[49], signature[96];
+        private_key(key, i);
+        VALGRIND_MAKE_MEM_UNDEFINED(key, sizeof key);
+        right += sign ? done(paseto_bench_p384_sign(key, 48, m->text, LENGTHS[i], signature, 96, 1))
+                      : done(paseto_bench_p384_public_key(key, 48, point, 49, 1));
+    }
+    free(m);
+    return right;
+}
+
 /* What this test has to find: a jump on a bit of the key, and a place in a table at a byte of it. */
 __attribute__((noinline)) static int control(void) {
     static const uint8_t table[256] = {1, 2, 3};
@@ -173,6 +195,7 @@ int main(int argc, char **argv) {
     if (strcmp(argv[1], "control") == 0) right = control();
     if (strcmp(argv[1], "ed25519") == 0 && strcmp(argv[2], "key") == 0) right = make_public_keys();
     if (strcmp(argv[1], "ed25519") == 0 && strcmp(argv[2], "sign") == 0) right = sign_all();
+    if (strcmp(argv[1], "p384") == 0) right = p384_all(strcmp(argv[2], "sign") == 0);
     for (size_t i = 0; i < sizeof VERSIONS / sizeof *VERSIONS; i++) {
         const version *v = &VERSIONS[i];
         if (strcmp(argv[1], v->name) != 0) continue;

@@ -119,4 +119,6 @@ done
 for call in key sign; do
     check ed25519 "$call"
 done
+check p384 key
+check p384 sign
 finish
