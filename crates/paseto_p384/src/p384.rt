@@ -77,53 +77,51 @@ fn signed_by(d: &[u64; 6], e: &[u64; 6], g: &NonceGenerator) -> Option<[u8; 96]>
     attempt(d, e, &from_octets(&g.value))
 }
 
-// The signature of a message under a private key, which is the number d.
-fn signature(private: &[u8], d: &[u64; 6], message: &[u8]) -> Option<[u8; 96]>
+// The signature of the message with this hash under a private key, which is the number d.
+fn signature(private: &[u8], d: &[u64; 6], e: &[u64; 6]) -> Option<[u8; 96]>
     requires private { value d.now 6 ≡ os2ip private.now }
     requires below { value d.now 6 < order }
-    ensures { result ≡ p384_sign private.now message.now }
+    ensures { (message : List ℕ) → value e.now 6 ≡ hash_number message
+        → result ≡ p384_sign private.now message }
 {
-    let e = hash_number(message);
-    let g = first_candidate(private, &e);
-    match signed_by(d, &e, &g) {
+    let g = first_candidate(private, e);
+    match signed_by(d, e, &g) {
         Some(signature) => Some(signature),
-        None => signed_by(d, &e, &g.retry().draw()),
+        None => signed_by(d, e, &g.retry().draw()),
     }
 }
 
-// Whether a signature is valid.
-fn is_valid(public: &[u8], message: &[u8], signature: &[u8; 96]) -> bool
-    ensures { IsTrue result ↔ P384Verifies public.now message.now signature.now }
+// Whether a signature is valid for the message with this hash.
+fn is_valid(public: &[u8], e: &[u64; 6], signature: &[u8; 96]) -> bool
+    ensures { (message : List ℕ) → value e.now 6 ≡ hash_number message
+        → (IsTrue result ↔ P384Verifies public.now message signature.now) }
 {
     if public.len() != PUBLIC_LENGTH {
         return false;
     }
     let (front, back) = signature.split_at(NUMBER_LENGTH);
     match decode(public) {
-        Some(q) => accepts(
-            q,
-            &hash_number(message),
-            &from_octets(front),
-            &from_octets(back),
-        ),
+        Some(q) => accepts(q, e, &from_octets(front), &from_octets(back)),
         None => false,
     }
 }
 
-// A signature that is valid.
+// A signature that is valid for the message with this hash.
 fn checked(
     public: &[u8],
-    message: &[u8],
+    e: &[u64; 6],
     signature: Option<[u8; 96]>,
 ) -> Result<[u8; 96], PasetoError>
     ensures ok { IfOk result (λ valid. (signature ≡ Some valid)
-        × P384Verifies public.now message.now valid) }
+        × ((message : List ℕ) → value e.now 6 ≡ hash_number message
+        → P384Verifies public.now message valid)) }
     ensures err { IfErr result (λ error. (error ≡ PasetoError.Signature)
-        × ((made : List ℕ) → signature ≡ Some made → ¬ P384Verifies public.now message.now made)) }
+        × ((message made : List ℕ) → value e.now 6 ≡ hash_number message
+        → signature ≡ Some made → ¬ P384Verifies public.now message made)) }
 {
     match signature {
         Some(made) => {
-            if !is_valid(public, message, &made) {
+            if !is_valid(public, e, &made) {
                 return Err(PasetoError::Signature);
             }
             Ok(made)
@@ -179,8 +177,9 @@ impl SignatureScheme<96> for P384 {
     {
         match private_number(private) {
             Some(d) => {
-                let made = signature(private, &d, message);
-                checked(&public_octets(&d), message, made)
+                let e = hash_number(message);
+                let made = signature(private, &d, &e);
+                checked(&public_octets(&d), &e, made)
             }
             None => Err(PasetoError::KeyRejected),
         }
@@ -194,7 +193,7 @@ impl SignatureScheme<96> for P384 {
         message: &[u8],
         signature: &[u8; 96],
     ) -> Result<(), PasetoError> {
-        if is_valid(public, message, signature) {
+        if is_valid(public, &hash_number(message), signature) {
             return Ok(());
         }
         Err(PasetoError::InvalidSignature)
