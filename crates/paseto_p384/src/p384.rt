@@ -26,6 +26,12 @@ const NUMBER_LENGTH: usize = 48;
 const PUBLIC_LENGTH: usize = 49;
 
 /// ECDSA over P-384 with SHA-384 (FIPS 186-5, section 6.4), the signature scheme of version 3.
+///
+/// ```rust
+/// let (private, public) = P384::key_pair(&mut rng)?;
+/// let signature = P384.sign(alloc, private.as_bytes(), message)?;
+/// P384.verify(alloc, public.as_bytes(), message, &signature)?;
+/// ```
 #[derive(Drop)]
 pub struct P384;
 
