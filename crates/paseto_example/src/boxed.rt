@@ -5,8 +5,8 @@ use jiff::Timestamp;
 use paseto_xchacha20poly1305::XChaCha20Poly1305;
 use rand_core::TryRng;
 use rusty_paseto::prelude::{
-    GenericParserError, Local, PasetoBuilder, PasetoParser, PasetoSymmetricKey, SubjectClaim, V2,
-    fits_default,
+    CountingSetter, GenericParserError, Local, PasetoBuilder, PasetoParser, PasetoSymmetricKey,
+    SubjectClaim, V2, fits_default,
 };
 use serde_json::Value;
 use std::alloc::Global;
