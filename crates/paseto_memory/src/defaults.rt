@@ -17,8 +17,8 @@ use paseto_toys::keys::{Keys, SECRET, ToyVersion};
 use paseto_toys::{Lenient, PlainBox};
 use rusty_paseto::prelude::{
     AudienceClaim, BoxlessVersion, CheckSetter, CountingSetter, CustomClaim, Local, PasetoBuilder,
-    PasetoParser, Public, PurposeTrait, Signs, V1, V2, V3, V4, ValidatorFn, ValidatorMap, Verifies,
-    VersionTrait, fits_default,
+    PasetoParser, Public, PurposeTrait, Signs, V1, V2, V3, V4, ValidatorFn, Verifies, VersionTrait,
+    fits_default,
 };
 use std::alloc::Global;
 use std::io::Write;
@@ -294,24 +294,23 @@ fn ask_several_checks<W: Write>(run: &mut Run<W>) -> Result<()> {
     })
 }
 
-// So many maps of validators as `Run::change` takes.
-fn three_validators(alloc: Global) -> Result<[ValidatorMap; 3]> {
-    Ok([
-        validators(alloc, refusing!(alloc))?,
-        validators(alloc, refusing!(alloc))?,
-        validators(alloc, refusing!(alloc))?,
-    ])
-}
-
 fn ask_several_validators<W: Write>(run: &mut Run<W>) -> Result<()> {
     let alloc = run.alloc();
     let case = Case::of("DefaultParser::put_validators", "a map");
-    let maps = three_validators(alloc)?;
+    let maps = [
+        validators(alloc, refusing!(alloc))?,
+        validators(alloc, refusing!(alloc))?,
+        validators(alloc, refusing!(alloc))?,
+    ];
     run.change(case, two_parsers::<V4, Local>(alloc), maps, |parser, map| {
         parser.put_validators(map)
     })?;
     let case = Case::of("DefaultParser::extend_validation_claims", "a map");
-    let maps = three_validators(alloc)?;
+    let maps = [
+        validators(alloc, refusing!(alloc))?,
+        validators(alloc, refusing!(alloc))?,
+        validators(alloc, refusing!(alloc))?,
+    ];
     run.change(case, two_parsers::<V4, Local>(alloc), maps, |parser, map| {
         parser.extend_validation_claims(map).map(drop)
     })
