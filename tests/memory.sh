@@ -7,8 +7,7 @@
 #
 # Without words it takes the programs that `rt run` leaves in the crates' out/, and builds them where they are
 # not there. A row of the table is a call, how many requests it makes, for how many bytes in all, and how often a
-# run that met a refusal answered want of memory, or what is right all the same. The table is compared with
-# tests/memory.txt, row by row, so that a call that takes more memory than before fails. The last line is
+# run that met a refusal answered want of memory, or what is right all the same. The last line is
 # 'N passed, M failed', and the status is 0 where none failed.
 set -u
 export LC_ALL=C
@@ -78,9 +77,9 @@ declare -A unharmed=()
 
 # ---- the cases
 
-# row NAME REQUESTS BYTES MEMORY RIGHT: a row of the table, printed and kept.
+# row NAME REQUESTS BYTES MEMORY RIGHT: a row of the table.
 row() {
-    printf '%-74s %8d %8d %8d %8d\n' "$@" | tee -a "$work/table"
+    printf '%-74s %8d %8d %8d %8d\n' "$@"
 }
 
 # ask VARIABLE N NAME: runs a case. Sets requests, bytes, refused and answer.
@@ -247,13 +246,5 @@ for version in v1 v3 v4; do
     check_tool 'no token' open $version "$key"
 done
 check_tool '' reveal v4.local.payload
-
-# ---- no call takes more than it did
-
-if differences=$(diff "$root/tests/memory.txt" "$work/table"); then
-    pass
-else
-    fail "the table is not that of tests/memory.txt: $differences"
-fi
 
 finish
