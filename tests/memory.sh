@@ -7,7 +7,8 @@
 #
 # Without words it takes the programs that `rt run` leaves in the crates' out/, and builds them where they are
 # not there. A row of the table is a call, how many requests it makes, for how many bytes in all, and how often a
-# run that met a refusal answered want of memory, or what is right all the same. The last line is
+# run that met a refusal answered want of memory, or what is right all the same. The rows of the cases
+# have to be those of tests/memory.txt, so that a call that takes more memory than it did fails. The last line is
 # 'N passed, M failed', and the status is 0 where none failed.
 set -u
 export LC_ALL=C
@@ -127,7 +128,7 @@ check_case() {
     local memory=0 harmless=0 total=0 size=0
     check_mode "$1" REFUSE_AT
     check_mode "$1" REFUSE_FROM
-    row "$1" "$total" "$size" "$memory" "$harmless"
+    row "$1" "$total" "$size" "$memory" "$harmless" | tee -a "$work/table"
     case "$1" in
         *'with no memory'*)
             if [ "$total" -eq 0 ]; then pass; else fail "$1: makes requests"; fi ;;
@@ -145,6 +146,14 @@ printf '%-74s %8s %8s %8s %8s\n' 'call' 'requests' 'bytes' 'memory' 'right'
 while IFS= read -r name; do
     check_case "$name"
 done <"$work/names"
+
+# ---- no call takes more than it did
+
+if differences=$(diff "$root/tests/memory.txt" "$work/table"); then
+    pass
+else
+    fail "the cases' rows are not those of tests/memory.txt: $differences"
+fi
 
 # ---- every call is there
 
