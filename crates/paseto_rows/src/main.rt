@@ -6,6 +6,7 @@ mod error;
 mod fields;
 mod p384;
 mod primitives;
+mod published;
 mod rows;
 mod schemes;
 mod tally;
@@ -24,8 +25,9 @@ fn main(rt: HostRuntime) -> Result<()> {
     let local_tokens = check_file(&rt, folder.as_str(), Rows::LocalTokens)?;
     let schemes = check_file(&rt, folder.as_str(), Rows::Schemes)?;
     let p384 = check_file(&rt, folder.as_str(), Rows::P384)?;
+    let published = check_file(&rt, folder.as_str(), Rows::Published)?;
     ensure!(
-        primitives && local_tokens && schemes && p384,
+        primitives && local_tokens && schemes && p384 && published,
         "not every row agrees"
     );
     Ok(())

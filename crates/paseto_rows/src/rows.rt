@@ -3,7 +3,7 @@
 
 use crate::error::RowError;
 use crate::tally::Tally;
-use crate::{p384, primitives, schemes, tokens};
+use crate::{p384, primitives, published, schemes, tokens};
 use std::alloc::Global;
 
 /// The kind of a file's rows.
@@ -17,6 +17,8 @@ pub enum Rows {
     Schemes,
     /// Signatures of version 3.
     P384,
+    /// Tokens that the PASETO specification publishes.
+    Published,
 }
 
 impl Rows {
@@ -27,6 +29,7 @@ impl Rows {
             Rows::LocalTokens => "local_tokens.txt",
             Rows::Schemes => "schemes.txt",
             Rows::P384 => "p384.txt",
+            Rows::Published => "published.txt",
         }
     }
 
@@ -35,6 +38,7 @@ impl Rows {
         match self {
             Rows::Primitives | Rows::Schemes | Rows::P384 => "rows",
             Rows::LocalTokens => "tokens sealed and opened",
+            Rows::Published => "published tokens",
         }
     }
 
@@ -54,6 +58,7 @@ impl Rows {
             Rows::LocalTokens => tokens::check(alloc, name, fields)?,
             Rows::Schemes => schemes::check(alloc, name, fields)?,
             Rows::P384 => p384::check(alloc, name, fields)?,
+            Rows::Published => published::check(alloc, name, fields)?,
         }
         tally.count(name)?;
         Ok(())
