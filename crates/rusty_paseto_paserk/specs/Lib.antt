@@ -1,0 +1,4 @@
+pub mod Header
+pub mod Error
+pub mod Text
+pub mod Id

@@ -1,0 +1,62 @@
+//! The text of a key, of any version and type: the header, and the base64url encoding of the key's bytes.
+
+ghost use Rattle.std.specs.Prelude.{◌≡◌, ◌++◌, IfOk, IfErr, OnOk, string_bytes};
+ghost use Rattle.rusty_paseto_parts.specs.Section.{spelling};
+ghost use Rattle.rusty_paseto_paserk.specs.Error.{IsMemory};
+ghost use Rattle.rusty_paseto_paserk.specs.Text.{ReadsBytes, writing};
+
+use crate::error::PaserkError;
+use crate::header::{PaserkType, PaserkVersion, header_of};
+use base64::engine::general_purpose::URL_SAFE_NO_PAD;
+use rusty_paseto_parts::{PasetoError, from_section};
+use std::alloc::Global;
+
+/// The text of a key of these bytes. It fails only by `Memory`.
+pub fn write_key(
+    alloc: Global,
+    version: PaserkVersion,
+    kind: PaserkType,
+    bytes: &[u8],
+) -> Result<String, PaserkError>
+    ensures ok { IfOk result (λ text. string_bytes text ≡ writing version kind bytes.now) }
+    ensures err { IfErr result IsMemory }
+{
+    let mut text = String::from_str(alloc, version.mark())?;
+    text.push_str(kind.word())?;
+    push_encoded(bytes, &mut text)?;
+    Ok(text)
+}
+
+/// The bytes that stand behind the header of a key of this version and type.
+pub fn read_bytes(
+    alloc: Global,
+    version: PaserkVersion,
+    kind: PaserkType,
+    text: &str,
+) -> Result<Vec<u8>, PaserkError>
+    ensures { ReadsBytes version kind text.now result }
+{
+    let Some((found, found_kind, payload)) = header_of(text) else {
+        return Err(PaserkError::NoKey);
+    };
+    if found != version {
+        return Err(PaserkError::OtherVersion(found));
+    }
+    if found_kind != kind {
+        return Err(PaserkError::OtherType(found_kind));
+    }
+    match from_section(alloc, payload) {
+        Ok(bytes) => Ok(bytes),
+        Err(PasetoError::Memory(source)) => Err(PaserkError::Memory(source)),
+        Err(_) => Err(PaserkError::InvalidKey),
+    }
+}
+
+/// Appends the base64url encoding of bytes to a text. It fails only by `Memory`.
+pub fn push_encoded(bytes: &[u8], text: &mut String) -> Result<(), PaserkError>
+    ensures ok { OnOk result (string_bytes text.new ≡ string_bytes text.old ++ spelling bytes.now) }
+    ensures err { IfErr result IsMemory }
+{
+    URL_SAFE_NO_PAD.encode_string(bytes, text)?;
+    Ok(())
+}

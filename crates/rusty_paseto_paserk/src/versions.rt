@@ -1,0 +1,112 @@
+//! The versions of PASETO whose keys have texts in PASERK.
+
+ghost use Rattle.std.specs.Prelude.{◌≡◌, ℕ};
+ghost use Rattle.rusty_paseto_paserk.specs.declared.header.PaserkVersion.{PaserkVersion as Paserk};
+ghost use Rattle.rusty_paseto_paserk.specs.declared.header.PaserkVersion.TheVariants.{V1 as K1, V2 as K2, V3 as K3, V4 as K4};
+
+use crate::header::PaserkVersion;
+use rusty_paseto_parts::{V1, V2, V3, V4, VersionTrait};
+
+/// A version whose keys for local tokens have texts: 1 to 4.
+pub trait KeyVersion: VersionTrait {
+    // The version of PASERK of the same number.
+    ghost paserk: { Paserk };
+
+    /// The version of PASERK of the same number.
+    fn paserk_version() -> PaserkVersion
+        ensures { result ≡ paserk };
+}
+
+/// A version whose key pairs have texts: 2, 3 and 4, whose keys have a fixed number of bytes.
+///
+/// Version 1 is left out: its key pairs are for RSA, and have encodings of any length.
+pub trait KeyPairVersion: KeyVersion {
+    // How many bytes a private key has in its text.
+    ghost secret_length: { ℕ };
+
+    // How many bytes a public key has.
+    ghost public_length: { ℕ };
+
+    /// How many bytes a private key has in its text: 64 in versions 2 and 4, 48 in version 3.
+    fn secret_length() -> usize
+        ensures { result ≡ secret_length };
+
+    /// Whether a public key of the version may have these bytes: 32 in versions 2 and 4, and 49 in version 3, the first
+    /// of which is 2 or 3.
+    fn is_public_key(bytes: &[u8]) -> bool
+        ensures { result ≡ Self.is_public_key bytes.now };
+}
+
+impl KeyVersion for V1 {
+    ghost paserk = { K1 };
+
+    fn paserk_version() -> PaserkVersion {
+        PaserkVersion::V1
+    }
+}
+
+impl KeyVersion for V2 {
+    ghost paserk = { K2 };
+
+    fn paserk_version() -> PaserkVersion {
+        PaserkVersion::V2
+    }
+}
+
+impl KeyVersion for V3 {
+    ghost paserk = { K3 };
+
+    fn paserk_version() -> PaserkVersion {
+        PaserkVersion::V3
+    }
+}
+
+impl KeyVersion for V4 {
+    ghost paserk = { K4 };
+
+    fn paserk_version() -> PaserkVersion {
+        PaserkVersion::V4
+    }
+}
+
+impl KeyPairVersion for V2 {
+    ghost secret_length = { 64 };
+
+    ghost public_length = { 32 };
+
+    fn secret_length() -> usize {
+        64
+    }
+
+    fn is_public_key(bytes: &[u8]) -> bool {
+        bytes.len() == 32
+    }
+}
+
+impl KeyPairVersion for V3 {
+    ghost secret_length = { 48 };
+
+    ghost public_length = { 49 };
+
+    fn secret_length() -> usize {
+        48
+    }
+
+    fn is_public_key(bytes: &[u8]) -> bool {
+        bytes.len() == 49 && (bytes[0] == 2 || bytes[0] == 3)
+    }
+}
+
+impl KeyPairVersion for V4 {
+    ghost secret_length = { 64 };
+
+    ghost public_length = { 32 };
+
+    fn secret_length() -> usize {
+        64
+    }
+
+    fn is_public_key(bytes: &[u8]) -> bool {
+        bytes.len() == 32
+    }
+}
