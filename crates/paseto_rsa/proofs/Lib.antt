@@ -1,0 +1,3 @@
+pub mod DerLaws
+pub mod KeyLaws
+pub mod MaskLaws

@@ -1,0 +1,7 @@
+pub mod Der
+pub mod Encoding
+pub mod Keys
+pub mod Mask
+pub mod PrivateKey
+pub mod Rsa
+pub mod RsaPss

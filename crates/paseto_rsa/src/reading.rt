@@ -1,0 +1,78 @@
+//! Keys in their encodings (RFC 8017, appendix A.1).
+
+ghost use Rattle.std.specs.Prelude.{◌≡◌, ◌↔◌, ℕ, ◌%◌, ◌^◌, ◌<◌, ◌≤◌, IsTrue, MatchOption};
+ghost use Rattle.paseto_montgomery.specs.Words.{value};
+ghost use Rattle.paseto_rsa.specs.Keys.{IsInRange, IsPublicKey};
+
+use crate::der::{Element, read_element, read_number};
+use crate::public_key::PublicKey;
+use paseto_montgomery::Modulus;
+
+// The tag of a SEQUENCE.
+const SEQUENCE: u8 = 0x30;
+
+// The numbers of a public key.
+#[derive(Drop)]
+struct PublicNumbers {
+    modulus: [u64; 32],
+    exponent: [u64; 1],
+}
+
+// The numbers of a public key, whatever they are.
+fn read_public(key: &[u8]) -> Option<PublicNumbers>
+    ensures { MatchOption result
+        ((n e : ℕ) → n < 2 ^ 2048 → e < 2 ^ 64 → IsPublicKey n e key.now → ⊥)
+        (λ k. IsPublicKey (value k.modulus 32) (value k.exponent 1) key.now) }
+{
+    let Element { contents, behind } = read_element(SEQUENCE, key)?;
+    if !behind.is_empty() {
+        return None;
+    }
+    let modulus = read_number::<32>(contents)?;
+    let exponent = read_number::<1>(modulus.behind)?;
+    if !exponent.behind.is_empty() {
+        return None;
+    }
+    Some(PublicNumbers {
+        modulus: modulus.words,
+        exponent: exponent.words,
+    })
+}
+
+// Whether a public exponent is odd, 3 or more and below 2^33.
+fn is_exponent(e: u64) -> bool
+    ensures { IsTrue result ↔ ((e % 2 ≡ 1) × (3 ≤ e) × (e < 2 ^ 33)) }
+{
+    e % 2 == 1 && e >= 3 && e < 1 << 33
+}
+
+/// The public key of two numbers, if they are in range.
+pub(crate) fn public_key(n: &[u64; 32], exponent: u64) -> Option<PublicKey>
+    ensures { MatchOption result (IsInRange (value n.now 32) exponent → ⊥)
+        (λ k. IsInRange (value n.now 32) exponent × (k.modulus.words ≡ n.now)
+        × (k.exponent ≡ exponent)) }
+{
+    if !is_exponent(exponent) {
+        return None;
+    }
+    let modulus = Modulus::new(n)?;
+    Some(PublicKey { modulus, exponent })
+}
+
+impl PublicKey {
+    /// The public key of its encoding as an RSAPublicKey of PKCS #1 (RFC 8017, appendix A.1.1), in DER. No memory is
+    /// taken.
+    ///
+    /// `None` comes for what is no such encoding: lengths and INTEGERs are in the fewest octets, and nothing stands
+    /// behind the end; and for a modulus that has not 2048 bits or is even, and for a public exponent that is even,
+    /// below 3, or 2^33 or more.
+    pub fn from_der(key: &[u8]) -> Option<PublicKey>
+        ensures { MatchOption result
+            ((n e : ℕ) → IsInRange n e → IsPublicKey n e key.now → ⊥)
+            (λ k. IsInRange (value k.modulus.words 32) k.exponent
+            × IsPublicKey (value k.modulus.words 32) k.exponent key.now) }
+    {
+        let numbers = read_public(key)?;
+        public_key(&numbers.modulus, numbers.exponent[0])
+    }
+}

@@ -1,0 +1,103 @@
+//! Signing and verifying of messages (RFC 8017, section 8.1).
+
+ghost use Rattle.std.specs.Prelude.{◌≡◌, ◌⊎◌, ℕ, List, IfErr, IfOk, OnOk};
+ghost use Rattle.rusty_paseto_parts.specs.declared.error.PasetoError.TheVariants.{Cipher, KeyRejected, RsaCipher};
+ghost use Rattle.paseto_rsa.specs.Keys.{IsPrivate, rsa_public};
+ghost use Rattle.paseto_rsa.specs.RsaPss.{IsDeclined, IsRefused, IsSigned, RsaPssVerifies};
+
+use crate::private_key::PrivateKey;
+use crate::public_key::PublicKey;
+use crate::signing::signature;
+use crate::verifying::is_valid;
+use rand_core::TryRng;
+use rusty_paseto_core::SignatureScheme;
+use rusty_paseto_parts::{Key, PasetoError};
+use sha2::{Digest, Sha384};
+use std::alloc::Global;
+
+/// RSASSA-PSS with SHA-384, MGF1 over SHA-384 and a salt of 48 bytes (RFC 8017, section 8.1), the signature scheme of
+/// version 1, for keys of 2048 bits. It draws the salts from its generator.
+///
+/// Private keys are PrivateKeyInfos of PKCS #8, and public keys RSAPublicKeys of PKCS #1, both in DER.
+///
+/// ```rust
+/// let mut scheme = RsaPss::new(SysRng::new(rt));
+/// let signature = scheme.sign(alloc, private, message)?;
+/// scheme.verify(alloc, public, message, &signature)?;
+/// ```
+#[derive(Drop)]
+pub struct RsaPss<R> {
+    rng: R,
+}
+
+impl<R> RsaPss<R> {
+    /// A scheme that draws its salts from this generator.
+    pub fn new(rng: R) -> RsaPss<R>
+        ensures { result.rng ≡ rng }
+    {
+        RsaPss { rng }
+    }
+}
+
+impl<R: TryRng> SignatureScheme<256> for RsaPss<R> {
+    ghost valid = { RsaPssVerifies };
+
+    ghost partner = { rsa_public };
+
+    ghost refused = { IsRefused };
+
+    ghost declined = { IsDeclined };
+
+    /// The signature of RFC 8017, section 8.1.1, with a salt that the generator gives, made by both factors of the
+    /// modulus and checked against the public key before it is answered. `KeyRejected` comes for what is no private
+    /// key: an encoding that is none, or numbers that are out of range; `Cipher` where the generator fails; and
+    /// `RsaCipher` where what was made is not valid, since the numbers are not of one key. No memory is taken.
+    fn sign(
+        &mut self,
+        _alloc: Global,
+        private: &[u8],
+        message: &[u8],
+    ) -> Result<[u8; 256], PasetoError>
+        ensures ok { IfOk result (λ signature.
+            RsaPssVerifies (rsa_public private.now) message.now signature
+            × ((salt : List ℕ) × R.may_fill self.old.rng salt self.new.rng
+            × IsSigned private.now message.now salt signature)) }
+        ensures err { IfErr result (λ error. IsDeclined private.now error
+            × (IsPrivate private.now → ((error ≡ PasetoError.Cipher) × R.Error)
+            ⊎ ((error ≡ PasetoError.RsaCipher) × ((salt : List ℕ)
+            × R.may_fill self.old.rng salt self.new.rng
+            × ((made : List ℕ) → IsSigned private.now message.now salt made
+            → ¬ RsaPssVerifies (rsa_public private.now) message.now made))))) }
+    {
+        let Some(key) = PrivateKey::from_der(private) else {
+            return Err(PasetoError::KeyRejected);
+        };
+        let salt = Key::<48>::try_new_random(&mut self.rng)?;
+        let hash = Sha384::digest(message);
+        let made = signature(&key, &hash, salt.as_bytes());
+        if !is_valid(&key.public, &hash, &made) {
+            return Err(PasetoError::RsaCipher);
+        }
+        Ok(made)
+    }
+
+    /// Is `Ok` exactly where the signature is valid, and else `InvalidSignature`, for what is no public key too. No
+    /// memory is taken.
+    fn verify(
+        &self,
+        _alloc: Global,
+        public: &[u8],
+        message: &[u8],
+        signature: &[u8; 256],
+    ) -> Result<(), PasetoError> {
+        match PublicKey::from_der(public) {
+            Some(key) => {
+                if key.verify(message, signature) {
+                    return Ok(());
+                }
+                Err(PasetoError::InvalidSignature)
+            }
+            None => Err(PasetoError::InvalidSignature),
+        }
+    }
+}
