@@ -21,8 +21,8 @@ use Rattle.rusty_paseto_core.specs.declared.PasetoError.TheVariants as Cipher
 use Rattle.rusty_paseto_generic.specs.Error.Parser.{IsMemory, of_cipher, of_claim}
 use Rattle.rusty_paseto_generic.specs.Parsers.Parsing.{IsCheckFault, IsFirstFault, IsOpenedAnswer, IsParseAnswer, IsParsed, IsTextAnswer, IsTextFault, IsValueOf, assertion_in}
 use Rattle.rusty_paseto_generic.specs.Parsers.Reading.{IsReadAs, IsReadingFault}
-use Rattle.rusty_paseto_generic.specs.Parsers.Rules.{Rules}
-use Rattle.rusty_paseto_generic.specs.Parsers.Verdicts.{Fails, IsFirstFailing, Passes, PassesAll}
+use Rattle.rusty_paseto_generic.specs.Parsers.Rules.{Rule, Rules}
+use Rattle.rusty_paseto_generic.specs.Parsers.Verdicts.{Fails, IsFirstFailing, Meets, Misses, Passes, PassesAll}
 use Rattle.rusty_paseto_generic.specs.Validator.{IfFault, Verdict}
 use Rattle.rusty_paseto_generic.specs.declared.error.GenericParserError.{GenericParserError}
 use Rattle.rusty_paseto_generic.specs.declared.error.GenericParserError.TheVariants.{ClaimError, CipherError, PayloadJsonError, Memory}
@@ -84,17 +84,22 @@ reading_apart text value (ClaimError source) reads fault =
 reading_apart text value (CipherError source) reads fault = fault
 reading_apart text value (Memory refused) reads fault = fault
 
-rule_apart : (stored : Option Data) (judge : Option Verdict) (key : List ℕ) (found : Data) (fault : Fault)
-    → Passes (record { stored = stored; judge = judge }) key found → Fails (record { stored = stored; judge = judge }) key found fault → ⊥
-rule_apart None None key found fault passes fails = fails
-rule_apart (Some stored) None key found fault passes (inl missing) = passes.0 missing.0
-rule_apart (Some stored) None key found fault passes (inr other) = other.1 passes.1
-rule_apart stored (Some verdict) key found fault passes fails = cc (passes, fails)
+meets_apart : (required : Bool) (stored : Option Data) (judge : Option Verdict) (key : List ℕ) (found : Data) (fault : Fault)
+    → Meets (record { required = required; stored = stored; judge = judge }) key found
+    → Misses (record { required = required; stored = stored; judge = judge }) key found fault → ⊥
+meets_apart required None None key found fault meets misses = misses
+meets_apart required (Some stored) None key found fault meets (inl missing) = meets.0 missing.0
+meets_apart required (Some stored) None key found fault meets (inr other) = other.1 meets.1
+meets_apart required stored (Some verdict) key found fault meets misses = cc (meets, misses)
+
+rule_apart : (rule : Rule Verdict) (key : List ℕ) (found : Data) (fault : Fault) → Passes rule key found → Fails rule key found fault → ⊥
+rule_apart rule key found fault passes (inl absent) = passes.0 absent.0.0 absent.0.1
+rule_apart rule key found fault passes (inr other) = meets_apart rule.required rule.stored rule.judge key found fault passes.1 other.1
 
 check_apart : (rules : Rules Verdict) (value : Data) (error : GenericParserError) → PassesAll rules value → IsCheckFault rules value error → ⊥
 check_apart rules value (ClaimError source) passes fault =
     let first = fault.2 in
-    rule_apart (rules first.key).stored (rules first.key).judge first.key _ fault.0 (passes first.key) first.fails
+    rule_apart (rules first.key) first.key _ fault.0 (passes first.key) first.fails
 check_apart rules value (CipherError source) passes fault = fault
 check_apart rules value (PayloadJsonError source) passes fault = fault
 check_apart rules value (Memory refused) passes fault = fault

@@ -1,6 +1,6 @@
 -- What is said of the errors of builders.
 pub mod Parser
-use Rattle.std.specs.Prelude.{◌≡◌, ⊤, ℕ, List, alloc_error}
+use Rattle.std.specs.Prelude.{◌≡◌, ⊤, ℕ, List, Option, Some, None, alloc_error}
 use Rattle.serde_json.specs.Errors.{IsMemory as IsMemoryOfJson}
 use Rattle.serde_json.specs.declared.error.Error.{Error}
 use Rattle.rusty_paseto_claims.specs.Error.{Fault, IsFault, unexpected}
@@ -15,6 +15,11 @@ use Rattle.rusty_paseto_generic.specs.declared.error.GenericBuilderError.TheVari
 abbrev pub IsMemory : GenericBuilderError → Type 0
 IsMemory (Memory _) = ⊤
 IsMemory _ = ⊥
+
+-- why the token was not sealed or signed, where it was not
+abbrev pub cause_of : GenericBuilderError → Option PasetoError
+cause_of (CipherError source) = Some source
+cause_of _ = None
 
 -- the error names this fault of a claim
 abbrev pub IsClaimFault : Fault → GenericBuilderError → Type 0

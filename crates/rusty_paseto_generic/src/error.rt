@@ -1,11 +1,12 @@
 //! The errors of builders and of parsers.
 
-ghost use Rattle.std.specs.Prelude.{◌≡◌};
-ghost use Rattle.rusty_paseto_generic.specs.Error.{of_cipher, of_claim, IsOfJson};
-ghost use Rattle.rusty_paseto_generic.specs.Error.Parser.{of_cipher as parser_of_cipher, of_claim as parser_of_claim, IsOfJson as IsParserOfJson};
+ghost use Rattle.std.specs.Prelude.{◌≡◌, option_map};
+ghost use Rattle.rusty_paseto_generic.specs.Error.{cause_of, of_cipher, of_claim, IsOfJson};
+ghost use Rattle.rusty_paseto_generic.specs.Error.Parser.{cause_of as parser_cause_of, of_cipher as parser_of_cipher, of_claim as parser_of_claim, IsOfJson as IsParserOfJson};
 ghost use Rattle.rusty_paseto_generic.specs.declared.error.GenericBuilderError.TheVariants.{Memory};
 ghost use Rattle.rusty_paseto_generic.specs.declared.error.GenericParserError.TheVariants as Parser;
 
+use crate::explained::Explained;
 use rusty_paseto_claims::PasetoClaimError;
 use rusty_paseto_core::PasetoError;
 use std::alloc::AllocError;
@@ -32,6 +33,23 @@ pub enum GenericBuilderError {
     /// Memory was refused.
     #[error("No memory was found")]
     Memory(AllocError),
+}
+
+impl GenericBuilderError {
+    /// Why the token was not sealed or signed, where it was not. The error's own text does not say it.
+    pub fn cause(&self) -> Option<&PasetoError>
+        ensures { option_map (λ cause. cause.now) result ≡ cause_of self.now }
+    {
+        match self {
+            GenericBuilderError::CipherError { source } => Some(source),
+            _ => None,
+        }
+    }
+
+    /// What shows the error with its cause, in one line.
+    pub fn explained(&self) -> Explained<'_, GenericBuilderError> {
+        Explained::new(self, self.cause())
+    }
 }
 
 impl From<AllocError> for GenericBuilderError {
@@ -93,6 +111,32 @@ pub enum GenericParserError {
     /// Memory was refused.
     #[error("No memory was found")]
     Memory(AllocError),
+}
+
+impl GenericParserError {
+    /// Why the token was not opened or verified, where it was not. The error's own text does not say it.
+    ///
+    /// ```rust
+    /// match parser.parse(token, &key) {
+    ///     Err(error) if matches!(error.cause(), Some(PasetoError::FooterInvalid)) => retry(),
+    ///     Err(error) => println!(rt; "{}", error.explained())?,
+    ///     Ok(claims) => serve(claims),
+    /// }
+    /// ```
+    pub fn cause(&self) -> Option<&PasetoError>
+        ensures { option_map (λ cause. cause.now) result ≡ parser_cause_of self.now }
+    {
+        match self {
+            GenericParserError::CipherError { source } => Some(source),
+            _ => None,
+        }
+    }
+
+    /// What shows the error with its cause, in one line: `A paseto cipher error occurred: The provided
+    /// footer is invalid`.
+    pub fn explained(&self) -> Explained<'_, GenericParserError> {
+        Explained::new(self, self.cause())
+    }
 }
 
 impl From<AllocError> for GenericParserError {

@@ -14,6 +14,7 @@
 
 mod builders;
 mod error;
+mod explained;
 mod itself;
 pub mod laws;
 mod parsers;
@@ -22,6 +23,7 @@ mod whole;
 
 pub use builders::{ClaimSetter, GenericBuilder, UnboxedVersion};
 pub use error::{GenericBuilderError, GenericParserError};
+pub use explained::Explained;
 pub use itself::Itself;
 pub use parsers::{CheckSetter, GenericParser, TokenParser};
 pub use rusty_paseto_claims::{

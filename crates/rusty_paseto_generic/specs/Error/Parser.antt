@@ -1,5 +1,5 @@
 -- What is said of the errors of parsers.
-use Rattle.std.specs.Prelude.{◌≡◌, ⊤, Option, Some, MatchOption, alloc_error}
+use Rattle.std.specs.Prelude.{◌≡◌, ⊤, Option, Some, None, MatchOption, alloc_error}
 use Rattle.serde_json.specs.Errors.{IsMemory as IsMemoryOfJson}
 use Rattle.serde_json.specs.declared.error.Error.{Error}
 use Rattle.rusty_paseto_claims.specs.Error.{Fault, fault_of}
@@ -14,6 +14,11 @@ use Rattle.rusty_paseto_generic.specs.declared.error.GenericParserError.TheVaria
 abbrev pub IsMemory : GenericParserError → Type 0
 IsMemory (Memory _) = ⊤
 IsMemory _ = ⊥
+
+-- why the token was not opened or verified, where it was not
+abbrev pub cause_of : GenericParserError → Option PasetoError
+cause_of (CipherError source) = Some source
+cause_of _ = None
 
 -- the error names the fault that is found, or memory was refused
 abbrev pub IsRefusal : Option Fault → GenericParserError → Type 0

@@ -1,5 +1,5 @@
 -- What a contract sees of the checks that a parser holds.
-use Rattle.std.specs.Prelude.{⊤, ℕ, ℤ, codes, List, [], ◌∷◌, map, Option, option_map, IsSome, String, string_bytes}
+use Rattle.std.specs.Prelude.{⊤, ℕ, codes, List, [], ◌∷◌, map, Option, option_map, IsSome, String, string_bytes}
 use Rattle.std.specs.Global.{Global}
 use Rattle.std.specs.Option.{option_map_or}
 use Rattle.std.specs.BTreeMap.{get_by_text}
@@ -13,28 +13,29 @@ use Rattle.rusty_paseto_generic.specs.declared.parsers.checks.Check.{Check}
 use Rattle.rusty_paseto_generic.specs.declared.parsers.checks.Checks.{Checks}
 use Rattle.rusty_paseto_generic.specs.declared.parsers.checks.Judge.{Judge}
 use Rattle.rusty_paseto_generic.specs.declared.parsers.checks.Judge.TheVariants.{Boxed, Expiry, NotBefore}
+use Rattle.rusty_paseto_generic.specs.declared.parsers.times.Times.{Times}
 
 -- a check, its stored value as JSON
 abbrev pub rule_of : {B : Type 0} → Check B → Rule (Judge B)
-rule_of check = record { stored = option_map view check.stored; judge = check.judge }
+rule_of check = record { required = check.required; stored = option_map view check.stored; judge = check.judge }
 
 -- what is checked under each key
 abbrev pub rules_of : {B : Type 0} → Checks B → Rules (Judge B)
 rules_of checks key = option_map_or rule_of (get_by_text checks.entries key) no_rule
 
--- what a judge finds, where a validator finds this, at a moment
-abbrev pub verdict_of : {B : Type 0} → (B → Verdict) → ℤ → Judge B → Verdict
-verdict_of verdict now (Boxed validator) = verdict validator
-verdict_of verdict now Expiry = expiry now
-verdict_of verdict now NotBefore = not_before now
+-- what a judge finds, where a validator finds this, when the times are judged
+abbrev pub verdict_of : {B : Type 0} → (B → Verdict) → Times → Judge B → Verdict
+verdict_of verdict times (Boxed validator) = verdict validator
+verdict_of verdict times Expiry = expiry times
+verdict_of verdict times NotBefore = not_before times
 
 -- a check with what its judge finds
-abbrev pub judged : {B : Type 0} → (B → Verdict) → ℤ → Rule (Judge B) → Rule Verdict
-judged verdict now rule = record { stored = rule.stored; judge = option_map (verdict_of verdict now) rule.judge }
+abbrev pub judged : {B : Type 0} → (B → Verdict) → Times → Rule (Judge B) → Rule Verdict
+judged verdict times rule = record { required = rule.required; stored = rule.stored; judge = option_map (verdict_of verdict times) rule.judge }
 
--- what is checked under each key, with what the judges find at a moment
-abbrev pub verdicts_of : {B : Type 0} → (B → Verdict) → ℤ → Checks B → Rules Verdict
-verdicts_of verdict now checks key = judged verdict now (rules_of checks key)
+-- what is checked under each key, with what the judges find
+abbrev pub verdicts_of : {B : Type 0} → (B → Verdict) → Times → Checks B → Rules Verdict
+verdicts_of verdict times checks key = judged verdict times (rules_of checks key)
 
 -- what is to judge each key, by its bytes
 abbrev pub judges_of : {B : Type 0} → List (String Global × B) → List (List ℕ × Judge B)

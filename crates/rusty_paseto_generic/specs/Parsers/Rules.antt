@@ -1,19 +1,20 @@
 -- What a parser checks under each key, and the edits of it.
-use Rattle.std.specs.Prelude.{◌≡◌, ℕ, List, [], ◌∷◌, if◌then◌else◌, Option, Some, None, option_map}
+use Rattle.std.specs.Prelude.{◌≡◌, ℕ, Bool, true, false, List, [], ◌∷◌, if◌then◌else◌, Option, Some, None, option_map}
 use Rattle.std.specs.Str.{bytes_eq}
 use Rattle.serde_json.specs.Data.{Data, Members, no_members, member}
 use Rattle.rusty_paseto_claims.specs.Claim.{Answer, gives, refuses}
 use Rattle.rusty_paseto_claims.specs.Error.{Fault, unexpected}
 use Rattle.rusty_paseto_claims.specs.Whole.{first_odd, is_whole}
 
--- what is checked under a key: a stored value or none, and a judge or none
+-- what is checked under a key: whether a value has to be there, a stored value or none, and a judge or none
 pub record Rule (J : Type 0) : Type 0 where
+  pub required : Bool
   pub stored : Option Data
   pub judge : Option J
 
 -- nothing is checked
 abbrev pub no_rule : {J : Type 0} → Rule J
-no_rule = record { stored = None; judge = None }
+no_rule = record { required = false; stored = None; judge = None }
 
 -- what is checked under every key
 abbrev pub Rules : Type 0 → Type 0
@@ -24,6 +25,9 @@ abbrev pub AreSame : {J : Type 0} → Rules J → Rules J → Type 0
 AreSame first second = (key : List ℕ) → first key ≡ second key
 
 -- ---- the edits of them
+
+abbrev pub with_required : {J : Type 0} → Rule J → Rule J
+with_required rule = record rule { required = true }
 
 abbrev pub with_stored : {J : Type 0} → Data → Rule J → Rule J
 with_stored value rule = record rule { stored = Some value }

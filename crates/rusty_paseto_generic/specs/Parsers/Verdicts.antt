@@ -1,5 +1,5 @@
 -- When a value passes what is checked under a key, and which fault it has where it does not.
-use Rattle.std.specs.Prelude.{◌≡◌, ◌≢◌, ◌⊎◌, ⊤, ℕ, List, Some, None, MatchOption, unwrap_or}
+use Rattle.std.specs.Prelude.{◌≡◌, ◌≢◌, ◌⊎◌, ⊤, ℕ, true, List, Some, None, MatchOption, unwrap_or}
 use Rattle.std.specs.Ordering.{nat_cmp}
 use Rattle.std.specs.declared.cmp.Ordering.TheVariants.{Less}
 use Rattle.std.specs.Cmp.Lexicographic.{slice_cmp}
@@ -29,15 +29,31 @@ IsMismatch key stored found fault =
     ((found ≡ null) × (fault ≡ missing key))
     ⊎ ((found ≢ null) × (¬ IsSame found (entry key stored)) × (fault ≡ mismatch key found (entry key stored)))
 
--- the value passes what is checked: a judge decides alone, where there is one, and else the stored value
-abbrev pub Passes : Rule Verdict → List ℕ → Data → Type 0
-Passes rule key found =
+-- the value is what is expected: a judge decides alone, where there is one, and else the stored value
+abbrev pub Meets : Rule Verdict → List ℕ → Data → Type 0
+Meets rule key found =
     MatchOption rule.judge (MatchOption rule.stored ⊤ (λ stored. Matches key stored found)) (λ verdict. verdict key found ≡ None)
 
--- the value has this fault
-abbrev pub Fails : Rule Verdict → List ℕ → Data → Fault → Type 0
-Fails rule key found fault =
+-- it is not, and this is the fault
+abbrev pub Misses : Rule Verdict → List ℕ → Data → Fault → Type 0
+Misses rule key found fault =
     MatchOption rule.judge (MatchOption rule.stored ⊥ (λ stored. IsMismatch key stored found fault)) (λ verdict. verdict key found ≡ Some fault)
+
+-- there is a value, where there has to be one
+abbrev pub IsThere : Rule Verdict → Data → Type 0
+IsThere rule found = rule.required ≡ true → found ≢ null
+
+-- there is none, and there has to be one
+abbrev pub IsAbsent : Rule Verdict → Data → Type 0
+IsAbsent rule found = (rule.required ≡ true) × (found ≡ null)
+
+-- the value passes what is checked: it is there, where it has to be, and what is expected
+abbrev pub Passes : Rule Verdict → List ℕ → Data → Type 0
+Passes rule key found = IsThere rule found × Meets rule key found
+
+-- the value has this fault: that it is missing, or else that of what is expected
+abbrev pub Fails : Rule Verdict → List ℕ → Data → Fault → Type 0
+Fails rule key found fault = (IsAbsent rule found × (fault ≡ missing key)) ⊎ (IsThere rule found × Misses rule key found fault)
 
 -- the value passes what is checked under every key
 abbrev pub PassesAll : Rules Verdict → Data → Type 0

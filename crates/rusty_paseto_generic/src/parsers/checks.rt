@@ -6,7 +6,7 @@ ghost use Rattle.serde_json.specs.View.{view, members_view};
 ghost use Rattle.rusty_paseto_claims.specs.Claim.{IsRefusal, gives};
 ghost use Rattle.rusty_paseto_claims.specs.Whole.{first_odd};
 ghost use Rattle.rusty_paseto_generic.specs.Error.Parser.{IsMemory, IsRefusal as IsParserRefusal};
-ghost use Rattle.rusty_paseto_generic.specs.Parsers.Rules.{AreSame, IsStored, all_judged, all_stored, edited, fault_in, no_rule, odd_fault, whole_answer, with_both, with_judge, with_stored};
+ghost use Rattle.rusty_paseto_generic.specs.Parsers.Rules.{AreSame, IsStored, all_judged, all_stored, edited, fault_in, no_rule, odd_fault, whole_answer, with_both, with_judge, with_required, with_stored};
 ghost use Rattle.rusty_paseto_generic.specs.Parsers.Held.{HasEach, HasMore, default_date, judges_of, rules_of, with_times};
 
 use crate::error::GenericParserError;
@@ -29,9 +29,11 @@ pub(crate) enum Judge<B> {
     NotBefore,
 }
 
-/// What is checked under a key. With neither a stored value nor a judge, it is nothing.
+/// What is checked under a key. Where nothing is required, stored or judged, it is nothing.
 #[derive(Drop)]
 pub(crate) struct Check<B> {
+    // Whether a value has to be there that is not null.
+    pub(crate) required: bool,
     pub(crate) stored: Option<Value>,
     pub(crate) judge: Option<Judge<B>>,
 }
@@ -139,6 +141,17 @@ impl<B: Drop> Checks<B> {
         Ok(())
     }
 
+    /// Requires that a value is there under the key, and not null, and keeps what else is checked under it. Nothing
+    /// but memory is refused, and the checks are then unchanged.
+    pub(crate) fn require(&mut self, key: &str) -> Result<(), AllocError>
+        ensures ok { OnOk result (AreSame (rules_of self.new) (edited key.now with_required (rules_of self.old))) }
+        ensures err { OnErr result (AreSame (rules_of self.new) (rules_of self.old)) }
+    {
+        self.reserve(key)?;
+        self.set_required(key);
+        Ok(())
+    }
+
     // An entry under the key, which may check nothing yet, so that a check may then be set with no memory.
     fn reserve(&mut self, key: &str) -> Result<(), AllocError>
         ensures rules { AreSame (rules_of self.new) (rules_of self.old) }
@@ -149,6 +162,7 @@ impl<B: Drop> Checks<B> {
             return Ok(());
         }
         let nothing = Check {
+            required: false,
             stored: None,
             judge: None,
         };
@@ -168,6 +182,17 @@ impl<B: Drop> Checks<B> {
             self.reserve(key.as_str())?;
         }
         Ok(())
+    }
+
+    // Requires a value under a key that has an entry.
+    fn set_required(&mut self, key: &str)
+        requires { IsSome (get_by_text self.old.entries key.now) }
+        ensures rules { AreSame (rules_of self.new) (edited key.now with_required (rules_of self.old)) }
+        ensures kept { HasMore (get_by_text self.new.entries) (get_by_text self.old.entries) }
+    {
+        if let Some(check) = self.entries.get_mut(key) {
+            check.required = true;
+        }
     }
 
     // Stores a value under a key that has an entry.

@@ -11,14 +11,16 @@ ghost use Rattle.rusty_paseto_core.specs.Local.Opening.{opening};
 ghost use Rattle.rusty_paseto_core.specs.Public.Verifying.{verification};
 ghost use Rattle.rusty_paseto_generic.specs.Error.Parser.{IsMemory, IsRefusal};
 ghost use Rattle.rusty_paseto_generic.specs.Parsers.Held.{judges_of, rules_of, verdicts_of, with_times};
+ghost use Rattle.rusty_paseto_generic.specs.Parsers.Times.{times_at};
 ghost use Rattle.rusty_paseto_generic.specs.Parsers.Parsing.{IsParseAnswer, IsTextAnswer, assertion_in};
-ghost use Rattle.rusty_paseto_generic.specs.Parsers.Rules.{AreSame, IsStored, all_judged, all_stored, fault_in, no_rule, odd_fault, whole_answer, with_both, with_stored};
+ghost use Rattle.rusty_paseto_generic.specs.Parsers.Rules.{AreSame, IsStored, all_judged, all_stored, edited, fault_in, no_rule, odd_fault, whole_answer, with_both, with_required, with_stored};
 
 use crate::builders::UnboxedVersion;
 use crate::error::GenericParserError;
 use crate::parsers::checks::Checks;
 use crate::parsers::parsing::{parse_opened, parse_text};
 use crate::parsers::setter::CheckSetter;
+use crate::parsers::times::Times;
 use crate::validator::ValidatorFn;
 use jiff::Timestamp;
 use rusty_paseto_claims::PasetoClaim;
@@ -36,13 +38,14 @@ use std::marker::PhantomData;
 ///
 /// A key is checked by a stored value, with `check_claim` or `extend_check_claims`, or by a validator of the
 /// caller's own, with `validate_claim` or `extend_validation_claims`. A key with a validator is judged by it
-/// alone. `check_times` brings the validators of `exp` and `nbf`, which judge at the parser's moment. The stored
-/// values have whole numbers of 64 bits alone.
+/// alone. `check_times` brings the validators of `exp` and `nbf`, which judge at the parser's moment, with a leeway
+/// where `set_leeway` set one, and let a token without these claims pass: `require_claim` demands that a claim is
+/// there. The stored values have whole numbers of 64 bits alone.
 ///
-/// A call that refuses leaves the parser as it was. `check_claim`, `validate_claim`, `extend_check_claims`,
-/// `extend_validation_claims` and `check_times` lend the parser back, for chains of calls; `put_check`,
-/// `put_validator`, `put_checks`, `put_validators` and `put_times` are the same edits for code that goes on after
-/// a refusal.
+/// A call that refuses leaves the parser as it was. `check_claim`, `validate_claim`, `require_claim`,
+/// `extend_check_claims`, `extend_validation_claims` and `check_times` lend the parser back, for chains of calls;
+/// `put_check`, `put_validator`, `put_required`, `put_checks`, `put_validators` and `put_times` are the same edits for
+/// code that goes on after a refusal.
 ///
 /// ```rust
 /// let mut parser = GenericParser::<V4, Local>::new(alloc);
@@ -57,8 +60,9 @@ pub struct TokenParser<'a, V, P, B> {
     version: PhantomData<V>,
     purpose: PhantomData<P>,
     checks: Checks<B>,
-    // When the times are judged, where they are.
+    // When the times are judged, where they are, and by how many seconds the clocks may differ.
     moment: Timestamp,
+    leeway: u32,
     footer: Option<Footer<'a>>,
     implicit_assertion: Option<ImplicitAssertion<'a>>,
 }
@@ -68,6 +72,7 @@ impl<'a, V: VersionTrait, P: PurposeTrait, B: Drop> TokenParser<'a, V, P, B> {
     /// allocator, and none is taken yet.
     pub fn new(alloc: Global) -> Self
         ensures checks { (key : List ℕ) → rules_of result.checks key ≡ no_rule }
+        ensures leeway { result.leeway ≡ 0 }
         ensures footer { result.footer ≡ None }
         ensures implicit_assertion { result.implicit_assertion ≡ None }
     {
@@ -76,6 +81,7 @@ impl<'a, V: VersionTrait, P: PurposeTrait, B: Drop> TokenParser<'a, V, P, B> {
             purpose: PhantomData,
             checks: Checks::new(alloc),
             moment: Timestamp::UNIX_EPOCH,
+            leeway: 0,
             footer: None,
             implicit_assertion: None,
         }
@@ -84,6 +90,7 @@ impl<'a, V: VersionTrait, P: PurposeTrait, B: Drop> TokenParser<'a, V, P, B> {
     /// The same as `new`.
     pub fn default(alloc: Global) -> Self
         ensures checks { (key : List ℕ) → rules_of result.checks key ≡ no_rule }
+        ensures leeway { result.leeway ≡ 0 }
         ensures footer { result.footer ≡ None }
         ensures implicit_assertion { result.implicit_assertion ≡ None }
     {
@@ -98,6 +105,32 @@ impl<'a, V: VersionTrait, P: PurposeTrait, B: Drop> TokenParser<'a, V, P, B> {
     {
         self.moment = now;
         self
+    }
+
+    /// Sets how many seconds the clocks of issuer and reader may differ by, 0 until it is set, and keeps the rest: `exp`
+    /// is judged that much earlier than the moment, and `nbf` that much later. It changes no answer of a parser that
+    /// checks no times. No memory is taken.
+    ///
+    /// ```rust
+    /// // A token that was issued by a clock that is a minute ahead is let in, and one that expired a minute ago too.
+    /// parser.set_leeway(60);
+    /// ```
+    pub fn set_leeway(&mut self, seconds: u32) -> &mut Self
+        ensures lent { result.ghost_name ≡ self.entry.ghost_name }
+        ensures change { result.now ≡ record self.entry.now { leeway = seconds } }
+    {
+        self.leeway = seconds;
+        self
+    }
+
+    // When the times are judged.
+    fn times(&self) -> Times
+        ensures { result ≡ times_at self.now.moment self.now.leeway }
+    {
+        Times {
+            moment: self.moment,
+            leeway: self.leeway,
+        }
     }
 
     /// The footer that a token is to be bound to: what was set last, and the empty one before. No memory is
@@ -137,7 +170,8 @@ impl<'a, V: VersionTrait, P: PurposeTrait, B: Drop> CheckSetter<B> for TokenPars
 
     ghost moment = { λ parser. parser.moment };
 
-    ghost is_rest = { λ parser other. (parser.footer ≡ other.footer) × (parser.implicit_assertion ≡ other.implicit_assertion) };
+    ghost is_rest = { λ parser other. (parser.footer ≡ other.footer)
+        × (parser.implicit_assertion ≡ other.implicit_assertion) × (parser.leeway ≡ other.leeway) };
 
     fn put_check<C: PasetoClaim>(&mut self, claim: &C) -> Result<(), GenericParserError> {
         self.checks.store(claim)
@@ -158,11 +192,16 @@ impl<'a, V: VersionTrait, P: PurposeTrait, B: Drop> CheckSetter<B> for TokenPars
     fn put_validators(&mut self, validators: BTreeMap<String, B>) -> Result<(), GenericParserError>
         ensures ok { OnOk result (AreSame (rules_of self.new.checks) (all_judged (judges_of validators.entries) (rules_of self.old.checks))) }
         ensures moment { self.new.moment ≡ self.old.moment }
-        ensures rest { (self.new.footer ≡ self.old.footer) × (self.new.implicit_assertion ≡ self.old.implicit_assertion) }
+        ensures rest { (self.new.footer ≡ self.old.footer)
+            × (self.new.implicit_assertion ≡ self.old.implicit_assertion) × (self.new.leeway ≡ self.old.leeway) }
         ensures err { OnErr result (AreSame (rules_of self.new.checks) (rules_of self.old.checks)) }
         ensures fault { IfErr result IsMemory }
     {
         Ok(self.checks.judge_all(validators)?)
+    }
+
+    fn put_required(&mut self, key: &str) -> Result<(), GenericParserError> {
+        Ok(self.checks.require(key)?)
     }
 
     fn put_times(&mut self, moment: Timestamp) -> Result<(), GenericParserError> {
@@ -198,9 +237,9 @@ impl<V: VersionTrait, P: PurposeTrait> TokenParser<'_, V, P, ValidatorFn> {
     /// Else it answers the first fault of `parse` that is none of the token: `PayloadJsonError` or `ClaimError`.
     /// `Memory` may come in place of any answer.
     pub fn value_of(&self, text: &str) -> Result<Value, GenericParserError>
-        ensures { IsTextAnswer (verdicts_of (λ b. verdict b) self.now.moment.nanosecond self.now.checks) text.now result }
+        ensures { IsTextAnswer (verdicts_of (λ b. verdict b) (times_at self.now.moment self.now.leeway) self.now.checks) text.now result }
     {
-        parse_text(&self.checks, self.moment, text)
+        parse_text(&self.checks, &self.times(), text)
     }
 }
 
@@ -221,11 +260,12 @@ impl<V: UnboxedVersion> TokenParser<'_, V, Local, ValidatorFn> {
         key: &PasetoSymmetricKey<V, Local>,
     ) -> Result<Value, GenericParserError>
         ensures { let binding = binding_of key.now self.now.footer (assertion_in V.design.binds_assertion self.now.implicit_assertion) in
-            IsParseAnswer (opening V.design binding) (verdicts_of (λ b. verdict b) self.now.moment.nanosecond self.now.checks) token.now result }
+            IsParseAnswer (opening V.design binding) (verdicts_of (λ b. verdict b) (times_at self.now.moment self.now.leeway) self.now.checks) token.now result }
     {
         let assertion = V::bound_assertion(self.implicit_assertion);
-        let opened = V::open(self.checks.allocator(), token, key, self.footer, assertion);
-        parse_opened(&self.checks, self.moment, opened)
+        let alloc = self.checks.allocator();
+        let opened = V::open(alloc, token, key, self.footer, assertion);
+        parse_opened(&self.checks, &self.times(), opened)
     }
 }
 
@@ -241,11 +281,11 @@ impl TokenParser<'_, V2, Local, ValidatorFn> {
         key: &PasetoSymmetricKey<V2, Local>,
     ) -> Result<Value, GenericParserError>
         ensures { let binding = binding_of key.now self.now.footer None in
-            IsParseAnswer (box_opening S.sealing binding) (verdicts_of (λ b. verdict b) self.now.moment.nanosecond self.now.checks) token.now result }
+            IsParseAnswer (box_opening S.sealing binding) (verdicts_of (λ b. verdict b) (times_at self.now.moment self.now.leeway) self.now.checks) token.now result }
     {
         let alloc = self.checks.allocator();
         let opened = Paseto::<V2, Local>::try_decrypt(alloc, sealed_box, token, key, self.footer);
-        parse_opened(&self.checks, self.moment, opened)
+        parse_opened(&self.checks, &self.times(), opened)
     }
 }
 
@@ -266,11 +306,11 @@ impl<V> TokenParser<'_, V, Public, ValidatorFn> {
     where
         V: Verifies<S>,
         ensures { let binding = binding_of key.now self.now.footer (assertion_in V.public_design.binds_assertion self.now.implicit_assertion) in
-            IsParseAnswer (verification V.valid V.refused V.public_design binding) (verdicts_of (λ b. verdict b) self.now.moment.nanosecond self.now.checks) token.now result }
+            IsParseAnswer (verification V.valid V.refused V.public_design binding) (verdicts_of (λ b. verdict b) (times_at self.now.moment self.now.leeway) self.now.checks) token.now result }
     {
         let assertion = V::signed_assertion(self.implicit_assertion);
         let alloc = self.checks.allocator();
         let opened = V::verify(alloc, scheme, token, key, self.footer, assertion);
-        parse_opened(&self.checks, self.moment, opened)
+        parse_opened(&self.checks, &self.times(), opened)
     }
 }

@@ -5,46 +5,49 @@ ghost use Rattle.serde_json.specs.Data.{null};
 ghost use Rattle.serde_json.specs.View.{view};
 ghost use Rattle.rusty_paseto_claims.specs.Error.{IsFault};
 ghost use Rattle.rusty_paseto_generic.specs.Validator.{IfFault, IsFound};
-ghost use Rattle.rusty_paseto_generic.specs.Parsers.Verdicts.{Fails, Matches, IsMismatch, Passes, entry, mismatch as mismatch_fault};
+ghost use Rattle.rusty_paseto_generic.specs.Parsers.Verdicts.{Fails, IsMismatch, Matches, Meets, Misses, Passes, entry, mismatch as mismatch_fault};
 ghost use Rattle.rusty_paseto_generic.specs.Parsers.Held.{rule_of, judged, verdict_of};
 
 use crate::parsers::checks::{Check, Judge};
-use crate::parsers::times::{check_expiry, check_not_before};
+use crate::parsers::times::{Times, check_expiry, check_not_before};
 use crate::validator::ValidatorFn;
-use jiff::Timestamp;
 use rusty_paseto_claims::{PasetoClaimError, same_value};
 use serde_json::Value;
 use std::alloc::{AllocError, Global};
 
-/// Judges what a token's value has under a key, null where it has none: by the judge alone, where there is
-/// one, at the moment, and else by the stored value.
+/// Judges what a token's value has under a key, null where it has none: null fails where the key is required; then
+/// by the judge alone, where there is one, and else by the stored value.
 pub(crate) fn judge_entry(
     alloc: Global,
-    now: Timestamp,
+    times: &Times,
     key: &str,
     check: &Check<ValidatorFn>,
     value: &Value,
 ) -> Result<(), PasetoClaimError>
-    ensures ok { OnOk result (Passes (judged (λ b. verdict b) now.nanosecond (rule_of check.now)) key.now (entry key.now (view value.now))) }
-    ensures err { IfErr result (IfFault (Fails (judged (λ b. verdict b) now.nanosecond (rule_of check.now)) key.now (entry key.now (view value.now)))) }
+    ensures ok { OnOk result (Passes (judged (λ b. verdict b) times.now (rule_of check.now)) key.now (entry key.now (view value.now))) }
+    ensures err { IfErr result (IfFault (Fails (judged (λ b. verdict b) times.now (rule_of check.now)) key.now (entry key.now (view value.now)))) }
 {
     let null = Value::Null;
-    judge(alloc, now, key, check, entry_or(value, key, &null))
+    let found = entry_or(value, key, &null);
+    if check.required && found.is_null() {
+        return Err(PasetoClaimError::Missing(String::from_str(alloc, key)?));
+    }
+    judge(alloc, times, key, check, found)
 }
 
 // Judges the value that was found under a key.
 fn judge(
     alloc: Global,
-    now: Timestamp,
+    times: &Times,
     key: &str,
     check: &Check<ValidatorFn>,
     found: &Value,
 ) -> Result<(), PasetoClaimError>
-    ensures ok { OnOk result (Passes (judged (λ b. verdict b) now.nanosecond (rule_of check.now)) key.now (view found.now)) }
-    ensures err { IfErr result (IfFault (Fails (judged (λ b. verdict b) now.nanosecond (rule_of check.now)) key.now (view found.now))) }
+    ensures ok { OnOk result (Meets (judged (λ b. verdict b) times.now (rule_of check.now)) key.now (view found.now)) }
+    ensures err { IfErr result (IfFault (Misses (judged (λ b. verdict b) times.now (rule_of check.now)) key.now (view found.now))) }
 {
     if let Some(judge) = &check.judge {
-        return decide(alloc, now, key, judge, found);
+        return decide(alloc, times, key, judge, found);
     }
     match &check.stored {
         Some(stored) => compare(alloc, key, stored, found),
@@ -55,18 +58,18 @@ fn judge(
 // Judges the value by a judge alone.
 fn decide(
     alloc: Global,
-    now: Timestamp,
+    times: &Times,
     key: &str,
     judge: &Judge<ValidatorFn>,
     found: &Value,
 ) -> Result<(), PasetoClaimError>
-    ensures ok { OnOk result (verdict_of (λ b. verdict b) now.nanosecond judge.now key.now (view found.now) ≡ None) }
-    ensures err { IfErr result (IsFound (verdict_of (λ b. verdict b) now.nanosecond judge.now key.now (view found.now))) }
+    ensures ok { OnOk result (verdict_of (λ b. verdict b) times.now judge.now key.now (view found.now) ≡ None) }
+    ensures err { IfErr result (IsFound (verdict_of (λ b. verdict b) times.now judge.now key.now (view found.now))) }
 {
     match judge {
         Judge::Boxed(validator) => validator.validate(alloc, key, found),
-        Judge::Expiry => check_expiry(alloc, now, key, found),
-        Judge::NotBefore => check_not_before(alloc, now, key, found),
+        Judge::Expiry => check_expiry(alloc, times, key, found),
+        Judge::NotBefore => check_not_before(alloc, times, key, found),
     }
 }
 

@@ -9,39 +9,39 @@ ghost use Rattle.rusty_paseto_generic.specs.Parsers.Parsing.{IsOpenedAnswer, IsT
 use crate::error::GenericParserError;
 use crate::parsers::checks::Checks;
 use crate::parsers::reading::read_value;
+use crate::parsers::times::Times;
 use crate::parsers::walk::check_all;
 use crate::validator::ValidatorFn;
-use jiff::Timestamp;
 use rusty_paseto_core::PasetoError;
 use serde_json::Value;
 
-/// The value of a text, which passes all checks at the moment. Else it answers the first of these: `PayloadJsonError` for
-/// a text that is no JSON, `ClaimError` of `Unexpected` for a number that is not a whole number of 64 bits, and
+/// The value of a text, which passes all checks. Else it answers the first of these: `PayloadJsonError` for a text
+/// that is no JSON, `ClaimError` of `Unexpected` for a number that is not a whole number of 64 bits, and
 /// `ClaimError` for the first key in byte order that fails its check.
 pub(crate) fn parse_text(
     checks: &Checks<ValidatorFn>,
-    now: Timestamp,
+    times: &Times,
     text: &str,
 ) -> Result<Value, GenericParserError>
-    ensures ok { IfOk result (λ value. IsValueOf (verdicts_of (λ b. verdict b) now.nanosecond checks.now) text.now (view value)) }
-    ensures err { IfErr result (λ error. IsMemory error ⊎ IsTextFault (verdicts_of (λ b. verdict b) now.nanosecond checks.now) text.now error) }
+    ensures ok { IfOk result (λ value. IsValueOf (verdicts_of (λ b. verdict b) times.now checks.now) text.now (view value)) }
+    ensures err { IfErr result (λ error. IsMemory error ⊎ IsTextFault (verdicts_of (λ b. verdict b) times.now checks.now) text.now error) }
 {
     let alloc = checks.allocator();
     let value = read_value(alloc, text)?;
-    check_all(alloc, now, checks, &value)?;
+    check_all(alloc, times, checks, &value)?;
     Ok(value)
 }
 
-/// The value of the text that was opened or verified, which passes all checks at the moment, or why it was refused.
+/// The value of the text that was opened or verified, which passes all checks, or why it was refused.
 ///
 /// What a token's own parsing adds is here, once for all versions and purposes.
 pub(crate) fn parse_opened(
     checks: &Checks<ValidatorFn>,
-    now: Timestamp,
+    times: &Times,
     opened: Result<String, PasetoError>,
 ) -> Result<Value, GenericParserError>
-    ensures { IsOpenedAnswer (verdicts_of (λ b. verdict b) now.nanosecond checks.now) opened result }
+    ensures { IsOpenedAnswer (verdicts_of (λ b. verdict b) times.now checks.now) opened result }
 {
     let text = opened?;
-    parse_text(checks, now, text.as_str())
+    parse_text(checks, times, text.as_str())
 }

@@ -4,11 +4,11 @@ ghost use Rattle.std.specs.Borrow.{sem, LendsSoOk};
 ghost use Rattle.std.specs.Prelude.{◌≡◌, None, IfOk, IfErr, OnOk, OnErr};
 ghost use Rattle.serde_json.specs.View.{members_view};
 ghost use Rattle.rusty_paseto_claims.specs.Whole.{first_odd};
-ghost use Rattle.jiff.specs.declared.Timestamp.{Timestamp};
 ghost use Rattle.rusty_paseto_generic.specs.Error.Parser.{IsMemory, IsRefusal};
 ghost use Rattle.rusty_paseto_generic.specs.Parsers.Held.{judges_of, with_times};
-ghost use Rattle.rusty_paseto_generic.specs.Parsers.Rules.{AreSame, IsStored, Rules, all_judged, all_stored, fault_in, odd_fault, whole_answer, with_both, with_stored};
+ghost use Rattle.rusty_paseto_generic.specs.Parsers.Rules.{AreSame, IsStored, Rules, all_judged, all_stored, edited, fault_in, odd_fault, whole_answer, with_both, with_required, with_stored};
 ghost use Rattle.rusty_paseto_generic.specs.declared.parsers.checks.Judge.{Judge as JudgeOf};
+ghost use Rattle.jiff.specs.declared.Timestamp.{Timestamp};
 
 use crate::error::GenericParserError;
 use crate::itself::Itself;
@@ -62,6 +62,14 @@ pub trait CheckSetter<B> {
     /// Stores all validators.
     fn put_validators(&mut self, validators: BTreeMap<String, B>) -> Result<(), GenericParserError>
         ensures ok { OnOk result (AreSame (rules self.new) (all_judged (judges_of validators.entries) (rules self.old))) }
+        ensures moment { moment self.new ≡ moment self.old }
+        ensures rest { is_rest self.new self.old }
+        ensures err { OnErr result (AreSame (rules self.new) (rules self.old)) }
+        ensures fault { IfErr result IsMemory };
+
+    /// Requires that a token has a value under the key, and not null.
+    fn put_required(&mut self, key: &str) -> Result<(), GenericParserError>
+        ensures ok { OnOk result (AreSame (rules self.new) (edited key.now with_required (rules self.old))) }
         ensures moment { moment self.new ≡ moment self.old }
         ensures rest { is_rest self.new self.old }
         ensures err { OnErr result (AreSame (rules self.new) (rules self.old)) }
@@ -151,6 +159,28 @@ pub trait CheckSetter<B> {
         ensures fault { IfErr result IsMemory }
     {
         self.put_validators(validators)?;
+        Ok(self.itself())
+    }
+
+    /// Requires that a token has a value under the key, and not null: else `parse` answers `ClaimError` of `Missing`
+    /// with the key, in the place of the key's other checks and before them. What else is checked under the key is
+    /// kept. It lends the parser back, as `put_required` does not. Nothing but memory is refused.
+    ///
+    /// ```rust
+    /// parser.require_claim("exp")?.require_claim("sub")?;
+    /// ```
+    final fn require_claim<O>(&mut self, key: &str) -> Result<&mut O, GenericParserError>
+    where
+        Self: Itself<O>,
+        ensures* err { sem 𝓛 (LendsSoOk Self.row O.row self.entry result (λ last lent. last ≡ Self.whole lent)
+            (λ last. AreSame (rules last) (rules self.entry.now) × (moment last ≡ moment self.entry.now) × is_rest last self.entry.now)) }
+        ensures lent { IfOk result (λ lent. lent.ghost_name ≡ self.entry.ghost_name) }
+        ensures ok { IfOk result (λ lent. AreSame (rules (Self.whole lent.now)) (edited key.now with_required (rules self.entry.now))) }
+        ensures moment { IfOk result (λ lent. moment (Self.whole lent.now) ≡ moment self.entry.now) }
+        ensures rest { IfOk result (λ lent. is_rest (Self.whole lent.now) self.entry.now) }
+        ensures fault { IfErr result IsMemory }
+    {
+        self.put_required(key)?;
         Ok(self.itself())
     }
 

@@ -6,51 +6,78 @@ ghost use Rattle.serde_json.specs.Data.{null, string};
 ghost use Rattle.serde_json.specs.View.{view};
 ghost use Rattle.rusty_paseto_claims.specs.Error.{Fault, malformed_date};
 ghost use Rattle.rusty_paseto_generic.specs.Validator.{IfFault, IsFound};
-ghost use Rattle.rusty_paseto_generic.specs.Parsers.Times.{expiry, not_before, time_fault};
+ghost use Rattle.rusty_paseto_generic.specs.Parsers.Times.{expires_at, expiry, not_before, time_fault, usable_at};
 
 use jiff::Timestamp;
 use rusty_paseto_claims::PasetoClaimError;
 use serde_json::Value;
 use std::alloc::Global;
 
-/// Judges when a token expires: it is `Expired` where the instant is at or before the moment. A null value is
-/// skipped. Another one that is no text is `Unexpected` with the key, and a text from which `jiff` reads no
-/// `Timestamp` is `RFC3339Date` with the text.
+/// How many nanoseconds a second has.
+const SECOND: i128 = 1_000_000_000;
+
+/// When the times of a token are judged: at the moment, but `exp` by the leeway earlier, and `nbf` by it later.
+#[derive(Clone, Copy)]
+pub(crate) struct Times {
+    pub(crate) moment: Timestamp,
+    // In seconds.
+    pub(crate) leeway: u32,
+}
+
+impl Times {
+    // When the expiration is judged, in nanoseconds.
+    fn expires_at(self) -> i128
+        ensures { result ≡ expires_at self }
+    {
+        self.moment.as_nanosecond() - self.leeway as i128 * SECOND
+    }
+
+    // When the first moment of use is judged, in nanoseconds.
+    fn usable_at(self) -> i128
+        ensures { result ≡ usable_at self }
+    {
+        self.moment.as_nanosecond() + self.leeway as i128 * SECOND
+    }
+}
+
+/// Judges when a token expires: it is `Expired` where the instant is at or before the moment, less the leeway. A
+/// null value is skipped. Another one that is no text is `Unexpected` with the key, and a text from which `jiff`
+/// reads no `Timestamp` is `RFC3339Date` with the text.
 pub(crate) fn check_expiry(
     alloc: Global,
-    now: Timestamp,
+    times: &Times,
     key: &str,
     found: &Value,
 ) -> Result<(), PasetoClaimError>
-    ensures ok { OnOk result (expiry now.nanosecond key.now (view found.now) ≡ None) }
-    ensures err { IfErr result (IsFound (expiry now.nanosecond key.now (view found.now))) }
+    ensures ok { OnOk result (expiry times.now key.now (view found.now) ≡ None) }
+    ensures err { IfErr result (IsFound (expiry times.now key.now (view found.now))) }
 {
     let Some(text) = text_of(alloc, key, found)? else {
         return Ok(());
     };
     let instant = instant_of(alloc, text)?;
-    if instant.as_nanosecond() <= now.as_nanosecond() {
+    if instant.as_nanosecond() <= times.expires_at() {
         return Err(PasetoClaimError::Expired);
     }
     Ok(())
 }
 
 /// Judges from when on a token may be used: it is `UseBeforeAvailable`, with the text, where the instant is at
-/// or after the moment. The rest is as in `check_expiry`.
+/// or after the moment and the leeway. The rest is as in `check_expiry`.
 pub(crate) fn check_not_before(
     alloc: Global,
-    now: Timestamp,
+    times: &Times,
     key: &str,
     found: &Value,
 ) -> Result<(), PasetoClaimError>
-    ensures ok { OnOk result (not_before now.nanosecond key.now (view found.now) ≡ None) }
-    ensures err { IfErr result (IsFound (not_before now.nanosecond key.now (view found.now))) }
+    ensures ok { OnOk result (not_before times.now key.now (view found.now) ≡ None) }
+    ensures err { IfErr result (IsFound (not_before times.now key.now (view found.now))) }
 {
     let Some(text) = text_of(alloc, key, found)? else {
         return Ok(());
     };
     let instant = instant_of(alloc, text)?;
-    if now.as_nanosecond() <= instant.as_nanosecond() {
+    if times.usable_at() <= instant.as_nanosecond() {
         let text = String::from_str(alloc, text)?;
         return Err(PasetoClaimError::UseBeforeAvailable(text));
     }

@@ -8,25 +8,25 @@ ghost use Rattle.rusty_paseto_generic.specs.Parsers.Verdicts.{IsFirstFailing, Pa
 
 use crate::parsers::checks::Checks;
 use crate::parsers::judge::judge_entry;
+use crate::parsers::times::Times;
 use crate::validator::ValidatorFn;
-use jiff::Timestamp;
 use rusty_paseto_claims::PasetoClaimError;
 use serde_json::Value;
 use std::alloc::Global;
 
-/// Judges what a token's value has under each key with a check, at the moment, in byte order of the keys, up
-/// to the first that fails.
+/// Judges what a token's value has under each key with a check, in byte order of the keys, up to the first that
+/// fails.
 pub(crate) fn check_all(
     alloc: Global,
-    now: Timestamp,
+    times: &Times,
     checks: &Checks<ValidatorFn>,
     value: &Value,
 ) -> Result<(), PasetoClaimError>
-    ensures ok { OnOk result (PassesAll (verdicts_of (λ b. verdict b) now.nanosecond checks.now) (view value.now)) }
-    ensures err { IfErr result (IfFault (IsFirstFailing (verdicts_of (λ b. verdict b) now.nanosecond checks.now) (view value.now))) }
+    ensures ok { OnOk result (PassesAll (verdicts_of (λ b. verdict b) times.now checks.now) (view value.now)) }
+    ensures err { IfErr result (IfFault (IsFirstFailing (verdicts_of (λ b. verdict b) times.now checks.now) (view value.now))) }
 {
     for (key, check) in checks.entries.iter() {
-        judge_entry(alloc, now, key.as_str(), check, value)?;
+        judge_entry(alloc, times, key.as_str(), check, value)?;
     }
     Ok(())
 }

@@ -5,7 +5,7 @@ use mathlib.Core.List.{[], ◌∷◌}
 use seplogic.Ra.Ura.{Ura}
 use mir.Syntax.{Args, Fn, named, a_type}
 use mir.MapTy.{inst_fn}
-use mir.Val.{Val, vptr}
+use mir.Val.{vptr}
 use base.Logic.{SProp, ent, emp, wand}
 use base.Fml.{Lft, GName, Share, Fml, ftrue, flft, fsep, feq, fex, fauth, fres}
 use prog.Memory.{Memory}
@@ -16,7 +16,7 @@ use contract.Lifetimes.{AllOutlive}
 use contract.Monad.{Fun}
 use contract.Running.{tables, tables_of}
 use sound.WpLaws.{WpFn-mono}
-use types.Kit.{‵, ◌⊛◌, raw, ◌$◌, ◌∵◌, !, qed, by, move, keep, split, join, fsplit, fjoin, fpack, feq_i, use0, each, assume, suffices, frame, done}
+use types.Kit.{‵, ◌⊛◌, raw, ◌$◌, ◌∵◌, !, qed, by, move, keep, join, fsplit, fjoin, fpack, feq_i, use0, each, assume, suffices, frame, done}
 use types.Run.{stop, addr, returns, enter}
 use types.ByLocal.{alloc_all, pass_all, free_all, look_at, through, sets}
 use denote.Builtin.{RefMutOf}

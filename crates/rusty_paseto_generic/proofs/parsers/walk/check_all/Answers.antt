@@ -9,10 +9,10 @@ returns-in_err-judge_entry-clause-err g c =
     let among = rw c.in-Some.ensures.steps at c.loop-key.invariant.fails in
     let fault = rw c.as_str.ensures.value at c.in_err-judge_entry.ensures.err in
     rw (answered.1, answered.2)
-    (fault_among (λ b. (goal.Validator-dyn g (b.vtable, b.value)).verdict b.value) c.args.now.nanosecond (view c.args.value.now) c.args.checks.now.entries.entries
+    (fault_among (λ b. (goal.Validator-dyn g (b.vtable, b.value)).verdict b.value) c.args.times.now (view c.args.value.now) c.args.checks.now.entries.entries
     (c.in-Some.key.now, c.in-Some.check.now) c.next.new.self c.in_err-judge_entry.field-0.0 c.iter-key-items.ensures.ordered among fault)
 
 pub returns-clause-ok : goal.returns-clause-ok
 returns-clause-ok g c =
     let all = rw c.in-None.ensures.steps.0 at c.loop-key.invariant.passes in
-    passes_all (λ b. (goal.Validator-dyn g (b.vtable, b.value)).verdict b.value) c.args.now.nanosecond (view c.args.value.now) c.args.checks.now.entries.entries (all tt)
+    passes_all (λ b. (goal.Validator-dyn g (b.vtable, b.value)).verdict b.value) c.args.times.now (view c.args.value.now) c.args.checks.now.entries.entries (all tt)

@@ -5,8 +5,8 @@ use Rattle.rusty_paseto_generic.proofs.parsers.walk.check_all.Given as goal
 
 abbrev pub invariant-loop-key : goal.invariant-loop-key
 invariant-loop-key g l = record {
-  passes : EachPasses (λ b. (goal.Validator-dyn g (b.vtable, b.value)).verdict b.value) l.now.nanosecond (view l.value) l.key-iterator
-      → EachPasses (λ b. (goal.Validator-dyn g (b.vtable, b.value)).verdict b.value) l.now.nanosecond (view l.value) l.checks.entries.entries;
-  fails : (fault : Fault) → FailsFirst (λ b. (goal.Validator-dyn g (b.vtable, b.value)).verdict b.value) l.now.nanosecond (view l.value) l.key-iterator fault
-      → FailsFirst (λ b. (goal.Validator-dyn g (b.vtable, b.value)).verdict b.value) l.now.nanosecond (view l.value) l.checks.entries.entries fault;
+  passes : EachPasses (λ b. (goal.Validator-dyn g (b.vtable, b.value)).verdict b.value) l.times (view l.value) l.key-iterator
+      → EachPasses (λ b. (goal.Validator-dyn g (b.vtable, b.value)).verdict b.value) l.times (view l.value) l.checks.entries.entries;
+  fails : (fault : Fault) → FailsFirst (λ b. (goal.Validator-dyn g (b.vtable, b.value)).verdict b.value) l.times (view l.value) l.key-iterator fault
+      → FailsFirst (λ b. (goal.Validator-dyn g (b.vtable, b.value)).verdict b.value) l.times (view l.value) l.checks.entries.entries fault;
 }

@@ -1,0 +1,27 @@
+//! An error beside what caused it.
+
+use rusty_paseto_core::PasetoError;
+use std::fmt;
+
+/// What shows an error and, behind a colon, its cause where it has one: one line, without its end. `explained` of the
+/// errors of builders and parsers makes it.
+#[derive(Clone, Copy)]
+pub struct Explained<'a, E> {
+    error: &'a E,
+    cause: Option<&'a PasetoError>,
+}
+
+impl<'a, E> Explained<'a, E> {
+    pub(crate) fn new(error: &'a E, cause: Option<&'a PasetoError>) -> Self {
+        Explained { error, cause }
+    }
+}
+
+impl<E: fmt::Display> fmt::Display for Explained<'_, E> {
+    fn fmt<W: fmt::Write>(&self, f: &mut fmt::Formatter<W>) -> fmt::Result {
+        match self.cause {
+            Some(cause) => write!(f, "{}: {}", self.error, cause),
+            None => write!(f, "{}", self.error),
+        }
+    }
+}
