@@ -1,6 +1,5 @@
 -- What a ring answers for a token whose claims a parser checks.
-use Rattle.std.proofs.Common.{◌≡◌, ◌⊎◌, inl, inr, ⊎_elim, ℕ, List, Bool, true, false, Option, None, Result, Ok, Err, String, Global, string_bytes, refl, sym, ap, subst}
-use Rattle.serde_json.specs.View.{view}
+use Rattle.std.proofs.Common.{◌≡◌, ◌⊎◌, inl, inr, ⊎_elim, ℕ, List, Bool, true, false, Option, None, Result, Ok, Err, String, Global, string_bytes, refl, sym, subst}
 use Rattle.serde_json.specs.declared.value.Value.{Value}
 use Rattle.rusty_paseto_generic.specs.Error.Parser.{IsMemory as IsMemoryOfParser}
 use Rattle.rusty_paseto_generic.specs.Parsers.Parsing.{IsTextAnswer, IsTextFault, IsValueOf, assertion_in}
@@ -10,9 +9,10 @@ use Rattle.rusty_paseto_generic.specs.declared.error.GenericParserError.{Generic
 use Rattle.rusty_paseto_generic.specs.declared.error.GenericParserError.TheVariants.{ClaimError, CipherError, PayloadJsonError, Memory as OutOfMemory}
 use Rattle.rusty_paseto_core.specs.declared.ImplicitAssertion.{ImplicitAssertion}
 use Rattle.rusty_paseto_parts.specs.declared.error.PasetoError.TheVariants.{IncorrectSize}
-use Rattle.rusty_paseto.specs.KeyRing.{IsFirstFault, IsFirstParsingFault, IsMemory, IsNoMemory, IsOpened, IsParsed, IsParsingAnswer, IsRingAnswer, Keys, Readings, of_parser, of_ring}
+use Rattle.rusty_paseto.specs.KeyRing.{IsClaimsAnswer, IsFirstFault, IsFirstParsingFault, IsMemory, IsNoMemory, IsParsed, IsParsingAnswer, IsRingAnswer, Keys, Readings, of_parser, of_ring}
 use Rattle.rusty_paseto.specs.declared.error.KeyRingError.{KeyRingError}
 use Rattle.rusty_paseto.specs.declared.error.KeyRingError.TheVariants.{Untrusted, NoFooter, NotAnObject, NoKeyId, UnknownKey, Token, Memory}
+use Rattle.rusty_paseto.specs.declared.error.KeyRingParserError.{KeyRingParserError}
 use Rattle.rusty_paseto.specs.declared.error.KeyRingParserError.TheVariants.{Ring, Parser}
 
 -- the assertion that a token is bound to in a version that has one
@@ -37,7 +37,7 @@ of_parser-cases (CipherError source) = inr (λ memory. memory, refl)
 of_parser-cases (PayloadJsonError source) = inr (λ memory. memory, refl)
 of_parser-cases (OutOfMemory refused) = inl (tt, tt)
 
-module _ (keys : Keys) (reading : Readings) (rules : Rules Verdict) (token : List ℕ) where
+module _ (keys : Keys (List ℕ)) (reading : Readings) (rules : Rules Verdict) (token : List ℕ) where
   ring_fault : (error : KeyRingError) → IsMemory error ⊎ IsFirstFault keys reading token error
       → IsNoMemory (of_ring error) ⊎ IsFirstParsingFault keys reading rules token (of_ring error)
   ring_fault error (inl memory) = ⊎_elim (λ is. inl is.1) (λ other. absurd (other.0 memory)) (of_ring-cases error)
@@ -83,3 +83,11 @@ module _ (keys : Keys) (reading : Readings) (rules : Rules Verdict) (token : Lis
       count = λ other. let none = opened.count other in absurd (cc none);
       fault = tt;
     }
+
+  -- the answer for the claims of what the ring opened
+  pub claims_answer : (opened : Result (String Global × String Global) KeyRingError) (result : Result (String Global × Value) KeyRingParserError)
+      → IsRingAnswer keys reading token opened → IsClaimsAnswer rules opened result → IsParsingAnswer keys reading rules token result
+  claims_answer (Err error) result answer is = rw is (unopened error answer)
+  claims_answer (Ok opened) (Ok found) answer is =
+      subst (λ id. IsParsingAnswer keys reading rules token (Ok (id, found.1))) (sym is.0) (read_as opened.0 opened.1 answer found.1 is.1)
+  claims_answer (Ok opened) (Err error) answer is = rw is.1 (refused opened.0 opened.1 answer is.0 is.2)

@@ -3,3 +3,4 @@ pub mod KeyLemmas
 pub mod KeyRingLemmas
 pub mod KeyRingParsing
 pub mod StaysOut
+pub mod ValidatorLemmas

@@ -1,5 +1,5 @@
--- A ring of keys, and what it answers for a token, whose footer names the key.
-use Rattle.std.specs.Prelude.{◌≡◌, ◌≢◌, ◌⊎◌, ⊤, ℕ, List, if◌then◌else◌, Option, Some, None, bytes_eq, codes, IsSome, Result, Ok, Err, IfOk, IfErr, MatchResult, String, string_bytes}
+-- Rings of keys, and what they answer for a token, whose footer names the key.
+use Rattle.std.specs.Prelude.{◌≡◌, ◌⊎◌, ⊤, ℕ, List, if◌then◌else◌, Option, Some, None, bytes_eq, codes, IsSome, Result, Ok, Err, IfOk, IfErr, MatchResult, String, string_bytes}
 use Rattle.std.specs.Global.{Global}
 use Rattle.std.specs.List.{slice_get}
 use Rattle.serde_json.specs.Data.{Data, string}
@@ -16,7 +16,7 @@ use Rattle.rusty_paseto_parts.specs.UntrustedToken.{HasFooterText, IsTokenFooter
 use Rattle.rusty_paseto_parts.specs.declared.error.PasetoError.{PasetoError}
 use Rattle.rusty_paseto_parts.specs.declared.error.PasetoError.TheVariants as Cipher
 use Rattle.rusty_paseto.specs.declared.error.KeyRingError.{KeyRingError}
-use Rattle.rusty_paseto_generic.specs.Parsers.Parsing.{IsTextFault, IsValueOf}
+use Rattle.rusty_paseto_generic.specs.Parsers.Parsing.{IsTextAnswer, IsTextFault, IsValueOf}
 use Rattle.rusty_paseto_generic.specs.Parsers.Rules.{Rules}
 use Rattle.rusty_paseto_generic.specs.Validator.{Verdict}
 use Rattle.rusty_paseto_generic.specs.declared.error.GenericParserError.{GenericParserError}
@@ -28,19 +28,19 @@ use Rattle.rusty_paseto.specs.declared.error.KeyRingError.TheVariants.{Untrusted
 -- ---- the keys
 
 -- the key of each id, where it has one
-abbrev pub Keys : Type 0
-Keys = List ℕ → Option (List ℕ)
+abbrev pub Keys : Type 0 → Type 0
+Keys K = List ℕ → Option K
 
 -- each id has the same key
-abbrev pub AreSame : Keys → Keys → Type 0
+abbrev pub AreSame : {K : Type 0} → Keys K → Keys K → Type 0
 AreSame keys others = (id : List ℕ) → keys id ≡ others id
 
 -- the id has the key, and every other id has what it had
-abbrev pub with_key : List ℕ → List ℕ → Keys → Keys
+abbrev pub with_key : {K : Type 0} → List ℕ → K → Keys K → Keys K
 with_key id key old other = if bytes_eq id other then Some key else old other
 
 -- the id has no key, and every other id has what it had
-abbrev pub without_key : List ℕ → Keys → Keys
+abbrev pub without_key : {K : Type 0} → List ℕ → Keys K → Keys K
 without_key id old other = if bytes_eq id other then None else old other
 
 -- ---- the footer
@@ -72,7 +72,7 @@ IsNamingFault footer NoKeyId = (value : Data) × IsObject footer value × ((id :
 IsNamingFault footer _ = ⊥
 
 -- the error is the first reason why the footer names no key of these: it names no id, or one that has none
-abbrev pub IsKeyFault : Keys → List ℕ → KeyRingError → Type 0
+abbrev pub IsKeyFault : {K : Type 0} → Keys K → List ℕ → KeyRingError → Type 0
 IsKeyFault keys footer (UnknownKey id) = Names footer (string_bytes id) × (keys (string_bytes id) ≡ None)
 IsKeyFault keys footer error = IsNamingFault footer error
 
@@ -87,30 +87,30 @@ read_under None own = own
 abbrev pub Readings : Type 1
 Readings = List ℕ → List ℕ → Reading
 
--- the token's footer, which is this text, names the id
-pub record NamesKey (token footer id : List ℕ) : Type 0 where
+-- the token's footer, which is this text, names the id, whose key in the ring is this
+pub record IsFound {K : Type 0} (keys : Keys K) (token footer id : List ℕ) (key : K) : Type 0 where
   pub has : HasFooter token (Some footer)
   pub names : Names footer id
-
--- the token's footer names the id, whose key in the ring reads the token as the text, under the footer as it stands
-pub record IsOpened (keys : Keys) (reading : Readings) (token id text : List ℕ) : Type 0 where
-  pub footer : List ℕ
-  pub named : NamesKey token footer id
-  pub key : List ℕ
   pub has_key : keys id ≡ Some key
+
+-- the error is the first reason why no key is found: the footer is not read, there is none, or it names no key
+abbrev pub IsFindingFault : {K : Type 0} → Keys K → List ℕ → KeyRingError → Type 0
+IsFindingFault keys token (Untrusted source) = (¬ IsMemoryOfCipher source) × IsTokenFooterFault (sections token) source
+IsFindingFault keys token NoFooter = HasFooter token None
+IsFindingFault keys token error = (footer : List ℕ) × HasFooter token (Some footer) × IsKeyFault keys footer error
+
+-- the key that is found reads the token as the text, under the footer as it stands
+pub record IsOpened (keys : Keys (List ℕ)) (reading : Readings) (token id text : List ℕ) : Type 0 where
+  pub footer : List ℕ
+  pub key : List ℕ
+  pub found : IsFound keys token footer id key
   pub is_read : IsRead (reading key footer) token text
 
--- the error is the first fault: one of finding the footer, no footer, one of what it names, an id that is not in the
--- ring, or one of reading the token under the key
-abbrev pub IsFirstFault : Keys → Readings → List ℕ → KeyRingError → Type 0
-IsFirstFault keys reading token (Untrusted source) = (¬ IsMemoryOfCipher source) × IsTokenFooterFault (sections token) source
-IsFirstFault keys reading token NoFooter = HasFooter token None
-IsFirstFault keys reading token (UnknownKey id) =
-    (footer : List ℕ) × NamesKey token footer (string_bytes id) × (keys (string_bytes id) ≡ None)
-IsFirstFault keys reading token (Token source) =
-    (footer : List ℕ) × (id : List ℕ) × NamesKey token footer id
-    × ((key : List ℕ) × (keys id ≡ Some key) × (¬ IsMemoryOfCipher source) × IsFault (reading key footer) token source)
-IsFirstFault keys reading token error = (footer : List ℕ) × HasFooter token (Some footer) × IsNamingFault footer error
+-- the error is the first fault: one of finding the key, or else one of reading the token under it
+abbrev pub IsFirstFault : Keys (List ℕ) → Readings → List ℕ → KeyRingError → Type 0
+IsFirstFault keys reading token (Token source) = (footer : List ℕ) × (id : List ℕ) × (key : List ℕ)
+    × IsFound keys token footer id key × (¬ IsMemoryOfCipher source) × IsFault (reading key footer) token source
+IsFirstFault keys reading token error = IsFindingFault keys token error
 
 -- memory was refused
 abbrev pub IsMemory : KeyRingError → Type 0
@@ -123,7 +123,7 @@ IsPair id text found = (string_bytes found.0 ≡ id) × (string_bytes found.1 �
 
 -- the answer for a token: an id and a text as which it is opened, these wherever there are such unless memory is
 -- refused, and else the first fault; a wrong number of sections whatever memory there is
-pub record IsRingAnswer (keys : Keys) (reading : Readings) (token : List ℕ) (result : Result (String Global × String Global) KeyRingError) : Type 0 where
+pub record IsRingAnswer (keys : Keys (List ℕ)) (reading : Readings) (token : List ℕ) (result : Result (String Global × String Global) KeyRingError) : Type 0 where
   pub opened : IfOk result (λ found. IsOpened keys reading token (string_bytes found.0) (string_bytes found.1))
   pub complete : (id text : List ℕ) → IsOpened keys reading token id text → MatchResult result (IsPair id text) IsMemory
   pub count : ¬ HasCount (sections token) → result ≡ Err (Untrusted Cipher.IncorrectSize)
@@ -132,13 +132,13 @@ pub record IsRingAnswer (keys : Keys) (reading : Readings) (token : List ℕ) (r
 -- ---- the claims
 
 -- the token opens as a text, and that is read as the value, which passes what is checked under every key
-pub record IsParsed (keys : Keys) (reading : Readings) (rules : Rules Verdict) (token id : List ℕ) (value : Data) : Type 0 where
+pub record IsParsed (keys : Keys (List ℕ)) (reading : Readings) (rules : Rules Verdict) (token id : List ℕ) (value : Data) : Type 0 where
   pub text : List ℕ
   pub is_opened : IsOpened keys reading token id text
   pub is_value : IsValueOf rules text value
 
 -- the error is the first fault: one of opening the token, or else of the text as which it opens
-abbrev pub IsFirstParsingFault : Keys → Readings → Rules Verdict → List ℕ → KeyRingParserError → Type 0
+abbrev pub IsFirstParsingFault : Keys (List ℕ) → Readings → Rules Verdict → List ℕ → KeyRingParserError → Type 0
 IsFirstParsingFault keys reading rules token (Ring source) = IsFirstFault keys reading token source
 IsFirstParsingFault keys reading rules token (Parser source) =
     (id : List ℕ) × (text : List ℕ) × IsOpened keys reading token id text × IsTextFault rules text source
@@ -155,7 +155,7 @@ IsIdAndValue id value found = (string_bytes found.0 ≡ id) × (view found.1 ≡
 
 -- the answer for a token: an id and the value as which it is parsed, these wherever there are such unless memory is
 -- refused, and else the first fault; a wrong number of sections whatever memory there is
-pub record IsParsingAnswer (keys : Keys) (reading : Readings) (rules : Rules Verdict) (token : List ℕ)
+pub record IsParsingAnswer (keys : Keys (List ℕ)) (reading : Readings) (rules : Rules Verdict) (token : List ℕ)
     (result : Result (String Global × Value) KeyRingParserError) : Type 0 where
   pub parsed : IfOk result (λ found. IsParsed keys reading rules token (string_bytes found.0) (view found.1))
   pub complete : (id : List ℕ) (value : Data) → IsParsed keys reading rules token id value
@@ -174,6 +174,14 @@ of_ring error = Ring error
 abbrev pub of_parser : GenericParserError → KeyRingParserError
 of_parser (Generic.Memory refused) = NoMemory refused
 of_parser error = Parser error
+
+-- the answer for what a ring opened: the id and the value of its text, or else the fault of the ring or of the text
+abbrev pub IsClaimsAnswer : Rules Verdict → Result (String Global × String Global) KeyRingError
+    → Result (String Global × Value) KeyRingParserError → Type 0
+IsClaimsAnswer rules (Err error) result = result ≡ Err (of_ring error)
+IsClaimsAnswer rules (Ok opened) (Ok found) = (found.0 ≡ opened.0) × IsTextAnswer rules (string_bytes opened.1) (Ok found.1)
+IsClaimsAnswer rules (Ok opened) (Err error) =
+    (source : GenericParserError) × (error ≡ of_parser source) × IsTextAnswer rules (string_bytes opened.1) (Err source)
 
 -- the error is the first fault of finding the footer: one of reading the token's sections, or no footer
 abbrev pub IsUntrustedFault : List ℕ → KeyRingError → Type 0

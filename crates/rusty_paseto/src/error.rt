@@ -1,6 +1,7 @@
 //! The general error, and why a key ring refused a token.
 
-ghost use Rattle.std.specs.Prelude.{◌≡◌};
+ghost use Rattle.std.specs.Prelude.{◌≡◌, option_map};
+ghost use Rattle.rusty_paseto.specs.Error.{cause_of, ring_cause_of};
 ghost use Rattle.rusty_paseto.specs.KeyRing.{of_parser, of_ring};
 ghost use Rattle.rusty_paseto.specs.declared.error.KeyRingError.TheVariants.{Memory};
 
@@ -42,8 +43,9 @@ pub enum KeyRingError {
     /// The object has no text under `kid`.
     #[error("The footer names no key")]
     NoKeyId,
-    /// The ring has no key of the id that the footer names.
-    #[error("The key '{0}' is not in the ring")]
+    /// The ring has no key of the id that the footer names. The id is whatever stood in the token: the error's text
+    /// shows it escaped, so that it stays on one line of a log.
+    #[error("The key {0:?} is not in the ring")]
     UnknownKey(String),
     /// The token was not opened under the key that its footer names.
     #[error("{0}")]
@@ -51,6 +53,18 @@ pub enum KeyRingError {
     /// Memory was refused.
     #[error("No memory was found")]
     Memory(AllocError),
+}
+
+impl KeyRingError {
+    /// Why the token was not read or opened, where it was not. The error's own text is that of its cause.
+    pub fn cause(&self) -> Option<&PasetoError>
+        ensures { option_map (λ cause. cause.now) result ≡ ring_cause_of self.now }
+    {
+        match self {
+            KeyRingError::Untrusted(source) | KeyRingError::Token(source) => Some(source),
+            _ => None,
+        }
+    }
 }
 
 impl From<AllocError> for KeyRingError {
@@ -75,6 +89,27 @@ pub enum KeyRingParserError {
     /// Memory was refused.
     #[error("No memory was found")]
     Memory(AllocError),
+}
+
+impl KeyRingParserError {
+    /// Why the token was not read or opened, where it was not. The error's own text is that of its cause.
+    ///
+    /// ```rust
+    /// match ring.parse(&parser, token) {
+    ///     Err(error) if error.cause().is_some() => println!(rt; "no token of ours: {error}")?,
+    ///     Err(KeyRingParserError::Parser(refused)) => println!(rt; "not now, or not here: {refused}")?,
+    ///     ..
+    /// }
+    /// ```
+    pub fn cause(&self) -> Option<&PasetoError>
+        ensures { option_map (λ cause. cause.now) result ≡ cause_of self.now }
+    {
+        match self {
+            KeyRingParserError::Ring(source) => source.cause(),
+            KeyRingParserError::Parser(source) => source.cause(),
+            KeyRingParserError::Memory(_) => None,
+        }
+    }
 }
 
 impl From<KeyRingError> for KeyRingParserError {

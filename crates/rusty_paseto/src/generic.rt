@@ -2,7 +2,7 @@
 
 pub use rusty_paseto_generic::{
     AssertionVersion, Audience, AudienceClaim, CheckSetter, ClaimSetter, ClaimValue, CompressedKey,
-    CustomClaim, DateClaim, Expiration, ExpirationClaim, Footer, GenericBuilder,
+    CustomClaim, DateClaim, Expiration, ExpirationClaim, Explained, Footer, GenericBuilder,
     GenericBuilderError, GenericParser, GenericParserError, Header, ImplicitAssertion,
     ImplicitAssertionCapable, IssuedAt, IssuedAtClaim, Issuer, IssuerClaim, Itself, Key, Local,
     LocalVersion, NotBefore, NotBeforeClaim, Opening, Paseto, PasetoAsymmetricPrivateKey,

@@ -21,10 +21,11 @@ pub mod paseto_core;
 mod paseto_parser;
 pub mod prelude;
 mod setter;
+pub mod validators;
 mod version;
 
 pub use error::{GeneralPasetoError, KeyRingError, KeyRingParserError};
-pub use key_ring::KeyRing;
+pub use key_ring::{KeyRing, PublicKeyRing, Ring};
 pub use moment::fits_default;
 pub use paseto_builder::PasetoBuilder;
 pub use paseto_parser::{DefaultParser, PasetoParser};

@@ -7,6 +7,7 @@ ghost use Rattle.rusty_paseto_core.specs.Local.Opening.{opening};
 ghost use Rattle.rusty_paseto_core.specs.Public.Verifying.{verification};
 ghost use Rattle.rusty_paseto_generic.specs.Error.Parser.{IsMemory};
 ghost use Rattle.rusty_paseto_generic.specs.Parsers.Held.{judges_of, rules_of, verdicts_of, with_times};
+ghost use Rattle.rusty_paseto_generic.specs.Parsers.Times.{times_at};
 ghost use Rattle.rusty_paseto_generic.specs.Parsers.Parsing.{IsParseAnswer, assertion_in};
 ghost use Rattle.rusty_paseto_generic.specs.Parsers.Rules.{AreSame, all_judged, no_rule};
 
@@ -26,15 +27,18 @@ use std::collections::BTreeMap;
 /// A parser of tokens that refuses what has expired and what may not be used yet, where it is made by
 /// `default`: the usual parser beside a [`PasetoBuilder`](crate::PasetoBuilder).
 ///
-/// The moment of both is the one that the parser was made with, or that `set_now` brought since. A claim that is
-/// to be checked beyond that comes with `check_claim`, or with `validate_claim` and the caller's own validator.
+/// The moment of both is the one that the parser was made with, or that `set_now` brought since. `set_leeway` allows for
+/// clocks that differ. A token without `exp` never expires: `require_claim("exp")` demands it. A claim that is to be
+/// checked beyond that comes with `check_claim`, or with `validate_claim` and one of the crate's
+/// [`validators`](crate::validators), or the caller's own.
 ///
-/// A call that refuses leaves the parser as it was. `check_claim` and `validate_claim` lend the parser back, for
-/// chains of calls; `put_check` and `put_validator` are the same edits for code that goes on after a refusal.
+/// A call that refuses leaves the parser as it was. `check_claim`, `validate_claim` and `require_claim` lend the parser
+/// back, for chains of calls; `put_check`, `put_validator` and `put_required` are the same edits for code that goes on
+/// after a refusal.
 ///
 /// ```rust
 /// let mut parser = PasetoParser::<V4, Local>::default(alloc, now)?;
-/// parser.check_claim(&AudienceClaim::from("customers"))?.set_footer(Footer::from("key-1"));
+/// parser.check_claim(&AudienceClaim::from("customers"))?.require_claim("exp")?.set_leeway(5);
 /// let claims = parser.parse(token, &key)?;
 /// ```
 pub type PasetoParser<'a, V, P> = DefaultParser<'a, V, P, ValidatorFn>;
@@ -50,6 +54,7 @@ impl<'a, V: VersionTrait, P: PurposeTrait, B: Drop> DefaultParser<'a, V, P, B> {
     /// of the allocator, and none is taken yet.
     pub fn new(alloc: Global) -> Self
         ensures checks { AreSame (rules_of result.parser.checks) (λ key. no_rule) }
+        ensures leeway { result.parser.leeway ≡ 0 }
         ensures footer { result.parser.footer ≡ None }
         ensures implicit_assertion { result.parser.implicit_assertion ≡ None }
     {
@@ -62,7 +67,7 @@ impl<'a, V: VersionTrait, P: PurposeTrait, B: Drop> DefaultParser<'a, V, P, B> {
     /// check, no footer and no implicit assertion. Nothing but memory is refused.
     pub fn default(alloc: Global, now: Timestamp) -> Result<Self, GenericParserError>
         ensures checks { IfOk result (λ made. AreSame (rules_of made.parser.checks) (with_times (λ key. no_rule))) }
-        ensures moment { IfOk result (λ made. made.parser.moment ≡ now) }
+        ensures times { IfOk result (λ made. (made.parser.moment ≡ now) × (made.parser.leeway ≡ 0)) }
         ensures footer { IfOk result (λ made. made.parser.footer ≡ None) }
         ensures implicit_assertion { IfOk result (λ made. made.parser.implicit_assertion ≡ None) }
         ensures fault { IfErr result IsMemory }
@@ -82,6 +87,16 @@ impl<'a, V: VersionTrait, P: PurposeTrait, B: Drop> DefaultParser<'a, V, P, B> {
         self
     }
 
+    /// Sets how many seconds the clocks of issuer and reader may differ by, as `set_leeway` of a `GenericParser` does, and
+    /// keeps the rest: it is 0 until it is set. No memory is taken.
+    pub fn set_leeway(&mut self, seconds: u32) -> &mut Self
+        ensures lent { result.ghost_name ≡ self.entry.ghost_name }
+        ensures change { result.now.parser ≡ record self.entry.now.parser { leeway = seconds } }
+    {
+        self.parser.set_leeway(seconds);
+        self
+    }
+
     /// Sets the footer, the empty one too, and keeps the rest. No memory is taken.
     pub fn set_footer(&mut self, footer: Footer<'a>) -> &mut Self
         ensures lent { result.ghost_name ≡ self.entry.ghost_name }
@@ -98,7 +113,8 @@ impl<'a, V: VersionTrait, P: PurposeTrait, B: Drop> CheckSetter<B> for DefaultPa
     ghost moment = { λ made. made.parser.moment };
 
     ghost is_rest = { λ made other. (made.parser.footer ≡ other.parser.footer)
-        × (made.parser.implicit_assertion ≡ other.parser.implicit_assertion) };
+        × (made.parser.implicit_assertion ≡ other.parser.implicit_assertion)
+        × (made.parser.leeway ≡ other.parser.leeway) };
 
     fn put_check<C: PasetoClaim>(&mut self, claim: &C) -> Result<(), GenericParserError> {
         self.parser.put_check(claim)
@@ -119,11 +135,17 @@ impl<'a, V: VersionTrait, P: PurposeTrait, B: Drop> CheckSetter<B> for DefaultPa
     fn put_validators(&mut self, validators: BTreeMap<String, B>) -> Result<(), GenericParserError>
         ensures ok { OnOk result (AreSame (rules_of self.new.parser.checks) (all_judged (judges_of validators.entries) (rules_of self.old.parser.checks))) }
         ensures moment { self.new.parser.moment ≡ self.old.parser.moment }
-        ensures rest { (self.new.parser.footer ≡ self.old.parser.footer) × (self.new.parser.implicit_assertion ≡ self.old.parser.implicit_assertion) }
+        ensures rest { (self.new.parser.footer ≡ self.old.parser.footer)
+            × (self.new.parser.implicit_assertion ≡ self.old.parser.implicit_assertion)
+            × (self.new.parser.leeway ≡ self.old.parser.leeway) }
         ensures err { OnErr result (AreSame (rules_of self.new.parser.checks) (rules_of self.old.parser.checks)) }
         ensures fault { IfErr result IsMemory }
     {
         self.parser.put_validators(validators)
+    }
+
+    fn put_required(&mut self, key: &str) -> Result<(), GenericParserError> {
+        self.parser.put_required(key)
     }
 
     fn put_times(&mut self, now: Timestamp) -> Result<(), GenericParserError> {
@@ -154,7 +176,7 @@ impl<V: BoxlessVersion> DefaultParser<'_, V, Local, ValidatorFn> {
     ) -> Result<Value, GenericParserError>
         ensures { let parser = self.now.parser in
             let binding = binding_of key.now parser.footer (assertion_in V.design.binds_assertion parser.implicit_assertion) in
-            IsParseAnswer (opening V.design binding) (verdicts_of (λ b. verdict b) parser.moment.nanosecond parser.checks) token.now result }
+            IsParseAnswer (opening V.design binding) (verdicts_of (λ b. verdict b) (times_at parser.moment parser.leeway) parser.checks) token.now result }
     {
         self.parser.parse(token, key)
     }
@@ -173,7 +195,7 @@ impl DefaultParser<'_, V2, Local, ValidatorFn> {
     ) -> Result<Value, GenericParserError>
         ensures { let parser = self.now.parser in
             IsParseAnswer (box_opening S.sealing (binding_of key.now parser.footer None))
-            (verdicts_of (λ b. verdict b) parser.moment.nanosecond parser.checks) token.now result }
+            (verdicts_of (λ b. verdict b) (times_at parser.moment parser.leeway) parser.checks) token.now result }
     {
         self.parser.parse(sealed_box, token, key)
     }
@@ -195,7 +217,7 @@ impl<V> DefaultParser<'_, V, Public, ValidatorFn> {
         ensures { let parser = self.now.parser in
             let binding = binding_of key.now parser.footer (assertion_in V.public_design.binds_assertion parser.implicit_assertion) in
             IsParseAnswer (verification V.valid V.refused V.public_design binding)
-            (verdicts_of (λ b. verdict b) parser.moment.nanosecond parser.checks) token.now result }
+            (verdicts_of (λ b. verdict b) (times_at parser.moment parser.leeway) parser.checks) token.now result }
     {
         self.parser.parse(scheme, token, key)
     }

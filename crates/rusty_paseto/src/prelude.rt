@@ -2,11 +2,12 @@
 
 pub use crate::{
     AssertingVersion, BoxlessVersion, CountingSetter, DefaultParser, GeneralPasetoError, KeyRing,
-    KeyRingError, KeyRingParserError, PasetoBuilder, PasetoParser, fits_default,
+    KeyRingError, KeyRingParserError, PasetoBuilder, PasetoParser, PublicKeyRing, Ring,
+    fits_default,
 };
 pub use rusty_paseto_generic::{
     AssertionVersion, Audience, AudienceClaim, CheckSetter, ClaimSetter, ClaimValue, CompressedKey,
-    CustomClaim, DateClaim, Expiration, ExpirationClaim, Footer, GenericBuilder,
+    CustomClaim, DateClaim, Expiration, ExpirationClaim, Explained, Footer, GenericBuilder,
     GenericBuilderError, GenericParser, GenericParserError, Header, ImplicitAssertion,
     ImplicitAssertionCapable, IssuedAt, IssuedAtClaim, Issuer, IssuerClaim, Itself, Key, Local,
     LocalVersion, NotBefore, NotBeforeClaim, Opening, Paseto, PasetoAsymmetricPrivateKey,

@@ -2,7 +2,7 @@ use Rattle.std.proofs.Common.{◌≡◌, Err, ap, ◌∙◌}
 use Rattle.rusty_paseto_parts.specs.declared.error.PasetoError.TheVariants.{IncorrectSize}
 use Rattle.rusty_paseto.proofs.KeyRingLemmas.{handed_on}
 use Rattle.rusty_paseto.specs.declared.error.KeyRingError.TheVariants.{Untrusted}
-use Rattle.rusty_paseto.proofs.key_ring.footer_of.Goals as goal
+use Rattle.rusty_paseto.proofs.key_ring.naming.footer_of.Goals as goal
 
 pub returns-in-Err-clause-count : goal.returns-in-Err-clause-count
 returns-in-Err-clause-count c = λ none.

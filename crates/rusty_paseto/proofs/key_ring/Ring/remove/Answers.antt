@@ -1,6 +1,6 @@
 use Rattle.std.proofs.Common.{None}
 use Rattle.std.proofs.lemmas.Map.Text.{btree_map_updates_text}
-use Rattle.rusty_paseto.proofs.key_ring.KeyRing.remove.Goals as goal
+use Rattle.rusty_paseto.proofs.key_ring.Ring.remove.Goals as goal
 
 pub returns-clause-change : goal.returns-clause-change
 returns-clause-change g c =

@@ -1,6 +1,6 @@
 use Rattle.std.proofs.Common.{◌≡◌, None, inr, string_bytes, sym}
 use Rattle.rusty_paseto.specs.Held.{keys_of}
-use Rattle.rusty_paseto.proofs.key_ring.KeyRing.key_of.Goals as goal
+use Rattle.rusty_paseto.proofs.key_ring.Ring.key_of.Goals as goal
 
 pub returns-clause-err : goal.returns-clause-err
 returns-clause-err g c =

@@ -1,6 +1,6 @@
 use Rattle.std.proofs.Common.{Some, string_bytes}
 use Rattle.std.proofs.lemmas.Map.Text.{btree_map_updates_text}
-use Rattle.rusty_paseto.proofs.key_ring.KeyRing.put.Goals as goal
+use Rattle.rusty_paseto.proofs.key_ring.Ring.put.Goals as goal
 
 pub returns-clause-ok : goal.returns-clause-ok
 returns-clause-ok g c =

@@ -1,0 +1,107 @@
+//! Rings that open local tokens of versions 1, 3 and 4.
+
+ghost use Rattle.std.specs.Prelude.{◌≡◌, [], false, None};
+ghost use Rattle.rusty_paseto_core.specs.Context.{assertion_of};
+ghost use Rattle.rusty_paseto_core.specs.Local.Opening.{opening};
+ghost use Rattle.rusty_paseto_core.specs.Local.V1.{v1};
+ghost use Rattle.rusty_paseto_generic.specs.Parsers.Held.{verdicts_of};
+ghost use Rattle.rusty_paseto_generic.specs.Parsers.Times.{times_at};
+ghost use Rattle.rusty_paseto_generic.specs.Parsers.Parsing.{assertion_in};
+ghost use Rattle.rusty_paseto.specs.Held.{keys_of};
+ghost use Rattle.rusty_paseto.specs.KeyRing.{IsParsingAnswer, IsRingAnswer, read_under};
+
+use crate::error::{KeyRingError, KeyRingParserError};
+use crate::key_ring::claims::claims_of;
+use crate::key_ring::opened::answer;
+use crate::key_ring::{Found, Ring};
+use crate::paseto_parser::PasetoParser;
+use crate::version::{AssertingVersion, BoxlessVersion};
+use rusty_paseto_core::{Footer, ImplicitAssertion, Local, PasetoSymmetricKey, V1};
+use rusty_paseto_generic::GenericParser;
+use serde_json::Value;
+
+impl<V: BoxlessVersion> Ring<PasetoSymmetricKey<V, Local>> {
+    /// Opens a token under the key that its footer names and under the parser's implicit assertion, and answers the
+    /// id and the value of its text, which passes the parser's checks at the parser's moment. Where a footer was set
+    /// in the parser, the token's has to be that one.
+    ///
+    /// Else it answers the first of these: `Ring` with the fault of `open`, where `Token` of `FooterInvalid` tells of
+    /// another footer than the parser's; `Parser` with the fault of the text, as `parse` of the parser answers it.
+    /// `Memory` may come in place of any answer but that of a wrong number of sections.
+    pub fn parse(
+        &self,
+        parser: &PasetoParser<'_, V, Local>,
+        token: &str,
+    ) -> Result<(String, Value), KeyRingParserError>
+        ensures { let held = parser.now.parser in
+            let assertion = assertion_of (assertion_in V.design.binds_assertion held.implicit_assertion) in
+            IsParsingAnswer (keys_of self.now) (λ key footer. opening V.design (record { key = key; footer = read_under held.footer footer; assertion = assertion }))
+            (verdicts_of (λ b. verdict b) (times_at held.moment held.leeway) held.checks) token.now result }
+    {
+        self.parse_by(&parser.parser, token)
+    }
+
+    /// The same by a generic parser.
+    pub fn parse_by(
+        &self,
+        parser: &GenericParser<'_, V, Local>,
+        token: &str,
+    ) -> Result<(String, Value), KeyRingParserError>
+        ensures { let held = parser.now in
+            let assertion = assertion_of (assertion_in V.design.binds_assertion held.implicit_assertion) in
+            IsParsingAnswer (keys_of self.now) (λ key footer. opening V.design (record { key = key; footer = read_under held.footer footer; assertion = assertion }))
+            (verdicts_of (λ b. verdict b) (times_at held.moment held.leeway) held.checks) token.now result }
+    {
+        let assertion = V::bound_assertion(parser.expected_assertion());
+        let opened = self.open_bound(token, parser.expected_footer(), assertion);
+        claims_of(parser, opened)
+    }
+
+    // The id that the token's footer names, and the text as which the token opens under that id's key and the footer
+    // that is expected, its own where none is. In version 1, which has no implicit assertion, none may be given.
+    fn open_bound(
+        &self,
+        token: &str,
+        expected: Option<Footer<'_>>,
+        implicit_assertion: Option<ImplicitAssertion<'_>>,
+    ) -> Result<(String, String), KeyRingError>
+        requires { V.design.binds_assertion ≡ false → implicit_assertion ≡ None }
+        ensures { let assertion = assertion_of implicit_assertion.entry in
+            IsRingAnswer (keys_of self.now) (λ key footer. opening V.design (record { key = key; footer = read_under expected.entry footer; assertion = assertion })) token.now result }
+    {
+        let Found { footer, id, key } = self.find(token)?;
+        let bound = expected.unwrap_or(Footer::from(footer.as_str()));
+        let opened = V::open(self.alloc, token, key, Some(bound), implicit_assertion);
+        answer(id, opened)
+    }
+}
+
+impl Ring<PasetoSymmetricKey<V1, Local>> {
+    /// Opens a token under the key that its footer names, and checks no claim: the id, and the text that was sealed.
+    ///
+    /// Else it answers the first of these: `Untrusted` of `IncorrectSize` for a number of sections other than three
+    /// or four, and of `PayloadBase64Decode` or `Utf8Error` for a fourth section that holds no text; `NoFooter`;
+    /// `NotAnObject`; `NoKeyId`; `UnknownKey` with the id; `Token` with the fault of `try_decrypt` under that key
+    /// and that footer. `Memory` may come in place of any answer but the first.
+    pub fn open(&self, token: &str) -> Result<(String, String), KeyRingError>
+        ensures { IsRingAnswer (keys_of self.now) (λ key footer. opening v1 (record { key = key; footer = footer; assertion = [] })) token.now result }
+    {
+        self.open_bound(token, None, None)
+    }
+}
+
+impl<V: AssertingVersion> Ring<PasetoSymmetricKey<V, Local>> {
+    /// Opens a token under the key that its footer names, and under the implicit assertion, and checks no claim: the
+    /// id, and the text that was sealed. An absent assertion and the empty one are the same. The faults are those of
+    /// version 1, in the same order.
+    pub fn open(
+        &self,
+        token: &str,
+        implicit_assertion: Option<ImplicitAssertion<'_>>,
+    ) -> Result<(String, String), KeyRingError>
+        ensures { let assertion = assertion_of implicit_assertion.entry in
+            IsRingAnswer (keys_of self.now) (λ key footer. opening V.design (record { key = key; footer = footer; assertion = assertion })) token.now result }
+    {
+        self.open_bound(token, None, implicit_assertion)
+    }
+}
