@@ -1,12 +1,16 @@
 //! Default builders and parsers of tokens.
 
+mod causes;
 mod claims;
 mod examples;
 mod key_rings;
 mod kinds;
 mod moments;
 mod primes;
+mod public_rings;
 mod repeated;
+mod required;
 mod ring_parsing;
 mod rows;
 mod times;
+mod validators;

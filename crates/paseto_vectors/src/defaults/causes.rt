@@ -1,0 +1,47 @@
+//! Why a token was refused, behind the errors of builders, parsers and rings.
+
+use crate::expect::expect_text;
+use rusty_paseto::prelude::{
+    GenericBuilderError, GenericParserError, KeyRingError, KeyRingParserError, PasetoClaimError,
+    PasetoError,
+};
+use std::alloc::AllocError;
+
+#[test]
+fn of_builders(rt: HostRuntime) {
+    let alloc = rt.alloc();
+    let error = GenericBuilderError::from(PasetoError::ChaChaCipherError);
+    assert!(rt; matches!(error.cause(), Some(PasetoError::ChaChaCipherError)));
+    let text = error.explained().to_string(alloc).expect(&rt, "memory");
+    let expected = "A paseto cipher error occurred: An unspecified cipher error occurred";
+    expect_text(&rt, text.as_str(), expected);
+    let error = GenericBuilderError::from(PasetoClaimError::Expired);
+    assert!(rt; error.cause().is_none());
+    let text = error.explained().to_string(alloc).expect(&rt, "memory");
+    expect_text(&rt, text.as_str(), "This token is expired");
+}
+
+#[test]
+fn of_parsers(rt: HostRuntime) {
+    let alloc = rt.alloc();
+    let error = GenericParserError::from(PasetoError::FooterInvalid);
+    assert!(rt; matches!(error.cause(), Some(PasetoError::FooterInvalid)));
+    let text = error.explained().to_string(alloc).expect(&rt, "memory");
+    let expected = "A paseto cipher error occurred: The provided footer is invalid";
+    expect_text(&rt, text.as_str(), expected);
+    let error = GenericParserError::from(AllocError);
+    assert!(rt; error.cause().is_none());
+    let text = error.explained().to_string(alloc).expect(&rt, "memory");
+    expect_text(&rt, text.as_str(), "No memory was found");
+}
+
+#[test]
+fn of_rings(rt: HostRuntime) {
+    let untrusted = KeyRingError::Untrusted(PasetoError::IncorrectSize);
+    assert!(rt; matches!(untrusted.cause(), Some(PasetoError::IncorrectSize)));
+    assert!(rt; KeyRingError::NoFooter.cause().is_none());
+    let token = KeyRingParserError::from(KeyRingError::Token(PasetoError::Cryption));
+    assert!(rt; matches!(token.cause(), Some(PasetoError::Cryption)));
+    let claim = GenericParserError::from(PasetoClaimError::Expired);
+    assert!(rt; KeyRingParserError::from(claim).cause().is_none());
+}
