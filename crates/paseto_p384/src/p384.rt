@@ -137,13 +137,13 @@ fn checked(
 }
 
 impl P384 {
-    /// A new private key, which the generator gives, and its public key. No memory is taken. `Cipher` comes where
+    /// A new private key, which the generator gives, and its public key. No memory is taken. `Cipher` comes just where
     /// the generator fails, and `KeyRejected` where it gives 0 or a number that is not below n, which a good one
     /// does less than once in 2^189 times.
     pub fn key_pair<R: TryRng>(rng: &mut R) -> Result<(Key<48>, Key<49>), PasetoError>
         ensures ok { IfOk result (λ pair. R.may_fill rng.old pair.0 rng.new
             × IsPrivate pair.0 × (pair.1 ≡ p384_public pair.0)) }
-        ensures err { IfErr result (λ error. (error ≡ PasetoError.Cipher)
+        ensures err { IfErr result (λ error. ((error ≡ PasetoError.Cipher) × R.Error)
             ⊎ ((error ≡ PasetoError.KeyRejected)
             × ((drawn : List ℕ) × R.may_fill rng.old drawn rng.new × (¬ IsPrivate drawn)))) }
     {
