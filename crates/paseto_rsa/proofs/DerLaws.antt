@@ -1,7 +1,8 @@
 -- Lengths, elements and INTEGERs.
 use Rattle.std.proofs.Common.{◌≡◌, ◌≢◌, ◌⊎◌, ℕ, zero, suc, ◌+◌, ◌-◌, ◌*◌, ◌/◌, ◌%◌, ◌^◌, ◌<◌, ◌≤◌, inl, inr, List, [], ◌∷◌, ◌++◌, length, get_or, take, drop, refl, sym, ◌∙◌, ap, subst, append_assoc, length-append, arith}
 use Rattle.std.proofs.lemmas.Bool.Decides.{nat_tests}
-use Rattle.std.proofs.lemmas.List.{append-nil, append_cancel_left, drop-drop, drop_at, take_at}
+use Rattle.std.proofs.Math.Nat.{eq-zero-or-pos, pow-le-pow_right}
+use Rattle.std.proofs.lemmas.List.{append-nil, append_cancel_left, drop-drop, drop_at, length-drop, take_at}
 use Rattle.paseto_montgomery.specs.Octets.{os2ip}
 use Rattle.paseto_montgomery.proofs.OctetsLaws.{os2ip-cons}
 use Rattle.paseto_rsa.specs.Der.{AreIntegers, IsInteger, IsSequence, IsShortest, behind_of, contents_of, der_length, element, length_of, length_size}
@@ -191,6 +192,24 @@ value-zero [] first some = absurd (omega arith)
 value-zero (x ∷ xs) first some =
     let product = ap (λ k. k * 256 ^ length xs) first in
     omega (arith, os2ip-cons x xs, product)
+
+-- a number that has more octets than these is not below what they count
+pub least-front : (most : ℕ) (contents : List ℕ) → most < length contents → get_or contents 0 0 ≢ 0 → 256 ^ most ≤ os2ip contents
+least-front most contents long first =
+    let bound : 256 ^ most ≤ 256 ^ (length contents - 1) = pow-le-pow_right (omega arith) (omega arith) in
+    let least = least-some contents (omega arith) first in
+    omega (arith, bound, least)
+
+pub least-long : (most : ℕ) (contents : List ℕ) → suc most < length contents → IsShortest contents → 256 ^ most ≤ os2ip contents
+least-long most contents long s = elim (eq-zero-or-pos (get_or contents 0 0)) [
+  | inl first ↦
+      (let size : length (drop 1 contents) ≡ length contents - 1 = length-drop 1 contents in
+      let bound : 256 ^ most ≤ 256 ^ (length (drop 1 contents) - 1) = pow-le-pow_right (omega arith) (omega arith) in
+      let least = least-zero contents first s (omega arith) in
+      let same = value-zero contents first (omega arith) in
+      omega (arith, bound, least, same))
+  | inr first ↦ least-front most contents (omega arith) (λ e. omega (arith, e))
+]
 
 pub integers-nil : (behind octets : List ℕ) → AreIntegers [] behind octets → octets ≡ behind
 unfolding AreIntegers

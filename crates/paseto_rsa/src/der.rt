@@ -126,6 +126,15 @@ pub(crate) fn read_element(tag: u8, octets: &[u8]) -> Option<Element<'_>>
     Some(Element { contents, behind })
 }
 
+// Whether two octets may begin the contents of an INTEGER that is not negative. Each comparison is one that refuses the
+// number, so that those of a private key tell no more than that it is read.
+fn is_front(first: u8, second: u8) -> bool
+    ensures { IsTrue result ↔ ((first < 128) × (first ≡ 0 → 128 ≤ second)) }
+{
+    let front = 256 * first as u32 + second as u32;
+    front >= 0x80 && front < 0x8000
+}
+
 // Whether octets are the contents of an INTEGER that is not negative.
 fn is_shortest(contents: &[u8]) -> bool
     ensures { IsTrue result ↔ IsShortest contents.now }
@@ -133,23 +142,28 @@ fn is_shortest(contents: &[u8]) -> bool
     match contents {
         [] => false,
         [first] => *first < 0x80,
-        [first, second, ..] => *first < 0x80 && (*first > 0 || *second >= 0x80),
+        [first, second, ..] => is_front(*first, *second),
     }
 }
 
-// The contents of an INTEGER without the octet that may stand there for the sign alone.
-fn magnitude(contents: &[u8]) -> &[u8]
-    ensures value { os2ip result.now ≡ os2ip contents.now }
-    ensures least { IsShortest contents.now → 0 < length result.now
-        → 256 ^ (length result.now - 1) ≤ os2ip result.now }
+// The contents of an INTEGER, without the octet that stands there for the sign alone where they have one more than `most`.
+// Which octets are left is told by their count.
+fn digits(contents: &[u8], most: usize) -> Option<&[u8]>
+    requires { IsShortest contents.now }
+    ensures { MatchOption result (256 ^ most ≤ os2ip contents.now)
+        (λ d. (os2ip d.now ≡ os2ip contents.now) × (length d.now ≤ most)) }
 {
-    if contents.is_empty() {
-        return contents;
+    if contents.len() <= most {
+        return Some(contents);
     }
-    if contents[0] == 0 {
-        return contents.split_at(1).1;
+    let (_sign, rest) = contents.split_at(1);
+    if rest.len() > most {
+        return None;
     }
-    contents
+    if contents[0] != 0 {
+        return None;
+    }
+    Some(rest)
 }
 
 /// The number whose INTEGER stands at the front, if it has at most N words.
@@ -162,10 +176,10 @@ pub(crate) fn read_number<const N: usize>(octets: &[u8]) -> Option<Number<'_, N>
     if !is_shortest(contents) {
         return None;
     }
-    let digits = magnitude(contents);
-    if digits.len() > 8 * N {
-        return None;
-    }
+    let digits = match digits(contents, 8 * N) {
+        Some(digits) => digits,
+        None => return None,
+    };
     Some(Number {
         words: from_short_octets(digits),
         behind,
