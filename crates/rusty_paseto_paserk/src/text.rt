@@ -12,7 +12,7 @@ use rusty_paseto_parts::{PasetoError, from_section};
 use std::alloc::Global;
 
 /// The text of a key of these bytes. It fails only by `Memory`.
-pub fn write_key(
+pub(crate) fn write_key(
     alloc: Global,
     version: PaserkVersion,
     kind: PaserkType,
@@ -28,7 +28,7 @@ pub fn write_key(
 }
 
 /// The bytes that stand behind the header of a key of this version and type.
-pub fn read_bytes(
+pub(crate) fn read_bytes(
     alloc: Global,
     version: PaserkVersion,
     kind: PaserkType,
@@ -53,7 +53,7 @@ pub fn read_bytes(
 }
 
 /// Appends the base64url encoding of bytes to a text. It fails only by `Memory`.
-pub fn push_encoded(bytes: &[u8], text: &mut String) -> Result<(), PaserkError>
+pub(crate) fn push_encoded(bytes: &[u8], text: &mut String) -> Result<(), PaserkError>
     ensures ok { OnOk result (string_bytes text.new ≡ string_bytes text.old ++ spelling bytes.now) }
     ensures err { IfErr result IsMemory }
 {
