@@ -8,6 +8,7 @@ mod p384;
 mod primitives;
 mod published;
 mod rows;
+mod rsa;
 mod schemes;
 mod tally;
 mod tokens;
@@ -25,9 +26,10 @@ fn main(rt: HostRuntime) -> Result<()> {
     let local_tokens = check_file(&rt, folder.as_str(), Rows::LocalTokens)?;
     let schemes = check_file(&rt, folder.as_str(), Rows::Schemes)?;
     let p384 = check_file(&rt, folder.as_str(), Rows::P384)?;
+    let rsa = check_file(&rt, folder.as_str(), Rows::Rsa)?;
     let published = check_file(&rt, folder.as_str(), Rows::Published)?;
     ensure!(
-        primitives && local_tokens && schemes && p384 && published,
+        primitives && local_tokens && schemes && p384 && rsa && published,
         "not every row agrees"
     );
     Ok(())

@@ -3,7 +3,7 @@
 
 use crate::error::RowError;
 use crate::tally::Tally;
-use crate::{p384, primitives, published, schemes, tokens};
+use crate::{p384, primitives, published, rsa, schemes, tokens};
 use std::alloc::Global;
 
 /// The kind of a file's rows.
@@ -17,6 +17,8 @@ pub enum Rows {
     Schemes,
     /// Signatures of version 3.
     P384,
+    /// Keys and signatures of version 1.
+    Rsa,
     /// Tokens that the PASETO specification publishes.
     Published,
 }
@@ -29,6 +31,7 @@ impl Rows {
             Rows::LocalTokens => "local_tokens.txt",
             Rows::Schemes => "schemes.txt",
             Rows::P384 => "p384.txt",
+            Rows::Rsa => "rsa.txt",
             Rows::Published => "published.txt",
         }
     }
@@ -36,7 +39,7 @@ impl Rows {
     /// What is said of rows that agree.
     pub fn agreement(self) -> &'static str {
         match self {
-            Rows::Primitives | Rows::Schemes | Rows::P384 => "rows",
+            Rows::Primitives | Rows::Schemes | Rows::P384 | Rows::Rsa => "rows",
             Rows::LocalTokens => "tokens sealed and opened",
             Rows::Published => "published tokens",
         }
@@ -58,6 +61,7 @@ impl Rows {
             Rows::LocalTokens => tokens::check(alloc, name, fields)?,
             Rows::Schemes => schemes::check(alloc, name, fields)?,
             Rows::P384 => p384::check(alloc, name, fields)?,
+            Rows::Rsa => rsa::check(alloc, name, fields)?,
             Rows::Published => published::check(alloc, name, fields)?,
         }
         tally.count(name)?;
