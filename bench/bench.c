@@ -443,6 +443,69 @@ static size_t no_size(void)
     return 0;
 }
 
+/* The peer's token of version 3, once the peer has taken ours. */
+static struct peer_bytes signed_v3_token(const struct subject *subject)
+{
+    (void)subject;
+    struct peer_bytes made = peer_v3_sign(point, plain, plain_length);
+    if (made.bytes == NULL || made.length > sizeof ours_out
+        || paseto_bench_v3_sign(long_key, 48, plain, plain_length, ours_out, made.length, 1) == FAILED) {
+        free(made.bytes);
+        return (struct peer_bytes){0};
+    }
+    struct peer_bytes read = peer_v3_verify(point, ours_out, made.length);
+    bool is_taken = read.bytes != NULL && read.length == plain_length
+                    && memcmp(read.bytes, plain, plain_length) == 0;
+    free(read.bytes);
+    if (!is_taken) {
+        free(made.bytes);
+        return (struct peer_bytes){0};
+    }
+    return made;
+}
+
+static uint64_t ours_sign_v3_token(const struct subject *subject, uint8_t *out, uint32_t reps)
+{
+    (void)subject;
+    uint64_t sum = paseto_bench_v3_sign(long_key, 48, plain, plain_length, out, token_length, reps);
+    return sum == FAILED ? FAILED : 0;
+}
+
+static uint64_t peer_sign_v3_token(const struct subject *subject, uint8_t *out, uint32_t reps)
+{
+    (void)subject, (void)out;
+    for (uint32_t repetition = 0; repetition < reps; repetition++) {
+        struct peer_bytes made = peer_v3_sign(point, plain, plain_length);
+        if (made.bytes == NULL) {
+            return FAILED;
+        }
+        free(made.bytes);
+    }
+    return 0;
+}
+
+static uint64_t ours_verify_v3_token(const struct subject *subject, uint8_t *out, uint32_t reps)
+{
+    (void)subject;
+    return paseto_bench_v3_verify(point, 49, token, token_length, out, plain_length, reps);
+}
+
+static uint64_t peer_verify_v3_token(const struct subject *subject, uint8_t *out, uint32_t reps)
+{
+    (void)subject;
+    uint64_t sum = 0;
+    for (uint32_t repetition = 0; repetition < reps; repetition++) {
+        struct peer_bytes read = peer_v3_verify(point, token, token_length);
+        if (read.bytes == NULL || read.length != plain_length) {
+            return FAILED;
+        }
+        sum += read.length == 0 ? 0 : read.bytes[read.length - 1];
+        memcpy(out, read.bytes, repetition + 1 == reps ? read.length : 0);
+        free(read.bytes);
+    }
+    return sum;
+}
+
 static uint64_t ours_p384_key(const struct subject *subject, uint8_t *out, uint32_t reps)
 {
     (void)subject;
@@ -514,7 +577,76 @@ static bool prepare_p384(void)
            && ours_p384_verify(NULL, NULL, 1) == 1;
 }
 
-#define SUBJECTS 22
+/* The keys of RSA in their encodings, and the peer's signature of the row's text. */
+static struct peer_bytes rsa_private, rsa_public;
+static uint8_t rsa_signature[256];
+
+static uint64_t ours_rsa_sign(const struct subject *subject, uint8_t *out, uint32_t reps)
+{
+    (void)subject;
+    return paseto_bench_rsa_sign(rsa_private.bytes, rsa_private.length, plain, plain_length, out, 256, reps);
+}
+
+static uint64_t peer_rsa_signs(const struct subject *subject, uint8_t *out, uint32_t reps)
+{
+    (void)subject;
+    for (uint32_t repetition = 0; repetition < reps; repetition++) {
+        if (!peer_rsa_sign(plain, plain_length, out)) {
+            return FAILED;
+        }
+    }
+    return 0;
+}
+
+static uint64_t ours_rsa_verify(const struct subject *subject, uint8_t *out, uint32_t reps)
+{
+    (void)subject;
+    (void)out;
+    return paseto_bench_rsa_verify_read(rsa_public.bytes, rsa_public.length, plain, plain_length, rsa_signature, 256,
+                                        reps);
+}
+
+static uint64_t ours_rsa_read_verify(const struct subject *subject, uint8_t *out, uint32_t reps)
+{
+    (void)subject;
+    (void)out;
+    return paseto_bench_rsa_verify(rsa_public.bytes, rsa_public.length, plain, plain_length, rsa_signature, 256, reps);
+}
+
+/* How many times the peer holds the signature valid, with the key read each time or once. */
+static uint64_t peer_rsa_count(uint32_t reps, bool is_read)
+{
+    uint64_t valid = 0;
+    for (uint32_t repetition = 0; repetition < reps; repetition++) {
+        valid += is_read ? peer_rsa_verify(plain, plain_length, rsa_signature)
+                         : peer_rsa_read_verify(rsa_public.bytes, rsa_public.length, plain, plain_length, rsa_signature);
+    }
+    return valid == 0 ? FAILED : valid;
+}
+
+static uint64_t peer_rsa_verifies(const struct subject *subject, uint8_t *out, uint32_t reps)
+{
+    (void)subject;
+    (void)out;
+    return peer_rsa_count(reps, true);
+}
+
+static uint64_t peer_rsa_read_verifies(const struct subject *subject, uint8_t *out, uint32_t reps)
+{
+    (void)subject;
+    (void)out;
+    return peer_rsa_count(reps, false);
+}
+
+/* Makes the row's signature, and sees that each side takes what the other makes. */
+static bool prepare_rsa(void)
+{
+    uint8_t made[256];
+    return ours_rsa_sign(NULL, made, 1) == 0 && peer_rsa_verify(plain, plain_length, made)
+           && peer_rsa_sign(plain, plain_length, rsa_signature) && ours_rsa_verify(NULL, NULL, 1) == 1;
+}
+
+#define SUBJECTS 27
 static const struct subject subjects[SUBJECTS] = {
     TOKENS(4),
     TOKENS(3),
@@ -524,6 +656,10 @@ static const struct subject subjects[SUBJECTS] = {
      .prepared = signed_token},
     {.name = "v4 verify", .ours = ours_verify_token, .peer = peer_verify_token, .out_length = plain_size,
      .prepared = signed_token},
+    {.name = "v3 sign", .ours = ours_sign_v3_token, .peer = peer_sign_v3_token, .out_length = no_size,
+     .prepared = signed_v3_token},
+    {.name = "v3 verify", .ours = ours_verify_v3_token, .peer = peer_verify_v3_token,
+     .out_length = plain_size, .prepared = signed_v3_token},
     {.name = "box seal", .ours = ours_box_seal, .peer = peer_box_seal, .out_length = token_size,
      .prepared = peer_boxed},
     {.name = "box open", .ours = ours_box_open, .peer = peer_box_open, .out_length = plain_size,
@@ -540,6 +676,9 @@ static const struct subject subjects[SUBJECTS] = {
     {.name = "P-384 key", .ours = ours_p384_key, .peer = peer_p384_key, .out_length = point_size},
     {.name = "P-384 sign", .ours = ours_p384_sign, .peer = peer_p384_signs, .out_length = no_size},
     {.name = "P-384 verify", .ours = ours_p384_verify, .peer = peer_p384_verifies, .out_length = no_size},
+    {.name = "RSA sign", .ours = ours_rsa_sign, .peer = peer_rsa_signs, .out_length = no_size},
+    {.name = "RSA verify", .ours = ours_rsa_verify, .peer = peer_rsa_verifies, .out_length = no_size},
+    {.name = "RSA read", .ours = ours_rsa_read_verify, .peer = peer_rsa_read_verifies, .out_length = no_size},
 };
 
 /* The text of a row, and, where one is read, the peer's token, box or signature of it. */
@@ -549,6 +688,9 @@ static bool prepare(const struct subject *subject, size_t length)
     token_length = 0;
     if (subject->ours == ours_p384_sign || subject->ours == ours_p384_verify) {
         return prepare_p384();
+    }
+    if (subject->ours == ours_rsa_sign || subject->ours == ours_rsa_verify || subject->ours == ours_rsa_read_verify) {
+        return prepare_rsa();
     }
     if (subject->prepared == NULL) {
         return true;
@@ -684,6 +826,10 @@ int main(int count, char **words)
     if (paseto_bench_p384_public_key(long_key, 48, point, 49, 1) == FAILED
         || !peer_p384_start(long_key, point)) {
         fprintf(stderr, "P-384 does not start\n");
+        return 1;
+    }
+    if (!peer_rsa_start(&rsa_private, &rsa_public)) {
+        fprintf(stderr, "RSA does not start\n");
         return 1;
     }
     for (size_t i = 0; i < sizeof plain; i++) {

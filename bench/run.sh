@@ -35,7 +35,7 @@ fi
 
 kit=$(dirname "$(rt doc)")
 cc -O2 -std=c11 -D_POSIX_C_SOURCE=200809L -Wall -Wextra -o out/bench \
-    bench.c base64url.c peer_common.c peer_v2.c peer_v4.c peer_public.c peer_nist.c peer_p384.c \
+    bench.c base64url.c peer_common.c peer_v2.c peer_v4.c peer_public.c peer_nist.c peer_p384.c peer_rsa.c \
     ../crates/paseto_bench/out/libpaseto_bench.a "$kit/c/liblibc_c.a" "$kit/c/libos_c.a" \
     -lsodium -lcrypto
 

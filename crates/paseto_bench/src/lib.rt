@@ -16,7 +16,9 @@ mod boxed;
 mod copying;
 mod p384;
 mod primitives;
+mod rsa;
 mod schemes;
+mod signed_v3;
 mod tokens;
 
 pub use boxed::{
@@ -27,10 +29,12 @@ pub use p384::{paseto_bench_p384_public_key, paseto_bench_p384_sign, paseto_benc
 pub use primitives::{
     paseto_bench_aes256_ctr, paseto_bench_blake2b, paseto_bench_hmac_sha384, paseto_bench_xchacha20,
 };
+pub use rsa::{paseto_bench_rsa_sign, paseto_bench_rsa_verify, paseto_bench_rsa_verify_read};
 pub use schemes::{
     paseto_bench_ed25519_public_key, paseto_bench_ed25519_sign, paseto_bench_ed25519_verify,
     paseto_bench_v4_sign, paseto_bench_v4_verify,
 };
+pub use signed_v3::{paseto_bench_v3_sign, paseto_bench_v3_verify};
 pub use tokens::{
     paseto_bench_v1_open, paseto_bench_v1_seal, paseto_bench_v3_open, paseto_bench_v3_seal,
     paseto_bench_v4_open, paseto_bench_v4_seal,
