@@ -10,6 +10,8 @@
      secrets ed25519 sign       the seed of the private key is undefined, and messages of each length are signed
      secrets p384 key           private keys are undefined, and their public keys are made
      secrets p384 sign          private keys are undefined, and texts of each length are signed
+     secrets rsa sign           private keys are read from standard input, a line of hexadecimal digits each; the numbers
+                                that only a private key has are undefined, and texts of each length are signed
      secrets control control    no call: a jump and an address of this file itself, which have to be reported
 
    The status is 0 where each call answered as it should. */
@@ -21,7 +23,11 @@
 #include <string.h>
 #include <valgrind/memcheck.h>
 
-enum { KEY = 32, NONCE = 32, BOX_NONCE = 24, LONGEST_TEXT = 1000, HEADER = 9, SIGNATURE = 64 };
+enum { KEY = 32, NONCE = 32, BOX_NONCE = 24, LONGEST_TEXT = 1000, HEADER = 9, SIGNATURE = 64, RSA_SIGNATURE = 256 };
+
+/* The longest private key of RSA, and where the INTEGERs in it begin: behind two headers, the version, the algorithm and
+   one header more. */
+enum { LONGEST_RSA_KEY = 1300, RSA_INTEGERS = 30 };
 
 /* Around one block of each cipher and of each hash. */
 static const size_t LENGTHS[] = {0, 1, 63, 64, 65, 127, 128, 129, 256, 300, LONGEST_TEXT};
@@ -177,6 +183,45 @@ static int p384_all(bool sign) {
     return right;
 }
 
+/* Reads a key of hexadecimal digits, and gives how many bytes it has. */
+static size_t read_rsa_key(uint8_t *key) {
+    char line[2 * LONGEST_RSA_KEY + 2];
+    size_t length = 0;
+    if (fgets(line, sizeof line, stdin) == NULL) return 0;
+    while (sscanf(line + 2 * length, "%2hhx", &key[length]) == 1) length++;
+    return length;
+}
+
+/* Marks the contents of the last six INTEGERs of a private key, d, p, q, dP, dQ and qInv, behind the version, n and e.
+   How long each is stays defined. */
+static bool mark_rsa_numbers(uint8_t *key, size_t key_length) {
+    size_t at = RSA_INTEGERS;
+    for (int number = 0; number < 9; number++) {
+        if (at + 4 > key_length || key[at] != 2) return false;
+        size_t size = key[at + 1], header = 2;
+        if (size == 0x81) size = key[at + 2], header = 3;
+        if (size == 0x82) size = 256u * key[at + 2] + key[at + 3], header = 4;
+        at += header;
+        if (at + size > key_length) return false;
+        if (number >= 3) VALGRIND_MAKE_MEM_UNDEFINED(key + at, size);
+        at += size;
+    }
+    return at == key_length;
+}
+
+static int rsa_sign_all(void) {
+    material *m = make_material();
+    int right = 0;
+    for (size_t i = 0; i < LENGTH_COUNT; i++) {
+        uint8_t key[LONGEST_RSA_KEY], signature[RSA_SIGNATURE];
+        size_t length = read_rsa_key(key);
+        if (!mark_rsa_numbers(key, length)) return 0;
+        right += done(paseto_bench_rsa_sign(key, length, m->text, LENGTHS[i], signature, RSA_SIGNATURE, 1));
+    }
+    free(m);
+    return right;
+}
+
 /* What this test has to find: a jump on a bit of the key, and a place in a table at a byte of it. */
 __attribute__((noinline)) static int control(void) {
     static const uint8_t table[256] = {1, 2, 3};
@@ -195,6 +240,7 @@ int main(int argc, char **argv) {
     if (strcmp(argv[1], "control") == 0) right = control();
     if (strcmp(argv[1], "ed25519") == 0 && strcmp(argv[2], "key") == 0) right = make_public_keys();
     if (strcmp(argv[1], "ed25519") == 0 && strcmp(argv[2], "sign") == 0) right = sign_all();
+    if (strcmp(argv[1], "rsa") == 0 && strcmp(argv[2], "sign") == 0) right = rsa_sign_all();
     if (strcmp(argv[1], "p384") == 0) right = p384_all(strcmp(argv[2], "sign") == 0);
     for (size_t i = 0; i < sizeof VERSIONS / sizeof *VERSIONS; i++) {
         const version *v = &VERSIONS[i];

@@ -65,6 +65,9 @@ if ! cc -std=c11 -Wall -Wextra -Werror -O1 -o "$work/secrets" "$root/tests/secre
     finish
 fi
 
+# The private keys of RSA that OpenSSL made.
+sed -n 's/^rsa_signed \([0-9a-f]*\) .*/\1/p' "$root/crates/paseto_rows/data/rsa.txt" >"$work/keys"
+
 # A line 'kind function' for each report: jump, address, or other.
 reports() {
     awk '/^==[0-9]+== [A-Z]/ { kind = /Conditional jump/ ? "jump" : /Use of uninitialised/ ? "address" : "other" }
@@ -75,9 +78,11 @@ reports() {
         }' "$1"
 }
 
-# ask VERSION CALL: the reports of a run, in $work/found as lines 'count kind function'.
+# ask VERSION CALL: the reports of a run, in $work/found as lines 'count kind function'. Private keys of RSA are read from
+# its input.
 ask() {
-    valgrind -q --error-limit=no --num-callers=1 --log-file="$work/log" "$work/secrets" "$1" "$2" >"$work/out" 2>&1
+    valgrind -q --error-limit=no --num-callers=1 --log-file="$work/log" "$work/secrets" "$1" "$2" \
+        <"$work/keys" >"$work/out" 2>&1
     status=$?
     reports "$work/log" | sort | uniq -c >"$work/found"
 }
@@ -121,4 +126,5 @@ for call in key sign; do
 done
 check p384 key
 check p384 sign
+check rsa sign
 finish
