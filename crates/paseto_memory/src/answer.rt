@@ -10,9 +10,9 @@ use serde_json::Value;
 use std::alloc::{AllocError, Global};
 use std::fmt::Display;
 
-/// What can be told as bytes. Two values that answer alike are told alike.
-pub trait Told {
-    fn tell(&self, alloc: Global) -> Result<Vec<u8>>;
+/// What has a snapshot: bytes that are the same for two values that answer alike.
+pub trait Snapshot {
+    fn snapshot(&self, alloc: Global) -> Result<Vec<u8>>;
 }
 
 /// Why a call refused.
@@ -24,7 +24,7 @@ pub trait Refusal: Display + Drop {
 /// What a call answered.
 #[derive(Drop)]
 pub enum Answer {
-    /// A value, as it is told.
+    /// A value, by its snapshot.
     Value(Vec<u8>),
     /// The text of an error.
     Refusal(String),
@@ -34,9 +34,12 @@ pub enum Answer {
 
 impl Answer {
     /// The answer of a call.
-    pub fn of<T: Told + Drop, E: Refusal>(alloc: Global, answer: Result<T, E>) -> Result<Answer> {
+    pub fn of<T: Snapshot + Drop, E: Refusal>(
+        alloc: Global,
+        answer: Result<T, E>,
+    ) -> Result<Answer> {
         match answer {
-            Ok(value) => Ok(Answer::Value(value.tell(alloc)?)),
+            Ok(value) => Ok(Answer::Value(value.snapshot(alloc)?)),
             Err(error) => {
                 if error.is_memory() {
                     return Ok(Answer::Memory);
@@ -46,7 +49,7 @@ impl Answer {
         }
     }
 
-    /// Whether another cause than memory was told.
+    /// Whether it was refused for another cause than memory.
     pub fn is_refusal(&self) -> bool {
         matches!(self, Answer::Refusal(_))
     }
@@ -56,7 +59,7 @@ impl Answer {
         matches!(self, Answer::Memory)
     }
 
-    /// Whether it is the other answer. Want of memory is none.
+    /// Whether it is the other answer. A refusal of memory is none.
     pub fn is(&self, other: &Answer) -> bool {
         match (self, other) {
             (Answer::Value(one), Answer::Value(another)) => one.as_slice() == another.as_slice(),
@@ -75,14 +78,20 @@ impl Answer {
     }
 }
 
-/// What tells of an object by what one of its calls answers.
-impl Told for Answer {
-    fn tell(&self, alloc: Global) -> Result<Vec<u8>> {
+/// What stands for an object by what one of its calls answers.
+impl Snapshot for Answer {
+    fn snapshot(&self, alloc: Global) -> Result<Vec<u8>> {
         match self {
-            Answer::Value(told) => Ok(told.clone()?),
-            Answer::Refusal(text) => text.tell(alloc),
+            Answer::Value(bytes) => Ok(bytes.clone()?),
+            Answer::Refusal(text) => text.snapshot(alloc),
             Answer::Memory => Ok(b"memory".to_vec(alloc)?),
         }
+    }
+}
+
+impl Refusal for AllocError {
+    fn is_memory(&self) -> bool {
+        true
     }
 }
 
@@ -122,72 +131,72 @@ impl Refusal for KeyRingParserError {
     }
 }
 
-impl Told for () {
-    fn tell(&self, alloc: Global) -> Result<Vec<u8>> {
+impl Snapshot for () {
+    fn snapshot(&self, alloc: Global) -> Result<Vec<u8>> {
         Ok(Vec::new(alloc))
     }
 }
 
-impl Told for Vec<u8> {
-    fn tell(&self, _alloc: Global) -> Result<Vec<u8>> {
+impl Snapshot for Vec<u8> {
+    fn snapshot(&self, _alloc: Global) -> Result<Vec<u8>> {
         Ok(self.clone()?)
     }
 }
 
-impl Told for String {
-    fn tell(&self, alloc: Global) -> Result<Vec<u8>> {
+impl Snapshot for String {
+    fn snapshot(&self, alloc: Global) -> Result<Vec<u8>> {
         Ok(self.as_bytes().to_vec(alloc)?)
     }
 }
 
-/// A text and what stands beside it are told by the text, a byte that no text has, and the other.
-impl<T: Told> Told for (String, T) {
-    fn tell(&self, alloc: Global) -> Result<Vec<u8>> {
-        let mut told = self.0.tell(alloc)?;
-        told.push(0xff).map_err(AllocError::from)?;
-        told.extend_from_slice(&self.1.tell(alloc)?)?;
-        Ok(told)
+/// The text, a byte that no text has, and the other.
+impl<T: Snapshot> Snapshot for (String, T) {
+    fn snapshot(&self, alloc: Global) -> Result<Vec<u8>> {
+        let mut bytes = self.0.snapshot(alloc)?;
+        bytes.push(0xff).map_err(AllocError::from)?;
+        bytes.extend_from_slice(&self.1.snapshot(alloc)?)?;
+        Ok(bytes)
     }
 }
 
-/// None is told as no bytes, and a value by a byte before its own.
-impl<T: Told> Told for Option<T> {
-    fn tell(&self, alloc: Global) -> Result<Vec<u8>> {
-        let mut told = Vec::new(alloc);
+/// No bytes for none, and a byte before those of a value.
+impl<T: Snapshot> Snapshot for Option<T> {
+    fn snapshot(&self, alloc: Global) -> Result<Vec<u8>> {
+        let mut bytes = Vec::new(alloc);
         if let Some(value) = self {
-            told.push(b'+').map_err(AllocError::from)?;
-            told.extend_from_slice(&value.tell(alloc)?)?;
+            bytes.push(b'+').map_err(AllocError::from)?;
+            bytes.extend_from_slice(&value.snapshot(alloc)?)?;
         }
-        Ok(told)
+        Ok(bytes)
     }
 }
 
-impl Told for Value {
-    fn tell(&self, alloc: Global) -> Result<Vec<u8>> {
-        self.to_string(alloc)?.tell(alloc)
+impl Snapshot for Value {
+    fn snapshot(&self, alloc: Global) -> Result<Vec<u8>> {
+        self.to_string(alloc)?.snapshot(alloc)
     }
 }
 
-impl Told for PreAuthenticationEncoding {
-    fn tell(&self, alloc: Global) -> Result<Vec<u8>> {
+impl Snapshot for PreAuthenticationEncoding {
+    fn snapshot(&self, alloc: Global) -> Result<Vec<u8>> {
         Ok(self.as_bytes().to_vec(alloc)?)
     }
 }
 
-impl Told for TagCollision {
-    fn tell(&self, alloc: Global) -> Result<Vec<u8>> {
-        self.tag.tell(alloc)
+impl Snapshot for TagCollision {
+    fn snapshot(&self, alloc: Global) -> Result<Vec<u8>> {
+        self.tag.snapshot(alloc)
     }
 }
 
-impl<K: ReservedKey> Told for DateClaim<K> {
-    fn tell(&self, alloc: Global) -> Result<Vec<u8>> {
-        self.to_json(alloc)?.tell(alloc)
+impl<K: ReservedKey> Snapshot for DateClaim<K> {
+    fn snapshot(&self, alloc: Global) -> Result<Vec<u8>> {
+        self.to_json(alloc)?.snapshot(alloc)
     }
 }
 
-impl Told for CustomClaim<&str> {
-    fn tell(&self, alloc: Global) -> Result<Vec<u8>> {
-        self.to_json(alloc)?.tell(alloc)
+impl Snapshot for CustomClaim<&str> {
+    fn snapshot(&self, alloc: Global) -> Result<Vec<u8>> {
+        self.to_json(alloc)?.snapshot(alloc)
     }
 }

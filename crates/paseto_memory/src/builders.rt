@@ -1,55 +1,44 @@
 //! The calls of generic builders.
 
-use crate::answer::{Answer, Told};
+use crate::answer::{Answer, Snapshot};
 use crate::claims::numbered;
-use crate::kinds::{footer, symmetric_key};
-use crate::run::{Case, Run};
+use crate::kinds::{footer, local_kinds, public_kinds, symmetric_key};
+use crate::run::{Run, calls, changes, edits};
+use crate::signed::Signed;
 use anyhow::{Result, bail};
 use paseto_toys::generators::Zeros;
-use paseto_toys::keys::{Keys, SECRET, ToyVersion};
+use paseto_toys::keys::{Keys, SECRET};
 use paseto_toys::{Lenient, PlainBox};
 use rusty_paseto::prelude::{
-    AudienceClaim, ClaimSetter, CustomClaim, GenericBuilder, Local, Public, PurposeTrait, Signs,
-    UnboxedVersion, V1, V2, V3, V4, VersionTrait,
+    AudienceClaim, ClaimSetter, CustomClaim, GenericBuilder, Local, Public, PurposeTrait,
+    UnboxedVersion, V2, V4, VersionTrait,
 };
 use serde_json::{Map, Value};
 use std::alloc::Global;
 use std::io::Write;
 
-/// A builder is told by its token.
-impl Told for GenericBuilder<'_, V4, Local> {
-    fn tell(&self, alloc: Global) -> Result<Vec<u8>> {
-        Answer::of(alloc, self.try_encrypt(&mut Zeros, &symmetric_key()))?.tell(alloc)
+/// A builder is known by its token.
+impl Snapshot for GenericBuilder<'_, V4, Local> {
+    fn snapshot(&self, alloc: Global) -> Result<Vec<u8>> {
+        Answer::of(alloc, self.try_encrypt(&mut Zeros, &symmetric_key()))?.snapshot(alloc)
     }
 }
 
 /// Asks them.
 pub fn ask<W: Write>(run: &mut Run<W>) -> Result<()> {
-    ask_one_claim(run)?;
-    ask_refused_claim(run)?;
-    ask_several_claims(run)?;
-    ask_refused_claims(run)?;
-    ask_payload(run)?;
-    ask_sealing::<V1, W>(run, "v1.local")?;
-    ask_sealing::<V3, W>(run, "v3.local")?;
-    ask_sealing::<V4, W>(run, "v4.local")?;
-    ask_boxing(run)?;
-    let keys = Keys::of(&SECRET);
-    ask_signing::<V1, W>(run, &keys)?;
-    ask_signing::<V2, W>(run, &keys)?;
-    ask_signing::<V3, W>(run, &keys)?;
-    ask_signing::<V4, W>(run, &keys)
+    let (text, keys) = (run.text()?, Keys::of(&SECRET));
+    let text = text.as_str();
+    ask_claims(run, text)?;
+    ask_maps(run, text)?;
+    let builder = builder_of::<V4, Local>(run.alloc(), text)?;
+    calls! { run; "GenericBuilder::build_payload_from_claims", "some claims" => builder.build_payload_from_claims(); }
+    local_kinds! { run, ask_sealing, text }
+    ask_boxing(run, text)?;
+    public_kinds! { run, ask_signing, &keys, text }
+    Ok(())
 }
 
-/// The members of an object of JSON.
-pub fn members(alloc: Global, json: &str) -> Result<Map<String, Value>> {
-    match Value::from_str(alloc, json)? {
-        Value::Object(members) => Ok(members),
-        _ => bail!("{json} is no object"),
-    }
-}
-
-/// So many copies of them as `Run::change` takes.
+/// So many copies of an object of JSON as `Run::change` takes.
 pub fn three_maps(alloc: Global, json: &str) -> Result<[Map<String, Value>; 3]> {
     Ok([
         members(alloc, json)?,
@@ -58,29 +47,35 @@ pub fn three_maps(alloc: Global, json: &str) -> Result<[Map<String, Value>; 3]> 
     ])
 }
 
+fn members(alloc: Global, json: &str) -> Result<Map<String, Value>> {
+    match Value::from_str(alloc, json)? {
+        Value::Object(members) => Ok(members),
+        _ => bail!("{json} is no object"),
+    }
+}
+
+/// JSON that holds a fraction.
+pub fn odd_claim(alloc: Global) -> Result<CustomClaim<Value>> {
+    Ok(CustomClaim::try_from_str(alloc, "odd", Value::from_str(alloc, "[3.5]")?)?)
+}
+
+/// The same in a map.
+pub const ODD: &str = "{\"a\":1,\"b\":3.5}";
+
 /// A builder of fifteen claims, one of them with the text, and a footer.
 fn builder_of<V: VersionTrait, P: PurposeTrait>(
     alloc: Global,
     text: &str,
 ) -> Result<GenericBuilder<'static, V, P>> {
     let mut builder = GenericBuilder::new(alloc);
-    fill(&mut builder, alloc, text)?;
-    builder.set_footer(footer());
-    Ok(builder)
-}
-
-fn fill<V: VersionTrait, P: PurposeTrait>(
-    builder: &mut GenericBuilder<'static, V, P>,
-    alloc: Global,
-    text: &str,
-) -> Result<()> {
     builder.put_claim(&AudienceClaim::from("customers"))?;
     builder.put_claim(&CustomClaim::try_from_str(alloc, "data", text)?)?;
     builder.put_claim(&CustomClaim::try_from_str(alloc, "seats", 4u64)?)?;
     'numbers: for number in 0..12u64 {
         builder.put_claim(&numbered(alloc, number)?)?;
     }
-    Ok(())
+    builder.set_footer(footer());
+    Ok(builder)
 }
 
 /// Two of them, of version 4 and local.
@@ -88,174 +83,67 @@ pub fn two_builders(alloc: Global, text: &str) -> Result<[GenericBuilder<'static
     Ok([builder_of(alloc, text)?, builder_of(alloc, text)?])
 }
 
-fn ask_one_claim<W: Write>(run: &mut Run<W>) -> Result<()> {
-    let text = run.text()?;
-    let text = text.as_str();
-    ask_claim(run, text)?;
-    ask_lent_claim(run, text)?;
-    ask_repeated_claim(run, text)
-}
-
-fn ask_claim<W: Write>(run: &mut Run<W>, text: &str) -> Result<()> {
-    let claim = CustomClaim::try_from_str(run.alloc(), "text", text)?;
-    let case = Case::of("GenericBuilder::put_claim", "a claim");
-    run.change(
-        case,
-        two_builders(run.alloc(), text),
-        [(), (), ()],
-        |builder, _| { builder.put_claim(&claim) },
-    )
-}
-
-fn ask_lent_claim<W: Write>(run: &mut Run<W>, text: &str) -> Result<()> {
-    let claim = CustomClaim::try_from_str(run.alloc(), "text", text)?;
-    let case = Case::of("GenericBuilder::set_claim", "a claim");
-    run.change(
-        case,
-        two_builders(run.alloc(), text),
-        [(), (), ()],
-        |builder, _| {
-            match builder.set_claim(&claim) {
-                Ok(_) => Ok(()),
-                Err(error) => Err(error),
-            }
-        },
-    )
-}
-
-fn ask_repeated_claim<W: Write>(run: &mut Run<W>, text: &str) -> Result<()> {
-    let claim = AudienceClaim::from("another one");
-    let case = Case::of("GenericBuilder::put_claim", "a key that is there");
-    run.change(
-        case,
-        two_builders(run.alloc(), text),
-        [(), (), ()],
-        |builder, _| { builder.put_claim(&claim) },
-    )
-}
-
-fn ask_refused_claim<W: Write>(run: &mut Run<W>) -> Result<()> {
+fn ask_claims<W: Write>(run: &mut Run<W>, text: &str) -> Result<()> {
     let alloc = run.alloc();
-    let claim = CustomClaim::try_from_str(alloc, "odd", Value::from_str(alloc, "[3.5]")?)?;
-    let case = Case::refused("GenericBuilder::put_claim", "a fraction");
-    run.change(
-        case,
-        two_builders(run.alloc(), "a"),
-        [(), (), ()],
-        |builder, _| { builder.put_claim(&claim) },
-    )
+    let (claim, odd) = (
+        CustomClaim::try_from_str(alloc, "text", text)?,
+        odd_claim(alloc)?,
+    );
+    let other = AudienceClaim::from("another one");
+    edits! { run, two_builders(alloc, text);
+        "GenericBuilder::put_claim", "a claim" => |builder| builder.put_claim(&claim);
+        "GenericBuilder::set_claim", "a claim" => |builder| builder.set_claim(&claim).map(drop);
+        "GenericBuilder::put_claim", "a key that is there" => |builder| builder.put_claim(&other);
+    }
+    edits! { run, two_builders(alloc, "a");
+        "GenericBuilder::put_claim", "a fraction, refused" => |builder| builder.put_claim(&odd);
+    }
+    Ok(())
 }
 
 const SEVERAL: &str = "{\"a\":[1,2],\"aud\":null,\"z\":{\"b\":\"c\"}}";
 
-fn ask_several_claims<W: Write>(run: &mut Run<W>) -> Result<()> {
-    let text = run.text()?;
-    let text = text.as_str();
-    ask_claims(run, text)?;
-    ask_lent_claims(run, text)
-}
-
-fn ask_claims<W: Write>(run: &mut Run<W>, text: &str) -> Result<()> {
-    let case = Case::of("GenericBuilder::put_claims", "a map");
-    let maps = three_maps(run.alloc(), SEVERAL)?;
-    run.change(
-        case,
-        two_builders(run.alloc(), text),
-        maps,
-        |builder, map| builder.put_claims(map),
-    )
-}
-
-fn ask_lent_claims<W: Write>(run: &mut Run<W>, text: &str) -> Result<()> {
-    let case = Case::of("GenericBuilder::extend_claims", "a map");
-    let maps = three_maps(run.alloc(), SEVERAL)?;
-    run.change(
-        case,
-        two_builders(run.alloc(), text),
-        maps,
-        |builder, map| {
-            match builder.extend_claims(map) {
-                Ok(_) => Ok(()),
-                Err(error) => Err(error),
-            }
-        },
-    )
-}
-
-fn ask_refused_claims<W: Write>(run: &mut Run<W>) -> Result<()> {
-    let case = Case::refused("GenericBuilder::put_claims", "a map with a fraction");
-    let maps = three_maps(run.alloc(), "{\"a\":1,\"b\":3.5}")?;
-    run.change(
-        case,
-        two_builders(run.alloc(), "a"),
-        maps,
-        |builder, map| builder.put_claims(map),
-    )
-}
-
-fn ask_payload<W: Write>(run: &mut Run<W>) -> Result<()> {
-    let text = run.text()?;
-    let untouched = builder_of::<V4, Local>(run.alloc(), text.as_str())?;
-    let builder = builder_of::<V4, Local>(run.alloc(), text.as_str())?;
-    let case = Case::of("GenericBuilder::build_payload_from_claims", "some claims");
-    run.ask(
-        case,
-        &untouched,
-        &builder,
-        |builder| builder.build_payload_from_claims(),
-    )
-}
-
-fn ask_sealing<V: UnboxedVersion, W: Write>(run: &mut Run<W>, kind: &str) -> Result<()> {
-    if !run.asks_of(kind) {
-        return Ok(());
-    }
+fn ask_maps<W: Write>(run: &mut Run<W>, text: &str) -> Result<()> {
     let alloc = run.alloc();
-    let text = run.text()?;
-    let untouched = builder_of::<V, Local>(alloc, text.as_str())?;
-    let builder = builder_of::<V, Local>(alloc, text.as_str())?;
-    let key = symmetric_key::<V>();
-    let case = Case::of("GenericBuilder::try_encrypt", kind);
-    run.ask(
-        case,
-        &untouched,
-        &builder,
-        |builder| builder.try_encrypt(&mut Zeros, &key),
-    )
-}
-
-fn ask_boxing<W: Write>(run: &mut Run<W>) -> Result<()> {
-    if !run.asks_of("v2.local") {
-        return Ok(());
+    changes! { run, two_builders(alloc, text);
+        "GenericBuilder::put_claims", "a map" => three_maps(alloc, SEVERAL)? => |builder, map| builder.put_claims(map);
+        "GenericBuilder::extend_claims", "a map" => three_maps(alloc, SEVERAL)?
+            => |builder, map| builder.extend_claims(map).map(drop);
     }
-    let alloc = run.alloc();
-    let text = run.text()?;
-    let untouched = builder_of::<V2, Local>(alloc, text.as_str())?;
-    let builder = builder_of::<V2, Local>(alloc, text.as_str())?;
-    let key = symmetric_key::<V2>();
-    let case = Case::of("GenericBuilder::try_encrypt", "v2.local");
-    run.ask(case, &untouched, &builder, |builder| {
-        builder.try_encrypt(&PlainBox, &mut Zeros, &key)
-    })
+    changes! { run, two_builders(alloc, "a");
+        "GenericBuilder::put_claims", "a map with a fraction, refused" => three_maps(alloc, ODD)?
+            => |builder, map| builder.put_claims(map);
+    }
+    Ok(())
 }
 
-fn ask_signing<V: ToyVersion + Signs<Lenient>, W: Write>(
+fn ask_sealing<V: UnboxedVersion, W: Write>(
     run: &mut Run<W>,
-    keys: &Keys,
+    kind: &str,
+    text: &str,
 ) -> Result<()> {
-    if !run.asks_of(V::KIND) {
-        return Ok(());
-    }
-    let alloc = run.alloc();
-    let text = run.text()?;
-    let untouched = builder_of::<V, Public>(alloc, text.as_str())?;
-    let builder = builder_of::<V, Public>(alloc, text.as_str())?;
-    let key = V::private_key(keys);
-    let case = Case::of("GenericBuilder::try_sign", V::KIND);
-    run.ask(
-        case,
-        &untouched,
-        &builder,
-        |builder| builder.try_sign(&mut Lenient, &key),
-    )
+    let (builder, key) = (
+        builder_of::<V, Local>(run.alloc(), text)?,
+        symmetric_key::<V>(),
+    );
+    calls! { run; "GenericBuilder::try_encrypt", kind => builder.try_encrypt(&mut Zeros, &key); }
+    Ok(())
+}
+
+fn ask_boxing<W: Write>(run: &mut Run<W>, text: &str) -> Result<()> {
+    let (builder, key) = (
+        builder_of::<V2, Local>(run.alloc(), text)?,
+        symmetric_key::<V2>(),
+    );
+    calls! { run; "GenericBuilder::try_encrypt", "v2.local" => builder.try_encrypt(&PlainBox, &mut Zeros, &key); }
+    Ok(())
+}
+
+fn ask_signing<V: Signed, W: Write>(run: &mut Run<W>, keys: &Keys, text: &str) -> Result<()> {
+    let (builder, key) = (
+        builder_of::<V, Public>(run.alloc(), text)?,
+        V::private_key(keys),
+    );
+    calls! { run; "GenericBuilder::try_sign", V::KIND => builder.try_sign(&mut Lenient, &key); }
+    Ok(())
 }

@@ -1,13 +1,18 @@
 //! The calls of key rings.
 
-use crate::answer::{Answer, Told};
-use crate::kinds::symmetric_key;
+use crate::answer::{Answer, Snapshot};
+use crate::boxed_local;
+use crate::kinds::{local_kinds, public_kinds, symmetric_key};
+use crate::local::seal_with;
 use crate::parsers::{good, now};
-use crate::run::{Case, Run};
+use crate::run::{Run, calls, edits};
+use crate::signed::{Signed, sign};
 use anyhow::Result;
+use paseto_toys::keys::{Keys, SECRET};
+use paseto_toys::{Lenient, PlainBox};
 use rusty_paseto::prelude::{
-    BoxlessVersion, Footer, GenericParser, Key, KeyRing, KeyRingError, Local, LocalVersion,
-    PasetoError, PasetoNonce, PasetoParser, PasetoSymmetricKey, Payload, V1, V3, V4,
+    BoxlessVersion, Footer, GenericParser, Key, KeyRing, KeyRingError, Local, PasetoParser,
+    PasetoSymmetricKey, Public, PublicKeyRing, V1, V2, V3, V4,
 };
 use std::alloc::Global;
 use std::io::Write;
@@ -41,48 +46,27 @@ impl Opens for V4 {
     }
 }
 
-/// A ring is told by what it answers for a token of each id.
-impl<V: Opens> Told for KeyRing<V> {
-    fn tell(&self, alloc: Global) -> Result<Vec<u8>> {
-        let mut told = Vec::new(alloc);
+/// A ring is known by what it answers for a token of each id.
+impl<V: Opens> Snapshot for KeyRing<V> {
+    fn snapshot(&self, alloc: Global) -> Result<Vec<u8>> {
+        let mut bytes = Vec::new(alloc);
         'footers: for footer in [NEW, OLD] {
-            let token = seal::<V>(alloc, "a text", footer)?;
+            let token = seal_with::<V>(alloc, "a text", Footer::from(footer))?;
             let answer = Answer::of(alloc, V::open_by(self, token.as_str()))?;
-            told.extend_from_slice(&answer.tell(alloc)?)?;
+            bytes.extend_from_slice(&answer.snapshot(alloc)?)?;
         }
-        Ok(told)
+        Ok(bytes)
     }
 }
 
 /// Asks them.
 pub fn ask<W: Write>(run: &mut Run<W>) -> Result<()> {
-    ask_version::<V1, W>(run, "v1.local")?;
-    ask_version::<V3, W>(run, "v3.local")?;
-    ask_version::<V4, W>(run, "v4.local")
-}
-
-fn ask_version<V: Opens, W: Write>(run: &mut Run<W>, kind: &str) -> Result<()> {
-    if !run.asks_of(kind) {
-        return Ok(());
-    }
-    ask_adding::<V, W>(run, kind, "new", "a new id")?;
-    ask_adding::<V, W>(run, kind, "old", "an id that is there")?;
-    ask_opening::<V, W>(run, kind)?;
-    ask_refused_opening::<V, W>(run, kind)?;
-    ask_key::<V, W>(run, kind)?;
-    ask_parsing::<V, W>(run, kind)
-}
-
-fn seal<V: LocalVersion>(alloc: Global, text: &str, footer: &str) -> Result<String, PasetoError> {
-    let nonce = Key::<32>::from([0; 32]);
-    V::seal(
-        alloc,
-        &symmetric_key(),
-        &PasetoNonce::from(&nonce),
-        Payload::from(text),
-        Some(Footer::from(footer)),
-        None,
-    )
+    let keys = Keys::of(&SECRET);
+    local_kinds! { run, ask_version }
+    ask_boxed(run)?;
+    ask_verifying(run, &keys)?;
+    public_kinds! { run, ask_public, &keys }
+    Ok(())
 }
 
 // A ring of twelve keys, none of which is the one that tokens are sealed under.
@@ -104,68 +88,133 @@ fn other_key<V: Opens>() -> PasetoSymmetricKey<V, Local> {
     PasetoSymmetricKey::from(Key::<32>::from([8; 32]))
 }
 
-fn ask_adding<V: Opens, W: Write>(
+fn ask_version<V: Opens, W: Write>(run: &mut Run<W>, kind: &str) -> Result<()> {
+    ask_adding::<V, W>(run, kind)?;
+    let (alloc, text) = (run.alloc(), run.text()?);
+    let mut ring = ring_of::<V>(alloc)?;
+    ring.add("new", symmetric_key())?;
+    ask_opening(run, kind, &ring, text.as_str())?;
+    ask_parsing(run, kind, &ring, text.as_str())
+}
+
+fn ask_adding<V: Opens, W: Write>(run: &mut Run<W>, kind: &str) -> Result<()> {
+    let (alloc, key) = (run.alloc(), symmetric_key::<V>());
+    let of_new = format!(in alloc; "{kind}, a new id")?;
+    let of_old = format!(in alloc; "{kind}, an id that is there")?;
+    edits! { run, two_rings::<V>(alloc);
+        "Ring::add", of_new.as_str() => |ring| ring.add("new", key.clone());
+        "Ring::add", of_old.as_str() => |ring| ring.add("old", key.clone());
+    }
+    Ok(())
+}
+
+fn ask_opening<V: Opens, W: Write>(
     run: &mut Run<W>,
     kind: &str,
-    id: &str,
-    what: &str,
+    ring: &KeyRing<V>,
+    text: &str,
 ) -> Result<()> {
-    let alloc = run.alloc();
-    let of = format!(in alloc; "{kind}, {what}")?;
-    run.change(
-        Case::of("KeyRing::add", of.as_str()),
-        two_rings::<V>(alloc),
-        [symmetric_key(), symmetric_key(), symmetric_key()],
-        |ring, key| ring.add(id, key),
-    )
+    let (alloc, other) = (run.alloc(), ring_of::<V>(run.alloc())?);
+    let token = seal_with::<V>(alloc, text, Footer::from(NEW))?;
+    let (token, of_other) = (
+        token.as_str(),
+        format!(in alloc; "{kind}, an id that is not there, refused")?,
+    );
+    calls! { run;
+        "Ring::open", kind => V::open_by(ring, token);
+        "Ring::open", of_other.as_str() => V::open_by(&other, token);
+        "Ring::key_of", kind => found(ring);
+    }
+    Ok(())
 }
 
-fn ask_opening<V: Opens, W: Write>(run: &mut Run<W>, kind: &str) -> Result<()> {
-    let alloc = run.alloc();
-    let token = seal::<V>(alloc, run.text()?.as_str(), NEW)?;
-    let mut ring = ring_of::<V>(alloc)?;
-    ring.add("new", symmetric_key())?;
-    run.ask(Case::of("KeyRing::open", kind), &ring, &ring, |ring| {
-        V::open_by(ring, token.as_str())
-    })
+fn found<V: Opens>(ring: &KeyRing<V>) -> Result<(), KeyRingError> {
+    match ring.key_of(NEW) {
+        Ok(_) => Ok(()),
+        Err(error) => Err(error),
+    }
 }
 
-fn ask_refused_opening<V: Opens, W: Write>(run: &mut Run<W>, kind: &str) -> Result<()> {
-    let alloc = run.alloc();
-    let token = seal::<V>(alloc, run.text()?.as_str(), NEW)?;
-    let of = format!(in alloc; "{kind}, an id that is not there")?;
-    let ring = ring_of::<V>(alloc)?;
-    run.ask(
-        Case::refused("KeyRing::open", of.as_str()),
-        &ring,
-        &ring,
-        |ring| V::open_by(ring, token.as_str()),
-    )
-}
-
-fn ask_key<V: Opens, W: Write>(run: &mut Run<W>, kind: &str) -> Result<()> {
-    let mut ring = ring_of::<V>(run.alloc())?;
-    ring.add("new", symmetric_key())?;
-    run.ask(Case::of("KeyRing::key_of", kind), &ring, &ring, |ring| {
-        match ring.key_of(NEW) {
-            Ok(_) => Ok(()),
-            Err(error) => Err(error),
-        }
-    })
-}
-
-fn ask_parsing<V: Opens, W: Write>(run: &mut Run<W>, kind: &str) -> Result<()> {
-    let alloc = run.alloc();
-    let payload = good(alloc, run.text()?.as_str())?;
-    let token = seal::<V>(alloc, payload.as_str(), NEW)?;
-    let mut ring = ring_of::<V>(alloc)?;
-    ring.add("new", symmetric_key())?;
+fn ask_parsing<V: Opens, W: Write>(
+    run: &mut Run<W>,
+    kind: &str,
+    ring: &KeyRing<V>,
+    text: &str,
+) -> Result<()> {
+    let (alloc, generic) = (run.alloc(), GenericParser::<V, Local>::new(run.alloc()));
+    let token = seal_with::<V>(alloc, good(alloc, text)?.as_str(), Footer::from(NEW))?;
     let parser = PasetoParser::<V, Local>::default(alloc, now()?)?;
-    run.ask(Case::of("KeyRing::parse", kind), &ring, &ring, |ring| {
-        ring.parse(&parser, token.as_str())
-    })?;
-    let parser = GenericParser::<V, Local>::new(alloc);
-    run.ask(Case::of("KeyRing::parse_by", kind), &ring, &ring, |ring| {
-        ring.parse_by(&parser, token.as_str())
-    })
+    calls! { run;
+        "Ring::parse", kind => ring.parse(&parser, token.as_str());
+        "Ring::parse_by", kind => ring.parse_by(&generic, token.as_str());
+    }
+    Ok(())
+}
+
+fn ask_boxed<W: Write>(run: &mut Run<W>) -> Result<()> {
+    let (alloc, text) = (run.alloc(), run.text()?);
+    let mut ring = KeyRing::<V2>::new(alloc);
+    ring.add("new", symmetric_key())?;
+    let payload = good(alloc, text.as_str())?;
+    let token = boxed_local::seal(alloc, payload.as_str(), Footer::from(NEW))?;
+    let (token, generic) = (token.as_str(), GenericParser::<V2, Local>::new(alloc));
+    let parser = PasetoParser::<V2, Local>::default(alloc, now()?)?;
+    calls! { run;
+        "Ring::open", "v2.local" => ring.open(&PlainBox, token);
+        "Ring::parse", "v2.local" => ring.parse(&PlainBox, &parser, token);
+        "Ring::parse_by", "v2.local" => ring.parse_by(&PlainBox, &generic, token);
+    }
+    Ok(())
+}
+
+fn ring_of_public<'a, V: Signed>(alloc: Global, keys: &'a Keys) -> Result<PublicKeyRing<'a, V>> {
+    let mut ring = PublicKeyRing::<V>::new(alloc);
+    ring.add("new", V::public_key(keys)?)?;
+    Ok(ring)
+}
+
+// A token that the ring's key verifies.
+fn signed<V: Signed>(alloc: Global, text: &str, keys: &Keys) -> Result<String> {
+    Ok(sign::<V>(alloc, good(alloc, text)?.as_str(), Footer::from(NEW), keys)?)
+}
+
+fn ask_verifying<W: Write>(run: &mut Run<W>, keys: &Keys) -> Result<()> {
+    let (alloc, text) = (run.alloc(), run.text()?);
+    let text = text.as_str();
+    let (ring, token) = (
+        ring_of_public::<V1>(alloc, keys)?,
+        signed::<V1>(alloc, text, keys)?,
+    );
+    calls! { run; "Ring::verify", "v1.public" => ring.verify(&Lenient, token.as_str()); }
+    let (ring, token) = (
+        ring_of_public::<V2>(alloc, keys)?,
+        signed::<V2>(alloc, text, keys)?,
+    );
+    calls! { run; "Ring::verify", "v2.public" => ring.verify(&Lenient, token.as_str()); }
+    let (ring, token) = (
+        ring_of_public::<V3>(alloc, keys)?,
+        signed::<V3>(alloc, text, keys)?,
+    );
+    calls! { run; "Ring::verify", "v3.public" => ring.verify(&Lenient, token.as_str(), None); }
+    let (ring, token) = (
+        ring_of_public::<V4>(alloc, keys)?,
+        signed::<V4>(alloc, text, keys)?,
+    );
+    calls! { run; "Ring::verify", "v4.public" => ring.verify(&Lenient, token.as_str(), None); }
+    Ok(())
+}
+
+fn ask_public<V: Signed, W: Write>(run: &mut Run<W>, keys: &Keys) -> Result<()> {
+    let (alloc, text) = (run.alloc(), run.text()?);
+    let (ring, generic) = (
+        ring_of_public::<V>(alloc, keys)?,
+        GenericParser::<V, Public>::new(alloc),
+    );
+    let parser = PasetoParser::<V, Public>::default(alloc, now()?)?;
+    let token = signed::<V>(alloc, text.as_str(), keys)?;
+    calls! { run;
+        "Ring::parse", V::KIND => ring.parse(&Lenient, &parser, token.as_str());
+        "Ring::parse_by", V::KIND => ring.parse_by(&Lenient, &generic, token.as_str());
+    }
+    Ok(())
 }

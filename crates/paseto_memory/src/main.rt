@@ -13,8 +13,11 @@ mod kinds;
 mod local;
 mod no_memory;
 mod parsers;
+mod paserk;
 mod primitives;
+mod rsa_key;
 mod run;
+mod schemes;
 mod signed;
 mod validators;
 
@@ -67,5 +70,7 @@ fn ask_all<W: Write>(run: &mut Run<W>) -> Result<()> {
     parsers::ask(run)?;
     defaults::ask(run)?;
     key_rings::ask(run)?;
+    schemes::ask(run)?;
+    paserk::ask(run)?;
     no_memory::ask(run)
 }

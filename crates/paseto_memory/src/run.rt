@@ -1,39 +1,42 @@
 //! A run over the cases.
 
-use crate::answer::{Answer, Refusal, Told};
+use crate::answer::{Answer, Refusal, Snapshot};
 use anyhow::{Result, bail, ensure};
 use std::alloc::Global;
 use std::io::Write;
 
-/// What is asked: a public call, of what, and whether the call is to refuse it.
-#[derive(Clone, Copy)]
-pub struct Case<'a> {
-    call: &'a str,
-    of: &'a str,
-    is_refused: bool,
+/// A line for each case of a call that changes nothing: what is called, of what, and the call.
+macro_rules! calls {
+    ($run:expr; $($call:expr, $of:expr => $asked:expr;)*) => {
+        $($run.call($call, $of, || $asked)?;)*
+    };
 }
 
-impl<'a> Case<'a> {
-    /// A call that is to answer a value.
-    pub fn of(call: &'a str, of: &'a str) -> Self {
-        Case {
-            call,
-            of,
-            is_refused: false,
-        }
-    }
-
-    /// A call that is to refuse, for another cause than memory.
-    pub fn refused(call: &'a str, of: &'a str) -> Self {
-        Case {
-            call,
-            of,
-            is_refused: true,
-        }
-    }
+/// A line for each case of a call that changes an object and is given nothing: what is called, of what, and the
+/// change. Two alike objects are made for each.
+macro_rules! edits {
+    ($run:expr, $objects:expr; $($call:expr, $of:expr => |$object:ident| $edit:expr;)*) => {
+        $($run.change($call, $of, $objects, [(), (), ()], |$object, _| $edit)?;)*
+    };
 }
 
-/// What an object answered before a change, what the change answered, and what the object answered then.
+/// The same for calls that are given a value, of which three are made.
+macro_rules! changes {
+    ($run:expr, $objects:expr; $($call:expr, $of:expr => $given:expr => |$object:ident, $value:ident| $edit:expr;)*) => {
+        $($run.change($call, $of, $objects, $given, |$object, $value| $edit)?;)*
+    };
+}
+
+pub(crate) use calls;
+pub(crate) use changes;
+pub(crate) use edits;
+
+/// Whether what is asked is to be refused, for another cause than memory: the end of its name says so.
+fn is_refused(of: &str) -> bool {
+    of.ends_with(", refused")
+}
+
+/// An object before a change, what the change answered, and the object then.
 #[derive(Drop)]
 struct Change {
     before: Vec<u8>,
@@ -44,16 +47,16 @@ struct Change {
 impl Change {
     fn made<O, A, E, F>(alloc: Global, object: O, given: A, call: F) -> Result<Change>
     where
-        O: Told + Drop,
+        O: Snapshot + Drop,
         A: Drop,
         E: Refusal,
         F: FnOnce(&mut O, A) -> Result<(), E>,
         requires { F.IsAlwaysCallable call }
     {
         let mut object = object;
-        let before = object.tell(alloc)?;
+        let before = object.snapshot(alloc)?;
         let answer = Answer::of(alloc, call(&mut object, given))?;
-        let after = object.tell(alloc)?;
+        let after = object.snapshot(alloc)?;
         Ok(Change {
             before,
             answer,
@@ -62,9 +65,8 @@ impl Change {
     }
 
     // What refuses changes nothing, and what does not refuse changes something.
-    fn is_of(&self, case: Case<'_>) -> bool {
-        self.answer.is_refusal() == case.is_refused
-            && (self.before == self.after) == case.is_refused
+    fn is_right(&self, is_refused: bool) -> bool {
+        self.answer.is_refusal() == is_refused && (self.before == self.after) == is_refused
     }
 
     fn is(&self, other: &Change) -> bool {
@@ -119,67 +121,61 @@ impl<W: Write> Run<W> {
         Ok(())
     }
 
-    /// Asks one of two alike objects between the marks, and then again. The other says what is right.
-    pub fn ask<O, T, E, F>(
-        &mut self,
-        case: Case<'_>,
-        untouched: &O,
-        object: &O,
-        call: F,
-    ) -> Result<()>
+    /// Asks a call of something between the marks, and then again. What is right is what it answers before.
+    pub fn call<T, E, F>(&mut self, call: &str, of: &str, asked: F) -> Result<()>
     where
-        T: Told + Drop,
+        T: Snapshot + Drop,
         E: Refusal,
-        F: Copy + FnOnce(&O) -> Result<T, E>,
-        requires { F.IsAlwaysCallable call }
+        F: Copy + FnOnce() -> Result<T, E>,
+        requires { F.IsAlwaysCallable asked }
     {
-        let name = self.name(case)?;
+        let name = format!(in self.alloc; "{call} of {of}")?;
         if !self.is_asked(name.as_str()) {
             return Ok(());
         }
-        let expected = Answer::of(self.alloc, call(untouched))?;
-        if expected.is_refusal() != case.is_refused {
+        let expected = Answer::of(self.alloc, asked())?;
+        if expected.is_refusal() != is_refused(of) {
             bail!("{name}: this is another answer than the case is about");
         }
         self.mark("memory: begin\n")?;
-        let met = call(object);
+        let met = asked();
         self.mark("memory: end\n")?;
         let met = Answer::of(self.alloc, met)?;
-        let then = Answer::of(self.alloc, call(object))?;
-        self.tell(name.as_str(), met.word(&expected), then.is(&expected))
+        let then = Answer::of(self.alloc, asked())?;
+        self.report(name.as_str(), met.word(&expected), then.is(&expected))
     }
 
-    /// Changes the second of two alike objects between the marks, by the second of the given values. What is right
-    /// is told by the first: by what it answers before and after the same change. Objects that could not be made
-    /// end the run.
+    /// Changes the second of two alike objects between the marks, by the second of the given values. What is right is
+    /// what the first answers before and after the same change. Objects that could not be made end the run.
     ///
     /// Where memory was refused, the object is to answer as before the change, and is then changed again.
     pub fn change<O, A, E, F>(
         &mut self,
-        case: Case<'_>,
+        call: &str,
+        of: &str,
         objects: Result<[O; 2]>,
         given: [A; 3],
-        call: F,
+        edit: F,
     ) -> Result<()>
     where
-        O: Told + Drop,
+        O: Snapshot + Drop,
         A: Drop,
         E: Refusal,
         F: Copy + FnOnce(&mut O, A) -> Result<(), E>,
-        requires { F.IsAlwaysCallable call }
+        requires { F.IsAlwaysCallable edit }
     {
         let [untouched, object] = objects?;
-        let name = self.name(case)?;
+        let name = format!(in self.alloc; "{call} of {of}")?;
         if !self.is_asked(name.as_str()) {
             return Ok(());
         }
         let [first, second, third] = given;
-        let right = Change::made(self.alloc, untouched, first, call)?;
-        if !right.is_of(case) {
+        let right = Change::made(self.alloc, untouched, first, edit)?;
+        if !right.is_right(is_refused(of)) {
             bail!("{name}: this is another answer than the case is about");
         }
-        let (word, then) = self.change_marked(&right, object, [second, third], call)?;
-        self.tell(name.as_str(), word, then)
+        let (word, then) = self.change_marked(&right, object, [second, third], edit)?;
+        self.report(name.as_str(), word, then)
     }
 
     // The word for what the change answers between the marks, and whether the object is then right.
@@ -191,7 +187,7 @@ impl<W: Write> Run<W> {
         call: F,
     ) -> Result<(&'static str, bool)>
     where
-        O: Told + Drop,
+        O: Snapshot + Drop,
         A: Drop,
         E: Refusal,
         F: Copy + FnOnce(&mut O, A) -> Result<(), E>,
@@ -206,19 +202,9 @@ impl<W: Write> Run<W> {
         let then = if met.is_memory() {
             Change::made(self.alloc, object, again, call)?.is(right)
         } else {
-            object.tell(self.alloc)? == right.after
+            object.snapshot(self.alloc)? == right.after
         };
         Ok((met.word(&right.answer), then))
-    }
-
-    fn name(&self, case: Case<'_>) -> Result<String> {
-        let Case {
-            call,
-            of,
-            is_refused,
-        } = case;
-        let end = if is_refused { ", refused" } else { "" };
-        Ok(format!(in self.alloc; "{call} of {of}{end}")?)
     }
 
     fn is_asked(&mut self, name: &str) -> bool {
@@ -238,7 +224,7 @@ impl<W: Write> Run<W> {
         Ok(())
     }
 
-    fn tell(&mut self, name: &str, word: &str, then: bool) -> Result<()> {
+    fn report(&mut self, name: &str, word: &str, then: bool) -> Result<()> {
         let then = if then { "right" } else { "wrong" };
         writeln!(self.output, "{name}: {word}, then {then}")?;
         Ok(())
