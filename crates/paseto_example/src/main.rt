@@ -1,10 +1,10 @@
-//! A ticket office, as a program over the library would be written: it issues tickets, lets them in, and refuses
-//! one that has expired, one under a key that is retired or another one, and one whose signature another key made.
+//! A ticket office, as a program over the library would be written: it issues tickets and sessions, lets them in, changes
+//! its keys, and refuses what has expired, what is under a retired key or another one, and what another key signed.
 #![tactic(auto)]
 
 mod boxed;
 mod keyed_hash_scheme;
-mod rotation;
+mod sessions;
 mod signed;
 mod ticket;
 
@@ -14,17 +14,19 @@ use keyed_hash_scheme::KeyedHashScheme;
 use paseto_ed25519::Ed25519;
 use rand::rngs::SysRng;
 use rusty_paseto::prelude::{
-    Key, KeyRing, Local, PasetoAsymmetricPrivateKey, PasetoAsymmetricPublicKey, PasetoSymmetricKey,
-    Public, V2, V4,
+    Key, Local, PasetoAsymmetricPrivateKey, PasetoAsymmetricPublicKey, PasetoParser,
+    PasetoSymmetricKey, Public, PublicKeyRing, V2, V4,
 };
+use sessions::{Refusal, Sessions};
 
 fn main(rt: HostRuntime) -> Result<()> {
     let now = Timestamp::now(&rt)?;
     let soon = Timestamp::from_second(now.as_second().saturating_add(60))?;
     show_local(&rt, now, soon)?;
-    show_rotation(&rt, now)?;
+    show_sessions(&rt, now)?;
     show_boxed(&rt, now, soon)?;
     show_signed(&rt, now, soon)?;
+    show_public_keys(&rt, now, soon)?;
     show_own_scheme(&rt, now, soon)
 }
 
@@ -46,21 +48,35 @@ fn show_local(rt: &HostRuntime, now: Timestamp, soon: Timestamp) -> Result<()> {
     Ok(())
 }
 
-/// A ticket opens under the key in the ring that its footer names, and one of a retired key does not.
-fn show_rotation(rt: &HostRuntime, now: Timestamp) -> Result<()> {
-    let alloc = rt.alloc();
-    let mut rng = SysRng::new(rt);
+/// Sessions are admitted under the newest key and the one before it, until that is retired.
+fn show_sessions(rt: &HostRuntime, now: Timestamp) -> Result<()> {
+    let (alloc, mut rng) = (rt.alloc(), SysRng::new(rt));
     let october = PasetoSymmetricKey::<V4, Local>::from(Key::<32>::try_new_random(&mut rng)?);
     let november = PasetoSymmetricKey::<V4, Local>::from(Key::<32>::try_new_random(&mut rng)?);
-    let old = rotation::issue(alloc, now, &mut rng, "2026-10", &october)?;
-    let new = rotation::issue(alloc, now, &mut rng, "2026-11", &november)?;
+    let mut sessions = Sessions::new(alloc, "2026-10", october)?;
+    let old = sessions.issue(now, &mut rng, "Ada", 2)?;
+    sessions.rotate("2026-11", november)?;
+    let new = sessions.issue(now, &mut rng, "Grace", 4)?;
+    let crowded = sessions.issue(now, &mut rng, "Alan", 9)?;
 
-    let mut ring = KeyRing::<V4>::new(alloc);
-    ring.add("2026-11", november)?;
-    println!(rt; "opened under {}", rotation::key_of(&ring, new.as_str())?)?;
-    match rotation::key_of(&ring, old.as_str()) {
-        Ok(id) => println!(rt; "opened under {id}")?,
-        Err(refusal) => println!(rt; "refused: {refusal}")?,
+    show_session(rt, &sessions, now, old.as_str())?;
+    show_session(rt, &sessions, now, new.as_str())?;
+    show_session(rt, &sessions, now, crowded.as_str())?;
+    let tomorrow = Timestamp::from_second(now.as_second().saturating_add(86_400))?;
+    show_session(rt, &sessions, tomorrow, new.as_str())?;
+    println!(rt; "retired: {}", sessions.retire("2026-10"))?;
+    show_session(rt, &sessions, now, old.as_str())?;
+    show_session(rt, &sessions, now, "v4.local.AAAA.e30")?;
+    Ok(())
+}
+
+/// What the service makes of a token, and what it would answer over HTTP.
+fn show_session(rt: &HostRuntime, sessions: &Sessions, now: Timestamp, token: &str) -> Result<()> {
+    match sessions.admit(now, token) {
+        Ok(session) => println!(rt; "200: {} with {} seats", session.sub, session.seats)?,
+        Err(refusal @ Refusal::Memory(_)) => println!(rt; "503: {refusal}")?,
+        Err(refusal @ Refusal::Odd(_)) => println!(rt; "403: {refusal}")?,
+        Err(refusal) => println!(rt; "401: {refusal}")?,
     }
     Ok(())
 }
@@ -78,7 +94,7 @@ fn show_boxed(rt: &HostRuntime, now: Timestamp, soon: Timestamp) -> Result<()> {
     let other = PasetoSymmetricKey::<V2, Local>::from(Key::<32>::default());
     match boxed::admit(alloc, soon, token.as_str(), &other) {
         Ok(_) => println!(rt; "admitted under another key")?,
-        Err(refusal) => println!(rt; "refused under another key: {refusal}")?,
+        Err(refusal) => println!(rt; "refused under another key: {}", refusal.explained())?,
     }
     Ok(())
 }
@@ -99,7 +115,27 @@ fn show_signed(rt: &HostRuntime, now: Timestamp, soon: Timestamp) -> Result<()> 
     let other_key = PasetoAsymmetricPublicKey::<V4, Public>::from(&other);
     match signed::admit(alloc, soon, &Ed25519, token.as_str(), &other_key) {
         Ok(_) => println!(rt; "admitted under another key")?,
-        Err(refusal) => println!(rt; "refused under another key: {refusal}")?,
+        Err(refusal) => println!(rt; "refused under another key: {}", refusal.explained())?,
+    }
+    Ok(())
+}
+
+/// Public keys that change with the month: the footer of a signed ticket names its key in the ring.
+fn show_public_keys(rt: &HostRuntime, now: Timestamp, soon: Timestamp) -> Result<()> {
+    let alloc = rt.alloc();
+    let (private, public) = Ed25519::key_pair(&mut SysRng::new(rt))?;
+    let private_key = PasetoAsymmetricPrivateKey::<V4, Public>::from(&private);
+    let token = signed::issue_under(alloc, now, &mut Ed25519, "2026-11", &private_key)?;
+
+    let mut ring = PublicKeyRing::<V4>::new(alloc);
+    ring.add("2026-11", PasetoAsymmetricPublicKey::from(&public))?;
+    let parser = PasetoParser::<V4, Public>::default(alloc, soon)?;
+    let (id, _claims) = ring.parse(&Ed25519, &parser, token.as_str())?;
+    println!(rt; "admitted under {id}")?;
+    drop(ring.remove("2026-11"));
+    match ring.parse(&Ed25519, &parser, token.as_str()) {
+        Ok(_) => println!(rt; "admitted under a key that is gone")?,
+        Err(refusal) => println!(rt; "refused: {refusal}")?,
     }
     Ok(())
 }

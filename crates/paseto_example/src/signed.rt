@@ -4,8 +4,9 @@
 use anyhow::{Result, ensure};
 use jiff::Timestamp;
 use rusty_paseto::prelude::{
-    CountingSetter, GenericParserError, PasetoAsymmetricPrivateKey, PasetoAsymmetricPublicKey,
-    PasetoBuilder, PasetoParser, Public, SignatureScheme, SubjectClaim, V4, fits_default,
+    CountingSetter, Footer, GenericParserError, PasetoAsymmetricPrivateKey,
+    PasetoAsymmetricPublicKey, PasetoBuilder, PasetoParser, Public, SignatureScheme, SubjectClaim,
+    V4, fits_default,
 };
 use serde_json::Value;
 use std::alloc::Global;
@@ -21,6 +22,21 @@ pub fn issue<S: SignatureScheme<64>>(
     ensure!(fits_default(now), "the clock is past the year 9999");
     let mut builder = PasetoBuilder::<V4, Public>::default(alloc, now)?;
     builder.set_claim(&SubjectClaim::from(subject))?;
+    Ok(builder.build(scheme, key)?)
+}
+
+/// A signed ticket whose footer names the key.
+pub fn issue_under<S: SignatureScheme<64>>(
+    alloc: Global,
+    now: Timestamp,
+    scheme: &mut S,
+    id: &str,
+    key: &PasetoAsymmetricPrivateKey<'_, V4, Public>,
+) -> Result<String> {
+    ensure!(fits_default(now), "the clock is past the year 9999");
+    let footer = format!(in alloc; "{{\"kid\":\"{id}\"}}")?;
+    let mut builder = PasetoBuilder::<V4, Public>::default(alloc, now)?;
+    builder.set_footer(Footer::from(footer.as_str()));
     Ok(builder.build(scheme, key)?)
 }
 
