@@ -1,0 +1,59 @@
+#!/usr/bin/env bash
+# Builds the library for C and installs it: PREFIX/lib/libpaseto.a and libpaseto.so, PREFIX/include/paseto.h and
+# PREFIX/lib/pkgconfig/paseto.pc.
+#
+#   c/build.sh PREFIX [--cpu NAME]
+#
+# --cpu builds for another processor than the default, as x86-64-v3. The library is proved first, which takes some
+# minutes where no check has kept its work.
+set -euo pipefail
+
+if [ $# -lt 1 ] || { [ $# -ne 1 ] && { [ $# -ne 3 ] || [ "$2" != --cpu ]; }; }; then
+    echo 'usage: c/build.sh PREFIX [--cpu NAME]' >&2
+    exit 2
+fi
+mkdir -p "$1"
+prefix=$(cd "$1" && pwd)
+cpu=("${@:2}")
+here=$(cd "$(dirname "$0")" && pwd)
+crate=$here/../crates/paseto_c
+
+for tool in cc ld ar objcopy; do
+    if ! command -v "$tool" >/dev/null; then
+        echo "There is no $tool. On Debian: apt-get install gcc libc6-dev binutils" >&2
+        exit 1
+    fi
+done
+
+work=$(mktemp -d)
+trap 'rm -rf "$work"' EXIT
+if ! (cd "$crate" && rt lib "${cpu[@]}") >"$work/log" 2>&1; then
+    tail -5 "$work/log" >&2
+    exit 1
+fi
+
+# One object holds the crate and what it stands on, and shows the exports alone.
+kit=$(dirname "$(rt doc)")
+ld -r --whole-archive "$crate/out/libpaseto_c.a" --no-whole-archive "$kit/c/liblibc_c.a" "$kit/c/libos_c.a" \
+    -o "$work/all.o"
+objcopy --wildcard --keep-global-symbol='paseto_*' "$work/all.o" "$work/paseto.o"
+ar rcs "$work/libpaseto.a" "$work/paseto.o"
+printf '{ global: paseto_*; local: *; };\n' >"$work/exports"
+cc -shared -Wl,--gc-sections -Wl,--version-script="$work/exports" -Wl,-soname,libpaseto.so \
+    -Wl,-z,relro,-z,now -o "$work/libpaseto.so" "$work/paseto.o"
+
+install -d "$prefix/lib/pkgconfig" "$prefix/include"
+install -m 644 "$work/libpaseto.a" "$prefix/lib/libpaseto.a"
+install -m 755 "$work/libpaseto.so" "$prefix/lib/libpaseto.so"
+install -m 644 "$here/paseto.h" "$prefix/include/paseto.h"
+cat >"$prefix/lib/pkgconfig/paseto.pc" <<END
+prefix=$prefix
+libdir=\${prefix}/lib
+includedir=\${prefix}/include
+
+Name: paseto
+Description: PASETO tokens by a proved library
+Version: 1
+Libs: -L\${libdir} -lpaseto
+Cflags: -I\${includedir}
+END

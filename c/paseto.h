@@ -1,0 +1,268 @@
+/* PASETO tokens by the proved library of crates/paseto_c (docs/C.md).
+
+   Every call is complete in itself: it keeps nothing, and may be made from any thread. A slice of bytes is a pointer and a
+   length; a pointer may be null where the length is 0. A footer or an implicit assertion of length 0 is none. The room
+   that is lent for an answer may share no byte with anything else that is handed over.
+
+   A call returns a status. At PASETO_OK the room begins with the answer, which has no zero byte behind it, and *written is
+   its length; the rest of the room is as it was. At PASETO_ROOM the room is too short: *written is the length that is
+   needed, and the room is as it was. At each other status *written is 0, and the room is as it was: nothing that was
+   decrypted is left in it. PASETO_MEMORY may come in place of any other status. */
+#ifndef PASETO_H
+#define PASETO_H
+
+#include <stddef.h>
+#include <stdint.h>
+#if defined(__linux__)
+#include <errno.h>
+#include <sys/random.h>
+#endif
+
+#ifdef __cplusplus
+extern "C" {
+#endif
+
+typedef uint8_t paseto_status;
+
+enum {
+    PASETO_OK = 0,
+    PASETO_ROOM = 1,   /* the room is too short */
+    PASETO_MEMORY = 2, /* memory was refused */
+    /* of the arguments, in this order */
+    PASETO_INVALID_KEY = 3,    /* a key has not the length or the form of its kind */
+    PASETO_INVALID_NONCE = 4,  /* a nonce or a seed has not its length */
+    PASETO_NOT_UTF8 = 5,       /* a text, a token, a footer or an implicit assertion is not UTF-8 */
+    PASETO_NOT_OBJECT = 6,     /* claims are not the text of a JSON object */
+    PASETO_INVALID_MOMENT = 7, /* the moment is out of range */
+    /* of a token, in the order in which they are found */
+    PASETO_INCORRECT_SIZE = 8,         /* not three or four sections, or too short a payload */
+    PASETO_FOOTER_INVALID = 9,         /* another footer */
+    PASETO_WRONG_HEADER = 10,          /* another version or purpose */
+    PASETO_PAYLOAD_BASE64_DECODE = 11, /* a section that is the encoding of no bytes */
+    PASETO_CRYPTION = 12,              /* another key or assertion, or a token that was changed: v1, v3, v4 local */
+    PASETO_CHACHA_CIPHER_ERROR = 13,   /* the same in v2 local; a text that is too long to seal */
+    PASETO_INVALID_SIGNATURE = 14,     /* a signature that is not valid */
+    PASETO_UTF8_ERROR = 15,            /* the decrypted text, or the footer that is read, is not UTF-8 */
+    PASETO_FROM_UTF8_ERROR = 16,       /* the signed text is not UTF-8 */
+    /* of a private key */
+    PASETO_KEY_REJECTED = 17, /* no private key of its kind */
+    PASETO_SIGNATURE = 18,    /* its halves are of two keys */
+    /* of claims */
+    PASETO_PAYLOAD_JSON_ERROR = 19,   /* the payload is not JSON */
+    PASETO_EXPIRED = 20,              /* exp has come */
+    PASETO_USE_BEFORE_AVAILABLE = 21, /* nbf has not passed */
+    PASETO_RFC3339_DATE = 22,         /* exp or nbf is no date and time */
+    PASETO_MISSING = 23,              /* an expected claim is missing */
+    PASETO_UNEXPECTED = 24,           /* a claim of another kind, or a number that is not whole */
+    PASETO_INVALID = 25,              /* an expected claim is another text */
+    PASETO_DUPLICATE = 26,            /* a claim was set twice; the members of one object never are */
+    PASETO_OTHER = 27                 /* no call gives it */
+};
+
+/* Draws secret random bytes, as nonces and seeds are to be: by getrandom(2), which blocks only before the system has
+   gathered randomness for the first time. Returns 0, or -1 where the system refuses. On another system, draw them by its
+   own call. A nonce is drawn anew for each token: two tokens of one key may not share one.
+
+       uint8_t nonce[32];
+       if (paseto_random(nonce, sizeof nonce) != 0) return -1; */
+#if defined(__linux__)
+static inline int paseto_random(uint8_t *bytes, size_t length) {
+    while (length > 0) {
+        ssize_t drawn = getrandom(bytes, length, 0);
+        if (drawn < 0) {
+            if (errno == EINTR) continue;
+            return -1;
+        }
+        bytes += drawn;
+        length -= (size_t)drawn;
+    }
+    return 0;
+}
+#endif
+
+/* What a status says, in English and in one line, at most 100 bytes. Statuses: PASETO_OK, PASETO_ROOM.
+
+       uint8_t text[100];
+       size_t n;
+       paseto_error_text(status, text, sizeof text, &n);
+       fprintf(stderr, "%.*s\n", (int)n, (const char *)text); */
+paseto_status paseto_error_text(paseto_status status, uint8_t *room, size_t room_length, size_t *written);
+
+/* ---- local tokens: encrypted and authenticated
+
+   Encrypting takes a key of 32 bytes, a nonce of 32 bytes drawn by paseto_random, and a text. Statuses: PASETO_OK,
+   PASETO_ROOM, PASETO_MEMORY, PASETO_INVALID_KEY, PASETO_INVALID_NONCE, PASETO_NOT_UTF8; and in version 2
+   PASETO_CHACHA_CIPHER_ERROR, for a text of 2^38 - 63 bytes or more. The versions 1 and 2 have no implicit assertion.
+
+       uint8_t token[512];
+       size_t n;
+       if (paseto_v4_local_encrypt(key, 32, nonce, 32, text, text_length, NULL, 0, NULL, 0,
+                                   token, sizeof token, &n) != PASETO_OK) return -1; */
+paseto_status paseto_v1_local_encrypt(const uint8_t *key, size_t key_length, const uint8_t *nonce, size_t nonce_length,
+                                      const uint8_t *text, size_t text_length,
+                                      const uint8_t *footer, size_t footer_length,
+                                      uint8_t *room, size_t room_length, size_t *written);
+paseto_status paseto_v2_local_encrypt(const uint8_t *key, size_t key_length, const uint8_t *nonce, size_t nonce_length,
+                                      const uint8_t *text, size_t text_length,
+                                      const uint8_t *footer, size_t footer_length,
+                                      uint8_t *room, size_t room_length, size_t *written);
+paseto_status paseto_v3_local_encrypt(const uint8_t *key, size_t key_length, const uint8_t *nonce, size_t nonce_length,
+                                      const uint8_t *text, size_t text_length,
+                                      const uint8_t *footer, size_t footer_length,
+                                      const uint8_t *assertion, size_t assertion_length,
+                                      uint8_t *room, size_t room_length, size_t *written);
+paseto_status paseto_v4_local_encrypt(const uint8_t *key, size_t key_length, const uint8_t *nonce, size_t nonce_length,
+                                      const uint8_t *text, size_t text_length,
+                                      const uint8_t *footer, size_t footer_length,
+                                      const uint8_t *assertion, size_t assertion_length,
+                                      uint8_t *room, size_t room_length, size_t *written);
+
+/* Decrypting takes a key of 32 bytes and a token, with the footer and the assertion that are expected. Statuses:
+   PASETO_OK, PASETO_ROOM, PASETO_MEMORY, PASETO_INVALID_KEY, PASETO_NOT_UTF8, PASETO_INCORRECT_SIZE,
+   PASETO_FOOTER_INVALID, PASETO_WRONG_HEADER, PASETO_PAYLOAD_BASE64_DECODE, PASETO_CRYPTION (in version 2
+   PASETO_CHACHA_CIPHER_ERROR), PASETO_UTF8_ERROR. The text is shorter than the token.
+
+       uint8_t text[512];
+       size_t n;
+       if (paseto_v4_local_decrypt(key, 32, token, token_length, NULL, 0, NULL, 0, text, sizeof text, &n) != PASETO_OK)
+           return -1; */
+paseto_status paseto_v1_local_decrypt(const uint8_t *key, size_t key_length,
+                                      const uint8_t *token, size_t token_length,
+                                      const uint8_t *footer, size_t footer_length,
+                                      uint8_t *room, size_t room_length, size_t *written);
+paseto_status paseto_v2_local_decrypt(const uint8_t *key, size_t key_length,
+                                      const uint8_t *token, size_t token_length,
+                                      const uint8_t *footer, size_t footer_length,
+                                      uint8_t *room, size_t room_length, size_t *written);
+paseto_status paseto_v3_local_decrypt(const uint8_t *key, size_t key_length,
+                                      const uint8_t *token, size_t token_length,
+                                      const uint8_t *footer, size_t footer_length,
+                                      const uint8_t *assertion, size_t assertion_length,
+                                      uint8_t *room, size_t room_length, size_t *written);
+paseto_status paseto_v4_local_decrypt(const uint8_t *key, size_t key_length,
+                                      const uint8_t *token, size_t token_length,
+                                      const uint8_t *footer, size_t footer_length,
+                                      const uint8_t *assertion, size_t assertion_length,
+                                      uint8_t *room, size_t room_length, size_t *written);
+
+/* ---- public tokens: signed, and readable by everybody
+
+   A pair of keys is made of a seed drawn by paseto_random: in the versions 2 and 4 of 32 bytes, for a private key of 64
+   bytes and a public one of 32; in version 3 of 48 bytes, for a private key of 48 and a public one of 49. The rooms may be
+   longer. Statuses: PASETO_OK, PASETO_ROOM (of either room; then both are as they were), PASETO_INVALID_NONCE, and in
+   version 3 PASETO_KEY_REJECTED, for a seed that is no private key, which a random one is less than once in 2^189 times.
+
+       uint8_t seed[32], private_key[64], public_key[32];
+       if (paseto_random(seed, sizeof seed) != 0) return -1;
+       paseto_v4_public_keypair(seed, 32, private_key, 64, public_key, 32); */
+paseto_status paseto_v2_public_keypair(const uint8_t *seed, size_t seed_length,
+                                       uint8_t *private_room, size_t private_room_length,
+                                       uint8_t *public_room, size_t public_room_length);
+paseto_status paseto_v3_public_keypair(const uint8_t *seed, size_t seed_length,
+                                       uint8_t *private_room, size_t private_room_length,
+                                       uint8_t *public_room, size_t public_room_length);
+paseto_status paseto_v4_public_keypair(const uint8_t *seed, size_t seed_length,
+                                       uint8_t *private_room, size_t private_room_length,
+                                       uint8_t *public_room, size_t public_room_length);
+
+/* Signing takes a private key and a text. Statuses: PASETO_OK, PASETO_ROOM, PASETO_MEMORY, PASETO_INVALID_KEY,
+   PASETO_NOT_UTF8, PASETO_SIGNATURE, and in version 3 PASETO_KEY_REJECTED.
+
+       if (paseto_v4_public_sign(private_key, 64, text, text_length, NULL, 0, NULL, 0, token, sizeof token, &n)
+           != PASETO_OK) return -1; */
+paseto_status paseto_v2_public_sign(const uint8_t *private_key, size_t private_key_length,
+                                    const uint8_t *text, size_t text_length,
+                                    const uint8_t *footer, size_t footer_length,
+                                    uint8_t *room, size_t room_length, size_t *written);
+paseto_status paseto_v3_public_sign(const uint8_t *private_key, size_t private_key_length,
+                                    const uint8_t *text, size_t text_length,
+                                    const uint8_t *footer, size_t footer_length,
+                                    const uint8_t *assertion, size_t assertion_length,
+                                    uint8_t *room, size_t room_length, size_t *written);
+paseto_status paseto_v4_public_sign(const uint8_t *private_key, size_t private_key_length,
+                                    const uint8_t *text, size_t text_length,
+                                    const uint8_t *footer, size_t footer_length,
+                                    const uint8_t *assertion, size_t assertion_length,
+                                    uint8_t *room, size_t room_length, size_t *written);
+
+/* Verifying takes a public key and a token, and answers the token's text. Statuses: PASETO_OK, PASETO_ROOM,
+   PASETO_MEMORY, PASETO_INVALID_KEY, PASETO_NOT_UTF8, PASETO_INCORRECT_SIZE, PASETO_FOOTER_INVALID, PASETO_WRONG_HEADER,
+   PASETO_PAYLOAD_BASE64_DECODE, PASETO_INVALID_SIGNATURE, PASETO_FROM_UTF8_ERROR.
+
+       if (paseto_v4_public_verify(public_key, 32, token, token_length, NULL, 0, NULL, 0, text, sizeof text, &n)
+           != PASETO_OK) return -1; */
+paseto_status paseto_v2_public_verify(const uint8_t *public_key, size_t public_key_length,
+                                      const uint8_t *token, size_t token_length,
+                                      const uint8_t *footer, size_t footer_length,
+                                      uint8_t *room, size_t room_length, size_t *written);
+paseto_status paseto_v3_public_verify(const uint8_t *public_key, size_t public_key_length,
+                                      const uint8_t *token, size_t token_length,
+                                      const uint8_t *footer, size_t footer_length,
+                                      const uint8_t *assertion, size_t assertion_length,
+                                      uint8_t *room, size_t room_length, size_t *written);
+paseto_status paseto_v4_public_verify(const uint8_t *public_key, size_t public_key_length,
+                                      const uint8_t *token, size_t token_length,
+                                      const uint8_t *footer, size_t footer_length,
+                                      const uint8_t *assertion, size_t assertion_length,
+                                      uint8_t *room, size_t room_length, size_t *written);
+
+/* ---- claims
+
+   Building takes claims as the text of a JSON object, and the moment in seconds after 1970-01-01T00:00:00Z. The token
+   expires an hour after the moment, and is issued at it and usable after it, unless the claims say otherwise by exp, iat
+   and nbf, which are texts of RFC 3339. A token is usable from the second after its nbf: one that is to be admitted at
+   once has an earlier nbf. The seed of 32 bytes is drawn by paseto_random, and becomes the nonce. Statuses: those of
+   encrypting or signing, and PASETO_NOT_OBJECT, PASETO_INVALID_MOMENT, PASETO_UNEXPECTED for a number that is not whole.
+
+       const char *claims = "{\"sub\":\"Ada\"}";
+       if (paseto_v4_local_build(key, 32, seed, 32, (const uint8_t *)claims, strlen(claims), time(NULL),
+                                 NULL, 0, NULL, 0, token, sizeof token, &n) != PASETO_OK) return -1; */
+paseto_status paseto_v4_local_build(const uint8_t *key, size_t key_length, const uint8_t *seed, size_t seed_length,
+                                    const uint8_t *claims, size_t claims_length, int64_t now,
+                                    const uint8_t *footer, size_t footer_length,
+                                    const uint8_t *assertion, size_t assertion_length,
+                                    uint8_t *room, size_t room_length, size_t *written);
+paseto_status paseto_v4_public_build(const uint8_t *private_key, size_t private_key_length,
+                                     const uint8_t *claims, size_t claims_length, int64_t now,
+                                     const uint8_t *footer, size_t footer_length,
+                                     const uint8_t *assertion, size_t assertion_length,
+                                     uint8_t *room, size_t room_length, size_t *written);
+
+/* Parsing opens or verifies a token, judges exp and nbf at the moment, compares each claim that is expected, which are
+   the members of a JSON object, {} for none, and answers all claims as compact JSON. Statuses: those of decrypting or
+   verifying, and PASETO_NOT_OBJECT, PASETO_INVALID_MOMENT, PASETO_PAYLOAD_JSON_ERROR, PASETO_EXPIRED,
+   PASETO_USE_BEFORE_AVAILABLE, PASETO_RFC3339_DATE, PASETO_MISSING, PASETO_UNEXPECTED, PASETO_INVALID.
+
+       const char *expected = "{\"aud\":\"customers\"}";
+       if (paseto_v4_local_parse(key, 32, token, token_length, (const uint8_t *)expected, strlen(expected), time(NULL),
+                                 NULL, 0, NULL, 0, claims, sizeof claims, &n) != PASETO_OK) return -1; */
+paseto_status paseto_v4_local_parse(const uint8_t *key, size_t key_length,
+                                    const uint8_t *token, size_t token_length,
+                                    const uint8_t *expected, size_t expected_length, int64_t now,
+                                    const uint8_t *footer, size_t footer_length,
+                                    const uint8_t *assertion, size_t assertion_length,
+                                    uint8_t *room, size_t room_length, size_t *written);
+paseto_status paseto_v4_public_parse(const uint8_t *public_key, size_t public_key_length,
+                                     const uint8_t *token, size_t token_length,
+                                     const uint8_t *expected, size_t expected_length, int64_t now,
+                                     const uint8_t *footer, size_t footer_length,
+                                     const uint8_t *assertion, size_t assertion_length,
+                                     uint8_t *room, size_t room_length, size_t *written);
+
+/* ---- before opening
+
+   The footer of a token, or no bytes where it has none: as the id of the key that is to open it. It is not to be trusted
+   before the token is opened or verified with it. Statuses: PASETO_OK, PASETO_ROOM, PASETO_MEMORY, PASETO_NOT_UTF8,
+   PASETO_INCORRECT_SIZE, PASETO_PAYLOAD_BASE64_DECODE, PASETO_UTF8_ERROR.
+
+       uint8_t footer[64];
+       size_t n;
+       if (paseto_footer(token, token_length, footer, sizeof footer, &n) != PASETO_OK) return -1; */
+paseto_status paseto_footer(const uint8_t *token, size_t token_length,
+                            uint8_t *room, size_t room_length, size_t *written);
+
+#ifdef __cplusplus
+}
+#endif
+
+#endif

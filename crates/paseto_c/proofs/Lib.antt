@@ -1,0 +1,6 @@
+pub mod Answers
+pub mod Exits
+pub mod ClaimLemmas
+pub mod BuildLemmas
+pub mod ParseLemmas
+pub mod ParseExits

@@ -1,0 +1,7 @@
+use Rattle.paseto_c.proofs.ParseLemmas.{expected_answer}
+use Rattle.paseto_c.proofs.parse.verify.Goals as goal
+
+pub returns : goal.returns
+returns g c = λ members none same.
+    expected_answer _ c.args.parser.now.parser.checks c.args.parser.now.parser.moment c.args.parser.now.parser.leeway members _ _
+    c.parse.result none same c.parse.ensures

@@ -1,0 +1,48 @@
+-- How C is answered: by a status, a text in the room that it lends, and a number.
+use Rattle.std.specs.Prelude.{◌≡◌, ◌≤◌, ◌<◌, ◌++◌, ◌⊎◌, ℕ, List, Result, String, MatchResult, length, drop, string_bytes}
+use Rattle.std.specs.Global.{Global}
+use Rattle.paseto_c.specs.Arguments.{Call, Makes, Refuses}
+use Rattle.paseto_c.specs.Refusal.{status_of}
+use Rattle.paseto_c.specs.declared.refusal.Refusal.{Refusal}
+
+-- the text stands in the room, which is beyond it as it was: status 0
+pub record Stands (text before after : List ℕ) (written status : ℕ) : Type 0 where
+  pub fits : length text ≤ length before
+  pub is_status : status ≡ 0
+  pub room : after ≡ text ++ drop (length text) before
+  pub size : written ≡ length text
+
+-- the room is too short for the text, and as it was; `written` says how much is needed: status 1
+pub record IsTooLong (text before after : List ℕ) (written status : ℕ) : Type 0 where
+  pub exceeds : length before < length text
+  pub is_status : status ≡ 1
+  pub same : after ≡ before
+  pub size : written ≡ length text
+
+-- the answer for a text
+abbrev pub IsGiven : List ℕ → List ℕ → List ℕ → ℕ → ℕ → Type 0
+IsGiven text before after written status = Stands text before after written status ⊎ IsTooLong text before after written status
+
+-- the answer for a refusal: its status, the room as it was, and 0 in `written`
+pub record IsRefused (refusal : Refusal) (before after : List ℕ) (written status : ℕ) : Type 0 where
+  pub is_status : status ≡ status_of refusal
+  pub same : after ≡ before
+  pub nothing : written ≡ 0
+
+-- what C sees of a call: a text that it makes, or why it makes none
+pub data IsAnswered (call : Call) (before after : List ℕ) (written status : ℕ) : Type 0 where
+  gives : (text : List ℕ) → Makes call text → IsGiven text before after written status → IsAnswered call before after written status
+  refuses : (refusal : Refusal) → Refuses call refusal → IsRefused refusal before after written status
+      → IsAnswered call before after written status
+
+-- where the call makes a text, C gets it, or learns that the room is too short or memory was refused
+abbrev pub IsComplete : Call → ℕ → Type 0
+IsComplete call status = (text : List ℕ) → Makes call text → (status ≡ 0) ⊎ ((status ≡ 1) ⊎ (status ≡ 2))
+
+-- ---- for private clauses
+
+-- the answer for what was made
+abbrev pub IsHanded : Result (String Global) Refusal → List ℕ → List ℕ → ℕ → ℕ → Type 0
+IsHanded made before after written status =
+    MatchResult made (λ text. IsGiven (string_bytes text) before after written status)
+    (λ refusal. IsRefused refusal before after written status)

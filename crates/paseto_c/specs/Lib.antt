@@ -1,0 +1,12 @@
+pub mod Refusal
+pub mod Arguments
+pub mod Answer
+pub mod Local
+pub mod Boxed
+pub mod Public
+pub mod Footer
+pub mod KeyPair
+pub mod Claims
+pub mod Build
+pub mod Parse
+pub mod ErrorText

@@ -1,0 +1,194 @@
+//! Why a call gives C no text.
+
+ghost use Rattle.std.specs.Prelude.{◌≡◌};
+ghost use Rattle.paseto_c.specs.declared.refusal.Refusal.TheVariants.{Memory};
+ghost use Rattle.paseto_c.specs.Refusal.{builder_refusal, claim_refusal, parser_refusal, status_of, token_refusal};
+
+use rusty_paseto_claims::PasetoClaimError;
+use rusty_paseto_core::PasetoError;
+use rusty_paseto_generic::{GenericBuilderError, GenericParserError};
+use std::alloc::AllocError;
+
+/// Why a call gives no text. Each has its status in `c/paseto.h`.
+#[derive(Clone, Copy, Debug)]
+pub enum Refusal {
+    /// Memory was refused.
+    Memory,
+    /// A key has not the length or the form of its kind.
+    InvalidKey,
+    /// A nonce or a seed has not its length.
+    InvalidNonce,
+    /// What is to be a text is not UTF-8.
+    NotUtf8,
+    /// What is to be the text of a JSON object is none.
+    NotObject,
+    /// The moment is one that no token can begin at or be judged by.
+    InvalidMoment,
+    /// A token has not three or four sections, or its payload is too short.
+    IncorrectSize,
+    /// A token ends in another footer than the one that was expected.
+    FooterInvalid,
+    /// A token begins with another header.
+    WrongHeader,
+    /// A section is the base64url encoding of no bytes.
+    PayloadBase64Decode,
+    /// The tag of a token is another one.
+    Cryption,
+    /// A box of version 2 did not open, or has no sealing of a text.
+    ChaChaCipherError,
+    /// A signature is not valid.
+    InvalidSignature,
+    /// What a token was opened to, or its footer, is not UTF-8.
+    Utf8Error,
+    /// What was signed is not UTF-8.
+    FromUtf8Error,
+    /// A private key is none of its scheme.
+    KeyRejected,
+    /// A private key makes no valid signature: its halves are of two keys.
+    Signature,
+    /// The payload of a token is no JSON.
+    PayloadJsonError,
+    /// A token is expired.
+    Expired,
+    /// A token is not to be used yet.
+    UseBeforeAvailable,
+    /// A date and time of a token is malformed.
+    Rfc3339Date,
+    /// A claim that is expected is missing.
+    Missing,
+    /// A claim is not of the kind that is expected.
+    Unexpected,
+    /// A claim is another text than the one that is expected.
+    Invalid,
+    /// A claim was set more than once.
+    DuplicateTopLevelPayloadClaim,
+    /// An error that no call of this library gives.
+    Other,
+}
+
+impl Refusal {
+    /// The status of the refusal.
+    pub fn status(self) -> u8
+        ensures { result ≡ status_of self }
+    {
+        match self {
+            Refusal::Memory => 2,
+            Refusal::InvalidKey => 3,
+            Refusal::InvalidNonce => 4,
+            Refusal::NotUtf8 => 5,
+            Refusal::NotObject => 6,
+            Refusal::InvalidMoment => 7,
+            Refusal::IncorrectSize => 8,
+            Refusal::FooterInvalid => 9,
+            Refusal::WrongHeader => 10,
+            Refusal::PayloadBase64Decode => 11,
+            Refusal::Cryption => 12,
+            Refusal::ChaChaCipherError => 13,
+            Refusal::InvalidSignature => 14,
+            Refusal::Utf8Error => 15,
+            Refusal::FromUtf8Error => 16,
+            Refusal::KeyRejected => 17,
+            Refusal::Signature => 18,
+            Refusal::PayloadJsonError => 19,
+            Refusal::Expired => 20,
+            Refusal::UseBeforeAvailable => 21,
+            Refusal::Rfc3339Date => 22,
+            Refusal::Missing => 23,
+            Refusal::Unexpected => 24,
+            Refusal::Invalid => 25,
+            Refusal::DuplicateTopLevelPayloadClaim => 26,
+            Refusal::Other => 27,
+        }
+    }
+
+    /// The refusal for an error of the core.
+    pub fn of_token(error: &PasetoError) -> Refusal
+        ensures { result ≡ token_refusal error.now }
+    {
+        match error {
+            PasetoError::Memory(_) => Refusal::Memory,
+            PasetoError::InvalidKey => Refusal::InvalidKey,
+            PasetoError::IncorrectSize => Refusal::IncorrectSize,
+            PasetoError::FooterInvalid => Refusal::FooterInvalid,
+            PasetoError::WrongHeader => Refusal::WrongHeader,
+            PasetoError::PayloadBase64Decode { .. } => Refusal::PayloadBase64Decode,
+            PasetoError::Cryption => Refusal::Cryption,
+            PasetoError::ChaChaCipherError => Refusal::ChaChaCipherError,
+            PasetoError::InvalidSignature => Refusal::InvalidSignature,
+            PasetoError::Utf8Error { .. } => Refusal::Utf8Error,
+            PasetoError::FromUtf8Error => Refusal::FromUtf8Error,
+            PasetoError::KeyRejected => Refusal::KeyRejected,
+            PasetoError::Signature => Refusal::Signature,
+            _ => Refusal::Other,
+        }
+    }
+
+    /// The refusal for an error of claims.
+    fn of_claim(error: &PasetoClaimError) -> Refusal
+        ensures { result ≡ claim_refusal error.now }
+    {
+        match error {
+            PasetoClaimError::Memory(_) => Refusal::Memory,
+            PasetoClaimError::Expired => Refusal::Expired,
+            PasetoClaimError::UseBeforeAvailable(_) => Refusal::UseBeforeAvailable,
+            PasetoClaimError::RFC3339Date(_) => Refusal::Rfc3339Date,
+            PasetoClaimError::Missing(_) => Refusal::Missing,
+            PasetoClaimError::Unexpected(_) => Refusal::Unexpected,
+            PasetoClaimError::Invalid(_, _, _) => Refusal::Invalid,
+            PasetoClaimError::DuplicateTopLevelPayloadClaim(_) =>
+                Refusal::DuplicateTopLevelPayloadClaim,
+            PasetoClaimError::CustomValidation(_) | PasetoClaimError::Reserved(_) => Refusal::Other,
+        }
+    }
+
+    /// The refusal for an error of a builder.
+    fn of_builder(error: &GenericBuilderError) -> Refusal
+        ensures { result ≡ builder_refusal error.now }
+    {
+        match error {
+            GenericBuilderError::Memory(_) => Refusal::Memory,
+            GenericBuilderError::ClaimError { source } => Refusal::of_claim(source),
+            GenericBuilderError::CipherError { source } => Refusal::of_token(source),
+            GenericBuilderError::DuplicateTopLevelPayloadClaim(_) =>
+                Refusal::DuplicateTopLevelPayloadClaim,
+            GenericBuilderError::PayloadJsonError { .. } => Refusal::PayloadJsonError,
+            GenericBuilderError::BadEmailAddress(_) => Refusal::Other,
+        }
+    }
+
+    /// The refusal for an error of a parser.
+    fn of_parser(error: &GenericParserError) -> Refusal
+        ensures { result ≡ parser_refusal error.now }
+    {
+        match error {
+            GenericParserError::Memory(_) => Refusal::Memory,
+            GenericParserError::ClaimError { source } => Refusal::of_claim(source),
+            GenericParserError::CipherError { source } => Refusal::of_token(source),
+            GenericParserError::PayloadJsonError { .. } => Refusal::PayloadJsonError,
+        }
+    }
+}
+
+impl From<GenericBuilderError> for Refusal {
+    ghost from_gives = { λ error refusal. refusal ≡ builder_refusal error };
+
+    fn from(error: GenericBuilderError) -> Refusal {
+        Refusal::of_builder(&error)
+    }
+}
+
+impl From<GenericParserError> for Refusal {
+    ghost from_gives = { λ error refusal. refusal ≡ parser_refusal error };
+
+    fn from(error: GenericParserError) -> Refusal {
+        Refusal::of_parser(&error)
+    }
+}
+
+impl From<AllocError> for Refusal {
+    ghost from_gives = { λ error refusal. refusal ≡ Memory };
+
+    fn from(_error: AllocError) -> Refusal {
+        Refusal::Memory
+    }
+}

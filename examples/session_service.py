@@ -1,0 +1,242 @@
+#!/usr/bin/env python3
+"""A session service over tokens of version 4: whoever logs in gets a cookie that is a token, and no session is stored.
+
+    PYTHONPATH=c PASETO_LIBRARY=PREFIX/lib/libpaseto.so examples/session_service.py --port 8000
+
+    curl -c jar -d 'user=ada&password=lovelace' http://127.0.0.1:8000/login
+    curl -b jar http://127.0.0.1:8000/me
+    curl -b jar -c jar -X POST http://127.0.0.1:8000/logout
+
+The keys rotate: a new one issues every so many seconds, the footer of a token names its key, and a key goes once all its
+tokens have expired. What is logged out is refused until it would have expired. The service listens on the loopback alone,
+where a proxy in front of it brings TLS: a cookie is ``Secure`` with ``--secure``.
+"""
+
+from __future__ import annotations
+
+import argparse
+import hashlib
+import hmac
+import json
+import os
+import secrets
+import threading
+import time
+from http.cookies import CookieError, SimpleCookie
+from http.server import BaseHTTPRequestHandler, ThreadingHTTPServer
+from urllib.parse import parse_qs
+
+import paseto
+
+AUDIENCE = "session"
+LONGEST_FORM = 1000
+
+
+class Keys:
+    """The keys of the sessions by their ids: one issues, and those before it admit while their tokens last."""
+
+    def __init__(self, lifetime: int, rotate_every: int) -> None:
+        self._lifetime, self._rotate_every = lifetime, rotate_every
+        self._keys: dict[str, tuple[paseto.LocalKey, float]] = {}
+        self._lock = threading.Lock()
+
+    def issuing(self) -> tuple[str, paseto.LocalKey]:
+        """The key that issues, and its id."""
+        now = time.monotonic()
+        with self._lock:
+            oldest = now - self._rotate_every - self._lifetime
+            self._keys = {kid: kept for kid, kept in self._keys.items() if kept[1] > oldest}
+            kid, (key, made) = next(reversed(self._keys.items()), ("", (None, 0.0)))
+            if key is None or made <= now - self._rotate_every:
+                kid, key = secrets.token_hex(8), paseto.LocalKey.generate()
+                self._keys[kid] = (key, now)
+            return kid, key
+
+    def admitting(self, kid: str) -> paseto.LocalKey | None:
+        """The key with this id."""
+        with self._lock:
+            kept = self._keys.get(kid)
+        return kept[0] if kept else None
+
+
+class Users:
+    """Who may log in, by salted hashes of their passwords."""
+
+    def __init__(self, passwords: dict[str, str]) -> None:
+        self._hashes = {user: self._salted(password) for user, password in passwords.items()}
+        self._nobody = self._salted(secrets.token_hex(16))
+
+    def _salted(self, password: str) -> tuple[bytes, bytes]:
+        salt = os.urandom(16)
+        return salt, self._hash(password, salt)
+
+    @staticmethod
+    def _hash(password: str, salt: bytes) -> bytes:
+        return hashlib.scrypt(password.encode("utf-8", "surrogatepass"), salt=salt, n=2**12, r=8, p=1)
+
+    def knows(self, user: str, password: str) -> bool:
+        """Whether this is the user's password; who is unknown takes as long as who is known."""
+        salt, wanted = self._hashes.get(user, self._nobody)
+        return hmac.compare_digest(self._hash(password, salt), wanted) and user in self._hashes
+
+
+class Sessions:
+    """Cookies that are tokens: made, read, and refused once they are logged out."""
+
+    def __init__(self, lifetime: int, rotate_every: int) -> None:
+        self._lifetime = lifetime
+        self._keys = Keys(lifetime, rotate_every)
+        self._ended: dict[str, float] = {}
+        self._lock = threading.Lock()
+
+    def begin(self, user: str) -> str:
+        """A token for the user."""
+        kid, key = self._keys.issuing()
+        claims = {"sub": user, "aud": AUDIENCE, "jti": secrets.token_hex(16)}
+        return paseto.issue(key, claims, expires_in=self._lifetime, footer=json.dumps({"kid": kid}))
+
+    def read(self, token: str) -> dict | None:
+        """The claims of a token that is one of this service, and was not logged out."""
+        try:
+            footer = paseto.footer_of(token)
+            key = self._keys.admitting(kid_of(footer))
+            if key is None:
+                return None
+            claims = paseto.admit(token, key, aud=AUDIENCE, footer=footer)
+        except paseto.Refused:
+            return None
+        with self._lock:
+            return None if claims["jti"] in self._ended else claims
+
+    def end(self, claims: dict) -> None:
+        """Logs the session out, and forgets those that have expired meanwhile."""
+        now = time.monotonic()
+        with self._lock:
+            self._ended = {jti: until for jti, until in self._ended.items() if until > now}
+            self._ended[claims["jti"]] = now + self._lifetime
+
+
+def kid_of(footer: str) -> str:
+    """The id that a footer names, or the empty text, which no key has."""
+    try:
+        named = json.loads(footer)
+    except (ValueError, RecursionError):
+        return ""
+    kid = named.get("kid") if isinstance(named, dict) else None
+    return kid if isinstance(kid, str) else ""
+
+
+class Handler(BaseHTTPRequestHandler):
+    """The answers: 200 with JSON, 401 for whoever has no session, 400 and 404 for what cannot be asked."""
+
+    protocol_version = "HTTP/1.1"
+    timeout = 10
+    server: Service
+
+    def do_GET(self) -> None:
+        if self.path.partition("?")[0] != "/me":
+            self.answer(404, {"error": "there is no such page"})
+            return
+        claims = self.session()
+        if claims is None:
+            self.answer(401, {"error": "log in"})
+        else:
+            self.answer(200, {"user": claims["sub"], "until": claims["exp"]})
+
+    def do_POST(self) -> None:
+        form = self.form()
+        if form is None:
+            self.close_connection = True
+            self.answer(400, {"error": "the form is not read"})
+        elif self.path == "/login":
+            self.log_in(form)
+        elif self.path == "/logout":
+            self.log_out()
+        else:
+            self.answer(404, {"error": "there is no such page"})
+
+    def log_in(self, form: dict[str, str]) -> None:
+        user = form.get("user", "")
+        if self.server.users.knows(user, form.get("password", "")):
+            self.answer(200, {"user": user}, self.cookie(self.server.sessions.begin(user)))
+        else:
+            self.answer(401, {"error": "who is that?"})
+
+    def log_out(self) -> None:
+        claims = self.session()
+        if claims is None:
+            self.answer(401, {"error": "log in"})
+        else:
+            self.server.sessions.end(claims)
+            self.answer(200, {"user": None}, self.cookie("", "; Max-Age=0"))
+
+    def session(self) -> dict | None:
+        """The claims of the cookie."""
+        try:
+            cookie = SimpleCookie(self.headers.get("Cookie", "")).get("session")
+        except CookieError:
+            return None
+        return self.server.sessions.read(cookie.value) if cookie else None
+
+    def form(self) -> dict[str, str] | None:
+        """What was posted, the first value of each name."""
+        length = self.headers.get("Content-Length", "0")
+        is_number = length.isascii() and length.isdigit()
+        if "Transfer-Encoding" in self.headers or not is_number or int(length) > LONGEST_FORM:
+            return None
+        text = self.rfile.read(int(length)).decode("utf-8", "replace")
+        return {name: values[0] for name, values in parse_qs(text).items()}
+
+    def cookie(self, value: str, more: str = "") -> str:
+        secure = "; Secure" if self.server.is_secure else ""
+        return f"session={value}; Path=/; HttpOnly; SameSite=Strict{secure}{more}"
+
+    def answer(self, status: int, said: dict, cookie: str | None = None) -> None:
+        body = json.dumps(said).encode()
+        self.send_response(status)
+        self.send_header("Content-Type", "application/json")
+        self.send_header("Content-Length", str(len(body)))
+        if cookie is not None:
+            self.send_header("Set-Cookie", cookie)
+        self.end_headers()
+        self.wfile.write(body)
+
+    def log_message(self, *_words: object) -> None:
+        """Says nothing: a line of the log would hold no secret, and a thousand of them nothing new."""
+
+
+class Service(ThreadingHTTPServer):
+    """The service on the loopback."""
+
+    daemon_threads = True
+    request_queue_size = 64
+
+    def __init__(self, port: int, users: Users, sessions: Sessions, is_secure: bool) -> None:
+        self.users, self.sessions, self.is_secure = users, sessions, is_secure
+        super().__init__(("127.0.0.1", port), Handler)
+
+
+def main() -> None:
+    words = argparse.ArgumentParser(description="A session service over PASETO tokens.")
+    words.add_argument("--port", type=int, default=0, help="0 takes a free one; the first line of output names it")
+    words.add_argument("--lifetime", type=int, default=3600, help="how many seconds a session lasts")
+    words.add_argument("--rotate-every", type=int, default=86400, help="how many seconds a key issues")
+    words.add_argument("--stop-after", type=float, help="how many seconds the service runs; else for ever")
+    words.add_argument("--secure", action="store_true", help="let cookies go over TLS alone")
+    given = words.parse_args()
+    users = Users({"ada": "lovelace", "alan": "turing"})
+    sessions = Sessions(given.lifetime, given.rotate_every)
+    with Service(given.port, users, sessions, given.secure) as service:
+        print(f"http://127.0.0.1:{service.server_port}", flush=True)
+        if given.stop_after is not None:
+            stop = threading.Timer(given.stop_after, service.shutdown)
+            stop.daemon = True
+            stop.start()
+        try:
+            service.serve_forever()
+        except KeyboardInterrupt:
+            pass
+
+
+if __name__ == "__main__":
+    main()
