@@ -1,0 +1,5 @@
+pub mod Transfers
+pub mod Lines
+pub mod Outputs
+pub mod Inspections
+pub mod Refusals

@@ -1,0 +1,52 @@
+-- The command `inspect`.
+use Rattle.std.specs.Prelude.{◌≡◌, ℕ, ◌≤◌, ◌-◌, List, [], ◌∷◌, ◌++◌, Bool, true, false, if◌then◌else◌, take, length, nat_eq, Option, None, Some, codes}
+use Rattle.std.specs.List.{slice_get}
+use Rattle.std.specs.Cmp.Lexicographic.{pointwise}
+use Rattle.base64.specs.GeneralPurpose.{IsBytes}
+use Rattle.rusty_paseto_parts.specs.Section.{sections, spelling}
+use Rattle.rusty_paseto_parts.specs.UntrustedToken.{HasFooterText}
+
+-- a line of a name and what stands there
+abbrev pub line : List ℕ → List ℕ → List ℕ
+line name value = name ++ value ++ (10 ∷ [])
+
+-- the line of the footer
+abbrev pub footer_line : Option (List ℕ) → List ℕ
+footer_line (Some text) = line (codes "footer: ") text
+footer_line None = codes "no footer\n"
+
+-- how many bytes the signature of a public token of a version has
+abbrev pub signature_length : List ℕ → ℕ
+signature_length version =
+    if pointwise nat_eq version (codes "v1") then 256
+    else if pointwise nat_eq version (codes "v3") then 96
+    else 64
+
+-- the lines of what a public token says, which stands in front of its signature
+pub record SaysText (version section lines : List ℕ) : Type 0 where
+  pub payload : List ℕ
+  pub text : List ℕ
+  pub bytes : IsBytes payload
+  pub spelled : section ≡ spelling payload
+  pub room : signature_length version ≤ length payload
+  pub text_is : text ≡ take (length payload - signature_length version) payload
+  pub lines_are : lines ≡ line (codes "text, not verified: ") text
+
+-- a local token says nothing of what it holds
+abbrev pub IsTextLine : Bool → List ℕ → List ℕ → List ℕ → Type 0
+IsTextLine true version section lines = SaysText version section lines
+IsTextLine false version section lines = lines ≡ codes "text: encrypted\n"
+
+-- the lines that are printed of a token
+pub record Inspects (token lines : List ℕ) : Type 0 where
+  pub version : List ℕ
+  pub purpose : List ℕ
+  pub payload : List ℕ
+  pub footer : Option (List ℕ)
+  pub text_line : List ℕ
+  pub has_version : slice_get (sections token) 0 ≡ Some version
+  pub has_purpose : slice_get (sections token) 1 ≡ Some purpose
+  pub has_payload : slice_get (sections token) 2 ≡ Some payload
+  pub has_footer : HasFooterText (slice_get (sections token) 3) footer
+  pub has_text : IsTextLine (pointwise nat_eq purpose (codes "public")) version payload text_line
+  pub lines_are : lines ≡ line (codes "version: ") version ++ (line (codes "purpose: ") purpose ++ (footer_line footer ++ text_line))
