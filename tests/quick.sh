@@ -86,6 +86,10 @@ done
 settle 'the program is built' $? "$work/log"
 bash tests/program.sh >"$work/log" 2>&1
 settle "tests/program.sh: $(tail -n 1 "$work/log")" $? "$work/log"
+(cd crates/paseto && rt run -- --version) >"$work/log" 2>&1 </dev/null
+settle 'paseto is built' $? "$work/log"
+bash tests/paseto.sh >"$work/log" 2>&1
+settle "tests/paseto.sh: $(tail -n 1 "$work/log")" $? "$work/log"
 
 echo "$passed passed, $failed failed"
 echo "tests/quick.sh is no gate: 'bash .ci/run' proves everything from nothing, the tests too, and tries the edits"
