@@ -443,69 +443,6 @@ static size_t no_size(void)
     return 0;
 }
 
-/* The peer's token of version 3, once the peer has taken ours. */
-static struct peer_bytes signed_v3_token(const struct subject *subject)
-{
-    (void)subject;
-    struct peer_bytes made = peer_v3_sign(point, plain, plain_length);
-    if (made.bytes == NULL || made.length > sizeof ours_out
-        || paseto_bench_v3_sign(long_key, 48, plain, plain_length, ours_out, made.length, 1) == FAILED) {
-        free(made.bytes);
-        return (struct peer_bytes){0};
-    }
-    struct peer_bytes read = peer_v3_verify(point, ours_out, made.length);
-    bool is_taken = read.bytes != NULL && read.length == plain_length
-                    && memcmp(read.bytes, plain, plain_length) == 0;
-    free(read.bytes);
-    if (!is_taken) {
-        free(made.bytes);
-        return (struct peer_bytes){0};
-    }
-    return made;
-}
-
-static uint64_t ours_sign_v3_token(const struct subject *subject, uint8_t *out, uint32_t reps)
-{
-    (void)subject;
-    uint64_t sum = paseto_bench_v3_sign(long_key, 48, plain, plain_length, out, token_length, reps);
-    return sum == FAILED ? FAILED : 0;
-}
-
-static uint64_t peer_sign_v3_token(const struct subject *subject, uint8_t *out, uint32_t reps)
-{
-    (void)subject, (void)out;
-    for (uint32_t repetition = 0; repetition < reps; repetition++) {
-        struct peer_bytes made = peer_v3_sign(point, plain, plain_length);
-        if (made.bytes == NULL) {
-            return FAILED;
-        }
-        free(made.bytes);
-    }
-    return 0;
-}
-
-static uint64_t ours_verify_v3_token(const struct subject *subject, uint8_t *out, uint32_t reps)
-{
-    (void)subject;
-    return paseto_bench_v3_verify(point, 49, token, token_length, out, plain_length, reps);
-}
-
-static uint64_t peer_verify_v3_token(const struct subject *subject, uint8_t *out, uint32_t reps)
-{
-    (void)subject;
-    uint64_t sum = 0;
-    for (uint32_t repetition = 0; repetition < reps; repetition++) {
-        struct peer_bytes read = peer_v3_verify(point, token, token_length);
-        if (read.bytes == NULL || read.length != plain_length) {
-            return FAILED;
-        }
-        sum += read.length == 0 ? 0 : read.bytes[read.length - 1];
-        memcpy(out, read.bytes, repetition + 1 == reps ? read.length : 0);
-        free(read.bytes);
-    }
-    return sum;
-}
-
 static uint64_t ours_p384_key(const struct subject *subject, uint8_t *out, uint32_t reps)
 {
     (void)subject;
@@ -646,7 +583,7 @@ static bool prepare_rsa(void)
            && peer_rsa_sign(plain, plain_length, rsa_signature) && ours_rsa_verify(NULL, NULL, 1) == 1;
 }
 
-#define SUBJECTS 27
+#define SUBJECTS 25
 static const struct subject subjects[SUBJECTS] = {
     TOKENS(4),
     TOKENS(3),
@@ -656,10 +593,6 @@ static const struct subject subjects[SUBJECTS] = {
      .prepared = signed_token},
     {.name = "v4 verify", .ours = ours_verify_token, .peer = peer_verify_token, .out_length = plain_size,
      .prepared = signed_token},
-    {.name = "v3 sign", .ours = ours_sign_v3_token, .peer = peer_sign_v3_token, .out_length = no_size,
-     .prepared = signed_v3_token},
-    {.name = "v3 verify", .ours = ours_verify_v3_token, .peer = peer_verify_v3_token,
-     .out_length = plain_size, .prepared = signed_v3_token},
     {.name = "box seal", .ours = ours_box_seal, .peer = peer_box_seal, .out_length = token_size,
      .prepared = peer_boxed},
     {.name = "box open", .ours = ours_box_open, .peer = peer_box_open, .out_length = plain_size,

@@ -18,7 +18,6 @@ mod p384;
 mod primitives;
 mod rsa;
 mod schemes;
-mod signed_v3;
 mod tokens;
 
 pub use boxed::{
@@ -34,7 +33,6 @@ pub use schemes::{
     paseto_bench_ed25519_public_key, paseto_bench_ed25519_sign, paseto_bench_ed25519_verify,
     paseto_bench_v4_sign, paseto_bench_v4_verify,
 };
-pub use signed_v3::{paseto_bench_v3_sign, paseto_bench_v3_verify};
 pub use tokens::{
     paseto_bench_v1_open, paseto_bench_v1_seal, paseto_bench_v3_open, paseto_bench_v3_seal,
     paseto_bench_v4_open, paseto_bench_v4_seal,
