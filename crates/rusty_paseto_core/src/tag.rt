@@ -11,7 +11,7 @@ ghost use Rattle.std.proofs.Common.{◌∙◌, append_assoc, subst};
 
 use crate::context::{Context, five_pieces};
 use crate::local::LocalSuite;
-use rusty_paseto_parts::{Absorb, absorb_pieces};
+use rusty_paseto_parts::{Absorb, Header, Local, absorb_pieces};
 use rusty_paseto_primitives::{Blake2b, HmacSha384};
 use std::convert::Infallible;
 
@@ -94,14 +94,15 @@ pub(crate) fn write_tag<V: LocalSuite>(
     ensures { (key : List ℕ) → V.IsSplit keys.now key nonce.now
         → tag.new ≡ tag_of V.design (bound key context.now) nonce.now ciphertext.now }
 {
+    let header = Header::<V, Local>::default();
     let pieces = five_pieces(
-        V::header().as_bytes(),
+        header.as_bytes(),
         nonce,
         ciphertext,
         context.footer(),
         context.assertion(),
     );
-    if V::BINDS_ASSERTION {
+    if V::binds_assertion() {
         V::write_tag(keys, &pieces, tag);
     } else {
         V::write_tag(keys, &pieces[..4], tag);

@@ -37,7 +37,7 @@ pub(crate) fn open_payload<V: LocalSuite>(
     ensures fault { IfErr result (IsSealedFault V.design (bound key.now context.now) payload.items) }
 {
     let len = payload.len();
-    if len < NONCE_LENGTH + V::TAG_LENGTH {
+    if len < NONCE_LENGTH + V::tag_length() {
         return Err(PasetoError::IncorrectSize);
     }
     let nonce = nonce_of::<NONCE_LENGTH>(&payload);
@@ -45,7 +45,7 @@ pub(crate) fn open_payload<V: LocalSuite>(
     if !has_tag::<V>(&keys, &nonce, context, &payload) {
         return Err(PasetoError::Cryption);
     }
-    keep_masked(&mut payload, len - V::TAG_LENGTH);
+    keep_masked(&mut payload, len - V::tag_length());
     V::mask(&keys, &mut payload);
     match String::from_utf8(payload) {
         Ok(text) => Ok(text),
@@ -67,9 +67,9 @@ fn has_tag<V: LocalSuite>(
     ensures { (key : List ℕ) → V.IsSplit keys.now key nonce.now
         → (IsTrue result ↔ HasTag V.design (bound key context.now) payload.now) }
 {
-    let end = payload.len() - V::TAG_LENGTH;
+    let end = payload.len() - V::tag_length();
     let mut space = [0u8; LONGEST_TAG];
-    let tag = &mut space[..V::TAG_LENGTH];
+    let tag = &mut space[..V::tag_length()];
     write_tag::<V>(keys, nonce, &payload[NONCE_LENGTH..end], context, tag);
     same_bytes(tag, &payload[end..])
 }

@@ -10,7 +10,7 @@ use crate::context::Context;
 use crate::framing::frame;
 use crate::local::{LocalSuite, NONCE_LENGTH};
 use crate::tag::{LONGEST_TAG, write_tag};
-use rusty_paseto_parts::{Footer, ImplicitAssertion, PasetoError};
+use rusty_paseto_parts::{Footer, Header, ImplicitAssertion, Local, PasetoError};
 use std::alloc::Global;
 
 /// The token of a text, with the footer's section where a footer is given.
@@ -31,7 +31,7 @@ pub(crate) fn seal<V: LocalSuite>(
     let nonce = V::token_nonce(given, text.as_bytes());
     let context = Context::new(footer, assertion);
     let payload = sealed_payload::<V>(alloc, key, &nonce, &context, text.as_bytes())?;
-    frame(alloc, V::header(), &payload, footer)
+    frame(alloc, Header::<V, Local>::default().as_str(), &payload, footer)
 }
 
 // The payload of a sealed token: the nonce, the ciphertext and the tag.
@@ -47,7 +47,7 @@ fn sealed_payload<V: LocalSuite>(
     ensures err { IfErr result IsMemory }
 {
     let keys = V::split(key, nonce);
-    let len = NONCE_LENGTH + V::TAG_LENGTH + text.len();
+    let len = NONCE_LENGTH + V::tag_length() + text.len();
     let mut payload = Vec::with_capacity(alloc, len)?;
     payload.extend_from_slice(nonce)?;
     payload.extend_from_slice(text)?;
@@ -78,7 +78,7 @@ fn push_tag<V: LocalSuite>(
     ensures err { IfErr result IsMemory }
 {
     let mut space = [0u8; LONGEST_TAG];
-    let tag = &mut space[..V::TAG_LENGTH];
+    let tag = &mut space[..V::tag_length()];
     write_tag::<V>(keys, nonce, &payload[NONCE_LENGTH..], context, tag);
     payload.extend_from_slice(tag)?;
     Ok(())

@@ -13,7 +13,7 @@ use crate::local::{LocalSuite, LocalVersion, NONCE_LENGTH};
 use crate::paseto::Paseto;
 use crate::reading::{nonce_of, unframe};
 use rusty_paseto_parts::{
-    Footer, ImplicitAssertion, Local, PasetoError, PasetoSymmetricKey, PreAuthenticationEncoding,
+    Footer, Header, ImplicitAssertion, Local, PasetoError, PasetoSymmetricKey, PreAuthenticationEncoding,
 };
 use std::alloc::{AllocError, Global};
 use std::collections::BTreeMap;
@@ -148,11 +148,11 @@ fn seal_of<V: LocalSuite>(alloc: Global, payload: &[u8]) -> Result<Vec<u8>, Pase
     ensures ok { IfOk result (λ seal. seal.items ≡ nonce_in payload.now ++ tag_in V.design payload.now) }
     ensures err { IfErr result (λ error. IsMemory error ⊎ ((error ≡ PasetoError.IncorrectSize) × (¬ HasRoom V.design payload.now))) }
 {
-    if payload.len() < NONCE_LENGTH + V::TAG_LENGTH {
+    if payload.len() < NONCE_LENGTH + V::tag_length() {
         return Err(PasetoError::IncorrectSize);
     }
-    let end = payload.len() - V::TAG_LENGTH;
-    let mut seal = Vec::with_capacity(alloc, NONCE_LENGTH + V::TAG_LENGTH)?;
+    let end = payload.len() - V::tag_length();
+    let mut seal = Vec::with_capacity(alloc, NONCE_LENGTH + V::tag_length())?;
     seal.extend_from_slice(&nonce_of::<NONCE_LENGTH>(payload))?;
     seal.extend_from_slice(&payload[end..])?;
     Ok(seal)
@@ -190,7 +190,7 @@ fn vouch_alike<V: LocalSuite>(first: &Opened<'_, V>, second: &Opened<'_, V>) -> 
     first.opening.key.as_bytes() == second.opening.key.as_bytes()
         && first.text == second.text
         && one.footer() == other.footer()
-        && (!V::BINDS_ASSERTION || one.assertion() == other.assertion())
+        && (!V::binds_assertion() || one.assertion() == other.assertion())
 }
 
 // What is shown of the two tokens that a seal does not tell apart.
@@ -233,13 +233,14 @@ fn encoding_of<V: LocalSuite>(
     masked.extend_from_slice(opened.text.as_bytes())?;
     V::mask(&keys, &mut masked);
     let context = Context::new(opened.opening.footer, opened.opening.assertion);
+    let header = Header::<V, Local>::default();
     let pieces = five_pieces(
-        V::header().as_bytes(),
+        header.as_bytes(),
         &nonce,
         &masked,
         context.footer(),
         context.assertion(),
     );
-    let count = if V::BINDS_ASSERTION { 5 } else { 4 };
+    let count = if V::binds_assertion() { 5 } else { 4 };
     PreAuthenticationEncoding::parse(alloc, &pieces[..count])
 }

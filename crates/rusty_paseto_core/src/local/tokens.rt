@@ -33,7 +33,7 @@ pub trait LocalVersion: LocalSuite {
         ensures bound { Self.design.binds_assertion ≡ true → result ≡ implicit_assertion.entry }
         ensures none { Self.design.binds_assertion ≡ false → result ≡ None }
     {
-        if Self::BINDS_ASSERTION {
+        if Self::binds_assertion() {
             implicit_assertion
         } else {
             None

@@ -3,7 +3,7 @@
 
 ghost use Rattle.std.specs.Prelude.{◌≡◌, true, take, drop};
 ghost use Rattle.rusty_paseto_core.specs.Local.V4.{v4, authentication_key, encryption_key, start};
-ghost use Rattle.rusty_paseto_core.specs.Local.V4Laws.{v4-IsLawful, v4-binds_assertion, v4-tag_length, v4-version};
+ghost use Rattle.rusty_paseto_core.specs.Local.V4Laws.{v4-IsLawful, v4-short_tag, v4-version};
 ghost use Rattle.std.proofs.Common.{rules};
 
 use crate::local::{AUTHENTICATION, ENCRYPTION, LocalSuite, info};
@@ -29,16 +29,12 @@ impl LocalSuite for V4 {
     ghost IsSplit = { λ keys key nonce. (keys.encryption_key ≡ encryption_key key nonce)
         × (keys.start ≡ start key nonce) × (keys.authentication_key ≡ authentication_key key nonce) };
 
-    ghost TAG_LENGTH = { 32 };
+    fn tag_length() -> usize {
+        32
+    }
 
-    const TAG_LENGTH: usize = 32;
-
-    ghost BINDS_ASSERTION = { true };
-
-    const BINDS_ASSERTION: bool = true;
-
-    fn header() -> &'static str {
-        "v4.local."
+    fn binds_assertion() -> bool {
+        true
     }
 
     fn token_nonce(given: &[u8], _text: &[u8]) -> [u8; 32] {
@@ -74,11 +70,7 @@ impl LocalSuite for V4 {
 
     ghost has_version = { v4-version };
 
-    ghost has_tag_length = { v4-tag_length };
-
-    ghost short_tag = { Prim.search rules };
-
-    ghost has_assertion = { v4-binds_assertion };
+    ghost short_tag = { v4-short_tag };
 
     ghost has_nonces_of_32_alone = { Prim.search rules };
 }

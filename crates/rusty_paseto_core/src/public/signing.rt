@@ -10,7 +10,7 @@ use crate::context::Context;
 use crate::framing::frame;
 use crate::public::scheme::SignatureScheme;
 use crate::public::{PublicSuite, message};
-use rusty_paseto_parts::{Footer, ImplicitAssertion, PasetoError};
+use rusty_paseto_parts::{Footer, Header, ImplicitAssertion, PasetoError, Public};
 use std::alloc::Global;
 
 /// The token of a text and its signature, with the footer's section where a footer is given. `public` is
@@ -38,7 +38,7 @@ pub(crate) fn sign<V: PublicSuite, S: SignatureScheme<SIG>, const SIG: usize>(
     let context = Context::new(footer, assertion);
     let message = message::<V>(alloc, public, &context, text)?;
     let payload = signed_payload(alloc, scheme, private, message.as_bytes(), text)?;
-    frame(alloc, V::header(), &payload, footer)
+    frame(alloc, Header::<V, Public>::default().as_str(), &payload, footer)
 }
 
 // The payload of a signed token: the text and the signature of its message.

@@ -15,10 +15,6 @@ const PRIVATE_KEY_LENGTH: usize = 64;
 impl PublicSuite for V1 {
     ghost public_design = { v1_public };
 
-    fn header() -> &'static str {
-        "v1.public."
-    }
-
     fn signs_key() -> bool {
         false
     }
@@ -37,10 +33,6 @@ impl PublicSuite for V1 {
 #[tactic(auto, unfolding(rusty_paseto_parts::specs::Header::header_text))]
 impl PublicSuite for V2 {
     ghost public_design = { v2_public };
-
-    fn header() -> &'static str {
-        "v2.public."
-    }
 
     fn signs_key() -> bool {
         false
@@ -61,10 +53,6 @@ impl PublicSuite for V2 {
 impl PublicSuite for V3 {
     ghost public_design = { v3_public };
 
-    fn header() -> &'static str {
-        "v3.public."
-    }
-
     fn signs_key() -> bool {
         true
     }
@@ -83,10 +71,6 @@ impl PublicSuite for V3 {
 #[tactic(auto, unfolding(rusty_paseto_parts::specs::Header::header_text))]
 impl PublicSuite for V4 {
     ghost public_design = { v4_public };
-
-    fn header() -> &'static str {
-        "v4.public."
-    }
 
     fn signs_key() -> bool {
         false
