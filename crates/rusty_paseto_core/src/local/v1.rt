@@ -6,9 +6,8 @@ ghost use Rattle.rusty_paseto_core.specs.Local.V1.{v1, authentication_key, count
 ghost use Rattle.rusty_paseto_core.specs.Local.V1Laws.{v1-IsLawful, v1-short_tag, v1-version};
 ghost use Rattle.std.proofs.Common.{rules};
 
-use crate::local::nist::{NistKeys, expand, front};
+use crate::local::nist::{NistKeys, expand, front, write_hmac};
 use crate::local::{AUTHENTICATION, ENCRYPTION, LocalSuite};
-use crate::tag::write_hmac;
 use rusty_paseto_parts::V1;
 use rusty_paseto_primitives::{aes256_ctr_apply, hkdf_sha384_extract, hmac_sha384};
 
@@ -29,10 +28,10 @@ impl LocalSuite for V1 {
         false
     }
 
-    // The nonce depends on the text too, so that a given nonce that comes twice does no harm to two
+    // The nonce depends on the text too, so that a seed that comes twice does no harm to two
     // texts.
-    fn token_nonce(given: &[u8], text: &[u8]) -> [u8; 32] {
-        front(&hmac_sha384(given, text))
+    fn token_nonce(seed: &[u8], text: &[u8]) -> [u8; 32] {
+        front(&hmac_sha384(seed, text))
     }
 
     fn split(key: &[u8; 32], nonce: &[u8; 32]) -> NistKeys<32> {
@@ -44,7 +43,7 @@ impl LocalSuite for V1 {
         }
     }
 
-    fn mask(keys: &NistKeys<32>, bytes: &mut [u8]) {
+    fn apply_keystream(keys: &NistKeys<32>, bytes: &mut [u8]) {
         aes256_ctr_apply(&keys.encryption_key, &keys.counter, bytes);
     }
 

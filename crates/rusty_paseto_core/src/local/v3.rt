@@ -6,9 +6,8 @@ ghost use Rattle.rusty_paseto_core.specs.Local.V3.{v3, authentication_key, count
 ghost use Rattle.rusty_paseto_core.specs.Local.V3Laws.{v3-IsLawful, v3-short_tag, v3-version};
 ghost use Rattle.std.proofs.Common.{rules};
 
-use crate::local::nist::{NistKeys, expand, front};
+use crate::local::nist::{NistKeys, expand, front, write_hmac};
 use crate::local::{AUTHENTICATION, ENCRYPTION, LocalSuite, info};
-use crate::tag::write_hmac;
 use rusty_paseto_parts::V3;
 use rusty_paseto_primitives::{aes256_ctr_apply, hkdf_sha384_extract};
 
@@ -29,9 +28,9 @@ impl LocalSuite for V3 {
         true
     }
 
-    fn token_nonce(given: &[u8], _text: &[u8]) -> [u8; 32] {
+    fn token_nonce(seed: &[u8], _text: &[u8]) -> [u8; 32] {
         let mut nonce = [0u8; 32];
-        nonce.copy_from_slice(given);
+        nonce.copy_from_slice(seed);
         nonce
     }
 
@@ -47,7 +46,7 @@ impl LocalSuite for V3 {
         }
     }
 
-    fn mask(keys: &NistKeys<48>, bytes: &mut [u8]) {
+    fn apply_keystream(keys: &NistKeys<48>, bytes: &mut [u8]) {
         aes256_ctr_apply(&keys.encryption_key, &keys.counter, bytes);
     }
 

@@ -38,7 +38,12 @@ pub(crate) fn sign<V: PublicSuite, S: SignatureScheme<SIG>, const SIG: usize>(
     let context = Context::new(footer, assertion);
     let message = message::<V>(alloc, public, &context, text)?;
     let payload = signed_payload(alloc, scheme, private, message.as_bytes(), text)?;
-    frame(alloc, Header::<V, Public>::default().as_str(), &payload, footer)
+    frame(
+        alloc,
+        Header::<V, Public>::default().as_str(),
+        &payload,
+        footer,
+    )
 }
 
 // The payload of a signed token: the text and the signature of its message.
