@@ -100,8 +100,10 @@ impl<'a> Attachments<'a> {
     /// for a version whose tokens are bound to no implicit assertion.
     fn parse(version: Version, words: &'a [String]) -> Option<Attachments<'a>>
         ensures last { IfSome result (λ attachments.
-            AreLast version (words_of words.now) (given_footer attachments) (given_assertion attachments)) }
-        ensures fault { IsNone result → (footer assertion : Option (List ℕ)) → ¬ AreLast version (words_of words.now) footer assertion }
+            AreLast version (words_of words.now) (given_footer attachments)
+            (given_assertion attachments)) }
+        ensures fault { IsNone result → (footer assertion : Option (List ℕ))
+            → ¬ AreLast version (words_of words.now) footer assertion }
     {
         match words {
             [] => Some(Attachments {

@@ -62,13 +62,15 @@ pub(crate) trait LocalSuite: VersionTrait {
 
     /// Encrypts a text, or decrypts it, in place.
     fn apply_keystream(keys: &Self::Keys, bytes: &mut [u8])
-        ensures { (key nonce : List ℕ) → IsSplit keys.now key nonce → bytes.new ≡ design.apply_keystream key nonce bytes.old };
+        ensures { (key nonce : List ℕ) → IsSplit keys.now key nonce → bytes.new
+            ≡ design.apply_keystream key nonce bytes.old };
 
     /// Writes the tag of the pieces. The pieces are taken one by one, with no copy of them.
     fn write_tag(keys: &Self::Keys, pieces: &[&[u8]], tag: &mut [u8])
         requires { length tag.old ≡ design.tag_length }
         ensures { (key nonce : List ℕ) → IsSplit keys.now key nonce
-            → tag.new ≡ design.tag (design.authentication_key key nonce) (pae (map (λ piece. piece.now) pieces.now)) };
+            → tag.new ≡ design.tag (design.authentication_key key nonce)
+            (pae (map (λ piece. piece.now) pieces.now)) };
 
     ghost lawful: { IsLawful design };
 

@@ -48,7 +48,8 @@ pub trait PublicVersion: PublicSuite {
     final fn signed_assertion(
         implicit_assertion: Option<ImplicitAssertion<'_>>,
     ) -> Option<ImplicitAssertion<'_>>
-        ensures bound { Self.public_design.binds_assertion ≡ true → result ≡ implicit_assertion.entry }
+        ensures bound { Self.public_design.binds_assertion ≡ true → result
+            ≡ implicit_assertion.entry }
         ensures none { Self.public_design.binds_assertion ≡ false → result ≡ None }
     {
         if Self::signs_assertion() {
@@ -68,7 +69,8 @@ fn message<V: PublicSuite>(
     context: &Context<'_>,
     text: &[u8],
 ) -> Result<PreAuthenticationEncoding, PasetoError>
-    ensures ok { IfOk result (λ encoding. encoding ≡ message V.public_design (bound public.now context.now) text.now) }
+    ensures ok { IfOk result (λ encoding. encoding
+        ≡ message V.public_design (bound public.now context.now) text.now) }
     ensures err { IfErr result IsMemory }
 {
     let header = Header::<V, Public>::default();

@@ -50,7 +50,8 @@ pub fn split_token(token: &str) -> Option<([&str; 3], Option<&str>)>
 
 // What stands before the first dot, and what stands after it where there is one.
 fn first_section(text: &str) -> (&str, Option<&str>)
-    ensures { sections text.now ≡ result.0.now ∷ option_map_or (λ rest. sections rest.now) result.1 [] }
+    ensures { sections text.now ≡ result.0.now ∷ option_map_or
+        (λ rest. sections rest.now) result.1 [] }
 {
     match text.split_once('.') {
         Some((section, rest)) => (section, Some(rest)),
@@ -140,7 +141,8 @@ pub fn from_section(alloc: Global, text: &str) -> Result<Vec<u8>, PasetoError>
 
 // The bytes of which a text is the base64url, or `None` where it is none.
 fn read_base64url(alloc: Global, text: &str) -> Result<Option<Vec<u8>>, AllocError>
-    ensures { IfOk result (λ read. IfSome read (λ bytes. (text.now ≡ base64url bytes.items) × IsBytes bytes.items)) }
+    ensures { IfOk result (λ read. IfSome read
+        (λ bytes. (text.now ≡ base64url bytes.items) × IsBytes bytes.items)) }
 {
     let mut bytes = vec![in alloc; 0u8; decoded_len_estimate(text.len()) + ROOM]?;
     let Some(len) = read_into(text.as_bytes(), &mut bytes) else {

@@ -20,7 +20,8 @@ const BACK: [usize; 16] = [1, 2, 3, 5, 6, 7, 9, 10, 11, 13, 14, 15, 15, 15, 15, 
 // The value of each character, and 255 for what is no character of the alphabet.
 #[inline(always)]
 fn values(text: u8x16) -> u8x16
-    ensures { (f : ℕ → ℕ) → ((i : ℕ) → f i < 256) → text ≡ sixteen f → result ≡ sixteen (λ i. value (f i)) }
+    ensures { (f : ℕ → ℕ) → ((i : ℕ) → f i < 256) → text ≡ sixteen f → result ≡ sixteen
+        (λ i. value (f i)) }
 {
     let upper = text - u8x16::splat(65);
     let lower = text - u8x16::splat(97);

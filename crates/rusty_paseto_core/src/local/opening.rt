@@ -33,8 +33,10 @@ pub(crate) fn open_payload<V: LocalSuite>(
     key: &[u8; 32],
     context: &Context<'_>,
 ) -> Result<String, PasetoError>
-    ensures holds { IfOk result (λ text. HoldsText V.design (bound key.now context.now) payload.items (string_bytes text)) }
-    ensures fault { IfErr result (IsSealedFault V.design (bound key.now context.now) payload.items) }
+    ensures holds { IfOk result (λ text. HoldsText V.design
+        (bound key.now context.now) payload.items (string_bytes text)) }
+    ensures fault { IfErr result (IsSealedFault V.design
+        (bound key.now context.now) payload.items) }
 {
     let len = payload.len();
     if len < NONCE_LENGTH + V::tag_length() {

@@ -25,7 +25,8 @@ pub(crate) fn seal<V: LocalSuite>(
     requires { length seed.now ≡ 32 }
     ensures ok { let binding = binding_of key.now footer.entry assertion.entry in
         let nonce = V.design.token_nonce seed.now text.now in
-        IfOk result (λ token. string_bytes token ≡ sealing V.design binding nonce (is_some footer.entry) text.now) }
+        IfOk result (λ token. string_bytes token ≡ sealing V.design binding nonce
+        (is_some footer.entry) text.now) }
     ensures err { IfErr result IsMemory }
 {
     let nonce = V::token_nonce(seed, text.as_bytes());
@@ -65,7 +66,8 @@ fn sealed_payload<V: LocalSuite>(
 fn encrypt_text<V: LocalSuite>(keys: &V::Keys, payload: &mut [u8])
     requires { 32 ≤ length payload.old }
     ensures { (key nonce : List ℕ) → V.IsSplit keys.now key nonce
-        → payload.new ≡ take 32 payload.old ++ V.design.apply_keystream key nonce (drop 32 payload.old) }
+        → payload.new ≡ take 32 payload.old ++ V.design.apply_keystream key nonce
+        (drop 32 payload.old) }
 {
     V::apply_keystream(keys, &mut payload[NONCE_LENGTH..]);
 }
@@ -79,7 +81,8 @@ fn push_tag<V: LocalSuite>(
 ) -> Result<(), PasetoError>
     requires { 32 ≤ vec_len payload.old }
     ensures ok { OnOk result ((key : List ℕ) → V.IsSplit keys.now key nonce.now → payload.new.items
-        ≡ payload.old.items ++ tag_of V.design (bound key context.now) nonce.now (drop 32 payload.old.items)) }
+        ≡ payload.old.items ++ tag_of V.design (bound key context.now) nonce.now
+        (drop 32 payload.old.items)) }
     ensures err { IfErr result IsMemory }
 {
     let mut space = [0u8; LONGEST_TAG];

@@ -112,7 +112,8 @@ fn open_all<'a, V: LocalSuite>(
     openings: &[Opening<'a, V>],
 ) -> Result<Vec<Opened<'a, V>>, PasetoError>
     ensures ok { IfOk result (λ opened. AreOpened V.design (cases openings.now) opened.items) }
-    ensures err { IfErr result (λ error. IsMemory error ⊎ IsFirstFault V.design (cases openings.now) error) }
+    ensures err { IfErr result (λ error. IsMemory error
+        ⊎ IsFirstFault V.design (cases openings.now) error) }
 {
     let mut opened = Vec::with_capacity(alloc, openings.len())?;
     'openings: for opening in openings {
@@ -130,7 +131,8 @@ fn open_one<'a, V: LocalSuite>(
     alloc: Global,
     opening: Opening<'a, V>,
 ) -> Result<Opened<'a, V>, PasetoError>
-    ensures ok { IfOk result (λ opened. (case_in opened ≡ case_of opening.entry) × IsOpened V.design opened) }
+    ensures ok { IfOk result (λ opened. (case_in opened ≡ case_of opening.entry)
+        × IsOpened V.design opened) }
     ensures err { IfErr result (IsUnopened V.design (case_of opening.entry)) }
 {
     let context = Context::new(opening.footer, opening.assertion);
@@ -146,8 +148,10 @@ fn open_one<'a, V: LocalSuite>(
 
 // The nonce of a payload, and its tag behind it.
 fn seal_of<V: LocalSuite>(alloc: Global, payload: &[u8]) -> Result<Vec<u8>, PasetoError>
-    ensures ok { IfOk result (λ nonce_and_tag. nonce_and_tag.items ≡ nonce_in payload.now ++ tag_in V.design payload.now) }
-    ensures err { IfErr result (λ error. IsMemory error ⊎ ((error ≡ PasetoError.IncorrectSize) × (¬ HasRoom V.design payload.now))) }
+    ensures ok { IfOk result (λ nonce_and_tag. nonce_and_tag.items ≡ nonce_in payload.now
+        ++ tag_in V.design payload.now) }
+    ensures err { IfErr result (λ error. IsMemory error
+        ⊎ ((error ≡ PasetoError.IncorrectSize) × (¬ HasRoom V.design payload.now))) }
 {
     if payload.len() < NONCE_LENGTH + V::tag_length() {
         return Err(PasetoError::IncorrectSize);
@@ -224,7 +228,8 @@ fn encoding_of<V: LocalSuite>(
     opened: &Opened<'_, V>,
 ) -> Result<PreAuthenticationEncoding, PasetoError>
     requires { 32 ≤ length opened.now.nonce_and_tag.items }
-    ensures ok { IfOk result (λ made. made ≡ encoding V.design (case_in opened.now) (content_in opened.now)) }
+    ensures ok { IfOk result (λ made. made ≡ encoding V.design (case_in opened.now)
+        (content_in opened.now)) }
     ensures fits { IfOk result (λ made. length made < 2 ^ 64) }
     ensures err { IfErr result IsMemory }
 {

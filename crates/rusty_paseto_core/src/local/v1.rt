@@ -18,7 +18,8 @@ impl LocalSuite for V1 {
     ghost design = { v1 };
 
     ghost IsSplit = { λ keys key nonce. (keys.encryption_key ≡ encryption_key key nonce)
-        × (keys.counter ≡ counter nonce) × (keys.authentication_key ≡ authentication_key key nonce) };
+        × (keys.counter ≡ counter nonce)
+        × (keys.authentication_key ≡ authentication_key key nonce) };
 
     fn tag_length() -> usize {
         48

@@ -30,7 +30,8 @@ impl LocalSuite for V4 {
     ghost design = { v4 };
 
     ghost IsSplit = { λ keys key nonce. (keys.encryption_key ≡ encryption_key key nonce)
-        × (keys.stream_nonce ≡ stream_nonce key nonce) × (keys.authentication_key ≡ authentication_key key nonce) };
+        × (keys.stream_nonce ≡ stream_nonce key nonce)
+        × (keys.authentication_key ≡ authentication_key key nonce) };
 
     fn tag_length() -> usize {
         32

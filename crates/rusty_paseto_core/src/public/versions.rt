@@ -27,7 +27,8 @@ impl PublicSuite for V1 {
         true
     }
 
-    ghost public_lawful = { lawful v1_public (IsHeader-known (codes "v1") public refl refl) (lit≤ tt) };
+    ghost public_lawful = { lawful v1_public (IsHeader-known (codes "v1") public refl refl)
+        (lit≤ tt) };
 }
 
 #[tactic(auto, unfolding(rusty_paseto_parts::specs::Header::header_text))]
@@ -46,7 +47,8 @@ impl PublicSuite for V2 {
         private.len() == PRIVATE_KEY_LENGTH
     }
 
-    ghost public_lawful = { lawful v2_public (IsHeader-known (codes "v2") public refl refl) (lit≤ tt) };
+    ghost public_lawful = { lawful v2_public (IsHeader-known (codes "v2") public refl refl)
+        (lit≤ tt) };
 }
 
 #[tactic(auto, unfolding(rusty_paseto_parts::specs::Header::header_text))]
@@ -65,7 +67,8 @@ impl PublicSuite for V3 {
         true
     }
 
-    ghost public_lawful = { lawful v3_public (IsHeader-known (codes "v3") public refl refl) (lit≤ tt) };
+    ghost public_lawful = { lawful v3_public (IsHeader-known (codes "v3") public refl refl)
+        (lit≤ tt) };
 }
 
 #[tactic(auto, unfolding(rusty_paseto_parts::specs::Header::header_text))]
@@ -84,5 +87,6 @@ impl PublicSuite for V4 {
         private.len() == PRIVATE_KEY_LENGTH
     }
 
-    ghost public_lawful = { lawful v4_public (IsHeader-known (codes "v4") public refl refl) (lit≤ tt) };
+    ghost public_lawful = { lawful v4_public (IsHeader-known (codes "v4") public refl refl)
+        (lit≤ tt) };
 }

@@ -40,8 +40,10 @@ pub(crate) fn parse_text(
     times: &Times,
     text: &str,
 ) -> Result<Value, GenericParserError>
-    ensures ok { IfOk result (λ value. IsValueOf (verdicts_of (λ b. verdict b) times.now checks.now) text.now (view value)) }
-    ensures err { IfErr result (λ error. IsMemory error ⊎ IsTextFault (verdicts_of (λ b. verdict b) times.now checks.now) text.now error) }
+    ensures ok { IfOk result (λ value. IsValueOf
+        (verdicts_of (λ b. verdict b) times.now checks.now) text.now (view value)) }
+    ensures err { IfErr result (λ error. IsMemory error
+        ⊎ IsTextFault (verdicts_of (λ b. verdict b) times.now checks.now) text.now error) }
 {
     let alloc = checks.allocator();
     let value = read_value(alloc, text)?;
