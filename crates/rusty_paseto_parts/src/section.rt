@@ -14,13 +14,13 @@ use base64::engine::general_purpose::URL_SAFE_NO_PAD;
 use base64::{DecodeAllocError, decoded_len_estimate};
 use std::alloc::{AllocError, Global};
 
-/// How many bytes more than a section has are written past it at most.
+/// By how many bytes the room for a decoded section is longer than its bytes: a block of twelve is written as sixteen.
 const ROOM: usize = 4;
 
-/// How many bytes are spelled at once where a base64url is compared, and by how many characters.
+/// How many bytes are encoded at once where a text is compared with an encoding, and how many characters they give.
 const PIECE: usize = 48;
 
-const SPELLED_PIECE: usize = 64;
+const ENCODED_PIECE: usize = 64;
 
 /// The sections of a token, its parts between dots: version, purpose, payload and, where there is
 /// a fourth, the footer. `None` where the sections are not three or four.
@@ -104,11 +104,11 @@ fn strip_base64url<'a>(text: &'a [u8], piece: &[u8]) -> Option<&'a [u8]>
     ensures { MatchOption result ((rest : List ℕ) → text.now ≢ base64url piece.now ++ rest)
         (λ rest. text.now ≡ base64url piece.now ++ rest.now) }
 {
-    let mut spelled = [0u8; SPELLED_PIECE];
-    let Ok(len) = URL_SAFE_NO_PAD.encode_slice(piece, &mut spelled) else {
+    let mut encoded = [0u8; ENCODED_PIECE];
+    let Ok(len) = URL_SAFE_NO_PAD.encode_slice(piece, &mut encoded) else {
         unreachable!();
     };
-    text.strip_prefix(&spelled[..len])
+    text.strip_prefix(&encoded[..len])
 }
 
 /// The bytes of which a section's text is the base64url encoding.

@@ -77,8 +77,8 @@ fn read_sixteen(text: &[u8], bytes: &mut [u8]) -> bool
     true
 }
 
-/// Reads the front of a text, sixteen characters at a time, up to sixteen of which one is none of the
-/// alphabet. The answer is how often sixteen characters were read: each time they are twelve of the bytes.
+/// Decodes the front of a text in blocks of sixteen characters, twelve bytes each, and stops before the first block
+/// with a character that the alphabet has not. It answers how many blocks were decoded.
 pub(crate) fn read_sixteens(text: &[u8], bytes: &mut [u8]) -> usize
     requires room { 12 * (length text.now / 16) + 4 ≤ length bytes.old }
     ensures within { 16 * result ≤ length text.now }

@@ -198,7 +198,7 @@ fn cover_the_same<V: LocalSuite>(first: &Opened<'_, V>, second: &Opened<'_, V>) 
         && (!V::binds_assertion() || one.assertion() == other.assertion())
 }
 
-// What is shown of the two tokens that a nonce_and_tag does not tell apart.
+// What shows the collision: the places of two tokens with one nonce and tag, and what that tag was made of.
 fn collision_of<V: LocalSuite>(
     alloc: Global,
     opened: &[Opened<'_, V>],

@@ -159,7 +159,8 @@ impl<B: Drop> Checks<B> {
         Ok(())
     }
 
-    // An entry under the key, which may check nothing yet, so that a check may then be set with no memory.
+    // Makes an entry under the key, which checks nothing yet where it is new. A check is then set in it without memory,
+    // so that a refusal of memory finds no check changed.
     fn reserve(&mut self, key: &str) -> Result<(), AllocError>
         ensures rules { AreSame (rules_of self.new) (rules_of self.old) }
         ensures ok { OnOk result (IsSome (get_by_text self.new.entries key.now)) }

@@ -33,8 +33,8 @@ use std::alloc::Global;
 use std::collections::BTreeMap;
 use std::marker::PhantomData;
 
-/// The checks of a token's claims, and the footer and the implicit assertion where they are set: what a
-/// token of a version and a purpose is to have, so that `parse` answers its claims.
+/// What `parse` demands of a token of a version and a purpose before it answers the claims: the expected footer, the
+/// implicit assertion, and the checks of single claims.
 ///
 /// A key is checked by a stored value, with `check_claim` or `extend_check_claims`, or by a validator of the
 /// caller's own, with `validate_claim` or `extend_validation_claims`. A key with a validator is checked by it
