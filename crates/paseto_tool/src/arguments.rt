@@ -22,7 +22,7 @@ pub enum Command<'a> {
 
 impl<'a> Command<'a> {
     /// The command of the words, or nothing where they are none: their number, the command and the
-    /// version are judged, and nothing else.
+    /// version are checked, and nothing else.
     pub fn parse(words: &'a [String]) -> Option<Command<'a>>
         ensures asked { IfSome result (Asks (words_of words.now)) }
         ensures fault { IsNone result ↔ IsUsageFault (words_of words.now) }
