@@ -7,10 +7,10 @@ ghost use Rattle.rusty_paseto_generic.specs.Parsers.Held.{verdicts_of};
 ghost use Rattle.rusty_paseto_generic.specs.Parsers.Parsing.{IsOpenedAnswer, IsTextFault, IsValueOf};
 
 use crate::error::GenericParserError;
+use crate::parsers::check_all::check_all;
 use crate::parsers::checks::Checks;
 use crate::parsers::reading::read_value;
 use crate::parsers::times::Times;
-use crate::parsers::walk::check_all;
 use crate::validator::ValidatorFn;
 use rusty_paseto_core::PasetoError;
 use serde_json::Value;
