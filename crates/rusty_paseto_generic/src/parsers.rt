@@ -5,7 +5,6 @@ mod check_entry;
 mod checks;
 mod generic_parser;
 mod parsing;
-mod reading;
 mod setter;
 mod times;
 

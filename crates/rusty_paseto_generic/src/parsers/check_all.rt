@@ -22,8 +22,10 @@ pub(crate) fn check_all(
     checks: &Checks<ValidatorFn>,
     value: &Value,
 ) -> Result<(), PasetoClaimError>
-    ensures ok { OnOk result (PassesAll (verdicts_of (λ b. verdict b) times.now checks.now) (view value.now)) }
-    ensures err { IfErr result (IfFault (IsFirstFailing (verdicts_of (λ b. verdict b) times.now checks.now) (view value.now))) }
+    ensures ok { OnOk result (PassesAll (verdicts_of (λ b. verdict b) times.now checks.now)
+        (view value.now)) }
+    ensures err { IfErr result (IfFault (IsFirstFailing
+        (verdicts_of (λ b. verdict b) times.now checks.now) (view value.now))) }
 {
     for (key, check) in checks.entries.iter() {
         check_entry(alloc, times, key.as_str(), check, value)?;

@@ -20,7 +20,8 @@ const GROUP_LEN: usize = 128;
 fn apply_groups(keys: &[[u8x16; 8]; 15], start: u128, data: &mut [u8])
     requires { length «data».old % 128 ≡ 0 }
     ensures { (w : List ℕ) → IsBytes w → AreRoundKeys keys.now w
-        → «data».new ≡ xored (stream_of_blocks 16 (λ n. cipher w (to_be_bytes w128 ((start + n) % 2 ^ 128)))) «data».old }
+        → «data».new ≡ xored (stream_of_blocks 16
+        (λ n. cipher w (to_be_bytes w128 ((start + n) % 2 ^ 128)))) «data».old }
 {
     'groups: for g in 0..data.len() / GROUP_LEN {
         let at = GROUP_LEN * g;
@@ -33,7 +34,8 @@ fn apply_groups(keys: &[[u8x16; 8]; 15], start: u128, data: &mut [u8])
 fn apply_rest(keys: &[[u8x16; 8]; 15], start: u128, data: &mut [u8])
     requires { length «data».old ≤ 128 }
     ensures { (w : List ℕ) → IsBytes w → AreRoundKeys keys.now w
-        → «data».new ≡ xored (stream_of_blocks 16 (λ n. cipher w (to_be_bytes w128 ((start + n) % 2 ^ 128)))) «data».old }
+        → «data».new ≡ xored (stream_of_blocks 16
+        (λ n. cipher w (to_be_bytes w128 ((start + n) % 2 ^ 128)))) «data».old }
 {
     if data.is_empty() {
         return;
