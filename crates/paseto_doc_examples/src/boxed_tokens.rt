@@ -1,4 +1,4 @@
-//! Of `XChaCha20Poly1305`.
+//! Of `paseto_xchacha20poly1305`.
 
 use paseto_xchacha20poly1305::XChaCha20Poly1305;
 use rusty_paseto_core::{Local, Paseto, PasetoError, PasetoNonce, PasetoSymmetricKey, Payload, V2};

@@ -3,6 +3,7 @@
 #![tactic(auto)]
 
 mod at_most;
+mod boxed_decrypting;
 mod boxed_tokens;
 mod causes;
 mod collisions;

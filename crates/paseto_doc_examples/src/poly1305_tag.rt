@@ -1,4 +1,4 @@
-//! Of `paseto_xchacha20poly1305`.
+//! Of `poly1305`.
 
 use paseto_xchacha20poly1305::poly1305;
 

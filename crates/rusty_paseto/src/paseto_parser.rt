@@ -37,9 +37,26 @@ use std::collections::BTreeMap;
 /// after a refusal.
 ///
 /// ```rust
-/// let mut parser = PasetoParser::<V4, Local>::default(alloc, now)?;
-/// parser.check_claim(&AudienceClaim::from("customers"))?.require_claim("exp")?.set_leeway(5);
-/// let claims = parser.parse(token, &key)?;
+/// use jiff::Timestamp;
+/// use rusty_paseto::prelude::*;
+/// use serde_json::Value;
+/// use std::alloc::Global;
+///
+/// /// The claims of a token for customers that says when it expires.
+/// pub fn admit(
+///     alloc: Global,
+///     now: Timestamp,
+///     token: &str,
+///     key: &PasetoSymmetricKey<V4, Local>,
+/// ) -> Result<Value, GenericParserError> {
+///     let mut parser = PasetoParser::<V4, Local>::default(alloc, now)?;
+///     parser
+///         .check_claim(&AudienceClaim::from("customers"))?
+///         .require_claim("exp")?
+///         .set_leeway(5)
+///         .set_footer(Footer::from("{\"kid\":\"2026-11\"}"));
+///     parser.parse(token, key)
+/// }
 /// ```
 pub type PasetoParser<'a, V, P> = DefaultParser<'a, V, P, ValidatorFn>;
 

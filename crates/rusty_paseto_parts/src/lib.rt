@@ -3,8 +3,13 @@
 //! it is opened.
 //!
 //! ```rust
-//! let token = UntrustedToken::try_parse("v4.local.AAAA.a2V5LTE")?;
-//! let key_id = token.footer_str(alloc)?;
+//! use rusty_paseto_parts::{PasetoError, UntrustedToken};
+//! use std::alloc::Global;
+//!
+//! /// The footer of a token, as `{"kid":"2026-11"}`. It is not to be trusted before the token is opened.
+//! pub fn footer_of(alloc: Global, token: &str) -> Result<Option<String>, PasetoError> {
+//!     UntrustedToken::try_parse(token)?.footer_str(alloc)
+//! }
 //! ```
 //!
 //! `key_id` is `key-1`, and is not to be trusted before the token is opened.
