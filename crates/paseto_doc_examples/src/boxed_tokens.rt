@@ -4,7 +4,7 @@ use paseto_xchacha20poly1305::XChaCha20Poly1305;
 use rusty_paseto_core::{Local, Paseto, PasetoError, PasetoNonce, PasetoSymmetricKey, Payload, V2};
 use std::alloc::Global;
 
-/// A message that is encrypted in version 2, and decrypted again.
+/// Encrypts a message in version 2, and decrypts it.
 pub fn round_trip(
     alloc: Global,
     key: &PasetoSymmetricKey<V2, Local>,

@@ -5,7 +5,7 @@ use rusty_paseto_core::{
 };
 use std::alloc::Global;
 
-/// Two tokens under a key that share nonce and tag, and differ otherwise.
+/// The collision that two tokens under one key are, if they share nonce and tag and differ in their text.
 pub fn find_collision(
     alloc: Global,
     key: &PasetoSymmetricKey<V4, Local>,

@@ -7,7 +7,7 @@ use rusty_paseto::prelude::*;
 use serde_json::Value;
 use std::alloc::Global;
 
-/// A token that is good from the moment after `now`, for an hour, and its claims.
+/// Builds a token that is good after `now`, for an hour, and parses it later.
 pub fn round_trip<R: TryRng>(
     alloc: Global,
     now: Timestamp,

@@ -4,7 +4,7 @@ use rusty_paseto_parts::{Local, PasetoSymmetricKey, V4};
 use rusty_paseto_paserk::{PaserkError, local_from_paserk, local_id, local_to_paserk};
 use std::alloc::Global;
 
-/// A key as the text `k4.local.` and so on, read back, and its id `k4.lid.` and so on.
+/// Writes a key as a text, `k4.local...`, reads it again, and answers its id, `k4.lid...`.
 pub fn write_and_read(
     alloc: Global,
     key: &PasetoSymmetricKey<V4, Local>,

@@ -4,7 +4,7 @@ use jiff::Timestamp;
 use rusty_paseto_generic::{CheckSetter, GenericParser, GenericParserError, Local, V4};
 use std::alloc::Global;
 
-/// A parser that lets in a token whose issuer's clock is a minute ahead, and one that expired less than a minute ago.
+/// A parser that checks the times, and allows for clocks that differ by a minute.
 pub fn lenient_parser<'a>(
     alloc: Global,
     now: Timestamp,

@@ -5,7 +5,7 @@ use rusty_paseto_core::{
 };
 use std::alloc::Global;
 
-/// A message that is encrypted with a footer, and decrypted again.
+/// Encrypts a message with a footer, and decrypts it.
 pub fn round_trip(
     alloc: Global,
     key: &PasetoSymmetricKey<V4, Local>,

@@ -40,6 +40,7 @@ use jiff::Timestamp;
 use paseto_ed25519::Ed25519;
 use rand::rngs::SysRng;
 use rusty_paseto::prelude::*;
+use std::alloc::Global;
 
 fn main(rt: HostRuntime) -> Result<()> {
     show_primitives(&rt)?;
@@ -71,14 +72,24 @@ fn show_core(rt: &HostRuntime) -> Result<()> {
     if let Some(footer) = footer_text::footer_of(alloc, token.as_str())? {
         println!(rt; "footer: {footer}")?;
     }
-    let found = collisions::find_collision(alloc, &key, token.as_str(), token.as_str());
-    println!(rt;
-        "no collision: {}",
-        found.is_ok_and(|found| found.is_none())
-    )?;
     println!(rt; "v4.local: {}", sections::is_v4_local(token.as_str())?)?;
-    println!(rt; "id: {}", keys_as_text::write_and_read(alloc, &key)?.len())?;
+    println!(rt;
+        "id of {} bytes",
+        keys_as_text::write_and_read(alloc, &key)?.len()
+    )?;
+    let other = local_token(alloc, &key, &nonce)?;
+    let found = collisions::find_collision(alloc, &key, other.as_str(), other.as_str())?;
+    println!(rt; "no collision: {}", found.is_none())?;
     Ok(())
+}
+
+/// A token with no footer.
+fn local_token(
+    alloc: Global,
+    key: &PasetoSymmetricKey<V4, Local>,
+    nonce: &Key<32>,
+) -> Result<String, PasetoError> {
+    Paseto::<V4, Local>::builder().try_encrypt(alloc, key, &PasetoNonce::from(nonce))
 }
 
 fn show_generic(rt: &HostRuntime) -> Result<()> {

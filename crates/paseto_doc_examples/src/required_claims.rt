@@ -3,7 +3,7 @@
 use rusty_paseto_generic::{CheckSetter, GenericParser, GenericParserError, Local, V4};
 use std::alloc::Global;
 
-/// A parser of tokens that say when they expire and whom they are of.
+/// A parser that refuses a token without `exp` or without `sub`.
 pub fn demanding_parser<'a>(
     alloc: Global,
 ) -> Result<GenericParser<'a, V4, Local>, GenericParserError> {

@@ -33,7 +33,7 @@ const PUBLIC_LENGTH: usize = 49;
 /// use rusty_paseto_core::{PasetoError, SignatureScheme};
 /// use std::alloc::Global;
 ///
-/// /// A message that is signed under a new key, and verified.
+/// /// Signs a message under a new key, and verifies it.
 /// pub fn sign_and_verify<R: TryRng>(
 ///     alloc: Global,
 ///     rng: &mut R,

@@ -26,7 +26,7 @@ use std::alloc::Global;
 /// use rusty_paseto_core::{PasetoError, SignatureScheme};
 /// use std::alloc::Global;
 ///
-/// /// A message that is signed with a random salt, and verified.
+/// /// Signs a message with a random salt, and verifies it.
 /// pub fn sign_and_verify<R: TryRng + Drop>(
 ///     alloc: Global,
 ///     rng: R,

@@ -10,7 +10,7 @@
 //! };
 //! use std::alloc::Global;
 //!
-//! /// An empty message that is signed by a toy, and verified.
+//! /// Signs an empty message by a toy, and verifies it.
 //! pub fn round_trip(
 //!     alloc: Global,
 //!     private: &PasetoAsymmetricPrivateKey<'_, V4, Public>,

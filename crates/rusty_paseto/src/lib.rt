@@ -9,7 +9,7 @@
 //! use serde_json::Value;
 //! use std::alloc::Global;
 //!
-//! /// A token that is good from the moment after `now`, for an hour, and its claims.
+//! /// Builds a token that is good after `now`, for an hour, and parses it later.
 //! pub fn round_trip<R: TryRng>(
 //!     alloc: Global,
 //!     now: Timestamp,
@@ -23,8 +23,7 @@
 //! }
 //! ```
 //!
-//! A token is good from the moment after it was built, for an hour. The program `paseto_example` is a whole
-//! one over this crate.
+//! The program `paseto_example` is a whole one over this crate.
 #![tactic(auto)]
 
 mod error;

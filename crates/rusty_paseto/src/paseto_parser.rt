@@ -42,7 +42,7 @@ use std::collections::BTreeMap;
 /// use serde_json::Value;
 /// use std::alloc::Global;
 ///
-/// /// The claims of a token for customers that says when it expires.
+/// /// The claims of a token for customers that expires, with five seconds for clocks that differ.
 /// pub fn admit(
 ///     alloc: Global,
 ///     now: Timestamp,

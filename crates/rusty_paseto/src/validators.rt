@@ -8,7 +8,7 @@
 //! use rusty_paseto::validators::AtMost;
 //! use std::alloc::Global;
 //!
-//! /// Lets the parser take tokens of at most eight seats.
+//! /// Makes a parser refuse a token of more than eight seats.
 //! pub fn limit_seats(alloc: Global, parser: &mut GenericParser<'_, V4, Local>) -> Result<()> {
 //!     let seats = CustomClaim::try_from_str(alloc, "seats", 0u64)?;
 //!     parser.put_validator(&seats, Box::new(alloc, AtMost(8))?)?;
@@ -45,9 +45,13 @@
 //! }
 //! ```
 //!
-//! where `even` is a definition of the crate's own, in `specs/`:
+//! Here `even` is a definition in `specs/` of the crate, whose name stands in the first line:
 //!
 //! ```text
+//! use Rattle.std.specs.Prelude.{◌%◌, ◌==◌, ℕ, List, if◌then◌else◌, Option, Some, None}
+//! use Rattle.serde_json.specs.Data.{Data, number, unsigned}
+//! use Rattle.rusty_paseto_claims.specs.Error.{Fault, custom_validation}
+//!
 //! abbrev pub even : List ℕ → Data → Option Fault
 //! even key (number (unsigned n)) = if n % 2 == 0 then None else Some (custom_validation key)
 //! even key other = Some (custom_validation key)

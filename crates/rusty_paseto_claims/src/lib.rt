@@ -12,8 +12,6 @@
 //!     seats.to_json(alloc)
 //! }
 //! ```
-//!
-//! `json` is `{"seats":4}`, which a builder stores under `seats`.
 #![tactic(auto)]
 
 mod claim;

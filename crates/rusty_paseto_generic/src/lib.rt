@@ -11,7 +11,7 @@
 //! use serde_json::Value;
 //! use std::alloc::Global;
 //!
-//! /// A token of one claim, which is checked when it is parsed.
+//! /// Builds a token of one claim, and parses it with a check of that claim.
 //! pub fn round_trip<R: TryRng>(
 //!     alloc: Global,
 //!     rng: &mut R,

@@ -6,13 +6,11 @@
 //! use rusty_paseto_parts::{PasetoError, UntrustedToken};
 //! use std::alloc::Global;
 //!
-//! /// The footer of a token, as `{"kid":"2026-11"}`. It is not to be trusted before the token is opened.
+//! /// The footer of a token, as `{"kid":"2026-11"}`, if it has one. Nobody has vouched for it before the token is opened.
 //! pub fn footer_of(alloc: Global, token: &str) -> Result<Option<String>, PasetoError> {
 //!     UntrustedToken::try_parse(token)?.footer_str(alloc)
 //! }
 //! ```
-//!
-//! `key_id` is `key-1`, and is not to be trusted before the token is opened.
 #![tactic(auto)]
 
 mod absorb;

@@ -132,7 +132,7 @@ impl<'a, V: VersionTrait, P: PurposeTrait, B: Drop> TokenParser<'a, V, P, B> {
     /// use rusty_paseto_generic::{CheckSetter, GenericParser, GenericParserError, Local, V4};
     /// use std::alloc::Global;
     ///
-    /// /// A parser that lets in a token whose issuer's clock is a minute ahead, and one that expired less than a minute ago.
+    /// /// A parser that checks the times, and allows for clocks that differ by a minute.
     /// pub fn lenient_parser<'a>(
     ///     alloc: Global,
     ///     now: Timestamp,
