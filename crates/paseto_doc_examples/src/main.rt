@@ -45,6 +45,7 @@ use std::alloc::Global;
 fn main(rt: HostRuntime) -> Result<()> {
     show_primitives(&rt)?;
     show_core(&rt)?;
+    show_boxed(&rt)?;
     show_generic(&rt)?;
     show_default(&rt)?;
     show_signed(&rt)
@@ -92,6 +93,18 @@ fn local_token(
     Paseto::<V4, Local>::builder().try_encrypt(alloc, key, &PasetoNonce::from(nonce))
 }
 
+fn show_boxed(rt: &HostRuntime) -> Result<()> {
+    let (alloc, mut rng) = (rt.alloc(), SysRng::new(rt));
+    let key = PasetoSymmetricKey::<V2, Local>::from(Key::<32>::try_new_random(&mut rng)?);
+    let nonce = Key::<32>::try_new_random(&mut rng)?;
+    let text = boxed_tokens::round_trip(alloc, &key, &PasetoNonce::from(&nonce))?;
+    println!(rt; "decrypted in version 2: {text}")?;
+    if let Err(error) = boxed_decrypting::decrypt(alloc, "v2.local.AAAA", &key) {
+        println!(rt; "refused in version 2: {error}")?;
+    }
+    Ok(())
+}
+
 fn show_generic(rt: &HostRuntime) -> Result<()> {
     let (alloc, mut rng) = (rt.alloc(), SysRng::new(rt));
     let key = PasetoSymmetricKey::<V4, Local>::from(Key::<32>::try_new_random(&mut rng)?);
@@ -130,6 +143,10 @@ fn show_default(rt: &HostRuntime) -> Result<()> {
     println!(rt; "for customers: {}", claims.get("aud").is_some())?;
     let (id, _claims) = key_ring::admit(alloc, soon, token.as_str(), key)?;
     println!(rt; "by a ring: {id}")?;
+    let parser = PasetoParser::<V4, Local>::default(alloc, soon)?;
+    if let Err(error) = KeyRing::<V4>::new(alloc).parse(&parser, token.as_str()) {
+        println!(rt; "by an empty ring: {}", ring_causes::blame(&error))?;
+    }
     Ok(())
 }
 
