@@ -27,9 +27,9 @@ use std::collections::BTreeMap;
 /// A parser of tokens that refuses what has expired and what may not be used yet, where it is made by
 /// `default`: the usual parser beside a [`PasetoBuilder`](crate::PasetoBuilder).
 ///
-/// The moment of both is the one that the parser was made with, or that `set_now` brought since. `set_leeway` allows for
-/// clocks that differ. A token without `exp` never expires: `require_claim("exp")` demands it. A claim that is to be
-/// checked beyond that comes with `check_claim`, or with `validate_claim` and one of the crate's
+/// The moment of both is the one that the parser was made with, or that `set_now` brought since. `set_leeway` allows
+/// for clocks that differ. A token without `exp` never expires: `require_claim("exp")` demands it. A claim that is to
+/// be checked beyond that comes with `check_claim`, or with `validate_claim` and one of the crate's
 /// [`validators`](crate::validators), or the caller's own.
 ///
 /// A call that refuses leaves the parser as it was. `check_claim`, `validate_claim` and `require_claim` lend the parser
@@ -106,8 +106,8 @@ impl<'a, V: VersionTrait, P: PurposeTrait, B: Drop> DefaultParser<'a, V, P, B> {
         self
     }
 
-    /// Sets how many seconds the clocks of issuer and reader may differ by, as `set_leeway` of a `GenericParser` does, and
-    /// keeps the rest: it is 0 until it is set. No memory is taken.
+    /// Sets how many seconds the clocks of issuer and reader may differ by, as `set_leeway` of a `GenericParser` does,
+    /// and keeps the rest: it is 0 until it is set. No memory is taken.
     pub fn set_leeway(&mut self, seconds: u32) -> &mut Self
         ensures lent { result.ghost_name ≡ self.entry.ghost_name }
         ensures change { result.now.parser ≡ record self.entry.now.parser { leeway = seconds } }

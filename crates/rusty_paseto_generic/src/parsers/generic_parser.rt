@@ -123,9 +123,9 @@ impl<'a, V: VersionTrait, P: PurposeTrait, B: Drop> TokenParser<'a, V, P, B> {
         self
     }
 
-    /// Sets how many seconds the clocks of issuer and reader may differ by, 0 until it is set, and keeps the rest: `exp`
-    /// is checked that much earlier than the moment, and `nbf` that much later. It changes no answer of a parser that
-    /// checks no times. No memory is taken.
+    /// Sets how many seconds the clocks of issuer and reader may differ by, 0 until it is set, and keeps the rest:
+    /// `exp` is checked that much earlier than the moment, and `nbf` that much later. It changes no answer of a parser
+    /// that checks no times. No memory is taken.
     ///
     /// ```rust
     /// use jiff::Timestamp;
