@@ -154,7 +154,8 @@ struct peer_bytes peer_jansson_parse(const uint8_t key[32], const uint8_t *token
         return text;
     }
     json_t *object = json_loadb((const char *)text.bytes, text.length, 0, NULL);
-    bool hold = holds(jansson_text(object, "exp"), jansson_text(object, "nbf"), jansson_text(object, "aud"), audience, now);
+    bool hold =
+        holds(jansson_text(object, "exp"), jansson_text(object, "nbf"), jansson_text(object, "aud"), audience, now);
     json_decref(object);
     return admitted(text, hold);
 }

@@ -65,7 +65,8 @@ def panel(version, ratios, left, top):
     ratio = LEAST
     while ratio <= MOST:
         y = foot - height(ratio)
-        yield f'<line x1="{left}" x2="{left + WIDTH}" y1="{y:.1f}" y2="{y:.1f}" stroke="{"#000" if ratio == 1 else "#ddd"}"/>'
+        colour = "#000" if ratio == 1 else "#ddd"
+        yield f'<line x1="{left}" x2="{left + WIDTH}" y1="{y:.1f}" y2="{y:.1f}" stroke="{colour}"/>'
         yield text(left - 6, y + 4, f"{ratio:g}", 10, "end")
         ratio *= 2
     kinds = [kind for kind in KINDS if f"{version} {kind}" in ratios]

@@ -24,7 +24,8 @@ while [ $# -gt 0 ]; do
 done
 
 if ! printf '#include <%s>\n' sodium.h openssl/evp.h jansson.h cjson/cJSON.h | cc -E - >/dev/null 2>&1; then
-    echo "The peers are missing. On Debian: apt-get install gcc binutils libsodium-dev libssl-dev libjansson-dev libcjson-dev" >&2
+    echo "The peers are missing. On Debian:" >&2
+    echo "apt-get install gcc binutils libsodium-dev libssl-dev libjansson-dev libcjson-dev" >&2
     exit 1
 fi
 

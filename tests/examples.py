@@ -2,8 +2,8 @@
 """Compares the examples of doc comments with the code of paseto_doc_examples, which the gate proves and runs.
 
 Each block that a `///` or `//!` comment opens by ```rust stands there word for word, line after line in one file of
-src/, and begins with its `use` lines; each that it opens by ```text, in one file of specs/. A block in C is no code of a
-crate. One line tells each example; the last line is 'N passed, M failed', and the status is 0 where none failed.
+src/, and begins with its `use` lines; each that it opens by ```text, in one file of specs/. A block in C is no code of
+a crate. One line tells each example; the last line is 'N passed, M failed', and the status is 0 where none failed.
 """
 
 import pathlib
