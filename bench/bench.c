@@ -843,7 +843,7 @@ static const struct subject subjects[SUBJECTS] = {
     {.name = "XChaCha20", .ours = ours_xchacha20, .peer = peer_xchacha20, .out_length = plain_size},
     {.name = "AES-256-CTR", .ours = ours_aes256_ctr, .peer = peer_aes256, .out_length = plain_size},
     {.name = "HMAC-SHA384", .ours = ours_hmac, .peer = peer_hmac, .out_length = hmac_size},
-    {.name = "P-384 key", .ours = ours_p384_key, .peer = peer_p384_key, .out_length = point_size},
+    {.name = "P-384 key", .has_one_row = true, .ours = ours_p384_key, .peer = peer_p384_key, .out_length = point_size},
     {.name = "P-384 sign", .ours = ours_p384_sign, .peer = peer_p384_signs, .out_length = nothing},
     {.name = "P-384 verify", .ours = ours_p384_verify, .peer = peer_p384_verifies, .out_length = nothing},
     {.name = "RSA sign", .ours = ours_rsa_sign, .peer = peer_rsa_signs, .out_length = nothing},
