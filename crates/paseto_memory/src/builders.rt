@@ -10,7 +10,7 @@ use paseto_toys::keys::{Keys, SECRET};
 use paseto_toys::{Lenient, PlainBox};
 use rusty_paseto::prelude::{
     AudienceClaim, ClaimSetter, CustomClaim, GenericBuilder, Local, Public, PurposeTrait,
-    UnboxedVersion, V2, V4, VersionTrait,
+    GenericLocalVersion, V2, V4, VersionTrait,
 };
 use serde_json::{Map, Value};
 use std::alloc::Global;
@@ -94,7 +94,7 @@ fn ask_payload(run: &mut Run<'_>) -> Result<()> {
     calls! { run; "GenericBuilder::build_payload_from_claims", "some claims" => builder.build_payload_from_claims(); }
 }
 
-fn ask_local<V: UnboxedVersion>(run: &mut Run<'_>, kind: &str) -> Result<()> {
+fn ask_local<V: GenericLocalVersion>(run: &mut Run<'_>, kind: &str) -> Result<()> {
     let builder = builder_of::<V, Local>(run.alloc, run.text)?;
     let key = symmetric_key::<V>();
     calls! { run; "GenericBuilder::try_encrypt", kind => builder.try_encrypt(&mut Zeros, &key); }

@@ -12,7 +12,7 @@ use paseto_toys::generators::Zeros;
 use paseto_toys::keys::{Keys, SECRET};
 use paseto_toys::{Lenient, PlainBox};
 use rusty_paseto::prelude::{
-    AudienceClaim, BoxlessVersion, CheckSetter, CountingSetter, CustomClaim, Local, PasetoBuilder,
+    AudienceClaim, DefaultLocalVersion, CheckSetter, CountingSetter, CustomClaim, Local, PasetoBuilder,
     PasetoParser, Public, PurposeTrait, V2, V4, VersionTrait, fits_default,
 };
 use std::alloc::Global;
@@ -133,7 +133,7 @@ fn ask_expirations(run: &mut Run<'_>) -> Result<()> {
     }
 }
 
-fn ask_local<V: BoxlessVersion>(run: &mut Run<'_>, kind: &str) -> Result<()> {
+fn ask_local<V: DefaultLocalVersion>(run: &mut Run<'_>, kind: &str) -> Result<()> {
     let builder = builder_of::<V, Local>(run.alloc, run.text, 10)?;
     let key = symmetric_key::<V>();
     let (parser, payload) = (

@@ -9,7 +9,7 @@ use anyhow::Result;
 use paseto_toys::keys::{Keys, SECRET, ToyVersion};
 use paseto_toys::{Lenient, PlainBox};
 use rusty_paseto::prelude::{
-    BoxlessVersion, Footer, GenericParser, Key, KeyRing, KeyRingError, Local, PasetoParser,
+    DefaultLocalVersion, Footer, GenericParser, Key, KeyRing, KeyRingError, Local, PasetoParser,
     PasetoSymmetricKey, Public, PublicKeyRing, V1, V2, V3, V4,
 };
 use std::alloc::Global;
@@ -23,7 +23,7 @@ const OLD: &str = "{\"kid\":\"old\"}";
 type Opened = Result<(String, String), KeyRingError>;
 
 /// A version whose rings open a token with no implicit assertion by one call.
-trait Opens: BoxlessVersion {
+trait Opens: DefaultLocalVersion {
     fn open_by(ring: &KeyRing<Self>, token: &str) -> Opened;
 }
 
@@ -68,7 +68,7 @@ pub fn ask(run: &mut Run<'_>) -> Result<()> {
 }
 
 // A ring of twelve keys, none of which is the one that tokens are sealed under.
-fn ring_of<V: BoxlessVersion>(alloc: Global) -> Result<KeyRing<V>> {
+fn ring_of<V: DefaultLocalVersion>(alloc: Global) -> Result<KeyRing<V>> {
     let mut ring = KeyRing::new(alloc);
     'ids: for number in 0..11u64 {
         let id = format!(in alloc; "{number}")?;
@@ -79,13 +79,13 @@ fn ring_of<V: BoxlessVersion>(alloc: Global) -> Result<KeyRing<V>> {
 }
 
 // The same with the tokens' key.
-fn full_ring<V: BoxlessVersion>(alloc: Global) -> Result<KeyRing<V>> {
+fn full_ring<V: DefaultLocalVersion>(alloc: Global) -> Result<KeyRing<V>> {
     let mut ring = ring_of(alloc)?;
     ring.add("new", symmetric_key())?;
     Ok(ring)
 }
 
-fn other_key<V: BoxlessVersion>() -> PasetoSymmetricKey<V, Local> {
+fn other_key<V: DefaultLocalVersion>() -> PasetoSymmetricKey<V, Local> {
     PasetoSymmetricKey::from(Key::<32>::from([8; 32]))
 }
 
@@ -113,7 +113,7 @@ fn ask_opening<V: Opens>(run: &mut Run<'_>, kind: &str) -> Result<()> {
     }
 }
 
-fn ask_parsing<V: BoxlessVersion>(run: &mut Run<'_>, kind: &str) -> Result<()> {
+fn ask_parsing<V: DefaultLocalVersion>(run: &mut Run<'_>, kind: &str) -> Result<()> {
     let (alloc, ring) = (run.alloc, full_ring::<V>(run.alloc)?);
     let token = seal::<V>(alloc, good(alloc, run.text)?.as_str(), Footer::from(NEW))?;
     let parser = PasetoParser::<V, Local>::default(alloc, now()?)?;

@@ -16,7 +16,7 @@ use paseto_toys::keys::{Keys, SECRET};
 use paseto_toys::{Lenient, PlainBox};
 use rusty_paseto::prelude::{
     AudienceClaim, CheckSetter, CustomClaim, GenericParser, Local, Public, PurposeTrait,
-    UnboxedVersion, V2, V4, VersionTrait,
+    GenericLocalVersion, V2, V4, VersionTrait,
 };
 use std::alloc::Global;
 
@@ -112,7 +112,7 @@ fn ask_value(run: &mut Run<'_>) -> Result<()> {
     calls! { run; "TokenParser::value_of", "a text" => parser.value_of(payload.as_str()); }
 }
 
-fn ask_local<V: UnboxedVersion>(run: &mut Run<'_>, kind: &str) -> Result<()> {
+fn ask_local<V: GenericLocalVersion>(run: &mut Run<'_>, kind: &str) -> Result<()> {
     let (parser, key) = (timed::<V, Local>(run.alloc)?, symmetric_key::<V>());
     let token = seal::<V>(run.alloc, good(run.alloc, run.text)?.as_str(), footer())?;
     calls! { run; "TokenParser::parse", kind => parser.parse(token.as_str(), &key); }
