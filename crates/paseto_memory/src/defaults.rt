@@ -136,10 +136,8 @@ fn ask_expirations(run: &mut Run<'_>) -> Result<()> {
 fn ask_local<V: DefaultLocalVersion>(run: &mut Run<'_>, kind: &str) -> Result<()> {
     let builder = builder_of::<V, Local>(run.alloc, run.text, 10)?;
     let key = symmetric_key::<V>();
-    let (parser, payload) = (
-        parser_of::<V, Local>(run.alloc)?,
-        good(run.alloc, run.text)?,
-    );
+    let parser = parser_of::<V, Local>(run.alloc)?;
+    let payload = good(run.alloc, run.text)?;
     let token = seal::<V>(run.alloc, payload.as_str(), footer())?;
     calls! { run;
         "PasetoBuilder::build", kind => builder.build(&mut Zeros, &key);
@@ -150,10 +148,8 @@ fn ask_local<V: DefaultLocalVersion>(run: &mut Run<'_>, kind: &str) -> Result<()
 fn ask_boxed(run: &mut Run<'_>) -> Result<()> {
     let builder = builder_of::<V2, Local>(run.alloc, run.text, 10)?;
     let key = symmetric_key::<V2>();
-    let (parser, payload) = (
-        parser_of::<V2, Local>(run.alloc)?,
-        good(run.alloc, run.text)?,
-    );
+    let parser = parser_of::<V2, Local>(run.alloc)?;
+    let payload = good(run.alloc, run.text)?;
     let token = seal_boxed(run.alloc, payload.as_str(), footer())?;
     calls! { run;
         "PasetoBuilder::build", "v2.local" => builder.build(&PlainBox, &mut Zeros, &key);
@@ -165,10 +161,8 @@ fn ask_public<V: Signed>(run: &mut Run<'_>) -> Result<()> {
     let builder = builder_of::<V, Public>(run.alloc, run.text, 10)?;
     let keys = Keys::of(&SECRET);
     let (private, public) = (V::private_key(&keys), V::public_key(&keys)?);
-    let (parser, payload) = (
-        parser_of::<V, Public>(run.alloc)?,
-        good(run.alloc, run.text)?,
-    );
+    let parser = parser_of::<V, Public>(run.alloc)?;
+    let payload = good(run.alloc, run.text)?;
     let token = sign::<V>(run.alloc, payload.as_str(), footer())?;
     calls! { run;
         "PasetoBuilder::build", V::KIND => builder.build(&mut Lenient, &private);

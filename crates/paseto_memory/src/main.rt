@@ -45,7 +45,7 @@ fn main(rt: HostRuntime) -> Result<()> {
     ensure!(length <= LONGEST, "the text is too long");
     let text = text_of(alloc, length)?;
     let mut run = Run::new(alloc, rt.stdout(), asked, text.as_str());
-    ask_all(&mut run)?;
+    ask(&mut run)?;
     ensure!(run.found, "no case has this name");
     Ok(())
 }
@@ -59,7 +59,7 @@ fn text_of(alloc: Global, length: usize) -> Result<String, AllocError> {
     Ok(text)
 }
 
-fn ask_all(run: &mut Run<'_>) -> Result<()> {
+fn ask(run: &mut Run<'_>) -> Result<()> {
     encoding::ask(run)?;
     claims::ask(run)?;
     tokens::ask(run)?;

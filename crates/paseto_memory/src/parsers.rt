@@ -161,9 +161,7 @@ fn ask_failed_checks(run: &mut Run<'_>) -> Result<()> {
 type Refusing<'a> = &'a GenericParser<'static, V4, Local>;
 
 fn ask_refused(run: &mut Run<'_>, of: &str, payload: &str, parser: Refusing<'_>) -> Result<()> {
-    let (token, key) = (
-        seal::<V4>(run.alloc, payload, footer())?,
-        symmetric_key::<V4>(),
-    );
+    let token = seal::<V4>(run.alloc, payload, footer())?;
+    let key = symmetric_key::<V4>();
     calls! { run; "TokenParser::parse", of => parser.parse(token.as_str(), &key); }
 }

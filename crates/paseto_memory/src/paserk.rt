@@ -33,10 +33,8 @@ fn read_local(alloc: Global, text: &str) -> Result<String, PaserkError> {
 fn ask_pairs(run: &mut Run<'_>) -> Result<()> {
     let (alloc, keys) = (run.alloc, Keys::of(&SECRET));
     let (private, public) = (V4::private_key(&keys), V4::public_key(&keys)?);
-    let (secret, text) = (
-        secret_to_paserk(alloc, &private)?,
-        public_to_paserk(alloc, &public)?,
-    );
+    let secret = secret_to_paserk(alloc, &private)?;
+    let text = public_to_paserk(alloc, &public)?;
     let (secret, text) = (secret.as_str(), text.as_str());
     calls! { run;
         "secret_to_paserk", "v4.public" => secret_to_paserk(alloc, &private);

@@ -14,8 +14,8 @@ macro_rules! calls {
     }};
 }
 
-/// A line for each case of a method that changes an object and is given nothing: what is called, of what, and the
-/// change. Before them stand the path of the type, and how an object is made.
+/// A line for each case of a method that edits an object and is given nothing: what is called, of what, and the edit.
+/// Before them stand the path of the type, and how an object is made.
 macro_rules! edits {
     ($run:expr, $path:expr, $object:expr; $($call:expr, $of:expr => |$name:ident| $edit:expr;)*) => {{
         let make = || $object;
@@ -138,11 +138,11 @@ impl<'a> Run<'a> {
         self.report(name.as_str(), &met, &expected, then == expected)
     }
 
-    /// Makes two alike objects, and changes the second between the marks, by the second of the given values. A case is
-    /// the path of the objects' type, what is called, and of what. What is right is what the first answers before the same
-    /// change and after it.
+    /// Makes two alike objects, and edits the second between the marks, by the second of the given values. What is
+    /// right is what the first answers before the same edit and after it. A case is the path of the objects' type,
+    /// what is called, and of what.
     ///
-    /// Where memory was refused, the second is to answer as before the change, and is then changed again.
+    /// Where memory was refused, the second is to answer as before the edit, and is then edited again.
     pub fn edit<O: Snapshot, A: Drop, E: Display + Drop, M, F>(
         &mut self,
         case: [&str; 3],

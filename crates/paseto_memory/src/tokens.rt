@@ -46,11 +46,6 @@ pub fn sign<V: Signed>(alloc: Global, text: &str, footer: Footer<'_>) -> Answer 
     V::sign(alloc, &mut Lenient, &key, text, Some(footer), None)
 }
 
-fn verify<V: Signed>(alloc: Global, token: &str, keys: &Keys) -> Answer {
-    let key = V::public_key(keys)?;
-    V::verify(alloc, &Lenient, token, &key, Some(footer()), None)
-}
-
 fn token_of<V: VersionTrait, P: PurposeTrait>(text: &str) -> Paseto<'_, V, P> {
     let mut paseto = Paseto::<V, P>::builder();
     paseto.set_payload(Payload::from(text)).set_footer(footer());
@@ -125,11 +120,12 @@ fn ask_boxed(run: &mut Run<'_>) -> Result<()> {
 fn ask_public<V: Signed>(run: &mut Run<'_>) -> Result<()> {
     let (alloc, text, keys) = (run.alloc, run.text, Keys::of(&SECRET));
     let (paseto, key) = (token_of::<V, Public>(text), V::private_key(&keys));
-    let token = sign::<V>(alloc, text, footer())?;
+    let (token, public) = (sign::<V>(alloc, text, footer())?, V::public_key(&keys)?);
     calls! { run;
         "Signs::sign", V::KIND => V::sign(alloc, &mut Lenient, &key, Payload::from(text), Some(footer()), None);
         "Paseto::try_sign", V::KIND => paseto.try_sign(alloc, &mut Lenient, &key);
-        "Verifies::verify", V::KIND => verify::<V>(alloc, token.as_str(), &keys);
+        "Verifies::verify", V::KIND
+            => V::verify(alloc, &Lenient, token.as_str(), &public, Some(footer()), None);
     }
 }
 
