@@ -10,8 +10,7 @@ const DATE: &str = "2024-01-01T00:00:00Z";
 
 /// Asks them.
 pub fn ask(run: &mut Run<'_>) -> Result<()> {
-    ask_dates(run)?;
-    ask_customs(run)?;
+    ask_made(run)?;
     let (alloc, text) = (run.alloc, run.text);
     ask_value(run, "&str", &text)?;
     ask_value(run, "String", &String::from_str(alloc, text)?)?;
@@ -19,17 +18,7 @@ pub fn ask(run: &mut Run<'_>) -> Result<()> {
     ask_json(run)
 }
 
-fn ask_customs(run: &mut Run<'_>) -> Result<()> {
-    let (alloc, text) = (run.alloc, run.text);
-    calls! { run;
-        "CustomClaim::try_from_str", "a key and a text" => CustomClaim::try_from_str(alloc, text, text);
-        "CustomClaim::try_from_key", "a key" => CustomClaim::<&str>::try_from_key(alloc, text);
-        "CustomClaim::try_from_str", "iss, refused" => CustomClaim::try_from_str(alloc, "iss", "a");
-        "CustomClaim::try_from_key", "jti, refused" => CustomClaim::<&str>::try_from_key(alloc, "jti");
-    }
-}
-
-fn ask_dates(run: &mut Run<'_>) -> Result<()> {
+fn ask_made(run: &mut Run<'_>) -> Result<()> {
     let (alloc, text) = (run.alloc, run.text);
     let claim = ExpirationClaim::try_from_str(alloc, DATE)?;
     calls! { run;
@@ -37,6 +26,10 @@ fn ask_dates(run: &mut Run<'_>) -> Result<()> {
         "DateClaim::try_from_str", "no date, refused" => ExpirationClaim::try_from_str(alloc, text);
         "DateClaim::default", "its date" => ExpirationClaim::default(alloc);
         "DateClaim::try_clone", "a claim" => claim.try_clone(alloc);
+        "CustomClaim::try_from_str", "a key and a text" => CustomClaim::try_from_str(alloc, text, text);
+        "CustomClaim::try_from_key", "a key" => CustomClaim::<&str>::try_from_key(alloc, text);
+        "CustomClaim::try_from_str", "iss, refused" => CustomClaim::try_from_str(alloc, "iss", "a");
+        "CustomClaim::try_from_key", "jti, refused" => CustomClaim::<&str>::try_from_key(alloc, "jti");
     }
 }
 

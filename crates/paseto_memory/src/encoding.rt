@@ -10,24 +10,21 @@ use rusty_paseto_parts::push_section;
 /// Asks them.
 pub fn ask(run: &mut Run<'_>) -> Result<()> {
     let (alloc, bytes) = (run.alloc, run.text.as_bytes());
-    let section = to_section(alloc, bytes)?;
-    let section = section.as_str();
+    let (section, padded) = (
+        to_section(alloc, bytes)?,
+        format!(in alloc; "{}=", run.text)?,
+    );
+    let (section, padded) = (section.as_str(), padded.as_str());
     let pieces = [bytes, b"piece".as_slice(), &[]];
+    let more = b"behind a text, and so long that it has to grow";
     calls!(run;
         "PreAuthenticationEncoding::parse", "three pieces" => PreAuthenticationEncoding::parse(alloc, &pieces);
         "to_section", "a text" => to_section(alloc, bytes);
         "from_section", "a section" => from_section(alloc, section);
     )?;
-    ask_more(run)?;
-    ask_footers(run, section)
-}
-
-fn ask_more(run: &mut Run<'_>) -> Result<()> {
-    let (alloc, text) = (run.alloc, run.text);
-    let more = b"behind a text, and so long that it has to grow";
     edits!(run, "", Ok(String::from_str(alloc, "v4.")?); "push_section", "bytes" => |out| push_section(more, out);)?;
-    let padded = format!(in alloc; "{text}=")?;
-    calls! { run; "from_section", "padding, refused" => from_section(alloc, padded.as_str()); }
+    calls!(run; "from_section", "padding, refused" => from_section(alloc, padded);)?;
+    ask_footers(run, section)
 }
 
 fn ask_footers(run: &mut Run<'_>, section: &str) -> Result<()> {

@@ -24,7 +24,12 @@ pub fn ask(run: &mut Run<'_>) -> Result<()> {
     ask_texts(run)?;
     ask_values(run)?;
     ask_claims(run)?;
-    ask_objects(run)?;
+    let (alloc, of) = (run.alloc, "nothing, with no memory");
+    calls!(run;
+        "GenericBuilder::new", of => always(GenericBuilder::<V4, Local>::new(alloc));
+        "TokenParser::new", of => always(GenericParser::<V4, Local>::new(alloc));
+        "DefaultParser::new", of => always(PasetoParser::<V4, Local>::new(alloc));
+    )?;
     ask_setters(run)?;
     let (now, text) = (now()?, run.text.as_bytes());
     calls! { run;
@@ -146,15 +151,6 @@ fn lengths_of(claim: &CustomClaim<&str>, text: &str) -> [usize; 4] {
 fn put<T: Drop, E>(slot: &mut Option<T>, made: Result<T, E>) -> Result<(), E> {
     *slot = Some(made?);
     Ok(())
-}
-
-fn ask_objects(run: &mut Run<'_>) -> Result<()> {
-    let (alloc, of) = (run.alloc, "nothing, with no memory");
-    calls! { run;
-        "GenericBuilder::new", of => always(GenericBuilder::<V4, Local>::new(alloc));
-        "TokenParser::new", of => always(GenericParser::<V4, Local>::new(alloc));
-        "DefaultParser::new", of => always(PasetoParser::<V4, Local>::new(alloc));
-    }
 }
 
 // Sets the footer and the implicit assertion of a builder or of a default parser.

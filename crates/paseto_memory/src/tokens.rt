@@ -18,7 +18,6 @@ type Answer = Result<String, PasetoError>;
 pub fn ask(run: &mut Run<'_>) -> Result<()> {
     local_kinds! { run, ask_local }
     ask_decrypting(run)?;
-    ask_boxed(run)?;
     public_kinds! { run, ask_public }
     ask_verifying(run)
 }
@@ -98,22 +97,15 @@ fn ask_decrypting(run: &mut Run<'_>) -> Result<()> {
     let first = seal::<V1>(alloc, text, footer())?;
     let third = seal::<V3>(alloc, text, footer())?;
     let fourth = seal::<V4>(alloc, text, footer())?;
-    let (call, footer) = ("Paseto::try_decrypt", Some(footer()));
+    let boxed = seal_boxed(alloc, text, footer())?;
+    let (call, own) = ("Paseto::try_decrypt", Some(footer()));
     calls! { run;
-        call, "v1.local" => Paseto::<V1, Local>::try_decrypt(alloc, first.as_str(), &symmetric_key(), footer);
-        call, "v3.local" => Paseto::<V3, Local>::try_decrypt(alloc, third.as_str(), &symmetric_key(), footer, None);
-        call, "v4.local" => Paseto::<V4, Local>::try_decrypt(alloc, fourth.as_str(), &symmetric_key(), footer, None);
-    }
-}
-
-fn ask_boxed(run: &mut Run<'_>) -> Result<()> {
-    let (alloc, text, key) = (run.alloc, run.text, symmetric_key::<V2>());
-    let token = seal_boxed(alloc, text, footer())?;
-    let (token, footer) = (token.as_str(), footer());
-    calls! { run;
-        "Paseto::try_encrypt", "v2.local" => seal_boxed(alloc, text, footer);
-        "Paseto::try_decrypt", "v2.local"
-            => Paseto::<V2, Local>::try_decrypt(alloc, &PlainBox, token, &key, Some(footer));
+        call, "v1.local" => Paseto::<V1, Local>::try_decrypt(alloc, first.as_str(), &symmetric_key(), own);
+        call, "v3.local" => Paseto::<V3, Local>::try_decrypt(alloc, third.as_str(), &symmetric_key(), own, None);
+        call, "v4.local" => Paseto::<V4, Local>::try_decrypt(alloc, fourth.as_str(), &symmetric_key(), own, None);
+        "Paseto::try_encrypt", "v2.local" => seal_boxed(alloc, text, footer());
+        call, "v2.local"
+            => Paseto::<V2, Local>::try_decrypt(alloc, &PlainBox, boxed.as_str(), &symmetric_key(), own);
     }
 }
 
