@@ -1,6 +1,6 @@
 //! Rings of public keys, and rings of version 2.
 
-use crate::expect::{expect_refusal, expect_text};
+use crate::expect::{expect_refusal, expect_text, expect_that};
 use crate::kinds::{Binding, Kind, OTHER_SECRET, SECRET, symmetric_key};
 use jiff::Timestamp;
 use paseto_toys::ToyBox;
@@ -38,7 +38,7 @@ fn ring_of<'a, V: ToyVersion>(
     let first = V::public_key(first).expect(rt, "a key");
     let second = V::public_key(second).expect(rt, "a key");
     let is_made = ring.add("k1", first).is_ok() && ring.add("k2", second).is_ok();
-    assert!(rt; is_made);
+    expect_that(rt, is_made, "the answer");
     ring
 }
 
@@ -119,7 +119,7 @@ fn boxed_ring(rt: &impl Abort, alloc: Global) -> KeyRing<V2> {
     let mut ring = KeyRing::<V2>::new(alloc);
     let is_made = ring.add("k1", symmetric_key(&SECRET)).is_ok()
         && ring.add("k2", symmetric_key(&OTHER_SECRET)).is_ok();
-    assert!(rt; is_made);
+    expect_that(rt, is_made, "the answer");
     ring
 }
 
@@ -165,7 +165,7 @@ fn no_other_key_is_tried(rt: HostRuntime) {
             &refused,
             Err(KeyRingError::Token(PasetoError::InvalidSignature | PasetoError::ChaChaCipherError))
         );
-        assert!(rt; is_refused, "{kind:?}");
+        expect_that(&rt, is_refused, &kind);
     }
 }
 

@@ -1,6 +1,6 @@
 //! Rings that check claims, and what a ring is operated with.
 
-use crate::expect::{expect_refusal, expect_text};
+use crate::expect::{expect_refusal, expect_same, expect_text, expect_that};
 use crate::kinds::{Binding, Kind, SECRET, symmetric_key};
 use jiff::Timestamp;
 use rusty_paseto::prelude::{
@@ -27,7 +27,7 @@ fn ring_of<V: DefaultLocalVersion>(rt: &impl Abort, alloc: Global) -> KeyRing<V>
     let mut ring = KeyRing::<V>::new(alloc);
     let second = ring.add("k2", symmetric_key(&[0; 64]));
     let first = ring.add("k1", symmetric_key(&SECRET));
-    assert!(rt; first.is_ok() && second.is_ok());
+    expect_that(rt, first.is_ok() && second.is_ok(), "the answer");
     ring
 }
 
@@ -73,7 +73,11 @@ fn check_version<V: DefaultLocalVersion>(rt: &impl Abort, alloc: Global, kind: K
     let answer = parsed(rt, alloc, kind, "{", &parser);
     let no_json = "The payload was unable to be serialized into json";
     expect_refusal(rt, alloc, answer, no_json);
-    assert!(rt; parser.put_check(&AudienceClaim::from("others")).is_ok());
+    expect_that(
+        rt,
+        parser.put_check(&AudienceClaim::from("others")).is_ok(),
+        "the answer",
+    );
     let answer = parsed(rt, alloc, kind, CLAIMS, &parser);
     let invalid = "The claim 'aud' failed validation.  Expected 'customers' but received 'others'";
     expect_refusal(rt, alloc, answer, invalid);
@@ -108,14 +112,14 @@ fn the_parsers_binding(rt: HostRuntime) {
         &refused,
         Err(KeyRingParserError::Ring(KeyRingError::Token(PasetoError::Cryption)))
     );
-    assert!(rt; is_refused);
+    expect_that(&rt, is_refused, "the answer");
     parser.set_implicit_assertion(rusty_paseto::prelude::ImplicitAssertion::from("a"));
     check_parsed(&rt, alloc, ring.parse_by(&parser, token.as_str()));
 }
 
 // The ids in their order, and how many there are.
 fn check_ids<V: DefaultLocalVersion>(rt: &impl Abort, ring: &KeyRing<V>, expected: &[&str]) {
-    assert_eq!(rt; ring.len(), expected.len());
+    expect_same(rt, &ring.len(), &expected.len(), "the answer");
     let mut ids = ring.ids();
     'ids: for &id in expected {
         let found = ids.next().expect(rt, "an id");
@@ -129,11 +133,19 @@ fn keys_come_and_go(rt: HostRuntime) {
     let mut ring = ring_of::<V4>(&rt, alloc);
     check_ids(&rt, &ring, &["k1", "k2"]);
     let first = ring.key("k1").expect(&rt, "a key");
-    assert!(rt; first.as_bytes().as_slice() == &SECRET[..32]);
-    assert!(rt; ring.key("k3").is_none());
-    assert!(rt; ring.key_of("{\"kid\":\"k2\"}").is_ok());
-    assert!(rt; ring.remove("k2") && !ring.remove("k2"));
+    expect_that(
+        &rt,
+        first.as_bytes().as_slice() == &SECRET[..32],
+        "the answer",
+    );
+    expect_that(&rt, ring.key("k3").is_none(), "the answer");
+    expect_that(&rt, ring.key_of("{\"kid\":\"k2\"}").is_ok(), "the answer");
+    expect_that(&rt, ring.remove("k2") && !ring.remove("k2"), "the answer");
     check_ids(&rt, &ring, &["k1"]);
     let refused = ring.key_of("{\"kid\":\"k2\"}");
-    assert!(rt; matches!(&refused, Err(KeyRingError::UnknownKey(_))));
+    expect_that(
+        &rt,
+        matches!(&refused, Err(KeyRingError::UnknownKey(_))),
+        "the answer",
+    );
 }

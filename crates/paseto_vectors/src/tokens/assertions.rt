@@ -1,5 +1,6 @@
 //! Tokens that are bound to an implicit assertion.
 
+use crate::expect::{expect_same, expect_that};
 use crate::kinds::{ASSERTED_KINDS, Binding};
 
 // A token is read with its own assertion alone.
@@ -11,17 +12,17 @@ fn other_assertions(rt: HostRuntime) {
         let text = kind
             .read(rt.alloc(), token.as_str(), own)
             .expect(&rt, "a text");
-        assert_eq!(rt; text.as_str(), "hello", "{kind:?}");
+        expect_same(&rt, text.as_str(), "hello", &kind);
         'others: for assertion in [None, Some(""), Some("y"), Some("xx")] {
             let other = Binding::of_assertion(assertion);
             let answer = kind.read(rt.alloc(), token.as_str(), other);
-            assert!(rt; kind.is_refused(&answer), "{kind:?} {assertion:?}");
+            expect_that(&rt, kind.is_refused(&answer), &(kind, assertion));
         }
         let token = kind
             .make(rt.alloc(), "hello", Binding::NONE)
             .expect(&rt, "a token");
         let answer = kind.read(rt.alloc(), token.as_str(), own);
-        assert!(rt; kind.is_refused(&answer), "{kind:?}");
+        expect_that(&rt, kind.is_refused(&answer), &kind);
     }
 }
 
@@ -34,12 +35,12 @@ fn no_assertion_and_an_empty_one(rt: HostRuntime) {
             .make(rt.alloc(), "hello", Binding::NONE)
             .expect(&rt, "a token");
         let same = kind.make(rt.alloc(), "hello", empty).expect(&rt, "a token");
-        assert_eq!(rt; same.as_str(), token.as_str(), "{kind:?}");
+        expect_same(&rt, same.as_str(), token.as_str(), &kind);
         'bindings: for binding in [Binding::NONE, empty] {
             let text = kind
                 .read(rt.alloc(), token.as_str(), binding)
                 .expect(&rt, "a text");
-            assert_eq!(rt; text.as_str(), "hello", "{kind:?}");
+            expect_same(&rt, text.as_str(), "hello", &kind);
         }
     }
 }
@@ -56,15 +57,15 @@ fn a_footer_and_an_assertion(rt: HostRuntime) {
         let text = kind
             .read(rt.alloc(), token.as_str(), both)
             .expect(&rt, "a text");
-        assert_eq!(rt; text.as_str(), "hello", "{kind:?}");
+        expect_same(&rt, text.as_str(), "hello", &kind);
         let footer = Binding::of_footer(Some("footer"));
         let answer = kind.read(rt.alloc(), token.as_str(), footer);
-        assert!(rt; kind.is_refused(&answer), "{kind:?}");
+        expect_that(&rt, kind.is_refused(&answer), &kind);
         let bare = kind
             .make(rt.alloc(), "hello", Binding::of_assertion(Some("footer")))
             .expect(&rt, "a token");
         let token = format!(in rt.alloc(); "{bare}.Zm9vdGVy").expect(&rt, "memory");
         let answer = kind.read(rt.alloc(), token.as_str(), footer);
-        assert!(rt; kind.is_refused(&answer), "{kind:?}");
+        expect_that(&rt, kind.is_refused(&answer), &kind);
     }
 }

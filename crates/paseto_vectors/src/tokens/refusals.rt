@@ -2,6 +2,7 @@
 
 use super::faults::token_of_zeros;
 use super::parts::token_of_payload;
+use crate::expect::{expect_same, expect_that};
 use crate::kinds::{Binding, KINDS, Kind, OTHER_SECRET};
 use rusty_paseto_core::{PasetoError, from_section};
 use std::alloc::Global;
@@ -27,21 +28,22 @@ fn other_keys_and_footers(rt: HostRuntime) {
     'kinds: for &kind in KINDS {
         let token = kind.make(alloc, "hello", own).expect(&rt, "a token");
         let text = kind.read(alloc, token.as_str(), own).expect(&rt, "a text");
-        assert_eq!(rt; text.as_str(), "hello", "{kind:?}");
+        expect_same(&rt, text.as_str(), "hello", &kind);
         let (answer, _) = kind.read_counted(alloc, &OTHER_SECRET, token.as_str(), own);
-        assert!(rt; kind.is_refused(&answer), "{kind:?}");
+        expect_that(&rt, kind.is_refused(&answer), &kind);
         let other = Binding::of_footer(Some("other"));
         let answer = kind.read(alloc, token.as_str(), other);
-        assert!(rt;
+        expect_that(
+            &rt,
             matches!(&answer, Err(PasetoError::FooterInvalid)),
-            "{kind:?}"
+            &kind,
         );
         let (made, _) = kind.make_counted(alloc, &OTHER_SECRET, "hello", own);
         let token = made.expect(&rt, "a token");
         let answer = kind.read(alloc, token.as_str(), own);
-        assert!(rt; kind.is_refused(&answer), "{kind:?}");
+        expect_that(&rt, kind.is_refused(&answer), &kind);
         let (read, _) = kind.read_counted(alloc, &OTHER_SECRET, token.as_str(), own);
-        assert_eq!(rt; read.expect(&rt, "a text").as_str(), "hello", "{kind:?}");
+        expect_same(&rt, read.expect(&rt, "a text").as_str(), "hello", &kind);
     }
 }
 
@@ -73,11 +75,11 @@ fn other_payloads(rt: HostRuntime) {
             .make(rt.alloc(), "hello", Binding::NONE)
             .expect(&rt, "a token");
         let kept = with_changes(&rt, rt.alloc(), kind, token.as_str(), 0, 0);
-        assert_eq!(rt; kept.as_str(), token.as_str(), "{kind:?}");
+        expect_same(&rt, kept.as_str(), token.as_str(), &kind);
         'changes: for (first, last) in [(1, 0), (0, 1), (0, 128)] {
             let changed = with_changes(&rt, rt.alloc(), kind, token.as_str(), first, last);
             let answer = kind.read(rt.alloc(), changed.as_str(), Binding::NONE);
-            assert!(rt; kind.is_refused(&answer), "{kind:?} {first} {last}");
+            expect_that(&rt, kind.is_refused(&answer), &(kind, first, last));
         }
     }
 }
