@@ -93,17 +93,9 @@ fn check<V: GenericLocalVersion>(rt: &impl Abort, alloc: Global) {
 }
 
 #[test]
-fn of_version_1(rt: HostRuntime) {
+fn of_versions_1_3_and_4(rt: HostRuntime) {
     check::<V1>(&rt, rt.alloc());
-}
-
-#[test]
-fn of_version_3(rt: HostRuntime) {
     check::<V3>(&rt, rt.alloc());
-}
-
-#[test]
-fn of_version_4(rt: HostRuntime) {
     check::<V4>(&rt, rt.alloc());
 }
 

@@ -2,7 +2,7 @@
 
 use crate::expect::{expect_same, expect_that};
 use crate::kinds::{Binding, KINDS, Kind, SECRET, symmetric_key};
-use crate::long::text_of;
+use crate::long::{LENGTHS, text_of};
 use paseto_toys::PlainBox;
 use rusty_paseto_core::{Key, Local, Paseto, PasetoError, PasetoNonce, Payload, V2};
 use std::alloc::Global;
@@ -52,19 +52,13 @@ const ENDLESS_KINDS: &[Kind] = &[
 ];
 
 #[test]
-fn a_hundred_thousand_letters(rt: HostRuntime) {
-    'kinds: for &kind in ENDLESS_KINDS {
-        check_text(&rt, rt.alloc(), kind, 100_000);
+fn long_texts(rt: HostRuntime) {
+    'lengths: for &letters in LENGTHS {
+        'kinds: for &kind in ENDLESS_KINDS {
+            check_text(&rt, rt.alloc(), kind, letters);
+        }
+        check_boxed_text(&rt, rt.alloc(), letters);
     }
-    check_boxed_text(&rt, rt.alloc(), 100_000);
-}
-
-#[test]
-fn a_million_letters(rt: HostRuntime) {
-    'kinds: for &kind in ENDLESS_KINDS {
-        check_text(&rt, rt.alloc(), kind, 1_000_000);
-    }
-    check_boxed_text(&rt, rt.alloc(), 1_000_000);
 }
 
 #[test]
