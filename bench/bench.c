@@ -9,8 +9,10 @@
 #include <string.h>
 #include <time.h>
 
+#include "paseto.h"
 #include "paseto_bench.h"
 #include "peer.h"
+#include "peer_claims.h"
 
 /* Data sizes, and how they are named. */
 #define SIZES 5
@@ -189,9 +191,7 @@ static uint64_t peer_hmac(const struct subject *subject, uint8_t *out, uint32_t 
     for (uint32_t repetition = 1; repetition <= reps; repetition++) {
         write_number(numbered, repetition);
         const uint8_t *used = repetition == reps ? long_key : numbered;
-        if (!peer_hmac_sha384(used, 48, plain, plain_length, out)) {
-            return FAILED;
-        }
+        peer_hmac_sha384(used, 48, plain, plain_length, out);
         sum += out[0];
     }
     return sum;
@@ -438,9 +438,67 @@ static size_t point_size(void)
     return sizeof point;
 }
 
-static size_t no_size(void)
+/* The peer's token of version 3, once the peer has taken ours. */
+static struct peer_bytes signed_v3_token(const struct subject *subject)
 {
+    (void)subject;
+    struct peer_bytes made = peer_v3_sign(point, plain, plain_length);
+    if (made.bytes == NULL || made.length > sizeof ours_out
+        || paseto_bench_v3_sign(long_key, 48, plain, plain_length, ours_out, made.length, 1) == FAILED) {
+        free(made.bytes);
+        return (struct peer_bytes){0};
+    }
+    struct peer_bytes read = peer_v3_verify(point, ours_out, made.length);
+    bool is_taken = read.bytes != NULL && read.length == plain_length
+                    && memcmp(read.bytes, plain, plain_length) == 0;
+    free(read.bytes);
+    if (!is_taken) {
+        free(made.bytes);
+        return (struct peer_bytes){0};
+    }
+    return made;
+}
+
+static uint64_t ours_sign_v3_token(const struct subject *subject, uint8_t *out, uint32_t reps)
+{
+    (void)subject;
+    uint64_t sum = paseto_bench_v3_sign(long_key, 48, plain, plain_length, out, token_length, reps);
+    return sum == FAILED ? FAILED : 0;
+}
+
+static uint64_t peer_sign_v3_token(const struct subject *subject, uint8_t *out, uint32_t reps)
+{
+    (void)subject, (void)out;
+    for (uint32_t repetition = 0; repetition < reps; repetition++) {
+        struct peer_bytes made = peer_v3_sign(point, plain, plain_length);
+        if (made.bytes == NULL) {
+            return FAILED;
+        }
+        free(made.bytes);
+    }
     return 0;
+}
+
+static uint64_t ours_verify_v3_token(const struct subject *subject, uint8_t *out, uint32_t reps)
+{
+    (void)subject;
+    return paseto_bench_v3_verify(point, 49, token, token_length, out, plain_length, reps);
+}
+
+static uint64_t peer_verify_v3_token(const struct subject *subject, uint8_t *out, uint32_t reps)
+{
+    (void)subject;
+    uint64_t sum = 0;
+    for (uint32_t repetition = 0; repetition < reps; repetition++) {
+        struct peer_bytes read = peer_v3_verify(point, token, token_length);
+        if (read.bytes == NULL || read.length != plain_length) {
+            return FAILED;
+        }
+        sum += read.length == 0 ? 0 : read.bytes[read.length - 1];
+        memcpy(out, read.bytes, repetition + 1 == reps ? read.length : 0);
+        free(read.bytes);
+    }
+    return sum;
 }
 
 static uint64_t ours_p384_key(const struct subject *subject, uint8_t *out, uint32_t reps)
@@ -583,7 +641,182 @@ static bool prepare_rsa(void)
            && peer_rsa_sign(plain, plain_length, rsa_signature) && ours_rsa_verify(NULL, NULL, 1) == 1;
 }
 
-#define SUBJECTS 25
+/* What a service does with claims: four that it sets, and the three times. Ours reads the four from JSON, as the
+   library for C takes them; the peers are given them as they are. */
+static const struct claims claims = {
+    .issuer = "https://auth.example.com",
+    .subject = "ada.lovelace",
+    .audience = "customers",
+    .identifier = "3f0c9d52-6a1b-4c8e-9b7d-2e5f8a6c4d10",
+};
+static const char claims_given[] = "{\"iss\":\"https://auth.example.com\",\"sub\":\"ada.lovelace\","
+                                   "\"aud\":\"customers\",\"jti\":\"3f0c9d52-6a1b-4c8e-9b7d-2e5f8a6c4d10\"}";
+static const char claims_expected[] = "{\"aud\":\"customers\"}";
+
+#define BUILT_AT 1764115200
+#define PARSED_AT (BUILT_AT + 60)
+#define CLAIMS_ROOM 1024
+
+/* The token of these claims, and their JSON. */
+static uint8_t claims_token[CLAIMS_ROOM], claims_json[CLAIMS_ROOM];
+static size_t claims_token_length, claims_json_length;
+
+static size_t claims_token_size(void)
+{
+    return claims_token_length;
+}
+
+static size_t claims_json_size(void)
+{
+    return claims_json_length;
+}
+
+static uint64_t ours_build(const struct subject *subject, uint8_t *out, uint32_t reps)
+{
+    (void)subject;
+    uint8_t numbered[32];
+    uint64_t sum = 0;
+    memcpy(numbered, nonce, sizeof numbered);
+    for (uint32_t repetition = 1; repetition <= reps; repetition++) {
+        write_number(numbered, repetition);
+        size_t written;
+        if (paseto_v4_local_build(key, 32, repetition == reps ? nonce : numbered, 32, (const uint8_t *)claims_given,
+                                  sizeof claims_given - 1, BUILT_AT, NULL, 0, NULL, 0, out, CLAIMS_ROOM, &written)
+            != PASETO_OK) {
+            return FAILED;
+        }
+        sum += out[written - 1];
+    }
+    return sum;
+}
+
+/* The last token has the nonce as it is. */
+static uint64_t peer_builds(peer_build *build, uint8_t *out, uint32_t reps)
+{
+    uint8_t numbered[32];
+    uint64_t sum = 0;
+    memcpy(numbered, nonce, sizeof numbered);
+    for (uint32_t repetition = 1; repetition <= reps; repetition++) {
+        write_number(numbered, repetition);
+        struct peer_bytes made = build(key, repetition == reps ? nonce : numbered, &claims, BUILT_AT);
+        if (made.bytes == NULL || made.length > CLAIMS_ROOM) {
+            return FAILED;
+        }
+        memcpy(out, made.bytes, made.length);
+        sum += out[made.length - 1];
+        free(made.bytes);
+    }
+    return sum;
+}
+
+static uint64_t jansson_builds(const struct subject *subject, uint8_t *out, uint32_t reps)
+{
+    (void)subject;
+    return peer_builds(peer_jansson_build, out, reps);
+}
+
+static uint64_t cjson_builds(const struct subject *subject, uint8_t *out, uint32_t reps)
+{
+    (void)subject;
+    return peer_builds(peer_cjson_build, out, reps);
+}
+
+static uint64_t ours_parse(const struct subject *subject, uint8_t *out, uint32_t reps)
+{
+    (void)subject;
+    uint64_t sum = 0;
+    for (uint32_t repetition = 0; repetition < reps; repetition++) {
+        size_t written;
+        if (paseto_v4_local_parse(key, 32, claims_token, claims_token_length, (const uint8_t *)claims_expected,
+                                  sizeof claims_expected - 1, PARSED_AT, NULL, 0, NULL, 0, out, CLAIMS_ROOM, &written)
+            != PASETO_OK) {
+            return FAILED;
+        }
+        sum += written + out[written - 2];
+    }
+    return sum;
+}
+
+static uint64_t peer_parses(peer_parse *parse, uint8_t *out, uint32_t reps)
+{
+    uint64_t sum = 0;
+    for (uint32_t repetition = 0; repetition < reps; repetition++) {
+        struct peer_bytes read = parse(key, claims_token, claims_token_length, claims.audience, PARSED_AT);
+        if (read.bytes == NULL || read.length > CLAIMS_ROOM) {
+            return FAILED;
+        }
+        memcpy(out, read.bytes, read.length);
+        sum += read.length + out[read.length - 2];
+        free(read.bytes);
+    }
+    return sum;
+}
+
+static uint64_t jansson_parses(const struct subject *subject, uint8_t *out, uint32_t reps)
+{
+    (void)subject;
+    return peer_parses(peer_jansson_parse, out, reps);
+}
+
+static uint64_t cjson_parses(const struct subject *subject, uint8_t *out, uint32_t reps)
+{
+    (void)subject;
+    return peer_parses(peer_cjson_parse, out, reps);
+}
+
+static uint64_t ours_json(const struct subject *subject, uint8_t *out, uint32_t reps)
+{
+    (void)subject, (void)out;
+    return paseto_bench_json_read(claims_json, claims_json_length, reps);
+}
+
+static uint64_t peer_json(peer_json_read *read, uint32_t reps)
+{
+    uint64_t sum = 0;
+    for (uint32_t repetition = 0; repetition < reps; repetition++) {
+        size_t members = read(claims_json, claims_json_length);
+        if (members == 0) {
+            return FAILED;
+        }
+        sum += members;
+    }
+    return sum;
+}
+
+static uint64_t jansson_json(const struct subject *subject, uint8_t *out, uint32_t reps)
+{
+    (void)subject, (void)out;
+    return peer_json(peer_jansson_read, reps);
+}
+
+static uint64_t cjson_json(const struct subject *subject, uint8_t *out, uint32_t reps)
+{
+    (void)subject, (void)out;
+    return peer_json(peer_cjson_read, reps);
+}
+
+/* The token of the claims as jansson writes them, and their JSON as it is in the token. */
+static struct peer_bytes claims_prepared(const struct subject *subject)
+{
+    (void)subject;
+    struct peer_bytes made = peer_jansson_build(key, nonce, &claims, BUILT_AT);
+    if (made.bytes == NULL || made.length > CLAIMS_ROOM) {
+        return made;
+    }
+    memcpy(claims_token, made.bytes, made.length);
+    claims_token_length = made.length;
+    struct peer_bytes text = peer_v4_open(key, made.bytes, made.length);
+    if (text.bytes == NULL) {
+        free(made.bytes);
+        return text;
+    }
+    memcpy(claims_json, text.bytes, text.length);
+    claims_json_length = text.length;
+    free(text.bytes);
+    return made;
+}
+
+#define SUBJECTS 33
 static const struct subject subjects[SUBJECTS] = {
     TOKENS(4),
     TOKENS(3),
@@ -593,6 +826,10 @@ static const struct subject subjects[SUBJECTS] = {
      .prepared = signed_token},
     {.name = "v4 verify", .ours = ours_verify_token, .peer = peer_verify_token, .out_length = plain_size,
      .prepared = signed_token},
+    {.name = "v3 sign", .ours = ours_sign_v3_token, .peer = peer_sign_v3_token, .out_length = nothing,
+     .prepared = signed_v3_token},
+    {.name = "v3 verify", .ours = ours_verify_v3_token, .peer = peer_verify_v3_token,
+     .out_length = plain_size, .prepared = signed_v3_token},
     {.name = "box seal", .ours = ours_box_seal, .peer = peer_box_seal, .out_length = token_size,
      .prepared = peer_boxed},
     {.name = "box open", .ours = ours_box_open, .peer = peer_box_open, .out_length = plain_size,
@@ -607,11 +844,23 @@ static const struct subject subjects[SUBJECTS] = {
     {.name = "AES-256-CTR", .ours = ours_aes256_ctr, .peer = peer_aes256, .out_length = plain_size},
     {.name = "HMAC-SHA384", .ours = ours_hmac, .peer = peer_hmac, .out_length = hmac_size},
     {.name = "P-384 key", .ours = ours_p384_key, .peer = peer_p384_key, .out_length = point_size},
-    {.name = "P-384 sign", .ours = ours_p384_sign, .peer = peer_p384_signs, .out_length = no_size},
-    {.name = "P-384 verify", .ours = ours_p384_verify, .peer = peer_p384_verifies, .out_length = no_size},
-    {.name = "RSA sign", .ours = ours_rsa_sign, .peer = peer_rsa_signs, .out_length = no_size},
-    {.name = "RSA verify", .ours = ours_rsa_verify, .peer = peer_rsa_verifies, .out_length = no_size},
-    {.name = "RSA read", .ours = ours_rsa_read_verify, .peer = peer_rsa_read_verifies, .out_length = no_size},
+    {.name = "P-384 sign", .ours = ours_p384_sign, .peer = peer_p384_signs, .out_length = nothing},
+    {.name = "P-384 verify", .ours = ours_p384_verify, .peer = peer_p384_verifies, .out_length = nothing},
+    {.name = "RSA sign", .ours = ours_rsa_sign, .peer = peer_rsa_signs, .out_length = nothing},
+    {.name = "RSA verify", .ours = ours_rsa_verify, .peer = peer_rsa_verifies, .out_length = nothing},
+    {.name = "RSA read", .ours = ours_rsa_read_verify, .peer = peer_rsa_read_verifies, .out_length = nothing},
+    {.name = "build/jansson", .has_one_row = true, .ours = ours_build, .peer = jansson_builds,
+     .out_length = claims_token_size, .prepared = claims_prepared},
+    {.name = "build/cJSON", .has_one_row = true, .ours = ours_build, .peer = cjson_builds,
+     .out_length = claims_token_size, .prepared = claims_prepared},
+    {.name = "parse/jansson", .has_one_row = true, .ours = ours_parse, .peer = jansson_parses,
+     .out_length = claims_json_size, .prepared = claims_prepared},
+    {.name = "parse/cJSON", .has_one_row = true, .ours = ours_parse, .peer = cjson_parses,
+     .out_length = claims_json_size, .prepared = claims_prepared},
+    {.name = "JSON/jansson", .has_one_row = true, .ours = ours_json, .peer = jansson_json, .out_length = nothing,
+     .prepared = claims_prepared},
+    {.name = "JSON/cJSON", .has_one_row = true, .ours = ours_json, .peer = cjson_json, .out_length = nothing,
+     .prepared = claims_prepared},
 };
 
 /* The text of a row, and, where one is read, the peer's token, box or signature of it. */

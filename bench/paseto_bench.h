@@ -41,9 +41,9 @@ typedef uint64_t paseto_bench_verify(const uint8_t *public_key, size_t public_ke
 paseto_bench_seal paseto_bench_v1_seal, paseto_bench_v2_seal, paseto_bench_v3_seal,
     paseto_bench_v4_seal;
 paseto_bench_open paseto_bench_v1_open, paseto_bench_v2_open, paseto_bench_v3_open,
-    paseto_bench_v4_open, paseto_bench_v4_verify;
+    paseto_bench_v4_open, paseto_bench_v3_verify, paseto_bench_v4_verify;
 paseto_bench_digest paseto_bench_blake2b, paseto_bench_hmac_sha384, paseto_bench_ed25519_sign,
-    paseto_bench_v4_sign;
+    paseto_bench_v3_sign, paseto_bench_v4_sign;
 paseto_bench_cipher paseto_bench_xchacha20, paseto_bench_aes256_ctr;
 paseto_bench_box paseto_bench_xchacha20poly1305_seal, paseto_bench_xchacha20poly1305_open;
 paseto_bench_key paseto_bench_ed25519_public_key;
@@ -66,5 +66,7 @@ typedef uint64_t paseto_bench_rsa_verifying(const uint8_t *public, size_t public
                                             const uint8_t *signature, size_t signature_length,
                                             uint32_t reps);
 paseto_bench_rsa_verifying paseto_bench_rsa_verify, paseto_bench_rsa_verify_read;
+
+uint64_t paseto_bench_json_read(const uint8_t *text, size_t text_length, uint32_t reps);
 
 #endif

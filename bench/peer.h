@@ -1,5 +1,6 @@
 /* PASETO tokens as a user of libsodium (local ones of versions 2 and 4, and public ones of version 4) and of
-   OpenSSL (local ones of versions 1 and 3) writes them, with no footer and no implicit assertion. */
+   OpenSSL (local ones of versions 1 and 3, and public ones of version 3) writes them, with no footer and no
+   implicit assertion. */
 #ifndef PEER_H
 #define PEER_H
 
@@ -27,11 +28,17 @@ struct peer_bytes peer_v4_sign(const uint8_t private_key[64], const uint8_t *tex
 /* The text of such a token. */
 struct peer_bytes peer_v4_verify(const uint8_t public_key[32], const uint8_t *token, size_t length);
 
+/* A public token of version 3, which is signed under the private key that `peer_p384_start` was given. */
+struct peer_bytes peer_v3_sign(const uint8_t public_key[49], const uint8_t *text, size_t length);
+
+/* The text of such a token. */
+struct peer_bytes peer_v3_verify(const uint8_t public_key[49], const uint8_t *token, size_t length);
+
 /* Readies both libraries. It is called once, before all else. */
 bool peer_start(void);
 
-/* The HMAC-SHA384 code of a message. */
-bool peer_hmac_sha384(const uint8_t *key, size_t key_length, const uint8_t *message, size_t length,
+/* The HMAC-SHA384 code of a message, under a key of at most 128 bytes. */
+void peer_hmac_sha384(const uint8_t *key, size_t key_length, const uint8_t *message, size_t length,
                       uint8_t code[48]);
 
 /* Encrypts data in place by AES-256 in counter mode. */

@@ -1,12 +1,14 @@
 #!/usr/bin/env bash
-# Measures sealing, opening, signing, verifying and the primitives beside libsodium and OpenSSL.
+# Measures sealing, opening, signing, verifying and the primitives beside libsodium and OpenSSL, and tokens of claims
+# beside libsodium with jansson and with cJSON.
 #
 #   bench/run.sh [--quick] [--cpu NAME] [SUBJECT..]
 #
 # --quick measures each row for a quarter of a second in place of one and a half, and its figures are
-# rough. --cpu builds the library for another processor, as x86-64-v3. A SUBJECT, as v4 or XChaCha20, is
-# the beginning of the names of those that are measured; without one all are. The library is proved
-# first, which takes some minutes where no check has kept its work.
+# rough. --cpu builds the library for another processor, as x86-64-v3. A SUBJECT, as v4, XChaCha20 or
+# build, is the beginning of the names of those that are measured; without one all are. The library and
+# the library for C are proved first, which takes some minutes where no check has kept its work.
+# plot.py draws what a run prints.
 set -euo pipefail
 cd "$(dirname "$0")"
 
@@ -21,8 +23,9 @@ while [ $# -gt 0 ]; do
     esac
 done
 
-if ! printf '#include <sodium.h>\n#include <openssl/evp.h>\n' | cc -E - >/dev/null 2>&1; then
-    echo "The peers are missing. On Debian: apt-get install gcc libsodium-dev libssl-dev" >&2
+if ! printf '#include <%s>\n' sodium.h openssl/evp.h jansson.h cjson/cJSON.h | cc -E - >/dev/null 2>&1; then
+    echo "The peers are missing. On Debian:" >&2
+    echo "apt-get install gcc binutils libsodium-dev libssl-dev libjansson-dev libcjson-dev" >&2
     exit 1
 fi
 
@@ -32,12 +35,14 @@ if ! (cd ../crates/paseto_bench && rt lib "${cpu[@]}") >out/build.log 2>&1; then
     tail -5 out/build.log >&2
     exit 1
 fi
+bash ../c/build.sh out/c "${cpu[@]}"
 
 kit=$(dirname "$(rt doc)")
-cc -O2 -std=c11 -D_POSIX_C_SOURCE=200809L -Wall -Wextra -o out/bench \
+cc -O2 -std=c11 -D_POSIX_C_SOURCE=200809L -Wall -Wextra -Iout/c/include -o out/bench \
     bench.c base64url.c peer_common.c peer_v2.c peer_v4.c peer_public.c peer_nist.c peer_p384.c peer_rsa.c \
+    peer_claims.c out/c/lib/libpaseto.a \
     ../crates/paseto_bench/out/libpaseto_bench.a "$kit/c/liblibc_c.a" "$kit/c/libos_c.a" \
-    -lsodium -lcrypto
+    -lsodium -lcrypto -ljansson -lcjson
 
 echo "$(date -u +%F), $(uname -m), $(sed -n 's/^model name[^:]*: //p' /proc/cpuinfo | head -1)"
 echo "load before the run: $(cut -d' ' -f1 /proc/loadavg), processor of the library: ${cpu[1]:-default}"

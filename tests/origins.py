@@ -12,7 +12,15 @@ import re
 import sys
 
 ROOT = pathlib.Path(__file__).resolve().parent.parent
-TESTING = {"paseto_bench", "paseto_example", "paseto_memory", "paseto_rows", "paseto_toys", "paseto_vectors"}
+TESTING = {
+    "paseto_bench",
+    "paseto_doc_examples",
+    "paseto_example",
+    "paseto_memory",
+    "paseto_rows",
+    "paseto_toys",
+    "paseto_vectors",
+}
 # Where the names stand for a type, or are matched: an import, a type's argument, a type behind a colon, a
 # variant's declaration, an arm of a match.
 NO_VALUE = re.compile(

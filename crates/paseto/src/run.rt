@@ -24,8 +24,8 @@ use std::io::{Read, Write};
 ///
 /// It is 0 where the whole output was written, 1 where the key, the text or the token was refused, and 3 where memory
 /// or random bytes were, or a read or a write failed; then the error's text and a line feed go to `errors`, or a
-/// beginning of them where a write fails there, which changes no status. What is refused writes nothing to `output`, and
-/// a write that fails leaves a beginning of the output there.
+/// beginning of them where a write fails there, which changes no status. What is refused writes nothing to `output`,
+/// and a write that fails leaves a beginning of the output there.
 pub fn run<K: Read, G: TryRng, R: Read, W: Write, E: Write>(
     alloc: Global,
     task: Task,

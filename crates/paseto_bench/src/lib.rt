@@ -14,16 +14,19 @@
 
 mod boxed;
 mod copying;
+mod json;
 mod p384;
 mod primitives;
 mod rsa;
 mod schemes;
+mod signed_v3;
 mod tokens;
 
 pub use boxed::{
     paseto_bench_v2_open, paseto_bench_v2_seal, paseto_bench_xchacha20poly1305_open,
     paseto_bench_xchacha20poly1305_seal,
 };
+pub use json::paseto_bench_json_read;
 pub use p384::{paseto_bench_p384_public_key, paseto_bench_p384_sign, paseto_bench_p384_verify};
 pub use primitives::{
     paseto_bench_aes256_ctr, paseto_bench_blake2b, paseto_bench_hmac_sha384, paseto_bench_xchacha20,
@@ -33,6 +36,7 @@ pub use schemes::{
     paseto_bench_ed25519_public_key, paseto_bench_ed25519_sign, paseto_bench_ed25519_verify,
     paseto_bench_v4_sign, paseto_bench_v4_verify,
 };
+pub use signed_v3::{paseto_bench_v3_sign, paseto_bench_v3_verify};
 pub use tokens::{
     paseto_bench_v1_open, paseto_bench_v1_seal, paseto_bench_v3_open, paseto_bench_v3_seal,
     paseto_bench_v4_open, paseto_bench_v4_seal,

@@ -33,8 +33,8 @@ use rusty_paseto_core::{
 use serde_json::{Map, Value};
 use std::alloc::Global;
 
-/// Builds a local token of version 4 of claims, which are the text of a JSON object, under a key of 32 bytes and a seed of
-/// 32 as its nonce.
+/// Builds a local token of version 4 of claims, which are the text of a JSON object, under a key of 32 bytes and a seed
+/// of 32 as its nonce.
 ///
 /// The token expires an hour after the moment, and is issued and usable at it, unless the claims say otherwise. The
 /// moment is in seconds after 1970-01-01T00:00:00Z.

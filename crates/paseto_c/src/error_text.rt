@@ -6,8 +6,8 @@ ghost use Rattle.paseto_c.specs.ErrorText.{argument_text, claim_text, status_tex
 
 use crate::answer::give;
 
-/// What a status says: one line, without its end. The texts are the library's own, without the names of claims and times
-/// that it puts in.
+/// What a status says: one line, without its end. The texts are the library's own, without the names of claims and
+/// times that it puts in.
 #[unsafe(no_mangle)]
 pub extern "C" fn paseto_error_text(status: u8, room: &mut [u8], written: &mut usize) -> u8
     ensures { IsGiven (status_text status) room.old room.new written.new result }

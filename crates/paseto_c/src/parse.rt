@@ -66,8 +66,8 @@ pub extern "C" fn paseto_v4_local_parse(
     )
 }
 
-/// Verifies a public token of version 4 under a public key of 32 bytes, and answers its claims as `paseto_v4_local_parse`
-/// does.
+/// Verifies a public token of version 4 under a public key of 32 bytes, and answers its claims as
+/// `paseto_v4_local_parse` does.
 ///
 /// Source: PASETO specification, "Version 4", "Verify".
 #[unsafe(no_mangle)]

@@ -1,5 +1,6 @@
-//! A ticket office, as a program over the library would be written: it issues tickets and sessions, lets them in, changes
-//! its keys, and refuses what has expired, what is under a retired key or another one, and what another key signed.
+//! A ticket office, as a program over the library would be written: it issues tickets and sessions, lets them in,
+//! changes its keys, and refuses what has expired, what is under a retired key or another one, and what another key
+//! signed.
 #![tactic(auto)]
 
 mod boxed;

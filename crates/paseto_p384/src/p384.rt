@@ -28,9 +28,21 @@ const PUBLIC_LENGTH: usize = 49;
 /// ECDSA over P-384 with SHA-384 (FIPS 186-5, section 6.4), the signature scheme of version 3.
 ///
 /// ```rust
-/// let (private, public) = P384::key_pair(&mut rng)?;
-/// let signature = P384.sign(alloc, private.as_bytes(), message)?;
-/// P384.verify(alloc, public.as_bytes(), message, &signature)?;
+/// use paseto_p384::P384;
+/// use rand_core::TryRng;
+/// use rusty_paseto_core::{PasetoError, SignatureScheme};
+/// use std::alloc::Global;
+///
+/// /// Signs a message under a new key, and verifies it.
+/// pub fn sign_and_verify<R: TryRng>(
+///     alloc: Global,
+///     rng: &mut R,
+///     message: &[u8],
+/// ) -> Result<(), PasetoError> {
+///     let (private, public) = P384::key_pair(rng)?;
+///     let signature = P384.sign(alloc, private.as_bytes(), message)?;
+///     P384.verify(alloc, public.as_bytes(), message, &signature)
+/// }
 /// ```
 #[derive(Drop)]
 pub struct P384;

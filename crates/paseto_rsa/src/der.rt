@@ -146,8 +146,8 @@ fn is_shortest(contents: &[u8]) -> bool
     }
 }
 
-// The contents of an INTEGER, without the octet that stands there for the sign alone where they have one more than `most`.
-// Which octets are left is told by their count.
+// The contents of an INTEGER, without the octet that stands there for the sign alone where they have one more than
+// `most`. Which octets are left is told by their count.
 fn digits(contents: &[u8], most: usize) -> Option<&[u8]>
     requires { IsShortest contents.now }
     ensures { MatchOption result (256 ^ most ≤ os2ip contents.now)

@@ -4,9 +4,21 @@
 //! for those that a caller brings to public tokens, and generators of known bytes for a random one.
 //!
 //! ```rust
-//! let mut paseto = Paseto::<V4, Public>::builder();
-//! let token = paseto.try_sign(alloc, &mut ToyV4, &private_key)?;
-//! let text = Paseto::<V4, Public>::try_verify(alloc, &ToyV4, token.as_str(), &public_key, None, None)?;
+//! use paseto_toys::ToyV4;
+//! use rusty_paseto_core::{
+//!     Paseto, PasetoAsymmetricPrivateKey, PasetoAsymmetricPublicKey, PasetoError, Public, V4,
+//! };
+//! use std::alloc::Global;
+//!
+//! /// Signs an empty message by a toy, and verifies it.
+//! pub fn round_trip(
+//!     alloc: Global,
+//!     private: &PasetoAsymmetricPrivateKey<'_, V4, Public>,
+//!     public: &PasetoAsymmetricPublicKey<'_, V4, Public>,
+//! ) -> Result<String, PasetoError> {
+//!     let token = Paseto::<V4, Public>::builder().try_sign(alloc, &mut ToyV4, private)?;
+//!     Paseto::<V4, Public>::try_verify(alloc, &ToyV4, token.as_str(), public, None, None)
+//! }
 //! ```
 //!
 //! Anyone can sign by a toy, and a toy box keeps nothing secret.

@@ -95,10 +95,16 @@ impl KeyRingParserError {
     /// Why the token was not read or opened, where it was not. The error's own text is that of its cause.
     ///
     /// ```rust
-    /// match ring.parse(&parser, token) {
-    ///     Err(error) if error.cause().is_some() => println!(rt; "no token of ours: {error}")?,
-    ///     Err(KeyRingParserError::Parser(refused)) => println!(rt; "not now, or not here: {refused}")?,
-    ///     ..
+    /// use rusty_paseto::prelude::*;
+    ///
+    /// /// Whose fault a refusal is.
+    /// pub fn blame(error: &KeyRingParserError) -> &'static str {
+    ///     match error {
+    ///         error if error.cause().is_some() => "no token of ours",
+    ///         KeyRingParserError::Ring(_) => "no key of ours",
+    ///         KeyRingParserError::Parser(_) => "not now, or not here",
+    ///         KeyRingParserError::Memory(_) => "ask again later",
+    ///     }
     /// }
     /// ```
     pub fn cause(&self) -> Option<&PasetoError>

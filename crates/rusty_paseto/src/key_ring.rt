@@ -26,9 +26,23 @@ mod public;
 /// The keys of local tokens of a version by their ids: a [`Ring`] that opens them.
 ///
 /// ```rust
-/// let mut ring = KeyRing::<V4>::new(alloc);
-/// ring.add("2026-11", key)?;
-/// let (id, claims) = ring.parse(&PasetoParser::default(alloc, now)?, token)?;
+/// use anyhow::Result;
+/// use jiff::Timestamp;
+/// use rusty_paseto::prelude::*;
+/// use serde_json::Value;
+/// use std::alloc::Global;
+///
+/// /// The id of the key that the token's footer `{"kid":"2026-11"}` names, and the claims.
+/// pub fn admit(
+///     alloc: Global,
+///     now: Timestamp,
+///     token: &str,
+///     key: PasetoSymmetricKey<V4, Local>,
+/// ) -> Result<(String, Value)> {
+///     let mut ring = KeyRing::<V4>::new(alloc);
+///     ring.add("2026-11", key)?;
+///     Ok(ring.parse(&PasetoParser::default(alloc, now)?, token)?)
+/// }
 /// ```
 pub type KeyRing<V> = Ring<PasetoSymmetricKey<V, Local>>;
 
@@ -36,9 +50,24 @@ pub type KeyRing<V> = Ring<PasetoSymmetricKey<V, Local>>;
 /// and not copied.
 ///
 /// ```rust
-/// let mut ring = PublicKeyRing::<V4>::new(alloc);
-/// ring.add("2026-11", PasetoAsymmetricPublicKey::from(&public))?;
-/// let (id, claims) = ring.parse(&Ed25519, &PasetoParser::default(alloc, now)?, token)?;
+/// use anyhow::Result;
+/// use jiff::Timestamp;
+/// use paseto_ed25519::Ed25519;
+/// use rusty_paseto::prelude::*;
+/// use serde_json::Value;
+/// use std::alloc::Global;
+///
+/// /// The id of the key that the token's footer `{"kid":"2026-11"}` names, and the claims.
+/// pub fn admit(
+///     alloc: Global,
+///     now: Timestamp,
+///     token: &str,
+///     public: &Key<32>,
+/// ) -> Result<(String, Value)> {
+///     let mut ring = PublicKeyRing::<V4>::new(alloc);
+///     ring.add("2026-11", PasetoAsymmetricPublicKey::from(public))?;
+///     Ok(ring.parse(&Ed25519, &PasetoParser::default(alloc, now)?, token)?)
+/// }
 /// ```
 pub type PublicKeyRing<'a, V> = Ring<PasetoAsymmetricPublicKey<'a, V, Public>>;
 

@@ -41,9 +41,26 @@ const EXPIRATION: &str = "exp";
 /// number of tokens.
 ///
 /// ```rust
-/// let mut builder = PasetoBuilder::<V4, Local>::default(alloc, now)?;
-/// builder.set_claim(&AudienceClaim::from("customers"))?.set_footer(Footer::from("key-1"));
-/// let token = builder.build(&mut rng, &key)?;
+/// use anyhow::{Result, ensure};
+/// use jiff::Timestamp;
+/// use rand_core::TryRng;
+/// use rusty_paseto::prelude::*;
+/// use std::alloc::Global;
+///
+/// /// A token for customers, whose footer names the key.
+/// pub fn issue<R: TryRng>(
+///     alloc: Global,
+///     now: Timestamp,
+///     rng: &mut R,
+///     key: &PasetoSymmetricKey<V4, Local>,
+/// ) -> Result<String> {
+///     ensure!(fits_default(now), "the clock is past the year 9999");
+///     let mut builder = PasetoBuilder::<V4, Local>::default(alloc, now)?;
+///     builder
+///         .set_claim(&AudienceClaim::from("customers"))?
+///         .set_footer(Footer::from("{\"kid\":\"2026-11\"}"));
+///     Ok(builder.build(rng, key)?)
+/// }
 /// ```
 #[derive(Drop)]
 pub struct PasetoBuilder<'a, V, P> {

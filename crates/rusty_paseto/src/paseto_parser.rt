@@ -27,9 +27,9 @@ use std::collections::BTreeMap;
 /// A parser of tokens that refuses what has expired and what may not be used yet, where it is made by
 /// `default`: the usual parser beside a [`PasetoBuilder`](crate::PasetoBuilder).
 ///
-/// The moment of both is the one that the parser was made with, or that `set_now` brought since. `set_leeway` allows for
-/// clocks that differ. A token without `exp` never expires: `require_claim("exp")` demands it. A claim that is to be
-/// checked beyond that comes with `check_claim`, or with `validate_claim` and one of the crate's
+/// The moment of both is the one that the parser was made with, or that `set_now` brought since. `set_leeway` allows
+/// for clocks that differ. A token without `exp` never expires: `require_claim("exp")` demands it. A claim that is to
+/// be checked beyond that comes with `check_claim`, or with `validate_claim` and one of the crate's
 /// [`validators`](crate::validators), or the caller's own.
 ///
 /// A call that refuses leaves the parser as it was. `check_claim`, `validate_claim` and `require_claim` lend the parser
@@ -37,9 +37,26 @@ use std::collections::BTreeMap;
 /// after a refusal.
 ///
 /// ```rust
-/// let mut parser = PasetoParser::<V4, Local>::default(alloc, now)?;
-/// parser.check_claim(&AudienceClaim::from("customers"))?.require_claim("exp")?.set_leeway(5);
-/// let claims = parser.parse(token, &key)?;
+/// use jiff::Timestamp;
+/// use rusty_paseto::prelude::*;
+/// use serde_json::Value;
+/// use std::alloc::Global;
+///
+/// /// The claims of a token for customers that expires, with five seconds for clocks that differ.
+/// pub fn admit(
+///     alloc: Global,
+///     now: Timestamp,
+///     token: &str,
+///     key: &PasetoSymmetricKey<V4, Local>,
+/// ) -> Result<Value, GenericParserError> {
+///     let mut parser = PasetoParser::<V4, Local>::default(alloc, now)?;
+///     parser
+///         .check_claim(&AudienceClaim::from("customers"))?
+///         .require_claim("exp")?
+///         .set_leeway(5)
+///         .set_footer(Footer::from("{\"kid\":\"2026-11\"}"));
+///     parser.parse(token, key)
+/// }
 /// ```
 pub type PasetoParser<'a, V, P> = DefaultParser<'a, V, P, ValidatorFn>;
 
@@ -89,8 +106,8 @@ impl<'a, V: VersionTrait, P: PurposeTrait, B: Drop> DefaultParser<'a, V, P, B> {
         self
     }
 
-    /// Sets how many seconds the clocks of issuer and reader may differ by, as `set_leeway` of a `GenericParser` does, and
-    /// keeps the rest: it is 0 until it is set. No memory is taken.
+    /// Sets how many seconds the clocks of issuer and reader may differ by, as `set_leeway` of a `GenericParser` does,
+    /// and keeps the rest: it is 0 until it is set. No memory is taken.
     pub fn set_leeway(&mut self, seconds: u32) -> &mut Self
         ensures lent { result.ghost_name ≡ self.entry.ghost_name }
         ensures change { result.now.parser ≡ record self.entry.now.parser { leeway = seconds } }

@@ -3,8 +3,17 @@
 //! Each is handed in boxed, with the claim whose key it checks:
 //!
 //! ```rust
-//! let seats = CustomClaim::try_from_str(alloc, "seats", 0u64)?;
-//! parser.validate_claim(&seats, Box::new(alloc, AtMost(8))?)?;
+//! use anyhow::Result;
+//! use rusty_paseto::prelude::*;
+//! use rusty_paseto::validators::AtMost;
+//! use std::alloc::Global;
+//!
+//! /// Makes a parser refuse a token of more than eight seats.
+//! pub fn limit_seats(alloc: Global, parser: &mut GenericParser<'_, V4, Local>) -> Result<()> {
+//!     let seats = CustomClaim::try_from_str(alloc, "seats", 0u64)?;
+//!     parser.put_validator(&seats, Box::new(alloc, AtMost(8))?)?;
+//!     Ok(())
+//! }
 //! ```
 //!
 //! The value of that claim is not compared: where a key has a validator, it checks alone. A value that is not there, or
@@ -14,9 +23,15 @@
 //! A validator of one's own is a type with its meaning beside it:
 //!
 //! ```rust
+//! ghost use Rattle.paseto_doc_examples.specs.Even.{even};
+//!
+//! use rusty_paseto::prelude::*;
+//! use serde_json::Value;
+//! use std::alloc::Global;
+//!
 //! /// Lets an even number pass, and nothing else.
 //! #[derive(Drop)]
-//! struct Even;
+//! pub struct Even;
 //!
 //! impl Validator for Even {
 //!     ghost verdict = { λ _ key value. even key value };
@@ -30,9 +45,13 @@
 //! }
 //! ```
 //!
-//! where `even` is a definition of the crate's own, in `specs/`:
+//! Here `even` is a definition in `specs/` of the crate, whose name stands in the first line:
 //!
 //! ```text
+//! use Rattle.std.specs.Prelude.{◌%◌, ◌==◌, ℕ, List, if◌then◌else◌, Option, Some, None}
+//! use Rattle.serde_json.specs.Data.{Data, number, unsigned}
+//! use Rattle.rusty_paseto_claims.specs.Error.{Fault, custom_validation}
+//!
 //! abbrev pub even : List ℕ → Data → Option Fault
 //! even key (number (unsigned n)) = if n % 2 == 0 then None else Some (custom_validation key)
 //! even key other = Some (custom_validation key)

@@ -2,11 +2,16 @@
 //! own, and tests on the JSON values that claims have.
 //!
 //! ```rust
-//! let seats = CustomClaim::try_from_str(alloc, "seats", 4u64)?;
-//! let json = seats.to_json(alloc)?;
-//! ```
+//! use rusty_paseto_claims::{CustomClaim, PasetoClaim, PasetoClaimError};
+//! use serde_json::Value;
+//! use std::alloc::Global;
 //!
-//! `json` is `{"seats":4}`, which a builder stores under `seats`.
+//! /// The JSON of a claim, `{"seats":4}`, which a builder stores under `seats`.
+//! pub fn seats(alloc: Global) -> Result<Value, PasetoClaimError> {
+//!     let seats = CustomClaim::try_from_str(alloc, "seats", 4u64)?;
+//!     seats.to_json(alloc)
+//! }
+//! ```
 #![tactic(auto)]
 
 mod claim;

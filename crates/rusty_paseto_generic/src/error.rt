@@ -120,10 +120,11 @@ impl GenericParserError {
     /// Why the token was not opened or verified, where it was not. The error's own text does not say it.
     ///
     /// ```rust
-    /// match parser.parse(token, &key) {
-    ///     Err(error) if matches!(error.cause(), Some(PasetoError::FooterInvalid)) => retry(),
-    ///     Err(error) => println!(rt; "{}", error.explained())?,
-    ///     Ok(claims) => serve(claims),
+    /// use rusty_paseto_generic::{GenericParserError, PasetoError};
+    ///
+    /// /// Whether the token has another footer than the parser, so that another parser may take it.
+    /// pub fn has_another_footer(error: &GenericParserError) -> bool {
+    ///     matches!(error.cause(), Some(PasetoError::FooterInvalid))
     /// }
     /// ```
     pub fn cause(&self) -> Option<&PasetoError>

@@ -3,11 +3,14 @@
 //! it is opened.
 //!
 //! ```rust
-//! let token = UntrustedToken::try_parse("v4.local.AAAA.a2V5LTE")?;
-//! let key_id = token.footer_str(alloc)?;
-//! ```
+//! use rusty_paseto_parts::{PasetoError, UntrustedToken};
+//! use std::alloc::Global;
 //!
-//! `key_id` is `key-1`, and is not to be trusted before the token is opened.
+//! /// The footer of a token, as `{"kid":"2026-11"}`. Anybody can write one: it counts once the token is opened.
+//! pub fn footer_of(alloc: Global, token: &str) -> Result<Option<String>, PasetoError> {
+//!     UntrustedToken::try_parse(token)?.footer_str(alloc)
+//! }
+//! ```
 #![tactic(auto)]
 
 mod absorb;

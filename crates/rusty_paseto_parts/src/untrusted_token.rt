@@ -15,10 +15,14 @@ use std::alloc::Global;
 /// Nothing of it is to be trusted: no key, tag or signature has been looked at, and anyone can
 /// write such a text.
 ///
-/// ```ignore
-/// let untrusted = UntrustedToken::try_parse("v4.local.payload.Zm9vdGVy")?;
-/// assert_eq!(untrusted.version(), "v4");
-/// assert_eq!(untrusted.footer_base64(), Some("Zm9vdGVy"));
+/// ```rust
+/// use rusty_paseto_parts::{PasetoError, UntrustedToken};
+///
+/// /// Whether a token says that it is a local one of version 4.
+/// pub fn is_v4_local(token: &str) -> Result<bool, PasetoError> {
+///     let untrusted = UntrustedToken::try_parse(token)?;
+///     Ok(untrusted.version() == "v4" && untrusted.purpose() == "local")
+/// }
 /// ```
 #[derive(Clone, Copy, Debug)]
 pub struct UntrustedToken<'a> {

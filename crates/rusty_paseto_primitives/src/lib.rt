@@ -1,8 +1,12 @@
 //! The primitives that PASETO tokens are made with. No call takes memory.
 //!
 //! ```rust
-//! let digest: [u8; 32] = blake2b_keyed(b"a key", b"a message");
-//! let code: [u8; 48] = hmac_sha384(b"a key", b"a message");
+//! use rusty_paseto_primitives::{blake2b_keyed, hmac_sha384};
+//!
+//! /// The BLAKE2b digest and the HMAC-SHA384 code of a message.
+//! pub fn digests(key: &[u8; 32], message: &[u8]) -> ([u8; 32], [u8; 48]) {
+//!     (blake2b_keyed(key, message), hmac_sha384(key, message))
+//! }
 //! ```
 //!
 //! They are for those who build a protocol: a cipher alone authenticates nothing.

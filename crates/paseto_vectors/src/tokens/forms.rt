@@ -1,4 +1,5 @@
-//! The forms of a token: with its footer's section and, for the empty footer, without. The text that a public token shows.
+//! The forms of a token: with its footer's section and, for the empty footer, without. The text that a public token
+//! shows.
 
 use crate::expect::{expect_same, expect_that};
 use crate::kinds::{Binding, Kind, PUBLIC_KINDS, SECRET};

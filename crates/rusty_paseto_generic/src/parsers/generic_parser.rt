@@ -48,9 +48,25 @@ use std::marker::PhantomData;
 /// code that goes on after a refusal.
 ///
 /// ```rust
-/// let mut parser = GenericParser::<V4, Local>::new(alloc);
-/// parser.check_claim(&AudienceClaim::from("customers"))?.set_footer(Footer::from("key-1"));
-/// let claims = parser.parse(token, &key)?;
+/// use rusty_paseto_generic::{
+///     AudienceClaim, CheckSetter, Footer, GenericParser, GenericParserError, Local,
+///     PasetoSymmetricKey, V4,
+/// };
+/// use serde_json::Value;
+/// use std::alloc::Global;
+///
+/// /// The claims of a token for customers, whose footer names the key.
+/// pub fn parse(
+///     alloc: Global,
+///     token: &str,
+///     key: &PasetoSymmetricKey<V4, Local>,
+/// ) -> Result<Value, GenericParserError> {
+///     let mut parser = GenericParser::<V4, Local>::new(alloc);
+///     parser
+///         .check_claim(&AudienceClaim::from("customers"))?
+///         .set_footer(Footer::from("{\"kid\":\"2026-11\"}"));
+///     parser.parse(token, key)
+/// }
 /// ```
 pub type GenericParser<'a, V, P> = TokenParser<'a, V, P, ValidatorFn>;
 
@@ -107,13 +123,24 @@ impl<'a, V: VersionTrait, P: PurposeTrait, B: Drop> TokenParser<'a, V, P, B> {
         self
     }
 
-    /// Sets how many seconds the clocks of issuer and reader may differ by, 0 until it is set, and keeps the rest: `exp`
-    /// is checked that much earlier than the moment, and `nbf` that much later. It changes no answer of a parser that
-    /// checks no times. No memory is taken.
+    /// Sets how many seconds the clocks of issuer and reader may differ by, 0 until it is set, and keeps the rest:
+    /// `exp` is checked that much earlier than the moment, and `nbf` that much later. It changes no answer of a parser
+    /// that checks no times. No memory is taken.
     ///
     /// ```rust
-    /// // A token that was issued by a clock that is a minute ahead is let in, and one that expired a minute ago too.
-    /// parser.set_leeway(60);
+    /// use jiff::Timestamp;
+    /// use rusty_paseto_generic::{CheckSetter, GenericParser, GenericParserError, Local, V4};
+    /// use std::alloc::Global;
+    ///
+    /// /// A parser that checks the times, and allows for clocks that differ by a minute.
+    /// pub fn lenient_parser<'a>(
+    ///     alloc: Global,
+    ///     now: Timestamp,
+    /// ) -> Result<GenericParser<'a, V4, Local>, GenericParserError> {
+    ///     let mut parser = GenericParser::<V4, Local>::new(alloc);
+    ///     parser.check_times(now)?.set_leeway(60);
+    ///     Ok(parser)
+    /// }
     /// ```
     pub fn set_leeway(&mut self, seconds: u32) -> &mut Self
         ensures lent { result.ghost_name ≡ self.entry.ghost_name }

@@ -1,4 +1,4 @@
-// The rounds of one block, whose state is four vectors: the rows of its square of words.
+//! The rounds of one block, whose state is four vectors: the rows of its square of words.
 
 ghost use Rattle.std.specs.Prelude.{◌≡◌, ℕ, List, ◌∷◌, []};
 ghost use Rattle.rusty_paseto_primitives.specs.ChaCha.Block.{column_round, diagonal_round, double_rounds};

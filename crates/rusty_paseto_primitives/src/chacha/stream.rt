@@ -94,10 +94,15 @@ pub fn xchacha20_apply(key: &[u8; 32], nonce: &[u8; 24], data: &mut [u8])
 /// The block after number 2^64 - 1 is block 0 again.
 ///
 /// ```rust
-/// // The one-time key stands in block 0, and the text is encrypted from block 1 on.
-/// let mut one_time_key = [0u8; 32];
-/// xchacha20_apply(&key, &nonce, &mut one_time_key);
-/// xchacha20_apply_from(&key, &nonce, 1, &mut text);
+/// use rusty_paseto_primitives::{xchacha20_apply, xchacha20_apply_from};
+///
+/// /// Encrypts a text from block 1 on, and answers the one-time key, which stands in block 0.
+/// pub fn encrypt(key: &[u8; 32], nonce: &[u8; 24], text: &mut [u8]) -> [u8; 32] {
+///     let mut one_time_key = [0u8; 32];
+///     xchacha20_apply(key, nonce, &mut one_time_key);
+///     xchacha20_apply_from(key, nonce, 1, text);
+///     one_time_key
+/// }
 /// ```
 pub fn xchacha20_apply_from(key: &[u8; 32], nonce: &[u8; 24], first_block: u64, data: &mut [u8])
     ensures { «data».new ≡ xored_from (xchacha20_stream key.now nonce.now)

@@ -1,4 +1,4 @@
-// Vectors of four words, with the steps of a quarter round in each lane.
+//! Vectors of four words, with the steps of a quarter round in each lane.
 
 ghost use Rattle.std.specs.Prelude.{◌≡◌, ℕ, ◌<◌};
 ghost use Rattle.rusty_paseto_primitives.specs.ChaCha.Block.{add32, xor_rotate};

@@ -9,7 +9,7 @@ ghost use Rattle.rusty_paseto_core.specs.Local.{local};
 use super::{Opening, TagCollision, find_collision};
 use crate::context::five_pieces;
 use crate::local::LocalSuite;
-use crate::local::sealing::nonce_and_tag;
+use crate::local::sealing::seal;
 use rusty_paseto_parts::{
     Footer, ImplicitAssertion, Key, Local, PasetoError, PasetoSymmetricKey,
     PreAuthenticationEncoding, VersionTrait,
@@ -19,7 +19,7 @@ use std::fmt;
 use std::process::Abort;
 use std::test::Fail;
 
-/// A toy version with neither secrecy nor authenticity: a text is not ciphertext, and the tag of each encoding is
+/// A toy version with neither secrecy nor authenticity: a text is its own ciphertext, and the tag of each encoding is
 /// 32 zero bytes.
 #[derive(Clone, Copy, Debug, Default)]
 struct Toy;
@@ -137,7 +137,7 @@ impl<'a> Made<'a> {
         Ok(Sealed {
             made: self,
             key: PasetoSymmetricKey::from(Key::from(key)),
-            token: nonce_and_tag::<Toy>(alloc, &key, &nonce, self.text, footer, assertion)?,
+            token: seal::<Toy>(alloc, &key, &nonce, self.text, footer, assertion)?,
         })
     }
 

@@ -1,0 +1,165 @@
+//! The examples of the libraries' documentation, each word for word as it stands there, in a file of its own. They are
+//! proved here, and most are run.
+#![tactic(auto)]
+
+mod at_most;
+mod boxed_decrypting;
+mod boxed_tokens;
+mod causes;
+mod collisions;
+mod custom_claims;
+mod default_tokens;
+mod digests;
+mod encrypting;
+mod even;
+mod footer_text;
+mod from_block_one;
+mod generic_builder;
+mod generic_parser;
+mod generic_tokens;
+mod key_ring;
+mod keys_as_text;
+mod leeway;
+mod local_tokens;
+mod p384_signature;
+mod paseto_builder;
+mod paseto_parser;
+mod poly1305_pieces;
+mod poly1305_tag;
+mod public_key_ring;
+mod required_claims;
+mod ring_causes;
+mod rsa_public_key;
+mod rsa_signature;
+mod sections;
+mod toy_tokens;
+
+use anyhow::Result;
+use even::Even;
+use jiff::Timestamp;
+use paseto_ed25519::Ed25519;
+use rand::rngs::SysRng;
+use rusty_paseto::prelude::*;
+use std::alloc::Global;
+
+fn main(rt: HostRuntime) -> Result<()> {
+    show_primitives(&rt)?;
+    show_core(&rt)?;
+    show_boxed(&rt)?;
+    show_generic(&rt)?;
+    show_default(&rt)?;
+    show_signed(&rt)
+}
+
+fn show_primitives(rt: &HostRuntime) -> Result<()> {
+    let key = [7u8; 32];
+    let (digest, code) = digests::digests(&key, b"a message");
+    println!(rt; "digest and code: {} and {}", digest[0], code[0])?;
+    let mut text = *b"a message";
+    let one_time_key = from_block_one::encrypt(&key, &[9u8; 24], &mut text);
+    let whole = poly1305_tag::tag(&one_time_key, b"a message");
+    let pieces = poly1305_pieces::tag_of_pieces(&one_time_key, b"a mess", b"age");
+    println!(rt; "tag in pieces: {}", whole == pieces)?;
+    Ok(())
+}
+
+fn show_core(rt: &HostRuntime) -> Result<()> {
+    let (alloc, mut rng) = (rt.alloc(), SysRng::new(rt));
+    let key = PasetoSymmetricKey::<V4, Local>::from(Key::<32>::try_new_random(&mut rng)?);
+    let nonce = Key::<32>::try_new_random(&mut rng)?;
+    let text = local_tokens::round_trip(alloc, &key, &PasetoNonce::from(&nonce))?;
+    println!(rt; "decrypted: {text}")?;
+    let token = encrypting::encrypt(alloc, &key, &PasetoNonce::from(&nonce), "a message")?;
+    if let Some(footer) = footer_text::footer_of(alloc, token.as_str())? {
+        println!(rt; "footer: {footer}")?;
+    }
+    println!(rt; "v4.local: {}", sections::is_v4_local(token.as_str())?)?;
+    println!(rt;
+        "id of {} bytes",
+        keys_as_text::write_and_read(alloc, &key)?.len()
+    )?;
+    let other = local_token(alloc, &key, &nonce)?;
+    let found = collisions::find_collision(alloc, &key, other.as_str(), other.as_str())?;
+    println!(rt; "no collision: {}", found.is_none())?;
+    Ok(())
+}
+
+/// A token with no footer.
+fn local_token(
+    alloc: Global,
+    key: &PasetoSymmetricKey<V4, Local>,
+    nonce: &Key<32>,
+) -> Result<String, PasetoError> {
+    Paseto::<V4, Local>::builder().try_encrypt(alloc, key, &PasetoNonce::from(nonce))
+}
+
+fn show_boxed(rt: &HostRuntime) -> Result<()> {
+    let (alloc, mut rng) = (rt.alloc(), SysRng::new(rt));
+    let key = PasetoSymmetricKey::<V2, Local>::from(Key::<32>::try_new_random(&mut rng)?);
+    let nonce = Key::<32>::try_new_random(&mut rng)?;
+    let text = boxed_tokens::round_trip(alloc, &key, &PasetoNonce::from(&nonce))?;
+    println!(rt; "decrypted in version 2: {text}")?;
+    if let Err(error) = boxed_decrypting::decrypt(alloc, "v2.local.AAAA", &key) {
+        println!(rt; "refused in version 2: {error}")?;
+    }
+    Ok(())
+}
+
+fn show_generic(rt: &HostRuntime) -> Result<()> {
+    let (alloc, mut rng) = (rt.alloc(), SysRng::new(rt));
+    let key = PasetoSymmetricKey::<V4, Local>::from(Key::<32>::try_new_random(&mut rng)?);
+    println!(rt;
+        "claims: {}",
+        generic_tokens::round_trip(alloc, &mut rng, &key)?
+    )?;
+    println!(rt; "claim: {}", custom_claims::seats(alloc)?)?;
+    let token = generic_builder::build(alloc, &mut rng, &key)?;
+    println!(rt;
+        "parsed: {}",
+        generic_parser::parse(alloc, token.as_str(), &key)?
+    )?;
+    let mut parser = leeway::lenient_parser(alloc, Timestamp::now(rt)?)?;
+    if let Err(error) = parser.parse(token.as_str(), &key) {
+        println!(rt; "another footer: {}", causes::has_another_footer(&error))?;
+    }
+    at_most::limit_seats(alloc, &mut parser)?;
+    let even = CustomClaim::try_from_str(alloc, "seats", 0u64)?;
+    parser.put_validator(&even, Box::new(alloc, Even)?)?;
+    if let Err(error) = required_claims::demanding_parser(alloc)?.parse(token.as_str(), &key) {
+        println!(rt; "demanding: {error}")?;
+    }
+    Ok(())
+}
+
+fn show_default(rt: &HostRuntime) -> Result<()> {
+    let (alloc, mut rng) = (rt.alloc(), SysRng::new(rt));
+    let now = Timestamp::now(rt)?;
+    let soon = Timestamp::from_second(now.as_second().saturating_add(60))?;
+    let key = PasetoSymmetricKey::<V4, Local>::from(Key::<32>::try_new_random(&mut rng)?);
+    let claims = default_tokens::round_trip(alloc, now, soon, &mut rng, &key)?;
+    println!(rt; "expires: {}", claims.get("exp").is_some())?;
+    let token = paseto_builder::issue(alloc, now, &mut rng, &key)?;
+    let claims = paseto_parser::admit(alloc, soon, token.as_str(), &key)?;
+    println!(rt; "for customers: {}", claims.get("aud").is_some())?;
+    let (id, _claims) = key_ring::admit(alloc, soon, token.as_str(), key)?;
+    println!(rt; "by a ring: {id}")?;
+    let parser = PasetoParser::<V4, Local>::default(alloc, soon)?;
+    if let Err(error) = KeyRing::<V4>::new(alloc).parse(&parser, token.as_str()) {
+        println!(rt; "by an empty ring: {}", ring_causes::blame(&error))?;
+    }
+    Ok(())
+}
+
+fn show_signed(rt: &HostRuntime) -> Result<()> {
+    let (alloc, mut rng) = (rt.alloc(), SysRng::new(rt));
+    let now = Timestamp::now(rt)?;
+    let (private, public) = Ed25519::key_pair(&mut rng)?;
+    let key = PasetoAsymmetricPrivateKey::<V4, Public>::from(&private);
+    let token = Paseto::<V4, Public>::builder().try_sign(alloc, &mut Ed25519, &key)?;
+    if let Err(error) = public_key_ring::admit(alloc, now, token.as_str(), &public) {
+        println!(rt; "by a public ring: {error}")?;
+    }
+    p384_signature::sign_and_verify(alloc, &mut rng, b"a message")?;
+    println!(rt; "signed by P-384")?;
+    Ok(())
+}

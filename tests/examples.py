@@ -1,0 +1,79 @@
+#!/usr/bin/env python3
+"""Compares the examples of doc comments with the code of paseto_doc_examples, which the gate proves and runs.
+
+Each block that a `///` or `//!` comment opens by ```rust stands there word for word, line after line in one file of
+src/, and begins with its `use` lines; each that it opens by ```text, in one file of specs/. A block in C is no code of
+a crate. One line tells each example; the last line is 'N passed, M failed', and the status is 0 where none failed.
+"""
+
+import pathlib
+import re
+import sys
+
+CRATES = pathlib.Path(__file__).resolve().parent.parent / "crates"
+PROVED = "paseto_doc_examples"
+COMMENT = re.compile(r"\s*//[/!] ?(.*)")
+
+
+def blocks(source):
+    """The blocks of a file's doc comments: the line where each begins, its language, and its lines."""
+    opened = None
+    for number, line in enumerate(source.read_text(encoding="utf-8").splitlines(), 1):
+        comment = COMMENT.fullmatch(line)
+        if comment is None:
+            if opened:
+                yield opened
+            opened = None
+        elif comment[1].startswith("```"):
+            if opened:
+                yield opened
+            opened = None if opened else (number, comment[1][3:].strip(), [])
+        elif opened:
+            opened[2].append(comment[1])
+
+
+def proved(folder, suffix):
+    files = sorted((CRATES / PROVED / folder).rglob("*" + suffix))
+    return {file.relative_to(CRATES): file.read_text(encoding="utf-8").splitlines() for file in files}
+
+
+def found(wanted, files):
+    """The file in which the lines stand one after another."""
+    for file, lines in files.items():
+        if any(lines[start : start + len(wanted)] == wanted for start in range(len(lines))):
+            return file
+    return None
+
+
+def fault(language, lines, file):
+    if language not in ("rust", "text"):
+        return f"it is opened by ```{language}"
+    if not re.match(r"(ghost )?use |-- ", lines[0] if lines else ""):
+        return "it does not begin with its `use` lines"
+    if file is None:
+        return f"it stands in no file of {PROVED}"
+    return None
+
+
+def main():
+    files = {"rust": proved("src", ".rt"), "text": proved("specs", ".antt")}
+    passed, failed, named = 0, 0, set()
+    for source in sorted(CRATES.glob("*/src/**/*.rt")):
+        for number, language, lines in blocks(source):
+            if language == "c":
+                continue
+            file = found(lines, files.get(language, {})) if lines else None
+            named.add(file)
+            wrong = fault(language, lines, file)
+            print(f"{source.relative_to(CRATES)}:{number}: {wrong or file}")
+            passed, failed = passed + (wrong is None), failed + (wrong is not None)
+    for file in [*files["rust"], *files["text"]]:
+        if file not in named and file.name not in ("main.rt", "Lib.antt"):
+            print(f"{file}: it is the example of no doc comment")
+            failed += 1
+    print(f"{passed} passed, {failed} failed")
+    return 1 if failed else 0
+
+
+if __name__ == "__main__":
+    sys.exit(main())
