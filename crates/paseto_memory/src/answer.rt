@@ -2,27 +2,22 @@
 
 use anyhow::Result;
 use rusty_paseto::prelude::{
-    CustomClaim, DateClaim, GenericBuilderError, GenericParserError, KeyRingError,
-    KeyRingParserError, PasetoClaim, PasetoClaimError, PasetoError, PreAuthenticationEncoding,
-    ReservedKey, TagCollision,
+    CustomClaim, DateClaim, Key, PasetoClaim, PreAuthenticationEncoding, ReservedKey,
 };
 use serde_json::Value;
 use std::alloc::{AllocError, Global};
 use std::fmt::Display;
 
 /// What has a snapshot: bytes that are the same for two values that answer alike.
-pub trait Snapshot {
+pub trait Snapshot: Drop {
     fn snapshot(&self, alloc: Global) -> Result<Vec<u8>>;
 }
 
-/// Why a call refused.
-pub trait Refusal: Display + Drop {
-    /// Whether memory was refused.
-    fn is_memory(&self) -> bool;
-}
+/// The texts by which errors tell that memory was refused. No error tells of anything else by one of them.
+const MEMORY: &[&str] = &["No memory was found", "memory allocation failed"];
 
 /// What a call answered.
-#[derive(Drop)]
+#[derive(Drop, PartialEq, Eq)]
 pub enum Answer {
     /// A value, by its snapshot.
     Value(Vec<u8>),
@@ -34,46 +29,31 @@ pub enum Answer {
 
 impl Answer {
     /// The answer of a call.
-    pub fn of<T: Snapshot + Drop, E: Refusal>(
+    pub fn of<T: Snapshot, E: Display + Drop>(
         alloc: Global,
         answer: Result<T, E>,
     ) -> Result<Answer> {
         match answer {
             Ok(value) => Ok(Answer::Value(value.snapshot(alloc)?)),
-            Err(error) => {
-                if error.is_memory() {
-                    return Ok(Answer::Memory);
-                }
-                Ok(Answer::Refusal(error.to_string(alloc)?))
-            }
+            Err(error) => Ok(Answer::of_text(error.to_string(alloc)?)),
         }
     }
 
-    /// Whether it was refused for another cause than memory.
-    pub fn is_refusal(&self) -> bool {
-        matches!(self, Answer::Refusal(_))
-    }
-
-    /// Whether memory was refused.
-    pub fn is_memory(&self) -> bool {
-        matches!(self, Answer::Memory)
-    }
-
-    /// Whether it is the other answer. A refusal of memory is none.
-    pub fn is(&self, other: &Answer) -> bool {
-        match (self, other) {
-            (Answer::Value(one), Answer::Value(another)) => one.as_slice() == another.as_slice(),
-            (Answer::Refusal(one), Answer::Refusal(another)) => one.as_str() == another.as_str(),
-            _ => false,
+    // The answer of an error that tells this text.
+    fn of_text(text: String) -> Answer {
+        if MEMORY.contains(&text.as_str()) {
+            return Answer::Memory;
         }
+        Answer::Refusal(text)
     }
 
-    /// One word for the answer, where this is the expected one.
-    pub fn word(&self, expected: &Answer) -> &'static str {
+    /// Whether it is what a case of this name is about: a refusal for another cause than memory where its name says so,
+    /// and else a value.
+    pub fn is_as_named(&self, name: &str) -> bool {
         match self {
-            Answer::Memory => "memory",
-            _ if self.is(expected) => "right",
-            _ => "wrong",
+            Answer::Value(_) => !name.ends_with(", refused"),
+            Answer::Refusal(_) => name.ends_with(", refused"),
+            Answer::Memory => false,
         }
     }
 }
@@ -89,51 +69,25 @@ impl Snapshot for Answer {
     }
 }
 
-impl Refusal for AllocError {
-    fn is_memory(&self) -> bool {
-        true
-    }
-}
-
-impl Refusal for PasetoError {
-    fn is_memory(&self) -> bool {
-        matches!(self, PasetoError::Memory(_))
-    }
-}
-
-impl Refusal for PasetoClaimError {
-    fn is_memory(&self) -> bool {
-        matches!(self, PasetoClaimError::Memory(_))
-    }
-}
-
-impl Refusal for GenericBuilderError {
-    fn is_memory(&self) -> bool {
-        matches!(self, GenericBuilderError::Memory(_))
-    }
-}
-
-impl Refusal for GenericParserError {
-    fn is_memory(&self) -> bool {
-        matches!(self, GenericParserError::Memory(_))
-    }
-}
-
-impl Refusal for KeyRingError {
-    fn is_memory(&self) -> bool {
-        matches!(self, KeyRingError::Memory(_))
-    }
-}
-
-impl Refusal for KeyRingParserError {
-    fn is_memory(&self) -> bool {
-        matches!(self, KeyRingParserError::Memory(_))
-    }
-}
-
 impl Snapshot for () {
     fn snapshot(&self, alloc: Global) -> Result<Vec<u8>> {
         Ok(Vec::new(alloc))
+    }
+}
+
+impl<const N: usize> Snapshot for [usize; N] {
+    fn snapshot(&self, alloc: Global) -> Result<Vec<u8>> {
+        let mut bytes = Vec::new(alloc);
+        'numbers: for number in self {
+            bytes.extend_from_slice(&number.to_be_bytes())?;
+        }
+        Ok(bytes)
+    }
+}
+
+impl<const N: usize> Snapshot for [u8; N] {
+    fn snapshot(&self, alloc: Global) -> Result<Vec<u8>> {
+        Ok(self.to_vec(alloc)?)
     }
 }
 
@@ -183,9 +137,9 @@ impl Snapshot for PreAuthenticationEncoding {
     }
 }
 
-impl Snapshot for TagCollision {
+impl<const N: usize> Snapshot for Key<N> {
     fn snapshot(&self, alloc: Global) -> Result<Vec<u8>> {
-        self.tag.snapshot(alloc)
+        Ok(self.as_bytes().to_vec(alloc)?)
     }
 }
 

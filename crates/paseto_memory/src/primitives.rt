@@ -13,7 +13,7 @@ use rusty_paseto_primitives::{
 pub fn digest(text: &[u8]) -> [u8; 64] {
     let mut hasher = Blake2b::new(b"a key", 64);
     add_ciphers(&mut hasher, text);
-    add_codes(&mut hasher, text);
+    add_macs(&mut hasher, text);
     let mut digest = [0; 64];
     hasher.finalize_into(&mut digest);
     digest
@@ -37,7 +37,7 @@ fn add_ciphers(hasher: &mut Blake2b, text: &[u8])
     hasher.update(&bytes);
 }
 
-fn add_codes(hasher: &mut Blake2b, text: &[u8])
+fn add_macs(hasher: &mut Blake2b, text: &[u8])
     ensures { output_length hasher.new ≡ output_length hasher.old }
 {
     let digest: [u8; 24] = blake2b_keyed(b"a key", text);
@@ -45,9 +45,9 @@ fn add_codes(hasher: &mut Blake2b, text: &[u8])
     let (first, second): ([u8; 32], [u8; 56]) = blake2b_keyed_pair(&digest, text, b"another text");
     hasher.update(&first);
     hasher.update(&second);
-    let mut code = HmacSha384::new(text);
-    code.update(text);
-    hasher.update(&code.finalize());
+    let mut mac = HmacSha384::new(text);
+    mac.update(text);
+    hasher.update(&mac.finalize());
     let prk = hkdf_sha384_extract(&hmac_sha384(b"a key", text), text);
     let mut material = [0; 80];
     hkdf_sha384_expand(&prk, b"a context", &mut material);

@@ -1,5 +1,6 @@
 //! The toy box by itself.
 
+use crate::expect::{expect_same, expect_that};
 use crate::long::text_of;
 use paseto_toys::ToyBox;
 use rusty_paseto_core::SealedBox;
@@ -25,23 +26,27 @@ fn a_toy_box_opens_its_own(rt: HostRuntime) {
         .seal(alloc, &KEY, &NONCE, b"data", b"hello")
         .expect(&rt, "memory");
     let mut boxed = found.expect(&rt, "a sealing");
-    assert_eq!(rt; boxed.len(), 21);
-    assert!(rt; boxed.as_slice().starts_with(b"hello"));
+    expect_same(&rt, &boxed.len(), &21, "the answer");
+    expect_that(&rt, boxed.as_slice().starts_with(b"hello"), "the answer");
     let found = ToyBox
         .open(alloc, &KEY, &NONCE, b"data", &boxed)
         .expect(&rt, "memory");
     let message = found.expect(&rt, "a message");
-    assert_eq!(rt; message.as_slice(), b"hello".as_slice());
-    assert!(rt; !opens(&rt, alloc, b"dato", &boxed));
+    expect_same(&rt, message.as_slice(), b"hello".as_slice(), "the answer");
+    expect_that(&rt, !opens(&rt, alloc, b"dato", &boxed), "the answer");
     if let Some(last) = boxed.last_mut() {
         *last ^= 1;
     }
-    assert!(rt; !opens(&rt, alloc, b"data", &boxed));
+    expect_that(&rt, !opens(&rt, alloc, b"data", &boxed), "the answer");
 }
 
 #[test]
 fn a_toy_box_opens_no_other_lengths(rt: HostRuntime) {
-    assert!(rt; !opens(&rt, rt.alloc(), b"", &[0; 15]));
+    expect_that(&rt, !opens(&rt, rt.alloc(), b"", &[0; 15]), "the answer");
     let long = text_of(rt.alloc(), 4_113).expect(&rt, "memory");
-    assert!(rt; !opens(&rt, rt.alloc(), b"", long.as_bytes()));
+    expect_that(
+        &rt,
+        !opens(&rt, rt.alloc(), b"", long.as_bytes()),
+        "the answer",
+    );
 }

@@ -1,5 +1,6 @@
 //! Pre-authentication encodings.
 
+use crate::expect::{expect_same, expect_that};
 use crate::hexadecimal::bytes_of;
 use crate::long::text_of;
 use rusty_paseto_core::PreAuthenticationEncoding;
@@ -8,10 +9,11 @@ use std::process::Abort;
 
 fn check(rt: &impl Abort, alloc: Global, pieces: &[&[u8]], expected: &str) {
     let encoding = PreAuthenticationEncoding::parse(alloc, pieces).expect(rt, "an encoding");
-    assert_eq!(rt;
+    expect_same(
+        rt,
         encoding.as_bytes(),
         bytes_of(rt, alloc, expected).as_slice(),
-        "{expected}"
+        &expected,
     );
 }
 
@@ -55,8 +57,8 @@ fn long_pieces(rt: HostRuntime) {
             &rt,
             "an encoding",
         );
-        assert_eq!(rt; encoding.as_bytes().len(), whole);
-        assert!(rt; encoding.as_bytes().ends_with(text.as_bytes()), "{length}");
+        expect_same(&rt, &encoding.as_bytes().len(), &whole, "the answer");
+        expect_that(&rt, encoding.as_bytes().ends_with(text.as_bytes()), &length);
     }
 }
 
@@ -70,7 +72,7 @@ fn up_to_three_hundred_pieces(rt: HostRuntime) {
             &rt,
             "an encoding",
         );
-        assert_eq!(rt; encoding.as_bytes().len(), whole);
+        expect_same(&rt, &encoding.as_bytes().len(), &whole, "the answer");
         pieces.push("a".as_bytes()).expect(&rt, "memory");
         whole = whole.saturating_add(9);
     }

@@ -1,14 +1,17 @@
 //! The texts of errors.
 
+use crate::expect::expect_same;
 use base64::DecodeError;
 use rusty_paseto_core::PasetoError;
 use std::alloc::{AllocError, Global};
 use std::process::Abort;
 
 fn check(rt: &impl Abort, alloc: Global, error: PasetoError, text: &str) {
-    assert_eq!(rt;
+    expect_same(
+        rt,
         format!(in alloc; "{error}").expect(rt, "memory").as_str(),
-        text
+        &text,
+        "the answer",
     );
 }
 

@@ -1,8 +1,23 @@
 //! What tests expect of an answer, so that a test has one call for it.
 
 use std::alloc::Global;
-use std::fmt::Display;
+use std::fmt::{Debug, Display};
 use std::process::Abort;
+
+/// The fact holds. What it is about is told where it does not.
+pub(crate) fn expect_that<T: Debug + Copy>(rt: &impl Abort, holds: bool, told: T) {
+    assert!(rt; holds, "{told:?}");
+}
+
+/// What was found is what was wanted. What it is about is told where it is not.
+pub(crate) fn expect_same<V: PartialEq + Debug + Copy, T: Debug + Copy>(
+    rt: &impl Abort,
+    found: V,
+    wanted: V,
+    told: T,
+) {
+    assert_eq!(rt; found, wanted, "{told:?}");
+}
 
 /// The text is the wanted one.
 pub(crate) fn expect_text(rt: &impl Abort, found: &str, wanted: &str) {

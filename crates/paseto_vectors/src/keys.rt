@@ -1,6 +1,6 @@
 //! Keys and nonces.
 
-use crate::expect::{expect_bytes, expect_text};
+use crate::expect::{expect_bytes, expect_text, expect_that};
 use rusty_paseto_core::{
     Key, Local, PasetoAsymmetricPrivateKey, PasetoAsymmetricPublicKey, PasetoError, PasetoNonce,
     PasetoSymmetricKey, Public, V1, V2, V3, V4,
@@ -21,7 +21,7 @@ fn digits_of_either_case(rt: HostRuntime) {
 fn other_texts(rt: HostRuntime) {
     'texts: for text in ["", "0a", "0afg", "0aff0", "0aff00", " 0aff", "0x0a"] {
         let refused = matches!(&Key::<2>::try_from(text), Err(PasetoError::InvalidKey));
-        assert!(rt; refused, "{text}");
+        expect_that(&rt, refused, &text);
     }
 }
 
@@ -133,12 +133,12 @@ fn takes_compressed_points(rt: HostRuntime) {
         let point = Key::<49>::from(bytes);
         match PasetoAsymmetricPublicKey::<V3, Public>::try_from(&point) {
             Ok(public) => {
-                assert!(rt; first == 2 || first == 3, "of {first}");
+                expect_that(&rt, first == 2 || first == 3, &first);
                 expect_bytes(&rt, public.as_bytes(), &bytes);
             }
             Err(error) => {
-                assert!(rt; first != 2 && first != 3, "of {first}");
-                assert!(rt; matches!(&error, PasetoError::InvalidKey), "of {first}");
+                expect_that(&rt, first != 2 && first != 3, &first);
+                expect_that(&rt, matches!(&error, PasetoError::InvalidKey), &first);
             }
         }
     }

@@ -1,9 +1,9 @@
 //! Known answers of the primitives.
 
 mod ciphers;
-mod codes;
 mod cuts;
 mod digests;
+mod macs;
 mod streams;
 
 // Bytes that count up, and begin anew after 250.

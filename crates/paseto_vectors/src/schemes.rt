@@ -1,5 +1,6 @@
 //! The toy signature schemes by themselves, and the scheme that refuses everything.
 
+use crate::expect::{expect_same, expect_that};
 use crate::hexadecimal::array_of;
 use paseto_toys::{Refusing, ToyV1, ToyV2, ToyV3, ToyV4, toy_partner, toy_partner_v3};
 use rusty_paseto_core::{CompressedKey, PasetoError, SignatureScheme};
@@ -36,15 +37,31 @@ fn check<const SIG: usize, S: SignatureScheme<SIG>>(
     scheme
         .verify(alloc, public, MESSAGE, &signature)
         .expect(rt, "a signature");
-    assert!(rt; is_invalid(alloc, &*scheme, public, b"massage", &signature));
-    assert!(rt; is_invalid(alloc, &*scheme, other, MESSAGE, &signature));
+    expect_that(
+        rt,
+        is_invalid(alloc, &*scheme, public, b"massage", &signature),
+        "the answer",
+    );
+    expect_that(
+        rt,
+        is_invalid(alloc, &*scheme, other, MESSAGE, &signature),
+        "the answer",
+    );
     let mut changed = signature;
     if let Some(last) = changed.last_mut() {
         *last ^= 1;
     }
-    assert!(rt; is_invalid(alloc, &*scheme, public, MESSAGE, &changed));
+    expect_that(
+        rt,
+        is_invalid(alloc, &*scheme, public, MESSAGE, &changed),
+        "the answer",
+    );
     let declined = scheme.sign(alloc, b"", MESSAGE);
-    assert!(rt; matches!(&declined, Err(PasetoError::KeyRejected)));
+    expect_that(
+        rt,
+        matches!(&declined, Err(PasetoError::KeyRejected)),
+        "the answer",
+    );
     signature
 }
 
@@ -65,17 +82,34 @@ fn toys_verify_their_own(rt: HostRuntime) {
 fn the_toy_of_version_3_tells_public_keys(rt: HostRuntime) {
     let alloc = rt.alloc();
     let mut public = ToyV3.public_key(alloc, PRIVATE).expect(&rt, "a key");
-    assert_eq!(rt; public.as_slice(), toy_partner_v3(PRIVATE).as_slice());
+    expect_same(
+        &rt,
+        public.as_slice(),
+        toy_partner_v3(PRIVATE).as_slice(),
+        "the answer",
+    );
     let declined = ToyV3.public_key(alloc, b"");
-    assert!(rt; matches!(&declined, Err(PasetoError::KeyRejected)));
+    expect_that(
+        &rt,
+        matches!(&declined, Err(PasetoError::KeyRejected)),
+        "the answer",
+    );
     let signature = ToyV3
         .sign(alloc, PRIVATE, MESSAGE)
         .expect(&rt, "a signature");
     let answer = ToyV3.verify(alloc, &[2; 48], MESSAGE, &signature);
-    assert!(rt; matches!(&answer, Err(PasetoError::InvalidKey)));
+    expect_that(
+        &rt,
+        matches!(&answer, Err(PasetoError::InvalidKey)),
+        "the answer",
+    );
     public[0] = 3;
     let answer = ToyV3.verify(alloc, &public, MESSAGE, &signature);
-    assert!(rt; matches!(&answer, Err(PasetoError::InvalidKey)));
+    expect_that(
+        &rt,
+        matches!(&answer, Err(PasetoError::InvalidKey)),
+        "the answer",
+    );
 }
 
 // The values are those of Python's `hashlib.blake2b`.
@@ -85,12 +119,22 @@ fn partners_and_signatures(rt: HostRuntime) {
         &rt,
         "0e5751c026e543b2e8ab2eb06099daa1d1e5df47778f7787faab45cdf12fe3a8",
     );
-    assert_eq!(rt; toy_partner(b"").as_slice(), known.as_slice());
+    expect_same(
+        &rt,
+        toy_partner(b"").as_slice(),
+        known.as_slice(),
+        "the answer",
+    );
     let known: [u8; 32] = array_of(
         &rt,
         "1875d1042dee92d2273e86f696e82157c8de79e1ffed3dfef1feafcabc56893c",
     );
-    assert_eq!(rt; toy_partner(PRIVATE).as_slice(), known.as_slice());
+    expect_same(
+        &rt,
+        toy_partner(PRIVATE).as_slice(),
+        known.as_slice(),
+        "the answer",
+    );
     let known: [u8; 49] = array_of(
         &rt,
         concat!(
@@ -98,7 +142,12 @@ fn partners_and_signatures(rt: HostRuntime) {
             "cdd2f6ecd032bf5bde73f552c4d8b2971bc402f057c952ea5b",
         ),
     );
-    assert_eq!(rt; toy_partner_v3(PRIVATE).as_slice(), known.as_slice());
+    expect_same(
+        &rt,
+        toy_partner_v3(PRIVATE).as_slice(),
+        known.as_slice(),
+        "the answer",
+    );
     let known: [u8; 96] = array_of(
         &rt,
         concat!(
@@ -110,16 +159,28 @@ fn partners_and_signatures(rt: HostRuntime) {
     let signature = ToyV3
         .sign(rt.alloc(), PRIVATE, MESSAGE)
         .expect(&rt, "a signature");
-    assert_eq!(rt; signature.as_slice(), known.as_slice());
+    expect_same(&rt, signature.as_slice(), known.as_slice(), "the answer");
 }
 
 #[test]
 fn the_refusing_scheme_refuses(rt: HostRuntime) {
     let alloc = rt.alloc();
     let signed: Result<[u8; 64], PasetoError> = Refusing.sign(alloc, PRIVATE, MESSAGE);
-    assert!(rt; matches!(&signed, Err(PasetoError::Signature)));
+    expect_that(
+        &rt,
+        matches!(&signed, Err(PasetoError::Signature)),
+        "the answer",
+    );
     let verified = Refusing.verify(alloc, &toy_partner(PRIVATE), MESSAGE, &[0; 64]);
-    assert!(rt; matches!(&verified, Err(PasetoError::Signature)));
+    expect_that(
+        &rt,
+        matches!(&verified, Err(PasetoError::Signature)),
+        "the answer",
+    );
     let told = Refusing.public_key(alloc, PRIVATE);
-    assert!(rt; matches!(&told, Err(PasetoError::Signature)));
+    expect_that(
+        &rt,
+        matches!(&told, Err(PasetoError::Signature)),
+        "the answer",
+    );
 }

@@ -1,6 +1,6 @@
 //! The sections of a token's text, and how bytes are spelled in them.
 
-use crate::expect::{expect_bytes, expect_text};
+use crate::expect::{expect_bytes, expect_same, expect_text, expect_that};
 use crate::hexadecimal::array_of;
 use crate::long::text_of;
 use rusty_paseto_parts::{
@@ -13,8 +13,8 @@ use std::process::Abort;
 fn check_split(rt: &impl Abort, text: &str, sections: [&str; 3], footer: Option<&str>) {
     let found = split_token(text).expect(rt, "a token");
     let parts = found.0;
-    assert!(rt; parts.as_slice() == sections.as_slice(), "of {text}");
-    assert!(rt; found.1 == footer, "of {text}");
+    expect_that(rt, parts.as_slice() == sections.as_slice(), &text);
+    expect_that(rt, found.1 == footer, &text);
 }
 
 #[test]
@@ -30,7 +30,7 @@ fn sections_of_tokens(rt: HostRuntime) {
 #[test]
 fn texts_that_are_no_tokens(rt: HostRuntime) {
     'texts: for &text in &["", "v4", "v4.local", "v4.local.a.b.c", "....", "."] {
-        assert!(rt; split_token(text).is_none(), "of {text}");
+        expect_that(&rt, split_token(text).is_none(), &text);
     }
 }
 
@@ -71,10 +71,14 @@ fn a_section_at_the_end(rt: HostRuntime) {
 #[test]
 fn compared_texts_of_bytes(rt: HostRuntime) {
     let numbers: [u8; 48] = array_of(&rt, NUMBERS);
-    assert!(rt; is_section_of(CHARACTERS, &numbers));
-    assert!(rt; is_section_of("Zm9vdGVy", "footer".as_bytes()));
+    expect_that(&rt, is_section_of(CHARACTERS, &numbers), "the answer");
+    expect_that(
+        &rt,
+        is_section_of("Zm9vdGVy", "footer".as_bytes()),
+        "the answer",
+    );
     'others: for &other in &["", "Zm9vdGV", "Zm9vdGVz", "Zm9vdGVy=", "Zm9vdGVyZm9v"] {
-        assert!(rt; !is_section_of(other, "footer".as_bytes()), "of {other}");
+        expect_that(&rt, !is_section_of(other, "footer".as_bytes()), &other);
     }
 }
 
@@ -83,13 +87,15 @@ fn check_compared(rt: &impl Abort, alloc: Global, length: usize) {
     let longer = text_of(alloc, length.wrapping_add(1)).expect(rt, "memory");
     let text = text_of(alloc, length).expect(rt, "memory");
     let section = to_section(alloc, text.as_bytes()).expect(rt, "a section");
-    assert!(rt;
+    expect_that(
+        rt,
         is_section_of(section.as_str(), text.as_bytes()),
-        "{length}"
+        &length,
     );
-    assert!(rt;
+    expect_that(
+        rt,
         !is_section_of(section.as_str(), longer.as_bytes()),
-        "{length}"
+        &length,
     );
 }
 
@@ -109,7 +115,7 @@ fn other_texts_of_bytes(rt: HostRuntime) {
     'texts: for &text in OTHER_SPELLINGS {
         let answer = from_section(rt.alloc(), text);
         let is_named = matches!(answer, Err(PasetoError::PayloadBase64Decode { .. }));
-        assert!(rt; is_named, "of {text}");
+        expect_that(&rt, is_named, &text);
     }
 }
 
@@ -119,9 +125,9 @@ fn long_sections(rt: HostRuntime) {
     'lengths: for &(length, characters) in &[(100_000, 133_334), (1_000_000, 1_333_334)] {
         let text = text_of(rt.alloc(), length).expect(&rt, "memory");
         let section = to_section(rt.alloc(), text.as_bytes()).expect(&rt, "a section");
-        assert_eq!(rt; section.len(), characters);
+        expect_same(&rt, &section.len(), &characters, "the answer");
         let bytes = from_section(rt.alloc(), section.as_str()).expect(&rt, "bytes");
-        assert!(rt; bytes.as_slice() == text.as_bytes(), "{length}");
+        expect_that(&rt, bytes.as_slice() == text.as_bytes(), &length);
     }
 }
 
@@ -130,5 +136,5 @@ fn sixteen_mebibytes(rt: HostRuntime) {
     let text = text_of(rt.alloc(), 16_777_216).expect(&rt, "memory");
     let section = to_section(rt.alloc(), text.as_bytes()).expect(&rt, "a section");
     let bytes = from_section(rt.alloc(), section.as_str()).expect(&rt, "bytes");
-    assert!(rt; bytes.as_slice() == text.as_bytes());
+    expect_that(&rt, bytes.as_slice() == text.as_bytes(), "the answer");
 }

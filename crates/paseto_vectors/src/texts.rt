@@ -1,6 +1,6 @@
 //! The texts of versions, purposes and headers, and those that a token carries.
 
-use crate::expect::{expect_bytes, expect_text};
+use crate::expect::{expect_bytes, expect_text, expect_that};
 use rusty_paseto_core::{
     Footer, Header, ImplicitAssertion, Local, Payload, Public, PurposeTrait, V1, V2, V3, V4,
     VersionTrait,
@@ -39,21 +39,29 @@ fn shown(rt: HostRuntime) {
 
 #[test]
 fn headers_of_the_versions(rt: HostRuntime) {
-    assert_eq!(rt; V1::default().as_str(), "v1");
-    assert_eq!(rt; V3::default().as_str(), "v3");
-    assert_eq!(rt; Header::<V1, Local>::default().as_str(), "v1.local.");
-    assert_eq!(rt; Header::<V3, Local>::default().as_str(), "v3.local.");
+    expect_text(&rt, V1::default().as_str(), "v1");
+    expect_text(&rt, V3::default().as_str(), "v3");
+    expect_text(&rt, Header::<V1, Local>::default().as_str(), "v1.local.");
+    expect_text(&rt, Header::<V3, Local>::default().as_str(), "v3.local.");
 }
 
 #[test]
 fn compared(rt: HostRuntime) {
     let footer = Footer::from("foot");
     let copy = footer;
-    assert!(rt; footer == copy);
-    assert!(rt; footer != Footer::from("fool"));
-    assert!(rt; Footer::from("") == Footer::default());
-    assert!(rt; Payload::from("a") == Payload::from("a"));
-    assert!(rt; Payload::from("a") != Payload::default());
-    assert!(rt; ImplicitAssertion::from("a") == ImplicitAssertion::from("a"));
-    assert!(rt; ImplicitAssertion::from("a") != ImplicitAssertion::default());
+    expect_that(&rt, footer == copy, "the answer");
+    expect_that(&rt, footer != Footer::from("fool"), "the answer");
+    expect_that(&rt, Footer::from("") == Footer::default(), "the answer");
+    expect_that(&rt, Payload::from("a") == Payload::from("a"), "the answer");
+    expect_that(&rt, Payload::from("a") != Payload::default(), "the answer");
+    expect_that(
+        &rt,
+        ImplicitAssertion::from("a") == ImplicitAssertion::from("a"),
+        "the answer",
+    );
+    expect_that(
+        &rt,
+        ImplicitAssertion::from("a") != ImplicitAssertion::default(),
+        "the answer",
+    );
 }

@@ -2,7 +2,6 @@
 
 mod asked;
 mod assembly;
-mod assertions;
 mod calls;
 mod collision_time;
 mod collisions;
@@ -15,6 +14,7 @@ mod nonces;
 mod own_errors;
 mod parts;
 mod public_keys;
+mod readings;
 mod refusals;
 mod sealing_use;
 mod signing_use;

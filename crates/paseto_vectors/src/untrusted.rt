@@ -1,6 +1,6 @@
 //! Tokens that are looked at before they are opened.
 
-use crate::expect::{expect_bytes, expect_text};
+use crate::expect::{expect_bytes, expect_text, expect_that};
 use crate::hexadecimal::array_of;
 use crate::long::{LENGTHS, text_of};
 use crate::sections::{CHARACTERS, NUMBERS};
@@ -33,13 +33,13 @@ fn check_footer(rt: &impl Abort, alloc: Global, token: &str, footer: &str) {
 // The token has no footer, by each call that reads it.
 fn check_no_footer(rt: &impl Abort, alloc: Global, token: &str) {
     let untrusted = UntrustedToken::try_parse(token).expect(rt, "a token");
-    assert!(rt; untrusted.footer_base64().is_none(), "{token}");
+    expect_that(rt, untrusted.footer_base64().is_none(), &token);
     let decoded = untrusted.footer_decoded(alloc).expect(rt, "no bytes");
-    assert!(rt; decoded.is_none(), "{token}");
+    expect_that(rt, decoded.is_none(), &token);
     let text = untrusted.footer_str(alloc).expect(rt, "no text");
-    assert!(rt; text.is_none(), "{token}");
+    expect_that(rt, text.is_none(), &token);
     let found = Footer::try_from_token(alloc, token).expect(rt, "no text");
-    assert!(rt; found.is_none(), "{token}");
+    expect_that(rt, found.is_none(), &token);
 }
 
 #[test]
@@ -84,16 +84,20 @@ fn is_incorrect_size<T: Drop>(answer: Result<T, PasetoError>) -> bool {
 fn other_numbers_of_sections(rt: HostRuntime) {
     'tokens: for &token in &["", "v4.local", "a.b.c.d.e"] {
         let answer = UntrustedToken::try_parse(token);
-        assert!(rt; is_incorrect_size(answer), "{token}");
+        expect_that(&rt, is_incorrect_size(answer), &token);
         let answer = Footer::try_from_token(rt.alloc(), token);
-        assert!(rt; is_incorrect_size(answer), "{token}");
+        expect_that(&rt, is_incorrect_size(answer), &token);
     }
 }
 
 #[test]
 fn a_footer_that_is_no_text(rt: HostRuntime) {
     let answer = Footer::try_from_token(rt.alloc(), "v4.local.payload._w");
-    assert!(rt; matches!(answer, Err(PasetoError::Utf8Error { .. })));
+    expect_that(
+        &rt,
+        matches!(answer, Err(PasetoError::Utf8Error { .. })),
+        "the answer",
+    );
 }
 
 const UNREADABLE: &[&str] = &[
@@ -107,7 +111,7 @@ fn footers_that_spell_no_bytes(rt: HostRuntime) {
     'tokens: for &token in UNREADABLE {
         let answer = Footer::try_from_token(rt.alloc(), token);
         let is_named = matches!(answer, Err(PasetoError::PayloadBase64Decode { .. }));
-        assert!(rt; is_named, "{token}");
+        expect_that(&rt, is_named, &token);
     }
 }
 

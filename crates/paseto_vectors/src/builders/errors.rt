@@ -1,5 +1,6 @@
 //! The texts of builders' errors.
 
+use crate::expect::{expect_same, expect_that};
 use rusty_paseto_claims::PasetoClaimError;
 use rusty_paseto_core::PasetoError;
 use rusty_paseto_generic::GenericBuilderError;
@@ -8,9 +9,11 @@ use std::alloc::{AllocError, Global};
 use std::process::Abort;
 
 fn check(rt: &impl Abort, alloc: Global, error: GenericBuilderError, text: &str) {
-    assert_eq!(rt;
+    expect_same(
+        rt,
         format!(in alloc; "{error}").expect(rt, "memory").as_str(),
-        text
+        &text,
+        "the answer",
     );
 }
 
@@ -51,7 +54,15 @@ fn of_memory(rt: HostRuntime) {
     let text = "No memory was found";
     check(&rt, alloc, GenericBuilderError::from(AllocError), text);
     let error = GenericBuilderError::from(PasetoClaimError::Memory(AllocError));
-    assert!(rt; matches!(&error, GenericBuilderError::Memory(_)));
+    expect_that(
+        &rt,
+        matches!(&error, GenericBuilderError::Memory(_)),
+        "the answer",
+    );
     let error = GenericBuilderError::from(PasetoError::Memory(AllocError));
-    assert!(rt; matches!(&error, GenericBuilderError::Memory(_)));
+    expect_that(
+        &rt,
+        matches!(&error, GenericBuilderError::Memory(_)),
+        "the answer",
+    );
 }

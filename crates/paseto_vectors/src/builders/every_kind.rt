@@ -1,6 +1,6 @@
 //! The tokens of builders of every kind: the core's tokens of the payload.
 
-use crate::expect::expect_text;
+use crate::expect::{expect_text, expect_that};
 use crate::kinds::{ASSERTED_KINDS, Binding, KINDS, Kind, SECRET, symmetric_key};
 use crate::long::{LENGTHS, text_of};
 use paseto_toys::ToyBox;
@@ -92,7 +92,7 @@ fn check_token(rt: &impl Abort, alloc: Global, kind: Kind, binding: Binding<'_>)
     let token = token_of(kind, alloc, "customers", binding).expect(rt, "a token");
     let wanted = kind.make(alloc, PAYLOAD, binding).expect(rt, "a token");
     let is_same = token.as_str() == wanted.as_str();
-    assert!(rt; is_same != (kind == Kind::V2Local), "{kind:?}");
+    expect_that(rt, is_same != (kind == Kind::V2Local), &kind);
     let text = kind.read(alloc, token.as_str(), binding);
     expect_text(rt, text.expect(rt, "a text").as_str(), PAYLOAD);
 }
@@ -119,7 +119,7 @@ fn with_an_assertion(rt: HostRuntime) {
         let wanted = kind.make(alloc, PAYLOAD, binding).expect(&rt, "a token");
         expect_text(&rt, token.as_str(), wanted.as_str());
         let answer = kind.read(alloc, token.as_str(), Binding::of_footer(Some("key-1")));
-        assert!(rt; kind.is_refused(&answer), "{kind:?}");
+        expect_that(&rt, kind.is_refused(&answer), &kind);
     }
 }
 
@@ -130,7 +130,7 @@ fn check_audience(rt: &impl Abort, alloc: Global, kind: Kind, audience: &str) {
     let token = token_of(kind, alloc, audience, Binding::NONE).expect(rt, "a token");
     let text = kind.read(alloc, token.as_str(), Binding::NONE);
     let text = text.expect(rt, "a text");
-    assert!(rt; text.as_str() == payload.as_str(), "{kind:?}");
+    expect_that(rt, text.as_str() == payload.as_str(), &kind);
 }
 
 // Version 2 is left out, since the toy box has no sealing of long messages.

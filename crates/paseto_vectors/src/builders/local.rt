@@ -1,7 +1,7 @@
 //! Local tokens of builders.
 
 use crate::builders::payloads::put;
-use crate::expect::expect_text;
+use crate::expect::{expect_text, expect_that};
 use crate::long::text_of;
 use paseto_toys::ToyBox;
 use paseto_toys::generators::{Counting, Failing, Zeros};
@@ -73,8 +73,12 @@ fn check_failing<V: GenericLocalVersion>(
     key: &PasetoSymmetricKey<V, Local>,
 ) {
     let mut failing = Failing { asked: 0 };
-    assert!(rt; is_of_generator(&builder.try_encrypt(&mut failing, key)));
-    assert!(rt; failing.asked == 1);
+    expect_that(
+        rt,
+        is_of_generator(&builder.try_encrypt(&mut failing, key)),
+        "the answer",
+    );
+    expect_that(rt, failing.asked == 1, "the answer");
 }
 
 // The token is the core's, twice, and once more after a generator that failed.
@@ -89,17 +93,9 @@ fn check<V: GenericLocalVersion>(rt: &impl Abort, alloc: Global) {
 }
 
 #[test]
-fn of_version_1(rt: HostRuntime) {
+fn of_versions_1_3_and_4(rt: HostRuntime) {
     check::<V1>(&rt, rt.alloc());
-}
-
-#[test]
-fn of_version_3(rt: HostRuntime) {
     check::<V3>(&rt, rt.alloc());
-}
-
-#[test]
-fn of_version_4(rt: HostRuntime) {
     check::<V4>(&rt, rt.alloc());
 }
 
@@ -133,8 +129,12 @@ fn check_failing_box(
     key: &PasetoSymmetricKey<V2, Local>,
 ) {
     let mut failing = Failing { asked: 0 };
-    assert!(rt; is_of_generator(&builder.try_encrypt(&ToyBox, &mut failing, key)));
-    assert!(rt; failing.asked == 1);
+    expect_that(
+        rt,
+        is_of_generator(&builder.try_encrypt(&ToyBox, &mut failing, key)),
+        "the answer",
+    );
+    expect_that(rt, failing.asked == 1, "the answer");
 }
 
 #[test]
@@ -162,7 +162,7 @@ fn a_payload_that_the_box_does_not_seal(rt: HostRuntime) {
             source: PasetoError::ChaChaCipherError
         })
     );
-    assert!(rt; told);
+    expect_that(&rt, told, "the answer");
 }
 
 #[test]
@@ -171,7 +171,7 @@ fn of_no_claims(rt: HostRuntime) {
     let key = PasetoSymmetricKey::<V4, Local>::from(Key::from(KEY));
     let builder = GenericBuilder::<V4, Local>::default(alloc);
     let token = builder.try_encrypt(&mut Zeros, &key).expect(&rt, "a token");
-    assert!(rt; token.len() == 97);
+    expect_that(&rt, token.len() == 97, "the answer");
     let zeros = Key::<32>::from([0u8; 32]);
     let nonce = PasetoNonce::from(&zeros);
     let wanted = V4::seal(alloc, &key, &nonce, Payload::from("{}"), None, None).expect(

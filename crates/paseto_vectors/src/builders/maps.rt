@@ -1,5 +1,6 @@
 //! Many maps, which are read back as they were stored.
 
+use crate::expect::expect_that;
 use rusty_paseto_core::{Local, V4};
 use rusty_paseto_generic::{ClaimSetter, GenericBuilder};
 use serde_json::{Map, Value};
@@ -84,9 +85,10 @@ fn read_back(rt: HostRuntime) {
         builder.put_claims(more).expect(&rt, "claims");
         let text = builder.build_payload_from_claims().expect(&rt, "a payload");
         let found = Value::from_str(alloc, text.as_str()).expect(&rt, "JSON");
-        assert!(rt;
+        expect_that(
+            &rt,
             rusty_paseto_claims::same_value(&found, &wanted),
-            "map {index}: {text}"
+            &(index, text),
         );
     }
 }

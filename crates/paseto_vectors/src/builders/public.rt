@@ -1,5 +1,6 @@
 //! What signature schemes and versions refuse to sign, and the builder with them.
 
+use crate::expect::expect_that;
 use crate::kinds::SECRET;
 use paseto_toys::Refusing;
 use paseto_toys::keys::{Keys, ToyVersion};
@@ -31,10 +32,10 @@ fn is_handed_on<V: ToyVersion + Signs<Refusing>>(rt: &impl Abort, alloc: Global)
 #[test]
 fn a_scheme_that_refuses(rt: HostRuntime) {
     let alloc = rt.alloc();
-    assert!(rt; is_handed_on::<V1>(&rt, alloc));
-    assert!(rt; is_handed_on::<V2>(&rt, alloc));
-    assert!(rt; is_handed_on::<V3>(&rt, alloc));
-    assert!(rt; is_handed_on::<V4>(&rt, alloc));
+    expect_that(&rt, is_handed_on::<V1>(&rt, alloc), "the answer");
+    expect_that(&rt, is_handed_on::<V2>(&rt, alloc), "the answer");
+    expect_that(&rt, is_handed_on::<V3>(&rt, alloc), "the answer");
+    expect_that(&rt, is_handed_on::<V4>(&rt, alloc), "the answer");
 }
 
 // The scheme would answer otherwise.
@@ -42,8 +43,16 @@ fn a_scheme_that_refuses(rt: HostRuntime) {
 fn a_private_key_of_another_length(rt: HostRuntime) {
     let short = PasetoAsymmetricPrivateKey::from([7u8; 63].as_slice());
     let error = refusal_of::<V2>(&rt, rt.alloc(), &short);
-    assert!(rt; matches!(&error, PasetoError::TryFromSlice));
+    expect_that(
+        &rt,
+        matches!(&error, PasetoError::TryFromSlice),
+        "the answer",
+    );
     let long = PasetoAsymmetricPrivateKey::from([7u8; 65].as_slice());
     let error = refusal_of::<V4>(&rt, rt.alloc(), &long);
-    assert!(rt; matches!(&error, PasetoError::TryFromSlice));
+    expect_that(
+        &rt,
+        matches!(&error, PasetoError::TryFromSlice),
+        "the answer",
+    );
 }

@@ -5,6 +5,7 @@ ghost use Rattle.rusty_paseto_claims.specs.Error.{expired};
 ghost use Rattle.std.specs.Prelude.{[], codes};
 
 use crate::builders::payloads::{check, put};
+use crate::expect::expect_that;
 use crate::parsers::steps::{custom, values_of};
 use rusty_paseto_claims::{AudienceClaim, PasetoClaim, PasetoClaimError};
 use rusty_paseto_core::{Local, V4};
@@ -83,7 +84,7 @@ fn other_numbers(rt: HostRuntime) {
     let mut builder = builder_of_customers(&rt, rt.alloc());
     'texts: for &text in OTHER_NUMBERS {
         let answer = builder.put_claim(&custom(&rt, rt.alloc(), "n", text));
-        assert!(rt; is_unexpected(&answer, "n"), "{text}");
+        expect_that(&rt, is_unexpected(&answer, "n"), &text);
     }
     check(&rt, &builder, CUSTOMERS);
 }
@@ -93,7 +94,7 @@ fn all_values_or_none(rt: HostRuntime) {
     let mut builder = builder_of_customers(&rt, rt.alloc());
     let rows = &[("z", "1.5"), ("aud", "null"), ("b", "[2.5]"), ("a", "1")];
     let answer = builder.put_claims(values_of(&rt, rt.alloc(), rows));
-    assert!(rt; is_unexpected(&answer, "b"));
+    expect_that(&rt, is_unexpected(&answer, "b"), "the answer");
     check(&rt, &builder, CUSTOMERS);
 }
 
@@ -103,7 +104,7 @@ fn extended_by_fractions(rt: HostRuntime) {
     let rows = &[("a", "1"), ("b", "3.5"), ("c", "4.5")];
     let more = values_of(&rt, rt.alloc(), rows);
     let answer = builder.extend_claims(more).map(drop);
-    assert!(rt; is_unexpected(&answer, "b"));
+    expect_that(&rt, is_unexpected(&answer, "b"), "the answer");
     check(&rt, &builder, "{}");
 }
 
@@ -117,7 +118,7 @@ fn a_claims_own_fault(rt: HostRuntime) {
             source: PasetoClaimError::Expired
         })
     );
-    assert!(rt; told);
+    expect_that(&rt, told, "the answer");
     check(&rt, &builder, "{}");
 }
 
@@ -128,6 +129,6 @@ fn the_empty_key(rt: HostRuntime) {
         is_asked: Cell::new(false),
     };
     let answer = builder.put_claim(&claim);
-    assert!(rt; answer.is_ok() && !claim.is_asked.get());
+    expect_that(&rt, answer.is_ok() && !claim.is_asked.get(), "the answer");
     check(&rt, &builder, CUSTOMERS);
 }

@@ -1,7 +1,7 @@
 //! Claims of a caller's own.
 
 use crate::claims::json;
-use crate::expect::expect_text;
+use crate::expect::{expect_text, expect_that};
 use rusty_paseto_claims::{CustomClaim, PasetoClaimError};
 
 const RESERVED: &[&str] = &["iss", "sub", "aud", "exp", "nbf", "iat", "jti"];
@@ -15,12 +15,12 @@ fn reserved_keys_are_refused(rt: HostRuntime) {
     let alloc = rt.alloc();
     'keys: for &key in RESERVED {
         let answer = CustomClaim::try_from_str(alloc, key, 4u64).map(drop);
-        assert!(rt; is_reserved(answer, key), "{key}");
+        expect_that(&rt, is_reserved(answer, key), &key);
         let owned = String::from_str(alloc, key).expect(&rt, "memory");
         let answer = CustomClaim::try_from_string(owned, true).map(drop);
-        assert!(rt; is_reserved(answer, key), "{key}");
+        expect_that(&rt, is_reserved(answer, key), &key);
         let answer = CustomClaim::<&str>::try_from_key(alloc, key).map(drop);
-        assert!(rt; is_reserved(answer, key), "{key}");
+        expect_that(&rt, is_reserved(answer, key), &key);
     }
 }
 
@@ -46,7 +46,7 @@ fn written_under_their_keys(rt: HostRuntime) {
         "{\"i'm good tho\":true}",
     );
     let told = format!(in alloc; "{claim:?}").expect(&rt, "memory");
-    assert!(rt; !told.is_empty());
+    expect_that(&rt, !told.is_empty(), "the answer");
     let key = String::from_str(alloc, "seats").expect(&rt, "memory");
     let claim = CustomClaim::try_from_string(key, 4u8).expect(&rt, "a claim");
     json::check(&rt, alloc, &claim, "seats", "{\"seats\":4}");

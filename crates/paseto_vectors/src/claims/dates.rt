@@ -1,7 +1,7 @@
 //! The claims that are a date and time.
 
 use crate::claims::json;
-use crate::expect::expect_text;
+use crate::expect::{expect_text, expect_that};
 use rusty_paseto_claims::{ExpirationClaim, IssuedAtClaim, NotBeforeClaim, PasetoClaimError};
 
 #[test]
@@ -45,10 +45,10 @@ fn refused_where_no_instant_is_read(rt: HostRuntime) {
         "2019-01-01T00:00:00Z ",
     ] {
         let answer = ExpirationClaim::try_from_str(alloc, text).map(drop);
-        assert!(rt; is_no_date(answer, text), "{text}");
+        expect_that(&rt, is_no_date(answer, text), &text);
         let owned = String::from_str(alloc, text).expect(&rt, "memory");
         let answer = IssuedAtClaim::try_from_string(alloc, owned).map(drop);
-        assert!(rt; is_no_date(answer, text), "{text}");
+        expect_that(&rt, is_no_date(answer, text), &text);
     }
 }
 

@@ -1,6 +1,6 @@
 //! Keys of bytes that a generator gives.
 
-use crate::expect::expect_bytes;
+use crate::expect::{expect_bytes, expect_same, expect_that};
 use paseto_toys::generators::{Counting, Failing};
 use rusty_paseto_core::{Key, PasetoError};
 
@@ -12,14 +12,18 @@ fn of_the_generators_bytes(rt: HostRuntime) {
     let key = Key::<2>::try_new_random(&mut generator).expect(&rt, "a key");
     expect_bytes(&rt, key.as_bytes(), &[5, 6]);
     let key = Key::<32>::try_new_random(&mut generator).expect(&rt, "a key");
-    assert_eq!(rt; key.as_bytes()[0], 7);
-    assert_eq!(rt; key.as_bytes()[31], 38);
+    expect_same(&rt, &key.as_bytes()[0], &7, "the answer");
+    expect_same(&rt, &key.as_bytes()[31], &38, "the answer");
 }
 
 #[test]
 fn refused_where_the_generator_fails(rt: HostRuntime) {
     let mut generator = Failing { asked: 0 };
     let answer = Key::<32>::try_new_random(&mut generator).map(drop);
-    assert!(rt; matches!(&answer, Err(PasetoError::Cipher)));
-    assert_eq!(rt; generator.asked, 1);
+    expect_that(
+        &rt,
+        matches!(&answer, Err(PasetoError::Cipher)),
+        "the answer",
+    );
+    expect_same(&rt, &generator.asked, &1, "the answer");
 }

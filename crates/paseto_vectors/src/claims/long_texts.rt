@@ -1,6 +1,7 @@
 //! Claims of long keys and texts.
 
 use crate::claims::dates::is_no_date;
+use crate::expect::{expect_same, expect_that};
 use crate::long::{LENGTHS, text_of};
 use rusty_paseto_claims::{
     AudienceClaim, ClaimValue, CustomClaim, ExpirationClaim, PasetoClaim, same_value,
@@ -23,12 +24,12 @@ fn are_written(rt: HostRuntime) {
         let text = text_of(alloc, length).expect(&rt, "memory");
         let text = text.as_str();
         let json = AudienceClaim::from(text).to_json(alloc).expect(&rt, "JSON");
-        assert_eq!(rt; length_of(&rt, alloc, &json), audience);
+        expect_same(&rt, &length_of(&rt, alloc, &json), &audience, "the answer");
         let claim = CustomClaim::try_from_str(alloc, text, text).expect(&rt, "a claim");
         let json = claim.to_json(alloc).expect(&rt, "JSON");
-        assert_eq!(rt; length_of(&rt, alloc, &json), custom);
+        expect_same(&rt, &length_of(&rt, alloc, &json), &custom, "the answer");
         let copy = json.to_value(alloc).expect(&rt, "memory");
-        assert!(rt; same_value(&copy, &json));
+        expect_that(&rt, same_value(&copy, &json), "the answer");
     }
 }
 
@@ -38,6 +39,6 @@ fn are_no_dates(rt: HostRuntime) {
     'lengths: for &length in LENGTHS {
         let text = text_of(alloc, length).expect(&rt, "memory");
         let answer = ExpirationClaim::try_from_str(alloc, text.as_str()).map(drop);
-        assert!(rt; is_no_date(answer, text.as_str()), "{length}");
+        expect_that(&rt, is_no_date(answer, text.as_str()), &length);
     }
 }

@@ -1,5 +1,6 @@
 //! Which values are the same.
 
+use crate::expect::expect_same;
 use rusty_paseto_claims::same_value;
 use serde_json::Value;
 
@@ -50,7 +51,7 @@ fn values(rt: HostRuntime) {
     'rows: for &(left, right, same) in ROWS {
         let first = Value::from_str(alloc, left).expect(&rt, "JSON");
         let second = Value::from_str(alloc, right).expect(&rt, "JSON");
-        assert_eq!(rt; same_value(&first, &second), same, "{left} {right}");
-        assert_eq!(rt; same_value(&second, &first), same, "{right} {left}");
+        expect_same(&rt, &same_value(&first, &second), &same, &(left, right));
+        expect_same(&rt, &same_value(&second, &first), &same, &(right, left));
     }
 }

@@ -1,5 +1,6 @@
 //! Which values have whole numbers of 64 bits alone.
 
+use crate::expect::expect_same;
 use rusty_paseto_claims::{is_whole, odd_key};
 use serde_json::Value;
 
@@ -35,7 +36,7 @@ const ROWS: &[(&str, Option<&str>)] = &[
 fn values(rt: HostRuntime) {
     'rows: for &(text, key) in ROWS {
         let value = Value::from_str(rt.alloc(), text).expect(&rt, "JSON");
-        assert_eq!(rt; is_whole(&value), key.is_none(), "{text}");
-        assert_eq!(rt; odd_key(&value), key, "{text}");
+        expect_same(&rt, &is_whole(&value), &key.is_none(), &text);
+        expect_same(&rt, &odd_key(&value), &key, &text);
     }
 }

@@ -1,6 +1,6 @@
 //! Why a token was refused, behind the errors of builders, parsers and rings.
 
-use crate::expect::expect_text;
+use crate::expect::{expect_text, expect_that};
 use rusty_paseto::prelude::{
     GenericBuilderError, GenericParserError, KeyRingError, KeyRingParserError, PasetoClaimError,
     PasetoError,
@@ -11,12 +11,16 @@ use std::alloc::AllocError;
 fn of_builders(rt: HostRuntime) {
     let alloc = rt.alloc();
     let error = GenericBuilderError::from(PasetoError::ChaChaCipherError);
-    assert!(rt; matches!(error.cause(), Some(PasetoError::ChaChaCipherError)));
+    expect_that(
+        &rt,
+        matches!(error.cause(), Some(PasetoError::ChaChaCipherError)),
+        "the answer",
+    );
     let text = error.explained().to_string(alloc).expect(&rt, "memory");
     let expected = "A paseto cipher error occurred: An unspecified cipher error occurred";
     expect_text(&rt, text.as_str(), expected);
     let error = GenericBuilderError::from(PasetoClaimError::Expired);
-    assert!(rt; error.cause().is_none());
+    expect_that(&rt, error.cause().is_none(), "the answer");
     let text = error.explained().to_string(alloc).expect(&rt, "memory");
     expect_text(&rt, text.as_str(), "This token is expired");
 }
@@ -25,12 +29,16 @@ fn of_builders(rt: HostRuntime) {
 fn of_parsers(rt: HostRuntime) {
     let alloc = rt.alloc();
     let error = GenericParserError::from(PasetoError::FooterInvalid);
-    assert!(rt; matches!(error.cause(), Some(PasetoError::FooterInvalid)));
+    expect_that(
+        &rt,
+        matches!(error.cause(), Some(PasetoError::FooterInvalid)),
+        "the answer",
+    );
     let text = error.explained().to_string(alloc).expect(&rt, "memory");
     let expected = "A paseto cipher error occurred: The provided footer is invalid";
     expect_text(&rt, text.as_str(), expected);
     let error = GenericParserError::from(AllocError);
-    assert!(rt; error.cause().is_none());
+    expect_that(&rt, error.cause().is_none(), "the answer");
     let text = error.explained().to_string(alloc).expect(&rt, "memory");
     expect_text(&rt, text.as_str(), "No memory was found");
 }
@@ -38,10 +46,22 @@ fn of_parsers(rt: HostRuntime) {
 #[test]
 fn of_rings(rt: HostRuntime) {
     let untrusted = KeyRingError::Untrusted(PasetoError::IncorrectSize);
-    assert!(rt; matches!(untrusted.cause(), Some(PasetoError::IncorrectSize)));
-    assert!(rt; KeyRingError::NoFooter.cause().is_none());
+    expect_that(
+        &rt,
+        matches!(untrusted.cause(), Some(PasetoError::IncorrectSize)),
+        "the answer",
+    );
+    expect_that(&rt, KeyRingError::NoFooter.cause().is_none(), "the answer");
     let token = KeyRingParserError::from(KeyRingError::Token(PasetoError::Cryption));
-    assert!(rt; matches!(token.cause(), Some(PasetoError::Cryption)));
+    expect_that(
+        &rt,
+        matches!(token.cause(), Some(PasetoError::Cryption)),
+        "the answer",
+    );
     let claim = GenericParserError::from(PasetoClaimError::Expired);
-    assert!(rt; KeyRingParserError::from(claim).cause().is_none());
+    expect_that(
+        &rt,
+        KeyRingParserError::from(claim).cause().is_none(),
+        "the answer",
+    );
 }

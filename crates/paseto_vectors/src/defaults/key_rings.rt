@@ -1,6 +1,6 @@
 //! Rings of keys, in which a token's footer picks the key.
 
-use crate::expect::{expect_refusal, expect_text};
+use crate::expect::{expect_refusal, expect_text, expect_that};
 use crate::kinds::{Binding, Kind, SECRET, symmetric_key};
 use rusty_paseto::prelude::{
     DefaultAssertionVersion, DefaultLocalVersion, ImplicitAssertion, KeyRing, KeyRingError,
@@ -75,7 +75,7 @@ fn sealed(rt: &impl Abort, alloc: Global, kind: Kind, footer: Option<&str>) -> S
 fn check_opened(rt: &impl Abort, kind: Kind, answer: Answer, id: &str) {
     let (found, text) = answer.expect(rt, "a text");
     expect_text(rt, found.as_str(), id);
-    assert!(rt; text.as_str() == "hi", "{kind:?}");
+    expect_that(rt, text.as_str() == "hi", &kind);
 }
 
 // The answer is a refusal of this text, for the token in each version.
@@ -105,7 +105,7 @@ fn no_other_key_is_tried(rt: HostRuntime) {
         let question = Question::of(token.as_str());
         let refused = ask(&rt, rt.alloc(), kind, question);
         let is_refused = matches!(refused, Err(KeyRingError::Token(PasetoError::Cryption)));
-        assert!(rt; is_refused, "{kind:?}");
+        expect_that(&rt, is_refused, &kind);
         let changed = Question {
             is_second_changed: true,
             ..question
@@ -145,13 +145,13 @@ fn a_text_that_is_no_token(rt: HostRuntime) {
             answer,
             Err(KeyRingError::Untrusted(PasetoError::IncorrectSize))
         );
-        assert!(rt; is_short, "{kind:?}");
+        expect_that(&rt, is_short, &kind);
         let answer = ask(&rt, rt.alloc(), kind, Question::of("v4.local.AAAA._w"));
         let is_no_text = matches!(
             answer,
             Err(KeyRingError::Untrusted(PasetoError::Utf8Error { .. }))
         );
-        assert!(rt; is_no_text, "{kind:?}");
+        expect_that(&rt, is_no_text, &kind);
     }
 }
 
@@ -166,7 +166,7 @@ fn a_token_of_another_version(rt: HostRuntime) {
         let token = sealed(&rt, rt.alloc(), kind, Some("{\"kid\":\"k1\"}"));
         let answer = ask(&rt, rt.alloc(), other, Question::of(token.as_str()));
         let is_named = matches!(answer, Err(KeyRingError::Token(PasetoError::WrongHeader)));
-        assert!(rt; is_named, "{kind:?}");
+        expect_that(&rt, is_named, &kind);
     }
 }
 
@@ -181,7 +181,7 @@ fn an_assertion_that_is_not_passed(rt: HostRuntime) {
         let question = Question::of(token.as_str());
         let answer = ask(&rt, rt.alloc(), kind, question);
         let is_refused = matches!(answer, Err(KeyRingError::Token(PasetoError::Cryption)));
-        assert!(rt; is_refused, "{kind:?}");
+        expect_that(&rt, is_refused, &kind);
         let asserted = Question {
             assertion: Some("a"),
             ..question

@@ -3,7 +3,7 @@
 use crate::builders::maps::Numbers;
 use crate::defaults::kinds::moment_after;
 use crate::defaults::rows::NONE;
-use crate::expect::expect_text;
+use crate::expect::{expect_text, expect_that};
 use crate::kinds::{Binding, Kind};
 use jiff::Timestamp;
 use rusty_paseto::prelude::fits_default;
@@ -35,7 +35,7 @@ fn moments_that_fit(rt: HostRuntime) {
         (Timestamp::MAX, false),
         (Timestamp::MIN, false),
     ] {
-        assert!(rt; fits_default(moment) == fits, "{moment}");
+        expect_that(&rt, fits_default(moment) == fits, &moment);
     }
 }
 
@@ -99,6 +99,6 @@ fn read_back(rt: HostRuntime) {
         let now = moment_of(&rt, &mut numbers);
         let text = text_at(&rt, alloc, now);
         let found = text.as_str().parse::<Timestamp>().expect(&rt, "an instant");
-        assert!(rt; found == now, "moment {index}: {text}");
+        expect_that(&rt, found == now, &(index, text));
     }
 }

@@ -1,31 +1,20 @@
 //! Rings of public keys, and rings of version 2.
 
-use crate::expect::{expect_refusal, expect_text};
+use crate::defaults::ring_parsing::{
+    CLAIMS, FOOTER, PARSED, ROWS, expect_told, parser_of, token_of,
+};
+use crate::expect::{expect_refusal, expect_text, expect_that};
 use crate::kinds::{Binding, Kind, OTHER_SECRET, SECRET, symmetric_key};
-use jiff::Timestamp;
 use paseto_toys::ToyBox;
 use paseto_toys::keys::{Keys, ToyVersion};
 use rusty_paseto::prelude::{
-    DefaultAssertionVersion, Footer, GenericParser, ImplicitAssertion, KeyRing, KeyRingError,
-    KeyRingParserError, Local, PasetoError, PasetoParser, Public, PublicKeyRing, V1, V2, V3, V4,
-    Verifies,
+    DefaultAssertionVersion, GenericParser, ImplicitAssertion, KeyRing, KeyRingError, Local,
+    PasetoError, Public, PublicKeyRing, V1, V2, V3, V4, Verifies,
 };
-use serde_json::Value;
 use std::alloc::Global;
 use std::process::Abort;
 
-const FOOTER: &str = "{\"kid\":\"k1\"}";
-
-const CLAIMS: &str = "{\"aud\":\"customers\",\"exp\":\"2030-01-01T00:00:00Z\"}";
-
-type Answer = Result<(String, Value), KeyRingParserError>;
-
 type Opened = Result<(String, String), KeyRingError>;
-
-// The moments 2025-01-01 and 2031-01-01.
-const EARLY: i64 = 1_735_689_600;
-
-const LATE: i64 = 1_924_992_000;
 
 // A ring with the key of the first secret as `k1`, and of the second as `k2`.
 fn ring_of<'a, V: ToyVersion>(
@@ -38,48 +27,23 @@ fn ring_of<'a, V: ToyVersion>(
     let first = V::public_key(first).expect(rt, "a key");
     let second = V::public_key(second).expect(rt, "a key");
     let is_made = ring.add("k1", first).is_ok() && ring.add("k2", second).is_ok();
-    assert!(rt; is_made);
+    expect_that(rt, is_made, "the answer");
     ring
 }
 
-fn moment_at(rt: &impl Abort, second: i64) -> Timestamp {
-    Timestamp::from_second(second).expect(rt, "a moment")
-}
-
-// The id and the claims come back.
-fn check_parsed(rt: &impl Abort, alloc: Global, answer: Answer) {
-    let (id, value) = answer.expect(rt, "claims");
-    expect_text(rt, id.as_str(), "k1");
-    let text = value.to_string(alloc).expect(rt, "memory");
-    expect_text(rt, text.as_str(), CLAIMS);
-}
-
-// Claims that pass, then expired ones, a text that is no JSON, and another footer.
 fn check_version<V: ToyVersion + Verifies<V::Toy>>(rt: &impl Abort, alloc: Global, kind: Kind) {
     let (first, second) = (Keys::of(&SECRET), Keys::of(&OTHER_SECRET));
     let ring = ring_of::<V>(rt, alloc, &first, &second);
-    let binding = Binding::of_footer(Some(FOOTER));
-    let token = kind.make(alloc, CLAIMS, binding).expect(rt, "a token");
-    let mut parser = PasetoParser::<V, Public>::default(alloc, moment_at(rt, EARLY)).expect(
-        rt, "memory",
-    );
-    check_parsed(rt, alloc, ring.parse(&V::toy(), &parser, token.as_str()));
-    parser.set_now(moment_at(rt, LATE));
-    let answer = ring.parse(&V::toy(), &parser, token.as_str());
-    expect_refusal(rt, alloc, answer, "This token is expired");
-    let odd = kind.make(alloc, "{", binding).expect(rt, "a token");
-    let answer = ring.parse(&V::toy(), &parser, odd.as_str());
-    let no_json = "The payload was unable to be serialized into json";
-    expect_refusal(rt, alloc, answer, no_json);
-    parser.set_footer(Footer::from("{\"kid\": \"k1\"}"));
-    let answer = ring.parse(&V::toy(), &parser, token.as_str());
-    expect_refusal(rt, alloc, answer, "The provided footer is invalid");
+    'rows: for &row in ROWS {
+        let token = token_of(rt, alloc, kind, row.payload);
+        let parser = parser_of::<V, Public>(rt, alloc, row);
+        let answer = ring.parse(&V::toy(), &parser, token.as_str());
+        expect_told(rt, alloc, answer, row.told);
+    }
+    let token = token_of(rt, alloc, kind, CLAIMS);
     let generic = GenericParser::<V, Public>::new(alloc);
-    check_parsed(
-        rt,
-        alloc,
-        ring.parse_by(&V::toy(), &generic, token.as_str()),
-    );
+    let answer = ring.parse_by(&V::toy(), &generic, token.as_str());
+    expect_told(rt, alloc, answer, PARSED);
 }
 
 #[test]
@@ -119,7 +83,7 @@ fn boxed_ring(rt: &impl Abort, alloc: Global) -> KeyRing<V2> {
     let mut ring = KeyRing::<V2>::new(alloc);
     let is_made = ring.add("k1", symmetric_key(&SECRET)).is_ok()
         && ring.add("k2", symmetric_key(&OTHER_SECRET)).is_ok();
-    assert!(rt; is_made);
+    expect_that(rt, is_made, "the answer");
     ring
 }
 
@@ -165,7 +129,7 @@ fn no_other_key_is_tried(rt: HostRuntime) {
             &refused,
             Err(KeyRingError::Token(PasetoError::InvalidSignature | PasetoError::ChaChaCipherError))
         );
-        assert!(rt; is_refused, "{kind:?}");
+        expect_that(&rt, is_refused, &kind);
     }
 }
 
@@ -206,21 +170,16 @@ fn the_assertion_of_a_public_token(rt: HostRuntime) {
 
 #[test]
 fn claims_of_boxed_tokens_are_checked(rt: HostRuntime) {
-    let alloc = rt.alloc();
+    let (alloc, kind) = (rt.alloc(), Kind::V2Local);
     let ring = boxed_ring(&rt, alloc);
-    let binding = Binding::of_footer(Some(FOOTER));
-    let token = Kind::V2Local
-        .make(alloc, CLAIMS, binding)
-        .expect(&rt, "a token");
-    let now = moment_at(&rt, EARLY);
-    let mut parser = PasetoParser::<V2, Local>::default(alloc, now).expect(&rt, "memory");
-    check_parsed(&rt, alloc, ring.parse(&ToyBox, &parser, token.as_str()));
-    parser.set_now(moment_at(&rt, LATE));
-    let answer = ring.parse(&ToyBox, &parser, token.as_str());
-    expect_refusal(&rt, alloc, answer, "This token is expired");
-    parser.set_footer(Footer::from("{\"kid\": \"k1\"}"));
-    let answer = ring.parse(&ToyBox, &parser, token.as_str());
-    expect_refusal(&rt, alloc, answer, "The provided footer is invalid");
+    'rows: for &row in ROWS {
+        let token = token_of(&rt, alloc, kind, row.payload);
+        let parser = parser_of::<V2, Local>(&rt, alloc, row);
+        let answer = ring.parse(&ToyBox, &parser, token.as_str());
+        expect_told(&rt, alloc, answer, row.told);
+    }
+    let token = token_of(&rt, alloc, kind, CLAIMS);
     let generic = GenericParser::<V2, Local>::new(alloc);
-    check_parsed(&rt, alloc, ring.parse_by(&ToyBox, &generic, token.as_str()));
+    let answer = ring.parse_by(&ToyBox, &generic, token.as_str());
+    expect_told(&rt, alloc, answer, PARSED);
 }

@@ -3,7 +3,7 @@
 use crate::defaults::claims::Claim;
 use crate::defaults::kinds::{Token, default_builder, moment_after};
 use crate::defaults::rows::{NONE, USUAL};
-use crate::expect::expect_text;
+use crate::expect::{expect_same, expect_text, expect_that};
 use crate::kinds::{Binding, KINDS, Kind, SECRET, symmetric_key};
 use crate::parsers::steps::custom;
 use paseto_toys::ToyV4;
@@ -68,7 +68,7 @@ fn check_built(rt: &impl Abort, alloc: Global, claims: &[Claim<'_>], wanted: &st
     'kinds: for &kind in KINDS {
         let built = kind.build_default(rt, alloc, now, claims, Binding::NONE);
         let found = written(rt, alloc, kind, built);
-        assert_eq!(rt; found.as_str(), wanted, "{kind:?}");
+        expect_same(rt, found.as_str(), &wanted, &kind);
     }
 }
 
@@ -95,7 +95,11 @@ fn a_claim_that_is_refused(rt: HostRuntime) {
     let alloc = rt.alloc();
     let mut builder: LocalBuilder<'_> = default_builder(&rt, alloc, moment_after(&rt, 0));
     let answer = builder.put_claim(&custom(&rt, alloc, "seats", "3.5"));
-    assert!(rt; matches!(answer, Err(GenericBuilderError::ClaimError { .. })));
+    expect_that(
+        &rt,
+        matches!(answer, Err(GenericBuilderError::ClaimError { .. })),
+        "the answer",
+    );
     builder
         .put_claim(&custom(&rt, alloc, "seats", "4"))
         .expect(&rt, "a claim");
@@ -113,7 +117,7 @@ fn built_again(rt: HostRuntime) {
             source: PasetoError::Cipher
         })
     );
-    assert!(rt; is_cipher_fault);
+    expect_that(&rt, is_cipher_fault, "the answer");
     'times: for _ in 0..2u8 {
         check_local(&rt, alloc, &builder, USUAL);
     }
@@ -137,12 +141,14 @@ fn refused_builder<'a, V: VersionTrait, P: PurposeTrait>(
 fn no_nonce_is_asked_for_a_key_that_was_set_again(rt: HostRuntime) {
     let builder: LocalBuilder<'_> = refused_builder(&rt, rt.alloc());
     let mut failing = Failing { asked: 0 };
-    assert!(rt;
+    expect_that(
+        &rt,
         builder
             .build(&mut failing, &symmetric_key(&SECRET))
-            .is_err()
+            .is_err(),
+        "the answer",
     );
-    assert!(rt; failing.asked == 0);
+    expect_that(&rt, failing.asked == 0, "the answer");
 }
 
 #[test]
@@ -150,6 +156,10 @@ fn no_scheme_is_asked_for_a_key_that_was_set_again(rt: HostRuntime) {
     let builder: PasetoBuilder<'_, V4, Public> = refused_builder(&rt, rt.alloc());
     let mut scheme = Counting::new(ToyV4);
     let keys = Keys::of(&SECRET);
-    assert!(rt; builder.build(&mut scheme, &V4::private_key(&keys)).is_err());
-    assert!(rt; scheme.calls() == Calls::NONE);
+    expect_that(
+        &rt,
+        builder.build(&mut scheme, &V4::private_key(&keys)).is_err(),
+        "the answer",
+    );
+    expect_that(&rt, scheme.calls() == Calls::NONE, "the answer");
 }

@@ -1,6 +1,6 @@
 //! Claims that a parser requires, and clocks that differ.
 
-use crate::expect::{expect_refusal, expect_text};
+use crate::expect::{expect_refusal, expect_text, expect_that};
 use crate::kinds::{Binding, Kind, SECRET, symmetric_key};
 use jiff::Timestamp;
 use rusty_paseto::prelude::{
@@ -20,7 +20,7 @@ fn moment_after(rt: &impl Abort, seconds: i64) -> Timestamp {
 fn parser_after<'a>(rt: &impl Abort, alloc: Global, seconds: i64) -> GenericParser<'a, V4, Local> {
     let mut parser = GenericParser::new(alloc);
     let is_set = parser.put_times(moment_after(rt, seconds)).is_ok();
-    assert!(rt; is_set);
+    expect_that(rt, is_set, "the answer");
     parser
 }
 
@@ -99,10 +99,10 @@ fn a_required_claim_is_there_and_not_null(rt: HostRuntime) {
     'rows: for &(claims, expected) in REQUIRED {
         let mut parser = parser_after(&rt, alloc, 0);
         let is_set = parser.put_required("exp").is_ok();
-        assert!(&rt; is_set);
+        expect_that(&rt, is_set, "the answer");
         if claims.contains("aud") {
             let is_set = parser.put_check(&AudienceClaim::from("customers")).is_ok();
-            assert!(&rt; is_set);
+            expect_that(&rt, is_set, "the answer");
         }
         let text = text_of(&rt, alloc, parser.value_of(claims));
         expect_text(&rt, text.as_str(), expected);
@@ -116,7 +116,7 @@ fn a_requirement_keeps_the_check(rt: HostRuntime) {
     let mut parser = GenericParser::<V4, Local>::new(alloc);
     let is_set = parser.put_check(&AudienceClaim::from("customers")).is_ok()
         && parser.put_required("aud").is_ok();
-    assert!(rt; is_set);
+    expect_that(&rt, is_set, "the answer");
     let text = text_of(&rt, alloc, parser.value_of("{\"aud\":\"others\"}"));
     let invalid = "The claim 'aud' failed validation.  Expected 'others' but received 'customers'";
     expect_text(&rt, text.as_str(), invalid);
@@ -135,7 +135,7 @@ fn a_default_parser_requires_and_allows_the_same(rt: HostRuntime) {
     let now = moment_after(&rt, 1);
     let mut parser = PasetoParser::<V4, Local>::default(alloc, now).expect(&rt, "memory");
     let is_set = parser.put_required("sub").is_ok();
-    assert!(rt; is_set);
+    expect_that(&rt, is_set, "the answer");
     expect_refusal(&rt, alloc, parser.parse(token.as_str(), &key), EXPIRED);
     parser.set_leeway(2);
     let missing = "The expected claim 'sub' was not found in the payload";

@@ -1,85 +1,135 @@
 //! Rings that check claims, and what a ring is operated with.
 
-use crate::expect::{expect_refusal, expect_text};
+use crate::expect::{expect_same, expect_text, expect_that};
 use crate::kinds::{Binding, Kind, SECRET, symmetric_key};
 use jiff::Timestamp;
 use rusty_paseto::prelude::{
     AudienceClaim, CheckSetter, DefaultLocalVersion, Footer, GenericParser, KeyRing, KeyRingError,
-    KeyRingParserError, Local, PasetoError, PasetoParser, V1, V3, V4,
+    KeyRingParserError, Local, PasetoError, PasetoParser, PurposeTrait, V1, V3, V4, VersionTrait,
 };
 use serde_json::Value;
 use std::alloc::Global;
 use std::process::Abort;
 
-const FOOTER: &str = "{\"kid\":\"k1\"}";
+/// The footer that names the key `k1`.
+pub(crate) const FOOTER: &str = "{\"kid\":\"k1\"}";
 
-const CLAIMS: &str = "{\"aud\":\"customers\",\"exp\":\"2030-01-01T00:00:00Z\"}";
+/// The claims of the tokens.
+pub(crate) const CLAIMS: &str = "{\"aud\":\"customers\",\"exp\":\"2030-01-01T00:00:00Z\"}";
 
-type Answer = Result<(String, Value), KeyRingParserError>;
+/// What is told of them: the key's id, and the claims.
+pub(crate) const PARSED: &str = "k1 {\"aud\":\"customers\",\"exp\":\"2030-01-01T00:00:00Z\"}";
 
-// The moments 2025-01-01 and 2031-01-01.
-const EARLY: i64 = 1_735_689_600;
+/// What a ring answers.
+pub(crate) type Answer = Result<(String, Value), KeyRingParserError>;
 
-const LATE: i64 = 1_924_992_000;
+/// A default parser's moment, audience and footer, the payload of a token that it is given, and what is told.
+#[derive(Clone, Copy)]
+pub(crate) struct Row {
+    second: i64,
+    audience: Option<&'static str>,
+    footer: Option<&'static str>,
+    pub(crate) payload: &'static str,
+    pub(crate) told: &'static str,
+}
+
+// At the first of 2025.
+const EARLY: Row = Row {
+    second: 1_735_689_600,
+    audience: None,
+    footer: None,
+    payload: CLAIMS,
+    told: PARSED,
+};
+
+// At the first of 2031.
+const LATE: Row = Row {
+    second: 1_924_992_000,
+    told: "This token is expired",
+    ..EARLY
+};
+
+/// Claims that pass, expired ones, a text that is no JSON, another audience, and another footer.
+pub(crate) const ROWS: &[Row] = &[
+    EARLY,
+    LATE,
+    Row {
+        payload: "{",
+        told: "The payload was unable to be serialized into json",
+        ..EARLY
+    },
+    Row {
+        payload: "{",
+        told: "The payload was unable to be serialized into json",
+        ..LATE
+    },
+    Row {
+        audience: Some("others"),
+        told: "The claim 'aud' failed validation.  Expected 'customers' but received 'others'",
+        ..EARLY
+    },
+    Row {
+        audience: Some("others"),
+        footer: Some("{\"kid\": \"k1\"}"),
+        told: "The provided footer is invalid",
+        ..EARLY
+    },
+    Row {
+        footer: Some("{\"kid\": \"k1\"}"),
+        told: "The provided footer is invalid",
+        ..LATE
+    },
+];
+
+/// The row's parser.
+pub(crate) fn parser_of<'a, V: VersionTrait, P: PurposeTrait>(
+    rt: &impl Abort,
+    alloc: Global,
+    row: Row,
+) -> PasetoParser<'a, V, P> {
+    let now = Timestamp::from_second(row.second).expect(rt, "a moment");
+    let mut parser = PasetoParser::<V, P>::default(alloc, now).expect(rt, "memory");
+    if let Some(audience) = row.audience {
+        let checked = parser.put_check(&AudienceClaim::from(audience));
+        checked.expect(rt, "a check");
+    }
+    if let Some(footer) = row.footer {
+        parser.set_footer(Footer::from(footer));
+    }
+    parser
+}
+
+/// A token of the payload, whose footer names `k1`.
+pub(crate) fn token_of(rt: &impl Abort, alloc: Global, kind: Kind, payload: &str) -> String {
+    let answer = kind.make(alloc, payload, Binding::of_footer(Some(FOOTER)));
+    answer.expect(rt, "a token")
+}
+
+/// The answer tells this: the id and the claims, or the text of the error.
+pub(crate) fn expect_told(rt: &impl Abort, alloc: Global, answer: Answer, wanted: &str) {
+    let told = match answer {
+        Ok((id, value)) => format!(in alloc; "{id} {value}"),
+        Err(error) => error.to_string(alloc),
+    };
+    expect_text(rt, told.expect(rt, "memory").as_str(), wanted);
+}
 
 // A ring with the secret's key as `k1`, and a key of zeros as `k2`.
 fn ring_of<V: DefaultLocalVersion>(rt: &impl Abort, alloc: Global) -> KeyRing<V> {
     let mut ring = KeyRing::<V>::new(alloc);
     let second = ring.add("k2", symmetric_key(&[0; 64]));
     let first = ring.add("k1", symmetric_key(&SECRET));
-    assert!(rt; first.is_ok() && second.is_ok());
+    expect_that(rt, first.is_ok() && second.is_ok(), "two keys");
     ring
 }
 
-// A default parser at a moment.
-fn parser_at<'a, V: DefaultLocalVersion>(
-    rt: &impl Abort,
-    alloc: Global,
-    second: i64,
-) -> PasetoParser<'a, V, Local> {
-    let now = Timestamp::from_second(second).expect(rt, "a moment");
-    PasetoParser::default(alloc, now).expect(rt, "memory")
-}
-
-// What the ring answers for a token of the text, by the parser.
-fn parsed<V: DefaultLocalVersion>(
-    rt: &impl Abort,
-    alloc: Global,
-    kind: Kind,
-    text: &str,
-    parser: &PasetoParser<'_, V, Local>,
-) -> Answer {
-    let token = kind
-        .make(alloc, text, Binding::of_footer(Some(FOOTER)))
-        .expect(rt, "a token");
-    ring_of::<V>(rt, alloc).parse(parser, token.as_str())
-}
-
-// The claims come back under their id.
-fn check_parsed(rt: &impl Abort, alloc: Global, answer: Answer) {
-    let (id, value) = answer.expect(rt, "claims");
-    expect_text(rt, id.as_str(), "k1");
-    let text = value.to_string(alloc).expect(rt, "memory");
-    expect_text(rt, text.as_str(), CLAIMS);
-}
-
-// Claims that pass, then expired ones, a text that is no JSON, another audience, and another footer.
 fn check_version<V: DefaultLocalVersion>(rt: &impl Abort, alloc: Global, kind: Kind) {
-    let mut parser = parser_at::<V>(rt, alloc, EARLY);
-    check_parsed(rt, alloc, parsed(rt, alloc, kind, CLAIMS, &parser));
-    let late = parser_at::<V>(rt, alloc, LATE);
-    let answer = parsed(rt, alloc, kind, CLAIMS, &late);
-    expect_refusal(rt, alloc, answer, "This token is expired");
-    let answer = parsed(rt, alloc, kind, "{", &parser);
-    let no_json = "The payload was unable to be serialized into json";
-    expect_refusal(rt, alloc, answer, no_json);
-    assert!(rt; parser.put_check(&AudienceClaim::from("others")).is_ok());
-    let answer = parsed(rt, alloc, kind, CLAIMS, &parser);
-    let invalid = "The claim 'aud' failed validation.  Expected 'customers' but received 'others'";
-    expect_refusal(rt, alloc, answer, invalid);
-    parser.set_footer(Footer::from("{\"kid\": \"k1\"}"));
-    let answer = parsed(rt, alloc, kind, CLAIMS, &parser);
-    expect_refusal(rt, alloc, answer, "The provided footer is invalid");
+    let ring = ring_of::<V>(rt, alloc);
+    'rows: for &row in ROWS {
+        let token = token_of(rt, alloc, kind, row.payload);
+        let parser = parser_of::<V, Local>(rt, alloc, row);
+        expect_told(rt, alloc, ring.parse(&parser, token.as_str()), row.told);
+    }
 }
 
 #[test]
@@ -108,14 +158,14 @@ fn the_parsers_binding(rt: HostRuntime) {
         &refused,
         Err(KeyRingParserError::Ring(KeyRingError::Token(PasetoError::Cryption)))
     );
-    assert!(rt; is_refused);
+    expect_that(&rt, is_refused, "the answer");
     parser.set_implicit_assertion(rusty_paseto::prelude::ImplicitAssertion::from("a"));
-    check_parsed(&rt, alloc, ring.parse_by(&parser, token.as_str()));
+    expect_told(&rt, alloc, ring.parse_by(&parser, token.as_str()), PARSED);
 }
 
 // The ids in their order, and how many there are.
 fn check_ids<V: DefaultLocalVersion>(rt: &impl Abort, ring: &KeyRing<V>, expected: &[&str]) {
-    assert_eq!(rt; ring.len(), expected.len());
+    expect_same(rt, &ring.len(), &expected.len(), "the answer");
     let mut ids = ring.ids();
     'ids: for &id in expected {
         let found = ids.next().expect(rt, "an id");
@@ -129,11 +179,19 @@ fn keys_come_and_go(rt: HostRuntime) {
     let mut ring = ring_of::<V4>(&rt, alloc);
     check_ids(&rt, &ring, &["k1", "k2"]);
     let first = ring.key("k1").expect(&rt, "a key");
-    assert!(rt; first.as_bytes().as_slice() == &SECRET[..32]);
-    assert!(rt; ring.key("k3").is_none());
-    assert!(rt; ring.key_of("{\"kid\":\"k2\"}").is_ok());
-    assert!(rt; ring.remove("k2") && !ring.remove("k2"));
+    expect_that(
+        &rt,
+        first.as_bytes().as_slice() == &SECRET[..32],
+        "the answer",
+    );
+    expect_that(&rt, ring.key("k3").is_none(), "the answer");
+    expect_that(&rt, ring.key_of("{\"kid\":\"k2\"}").is_ok(), "the answer");
+    expect_that(&rt, ring.remove("k2") && !ring.remove("k2"), "the answer");
     check_ids(&rt, &ring, &["k1"]);
     let refused = ring.key_of("{\"kid\":\"k2\"}");
-    assert!(rt; matches!(&refused, Err(KeyRingError::UnknownKey(_))));
+    expect_that(
+        &rt,
+        matches!(&refused, Err(KeyRingError::UnknownKey(_))),
+        "the answer",
+    );
 }

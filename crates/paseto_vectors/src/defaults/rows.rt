@@ -2,7 +2,7 @@
 
 use crate::defaults::claims::Claim;
 use crate::defaults::kinds::{Answer, moment_after};
-use crate::expect::expect_text;
+use crate::expect::{expect_same, expect_text, expect_that};
 use crate::kinds::{ASSERTED_KINDS, Binding, KINDS, Kind};
 use rusty_paseto::prelude::{GenericParserError, PasetoError};
 use std::alloc::Global;
@@ -59,7 +59,7 @@ fn check_row(rt: &impl Abort, alloc: Global, row: Row) {
         let token = token_of(rt, alloc, kind, row);
         let answer = kind.parse_default(rt, alloc, token.as_str(), now, row.checks, binding);
         let found = told(rt, alloc, answer);
-        assert_eq!(rt; found.as_str(), row.answer, "{kind:?}");
+        expect_same(rt, found.as_str(), &row.answer, &kind);
     }
 }
 
@@ -118,6 +118,6 @@ fn an_assertion_that_the_parser_lacks(rt: HostRuntime) {
                 source: PasetoError::Cryption | PasetoError::InvalidSignature
             })
         );
-        assert!(rt; is_named, "{kind:?}");
+        expect_that(&rt, is_named, &kind);
     }
 }

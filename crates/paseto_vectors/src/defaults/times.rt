@@ -58,11 +58,6 @@ const BUILT_ROWS: &[Row] = &[
     },
 ];
 
-#[test]
-fn from_its_first_moment_of_use_to_its_expiration(rt: HostRuntime) {
-    check_rows(&rt, rt.alloc(), BUILT_ROWS);
-}
-
 // A payload that is parsed at the first of 2024.
 const PARSED: Row = Row { after: 0, ..BUILT };
 
@@ -110,11 +105,6 @@ const EXPIRATIONS: &[Row] = &[
     },
 ];
 
-#[test]
-fn expirations(rt: HostRuntime) {
-    check_rows(&rt, rt.alloc(), EXPIRATIONS);
-}
-
 const FIRST_MOMENTS_OF_USE: &[Row] = &[
     Row {
         payload: Some("{\"nbf\":[]}"),
@@ -137,11 +127,6 @@ const FIRST_MOMENTS_OF_USE: &[Row] = &[
         ..PARSED
     },
 ];
-
-#[test]
-fn first_moments_of_use(rt: HostRuntime) {
-    check_rows(&rt, rt.alloc(), FIRST_MOMENTS_OF_USE);
-}
 
 const OTHER_PAYLOADS: &[Row] = &[
     Row {
@@ -166,7 +151,15 @@ const OTHER_PAYLOADS: &[Row] = &[
     },
 ];
 
+// From the first moment of use to the expiration.
 #[test]
-fn other_payloads(rt: HostRuntime) {
-    check_rows(&rt, rt.alloc(), OTHER_PAYLOADS);
+fn times_and_payloads(rt: HostRuntime) {
+    'tables: for rows in [
+        BUILT_ROWS,
+        EXPIRATIONS,
+        FIRST_MOMENTS_OF_USE,
+        OTHER_PAYLOADS,
+    ] {
+        check_rows(&rt, rt.alloc(), rows);
+    }
 }

@@ -1,6 +1,6 @@
 //! The validators that stand ready.
 
-use crate::expect::expect_text;
+use crate::expect::{expect_text, expect_that};
 use rusty_paseto::prelude::{CheckSetter, CustomClaim, GenericParser, Local, V4, ValidatorFn};
 use rusty_paseto::validators::{
     AtLeast, AtMost, AtMostCharacters, BeginsWith, Holding, OneOf, Present, Within,
@@ -13,7 +13,7 @@ fn check_rows(rt: &impl Abort, alloc: Global, validator: ValidatorFn, rows: &[(&
     let mut parser = GenericParser::<V4, Local>::new(alloc);
     let claim = CustomClaim::try_from_str(alloc, "a", 0u64).expect(rt, "a claim");
     let is_set = parser.put_validator(&claim, validator).is_ok();
-    assert!(rt; is_set);
+    expect_that(rt, is_set, "the answer");
     'rows: for &(value, expected) in rows {
         let text = format!(in alloc; "{{\"a\":{value}}}").expect(rt, "memory");
         let answer = match parser.value_of(text.as_str()) {

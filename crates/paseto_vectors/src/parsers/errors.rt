@@ -1,6 +1,6 @@
 //! The texts of parsers' errors.
 
-use crate::expect::expect_text;
+use crate::expect::{expect_text, expect_that};
 use rusty_paseto_claims::PasetoClaimError;
 use rusty_paseto_core::PasetoError;
 use rusty_paseto_generic::GenericParserError;
@@ -39,7 +39,15 @@ fn is_of_memory(error: GenericParserError) -> bool {
 #[test]
 fn of_memory(rt: HostRuntime) {
     let error = PasetoClaimError::Memory(AllocError);
-    assert!(rt; is_of_memory(GenericParserError::from(error)));
+    expect_that(
+        &rt,
+        is_of_memory(GenericParserError::from(error)),
+        "the answer",
+    );
     let error = PasetoError::Memory(AllocError);
-    assert!(rt; is_of_memory(GenericParserError::from(error)));
+    expect_that(
+        &rt,
+        is_of_memory(GenericParserError::from(error)),
+        "the answer",
+    );
 }

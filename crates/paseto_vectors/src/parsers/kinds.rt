@@ -1,5 +1,6 @@
 //! What parsers of every kind of token answer.
 
+use crate::expect::expect_same;
 use crate::kinds::{Binding, Kind, SECRET, symmetric_key};
 use crate::parsers::steps::{Step, add};
 use paseto_toys::ToyBox;
@@ -129,7 +130,7 @@ impl Kind {
         wanted: &str,
     ) {
         let answer = self.parse(rt, alloc, token, expected);
-        assert_eq!(rt; told(rt, alloc, &answer).as_str(), wanted, "{self:?}");
+        expect_same(rt, told(rt, alloc, &answer).as_str(), &wanted, &self);
     }
 
     /// A parser's answer for a token of the payload tells this.

@@ -1,5 +1,6 @@
 //! What parsers refuse to store, and that they are then unchanged.
 
+use crate::expect::expect_that;
 use crate::kinds::{Binding, Kind, SECRET, symmetric_key};
 use crate::parsers::steps::{Rule, custom, map_of, values_of};
 use rusty_paseto_claims::PasetoClaimError;
@@ -45,9 +46,13 @@ fn other_numbers(rt: HostRuntime) {
     let four = custom(&rt, alloc, "n", "4");
     parser.put_check(&four).expect(&rt, "a check");
     let odd = custom(&rt, alloc, "n", "[1,{\"a\":1.0}]");
-    assert!(rt; is_unexpected(&parser.put_check(&odd), "n"));
+    expect_that(
+        &rt,
+        is_unexpected(&parser.put_check(&odd), "n"),
+        "the answer",
+    );
     let refused = parser.put_validator(&odd, Rule::Tells.boxed(&rt, alloc));
-    assert!(rt; is_unexpected(&refused, "n"));
+    expect_that(&rt, is_unexpected(&refused, "n"), "the answer");
     parsed(&rt, alloc, &parser, "{\"n\":4}").expect(&rt, "the check of 4");
 }
 
@@ -60,10 +65,14 @@ fn fractions(rt: &impl Abort, alloc: Global) -> BTreeMap<String, Value> {
 fn all_values_or_none(rt: HostRuntime) {
     let alloc = rt.alloc();
     let mut parser = Parser::new(alloc);
-    assert!(rt; is_unexpected(&parser.put_checks(fractions(&rt, alloc)), "b"));
+    expect_that(
+        &rt,
+        is_unexpected(&parser.put_checks(fractions(&rt, alloc)), "b"),
+        "the answer",
+    );
     parsed(&rt, alloc, &parser, "{}").expect(&rt, "no check");
     let answer = parser.extend_check_claims(fractions(&rt, alloc)).map(drop);
-    assert!(rt; is_unexpected(&answer, "b"));
+    expect_that(&rt, is_unexpected(&answer, "b"), "the answer");
     parsed(&rt, alloc, &parser, "{}").expect(&rt, "no check");
 }
 
@@ -88,5 +97,5 @@ fn chains_of_calls(rt: HostRuntime) {
     let payload = "{\"a\":0,\"b\":0,\"d\":4}";
     parsed(&rt, alloc, parser, payload).expect(&rt, "the check of d");
     let answer = parsed(&rt, alloc, parser, "{\"d\":5}");
-    assert!(rt; is_unexpected(&answer, "d"));
+    expect_that(&rt, is_unexpected(&answer, "d"), "the answer");
 }

@@ -1,4 +1,4 @@
-//! A message that a hasher is given in two pieces has the code of the whole message, at each place where
+//! A message that a hasher is given in two pieces has the authentication code of the whole, at each place where
 //! it can be cut. The lengths are those at the edges of a block and of what a last block holds.
 
 use super::counted_bytes;

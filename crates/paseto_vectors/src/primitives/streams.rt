@@ -1,6 +1,6 @@
 //! ChaCha20, HChaCha20 and XChaCha20 (RFC 8439, draft-irtf-cfrg-xchacha).
 
-use crate::expect::{expect_bytes, expect_digits};
+use crate::expect::{expect_bytes, expect_digits, expect_same};
 use crate::hexadecimal::array_of;
 use rusty_paseto_primitives::{
     chacha20_block, hchacha20, quarter_round, xchacha20_apply, xchacha20_apply_from,
@@ -13,7 +13,12 @@ const COUNTING_KEY: &str = "000102030405060708090a0b0c0d0e0f10111213141516171819
 fn quarter_round_of_the_standard(rt: HostRuntime) {
     let mut words = [0x11111111u32, 0x01020304, 0x9b8d6f43, 0x01234567];
     quarter_round(&mut words);
-    assert_eq!(rt; words, [0xea2a92f4u32, 0xcb1cf8ce, 0x4581472e, 0x5881c4bb]);
+    expect_same(
+        &rt,
+        &words,
+        &[0xea2a92f4u32, 0xcb1cf8ce, 0x4581472e, 0x5881c4bb],
+        "the answer",
+    );
 }
 
 // RFC 8439, section 2.3.2.

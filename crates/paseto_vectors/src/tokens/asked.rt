@@ -4,6 +4,7 @@ ghost use Rattle.std.specs.Prelude.{⊤, replicate};
 
 use super::faults::token_of_zeros;
 use super::refusals::LETTERS;
+use crate::expect::{expect_same, expect_that};
 use crate::kinds::{Binding, Kind, OTHER_SECRET, SECRET};
 use crate::long;
 use paseto_toys::counting::{Call, Calls, Counting};
@@ -66,10 +67,10 @@ fn check_binding(rt: &impl Abort, alloc: Global, binding: Binding<'_>) {
     'kinds: for &kind in ASKING_KINDS {
         let (made, calls) = kind.make_counted(alloc, &SECRET, "hello", binding);
         let token = made.expect(rt, "a token");
-        assert_eq!(rt; calls, asked_to_make(kind), "{kind:?}");
+        expect_same(rt, &calls, &asked_to_make(kind), &kind);
         let (read, calls) = kind.read_counted(alloc, &SECRET, token.as_str(), binding);
-        assert_eq!(rt; read.expect(rt, "a text").as_str(), "hello", "{kind:?}");
-        assert_eq!(rt; calls, asked_to_read(kind), "{kind:?}");
+        expect_same(rt, read.expect(rt, "a text").as_str(), "hello", &kind);
+        expect_same(rt, &calls, &asked_to_read(kind), &kind);
     }
 }
 
@@ -85,8 +86,12 @@ fn made_and_read(rt: HostRuntime) {
 fn no_sealing(rt: HostRuntime) {
     let text = long::text_of(rt.alloc(), 4_097).expect(&rt, "memory");
     let (made, calls) = Kind::V2Local.make_counted(rt.alloc(), &SECRET, text.as_str(), FOOTER);
-    assert!(rt; matches!(&made, Err(PasetoError::ChaChaCipherError)));
-    assert_eq!(rt; calls, Calls::once(Call::Seal));
+    expect_that(
+        &rt,
+        matches!(&made, Err(PasetoError::ChaChaCipherError)),
+        "the answer",
+    );
+    expect_same(&rt, &calls, &Calls::once(Call::Seal), "the answer");
 }
 
 /// A scheme that signs everything by zeros, and holds everything valid.
@@ -137,27 +142,35 @@ where
     let mut scheme = Counting::new(Blank);
     let key = V::private_key(&keys);
     let made = V::sign(alloc, &mut scheme, &key, Payload::from("hello"), None, None);
-    assert!(rt; made.is_ok());
+    expect_that(rt, made.is_ok(), "the answer");
     scheme.calls()
 }
 
 #[test]
 fn signatures_of_zeros(rt: HostRuntime) {
-    assert_eq!(rt;
-        asked_of_blank::<V1>(&rt, rt.alloc()),
-        asked_to_make(Kind::V1Public)
+    expect_same(
+        &rt,
+        &asked_of_blank::<V1>(&rt, rt.alloc()),
+        &asked_to_make(Kind::V1Public),
+        "the answer",
     );
-    assert_eq!(rt;
-        asked_of_blank::<V2>(&rt, rt.alloc()),
-        asked_to_make(Kind::V2Public)
+    expect_same(
+        &rt,
+        &asked_of_blank::<V2>(&rt, rt.alloc()),
+        &asked_to_make(Kind::V2Public),
+        "the answer",
     );
-    assert_eq!(rt;
-        asked_of_blank::<V3>(&rt, rt.alloc()),
-        asked_to_make(Kind::V3Public)
+    expect_same(
+        &rt,
+        &asked_of_blank::<V3>(&rt, rt.alloc()),
+        &asked_to_make(Kind::V3Public),
+        "the answer",
     );
-    assert_eq!(rt;
-        asked_of_blank::<V4>(&rt, rt.alloc()),
-        asked_to_make(Kind::V4Public)
+    expect_same(
+        &rt,
+        &asked_of_blank::<V4>(&rt, rt.alloc()),
+        &asked_to_make(Kind::V4Public),
+        "the answer",
     );
 }
 
@@ -169,8 +182,8 @@ fn refused(rt: HostRuntime) {
             .make(rt.alloc(), "hello", FOOTER)
             .expect(&rt, "a token");
         let (answer, calls) = kind.read_counted(rt.alloc(), &OTHER_SECRET, token.as_str(), FOOTER);
-        assert!(rt; kind.is_refused(&answer), "{kind:?}");
-        assert_eq!(rt; calls, asked_to_read(kind), "{kind:?}");
+        expect_that(&rt, kind.is_refused(&answer), &kind);
+        expect_same(&rt, &calls, &asked_to_read(kind), &kind);
     }
 }
 
@@ -180,7 +193,7 @@ fn shortest_payloads(rt: HostRuntime) {
     'kinds: for &(kind, letters) in LETTERS {
         let token = token_of_zeros(&rt, rt.alloc(), kind, letters);
         let (answer, calls) = kind.read_counted(rt.alloc(), &SECRET, token.as_str(), Binding::NONE);
-        assert!(rt; kind.is_refused(&answer), "{kind:?}");
-        assert_eq!(rt; calls, asked_to_read(kind), "{kind:?}");
+        expect_that(&rt, kind.is_refused(&answer), &kind);
+        expect_same(&rt, &calls, &asked_to_read(kind), &kind);
     }
 }

@@ -1,6 +1,7 @@
 //! Tokens put together from their parts, as the standard tells them, are read.
 
 use super::parts::{payload_of, signed_payload, token_of_payload};
+use crate::expect::{expect_same, expect_that};
 use crate::kinds::{ASSERTED_KINDS, Binding, KINDS, Kind};
 use rusty_paseto_core::PasetoError;
 
@@ -15,7 +16,7 @@ fn the_bound_pieces(rt: HostRuntime) {
         let text = kind
             .read(rt.alloc(), token.as_str(), binding)
             .expect(&rt, "a text");
-        assert_eq!(rt; text.as_str(), "hello", "{kind:?}");
+        expect_same(&rt, text.as_str(), "hello", &kind);
     }
     let binding = Binding {
         footer: Some("footer"),
@@ -28,7 +29,7 @@ fn the_bound_pieces(rt: HostRuntime) {
         let text = kind
             .read(rt.alloc(), token.as_str(), binding)
             .expect(&rt, "a text");
-        assert_eq!(rt; text.as_str(), "hello", "{kind:?}");
+        expect_same(&rt, text.as_str(), "hello", &kind);
     }
 }
 
@@ -40,7 +41,11 @@ fn the_public_key_is_signed(rt: HostRuntime) {
     let payload = signed_payload(&rt, rt.alloc(), kind, b"hello", &pieces);
     let token = token_of_payload(&rt, rt.alloc(), kind, &payload);
     let answer = kind.read(rt.alloc(), token.as_str(), Binding::NONE);
-    assert!(rt; matches!(&answer, Err(PasetoError::InvalidSignature)));
+    expect_that(
+        &rt,
+        matches!(&answer, Err(PasetoError::InvalidSignature)),
+        "the answer",
+    );
 }
 
 // Whether a token was refused as one whose bytes are no text.
@@ -60,12 +65,12 @@ fn bytes_that_are_no_text(rt: HostRuntime) {
         let mut payload = payload_of(&rt, rt.alloc(), kind, b"\xff", Binding::NONE);
         let token = token_of_payload(&rt, rt.alloc(), kind, &payload);
         let answer = kind.read(rt.alloc(), token.as_str(), Binding::NONE);
-        assert!(rt; is_no_text(kind, &answer), "{kind:?}");
+        expect_that(&rt, is_no_text(kind, &answer), &kind);
         if let Some(last) = payload.last_mut() {
             *last ^= 1;
         }
         let token = token_of_payload(&rt, rt.alloc(), kind, &payload);
         let answer = kind.read(rt.alloc(), token.as_str(), Binding::NONE);
-        assert!(rt; kind.is_refused(&answer), "{kind:?}");
+        expect_that(&rt, kind.is_refused(&answer), &kind);
     }
 }

@@ -1,6 +1,7 @@
 //! The calls of `Paseto`, which make the same tokens and read the same texts as those of the versions'
 //! traits.
 
+use crate::expect::{expect_same, expect_that};
 use crate::kinds::{ASSERTED_KINDS, Binding, KINDS, Kind, SECRET, symmetric_key};
 use paseto_toys::keys::{Keys, ToyVersion};
 use paseto_toys::{ToyBox, ToyV1, ToyV2};
@@ -147,9 +148,9 @@ fn a_text_with_a_footer(rt: HostRuntime) {
         let same = kind
             .make(rt.alloc(), "hello", binding)
             .expect(&rt, "a token");
-        assert_eq!(rt; token.as_str(), same.as_str(), "{kind:?}");
+        expect_same(&rt, token.as_str(), same.as_str(), &kind);
         let text = read(rt.alloc(), kind, token.as_str(), None).expect(&rt, "a text");
-        assert_eq!(rt; text.as_str(), "hello", "{kind:?}");
+        expect_same(&rt, text.as_str(), "hello", &kind);
     }
 }
 
@@ -165,11 +166,11 @@ fn a_text_with_a_footer_and_an_assertion(rt: HostRuntime) {
         let same = kind
             .make(rt.alloc(), "hello", binding)
             .expect(&rt, "a token");
-        assert_eq!(rt; token.as_str(), same.as_str(), "{kind:?}");
+        expect_same(&rt, token.as_str(), same.as_str(), &kind);
         let text = read(rt.alloc(), kind, token.as_str(), assertion).expect(&rt, "a text");
-        assert_eq!(rt; text.as_str(), "hello", "{kind:?}");
+        expect_same(&rt, text.as_str(), "hello", &kind);
         let answer = read(rt.alloc(), kind, token.as_str(), None);
-        assert!(rt; kind.is_refused(&answer), "{kind:?}");
+        expect_that(&rt, kind.is_refused(&answer), &kind);
     }
 }
 
@@ -180,6 +181,6 @@ fn made_by_default(rt: HostRuntime) {
         let same = kind
             .make(rt.alloc(), "", Binding::NONE)
             .expect(&rt, "a token");
-        assert_eq!(rt; token.as_str(), same.as_str(), "{kind:?}");
+        expect_same(&rt, token.as_str(), same.as_str(), &kind);
     }
 }

@@ -1,5 +1,6 @@
 //! How long it takes to look for a collision.
 
+use crate::expect::expect_that;
 use crate::kinds::{Binding, Kind, SECRET, symmetric_key};
 use rusty_paseto_core::{Local, Opening, Paseto, PasetoError, PasetoSymmetricKey, V4};
 use std::alloc::{AllocError, Global};
@@ -67,8 +68,8 @@ fn under_twice_the_time_of_opening(rt: HostRuntime) {
         let start = Instant::now(&rt).expect(&rt, "a moment");
         let found = Paseto::<V4, Local>::tag_collision(alloc, &openings).expect(&rt, "an answer");
         let searched = start.elapsed(&rt).expect(&rt, "a time");
-        assert!(rt; found.is_none());
+        expect_that(&rt, found.is_none(), "the answer");
         is_fast = is_fast || searched.saturating_sub(opened) < opened;
     }
-    assert!(rt; is_fast, "7,000 tokens");
+    expect_that(&rt, is_fast, "7,000 tokens");
 }

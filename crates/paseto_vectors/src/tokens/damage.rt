@@ -1,6 +1,7 @@
 //! Many tokens, each damaged in one place, of which none is read.
 
 use crate::builders::maps::Numbers;
+use crate::expect::expect_that;
 use crate::kinds::{Binding, KINDS};
 use std::alloc::{AllocError, Global};
 use std::process::Abort;
@@ -53,7 +54,7 @@ fn none_is_read(rt: HostRuntime) {
                 .expect(&rt, "a token");
             let token = damaged(&rt, alloc, token.as_str(), &mut numbers);
             let answer = kind.read(alloc, token.as_str(), binding);
-            assert!(rt; answer.is_err(), "{kind:?} {token}");
+            expect_that(&rt, answer.is_err(), &(kind, token));
         }
     }
 }

@@ -1,5 +1,6 @@
 //! The faults of reading a token, each by its name. Neither a box nor a scheme is asked.
 
+use crate::expect::{expect_same, expect_that};
 use crate::kinds::{Binding, KINDS, Kind, SECRET};
 use paseto_toys::counting::Calls;
 use rusty_paseto_core::PasetoError;
@@ -16,7 +17,7 @@ fn fault_of(
 ) -> Result<String, PasetoError> {
     let binding = Binding::of_footer(footer);
     let (answer, calls) = kind.read_counted(alloc, &SECRET, token, binding);
-    assert_eq!(rt; calls, Calls::NONE, "{kind:?} {token}");
+    expect_same(rt, &calls, &Calls::NONE, &(kind, token));
     answer
 }
 
@@ -24,7 +25,7 @@ fn fault_of(
 fn check_size(rt: &impl Abort, alloc: Global, kind: Kind, token: &str) {
     let answer = fault_of(rt, alloc, kind, token, None);
     let refused = matches!(answer, Err(PasetoError::IncorrectSize));
-    assert!(rt; refused, "{kind:?} {token}");
+    expect_that(rt, refused, &(kind, token));
 }
 
 const OTHER_NUMBERS: &[&str] = &[
@@ -57,10 +58,10 @@ fn other_footer_and_other_header(rt: HostRuntime) {
         };
         let answer = fault_of(&rt, rt.alloc(), kind, token, None);
         let refused = matches!(&answer, Err(PasetoError::FooterInvalid));
-        assert!(rt; refused, "{kind:?}");
+        expect_that(&rt, refused, &kind);
         let answer = fault_of(&rt, rt.alloc(), kind, token, Some("foo"));
         let refused = matches!(&answer, Err(PasetoError::WrongHeader));
-        assert!(rt; refused, "{kind:?}");
+        expect_that(&rt, refused, &kind);
     }
 }
 
@@ -69,7 +70,7 @@ fn check_header(rt: &impl Abort, alloc: Global, kind: Kind, header: &str) {
     let token = format!(in alloc; "{header}1234").expect(rt, "memory");
     let answer = fault_of(rt, alloc, kind, token.as_str(), None);
     let refused = matches!(&answer, Err(PasetoError::WrongHeader));
-    assert_eq!(rt; refused, header != kind.header(), "{kind:?} {header}");
+    expect_that(rt, refused == (header != kind.header()), (kind, header));
 }
 
 // Headers of all kinds, and other spellings of them.
@@ -111,7 +112,7 @@ fn check_base64url(rt: &impl Abort, alloc: Global, kind: Kind, section: &str) {
     let token = format!(in alloc; "{header}{section}").expect(rt, "memory");
     let answer = fault_of(rt, alloc, kind, token.as_str(), None);
     let refused = matches!(answer, Err(PasetoError::PayloadBase64Decode { .. }));
-    assert!(rt; refused, "{kind:?} {section}");
+    expect_that(rt, refused, &(kind, section));
 }
 
 #[test]

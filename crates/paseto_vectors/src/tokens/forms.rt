@@ -1,6 +1,7 @@
 //! The forms of a token: with its footer's section and, for the empty footer, without. The text that a public token
 //! shows.
 
+use crate::expect::{expect_same, expect_that};
 use crate::kinds::{Binding, Kind, PUBLIC_KINDS, SECRET};
 use paseto_toys::counting::Calls;
 use rusty_paseto_core::{PasetoError, from_section};
@@ -30,7 +31,7 @@ fn check_either(rt: &impl Abort, alloc: Global, kind: Kind, token: &str) {
         let text = kind
             .read(alloc, token, Binding::of_footer(footer))
             .expect(rt, "a text");
-        assert_eq!(rt; text.as_str(), "", "{kind:?} {footer:?}");
+        expect_same(rt, text.as_str(), "", &(kind, footer));
     }
 }
 
@@ -41,12 +42,12 @@ fn no_footer_and_an_empty_one(rt: HostRuntime) {
         let short = kind
             .make(rt.alloc(), "", Binding::NONE)
             .expect(&rt, "a token");
-        assert_eq!(rt; short.len(), len, "{kind:?}");
+        expect_same(&rt, &short.len(), &len, &kind);
         let long = kind
             .make(rt.alloc(), "", Binding::of_footer(Some("")))
             .expect(&rt, "a token");
         let stripped = long.as_str().strip_suffix('.');
-        assert_eq!(rt; stripped, Some(short.as_str()), "{kind:?}");
+        expect_same(&rt, &stripped, &Some(short.as_str()), &kind);
         check_either(&rt, rt.alloc(), kind, short.as_str());
         check_either(&rt, rt.alloc(), kind, long.as_str());
     }
@@ -61,19 +62,20 @@ fn a_stripped_footer(rt: HostRuntime) {
         let text = kind
             .read(rt.alloc(), token.as_str(), FOOTER)
             .expect(&rt, "a text");
-        assert_eq!(rt; text.as_str(), "", "{kind:?}");
+        expect_same(&rt, text.as_str(), "", &kind);
         let stripped = token
             .as_str()
             .strip_suffix(".Zm9vdGVy")
             .expect(&rt, "a footer");
         let (answer, calls) = kind.read_counted(rt.alloc(), &SECRET, stripped, FOOTER);
-        assert!(rt;
+        expect_that(
+            &rt,
             matches!(answer, Err(PasetoError::FooterInvalid)),
-            "{kind:?}"
+            &kind,
         );
-        assert!(rt; calls == Calls::NONE, "{kind:?}");
+        expect_that(&rt, calls == Calls::NONE, &kind);
         let answer = kind.read(rt.alloc(), stripped, Binding::NONE);
-        assert!(rt; kind.is_refused(&answer), "{kind:?}");
+        expect_that(&rt, kind.is_refused(&answer), &kind);
     }
 }
 
@@ -82,16 +84,18 @@ fn a_stripped_footer(rt: HostRuntime) {
 fn a_footer_that_is_lacking(rt: HostRuntime) {
     'kinds: for &(kind, _) in LENGTHS {
         let answer = kind.read(rt.alloc(), "v5.local.1234", FOOTER);
-        assert!(rt;
+        expect_that(
+            &rt,
             matches!(answer, Err(PasetoError::FooterInvalid)),
-            "{kind:?}"
+            &kind,
         );
         let answer = kind.read(rt.alloc(), "v5.local.1234", Binding::NONE);
-        assert!(rt; matches!(answer, Err(PasetoError::WrongHeader)), "{kind:?}");
+        expect_that(&rt, matches!(answer, Err(PasetoError::WrongHeader)), &kind);
         let answer = kind.read(rt.alloc(), "v5.local", FOOTER);
-        assert!(rt;
+        expect_that(
+            &rt,
             matches!(answer, Err(PasetoError::IncorrectSize)),
-            "{kind:?}"
+            &kind,
         );
     }
 }
@@ -119,6 +123,6 @@ fn a_text_can_be_read(rt: HostRuntime) {
         let section = section.strip_suffix(".Zm9vdGVy").expect(&rt, "a footer");
         let payload = from_section(rt.alloc(), section).expect(&rt, "bytes");
         let signature = payload.strip_prefix(b"hello").expect(&rt, "a text");
-        assert_eq!(rt; signature.len(), signature_length(kind), "{kind:?}");
+        expect_same(&rt, &signature.len(), &signature_length(kind), &kind);
     }
 }

@@ -1,6 +1,7 @@
 //! Texts that are put in the place of tokens, under a known key.
 
 use super::parts::{payload_under, token_of_payload};
+use crate::expect::{expect_same, expect_that};
 use crate::kinds::{Binding, KINDS, Kind};
 use rusty_paseto_core::PasetoError;
 use std::alloc::Global;
@@ -36,7 +37,7 @@ fn payloads_of_zeros(rt: HostRuntime) {
             } else {
                 kind.is_refused(&Err(answer))
             };
-            assert!(rt; told, "{kind:?} {len}");
+            expect_that(&rt, told, &(kind, len));
         }
     }
 }
@@ -68,10 +69,11 @@ const TEXTS: &[(&str, &str)] = &[
 fn check(rt: &impl Abort, alloc: Global, text: &str, refusal: &str) {
     let (answer, _) = Kind::V4Local.read_counted(alloc, &KNOWN, text, Binding::NONE);
     let error = answer.err().expect(rt, "a refusal");
-    assert_eq!(rt;
+    expect_same(
+        rt,
         format!(in alloc; "{error}").expect(rt, "memory").as_str(),
-        refusal,
-        "{text}"
+        &refusal,
+        &text,
     );
 }
 
@@ -95,7 +97,7 @@ fn a_footer_without_its_last_letter(rt: HostRuntime) {
         let cut = format!(in rt.alloc(); "{cut}.Zm9vdGV").expect(&rt, "memory");
         let (answer, _) = kind.read_counted(rt.alloc(), &KNOWN, cut.as_str(), binding);
         let refused = matches!(&answer, Err(PasetoError::FooterInvalid));
-        assert!(rt; refused, "{kind:?}");
+        expect_that(&rt, refused, &kind);
     }
 }
 
@@ -105,7 +107,7 @@ fn a_nonce_whose_counter_wraps(rt: HostRuntime) {
     let mut nonce = [0u8; 32];
     nonce[16..].copy_from_slice(&[0xff; 16]);
     let text = "aaaaaaaaaaaaaaaaaaaaaaaaaaaaaaaaa";
-    assert_eq!(rt; text.len(), 33);
+    expect_same(&rt, &text.len(), &33, "the answer");
     'kinds: for kind in [Kind::V1Local, Kind::V3Local, Kind::V4Local] {
         let payload = payload_under(
             &rt,
@@ -119,6 +121,6 @@ fn a_nonce_whose_counter_wraps(rt: HostRuntime) {
         let opened = kind
             .read(rt.alloc(), token.as_str(), Binding::NONE)
             .expect(&rt, "a text");
-        assert_eq!(rt; opened.as_str(), text, "{kind:?}");
+        expect_same(&rt, opened.as_str(), &text, &kind);
     }
 }

@@ -1,7 +1,8 @@
 //! Long texts and long footers, and texts of odd letters, which become tokens and come back.
 
+use crate::expect::{expect_same, expect_that};
 use crate::kinds::{Binding, KINDS, Kind, SECRET, symmetric_key};
-use crate::long::text_of;
+use crate::long::{LENGTHS, text_of};
 use paseto_toys::PlainBox;
 use rusty_paseto_core::{Key, Local, Paseto, PasetoError, PasetoNonce, Payload, V2};
 use std::alloc::Global;
@@ -16,7 +17,7 @@ fn check_text(rt: &impl Abort, alloc: Global, kind: Kind, letters: usize) {
     let same = kind
         .read(alloc, token.as_str(), Binding::NONE)
         .expect(rt, "a text");
-    assert!(rt; same.as_str() == text.as_str(), "{kind:?} {letters}");
+    expect_that(rt, same.as_str() == text.as_str(), &(kind, letters));
 }
 
 // A text of so many letters comes back in version 2, by a box that takes any message.
@@ -36,7 +37,7 @@ fn check_boxed_text(rt: &impl Abort, alloc: Global, letters: usize) {
         &key,
         None,
     ).expect(rt, "a text");
-    assert!(rt; same.as_str() == text.as_str(), "{letters}");
+    expect_that(rt, same.as_str() == text.as_str(), &letters);
 }
 
 // The kinds that take a text of any length, version 2 aside.
@@ -51,19 +52,13 @@ const ENDLESS_KINDS: &[Kind] = &[
 ];
 
 #[test]
-fn a_hundred_thousand_letters(rt: HostRuntime) {
-    'kinds: for &kind in ENDLESS_KINDS {
-        check_text(&rt, rt.alloc(), kind, 100_000);
+fn long_texts(rt: HostRuntime) {
+    'lengths: for &letters in LENGTHS {
+        'kinds: for &kind in ENDLESS_KINDS {
+            check_text(&rt, rt.alloc(), kind, letters);
+        }
+        check_boxed_text(&rt, rt.alloc(), letters);
     }
-    check_boxed_text(&rt, rt.alloc(), 100_000);
-}
-
-#[test]
-fn a_million_letters(rt: HostRuntime) {
-    'kinds: for &kind in ENDLESS_KINDS {
-        check_text(&rt, rt.alloc(), kind, 1_000_000);
-    }
-    check_boxed_text(&rt, rt.alloc(), 1_000_000);
 }
 
 #[test]
@@ -77,7 +72,7 @@ fn long_footers(rt: HostRuntime) {
         let text = kind
             .read(rt.alloc(), token.as_str(), binding)
             .expect(&rt, "a text");
-        assert_eq!(rt; text.as_str(), "hello", "{kind:?}");
+        expect_same(&rt, text.as_str(), "hello", &kind);
     }
 }
 
@@ -87,7 +82,11 @@ fn the_longest_text_of_a_box(rt: HostRuntime) {
     check_text(&rt, rt.alloc(), Kind::V2Local, 4_096);
     let text = text_of(rt.alloc(), 4_097).expect(&rt, "memory");
     let answer = Kind::V2Local.make(rt.alloc(), text.as_str(), Binding::NONE);
-    assert!(rt; matches!(&answer, Err(PasetoError::ChaChaCipherError)));
+    expect_that(
+        &rt,
+        matches!(&answer, Err(PasetoError::ChaChaCipherError)),
+        "the answer",
+    );
 }
 
 // Control characters, and a letter of four bytes.
@@ -103,6 +102,6 @@ fn odd_letters(rt: HostRuntime) {
         let same = kind
             .read(rt.alloc(), token.as_str(), binding)
             .expect(&rt, "a text");
-        assert!(rt; same.as_str() == text, "{kind:?}");
+        expect_that(&rt, same.as_str() == text, &kind);
     }
 }

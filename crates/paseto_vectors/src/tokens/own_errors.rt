@@ -3,6 +3,7 @@
 
 use super::faults::token_of_zeros;
 use super::refusals::LETTERS;
+use crate::expect::{expect_same, expect_that};
 use crate::kinds::{Kind, SECRET};
 use paseto_toys::counting::{Call, Calls, Counting};
 use paseto_toys::keys::{Keys, ToyVersion};
@@ -56,8 +57,8 @@ fn check_refused(
     calls: Calls,
     asked: Call,
 ) {
-    assert!(rt; matches!(&answer, Err(PasetoError::Signature)), "{kind:?}");
-    assert_eq!(rt; calls, Calls::once(asked), "{kind:?}");
+    expect_that(rt, matches!(&answer, Err(PasetoError::Signature)), &kind);
+    expect_same(rt, &calls, &Calls::once(asked), &kind);
 }
 
 // In version 3 a scheme that tells no public key is not asked for a signature.
@@ -85,8 +86,12 @@ where
 {
     let key = PasetoAsymmetricPrivateKey::<V, Public>::from(bytes);
     let (answer, calls) = sign_by::<V, S>(alloc, scheme, &key);
-    assert!(rt; matches!(&answer, Err(PasetoError::TryFromSlice)));
-    assert_eq!(rt; calls, Calls::NONE);
+    expect_that(
+        rt,
+        matches!(&answer, Err(PasetoError::TryFromSlice)),
+        "the answer",
+    );
+    expect_same(rt, &calls, &Calls::NONE, "the answer");
 }
 
 // Keys that are a byte too short and a byte too long.
@@ -108,6 +113,10 @@ fn an_empty_key(rt: HostRuntime) {
     let nothing: &[u8] = &[];
     let key = PasetoAsymmetricPrivateKey::<V1, Public>::from(nothing);
     let (answer, calls) = sign_by::<V1, ToyV1>(rt.alloc(), ToyV1, &key);
-    assert!(rt; matches!(&answer, Err(PasetoError::KeyRejected)));
-    assert_eq!(rt; calls, Calls::once(Call::Sign));
+    expect_that(
+        &rt,
+        matches!(&answer, Err(PasetoError::KeyRejected)),
+        "the answer",
+    );
+    expect_same(&rt, &calls, &Calls::once(Call::Sign), "the answer");
 }

@@ -1,5 +1,6 @@
 //! Public keys that the scheme refuses.
 
+use crate::expect::expect_that;
 use crate::kinds::{Binding, Kind, SECRET};
 use paseto_toys::{ToyV3, toy_partner_v3};
 use rusty_paseto_core::{Key, Paseto, PasetoAsymmetricPublicKey, PasetoError, Public, V3};
@@ -22,5 +23,9 @@ fn a_key_that_begins_with_3(rt: HostRuntime) {
         None,
         None,
     );
-    assert!(rt; matches!(&answer, Err(PasetoError::InvalidKey)));
+    expect_that(
+        &rt,
+        matches!(&answer, Err(PasetoError::InvalidKey)),
+        "the answer",
+    );
 }

@@ -1,9 +1,10 @@
-//! Tokens that were not made under the key and for the binding.
+//! Tokens with other payloads than those that were made.
 
 use super::faults::token_of_zeros;
 use super::parts::token_of_payload;
-use crate::kinds::{Binding, KINDS, Kind, OTHER_SECRET};
-use rusty_paseto_core::{PasetoError, from_section};
+use crate::expect::{expect_same, expect_that};
+use crate::kinds::{Binding, KINDS, Kind};
+use rusty_paseto_core::from_section;
 use std::alloc::Global;
 use std::process::Abort;
 
@@ -19,31 +20,6 @@ pub(crate) const LETTERS: &[(Kind, usize)] = &[
     (Kind::V3Public, 128),
     (Kind::V4Public, 86),
 ];
-
-#[test]
-fn other_keys_and_footers(rt: HostRuntime) {
-    let alloc = rt.alloc();
-    let own = Binding::of_footer(Some("footer"));
-    'kinds: for &kind in KINDS {
-        let token = kind.make(alloc, "hello", own).expect(&rt, "a token");
-        let text = kind.read(alloc, token.as_str(), own).expect(&rt, "a text");
-        assert_eq!(rt; text.as_str(), "hello", "{kind:?}");
-        let (answer, _) = kind.read_counted(alloc, &OTHER_SECRET, token.as_str(), own);
-        assert!(rt; kind.is_refused(&answer), "{kind:?}");
-        let other = Binding::of_footer(Some("other"));
-        let answer = kind.read(alloc, token.as_str(), other);
-        assert!(rt;
-            matches!(&answer, Err(PasetoError::FooterInvalid)),
-            "{kind:?}"
-        );
-        let (made, _) = kind.make_counted(alloc, &OTHER_SECRET, "hello", own);
-        let token = made.expect(&rt, "a token");
-        let answer = kind.read(alloc, token.as_str(), own);
-        assert!(rt; kind.is_refused(&answer), "{kind:?}");
-        let (read, _) = kind.read_counted(alloc, &OTHER_SECRET, token.as_str(), own);
-        assert_eq!(rt; read.expect(&rt, "a text").as_str(), "hello", "{kind:?}");
-    }
-}
 
 // A token with no footer whose payload has another first and last byte.
 fn with_changes(
@@ -73,11 +49,11 @@ fn other_payloads(rt: HostRuntime) {
             .make(rt.alloc(), "hello", Binding::NONE)
             .expect(&rt, "a token");
         let kept = with_changes(&rt, rt.alloc(), kind, token.as_str(), 0, 0);
-        assert_eq!(rt; kept.as_str(), token.as_str(), "{kind:?}");
+        expect_same(&rt, kept.as_str(), token.as_str(), &kind);
         'changes: for (first, last) in [(1, 0), (0, 1), (0, 128)] {
             let changed = with_changes(&rt, rt.alloc(), kind, token.as_str(), first, last);
             let answer = kind.read(rt.alloc(), changed.as_str(), Binding::NONE);
-            assert!(rt; kind.is_refused(&answer), "{kind:?} {first} {last}");
+            expect_that(&rt, kind.is_refused(&answer), &(kind, first, last));
         }
     }
 }

@@ -1,5 +1,6 @@
 //! The example of sealing in the README.
 
+use crate::expect::expect_same;
 use rusty_paseto_core::{
     Footer, Key, Local, Paseto, PasetoError, PasetoNonce, PasetoSymmetricKey, Payload, V4,
 };
@@ -28,5 +29,5 @@ fn there_and_back(
 fn a_message_comes_back(rt: HostRuntime) {
     let digits = "000102030405060708090a0b0c0d0e0f101112131415161718191a1b1c1d1e1f";
     let message = there_and_back(rt.alloc(), digits, digits).expect(&rt, "a message");
-    assert_eq!(rt; message.as_str(), "a message");
+    expect_same(&rt, message.as_str(), "a message", "the answer");
 }

@@ -1,5 +1,6 @@
 //! The example of signing in the README.
 
+use crate::expect::expect_same;
 use paseto_toys::{ToyV4, toy_partner};
 use rusty_paseto_core::{
     Key, Paseto, PasetoAsymmetricPrivateKey, PasetoAsymmetricPublicKey, PasetoError, Payload,
@@ -32,5 +33,5 @@ fn a_message_comes_back(rt: HostRuntime) {
         &rt,
         "a message",
     );
-    assert_eq!(rt; message.as_str(), "a message");
+    expect_same(&rt, message.as_str(), "a message", "the answer");
 }

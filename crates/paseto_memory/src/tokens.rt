@@ -1,0 +1,141 @@
+//! The calls of local and of public tokens.
+
+use crate::kinds::{Signed, footer, local_kinds, public_kinds, symmetric_key};
+use crate::run::{Run, calls};
+use anyhow::Result;
+use paseto_toys::keys::{Keys, SECRET, ToyVersion};
+use paseto_toys::{Lenient, PlainBox};
+use rusty_paseto::prelude::{
+    Footer, Key, Local, LocalVersion, Opening, Paseto, PasetoError, PasetoNonce,
+    PasetoSymmetricKey, Payload, Public, PurposeTrait, V1, V2, V3, V4, VersionTrait,
+};
+use std::alloc::Global;
+
+/// A token, or what one is read as.
+type Answer = Result<String, PasetoError>;
+
+/// Asks them.
+pub fn ask(run: &mut Run<'_>) -> Result<()> {
+    local_kinds! { run, ask_local }
+    ask_decrypting(run)?;
+    public_kinds! { run, ask_public }
+    ask_verifying(run)
+}
+
+/// The local token of a text.
+pub fn seal<V: LocalVersion>(alloc: Global, text: &str, footer: Footer<'_>) -> Answer {
+    let nonce = Key::<32>::from([0; 32]);
+    let (key, nonce) = (symmetric_key(), PasetoNonce::from(&nonce));
+    V::seal(alloc, &key, &nonce, Payload::from(text), Some(footer), None)
+}
+
+/// The same of version 2, over a box.
+pub fn seal_boxed(alloc: Global, text: &str, footer: Footer<'_>) -> Answer {
+    let nonce = Key::<32>::from([0; 32]);
+    let mut paseto = token_of::<V2, Local>(text);
+    paseto.set_footer(footer);
+    let nonce = PasetoNonce::from(&nonce);
+    paseto.try_encrypt(alloc, &PlainBox, &symmetric_key(), &nonce)
+}
+
+/// The public token of a text.
+pub fn sign<V: Signed>(alloc: Global, text: &str, footer: Footer<'_>) -> Answer {
+    let keys = Keys::of(&SECRET);
+    let (key, text) = (V::private_key(&keys), Payload::from(text));
+    V::sign(alloc, &mut Lenient, &key, text, Some(footer), None)
+}
+
+fn token_of<V: VersionTrait, P: PurposeTrait>(text: &str) -> Paseto<'_, V, P> {
+    let mut paseto = Paseto::<V, P>::builder();
+    paseto.set_payload(Payload::from(text)).set_footer(footer());
+    paseto
+}
+
+fn ask_local<V: LocalVersion>(run: &mut Run<'_>, kind: &str) -> Result<()> {
+    let (alloc, text, key) = (run.alloc, run.text, symmetric_key::<V>());
+    let bytes = Key::<32>::from([0; 32]);
+    let (paseto, nonce) = (token_of::<V, Local>(text), PasetoNonce::from(&bytes));
+    calls!(run;
+        "LocalVersion::seal", kind => seal::<V>(alloc, text, footer());
+        "Paseto::try_encrypt", kind => paseto.try_encrypt(alloc, &key, &nonce);
+    )?;
+    let other = PasetoSymmetricKey::<V, Local>::from(Key::<32>::from([8; 32]));
+    let of_other = format!(in alloc; "{kind} under another key, refused")?;
+    let token = seal::<V>(alloc, text, footer())?;
+    let second = seal::<V>(alloc, "another text", footer())?;
+    let (token, second) = (token.as_str(), second.as_str());
+    calls! { run;
+        "LocalVersion::open", kind => V::open(alloc, token, &key, Some(footer()), None);
+        "LocalVersion::open", of_other.as_str() => V::open(alloc, token, &other, Some(footer()), None);
+        "Paseto::tag_collision", kind => collision(alloc, &key, token, second);
+    }
+}
+
+// What is found among the first token, the second and the first again.
+fn collision<'a, V: LocalVersion>(
+    alloc: Global,
+    key: &'a PasetoSymmetricKey<V, Local>,
+    first: &'a str,
+    second: &'a str,
+) -> Result<Option<Vec<u8>>, PasetoError> {
+    let opening = Opening {
+        key,
+        token: first,
+        footer: Some(footer()),
+        assertion: None,
+    };
+    let other = Opening {
+        token: second,
+        ..opening
+    };
+    let found = Paseto::<V, Local>::tag_collision(alloc, &[opening, other, opening])?;
+    Ok(found.map(|collision| collision.tag))
+}
+
+fn ask_decrypting(run: &mut Run<'_>) -> Result<()> {
+    let (alloc, text) = (run.alloc, run.text);
+    let first = seal::<V1>(alloc, text, footer())?;
+    let third = seal::<V3>(alloc, text, footer())?;
+    let fourth = seal::<V4>(alloc, text, footer())?;
+    let boxed = seal_boxed(alloc, text, footer())?;
+    let (call, own) = ("Paseto::try_decrypt", Some(footer()));
+    calls! { run;
+        call, "v1.local" => Paseto::<V1, Local>::try_decrypt(alloc, first.as_str(), &symmetric_key(), own);
+        call, "v3.local" => Paseto::<V3, Local>::try_decrypt(alloc, third.as_str(), &symmetric_key(), own, None);
+        call, "v4.local" => Paseto::<V4, Local>::try_decrypt(alloc, fourth.as_str(), &symmetric_key(), own, None);
+        "Paseto::try_encrypt", "v2.local" => seal_boxed(alloc, text, footer());
+        call, "v2.local"
+            => Paseto::<V2, Local>::try_decrypt(alloc, &PlainBox, boxed.as_str(), &symmetric_key(), own);
+    }
+}
+
+fn ask_public<V: Signed>(run: &mut Run<'_>) -> Result<()> {
+    let (alloc, text, keys) = (run.alloc, run.text, Keys::of(&SECRET));
+    let (paseto, key) = (token_of::<V, Public>(text), V::private_key(&keys));
+    let (token, public) = (sign::<V>(alloc, text, footer())?, V::public_key(&keys)?);
+    calls! { run;
+        "Signs::sign", V::KIND => V::sign(alloc, &mut Lenient, &key, Payload::from(text), Some(footer()), None);
+        "Paseto::try_sign", V::KIND => paseto.try_sign(alloc, &mut Lenient, &key);
+        "Verifies::verify", V::KIND
+            => V::verify(alloc, &Lenient, token.as_str(), &public, Some(footer()), None);
+    }
+}
+
+fn ask_verifying(run: &mut Run<'_>) -> Result<()> {
+    let (alloc, text, keys) = (run.alloc, run.text, Keys::of(&SECRET));
+    let first = sign::<V1>(alloc, text, footer())?;
+    let second = sign::<V2>(alloc, text, footer())?;
+    let third = sign::<V3>(alloc, text, footer())?;
+    let fourth = sign::<V4>(alloc, text, footer())?;
+    let (keys, footer, call) = (&keys, Some(footer()), "Paseto::try_verify");
+    calls! { run;
+        call, V1::KIND
+            => Paseto::<V1, Public>::try_verify(alloc, &Lenient, first.as_str(), &V1::public_key(keys)?, footer);
+        call, V2::KIND
+            => Paseto::<V2, Public>::try_verify(alloc, &Lenient, second.as_str(), &V2::public_key(keys)?, footer);
+        call, V3::KIND
+            => Paseto::<V3, Public>::try_verify(alloc, &Lenient, third.as_str(), &V3::public_key(keys)?, footer, None);
+        call, V4::KIND
+            => Paseto::<V4, Public>::try_verify(alloc, &Lenient, fourth.as_str(), &V4::public_key(keys)?, footer, None);
+    }
+}
