@@ -2,22 +2,27 @@
 
 use anyhow::Result;
 use rusty_paseto::prelude::{
-    CustomClaim, DateClaim, Key, PasetoClaim, PreAuthenticationEncoding, ReservedKey,
+    CustomClaim, DateClaim, GenericBuilderError, GenericParserError, KeyRingError,
+    KeyRingParserError, PasetoClaim, PasetoClaimError, PasetoError, PreAuthenticationEncoding,
+    ReservedKey, TagCollision,
 };
 use serde_json::Value;
 use std::alloc::{AllocError, Global};
 use std::fmt::Display;
 
 /// What has a snapshot: bytes that are the same for two values that answer alike.
-pub trait Snapshot: Drop {
+pub trait Snapshot {
     fn snapshot(&self, alloc: Global) -> Result<Vec<u8>>;
 }
 
-/// The texts by which errors tell that memory was refused. No error tells of anything else by one of them.
-const MEMORY: &[&str] = &["No memory was found", "memory allocation failed"];
+/// Why a call refused.
+pub trait Refusal: Display + Drop {
+    /// Whether memory was refused.
+    fn is_memory(&self) -> bool;
+}
 
 /// What a call answered.
-#[derive(Drop, PartialEq, Eq)]
+#[derive(Drop)]
 pub enum Answer {
     /// A value, by its snapshot.
     Value(Vec<u8>),
@@ -29,31 +34,46 @@ pub enum Answer {
 
 impl Answer {
     /// The answer of a call.
-    pub fn of<T: Snapshot, E: Display + Drop>(
+    pub fn of<T: Snapshot + Drop, E: Refusal>(
         alloc: Global,
         answer: Result<T, E>,
     ) -> Result<Answer> {
         match answer {
             Ok(value) => Ok(Answer::Value(value.snapshot(alloc)?)),
-            Err(error) => Ok(Answer::of_text(error.to_string(alloc)?)),
+            Err(error) => {
+                if error.is_memory() {
+                    return Ok(Answer::Memory);
+                }
+                Ok(Answer::Refusal(error.to_string(alloc)?))
+            }
         }
     }
 
-    // The answer of an error that tells this text.
-    fn of_text(text: String) -> Answer {
-        if MEMORY.contains(&text.as_str()) {
-            return Answer::Memory;
-        }
-        Answer::Refusal(text)
+    /// Whether it was refused for another cause than memory.
+    pub fn is_refusal(&self) -> bool {
+        matches!(self, Answer::Refusal(_))
     }
 
-    /// Whether it is what a case of this name is about: a refusal for another cause than memory where its name says so,
-    /// and else a value.
-    pub fn is_as_named(&self, name: &str) -> bool {
+    /// Whether memory was refused.
+    pub fn is_memory(&self) -> bool {
+        matches!(self, Answer::Memory)
+    }
+
+    /// Whether it is the other answer. A refusal of memory is none.
+    pub fn is(&self, other: &Answer) -> bool {
+        match (self, other) {
+            (Answer::Value(one), Answer::Value(another)) => one.as_slice() == another.as_slice(),
+            (Answer::Refusal(one), Answer::Refusal(another)) => one.as_str() == another.as_str(),
+            _ => false,
+        }
+    }
+
+    /// One word for the answer, where this is the expected one.
+    pub fn word(&self, expected: &Answer) -> &'static str {
         match self {
-            Answer::Value(_) => !name.ends_with(", refused"),
-            Answer::Refusal(_) => name.ends_with(", refused"),
-            Answer::Memory => false,
+            Answer::Memory => "memory",
+            _ if self.is(expected) => "right",
+            _ => "wrong",
         }
     }
 }
@@ -69,25 +89,51 @@ impl Snapshot for Answer {
     }
 }
 
+impl Refusal for AllocError {
+    fn is_memory(&self) -> bool {
+        true
+    }
+}
+
+impl Refusal for PasetoError {
+    fn is_memory(&self) -> bool {
+        matches!(self, PasetoError::Memory(_))
+    }
+}
+
+impl Refusal for PasetoClaimError {
+    fn is_memory(&self) -> bool {
+        matches!(self, PasetoClaimError::Memory(_))
+    }
+}
+
+impl Refusal for GenericBuilderError {
+    fn is_memory(&self) -> bool {
+        matches!(self, GenericBuilderError::Memory(_))
+    }
+}
+
+impl Refusal for GenericParserError {
+    fn is_memory(&self) -> bool {
+        matches!(self, GenericParserError::Memory(_))
+    }
+}
+
+impl Refusal for KeyRingError {
+    fn is_memory(&self) -> bool {
+        matches!(self, KeyRingError::Memory(_))
+    }
+}
+
+impl Refusal for KeyRingParserError {
+    fn is_memory(&self) -> bool {
+        matches!(self, KeyRingParserError::Memory(_))
+    }
+}
+
 impl Snapshot for () {
     fn snapshot(&self, alloc: Global) -> Result<Vec<u8>> {
         Ok(Vec::new(alloc))
-    }
-}
-
-impl<const N: usize> Snapshot for [usize; N] {
-    fn snapshot(&self, alloc: Global) -> Result<Vec<u8>> {
-        let mut bytes = Vec::new(alloc);
-        'numbers: for number in self {
-            bytes.extend_from_slice(&number.to_be_bytes())?;
-        }
-        Ok(bytes)
-    }
-}
-
-impl<const N: usize> Snapshot for [u8; N] {
-    fn snapshot(&self, alloc: Global) -> Result<Vec<u8>> {
-        Ok(self.to_vec(alloc)?)
     }
 }
 
@@ -137,9 +183,9 @@ impl Snapshot for PreAuthenticationEncoding {
     }
 }
 
-impl<const N: usize> Snapshot for Key<N> {
+impl Snapshot for TagCollision {
     fn snapshot(&self, alloc: Global) -> Result<Vec<u8>> {
-        Ok(self.as_bytes().to_vec(alloc)?)
+        self.tag.snapshot(alloc)
     }
 }
 

@@ -6,29 +6,36 @@ use rusty_paseto::prelude::{
     Footer, PreAuthenticationEncoding, UntrustedToken, from_section, to_section,
 };
 use rusty_paseto_parts::push_section;
+use std::alloc::Global;
+use std::io::Write;
 
 /// Asks them.
-pub fn ask(run: &mut Run<'_>) -> Result<()> {
-    let (alloc, bytes) = (run.alloc, run.text.as_bytes());
-    let (section, padded) = (
-        to_section(alloc, bytes)?,
-        format!(in alloc; "{}=", run.text)?,
-    );
-    let (section, padded) = (section.as_str(), padded.as_str());
+pub fn ask<W: Write>(run: &mut Run<W>) -> Result<()> {
+    let (alloc, text) = (run.alloc(), run.text()?);
+    let bytes = text.as_str().as_bytes();
     let pieces = [bytes, b"piece".as_slice(), &[]];
+    let section = to_section(alloc, bytes)?;
+    let (section, padded) = (section.as_str(), format!(in alloc; "{text}=")?);
     let more = b"behind a text, and so long that it has to grow";
-    calls!(run;
+    calls! { run;
         "PreAuthenticationEncoding::parse", "three pieces" => PreAuthenticationEncoding::parse(alloc, &pieces);
         "to_section", "a text" => to_section(alloc, bytes);
         "from_section", "a section" => from_section(alloc, section);
-    )?;
-    edits!(run, "", Ok(String::from_str(alloc, "v4.")?); "push_section", "bytes" => |out| push_section(more, out);)?;
-    calls!(run; "from_section", "padding, refused" => from_section(alloc, padded);)?;
+    }
+    edits! { run, two_texts(alloc); "push_section", "bytes" => |out| push_section(more, out); }
+    calls! { run; "from_section", "padding, refused" => from_section(alloc, padded.as_str()); }
     ask_footers(run, section)
 }
 
-fn ask_footers(run: &mut Run<'_>, section: &str) -> Result<()> {
-    let alloc = run.alloc;
+fn two_texts(alloc: Global) -> Result<[String; 2]> {
+    Ok([
+        String::from_str(alloc, "v4.")?,
+        String::from_str(alloc, "v4.")?,
+    ])
+}
+
+fn ask_footers<W: Write>(run: &mut Run<W>, section: &str) -> Result<()> {
+    let alloc = run.alloc();
     let text = format!(in alloc; "v4.local.AAAA.{section}")?;
     let text = text.as_str();
     let token = UntrustedToken::try_parse(text)?;
@@ -41,4 +48,5 @@ fn ask_footers(run: &mut Run<'_>, section: &str) -> Result<()> {
         "UntrustedToken::footer_str", "bytes that are no text, refused" => other.footer_str(alloc);
         "Footer::try_from_token", "two sections, with no memory, refused" => Footer::try_from_token(alloc, "v4.local");
     }
+    Ok(())
 }

@@ -1,35 +1,43 @@
 //! The kinds of tokens, and what all tokens of the cases share.
 
-use paseto_toys::Lenient;
-use paseto_toys::keys::{SECRET, ToyVersion};
-use rusty_paseto::prelude::{Footer, Local, PasetoSymmetricKey, Signs, Verifies, VersionTrait};
+use paseto_toys::keys::SECRET;
+use rusty_paseto::prelude::{Footer, Local, PasetoSymmetricKey, VersionTrait};
 
-/// Asks the cases of each kind of local tokens that needs no box.
+/// Asks the cases of each kind of local tokens that needs no box, where one of them may be asked.
 macro_rules! local_kinds {
-    ($run:expr, $ask:ident) => {
-        $ask::<rusty_paseto::prelude::V1>($run, "v1.local")?;
-        $ask::<rusty_paseto::prelude::V3>($run, "v3.local")?;
-        $ask::<rusty_paseto::prelude::V4>($run, "v4.local")?;
+    ($run:expr, $ask:ident $(, $more:expr)*) => {
+        if $run.asks_of("v1.local") {
+            $ask::<rusty_paseto::prelude::V1, W>($run, "v1.local" $(, $more)*)?;
+        }
+        if $run.asks_of("v3.local") {
+            $ask::<rusty_paseto::prelude::V3, W>($run, "v3.local" $(, $more)*)?;
+        }
+        if $run.asks_of("v4.local") {
+            $ask::<rusty_paseto::prelude::V4, W>($run, "v4.local" $(, $more)*)?;
+        }
     };
 }
 
-/// Asks the cases of each kind of public tokens.
+/// Asks the cases of each kind of public tokens, where one of them may be asked.
 macro_rules! public_kinds {
-    ($run:expr, $ask:ident) => {
-        $ask::<rusty_paseto::prelude::V1>($run)?;
-        $ask::<rusty_paseto::prelude::V2>($run)?;
-        $ask::<rusty_paseto::prelude::V3>($run)?;
-        $ask::<rusty_paseto::prelude::V4>($run)?;
+    ($run:expr, $ask:ident $(, $more:expr)*) => {
+        if $run.asks_of("v1.public") {
+            $ask::<rusty_paseto::prelude::V1, W>($run $(, $more)*)?;
+        }
+        if $run.asks_of("v2.public") {
+            $ask::<rusty_paseto::prelude::V2, W>($run $(, $more)*)?;
+        }
+        if $run.asks_of("v3.public") {
+            $ask::<rusty_paseto::prelude::V3, W>($run $(, $more)*)?;
+        }
+        if $run.asks_of("v4.public") {
+            $ask::<rusty_paseto::prelude::V4, W>($run $(, $more)*)?;
+        }
     };
 }
 
 pub(crate) use local_kinds;
 pub(crate) use public_kinds;
-
-/// A version whose tokens are signed and verified by the lenient scheme.
-pub trait Signed: ToyVersion + Signs<Lenient> + Verifies<Lenient> {}
-
-impl<V: ToyVersion + Signs<Lenient> + Verifies<Lenient>> Signed for V {}
 
 /// The footer of all tokens.
 pub fn footer() -> Footer<'static> {

@@ -3,13 +3,14 @@
 #![tactic(auto)]
 
 mod answer;
+mod boxed_local;
 mod builders;
-mod checks;
 mod claims;
 mod defaults;
 mod encoding;
 mod key_rings;
 mod kinds;
+mod local;
 mod no_memory;
 mod parsers;
 mod paserk;
@@ -17,12 +18,14 @@ mod primitives;
 mod rsa_key;
 mod run;
 mod schemes;
-mod tokens;
+mod signed;
+mod validators;
 
-use anyhow::{Result, ensure};
+use anyhow::{Context, Result, ensure};
 use run::Run;
 use std::alloc::{AllocError, Global};
 use std::env;
+use std::io::Write;
 
 /// How long the text is that the calls are about, where no word says so.
 const LENGTH: usize = 100;
@@ -35,7 +38,7 @@ fn main(rt: HostRuntime) -> Result<()> {
     let alloc = rt.alloc();
     let words: Vec<String> = env::args(&rt)?.skip(1).collect(alloc)?;
     let asked = match words.first() {
-        Some(name) if name.as_str() != "all" => Some(name.as_str()),
+        Some(name) if name.as_str() != "all" => Some(name.clone()?),
         _ => None,
     };
     let length = match words.get(1) {
@@ -43,11 +46,9 @@ fn main(rt: HostRuntime) -> Result<()> {
         None => LENGTH,
     };
     ensure!(length <= LONGEST, "the text is too long");
-    let text = text_of(alloc, length)?;
-    let mut run = Run::new(alloc, rt.stdout(), asked, text.as_str());
-    ask(&mut run)?;
-    ensure!(run.found, "no case has this name");
-    Ok(())
+    let mut run = Run::new(alloc, rt.stdout(), asked, text_of(alloc, length)?);
+    ask_all(&mut run)?;
+    run.finish().context("no case has this name")
 }
 
 /// A text of so many letters.
@@ -59,10 +60,12 @@ fn text_of(alloc: Global, length: usize) -> Result<String, AllocError> {
     Ok(text)
 }
 
-fn ask(run: &mut Run<'_>) -> Result<()> {
+fn ask_all<W: Write>(run: &mut Run<W>) -> Result<()> {
     encoding::ask(run)?;
     claims::ask(run)?;
-    tokens::ask(run)?;
+    local::ask(run)?;
+    boxed_local::ask(run)?;
+    signed::ask(run)?;
     builders::ask(run)?;
     parsers::ask(run)?;
     defaults::ask(run)?;

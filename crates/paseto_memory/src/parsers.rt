@@ -1,15 +1,14 @@
 //! The calls of generic parsers.
 
 use crate::answer::{Answer, Snapshot};
+use crate::boxed_local;
 use crate::builders::{ODD, odd_claim, three_maps};
-use crate::checks::{
-    Parser, ask_checks, ask_maps, ask_times, ask_validator_maps, ask_validators, refusing,
-    validators,
-};
 use crate::claims::numbered;
-use crate::kinds::{Signed, footer, local_kinds, public_kinds, symmetric_key};
+use crate::kinds::{footer, local_kinds, public_kinds, symmetric_key};
+use crate::local::seal;
 use crate::run::{Run, calls, changes, edits};
-use crate::tokens::{seal, seal_boxed, sign};
+use crate::signed::{Signed, sign};
+use crate::validators::{refusing, refusing_maps, validators};
 use anyhow::Result;
 use jiff::Timestamp;
 use paseto_toys::keys::{Keys, SECRET};
@@ -19,6 +18,7 @@ use rusty_paseto::prelude::{
     PurposeTrait, V2, V4, VersionTrait,
 };
 use std::alloc::Global;
+use std::io::Write;
 
 /// The entries that all parsers check.
 const CHECKED: &str = "\"k0\":0,\"k1\":1,\"k10\":10,\"k11\":11,\"k12\":12,\"k13\":13,\
@@ -44,36 +44,29 @@ pub fn now() -> Result<Timestamp> {
 /// A parser is known by what it answers for a token.
 impl Snapshot for GenericParser<'_, V4, Local> {
     fn snapshot(&self, alloc: Global) -> Result<Vec<u8>> {
-        let token = seal::<V4>(alloc, expired(alloc)?.as_str(), footer())?;
+        let token = seal::<V4>(alloc, expired(alloc)?.as_str())?;
         Answer::of(alloc, self.parse(token.as_str(), &symmetric_key()))?.snapshot(alloc)
     }
 }
 
-impl Parser for GenericParser<'static, V4, Local> {
-    const PATH: &'static str = "TokenParser::";
-
-    fn made(alloc: Global) -> Result<Self> {
-        parser_of(alloc)
-    }
-}
-
 /// Asks them.
-pub fn ask(run: &mut Run<'_>) -> Result<()> {
-    type Edited = GenericParser<'static, V4, Local>;
-    ask_checks::<Edited>(run)?;
+pub fn ask<W: Write>(run: &mut Run<W>) -> Result<()> {
+    ask_checks(run)?;
     ask_refusals(run)?;
-    ask_validators::<Edited>(run)?;
-    ask_maps::<Edited>(run)?;
-    ask_validator_maps::<Edited>(run)?;
-    ask_times::<Edited>(run)?;
-    ask_value(run)?;
-    local_kinds! { run, ask_local }
-    ask_boxed(run)?;
-    public_kinds! { run, ask_public }
+    ask_validators(run)?;
+    ask_maps(run)?;
+    ask_times(run)?;
+    let (alloc, text, keys) = (run.alloc(), run.text()?, Keys::of(&SECRET));
+    let payload = good(alloc, text.as_str())?;
+    let (payload, parser) = (payload.as_str(), timed::<V4, Local>(alloc)?);
+    calls! { run; "TokenParser::value_of", "a text" => parser.value_of(payload); }
+    local_kinds! { run, ask_opening, payload }
+    ask_unboxing(run, payload)?;
+    public_kinds! { run, ask_verifying, &keys, payload }
     ask_failed_checks(run)
 }
 
-// A parser that checks fifteen claims, and expects the footer.
+/// A parser that checks fifteen claims, and expects the footer.
 fn parser_of<V: VersionTrait, P: PurposeTrait>(
     alloc: Global,
 ) -> Result<GenericParser<'static, V, P>> {
@@ -86,49 +79,103 @@ fn parser_of<V: VersionTrait, P: PurposeTrait>(
     Ok(parser)
 }
 
-// A parser that checks the times too.
+/// Two of them, of version 4 and local.
+pub fn two_parsers(alloc: Global) -> Result<[GenericParser<'static, V4, Local>; 2]> {
+    Ok([parser_of(alloc)?, parser_of(alloc)?])
+}
+
+/// A parser that checks the times too.
 fn timed<V: VersionTrait, P: PurposeTrait>(alloc: Global) -> Result<GenericParser<'static, V, P>> {
     let mut parser = parser_of(alloc)?;
     parser.put_times(now()?)?;
     Ok(parser)
 }
 
-fn ask_refusals(run: &mut Run<'_>) -> Result<()> {
-    let (alloc, odd) = (run.alloc, odd_claim(run.alloc)?);
+fn ask_checks<W: Write>(run: &mut Run<W>) -> Result<()> {
+    let alloc = run.alloc();
+    let claim = AudienceClaim::from("others");
     let seats = CustomClaim::try_from_str(alloc, "seats", 5u64)?;
-    edits!(run, "TokenParser::", parser_of::<V4, Local>(alloc);
-        "put_check", "a key that is there" => |parser| parser.put_check(&seats);
-        "put_check", "a fraction, refused" => |parser| parser.put_check(&odd);
-    )?;
-    changes! { run, "TokenParser::", parser_of::<V4, Local>(alloc);
-        "put_validator", "a fraction, refused" => refusing!(alloc) => |parser, given| parser.put_validator(&odd, given);
-        "put_checks", "a map with a fraction, refused" => three_maps(alloc, ODD)?
+    edits! { run, two_parsers(alloc);
+        "TokenParser::put_check", "a claim" => |parser| parser.put_check(&claim);
+        "TokenParser::check_claim", "a claim" => |parser| parser.check_claim(&claim).map(drop);
+        "TokenParser::put_check", "a key that is there" => |parser| parser.put_check(&seats);
+    }
+    Ok(())
+}
+
+fn ask_refusals<W: Write>(run: &mut Run<W>) -> Result<()> {
+    let alloc = run.alloc();
+    let (odd, of) = (odd_claim(alloc)?, "a fraction, refused");
+    edits! { run, two_parsers(alloc); "TokenParser::put_check", of => |parser| parser.put_check(&odd); }
+    changes! { run, two_parsers(alloc);
+        "TokenParser::put_validator", of => refusing!(alloc) => |parser, validator| parser.put_validator(&odd, validator);
+        "TokenParser::put_checks", "a map with a fraction, refused" => three_maps(alloc, ODD)?
             => |parser, map| parser.put_checks(map);
     }
+    Ok(())
 }
 
-fn ask_value(run: &mut Run<'_>) -> Result<()> {
-    let (payload, parser) = (good(run.alloc, run.text)?, timed::<V4, Local>(run.alloc)?);
-    calls! { run; "TokenParser::value_of", "a text" => parser.value_of(payload.as_str()); }
+fn ask_validators<W: Write>(run: &mut Run<W>) -> Result<()> {
+    let (alloc, claim) = (run.alloc(), AudienceClaim::from("customers"));
+    changes! { run, two_parsers(alloc);
+        "TokenParser::put_validator", "a claim" => refusing!(alloc)
+            => |parser, validator| parser.put_validator(&claim, validator);
+        "TokenParser::validate_claim", "a claim" => refusing!(alloc)
+            => |parser, validator| parser.validate_claim(&claim, validator).map(drop);
+    }
+    Ok(())
 }
 
-fn ask_local<V: GenericLocalVersion>(run: &mut Run<'_>, kind: &str) -> Result<()> {
-    let (parser, key) = (timed::<V, Local>(run.alloc)?, symmetric_key::<V>());
-    let token = seal::<V>(run.alloc, good(run.alloc, run.text)?.as_str(), footer())?;
+/// Entries of several keys, one of which is stored already.
+pub const SEVERAL: &str = "{\"a\":{\"a\":1},\"aud\":{\"aud\":\"others\"},\"seats\":5}";
+
+fn ask_maps<W: Write>(run: &mut Run<W>) -> Result<()> {
+    let alloc = run.alloc();
+    changes! { run, two_parsers(alloc);
+        "TokenParser::put_checks", "a map" => three_maps(alloc, SEVERAL)? => |parser, map| parser.put_checks(map);
+        "TokenParser::extend_check_claims", "a map" => three_maps(alloc, SEVERAL)?
+            => |parser, map| parser.extend_check_claims(map).map(drop);
+        "TokenParser::put_validators", "a map" => refusing_maps!(alloc) => |parser, map| parser.put_validators(map);
+        "TokenParser::extend_validation_claims", "a map" => refusing_maps!(alloc)
+            => |parser, map| parser.extend_validation_claims(map).map(drop);
+    }
+    Ok(())
+}
+
+fn ask_times<W: Write>(run: &mut Run<W>) -> Result<()> {
+    let (alloc, now) = (run.alloc(), now()?);
+    edits! { run, two_parsers(alloc);
+        "TokenParser::put_required", "a claim" => |parser| parser.put_required("sub");
+        "TokenParser::require_claim", "a claim" => |parser| parser.require_claim("sub").map(drop);
+        "TokenParser::put_times", "a moment" => |parser| parser.put_times(now);
+        "TokenParser::check_times", "a moment" => |parser| parser.check_times(now).map(drop);
+    }
+    Ok(())
+}
+
+fn ask_opening<V: GenericLocalVersion, W: Write>(
+    run: &mut Run<W>,
+    kind: &str,
+    payload: &str,
+) -> Result<()> {
+    let (parser, key) = (timed::<V, Local>(run.alloc())?, symmetric_key::<V>());
+    let token = seal::<V>(run.alloc(), payload)?;
     calls! { run; "TokenParser::parse", kind => parser.parse(token.as_str(), &key); }
+    Ok(())
 }
 
-fn ask_boxed(run: &mut Run<'_>) -> Result<()> {
-    let (parser, key) = (timed::<V2, Local>(run.alloc)?, symmetric_key::<V2>());
-    let token = seal_boxed(run.alloc, good(run.alloc, run.text)?.as_str(), footer())?;
+fn ask_unboxing<W: Write>(run: &mut Run<W>, payload: &str) -> Result<()> {
+    let (parser, key) = (timed::<V2, Local>(run.alloc())?, symmetric_key::<V2>());
+    let token = boxed_local::seal(run.alloc(), payload, footer())?;
     calls! { run; "TokenParser::parse", "v2.local" => parser.parse(&PlainBox, token.as_str(), &key); }
+    Ok(())
 }
 
-fn ask_public<V: Signed>(run: &mut Run<'_>) -> Result<()> {
-    let (parser, keys) = (timed::<V, Public>(run.alloc)?, Keys::of(&SECRET));
-    let key = V::public_key(&keys)?;
-    let token = sign::<V>(run.alloc, good(run.alloc, run.text)?.as_str(), footer())?;
+fn ask_verifying<V: Signed, W: Write>(run: &mut Run<W>, keys: &Keys, payload: &str) -> Result<()> {
+    let (parser, key) = (timed::<V, Public>(run.alloc())?, V::public_key(keys)?);
+    let token = sign::<V>(run.alloc(), payload, footer(), keys)?;
     calls! { run; "TokenParser::parse", V::KIND => parser.parse(&Lenient, token.as_str(), &key); }
+    Ok(())
 }
 
 // Payloads that are no JSON, or fail a check, and so are refused.
@@ -144,24 +191,32 @@ const REFUSED: &[(&str, &str)] = &[
     ),
 ];
 
-fn ask_failed_checks(run: &mut Run<'_>) -> Result<()> {
-    let (alloc, payload) = (run.alloc, expired(run.alloc)?);
-    let payload = payload.as_str();
+fn ask_failed_checks<W: Write>(run: &mut Run<W>) -> Result<()> {
+    let alloc = run.alloc();
     let mut parser = timed::<V4, Local>(alloc)?;
     parser.put_check(&AudienceClaim::from("customers"))?;
     'payloads: for &(of, payload) in REFUSED {
         ask_refused(run, of, payload, &parser)?;
     }
-    ask_refused(run, "an expired token, refused", payload, &parser)?;
-    let mut parser = parser_of(alloc)?;
+    let payload = expired(alloc)?;
+    ask_refused(run, "an expired token, refused", payload.as_str(), &parser)?;
+    let mut parser = parser_of::<V4, Local>(alloc)?;
     parser.put_validators(validators(alloc, refusing!(alloc))?)?;
-    ask_refused(run, "what a validator refuses, refused", payload, &parser)
+    ask_refused(
+        run,
+        "what a validator refuses, refused",
+        payload.as_str(),
+        &parser,
+    )
 }
 
-type Refusing<'a> = &'a GenericParser<'static, V4, Local>;
-
-fn ask_refused(run: &mut Run<'_>, of: &str, payload: &str, parser: Refusing<'_>) -> Result<()> {
-    let token = seal::<V4>(run.alloc, payload, footer())?;
-    let key = symmetric_key::<V4>();
+fn ask_refused<W: Write>(
+    run: &mut Run<W>,
+    of: &str,
+    payload: &str,
+    parser: &GenericParser<'_, V4, Local>,
+) -> Result<()> {
+    let (token, key) = (seal::<V4>(run.alloc(), payload)?, symmetric_key::<V4>());
     calls! { run; "TokenParser::parse", of => parser.parse(token.as_str(), &key); }
+    Ok(())
 }

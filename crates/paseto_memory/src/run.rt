@@ -1,55 +1,43 @@
 //! A run over the cases.
 
-use crate::answer::{Answer, Snapshot};
-use anyhow::{Result, bail};
+use crate::answer::{Answer, Refusal, Snapshot};
+use anyhow::{Result, bail, ensure};
 use std::alloc::Global;
-use std::fmt::Display;
-use std::io::{Stdout, Write};
+use std::io::Write;
 
 /// A line for each case of a call that changes nothing: what is called, of what, and the call.
 macro_rules! calls {
-    ($run:expr; $($call:expr, $of:expr => $asked:expr;)*) => {{
+    ($run:expr; $($call:expr, $of:expr => $asked:expr;)*) => {
         $($run.call($call, $of, || $asked)?;)*
-        Ok::<(), anyhow::Error>(())
-    }};
+    };
 }
 
-/// A line for each case of a method that edits an object and is given nothing: what is called, of what, and the edit.
-/// Before them stand the path of the type, and how an object is made.
+/// A line for each case of a call that changes an object and is given nothing: what is called, of what, and the
+/// change. Two alike objects are made for each.
 macro_rules! edits {
-    ($run:expr, $path:expr, $object:expr; $($call:expr, $of:expr => |$name:ident| $edit:expr;)*) => {{
-        let make = || $object;
-        $($run.edit([$path, $call, $of], make, [(), (), ()], |$name, _| $edit)?;)*
-        Ok::<(), anyhow::Error>(())
-    }};
+    ($run:expr, $objects:expr; $($call:expr, $of:expr => |$object:ident| $edit:expr;)*) => {
+        $($run.change($call, $of, $objects, [(), (), ()], |$object, _| $edit)?;)*
+    };
 }
 
-/// The same for methods that are given a value, of which three are made.
+/// The same for calls that are given a value, of which three are made.
 macro_rules! changes {
-    (
-        $run:expr, $path:expr, $object:expr;
-        $($call:expr, $of:expr => $given:expr => |$name:ident, $value:ident| $edit:expr;)*
-    ) => {{
-        let make = || $object;
-        $($run.edit([$path, $call, $of], make, $given, |$name, $value| $edit)?;)*
-        Ok::<(), anyhow::Error>(())
-    }};
-}
-
-/// So many values as a case is given.
-macro_rules! three {
-    ($value:expr) => {
-        [$value, $value, $value]
+    ($run:expr, $objects:expr; $($call:expr, $of:expr => $given:expr => |$object:ident, $value:ident| $edit:expr;)*) => {
+        $($run.change($call, $of, $objects, $given, |$object, $value| $edit)?;)*
     };
 }
 
 pub(crate) use calls;
 pub(crate) use changes;
 pub(crate) use edits;
-pub(crate) use three;
 
-/// An object before an edit, what the edit answered, and the object then.
-#[derive(Drop, PartialEq, Eq)]
+/// Whether what is asked is to be refused, for another cause than memory: the end of its name says so.
+fn is_refused(of: &str) -> bool {
+    of.ends_with(", refused")
+}
+
+/// An object before a change, what the change answered, and the object then.
+#[derive(Drop)]
 struct Change {
     before: Vec<u8>,
     answer: Answer,
@@ -57,19 +45,17 @@ struct Change {
 }
 
 impl Change {
-    fn made<O: Snapshot, A: Drop, E: Display + Drop, F>(
-        alloc: Global,
-        object: O,
-        given: A,
-        edit: F,
-    ) -> Result<Change>
+    fn made<O, A, E, F>(alloc: Global, object: O, given: A, call: F) -> Result<Change>
     where
+        O: Snapshot + Drop,
+        A: Drop,
+        E: Refusal,
         F: FnOnce(&mut O, A) -> Result<(), E>,
-        requires { F.IsAlwaysCallable edit }
+        requires { F.IsAlwaysCallable call }
     {
         let mut object = object;
         let before = object.snapshot(alloc)?;
-        let answer = Answer::of(alloc, edit(&mut object, given))?;
+        let answer = Answer::of(alloc, call(&mut object, given))?;
         let after = object.snapshot(alloc)?;
         Ok(Change {
             before,
@@ -79,46 +65,67 @@ impl Change {
     }
 
     // What refuses changes nothing, and what does not refuse changes something.
-    fn is_as_named(&self, name: &str) -> bool {
-        let is_value = matches!(self.answer, Answer::Value(_));
-        self.answer.is_as_named(name) && (self.before != self.after) == is_value
+    fn is_right(&self, is_refused: bool) -> bool {
+        self.answer.is_refusal() == is_refused && (self.before == self.after) == is_refused
+    }
+
+    fn is(&self, other: &Change) -> bool {
+        self.before == other.before && self.answer.is(&other.answer) && self.after == other.after
     }
 }
 
 /// A run over all cases, or over one of them with marks around the call: `memory: begin` and `memory: end`, each
 /// written in one piece. Memory may be refused between the two.
 #[derive(Drop)]
-pub struct Run<'a> {
-    /// The allocator of all calls.
-    pub alloc: Global,
-    /// The text that the calls are about.
-    pub text: &'a str,
-    output: Stdout,
-    asked: Option<&'a str>,
-    /// Whether a case had the name that was asked for.
-    pub found: bool,
+pub struct Run<W> {
+    alloc: Global,
+    output: W,
+    asked: Option<String>,
+    found: bool,
+    text: String,
 }
 
-impl<'a> Run<'a> {
-    /// A run over the case of this name, or over all where there is none.
-    pub fn new(alloc: Global, output: Stdout, asked: Option<&'a str>, text: &'a str) -> Self {
+impl<W: Write> Run<W> {
+    /// A run over the case of this name, or over all where there is none. The calls are about the text.
+    pub fn new(alloc: Global, output: W, asked: Option<String>, text: String) -> Self {
         Run {
             alloc,
-            text,
             output,
             asked,
             found: false,
+            text,
         }
     }
 
+    /// The allocator of all calls.
+    pub fn alloc(&self) -> Global {
+        self.alloc
+    }
+
+    /// Whether what the cases of this kind of token need has to be made: a run for one case makes nothing for the others.
+    pub fn asks_of(&self, kind: &str) -> bool {
+        match &self.asked {
+            Some(asked) => asked.as_str().contains(kind),
+            None => true,
+        }
+    }
+
+    /// A copy of the text that the calls are about.
+    pub fn text(&self) -> Result<String> {
+        Ok(self.text.clone()?)
+    }
+
+    /// Fails where no case had the name that was asked for.
+    pub fn finish(&self) -> Result<()> {
+        ensure!(self.found, "nothing was asked");
+        Ok(())
+    }
+
     /// Asks a call of something between the marks, and then again. What is right is what it answers before.
-    pub fn call<T: Snapshot, E: Display + Drop, F>(
-        &mut self,
-        call: &str,
-        of: &str,
-        asked: F,
-    ) -> Result<()>
+    pub fn call<T, E, F>(&mut self, call: &str, of: &str, asked: F) -> Result<()>
     where
+        T: Snapshot + Drop,
+        E: Refusal,
         F: Copy + FnOnce() -> Result<T, E>,
         requires { F.IsAlwaysCallable asked }
     {
@@ -127,7 +134,7 @@ impl<'a> Run<'a> {
             return Ok(());
         }
         let expected = Answer::of(self.alloc, asked())?;
-        if !expected.is_as_named(of) {
+        if expected.is_refusal() != is_refused(of) {
             bail!("{name}: this is another answer than the case is about");
         }
         self.mark("memory: begin\n")?;
@@ -135,51 +142,76 @@ impl<'a> Run<'a> {
         self.mark("memory: end\n")?;
         let met = Answer::of(self.alloc, met)?;
         let then = Answer::of(self.alloc, asked())?;
-        self.report(name.as_str(), &met, &expected, then == expected)
+        self.report(name.as_str(), met.word(&expected), then.is(&expected))
     }
 
-    /// Makes two alike objects, and edits the second between the marks, by the second of the given values. What is
-    /// right is what the first answers before the same edit and after it. A case is the path of the objects' type,
-    /// what is called, and of what.
+    /// Changes the second of two alike objects between the marks, by the second of the given values. What is right is
+    /// what the first answers before and after the same change. Objects that could not be made end the run.
     ///
-    /// Where memory was refused, the second is to answer as before the edit, and is then edited again.
-    pub fn edit<O: Snapshot, A: Drop, E: Display + Drop, M, F>(
+    /// Where memory was refused, the object is to answer as before the change, and is then changed again.
+    pub fn change<O, A, E, F>(
         &mut self,
-        case: [&str; 3],
-        make: M,
+        call: &str,
+        of: &str,
+        objects: Result<[O; 2]>,
         given: [A; 3],
         edit: F,
     ) -> Result<()>
     where
-        M: Copy + FnOnce() -> Result<O>,
+        O: Snapshot + Drop,
+        A: Drop,
+        E: Refusal,
         F: Copy + FnOnce(&mut O, A) -> Result<(), E>,
-        requires made { M.IsAlwaysCallable make }
-        requires edited { F.IsAlwaysCallable edit }
+        requires { F.IsAlwaysCallable edit }
     {
-        let [path, call, of] = case;
-        let name = format!(in self.alloc; "{path}{call} of {of}")?;
+        let [untouched, object] = objects?;
+        let name = format!(in self.alloc; "{call} of {of}")?;
         if !self.is_asked(name.as_str()) {
             return Ok(());
         }
         let [first, second, third] = given;
-        let right = Change::made(self.alloc, make()?, first, edit)?;
-        if !right.is_as_named(of) {
+        let right = Change::made(self.alloc, untouched, first, edit)?;
+        if !right.is_right(is_refused(of)) {
             bail!("{name}: this is another answer than the case is about");
         }
-        let mut object = make()?;
+        let (word, then) = self.change_marked(&right, object, [second, third], edit)?;
+        self.report(name.as_str(), word, then)
+    }
+
+    // The word for what the change answers between the marks, and whether the object is then right.
+    fn change_marked<O, A, E, F>(
+        &mut self,
+        right: &Change,
+        object: O,
+        given: [A; 2],
+        call: F,
+    ) -> Result<(&'static str, bool)>
+    where
+        O: Snapshot + Drop,
+        A: Drop,
+        E: Refusal,
+        F: Copy + FnOnce(&mut O, A) -> Result<(), E>,
+        requires { F.IsAlwaysCallable call }
+    {
+        let mut object = object;
+        let [given, again] = given;
         self.mark("memory: begin\n")?;
-        let met = edit(&mut object, second);
+        let met = call(&mut object, given);
         self.mark("memory: end\n")?;
         let met = Answer::of(self.alloc, met)?;
-        let then = match met {
-            Answer::Memory => Change::made(self.alloc, object, third, edit)? == right,
-            _ => object.snapshot(self.alloc)? == right.after,
+        let then = if met.is_memory() {
+            Change::made(self.alloc, object, again, call)?.is(right)
+        } else {
+            object.snapshot(self.alloc)? == right.after
         };
-        self.report(name.as_str(), &met, &right.answer, then)
+        Ok((met.word(&right.answer), then))
     }
 
     fn is_asked(&mut self, name: &str) -> bool {
-        let is_asked = self.asked.is_none_or(|asked| asked == name);
+        let is_asked = match &self.asked {
+            Some(asked) => asked.as_str() == name,
+            None => true,
+        };
         self.found = self.found || is_asked;
         is_asked
     }
@@ -192,13 +224,7 @@ impl<'a> Run<'a> {
         Ok(())
     }
 
-    // Tells what was met where this was expected, and whether it was right then.
-    fn report(&mut self, name: &str, met: &Answer, expected: &Answer, then: bool) -> Result<()> {
-        let word = match met {
-            Answer::Memory => "memory",
-            _ if met == expected => "right",
-            _ => "wrong",
-        };
+    fn report(&mut self, name: &str, word: &str, then: bool) -> Result<()> {
         let then = if then { "right" } else { "wrong" };
         writeln!(self.output, "{name}: {word}, then {then}")?;
         Ok(())
