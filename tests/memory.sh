@@ -7,7 +7,7 @@
 #
 # Without words it takes the programs that `rt run` leaves in the crates' out/, and builds them where they are
 # not there. A row of the table is a call, how many requests it makes, for how many bytes in all, and how often a
-# run that met a refusal answered want of memory, or what is right all the same. The rows of the cases
+# run that met a refusal answered a failed allocation, or what is right all the same. The rows of the cases
 # have to be those of tests/memory.txt, so that a call that takes more memory than it did fails. The last line is
 # 'N passed, M failed', and the status is 0 where none failed.
 set -u

@@ -1,5 +1,5 @@
 #!/usr/bin/env python3
-"""Lists the public calls of the libraries that may answer want of memory, as their sources declare them.
+"""Lists the public calls of the libraries that may answer a failed allocation, as their sources declare them.
 
     tests/memory_calls.py
 
@@ -34,10 +34,10 @@ CRATES = [
 # The versions for which a block is that is bound by one of these traits.
 VERSIONS = {
     "LocalVersion": [1, 3, 4],
-    "UnboxedVersion": [1, 3, 4],
-    "BoxlessVersion": [1, 3, 4],
+    "GenericLocalVersion": [1, 3, 4],
+    "DefaultLocalVersion": [1, 3, 4],
     "AssertionVersion": [3, 4],
-    "AssertingVersion": [3, 4],
+    "DefaultAssertionVersion": [3, 4],
     "PublicVersion": [1, 2, 3, 4],
     "Signs": [1, 2, 3, 4],
     "Verifies": [1, 2, 3, 4],

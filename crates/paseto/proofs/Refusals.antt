@@ -3,7 +3,7 @@ use Rattle.std.proofs.Common.{◌≡◌, ◌≢◌, ◌⊎◌, ℕ, List, ◌++�
 use Rattle.std.proofs.lemmas.Bool.{false≢true}
 use Rattle.base64.specs.GeneralPurpose.{IsBytes}
 use Rattle.rusty_paseto_parts.specs.Error.{IsMemory}
-use Rattle.rusty_paseto_parts.specs.Section.{spelling}
+use Rattle.rusty_paseto_parts.specs.Section.{base64url}
 use Rattle.rusty_paseto_parts.specs.declared.error.PasetoError.{PasetoError}
 use Rattle.rusty_paseto_parts.specs.declared.error.PasetoError.TheVariants.{Memory as NoMemory}
 use Rattle.rusty_paseto_core.specs.Context.{binding_of}
@@ -34,7 +34,7 @@ not_v4 line key Secret begins is = let digit : 51 ≡ 52 = ap (λ (l : List ℕ)
 not_v4 line key Public begins is = let digit : 51 ≡ 52 = ap (λ (l : List ℕ). get_or l 1 0) (sym begins.1 ∙ is) in absurd (false≢true (sym (ap (eqb 51) digit)))
 
 pub not_v3 : (line key : List ℕ) (kind : PaserkType) → ((rest : List ℕ) → line ≢ codes "k3." ++ rest) → line ≡ writing V3 kind key → ⊥
-not_v3 line key kind none is = none (word kind ++ spelling key) (is ∙ append_assoc (codes "k3.") (word kind) (spelling key))
+not_v3 line key kind none is = none (word kind ++ base64url key) (is ∙ append_assoc (codes "k3.") (word kind) (base64url key))
 
 -- what is printed for neither of two versions
 module _ (A B : List ℕ → List ℕ → Type 0) where

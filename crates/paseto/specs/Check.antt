@@ -17,7 +17,7 @@ use Rattle.paseto_ed25519.specs.Ed25519.{Ed25519Verifies, IsRefused}
 use Rattle.paseto_p384.specs.P384.{P384Verifies, IsRefused as IsRefusedByP384}
 use Rattle.paseto_xchacha20poly1305.specs.Sealing.{box_sealing}
 use Rattle.rusty_paseto_generic.specs.Parsers.Held.{default_date, with_times}
-use Rattle.rusty_paseto_generic.specs.declared.parsers.checks.Judge.{Judge}
+use Rattle.rusty_paseto_generic.specs.declared.parsers.checks.Checker.{Checker}
 use Rattle.rusty_paseto_generic.specs.Parsers.Parsing.{IsParsed, assertion_in}
 use Rattle.rusty_paseto_generic.specs.Parsers.Rules.{AreSame, Rules, edited, no_rule, with_both}
 use Rattle.rusty_paseto_generic.specs.Parsers.Times.{expiry, not_before, times_at}
@@ -33,14 +33,14 @@ use Rattle.paseto.specs.Local.{IsLocalKey}
 use Rattle.paseto.specs.Public.{IsHalf}
 use Rattle.paseto.specs.Times.{SaysMoment}
 
--- the moment of judging: that of the word, or else the present one
-abbrev pub IsJudgedAt : Option (List ℕ) → Timestamp → Timestamp → Type 0
-IsJudgedAt (Some word) now moment = SaysMoment word now moment
-IsJudgedAt None now moment = moment ≡ now
+-- the moment of checking: that of the word, or else the present one
+abbrev pub IsCheckedAt : Option (List ℕ) → Timestamp → Timestamp → Type 0
+IsCheckedAt (Some word) now moment = SaysMoment word now moment
+IsCheckedAt None now moment = moment ≡ now
 
 -- what words demand at a moment
 pub record AreDemands (claims : List (List ℕ)) (options : Options) (now : Timestamp) (demands : Demands) : Type 0 where
-  pub moment : IsJudgedAt (option_map (λ word. word.now) options.at) now demands.at
+  pub moment : IsCheckedAt (option_map (λ word. word.now) options.at) now demands.at
   pub are_claims : AreClaims claims demands.claims.items
   pub footer : IsFooter options (option_map string_bytes demands.footer)
 
@@ -106,6 +106,6 @@ ParsesByKey key demands timed token value =
 -- ---- for private clauses
 
 -- the same, before the moment is known
-abbrev pub begun_rules : {B : Type 0} → Bool → Rules (Judge B)
+abbrev pub begun_rules : {B : Type 0} → Bool → Rules (Checker B)
 begun_rules true = with_times (λ key. no_rule)
 begun_rules false = λ key. no_rule

@@ -58,7 +58,7 @@ text_of (Memory _) = codes "No memory was found"
 abbrev pub line_of : ProgramError → List ℕ
 line_of error = text_of error ++ 10 ∷ []
 
--- want of memory and of random bytes is the program's own error, wherever it came
+-- a failed allocation and a want of random bytes are errors of the program, wherever they came
 abbrev pub program_error_of : PasetoError → ProgramError
 program_error_of (NoMemory source) = Memory source
 program_error_of Cipher = Random

@@ -3,7 +3,7 @@ use Rattle.std.specs.Prelude.{◌≡◌, ℕ, ◌≤◌, ◌-◌, List, [], ◌�
 use Rattle.std.specs.List.{slice_get}
 use Rattle.std.specs.Cmp.Lexicographic.{pointwise}
 use Rattle.base64.specs.GeneralPurpose.{IsBytes}
-use Rattle.rusty_paseto_parts.specs.Section.{sections, spelling}
+use Rattle.rusty_paseto_parts.specs.Section.{sections, base64url}
 use Rattle.rusty_paseto_parts.specs.UntrustedToken.{HasFooterText}
 
 -- a line of a name and what stands there
@@ -27,7 +27,7 @@ pub record SaysText (version section lines : List ℕ) : Type 0 where
   pub payload : List ℕ
   pub text : List ℕ
   pub bytes : IsBytes payload
-  pub spelled : section ≡ spelling payload
+  pub spelled : section ≡ base64url payload
   pub room : signature_length version ≤ length payload
   pub text_is : text ≡ take (length payload - signature_length version) payload
   pub lines_are : lines ≡ line (codes "text, not verified: ") text

@@ -12,7 +12,7 @@ ghost use Rattle.rusty_paseto_generic.specs.Parsers.Held.{rules_of, verdicts_of}
 ghost use Rattle.rusty_paseto_generic.specs.Parsers.Rules.{AreSame};
 ghost use Rattle.rusty_paseto_generic.specs.Parsers.Times.{times_at};
 ghost use Rattle.paseto.specs.Arguments.{claim_words, words_of};
-ghost use Rattle.paseto.specs.Check.{AreDemands, AreRules, begun_rules, IsJudgedAt, OpensClaims, ParsesByKey, UnboxesClaims, VerifiesAny, VerifiesClaims};
+ghost use Rattle.paseto.specs.Check.{AreDemands, AreRules, begun_rules, IsCheckedAt, OpensClaims, ParsesByKey, UnboxesClaims, VerifiesAny, VerifiesClaims};
 ghost use Rattle.paseto.specs.Checked.{ChecksBy, IsJsonLine, ParsesBy};
 ghost use Rattle.paseto.specs.Claims.{AreStored};
 ghost use Rattle.paseto.specs.Footers.{IsFooterOf};
@@ -29,7 +29,7 @@ use paseto_ed25519::Ed25519;
 use paseto_p384::P384;
 use paseto_xchacha20poly1305::XChaCha20Poly1305;
 use rusty_paseto::prelude::{
-    BoxlessVersion, CheckSetter, DefaultParser, Footer, Local, PasetoAsymmetricPublicKey,
+    CheckSetter, DefaultLocalVersion, DefaultParser, Footer, Local, PasetoAsymmetricPublicKey,
     PasetoParser, Public, PurposeTrait, V1, V2, V3, V4, VersionTrait,
 };
 use rusty_paseto_paserk::{
@@ -65,7 +65,7 @@ impl Demands {
         ensures { IfOk result (λ demands. AreDemands (claim_words (words_of words.now)) options.now now demands) }
     {
         Ok(Demands {
-            at: judged_at(options.at, now)?,
+            at: checked_at(options.at, now)?,
             claims: claims_of(alloc, words)?,
             footer: footer_of(alloc, options)?,
         })
@@ -111,9 +111,9 @@ fn first_parser<'d, V: VersionTrait, P: PurposeTrait>(
     Ok(parser)
 }
 
-/// The moment at which a token is judged.
-fn judged_at(word: Option<&str>, now: Timestamp) -> Result<Timestamp, ProgramError>
-    ensures { IfOk result (λ at. IsJudgedAt (option_map (λ text. text.now) word.entry) now at) }
+/// The moment at which a token is checked.
+fn checked_at(word: Option<&str>, now: Timestamp) -> Result<Timestamp, ProgramError>
+    ensures { IfOk result (λ at. IsCheckedAt (option_map (λ text. text.now) word.entry) now at) }
 {
     let Some(word) = word else {
         return Ok(now);
@@ -214,7 +214,7 @@ fn claims_by_key(
     }
 }
 
-fn opened<V: BoxlessVersion + KeyVersion>(
+fn opened<V: DefaultLocalVersion + KeyVersion>(
     alloc: Global,
     key: &str,
     demands: &Demands,

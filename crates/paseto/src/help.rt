@@ -34,7 +34,7 @@ const ISSUE: &str =
 const CHECK: &str =
     "  paseto check --key FILE | --ring FOLDER [--claim CLAIM].. [--at TIME] [--footer TEXT | --footer-kid ID] [INPUT]
       Prints the claims of a token that has not expired, as JSON, where it has these claims among them, and else says
-      why not. A ring is a folder of key files, of which the token's footer names one by its id. --at judges the token
+      why not. A ring is a folder of key files, of which the token's footer names one by its id. --at checks the token
       at another moment than the present one.
         paseto check --key office.key --claim aud=customers token
         paseto check --ring keys --at 2026-11-22T10:00:00Z < token

@@ -21,7 +21,7 @@ use paseto_p384::P384;
 use paseto_xchacha20poly1305::XChaCha20Poly1305;
 use rand_core::TryRng;
 use rusty_paseto::prelude::{
-    BoxlessVersion, CountingSetter, ExpirationClaim, Footer, Local, NotBeforeClaim,
+    CountingSetter, DefaultLocalVersion, ExpirationClaim, Footer, Local, NotBeforeClaim,
     PasetoAsymmetricPrivateKey, PasetoBuilder, Public, PurposeTrait, Signs, V1, V2, V3, V4,
     VersionTrait, fits_default,
 };
@@ -98,7 +98,7 @@ pub fn issue<G: TryRng>(
     }
 }
 
-fn sealed<V: BoxlessVersion + KeyVersion, G: TryRng>(
+fn sealed<V: DefaultLocalVersion + KeyVersion, G: TryRng>(
     alloc: Global,
     key: &str,
     order: &Order,

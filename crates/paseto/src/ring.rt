@@ -18,7 +18,7 @@ use paseto_ed25519::Ed25519;
 use paseto_p384::P384;
 use paseto_xchacha20poly1305::XChaCha20Poly1305;
 use rusty_paseto::prelude::{
-    BoxlessVersion, Key, KeyRing, Local, PasetoAsymmetricPublicKey, PasetoError, Public,
+    DefaultLocalVersion, Key, KeyRing, Local, PasetoAsymmetricPublicKey, PasetoError, Public,
     PublicKeyRing, UntrustedToken, V1, V2, V3, V4,
 };
 use rusty_paseto_paserk::{
@@ -52,7 +52,7 @@ pub fn claims_by_ring(
     }
 }
 
-fn opened<V: BoxlessVersion + KeyVersion>(
+fn opened<V: DefaultLocalVersion + KeyVersion>(
     alloc: Global,
     lines: &[String],
     demands: &Demands,

@@ -41,7 +41,7 @@ pub none_lent : {A : Type 0} (assertion : Option A) (bytes : List ℕ) → is_so
 none_lent None bytes same none = refl
 none_lent (Some a) bytes same none = absurd (false≢true (sym (rw none at same)))
 
--- want of memory stays want of memory
+-- a failed allocation stays one
 pub memory_refusal : (error : PasetoError) → IsMemory error → token_refusal error ≡ Memory
 memory_refusal (Token.Memory source) memory = refl
 memory_refusal error memory = absurd memory

@@ -13,7 +13,7 @@ use Rattle.rusty_paseto_claims.specs.Error.{Fault, expired, fault_of, unexpected
 use Rattle.rusty_paseto_claims.specs.Whole.{first_odd, is_whole}
 use Rattle.rusty_paseto_core.specs.Reading.{Reading}
 use Rattle.rusty_paseto_generic.specs.Error.Parser.{IsRefusal}
-use Rattle.rusty_paseto_generic.specs.Parsers.Held.{default_date, judged, rules_of, verdicts_of, with_times}
+use Rattle.rusty_paseto_generic.specs.Parsers.Held.{default_date, checked, rules_of, verdicts_of, with_times}
 use Rattle.rusty_paseto_generic.specs.Parsers.Parsing.{IsCheckFault, IsFirstFault, IsParseAnswer, IsParsed, IsTextFault, IsValueOf}
 use Rattle.rusty_paseto_generic.specs.Parsers.Rules.{AreSame, IsStored, Rule, Rules, edited, fault_in, no_rule, whole_answer, with_both, with_stored}
 use Rattle.rusty_paseto_generic.specs.Parsers.Verdicts.{IsFirstFailing, PassesAll}
@@ -22,8 +22,8 @@ use Rattle.rusty_paseto_generic.specs.Validator.{Verdict}
 use Rattle.rusty_paseto_generic.specs.declared.error.GenericParserError.{GenericParserError}
 use Rattle.rusty_paseto_generic.specs.declared.error.GenericParserError.TheVariants as Parser
 use Rattle.rusty_paseto_generic.specs.declared.parsers.checks.Checks.{Checks}
-use Rattle.rusty_paseto_generic.specs.declared.parsers.checks.Judge.{Judge}
-use Rattle.rusty_paseto_generic.specs.declared.parsers.checks.Judge.TheVariants.{Expiry, NotBefore}
+use Rattle.rusty_paseto_generic.specs.declared.parsers.checks.Checker.{Checker}
+use Rattle.rusty_paseto_generic.specs.declared.parsers.checks.Checker.TheVariants.{Expiry, NotBefore}
 use Rattle.rusty_paseto_generic.proofs.RuleLemmas.{edited-same}
 use Rattle.paseto_c.specs.Parse.{IsMemberFault, IsReadyFault, all_expected, expected_rules, nanoseconds, not_begun, not_expected, timed}
 use Rattle.paseto_c.specs.Refusal.{fault_refusal, parser_refusal}
@@ -98,34 +98,34 @@ member_unready found now refusal moment (inr fault) = inr (rw fault.1 (not_expec
 -- ---- the rules that are checked
 
 module _ {B : Type 0} (verdict : B → Verdict) (moment : Timestamp) where
-  edited_judged : (here : Bool) (value : Data) (old : Rule (Judge B)) (new : Rule Verdict) → judged verdict (times_at moment 0) old ≡ new
-      → judged verdict (times_at moment 0) (if here then with_stored value old else old) ≡ (if here then with_stored value new else new)
-  edited_judged true value old new same = ap (with_stored value) same
-  edited_judged false value old new same = same
+  edited_checked : (here : Bool) (value : Data) (old : Rule (Checker B)) (new : Rule Verdict) → checked verdict (times_at moment 0) old ≡ new
+      → checked verdict (times_at moment 0) (if here then with_stored value old else old) ≡ (if here then with_stored value new else new)
+  edited_checked true value old new same = ap (with_stored value) same
+  edited_checked false value old new same = same
 
-  all_judged : (found : Members) (old : Rules (Judge B)) (new : Rules Verdict) → ((key : List ℕ) → judged verdict (times_at moment 0) (old key) ≡ new key)
-      → (key : List ℕ) → judged verdict (times_at moment 0) (all_expected found old key) ≡ all_expected found new key
-  all_judged no_members old new same = same
-  all_judged (member name value more) old new same =
-      all_judged more (edited name (with_stored (one_member name value)) old) (edited name (with_stored (one_member name value)) new)
-      (λ key. edited_judged (bytes_eq name key) (one_member name value) (old key) (new key) (same key))
+  all_with_checkers : (found : Members) (old : Rules (Checker B)) (new : Rules Verdict) → ((key : List ℕ) → checked verdict (times_at moment 0) (old key) ≡ new key)
+      → (key : List ℕ) → checked verdict (times_at moment 0) (all_expected found old key) ≡ all_expected found new key
+  all_with_checkers no_members old new same = same
+  all_with_checkers (member name value more) old new same =
+      all_with_checkers more (edited name (with_stored (one_member name value)) old) (edited name (with_stored (one_member name value)) new)
+      (λ key. edited_checked (bytes_eq name key) (one_member name value) (old key) (new key) (same key))
 
   -- the times, where a key is or is not one of the two
-  times_judged : (before end : Bool)
-      → judged verdict (times_at moment 0) (if before then with_both NotBefore (default_date (codes "nbf")) (if end then with_both Expiry (default_date (codes "exp")) no_rule else no_rule)
+  times_checked : (before end : Bool)
+      → checked verdict (times_at moment 0) (if before then with_both NotBefore (default_date (codes "nbf")) (if end then with_both Expiry (default_date (codes "exp")) no_rule else no_rule)
       else (if end then with_both Expiry (default_date (codes "exp")) no_rule else no_rule))
       ≡ (if before then with_both (not_before (times_at moment 0)) (default_date (codes "nbf")) (if end then with_both (expiry (times_at moment 0)) (default_date (codes "exp")) no_rule else no_rule)
       else (if end then with_both (expiry (times_at moment 0)) (default_date (codes "exp")) no_rule else no_rule))
-  times_judged true true = refl
-  times_judged true false = refl
-  times_judged false true = refl
-  times_judged false false = refl
+  times_checked true true = refl
+  times_checked true false = refl
+  times_checked false true = refl
+  times_checked false false = refl
 
   -- what is expected, beside the times
-  pub expected_judged : (found : Members) (key : List ℕ)
-      → judged verdict (times_at moment 0) (all_expected found (with_times (λ name. no_rule)) key) ≡ expected_rules found moment key
-  expected_judged found = all_judged found (with_times (λ name. no_rule)) (timed moment)
-      (λ key. times_judged (bytes_eq (codes "nbf") key) (bytes_eq (codes "exp") key))
+  pub expected_checked : (found : Members) (key : List ℕ)
+      → checked verdict (times_at moment 0) (all_expected found (with_times (λ name. no_rule)) key) ≡ expected_rules found moment key
+  expected_checked found = all_with_checkers found (with_times (λ name. no_rule)) (timed moment)
+      (λ key. times_checked (bytes_eq (codes "nbf") key) (bytes_eq (codes "exp") key))
 
 -- the times as they are checked at so many nanoseconds
 abbrev expiry_at : ℤ → Verdict
@@ -192,13 +192,13 @@ module _ (r s : Rules Verdict) (same : AreSame r s) (back : AreSame s r) (readin
     fault = elim answer.fault [ inl memory ↦ inl memory | inr fault ↦ inr (fault_same r s same reading token error fault) ];
   }
 
--- the same answer where the times are judged with the same leeway
+-- the same answer where the times are checked with the same leeway
 same_leeway : {B : Type 0} (verdict : B → Verdict) (checks : Checks B) (moment : Timestamp) (leeway other : ℕ) (reading : Reading) (token : List ℕ)
     (result : Result Value GenericParserError) → leeway ≡ other → IsParseAnswer reading (verdicts_of verdict (times_at moment leeway) checks) token result
     → IsParseAnswer reading (verdicts_of verdict (times_at moment other) checks) token result
 same_leeway verdict checks moment leeway other reading token result is answer = rw (← is) answer
 
--- what a parser answers that expects the members, and judges at the moment with no leeway
+-- what a parser answers that expects the members, and checks at the moment with no leeway
 pub expected_answer : {B : Type 0} (verdict : B → Verdict) (checks : Checks B) (moment : Timestamp) (leeway : ℕ) (found : Members)
     (reading : Reading) (token : List ℕ) (result : Result Value GenericParserError) → leeway ≡ 0
     → AreSame (rules_of checks) (all_expected found (with_times (λ key. no_rule)))
@@ -206,6 +206,6 @@ pub expected_answer : {B : Type 0} (verdict : B → Verdict) (checks : Checks B)
     → IsParseAnswer reading (expected_rules found moment) token result
 expected_answer {B} verdict checks moment leeway found reading token result none same answer =
     let all : (key : List ℕ) → verdicts_of verdict (times_at moment 0) checks key ≡ expected_rules found moment key =
-    λ key. ap (judged verdict (times_at moment 0)) (same key) ∙ expected_judged verdict moment found key in
+    λ key. ap (checked verdict (times_at moment 0)) (same key) ∙ expected_checked verdict moment found key in
     answer_same (verdicts_of verdict (times_at moment 0) checks) (expected_rules found moment) all (λ key. sym (all key)) reading token result
     (same_leeway verdict checks moment leeway 0 reading token result none answer)

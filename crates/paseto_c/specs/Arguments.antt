@@ -40,7 +40,7 @@ pub record Makes (call : Call) (text : List ℕ) : Type 0 where
   pub makes : call.Makes text
 
 -- why the call makes no text, and the first reason of these: its key, its nonce, its texts, or what it finds then;
--- want of memory may come in place of any
+-- a failed allocation may come in place of any
 pub data Refuses (call : Call) : Refusal → Type 0 where
   no_memory : Refuses call Memory
   bad_key : ¬ call.HasKey → Refuses call InvalidKey

@@ -37,7 +37,7 @@ use std::alloc::Global;
 
 /// Opens a local token of version 4 under a key of 32 bytes, and answers its claims as compact JSON.
 ///
-/// The times are judged at the moment, which is in seconds after 1970-01-01T00:00:00Z. Each member of the JSON object
+/// The times are checked at the moment, which is in seconds after 1970-01-01T00:00:00Z. Each member of the JSON object
 /// `expected` is to be among the claims.
 ///
 /// Source: PASETO specification, "Version 4", "Decrypt".
@@ -95,7 +95,7 @@ pub extern "C" fn paseto_v4_public_parse(
     )
 }
 
-/// A parser that judges at so many seconds after 1970, or `InvalidMoment`.
+/// A parser that checks at so many seconds after 1970, or `InvalidMoment`.
 fn begin<'a, P: PurposeTrait, B: Drop>(
     alloc: Global,
     now: i64,
@@ -163,7 +163,7 @@ fn attach<'a, P: PurposeTrait, B: Drop>(
     }
 }
 
-/// A parser that judges at the moment, expects the members, and has the footer and the implicit assertion.
+/// A parser that checks at the moment, expects the members, and has the footer and the implicit assertion.
 fn ready<'a, P: PurposeTrait, B: Drop>(
     alloc: Global,
     members: Map<String, Value>,

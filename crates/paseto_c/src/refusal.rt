@@ -22,7 +22,7 @@ pub enum Refusal {
     NotUtf8,
     /// What is to be the text of a JSON object is none.
     NotObject,
-    /// The moment is one that no token can begin at or be judged by.
+    /// The moment is one that no token can begin at or be checked by.
     InvalidMoment,
     /// A token has not three or four sections, or its payload is too short.
     IncorrectSize,

@@ -11,7 +11,7 @@ use paseto_toys::keys::{Keys, SECRET};
 use paseto_toys::{Lenient, PlainBox};
 use rusty_paseto::prelude::{
     AudienceClaim, ClaimSetter, CustomClaim, GenericBuilder, Local, Public, PurposeTrait,
-    UnboxedVersion, V2, V4, VersionTrait,
+    GenericLocalVersion, V2, V4, VersionTrait,
 };
 use serde_json::{Map, Value};
 use std::alloc::Global;
@@ -117,7 +117,7 @@ fn ask_maps<W: Write>(run: &mut Run<W>, text: &str) -> Result<()> {
     Ok(())
 }
 
-fn ask_sealing<V: UnboxedVersion, W: Write>(
+fn ask_sealing<V: GenericLocalVersion, W: Write>(
     run: &mut Run<W>,
     kind: &str,
     text: &str,

@@ -16,7 +16,7 @@ use paseto_toys::generators::Zeros;
 use paseto_toys::keys::{Keys, SECRET};
 use paseto_toys::{Lenient, PlainBox};
 use rusty_paseto::prelude::{
-    AudienceClaim, BoxlessVersion, CheckSetter, CountingSetter, CustomClaim, Local, PasetoBuilder,
+    AudienceClaim, DefaultLocalVersion, CheckSetter, CountingSetter, CustomClaim, Local, PasetoBuilder,
     PasetoParser, Public, PurposeTrait, V2, V4, VersionTrait, fits_default,
 };
 use std::alloc::Global;
@@ -193,7 +193,7 @@ fn ask_times<W: Write>(run: &mut Run<W>) -> Result<()> {
     Ok(())
 }
 
-fn ask_local<V: BoxlessVersion, W: Write>(
+fn ask_local<V: DefaultLocalVersion, W: Write>(
     run: &mut Run<W>,
     kind: &str,
     text: &str,

@@ -11,7 +11,7 @@ use anyhow::Result;
 use paseto_toys::keys::{Keys, SECRET};
 use paseto_toys::{Lenient, PlainBox};
 use rusty_paseto::prelude::{
-    BoxlessVersion, Footer, GenericParser, Key, KeyRing, KeyRingError, Local, PasetoParser,
+    DefaultLocalVersion, Footer, GenericParser, Key, KeyRing, KeyRingError, Local, PasetoParser,
     PasetoSymmetricKey, Public, PublicKeyRing, V1, V2, V3, V4,
 };
 use std::alloc::Global;
@@ -24,7 +24,7 @@ const NEW: &str = "{\"kid\":\"new\"}";
 const OLD: &str = "{\"kid\":\"old\"}";
 
 /// A version whose rings open a token with no implicit assertion by one call.
-trait Opens: BoxlessVersion {
+trait Opens: DefaultLocalVersion {
     fn open_by(ring: &KeyRing<Self>, token: &str) -> Result<(String, String), KeyRingError>;
 }
 

@@ -15,7 +15,7 @@ use paseto_toys::keys::{Keys, SECRET};
 use paseto_toys::{Lenient, PlainBox};
 use rusty_paseto::prelude::{
     AudienceClaim, CheckSetter, CustomClaim, GenericParser, Local, Public, PurposeTrait,
-    UnboxedVersion, V2, V4, VersionTrait,
+    GenericLocalVersion, V2, V4, VersionTrait,
 };
 use std::alloc::Global;
 use std::io::Write;
@@ -153,7 +153,7 @@ fn ask_times<W: Write>(run: &mut Run<W>) -> Result<()> {
     Ok(())
 }
 
-fn ask_opening<V: UnboxedVersion, W: Write>(
+fn ask_opening<V: GenericLocalVersion, W: Write>(
     run: &mut Run<W>,
     kind: &str,
     payload: &str,

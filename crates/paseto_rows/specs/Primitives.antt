@@ -1,7 +1,7 @@
 -- When a row of a primitive agrees with the definitions.
 use Rattle.std.specs.Prelude.{◌≡◌, ℕ, List, Ok, length}
 use Rattle.hex.specs.Hex.{decode_of}
-use Rattle.rusty_paseto_primitives.specs.Keystream.{masked}
+use Rattle.rusty_paseto_primitives.specs.Keystream.{xored}
 use Rattle.rusty_paseto_primitives.specs.Blake2.Keyed.{blake2b}
 use Rattle.rusty_paseto_primitives.specs.Hkdf.{hkdf}
 use Rattle.rusty_paseto_primitives.specs.Hmac.{hmac}
@@ -15,7 +15,7 @@ pub record IsDigestRow (count : ℕ) (key message output : List ℕ) : Type 0 wh
   pub says_message : Says message message_bytes
   pub says_output : Says output (blake2b key_bytes count message_bytes)
 
--- the output is the data, masked by a cipher's stream of the key and the nonce
+-- the output is the data, xored by a cipher's stream of the key and the nonce
 pub record IsMaskingRow (stream : List ℕ → List ℕ → ℕ → ℕ) (key nonce input output : List ℕ) : Type 0 where
   pub key_bytes : List ℕ
   pub nonce_bytes : List ℕ
@@ -23,7 +23,7 @@ pub record IsMaskingRow (stream : List ℕ → List ℕ → ℕ → ℕ) (key no
   pub says_key : decode_of key ≡ Ok key_bytes
   pub says_nonce : decode_of nonce ≡ Ok nonce_bytes
   pub says_input : Says input input_bytes
-  pub says_output : Says output (masked (stream key_bytes nonce_bytes) input_bytes)
+  pub says_output : Says output (xored (stream key_bytes nonce_bytes) input_bytes)
 
 -- the output is the message's code under the key
 pub record IsCodeRow (key message output : List ℕ) : Type 0 where

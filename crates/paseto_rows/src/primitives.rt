@@ -2,7 +2,7 @@
 
 ghost use Rattle.std.specs.Prelude.{◌≡◌, ◌≤◌, IfOk};
 ghost use Rattle.rusty_paseto_primitives.specs.Hkdf.{hkdf};
-ghost use Rattle.rusty_paseto_primitives.specs.Keystream.{masked};
+ghost use Rattle.rusty_paseto_primitives.specs.Keystream.{xored};
 ghost use Rattle.rusty_paseto_primitives.specs.Aes.Counter.{aes256_ctr_stream};
 ghost use Rattle.rusty_paseto_primitives.specs.ChaCha.Stream.{xchacha20_stream};
 ghost use Rattle.paseto_rows.specs.Primitives.{IsCodeRow, IsDerivationRow, IsDigestRow, IsMaskingRow};
@@ -87,13 +87,13 @@ fn check_xchacha20(
     ensures { IfOk result (λ _. IsMaskingRow xchacha20_stream key.now nonce.now «data».now output.now) }
 {
     let (key, nonce) = (array_of(key)?, array_of(nonce)?);
-    let masked = masked(&key, &nonce, bytes_of(alloc, data)?);
-    compare(&masked, &bytes_of(alloc, output)?)
+    let xored = xored(&key, &nonce, bytes_of(alloc, data)?);
+    compare(&xored, &bytes_of(alloc, output)?)
 }
 
 /// The input, encrypted by XChaCha20.
-fn masked(key: &[u8; 32], nonce: &[u8; 24], input: Vec<u8>) -> Vec<u8>
-    ensures { result.items ≡ masked (xchacha20_stream key.now nonce.now) input.items }
+fn xored(key: &[u8; 32], nonce: &[u8; 24], input: Vec<u8>) -> Vec<u8>
+    ensures { result.items ≡ xored (xchacha20_stream key.now nonce.now) input.items }
 {
     let mut output = input;
     xchacha20_apply(key, nonce, &mut output);
@@ -125,7 +125,7 @@ fn check_aes256_ctr(
 
 /// The input, encrypted by AES-256 in counter mode.
 fn encrypted(key: &[u8; 32], counter: &[u8; 16], input: Vec<u8>) -> Vec<u8>
-    ensures { result.items ≡ masked (aes256_ctr_stream key.now counter.now) input.items }
+    ensures { result.items ≡ xored (aes256_ctr_stream key.now counter.now) input.items }
 {
     let mut output = input;
     aes256_ctr_apply(key, counter, &mut output);

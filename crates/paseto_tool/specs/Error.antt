@@ -24,7 +24,7 @@ text_of (Memory _) = codes "No memory was found"
 abbrev pub line_of : ToolError → List ℕ
 line_of error = text_of error ++ 10 ∷ []
 
--- want of memory is the program's own error, wherever it came
+-- a failed allocation is the program's own error, wherever it came
 abbrev pub tool_error_of : PasetoError → ToolError
 tool_error_of (NoMemory source) = Memory source
 tool_error_of error = Refused error

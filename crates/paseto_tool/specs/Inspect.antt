@@ -28,7 +28,7 @@ pub record Inspects (token lines : List ℕ) : Type 0 where
   pub has_text : HasFooterText (slice_get (sections token) 3) text
   pub lines_are : lines ≡ lines_of (sections token) text
 
--- why nothing is printed of a token: its sections or its footer, or want of memory
+-- why nothing is printed of a token: its sections or its footer, or a failed allocation
 abbrev pub IsInspectionReason : List ℕ → ToolError → Type 0
 IsInspectionReason token (Refused error) = IsTokenFooterFault (sections token) error
 IsInspectionReason token (Memory _) = ⊤

@@ -45,7 +45,7 @@ pub(crate) const NUMBERS: &str = concat!(
 );
 
 // The section spells the bytes.
-fn check_spelling(rt: &impl Abort, alloc: Global, section: &str, bytes: &[u8]) {
+fn check_base64url(rt: &impl Abort, alloc: Global, section: &str, bytes: &[u8]) {
     let found = from_section(alloc, section).expect(rt, "bytes");
     expect_bytes(rt, found.as_slice(), bytes);
     let spelled = to_section(alloc, bytes).expect(rt, "a section");
@@ -55,10 +55,10 @@ fn check_spelling(rt: &impl Abort, alloc: Global, section: &str, bytes: &[u8]) {
 #[test]
 fn spellings(rt: HostRuntime) {
     let numbers: [u8; 48] = array_of(&rt, NUMBERS);
-    check_spelling(&rt, rt.alloc(), CHARACTERS, &numbers);
-    check_spelling(&rt, rt.alloc(), "Zm9vdGVy", "footer".as_bytes());
-    check_spelling(&rt, rt.alloc(), "", &[]);
-    laws::equal_spellings("foo".as_bytes(), "fop".as_bytes());
+    check_base64url(&rt, rt.alloc(), CHARACTERS, &numbers);
+    check_base64url(&rt, rt.alloc(), "Zm9vdGVy", "footer".as_bytes());
+    check_base64url(&rt, rt.alloc(), "", &[]);
+    laws::equal_base64url("foo".as_bytes(), "fop".as_bytes());
 }
 
 #[test]
@@ -69,7 +69,7 @@ fn a_section_at_the_end(rt: HostRuntime) {
 }
 
 #[test]
-fn compared_spellings(rt: HostRuntime) {
+fn compared_texts_of_bytes(rt: HostRuntime) {
     let numbers: [u8; 48] = array_of(&rt, NUMBERS);
     assert!(rt; is_section_of(CHARACTERS, &numbers));
     assert!(rt; is_section_of("Zm9vdGVy", "footer".as_bytes()));
@@ -105,7 +105,7 @@ const OTHER_SPELLINGS: &[&str] = &[
 ];
 
 #[test]
-fn other_spellings(rt: HostRuntime) {
+fn other_texts_of_bytes(rt: HostRuntime) {
     'texts: for &text in OTHER_SPELLINGS {
         let answer = from_section(rt.alloc(), text);
         let is_named = matches!(answer, Err(PasetoError::PayloadBase64Decode { .. }));

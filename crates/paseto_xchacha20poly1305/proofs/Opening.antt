@@ -1,18 +1,18 @@
--- What the box opens: a masked message and its tag, and nothing else.
+-- What the box opens: a xored message and its tag, and nothing else.
 use Rattle.std.proofs.Common.{◌≡◌, ◌≢◌, ℕ, ◌+◌, ◌-◌, ◌<◌, ◌≤◌, List, ◌++◌, Some, None, length, take, drop, refl, sym, ap, ◌∙◌, arith, length-append}
 use Rattle.std.proofs.lemmas.Bool.{le-leb, lt-leb}
 use Rattle.std.proofs.lemmas.List.{take_at, drop_at, take-append-drop, length-take-le}
 use Rattle.rusty_paseto_primitives.specs.Bytes.{IsBytes}
 use Rattle.rusty_paseto_primitives.proofs.ByteLists.{IsBytes-take}
 use Rattle.rusty_paseto_core.specs.Local.SealedBox.{IsOpening}
-use Rattle.paseto_xchacha20poly1305.specs.Sealing.{box_sealing, masked_text, text_tag}
-use Rattle.paseto_xchacha20poly1305.specs.SealingLaws.{box_sealing-parts, IsBytes-masked_text, length-masked_text, length-text_tag, masked_text-twice}
+use Rattle.paseto_xchacha20poly1305.specs.Sealing.{box_sealing, xored_text, text_tag}
+use Rattle.paseto_xchacha20poly1305.specs.SealingLaws.{box_sealing-parts, IsBytes-xored_text, length-xored_text, length-text_tag, xored_text-twice}
 
 module _ (key nonce associated : List ℕ) where
   -- a message that is not too long
   pub box_sealing-Some : (message : List ℕ) → length message ≤ 274877906880
       → box_sealing key nonce associated message
-      ≡ Some (masked_text key nonce message ++ text_tag key nonce associated (masked_text key nonce message))
+      ≡ Some (xored_text key nonce message ++ text_tag key nonce associated (xored_text key nonce message))
   unfolding box_sealing
   box_sealing-Some message fits = rw (le-leb (length message) 274877906880 fits) refl
 
@@ -23,12 +23,12 @@ module _ (key nonce associated : List ℕ) where
 
   length-boxed : (message boxed : List ℕ) → box_sealing key nonce associated message ≡ Some boxed → length boxed ≡ length message + 16
   length-boxed message boxed is =
-      let text = masked_text key nonce message in
+      let text = xored_text key nonce message in
       let whole = (box_sealing-parts key nonce associated message boxed is).1 in
       omega (
         arith,
         length-append text (text_tag key nonce associated text),
-        length-masked_text key nonce message,
+        length-xored_text key nonce message,
         length-text_tag key nonce associated text,
         ap length whole,
       )
@@ -45,10 +45,10 @@ module _ (key nonce associated : List ℕ) where
     pub other_tag : text_tag key nonce associated (take (length boxed - 16) boxed) ≢ drop (length boxed - 16) boxed
         → IsOpening (box_sealing key nonce associated) boxed None
     other_tag differs message bytes is =
-        let text = masked_text key nonce message in
+        let text = xored_text key nonce message in
         let whole = (box_sealing-parts key nonce associated message boxed is).1 in
         let end : length text ≡ length boxed - 16 =
-        omega (arith, length-boxed message boxed is, length-masked_text key nonce message) in
+        omega (arith, length-boxed message boxed is, length-xored_text key nonce message) in
         let front : take (length boxed - 16) boxed ≡ text =
         rw (← whole) (take_at text (text_tag key nonce associated text) _ (rw whole end)) in
         let back : drop (length boxed - 16) boxed ≡ text_tag key nonce associated text =
@@ -58,13 +58,13 @@ module _ (key nonce associated : List ℕ) where
     -- bytes that end in their tag
     pub own_tag : 16 ≤ length boxed → length boxed ≤ 274877906896 → IsBytes boxed
         → text_tag key nonce associated (take (length boxed - 16) boxed) ≡ drop (length boxed - 16) boxed
-        → IsOpening (box_sealing key nonce associated) boxed (Some (masked_text key nonce (take (length boxed - 16) boxed)))
+        → IsOpening (box_sealing key nonce associated) boxed (Some (xored_text key nonce (take (length boxed - 16) boxed)))
     own_tag low high bytes same =
         let text = take (length boxed - 16) boxed in
-        let message = masked_text key nonce text in
+        let message = xored_text key nonce text in
         let len : length message ≡ length boxed - 16 =
-        length-masked_text key nonce text ∙ length-take-le (length boxed - 16) boxed (omega arith) in
+        length-xored_text key nonce text ∙ length-take-le (length boxed - 16) boxed (omega arith) in
         let sealing = box_sealing-Some message (omega arith) in
-        let whole : masked_text key nonce message ++ text_tag key nonce associated (masked_text key nonce message) ≡ boxed =
-        rw (masked_text-twice key nonce text, same) (take-append-drop (length boxed - 16) boxed) in
-        (IsBytes-masked_text key nonce text (IsBytes-take (length boxed - 16) boxed bytes), rw whole at sealing)
+        let whole : xored_text key nonce message ++ text_tag key nonce associated (xored_text key nonce message) ≡ boxed =
+        rw (xored_text-twice key nonce text, same) (take-append-drop (length boxed - 16) boxed) in
+        (IsBytes-xored_text key nonce text (IsBytes-take (length boxed - 16) boxed bytes), rw whole at sealing)

@@ -2,7 +2,7 @@
 -- draft-irtf-cfrg-xchacha, section 2).
 use Rattle.std.specs.Prelude.{ℕ, ◌-◌, ◌%◌, List, ◌++◌, Some, None, length, replicate, nat_le, if◌then◌else◌}
 use Rattle.std.specs.Int.{w64, to_le_bytes}
-use Rattle.rusty_paseto_primitives.specs.Keystream.{masked, masked_from}
+use Rattle.rusty_paseto_primitives.specs.Keystream.{xored, xored_from}
 use Rattle.rusty_paseto_primitives.specs.ChaCha.Stream.{xchacha20_stream}
 use Rattle.rusty_paseto_core.specs.Local.SealedBox.{BoxSealing}
 use Rattle.paseto_xchacha20poly1305.specs.Tag.{poly1305}
@@ -18,19 +18,19 @@ tagged_data associated text =
 
 -- the first 32 bytes of the keystream
 unfoldable pub one_time_key : List ℕ → List ℕ → List ℕ
-one_time_key key nonce = masked (xchacha20_stream key nonce) (replicate 32 0)
+one_time_key key nonce = xored (xchacha20_stream key nonce) (replicate 32 0)
 
 -- the bytes under the keystream from its block 1 on
-unfoldable pub masked_text : List ℕ → List ℕ → List ℕ → List ℕ
-masked_text key nonce bytes = masked_from (xchacha20_stream key nonce) 64 bytes
+unfoldable pub xored_text : List ℕ → List ℕ → List ℕ → List ℕ
+xored_text key nonce bytes = xored_from (xchacha20_stream key nonce) 64 bytes
 
--- the tag of masked text
+-- the tag of xored text
 unfoldable pub text_tag : List ℕ → List ℕ → List ℕ → List ℕ → List ℕ
 text_tag key nonce associated text = poly1305 (one_time_key key nonce) (tagged_data associated text)
 
--- the masked message and its tag behind it; there is none for a message of 2 ^ 32 blocks or more
+-- the xored message and its tag behind it; there is none for a message of 2 ^ 32 blocks or more
 unfoldable pub box_sealing : BoxSealing
 box_sealing key nonce associated message =
     if nat_le (length message) 274877906880
-    then Some (masked_text key nonce message ++ text_tag key nonce associated (masked_text key nonce message))
+    then Some (xored_text key nonce message ++ text_tag key nonce associated (xored_text key nonce message))
     else None

@@ -4,14 +4,14 @@ use Rattle.std.specs.Prelude.{nat_le}
 use Rattle.std.proofs.lemmas.Bool.{leb-true}
 use Rattle.std.specs.Int.{w128, to_le_bytes}
 use Rattle.rusty_paseto_primitives.specs.Bytes.{IsBytes}
-use Rattle.rusty_paseto_primitives.proofs.Masking.{IsBytes-masked_from, length-masked_from, masked_from-twice}
+use Rattle.rusty_paseto_primitives.proofs.Xored.{IsBytes-xored_from, length-xored_from, xored_from-twice}
 use Rattle.rusty_paseto_primitives.proofs.StreamBlocks.{xchacha20_stream-lt}
 use Rattle.rusty_paseto_primitives.proofs.ByteLists.{IsBytes-append}
 use Rattle.rusty_paseto_parts.proofs.PaeLemmas.{append_parts}
 use Rattle.rusty_paseto_primitives.specs.ChaCha.Stream.{xchacha20_stream}
 use Rattle.rusty_paseto_core.specs.Local.SealedBox.{IsLawfulBox}
 use Rattle.paseto_xchacha20poly1305.specs.Tag.{poly1305}
-use Rattle.paseto_xchacha20poly1305.specs.Sealing.{box_sealing, masked_text, text_tag}
+use Rattle.paseto_xchacha20poly1305.specs.Sealing.{box_sealing, xored_text, text_tag}
 
 IsBytes-number : (n : ℕ) → IsBytes (to_le_bytes w128 n)
 IsBytes-number n zero = omega arith
@@ -37,17 +37,17 @@ chosen true x y e = let same : x ≡ y = cc in (refl, same)
 chosen false x y e = cc
 
 module _ (key nonce : List ℕ) where
-  pub masked_text-twice : (bytes : List ℕ) → masked_text key nonce (masked_text key nonce bytes) ≡ bytes
-  unfolding masked_text
-  masked_text-twice bytes = masked_from-twice (xchacha20_stream key nonce) 64 bytes
+  pub xored_text-twice : (bytes : List ℕ) → xored_text key nonce (xored_text key nonce bytes) ≡ bytes
+  unfolding xored_text
+  xored_text-twice bytes = xored_from-twice (xchacha20_stream key nonce) 64 bytes
 
-  pub length-masked_text : (bytes : List ℕ) → length (masked_text key nonce bytes) ≡ length bytes
-  unfolding masked_text
-  length-masked_text bytes = length-masked_from (xchacha20_stream key nonce) 64 bytes
+  pub length-xored_text : (bytes : List ℕ) → length (xored_text key nonce bytes) ≡ length bytes
+  unfolding xored_text
+  length-xored_text bytes = length-xored_from (xchacha20_stream key nonce) 64 bytes
 
-  pub IsBytes-masked_text : (bytes : List ℕ) → IsBytes bytes → IsBytes (masked_text key nonce bytes)
-  unfolding masked_text
-  IsBytes-masked_text bytes all = IsBytes-masked_from (xchacha20_stream key nonce) 64 bytes (xchacha20_stream-lt key nonce) all
+  pub IsBytes-xored_text : (bytes : List ℕ) → IsBytes bytes → IsBytes (xored_text key nonce bytes)
+  unfolding xored_text
+  IsBytes-xored_text bytes all = IsBytes-xored_from (xchacha20_stream key nonce) 64 bytes (xchacha20_stream-lt key nonce) all
 
   module _ (associated : List ℕ) where
     pub length-text_tag : (text : List ℕ) → length (text_tag key nonce associated text) ≡ 16
@@ -58,10 +58,10 @@ module _ (key nonce : List ℕ) where
     unfolding text_tag poly1305
     IsBytes-text_tag text = IsBytes-number _
 
-    -- a message that has a sealing is not too long, and its sealing is the masked message and its tag
+    -- a message that has a sealing is not too long, and its sealing is the xored message and its tag
     pub box_sealing-parts : (message boxed : List ℕ) → box_sealing key nonce associated message ≡ Some boxed
         → (length message ≤ 274877906880)
-        × (masked_text key nonce message ++ text_tag key nonce associated (masked_text key nonce message) ≡ boxed)
+        × (xored_text key nonce message ++ text_tag key nonce associated (xored_text key nonce message) ≡ boxed)
     unfolding box_sealing
     box_sealing-parts message boxed e =
         let found = chosen (nat_le (length message) 274877906880) _ boxed e in
@@ -70,8 +70,8 @@ module _ (key nonce : List ℕ) where
 pub box-IsLawful : IsLawfulBox box_sealing
 box-IsLawful = record {
   injective = λ key nonce associated first second boxed asked first_bytes second_bytes first_is second_is.
-      let a = masked_text key nonce first in
-      let b = masked_text key nonce second in
+      let a = xored_text key nonce first in
+      let b = xored_text key nonce second in
       let same = (box_sealing-parts key nonce associated first boxed first_is).1
       ∙ sym (box_sealing-parts key nonce associated second boxed second_is).1 in
       let lengths : length a ≡ length b =
@@ -83,12 +83,12 @@ box-IsLawful = record {
         length-text_tag key nonce associated b,
         ap length same,
       ) in
-      sym (masked_text-twice key nonce first)
-      ∙ ap (masked_text key nonce) (append_parts a b (text_tag key nonce associated a) (text_tag key nonce associated b) lengths same).0
-      ∙ masked_text-twice key nonce second;
+      sym (xored_text-twice key nonce first)
+      ∙ ap (xored_text key nonce) (append_parts a b (text_tag key nonce associated a) (text_tag key nonce associated b) lengths same).0
+      ∙ xored_text-twice key nonce second;
   bytes = λ key nonce associated message boxed asked message_bytes is.
-      let text = masked_text key nonce message in
+      let text = xored_text key nonce message in
       let whole : IsBytes (text ++ text_tag key nonce associated text) =
-      IsBytes-append text (text_tag key nonce associated text) (IsBytes-masked_text key nonce message message_bytes) (IsBytes-text_tag key nonce associated text) in
+      IsBytes-append text (text_tag key nonce associated text) (IsBytes-xored_text key nonce message message_bytes) (IsBytes-text_tag key nonce associated text) in
       rw (box_sealing-parts key nonce associated message boxed is).1 at whole;
 }

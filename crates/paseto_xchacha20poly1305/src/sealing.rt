@@ -2,7 +2,7 @@
 
 ghost use Rattle.std.specs.Prelude.{◌≡◌, ◌++◌, ◌-◌, ◌%◌, ℕ, List, length, replicate};
 ghost use Rattle.paseto_xchacha20poly1305.specs.Hasher.{Holds};
-ghost use Rattle.paseto_xchacha20poly1305.specs.Sealing.{box_sealing, masked_text, one_time_key, text_tag};
+ghost use Rattle.paseto_xchacha20poly1305.specs.Sealing.{box_sealing, xored_text, one_time_key, text_tag};
 ghost use Rattle.paseto_xchacha20poly1305.specs.SealingLaws.{box-IsLawful};
 
 use super::hasher::Poly1305Hasher;

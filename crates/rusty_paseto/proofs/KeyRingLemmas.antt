@@ -20,7 +20,7 @@ pub bound_text : (expected : Option Footer) (own : Footer) → footer_text (unwr
 bound_text (Some other) own = refl
 bound_text None own = refl
 
--- an error that is not want of memory is handed on
+-- an error that is not a failed allocation is handed on
 pub handed_on : (source known : PasetoError) (handed error : KeyRingError) → source ≡ known → ¬ IsMemoryOfCipher known → IsHandedOn source handed error → error ≡ handed
 handed_on source known handed error same none (inl both) = absurd (none (subst IsMemoryOfCipher same both.0))
 handed_on source known handed error same none (inr other) = other.1

@@ -189,7 +189,7 @@ IsUntrustedFault token (Untrusted source) = (¬ IsMemoryOfCipher source) × IsTo
 IsUntrustedFault token NoFooter = HasFooter token None
 IsUntrustedFault token _ = ⊥
 
--- the error for one of the core, which is handed on in this variant: want of memory stays want of memory
+-- the error for one of the core, which is handed on in this variant: a failed allocation stays one
 abbrev pub IsHandedOn : PasetoError → KeyRingError → KeyRingError → Type 0
 IsHandedOn source handed error = (IsMemoryOfCipher source × IsMemory error) ⊎ ((¬ IsMemoryOfCipher source) × (error ≡ handed))
 

@@ -27,7 +27,7 @@ pub enum GeneralPasetoError {
 
 /// Why a key ring took no key, or opened no token.
 ///
-/// The variants stand in the order in which a token is judged: its footer, what the footer names, and then the
+/// The variants stand in the order in which a token is checked: its footer, what the footer names, and then the
 /// token itself.
 #[derive(Debug, Drop, Error)]
 pub enum KeyRingError {
@@ -77,7 +77,7 @@ impl From<AllocError> for KeyRingError {
 
 /// Why a key ring answered no claims for a token.
 ///
-/// The variants stand in the order in which a token is judged.
+/// The variants stand in the order in which a token is checked.
 #[derive(Debug, Drop, Error)]
 pub enum KeyRingParserError {
     /// The ring opened no token. Never `KeyRingError::Memory`.

@@ -9,7 +9,7 @@ pub use rusty_paseto_generic::{
     PasetoAsymmetricPublicKey, PasetoClaim, PasetoClaimError, PasetoError, PasetoNonce,
     PasetoSymmetricKey, Payload, PreAuthenticationEncoding, Public, PublicVersion, PurposeTrait,
     ReservedKey, SealedBox, SignatureScheme, Signs, Subject, SubjectClaim, TagCollision, TextClaim,
-    TokenIdentifier, TokenIdentifierClaim, TokenParser, UnboxedVersion, UntrustedToken, V1, V1orV3,
+    TokenIdentifier, TokenIdentifierClaim, TokenParser, GenericLocalVersion, UntrustedToken, V1, V1orV3,
     V2, V2orV4, V3, V4, Validator, ValidatorFn, ValidatorMap, Verifies, VersionTrait, from_section,
     is_whole, odd_key, same_value, split_token, to_section,
 };

@@ -30,4 +30,4 @@ pub use moment::fits_default;
 pub use paseto_builder::PasetoBuilder;
 pub use paseto_parser::{DefaultParser, PasetoParser};
 pub use setter::CountingSetter;
-pub use version::{AssertingVersion, BoxlessVersion};
+pub use version::{DefaultAssertionVersion, DefaultLocalVersion};

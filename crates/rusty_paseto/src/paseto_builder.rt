@@ -17,7 +17,7 @@ ghost use Rattle.rusty_paseto.specs.PasetoBuilder.{IsDefaultClaims, IsDuplicate,
 use crate::keys::Keys;
 use crate::moment::{hour_after, text_of};
 use crate::setter::CountingSetter;
-use crate::version::BoxlessVersion;
+use crate::version::DefaultLocalVersion;
 use jiff::Timestamp;
 use rand_core::TryRng;
 use rusty_paseto_core::{
@@ -171,7 +171,7 @@ impl<'a, V: ImplicitAssertionCapable, P: PurposeTrait> PasetoBuilder<'a, V, P> {
     }
 }
 
-impl<V: BoxlessVersion> PasetoBuilder<'_, V, Local> {
+impl<V: DefaultLocalVersion> PasetoBuilder<'_, V, Local> {
     /// Seals the payload of the claims, as `try_encrypt` of a `GenericBuilder` does.
     ///
     /// `DuplicateTopLevelPayloadClaim` comes for the last key that was set again, before the generator is

@@ -6,12 +6,12 @@ ghost use Rattle.rusty_paseto_core.specs.Local.Boxed.{box_opening};
 ghost use Rattle.rusty_paseto_core.specs.Local.Opening.{opening};
 ghost use Rattle.rusty_paseto_core.specs.Public.Verifying.{verification};
 ghost use Rattle.rusty_paseto_generic.specs.Error.Parser.{IsMemory};
-ghost use Rattle.rusty_paseto_generic.specs.Parsers.Held.{judges_of, rules_of, verdicts_of, with_times};
+ghost use Rattle.rusty_paseto_generic.specs.Parsers.Held.{checkers_of, rules_of, verdicts_of, with_times};
 ghost use Rattle.rusty_paseto_generic.specs.Parsers.Times.{times_at};
 ghost use Rattle.rusty_paseto_generic.specs.Parsers.Parsing.{IsParseAnswer, assertion_in};
-ghost use Rattle.rusty_paseto_generic.specs.Parsers.Rules.{AreSame, all_judged, no_rule};
+ghost use Rattle.rusty_paseto_generic.specs.Parsers.Rules.{AreSame, all_with_checkers, no_rule};
 
-use crate::version::BoxlessVersion;
+use crate::version::DefaultLocalVersion;
 use jiff::Timestamp;
 use rusty_paseto_core::{
     Footer, ImplicitAssertion, ImplicitAssertionCapable, Local, PasetoAsymmetricPublicKey,
@@ -77,7 +77,7 @@ impl<'a, V: VersionTrait, P: PurposeTrait, B: Drop> DefaultParser<'a, V, P, B> {
         Ok(DefaultParser { parser })
     }
 
-    /// Sets the moment at which the times are judged, and keeps the rest. It changes no answer of a parser that
+    /// Sets the moment at which the times are checked, and keeps the rest. It changes no answer of a parser that
     /// checks no times. No memory is taken.
     pub fn set_now(&mut self, now: Timestamp) -> &mut Self
         ensures lent { result.ghost_name ≡ self.entry.ghost_name }
@@ -133,7 +133,7 @@ impl<'a, V: VersionTrait, P: PurposeTrait, B: Drop> CheckSetter<B> for DefaultPa
     }
 
     fn put_validators(&mut self, validators: BTreeMap<String, B>) -> Result<(), GenericParserError>
-        ensures ok { OnOk result (AreSame (rules_of self.new.parser.checks) (all_judged (judges_of validators.entries) (rules_of self.old.parser.checks))) }
+        ensures ok { OnOk result (AreSame (rules_of self.new.parser.checks) (all_with_checkers (checkers_of validators.entries) (rules_of self.old.parser.checks))) }
         ensures moment { self.new.parser.moment ≡ self.old.parser.moment }
         ensures rest { (self.new.parser.footer ≡ self.old.parser.footer)
             × (self.new.parser.implicit_assertion ≡ self.old.parser.implicit_assertion)
@@ -164,7 +164,7 @@ impl<'a, V: ImplicitAssertionCapable, P: PurposeTrait, B: Drop> DefaultParser<'a
     }
 }
 
-impl<V: BoxlessVersion> DefaultParser<'_, V, Local, ValidatorFn> {
+impl<V: DefaultLocalVersion> DefaultParser<'_, V, Local, ValidatorFn> {
     /// Opens a token and answers the value of its text, which passes all checks, as `parse` of a `GenericParser`
     /// does, at the parser's moment and with the same faults in the same order.
     ///

@@ -1,13 +1,13 @@
 //! Validators that stand ready, for what services ask of a claim.
 //!
-//! Each is handed in boxed, with the claim whose key it judges:
+//! Each is handed in boxed, with the claim whose key it checks:
 //!
 //! ```rust
 //! let seats = CustomClaim::try_from_str(alloc, "seats", 0u64)?;
 //! parser.validate_claim(&seats, Box::new(alloc, AtMost(8))?)?;
 //! ```
 //!
-//! The value of that claim is not compared: where a key has a validator, it judges alone. A value that is not there, or
+//! The value of that claim is not compared: where a key has a validator, it checks alone. A value that is not there, or
 //! null, is `Missing` with the key; one of another kind than the validator is for is `Unexpected`; one that may not
 //! stand there is `CustomValidation`.
 //!

@@ -12,7 +12,7 @@ use Rattle.rusty_paseto_parts.proofs.PaeLemmas.{FitsLength, pae-injective}
 use Rattle.rusty_paseto_core.specs.Context.{Binding}
 use Rattle.rusty_paseto_core.specs.Local.{Design, IsLawful, header}
 use Rattle.rusty_paseto_core.specs.Local.Sealing.{pieces}
-use Rattle.rusty_paseto_core.specs.Local.TagCollision.{Case, CollisionsShow, Content, IsTagOfTwo, Vouched, encoding, tag_key, vouched}
+use Rattle.rusty_paseto_core.specs.Local.TagCollision.{Case, CollisionsShow, Content, IsTagOfTwo, Covered, encoding, tag_key, covered}
 use Rattle.rusty_paseto_core.specs.Local.V1.{v1}
 use Rattle.rusty_paseto_core.specs.Local.V1Laws.{v1-IsLawful}
 use Rattle.rusty_paseto_core.specs.Local.V3.{v3}
@@ -33,58 +33,58 @@ unfolding pae
 encoding_fits parts fits =
     pieces_fit parts (omega (arith, length-append (le64 (length parts)) (flat_map encoded_piece parts)))
 
-few_of : (binds : Bool) (front nonce masked footer assertion : List ℕ)
-    → length (front ∷ nonce ∷ masked ∷ footer ∷ (if binds then assertion ∷ [] else [])) < 2 ^ 64
-few_of true front nonce masked footer assertion = lit≤ tt
-few_of false front nonce masked footer assertion = lit≤ tt
+few_of : (binds : Bool) (front nonce ciphertext footer assertion : List ℕ)
+    → length (front ∷ nonce ∷ ciphertext ∷ footer ∷ (if binds then assertion ∷ [] else [])) < 2 ^ 64
+few_of true front nonce ciphertext footer assertion = lit≤ tt
+few_of false front nonce ciphertext footer assertion = lit≤ tt
 
-few : (design : Design) (binding : Binding) (nonce masked : List ℕ) → length (pieces design binding nonce masked) < 2 ^ 64
-few design binding nonce masked = few_of design.binds_assertion (header design) nonce masked binding.footer binding.assertion
+few : (design : Design) (binding : Binding) (nonce ciphertext : List ℕ) → length (pieces design binding nonce ciphertext) < 2 ^ 64
+few design binding nonce ciphertext = few_of design.binds_assertion (header design) nonce ciphertext binding.footer binding.assertion
 
 -- equal encodings that fit are of equal pieces
-pieces_alike : (design : Design) (one other : Binding) (nonce masked other_nonce other_masked : List ℕ)
-    → length (pae (pieces design one nonce masked)) < 2 ^ 64 → length (pae (pieces design other other_nonce other_masked)) < 2 ^ 64
-    → pae (pieces design one nonce masked) ≡ pae (pieces design other other_nonce other_masked)
-    → pieces design one nonce masked ≡ pieces design other other_nonce other_masked
-pieces_alike design one other nonce masked other_nonce other_masked fits other_fits same =
-    pae-injective (pieces design one nonce masked) (pieces design other other_nonce other_masked)
-    (few design one nonce masked) (few design other other_nonce other_masked)
+pieces_alike : (design : Design) (one other : Binding) (nonce ciphertext other_nonce other_ciphertext : List ℕ)
+    → length (pae (pieces design one nonce ciphertext)) < 2 ^ 64 → length (pae (pieces design other other_nonce other_ciphertext)) < 2 ^ 64
+    → pae (pieces design one nonce ciphertext) ≡ pae (pieces design other other_nonce other_ciphertext)
+    → pieces design one nonce ciphertext ≡ pieces design other other_nonce other_ciphertext
+pieces_alike design one other nonce ciphertext other_nonce other_ciphertext fits other_fits same =
+    pae-injective (pieces design one nonce ciphertext) (pieces design other other_nonce other_ciphertext)
+    (few design one nonce ciphertext) (few design other other_nonce other_ciphertext)
     (encoding_fits _ fits) (encoding_fits _ other_fits) same
 
 -- ---- two keys, or two encodings, or a split
 
-vouched_alike : (key other_key text other_text footer other_footer : List ℕ) (assertion other_assertion : List (List ℕ))
+covered_alike : (key other_key text other_text footer other_footer : List ℕ) (assertion other_assertion : List (List ℕ))
     → key ≡ other_key → text ≡ other_text → footer ≡ other_footer → assertion ≡ other_assertion
-    → (let one : Vouched = record { key = key; text = text; footer = footer; assertion = assertion } in one)
+    → (let one : Covered = record { key = key; text = text; footer = footer; assertion = assertion } in one)
     ≡ record { key = other_key; text = other_text; footer = other_footer; assertion = other_assertion }
-vouched_alike key other_key text other_text footer other_footer assertion other_assertion a b c d = rw (a, b, c, d) refl
+covered_alike key other_key text other_text footer other_footer assertion other_assertion a b c d = rw (a, b, c, d) refl
 
 module _ (design : Design) (law : IsLawful design) where
-  -- one mask of two texts
-  text_alike : (key nonce text other_text : List ℕ) → design.mask key nonce text ≡ design.mask key nonce other_text → text ≡ other_text
+  -- one apply_keystream of two texts
+  text_alike : (key nonce text other_text : List ℕ) → design.apply_keystream key nonce text ≡ design.apply_keystream key nonce other_text → text ≡ other_text
   text_alike key nonce text other_text same =
-      sym (law.mask_mask key nonce text) ∙ ap (design.mask key nonce) same ∙ law.mask_mask key nonce other_text
+      sym (law.applied_twice key nonce text) ∙ ap (design.apply_keystream key nonce) same ∙ law.applied_twice key nonce other_text
 
   module _ (first second : Case) (one other : Content) (keys : first.binding.key ≡ second.binding.key) (nonces : one.nonce ≡ other.nonce)
       (fits : length (encoding design first one) < 2 ^ 64) (other_fits : length (encoding design second other) < 2 ^ 64)
       (messages : encoding design first one ≡ encoding design second other) where
-    masked : Case → Content → List ℕ
-    masked case content = design.mask case.binding.key content.nonce content.text
+    ciphertext : Case → Content → List ℕ
+    ciphertext case content = design.apply_keystream case.binding.key content.nonce content.text
 
-    parts_alike : pieces design first.binding one.nonce (masked first one) ≡ pieces design second.binding other.nonce (masked second other)
-    unfolding masked
-    parts_alike = pieces_alike design first.binding second.binding one.nonce (masked first one) other.nonce (masked second other) fits other_fits messages
+    parts_alike : pieces design first.binding one.nonce (ciphertext first one) ≡ pieces design second.binding other.nonce (ciphertext second other)
+    unfolding ciphertext
+    parts_alike = pieces_alike design first.binding second.binding one.nonce (ciphertext first one) other.nonce (ciphertext second other) fits other_fits messages
 
-    -- what is encoded alike under one key is vouched for alike
-    encoded_alike : vouched design first one ≡ vouched design second other
-    unfolding masked
+    -- what is encoded alike under one key is covered alike
+    encoded_alike : covered design first one ≡ covered design second other
+    unfolding ciphertext
     encoded_alike =
         let parts = parts_alike in
-        let texts : design.mask first.binding.key one.nonce one.text ≡ design.mask second.binding.key other.nonce other.text = cc in
-        let own : design.mask first.binding.key one.nonce one.text ≡ design.mask first.binding.key one.nonce other.text =
-        texts ∙ ap (λ (k : List ℕ). design.mask k other.nonce other.text) (sym keys)
-        ∙ ap (λ (n : List ℕ). design.mask first.binding.key n other.text) (sym nonces) in
-        vouched_alike _ _ _ _ _ _ _ _ keys (text_alike first.binding.key one.nonce one.text other.text own) (cc) (cc)
+        let texts : design.apply_keystream first.binding.key one.nonce one.text ≡ design.apply_keystream second.binding.key other.nonce other.text = cc in
+        let own : design.apply_keystream first.binding.key one.nonce one.text ≡ design.apply_keystream first.binding.key one.nonce other.text =
+        texts ∙ ap (λ (k : List ℕ). design.apply_keystream k other.nonce other.text) (sym keys)
+        ∙ ap (λ (n : List ℕ). design.apply_keystream first.binding.key n other.text) (sym nonces) in
+        covered_alike _ _ _ _ _ _ _ _ keys (text_alike first.binding.key one.nonce one.text other.text own) (cc) (cc)
 
   pub collisions_show_tag : CollisionsShow design (IsTagOfTwo design)
   collisions_show_tag openings found c =

@@ -1,4 +1,4 @@
--- The first of each seal, as a map keeps it while a list is gone through.
+-- The first of each label, as a map keeps it while a list is gone through.
 use Rattle.std.proofs.Common.{◌≡◌, ◌≢◌, ℕ, ◌+◌, ◌<◌, List, [], Bool, true, false, cond, Option, Some, None, Bor, BTreeMap, take, length, refl, sym, ap, subst, ◌∙◌, arith}
 use Rattle.std.specs.List.{All, slice_get, slice_index_or}
 use Rattle.std.specs.Ordering.{is_eq, nat_cmp}
@@ -20,17 +20,17 @@ pub none_found : (o : Option ℕ) → ((p : ℕ) → o ≡ Some p → ⊥) → o
 none_found None other = refl
 none_found (Some p) other = absurd (other p refl)
 
-module _ {X C : Type 0} (seal : X → List ℕ) (content : X → C) (xs : List X) where
-  -- the first of a seal, which the others before a place that have the seal are like
+module _ {X C : Type 0} (label : X → List ℕ) (content : X → C) (xs : List X) where
+  -- the first of a label, which the others before a place that have the label are like
   pub record IsFirstOf (i : ℕ) (s : List ℕ) (p : ℕ) : Type 0 where
     pub first : X
     pub is_there : slice_get xs p ≡ Some first
-    pub seal_is : seal first ≡ s
-    pub alike : All (λ x. seal x ≡ s → content x ≡ content first) (take i xs)
+    pub label_is : label first ≡ s
+    pub alike : All (λ x. label x ≡ s → content x ≡ content first) (take i xs)
 
-  -- what is known of a seal before a place
+  -- what is known of a label before a place
   abbrev pub IsKnown : ℕ → List ℕ → Option ℕ → Type 0
-  IsKnown i s None = All (λ x. seal x ≢ s) (take i xs)
+  IsKnown i s None = All (λ x. label x ≢ s) (take i xs)
   IsKnown i s (Some p) = IsFirstOf i s p
 
   abbrev pub AreKnown : ℕ → BTreeMap (Bor (List ℕ)) ℕ → Type 0
@@ -41,18 +41,18 @@ module _ {X C : Type 0} (seal : X → List ℕ) (content : X → C) (xs : List X
       All-more P xs i x (slice_get_within xs i x here) all (subst P (sym (get_or_from_slice_get xs i x x here)) h)
 
   extended : (i : ℕ) (s : List ℕ) (x : X) (o : Option ℕ) → slice_get xs i ≡ Some x
-      → (o ≡ None → seal x ≢ s)
-      → ((p : ℕ) (first : X) → o ≡ Some p → slice_get xs p ≡ Some first → seal x ≡ s → content x ≡ content first)
+      → (o ≡ None → label x ≢ s)
+      → ((p : ℕ) (first : X) → o ≡ Some p → slice_get xs p ≡ Some first → label x ≡ s → content x ≡ content first)
       → IsKnown i s o → IsKnown (i + 1) s o
-  extended i s x None here none some known = more (λ y. seal y ≢ s) i x here known (none refl)
+  extended i s x None here none some known = more (λ y. label y ≢ s) i x here known (none refl)
   extended i s x (Some p) here none some known = record {
     first = known.first;
     is_there = known.is_there;
-    seal_is = known.seal_is;
-    alike = more (λ y. seal y ≡ s → content y ≡ content known.first) i x here known.alike (some p known.first refl known.is_there);
+    label_is = known.label_is;
+    alike = more (λ y. label y ≡ s → content y ≡ content known.first) i x here known.alike (some p known.first refl known.is_there);
   }
 
-  -- what a map answered for the bytes of a seal is its first
+  -- what a map answered for the bytes of a label is its first
   pub found_first : (m : BTreeMap (Bor (List ℕ)) ℕ) (i : ℕ) (s bytes : List ℕ) (p : ℕ) (answer : Option ℕ) → AreKnown i m
       → answer ≡ at_bytes bytes m → bytes ≡ s → answer ≡ Some p → IsFirstOf i s p
   found_first m i s bytes p answer known looked same found =
@@ -60,11 +60,11 @@ module _ {X C : Type 0} (seal : X → List ℕ) (content : X → C) (xs : List X
 
   -- nothing is known of nothing
   pub none_known : (m : BTreeMap (Bor (List ℕ)) ℕ) → m.entries ≡ [] → AreKnown 0 m
-  none_known m empty s = rw empty (All-nil (λ x. seal x ≢ s))
+  none_known m empty s = rw empty (All-nil (λ x. label x ≢ s))
 
-  -- one more, that is like the first of its seal
+  -- one more, that is like the first of its label
   pub one_alike : (m : BTreeMap (Bor (List ℕ)) ℕ) (i p : ℕ) (x first : X) → slice_get xs i ≡ Some x → slice_get xs p ≡ Some first
-      → at_bytes (seal x) m ≡ Some p → content first ≡ content x → AreKnown i m → AreKnown (i + 1) m
+      → at_bytes (label x) m ≡ Some p → content first ≡ content x → AreKnown i m → AreKnown (i + 1) m
   one_alike m i p x first here there found same known s =
       extended i s x (at_bytes s m) here
       (λ none own. let e = ap (λ (z : List ℕ). at_bytes z m) own in cc)
@@ -75,68 +75,68 @@ module _ {X C : Type 0} (seal : X → List ℕ) (content : X → C) (xs : List X
       sym same ∙ ap content firsts)
       (known s)
 
-  known_first : (i : ℕ) (s : List ℕ) (x : X) → slice_get xs i ≡ Some x → seal x ≡ s → (o : Option ℕ) → o ≡ None → IsKnown i s o
+  known_first : (i : ℕ) (s : List ℕ) (x : X) → slice_get xs i ≡ Some x → label x ≡ s → (o : Option ℕ) → o ≡ None → IsKnown i s o
       → IsFirstOf (i + 1) s i
   known_first i s x here own None none known = record {
     first = x;
     is_there = here;
-    seal_is = own;
-    alike = more (λ y. seal y ≡ s → content y ≡ content x) i x here
-        (All-weaker (λ y. seal y ≢ s) (λ y. seal y ≡ s → content y ≡ content x) (λ y other same. absurd (other same)) (take i xs) known)
+    label_is = own;
+    alike = more (λ y. label y ≡ s → content y ≡ content x) i x here
+        (All-weaker (λ y. label y ≢ s) (λ y. label y ≡ s → content y ≡ content x) (λ y other same. absurd (other same)) (take i xs) known)
         (λ _. refl);
   }
   known_first i s x here own (Some p) none known = absurd (let e = none in cc)
 
   first_or_other : (m n : BTreeMap (Bor (List ℕ)) ℕ) (i : ℕ) (x : X) (s : List ℕ) → slice_get xs i ≡ Some x
-      → at_bytes (seal x) m ≡ None → IsKnown i s (at_bytes s m)
-      → (b : Bool) → is_eq (slice_cmp nat_cmp (seal x) s) ≡ b → IsKnown (i + 1) s (cond b (Some i) (at_bytes s m))
+      → at_bytes (label x) m ≡ None → IsKnown i s (at_bytes s m)
+      → (b : Bool) → is_eq (slice_cmp nat_cmp (label x) s) ≡ b → IsKnown (i + 1) s (cond b (Some i) (at_bytes s m))
   first_or_other m n i x s here found known true equal =
-      let own : seal x ≡ s = exact_bytes (seal x) s ((Equal-is (slice_cmp nat_cmp (seal x) s)).0 equal) in
+      let own : label x ≡ s = exact_bytes (label x) s ((Equal-is (slice_cmp nat_cmp (label x) s)).0 equal) in
       known_first i s x here own (at_bytes s m) (ap (λ (z : List ℕ). at_bytes z m) (sym own) ∙ found) known
   first_or_other m n i x s here found known false other =
-      let apart : seal x ≢ s = λ own.
-      let itself = tied_itself nat_list_cmp_total (seal x) in
-      let tied = ap (λ (z : List ℕ). is_eq (slice_cmp nat_cmp (seal x) z)) own in
+      let apart : label x ≢ s = λ own.
+      let itself = tied_itself nat_list_cmp_total (label x) in
+      let tied = ap (λ (z : List ℕ). is_eq (slice_cmp nat_cmp (label x) z)) own in
       let yes = ap is_eq itself in cc in
       extended i s x (at_bytes s m) here (λ _. apart) (λ _ _ _ _ own. absurd (apart own)) known
 
-  -- one more, that is the first of its seal
+  -- one more, that is the first of its label
   pub one_first : (m n : BTreeMap (Bor (List ℕ)) ℕ) (i : ℕ) (x : X) → slice_get xs i ≡ Some x
-      → at_bytes (seal x) m ≡ None
-      → ((s : List ℕ) → at_bytes s n ≡ cond (is_eq (slice_cmp nat_cmp (seal x) s)) (Some i) (at_bytes s m))
+      → at_bytes (label x) m ≡ None
+      → ((s : List ℕ) → at_bytes s n ≡ cond (is_eq (slice_cmp nat_cmp (label x) s)) (Some i) (at_bytes s m))
       → AreKnown i m → AreKnown (i + 1) n
   one_first m n i x here found update known s =
       subst (IsKnown (i + 1) s) (sym (update s)) (first_or_other m n i x s here found (known s) _ refl)
 
-  put_back_at : (m n k : BTreeMap (Bor (List ℕ)) ℕ) (i p : ℕ) (x : X) (s : List ℕ) → at_bytes (seal x) m ≡ Some p
-      → (b : Bool) → is_eq (slice_cmp nat_cmp (seal x) s) ≡ b
+  put_back_at : (m n k : BTreeMap (Bor (List ℕ)) ℕ) (i p : ℕ) (x : X) (s : List ℕ) → at_bytes (label x) m ≡ Some p
+      → (b : Bool) → is_eq (slice_cmp nat_cmp (label x) s) ≡ b
       → at_bytes s n ≡ cond b (Some i) (at_bytes s m) → at_bytes s k ≡ cond b (Some p) (at_bytes s n) → at_bytes s k ≡ at_bytes s m
   put_back_at m n k i p x s found true equal taken given =
-      let own : seal x ≡ s = exact_bytes (seal x) s ((Equal-is (slice_cmp nat_cmp (seal x) s)).0 equal) in
+      let own : label x ≡ s = exact_bytes (label x) s ((Equal-is (slice_cmp nat_cmp (label x) s)).0 equal) in
       given ∙ sym (ap (λ (z : List ℕ). at_bytes z m) (sym own) ∙ found)
   put_back_at m n k i p x s found false other taken given = given ∙ taken
 
   -- a first that was replaced and put back is known as before
-  pub put_back : (m n k : BTreeMap (Bor (List ℕ)) ℕ) (i p j : ℕ) (x : X) → at_bytes (seal x) m ≡ Some p
-      → ((s : List ℕ) → at_bytes s n ≡ cond (is_eq (slice_cmp nat_cmp (seal x) s)) (Some i) (at_bytes s m))
-      → ((s : List ℕ) → at_bytes s k ≡ cond (is_eq (slice_cmp nat_cmp (seal x) s)) (Some p) (at_bytes s n))
+  pub put_back : (m n k : BTreeMap (Bor (List ℕ)) ℕ) (i p j : ℕ) (x : X) → at_bytes (label x) m ≡ Some p
+      → ((s : List ℕ) → at_bytes s n ≡ cond (is_eq (slice_cmp nat_cmp (label x) s)) (Some i) (at_bytes s m))
+      → ((s : List ℕ) → at_bytes s k ≡ cond (is_eq (slice_cmp nat_cmp (label x) s)) (Some p) (at_bytes s n))
       → AreKnown j m → AreKnown j k
   put_back m n k i p j x found taken given known s =
       subst (IsKnown j s) (sym (put_back_at m n k i p x s found _ refl (taken s) (given s))) (known s)
 
   alike_at : (s : List ℕ) (o : Option ℕ) → IsKnown (length xs) s o → (k : ℕ) (d : X) (l : ℕ) (e : X) → k < length xs → l < length xs
-      → seal (slice_index_or xs k d) ≡ s → seal (slice_index_or xs l e) ≡ s
+      → label (slice_index_or xs k d) ≡ s → label (slice_index_or xs l e) ≡ s
       → content (slice_index_or xs k d) ≡ content (slice_index_or xs l e)
   alike_at s None known k d l e low high one other =
-      let whole : All (λ x. seal x ≢ s) xs = rw (take_all (length xs) xs (omega arith)) at known in
+      let whole : All (λ x. label x ≢ s) xs = rw (take_all (length xs) xs (omega arith)) at known in
       absurd (whole k d low one)
   alike_at s (Some p) known k d l e low high one other =
-      let whole : All (λ x. seal x ≡ s → content x ≡ content known.first) xs = rw (take_all (length xs) xs (omega arith)) at known.alike in
+      let whole : All (λ x. label x ≡ s → content x ≡ content known.first) xs = rw (take_all (length xs) xs (omega arith)) at known.alike in
       whole k d low one ∙ sym (whole l e high other)
 
-  -- in the end any two of one seal are alike
+  -- in the end any two of one label are alike
   pub all_alike : (m : BTreeMap (Bor (List ℕ)) ℕ) → AreKnown (length xs) m
-      → All (λ first. All (λ second. seal first ≡ seal second → content first ≡ content second) xs) xs
+      → All (λ first. All (λ second. label first ≡ label second → content first ≡ content second) xs) xs
   all_alike m known k d low l e high same =
-      let s = seal (slice_index_or xs l e) in
+      let s = label (slice_index_or xs l e) in
       alike_at s (at_bytes s m) (known s) k d l e low high same refl

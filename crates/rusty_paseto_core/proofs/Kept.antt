@@ -16,7 +16,7 @@ use Rattle.rusty_paseto_core.specs.Context.{Binding}
 use Rattle.rusty_paseto_core.specs.Local.{Design, IsLawful, local}
 use Rattle.rusty_paseto_core.specs.Local.Opening.{HasRoom, HoldsText, IsSealedFault, nonce_in, opening}
 use Rattle.rusty_paseto_core.specs.Local.Opening as payloads
-use Rattle.rusty_paseto_core.specs.Local.Opened.{AreOpened, IsOpened, IsUnopened, case_in, content_in, seal_in}
+use Rattle.rusty_paseto_core.specs.Local.Opened.{AreOpened, IsOpened, IsUnopened, case_in, content_in, nonce_and_tag_in}
 use Rattle.rusty_paseto_core.specs.Local.TagCollision.{Case, Content, IsFirstFault, Opens, OpensTo, case_of, cases, tag}
 use Rattle.rusty_paseto_core.specs.Reading.{IsFault, IsFramed, IsFramingFault, IsRead}
 use Rattle.rusty_paseto_core.specs.declared.local.tag_collision.Opened.{Opened}
@@ -114,7 +114,7 @@ module _ (design : Design) (law : IsLawful design) (case : Case) (footer_bytes :
 pub kept_opened : {V : Type 0} (design : Design) → IsLawful design → (kept : Opened V) (binding : Binding) (version footer payload : List ℕ)
     → binding ≡ (case_in kept).binding → design.version ≡ version → footer ≡ binding.footer → IsBytes binding.footer
     → IsFramed version local footer (case_in kept).token payload → HoldsText design binding payload (string_bytes kept.text)
-    → seal_in kept ≡ nonce_in payload ++ payloads.tag_in design payload → IsOpened design kept
+    → nonce_and_tag_in kept ≡ nonce_in payload ++ payloads.tag_in design payload → IsOpened design kept
 kept_opened {V} design law kept binding version footer payload own same_version same_footer footer_bytes framed holds seal_is =
     let case = case_in kept in
     let text = string_bytes kept.text in
@@ -123,8 +123,8 @@ kept_opened {V} design law kept binding version footer payload own same_version 
     framed_as design law case binding version footer own same_version same_footer footer_bytes payload framed in
     let holds_as : HoldsText design case.binding payload text = subst (λ (b : Binding). HoldsText design b payload text) own holds in
     let size : length (nonce_in payload) ≡ 32 = length-take-le 32 payload (omega (arith, holds.room)) in
-    let nonce : take 32 (seal_in kept) ≡ nonce_in payload = ap (take 32) seal_is ∙ take_at (nonce_in payload) (payloads.tag_in design payload) 32 size in
-    let rest : drop 32 (seal_in kept) ≡ payloads.tag_in design payload = ap (drop 32) seal_is ∙ drop_at (nonce_in payload) (payloads.tag_in design payload) 32 size in
+    let nonce : take 32 (nonce_and_tag_in kept) ≡ nonce_in payload = ap (take 32) seal_is ∙ take_at (nonce_in payload) (payloads.tag_in design payload) 32 size in
+    let rest : drop 32 (nonce_and_tag_in kept) ≡ payloads.tag_in design payload = ap (drop 32) seal_is ∙ drop_at (nonce_in payload) (payloads.tag_in design payload) 32 size in
     let whole : content_in kept ≡ record { nonce = nonce_in payload; text = text } = ap (λ (n : List ℕ). let w : Content = record { nonce = n; text = text } in w) nonce in
     let lawful = opening-lawful design law case.binding bytes in
     let read = IsFramed-IsRead (opening design case.binding) lawful case.token payload text framed_as (HoldsText-carries design law case.binding payload text framed.bytes holds_as) in

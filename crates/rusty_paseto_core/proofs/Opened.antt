@@ -11,66 +11,66 @@ use Rattle.rusty_paseto_parts.specs.declared.error.PasetoError.{PasetoError}
 use Rattle.rusty_paseto_parts.specs.declared.error.PasetoError.TheVariants.{IncorrectSize, Cryption, Utf8Error}
 use Rattle.rusty_paseto_core.specs.Context.{Binding}
 use Rattle.rusty_paseto_core.specs.Local.{Design, IsNonce, IsLawful}
-use Rattle.rusty_paseto_core.specs.Local.Opening.{HasRoom, HasTag, HoldsText, IsSealedFault, masked_in, nonce_in, opening, tag_in, unmasked}
+use Rattle.rusty_paseto_core.specs.Local.Opening.{HasRoom, HasTag, HoldsText, IsSealedFault, ciphertext_in, nonce_in, opening, tag_in, plaintext}
 use Rattle.rusty_paseto_core.specs.Local.Sealing.{sealed_payload, tag_of}
 use Rattle.rusty_paseto_core.specs.Reading.{CarriesText}
-use Rattle.rusty_paseto_core.proofs.Parts.{length-parts, nonce-parts, masked-parts, tag-parts, parts-payload}
+use Rattle.rusty_paseto_core.proofs.Parts.{length-parts, nonce-parts, ciphertext-parts, tag-parts, parts-payload}
 use Rattle.rusty_paseto_core.proofs.ReadingLaws.{IsLawfulReading}
 
 module _ (design : Design) (law : IsLawful design) (binding : Binding) where
   -- what a sealed payload holds
   module _ (nonce text : List ℕ) (is_nonce : IsNonce nonce) where
-    masked : List ℕ
-    masked = design.mask binding.key nonce text
+    ciphertext : List ℕ
+    ciphertext = design.apply_keystream binding.key nonce text
 
     tag : List ℕ
-    tag = tag_of design binding nonce masked
+    tag = tag_of design binding nonce ciphertext
 
     tag_length : length tag ≡ design.tag_length
     unfolding tag
     tag_length = law.length_tag _ _
 
     sealed-HasRoom : HasRoom design (sealed_payload design binding nonce text)
-    unfolding sealed_payload tag masked
-    sealed-HasRoom = omega (arith, length-parts nonce masked tag design.tag_length is_nonce.size tag_length)
+    unfolding sealed_payload tag ciphertext
+    sealed-HasRoom = omega (arith, length-parts nonce ciphertext tag design.tag_length is_nonce.size tag_length)
 
     pub nonce_in-sealed : nonce_in (sealed_payload design binding nonce text) ≡ nonce
-    unfolding sealed_payload tag masked
-    nonce_in-sealed = nonce-parts nonce masked tag design.tag_length is_nonce.size tag_length
+    unfolding sealed_payload tag ciphertext
+    nonce_in-sealed = nonce-parts nonce ciphertext tag design.tag_length is_nonce.size tag_length
 
-    masked_in-sealed : masked_in design (sealed_payload design binding nonce text) ≡ design.mask binding.key nonce text
-    unfolding sealed_payload tag masked
-    masked_in-sealed = masked-parts nonce masked tag design.tag_length is_nonce.size tag_length
+    ciphertext_in-sealed : ciphertext_in design (sealed_payload design binding nonce text) ≡ design.apply_keystream binding.key nonce text
+    unfolding sealed_payload tag ciphertext
+    ciphertext_in-sealed = ciphertext-parts nonce ciphertext tag design.tag_length is_nonce.size tag_length
 
-    pub tag_in-sealed : tag_in design (sealed_payload design binding nonce text) ≡ tag_of design binding nonce (design.mask binding.key nonce text)
-    unfolding sealed_payload tag masked
-    tag_in-sealed = tag-parts nonce masked tag design.tag_length is_nonce.size tag_length
+    pub tag_in-sealed : tag_in design (sealed_payload design binding nonce text) ≡ tag_of design binding nonce (design.apply_keystream binding.key nonce text)
+    unfolding sealed_payload tag ciphertext
+    tag_in-sealed = tag-parts nonce ciphertext tag design.tag_length is_nonce.size tag_length
 
     sealed-HasTag : HasTag design binding (sealed_payload design binding nonce text)
-    sealed-HasTag = rw (nonce_in-sealed, masked_in-sealed) tag_in-sealed
+    sealed-HasTag = rw (nonce_in-sealed, ciphertext_in-sealed) tag_in-sealed
 
-    unmasked-sealed : unmasked design binding (sealed_payload design binding nonce text) ≡ text
-    unmasked-sealed =
-        ap (λ (n : List ℕ). design.mask binding.key n (masked_in design (sealed_payload design binding nonce text))) nonce_in-sealed
-        ∙ ap (λ (m : List ℕ). design.mask binding.key nonce m) masked_in-sealed
-        ∙ law.mask_mask binding.key nonce text
+    plaintext-sealed : plaintext design binding (sealed_payload design binding nonce text) ≡ text
+    plaintext-sealed =
+        ap (λ (n : List ℕ). design.apply_keystream binding.key n (ciphertext_in design (sealed_payload design binding nonce text))) nonce_in-sealed
+        ∙ ap (λ (m : List ℕ). design.apply_keystream binding.key nonce m) ciphertext_in-sealed
+        ∙ law.applied_twice binding.key nonce text
 
     sealed-IsBytes : IsBytes text → IsBytes (sealed_payload design binding nonce text)
-    unfolding sealed_payload tag masked
+    unfolding sealed_payload tag ciphertext
     sealed-IsBytes bytes =
-        IsBytes-append (nonce ++ masked) tag
-        (IsBytes-append nonce masked is_nonce.bytes (law.bytes_mask binding.key nonce text bytes))
+        IsBytes-append (nonce ++ ciphertext) tag
+        (IsBytes-append nonce ciphertext is_nonce.bytes (law.bytes_applied binding.key nonce text bytes))
         (law.bytes_tag _ _)
 
     sealed-HoldsText : IsUtf8 text → HoldsText design binding (sealed_payload design binding nonce text) text
-    sealed-HoldsText utf8 = record { room = sealed-HasRoom; tag = sealed-HasTag; text_is = unmasked-sealed; utf8 = utf8 }
+    sealed-HoldsText utf8 = record { room = sealed-HasRoom; tag = sealed-HasTag; text_is = plaintext-sealed; utf8 = utf8 }
 
   -- a payload with its tag is a sealed one
   payload-sealed : (payload : List ℕ) → HasRoom design payload → HasTag design binding payload
-      → sealed_payload design binding (nonce_in payload) (unmasked design binding payload) ≡ payload
+      → sealed_payload design binding (nonce_in payload) (plaintext design binding payload) ≡ payload
   unfolding sealed_payload
   payload-sealed payload room tagged =
-      rw (law.mask_mask binding.key (nonce_in payload) (masked_in design payload), ← tagged)
+      rw (law.applied_twice binding.key (nonce_in payload) (ciphertext_in design payload), ← tagged)
       (parts-payload payload design.tag_length room)
 
   -- what a payload holds is what it carries
@@ -78,8 +78,8 @@ module _ (design : Design) (law : IsLawful design) (binding : Binding) where
       → CarriesText (opening design binding) payload text
   HoldsText-carries payload text bytes holds =
       let nonce_size = length-take-le 32 payload (omega (arith, holds.room)) in
-      let text_bytes : IsBytes (unmasked design binding payload) =
-      law.bytes_mask _ _ _ (IsBytes-drop 32 _ (IsBytes-take (length payload - design.tag_length) payload bytes)) in
+      let text_bytes : IsBytes (plaintext design binding payload) =
+      law.bytes_applied _ _ _ (IsBytes-drop 32 _ (IsBytes-take (length payload - design.tag_length) payload bytes)) in
       record {
         utf8 = holds.utf8;
         bytes = subst IsBytes holds.text_is text_bytes;
@@ -121,7 +121,7 @@ module _ (design : Design) (law : IsLawful design) (binding : Binding) where
   opened_carries payload bytes (Ok found) holds = HoldsText-carries payload (string_bytes found) bytes holds
   opened_carries payload bytes (Err error) holds = tt
 
-  -- want of memory aside, which does not come here
+  -- a failed allocation aside, which does not come here
   pub sealed_fault : (payload : List ℕ) (answer : Result (String Global) PasetoError) → IfErr answer (IsSealedFault design binding payload)
       → IfErr answer (λ error. IsMemory error ⊎ IsSealedFault design binding payload error)
   sealed_fault payload (Ok found) fault = tt

@@ -1,22 +1,22 @@
--- A payload in three parts: a nonce of 32 bytes, a masked text and a tag of known length.
+-- A payload in three parts: a nonce of 32 bytes, a ciphertext and a tag of known length.
 use Rattle.std.proofs.Common.{◌≡◌, ℕ, ◌+◌, ◌-◌, ◌≤◌, List, ◌++◌, length, take, drop, arith, append_assoc, length-append}
 use Rattle.std.proofs.lemmas.List.{take_at, drop_at, take-append-drop, take-take}
 
-module _ (nonce masked tag : List ℕ) (width : ℕ) (nonce_length : length nonce ≡ 32) (tag_length : length tag ≡ width) where
-  pub length-parts : length (nonce ++ masked ++ tag) ≡ 32 + length masked + width
-  length-parts = omega (arith, length-append (nonce ++ masked) tag, length-append nonce masked)
+module _ (nonce ciphertext tag : List ℕ) (width : ℕ) (nonce_length : length nonce ≡ 32) (tag_length : length tag ≡ width) where
+  pub length-parts : length (nonce ++ ciphertext ++ tag) ≡ 32 + length ciphertext + width
+  length-parts = omega (arith, length-append (nonce ++ ciphertext) tag, length-append nonce ciphertext)
 
-  front : take (length (nonce ++ masked ++ tag) - width) (nonce ++ masked ++ tag) ≡ nonce ++ masked
-  front = take_at (nonce ++ masked) tag _ (omega (arith, length-parts, length-append nonce masked))
+  front : take (length (nonce ++ ciphertext ++ tag) - width) (nonce ++ ciphertext ++ tag) ≡ nonce ++ ciphertext
+  front = take_at (nonce ++ ciphertext) tag _ (omega (arith, length-parts, length-append nonce ciphertext))
 
-  pub nonce-parts : take 32 (nonce ++ masked ++ tag) ≡ nonce
-  nonce-parts = rw append_assoc (take_at nonce (masked ++ tag) 32 nonce_length)
+  pub nonce-parts : take 32 (nonce ++ ciphertext ++ tag) ≡ nonce
+  nonce-parts = rw append_assoc (take_at nonce (ciphertext ++ tag) 32 nonce_length)
 
-  pub masked-parts : drop 32 (take (length (nonce ++ masked ++ tag) - width) (nonce ++ masked ++ tag)) ≡ masked
-  masked-parts = rw front (drop_at nonce masked 32 nonce_length)
+  pub ciphertext-parts : drop 32 (take (length (nonce ++ ciphertext ++ tag) - width) (nonce ++ ciphertext ++ tag)) ≡ ciphertext
+  ciphertext-parts = rw front (drop_at nonce ciphertext 32 nonce_length)
 
-  pub tag-parts : drop (length (nonce ++ masked ++ tag) - width) (nonce ++ masked ++ tag) ≡ tag
-  tag-parts = drop_at (nonce ++ masked) tag _ (omega (arith, length-parts, length-append nonce masked))
+  pub tag-parts : drop (length (nonce ++ ciphertext ++ tag) - width) (nonce ++ ciphertext ++ tag) ≡ tag
+  tag-parts = drop_at (nonce ++ ciphertext) tag _ (omega (arith, length-parts, length-append nonce ciphertext))
 
 -- a payload is its parts, joined
 pub parts-payload : (payload : List ℕ) (width : ℕ) → 32 + width ≤ length payload

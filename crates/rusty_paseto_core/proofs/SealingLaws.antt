@@ -1,6 +1,6 @@
 -- The laws of sealing and opening, and of signing and verifying.
 use Rattle.std.proofs.Common.{◌≡◌, ◌≢◌, ℕ, List, [], ◌∷◌, ◌++◌, Bool, true, false, length, refl, ap, arith, length-append, lit≤}
-use Rattle.rusty_paseto_parts.specs.Section.{spelling}
+use Rattle.rusty_paseto_parts.specs.Section.{base64url}
 use Rattle.rusty_paseto_primitives.proofs.Blake2Lengths.{IsBytes-blake2b, length-blake2b}
 use Rattle.rusty_paseto_core.specs.Context.{Binding}
 use Rattle.rusty_paseto_core.specs.Framing.{IsHeader, framing, footer_part}
@@ -21,12 +21,12 @@ use Rattle.rusty_paseto_core.proofs.Verified.{verification-lawful}
 
 module _ (design : Design) (law : IsLawful design) where
   pub sealings_open : SealingsOpen design
-  sealings_open binding given text written is_nonce is_text form = record {
-    payload = sealed_payload design binding (design.token_nonce given text) text;
+  sealings_open binding seed text written is_nonce is_text form = record {
+    payload = sealed_payload design binding (design.token_nonce seed text) text;
     carried = record {
       utf8 = is_text.utf8;
       bytes = is_text.bytes;
-      carries = record { nonce = design.token_nonce given text; is_nonce = law.nonce given text is_nonce; is_sealed = refl };
+      carries = record { nonce = design.token_nonce seed text; is_nonce = law.nonce seed text is_nonce; is_sealed = refl };
     };
     written = written;
     form = form;
@@ -40,8 +40,8 @@ module _ (design : Design) (law : IsLawful design) where
 forms_apart : (front payload footer : List ℕ) → framing front payload true footer ≢ framing front payload false footer
 unfolding framing footer_part
 forms_apart front payload footer same =
-    let longer = length-append (front ++ spelling payload) (46 ∷ spelling footer) in
-    let plain = length-append (front ++ spelling payload) [] in
+    let longer = length-append (front ++ base64url payload) (46 ∷ base64url footer) in
+    let plain = length-append (front ++ base64url payload) [] in
     omega (arith, ap length same, longer, plain)
 
 form_of : (design : Design) (binding : Binding) (nonce text token : List ℕ) (read : IsRead (opening design binding) token text)
@@ -68,8 +68,8 @@ texts_have_their_forms design binding nonce text is_nonce is_text = record {
 }
 
 pub boxed_sealings_open : BoxedSealingsOpen
-boxed_sealings_open box binding given text written token is_text form same =
-    let nonce = token_nonce given text in
+boxed_sealings_open box binding seed text written token is_text form same =
+    let nonce = token_nonce seed text in
     let parts = sealing_parts binding.footer written token (boxed_payload box binding nonce text) same in
     record {
       payload = parts.0;
@@ -78,7 +78,7 @@ boxed_sealings_open box binding given text written token is_text form same =
         bytes = is_text.bytes;
         carries = record {
           nonce = nonce;
-          is_nonce = record { size = length-blake2b given 24 text (lit≤ tt); bytes = IsBytes-blake2b given 24 text };
+          is_nonce = record { size = length-blake2b seed 24 text (lit≤ tt); bytes = IsBytes-blake2b seed 24 text };
           is_boxed = parts.1;
         };
       };

@@ -53,7 +53,7 @@ framed_signing valid design binding written text payload front footer (Err error
 framed_signing valid design binding written text payload front footer (Ok token) signed eh ef framed =
     record { payload = payload; signed = signed; is_framing = rw (eh, ef) at framed }
 
--- want of memory is one of the errors that may come
+-- a failed allocation is one of the errors that may come
 pub memory_or : (Declined : PasetoError → Type 0) (answer : Result (String Global) PasetoError) → IfErr answer IsMemory
     → IfErr answer (λ error. IsMemory error ⊎ Declined error)
 memory_or Declined (Ok token) memory = tt

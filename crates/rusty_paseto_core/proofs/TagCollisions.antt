@@ -9,8 +9,8 @@ use Rattle.std.specs.Prelude.{IsErrAnd}
 use Rattle.rusty_paseto_parts.specs.Error.{IsMemory}
 use Rattle.rusty_paseto_parts.specs.declared.error.PasetoError.{PasetoError}
 use Rattle.rusty_paseto_core.specs.Local.{Design}
-use Rattle.rusty_paseto_core.specs.Local.Opened.{AreOpened, IsOpened, IsPair, VouchAlike, case_in, content_in, seal_in, tag_in}
-use Rattle.rusty_paseto_core.specs.Local.TagCollision.{Case, Content, IsCollision, IsCollisionAnswer, IsFirstFault, NoneShareTag, Opens, ShareTag, encoding, tag, vouched}
+use Rattle.rusty_paseto_core.specs.Local.Opened.{AreOpened, IsOpened, IsPair, CoverTheSame, case_in, content_in, nonce_and_tag_in, tag_in}
+use Rattle.rusty_paseto_core.specs.Local.TagCollision.{Case, Content, IsCollision, IsCollisionAnswer, IsFirstFault, NoneShareTag, Opens, ShareTag, encoding, tag, covered}
 use Rattle.rusty_paseto_core.specs.declared.local.tag_collision.Opened.{Opened}
 use Rattle.rusty_paseto_core.specs.declared.local.tag_collision.TagCollision.{TagCollision}
 
@@ -44,8 +44,8 @@ module _ {V : Type 0} (design : Design) (kept : List (Opened V)) (each : All (Is
           other = content_in pair.second;
           first_opens = one.opens;
           second_opens = other.opens;
-          nonce = ap (take 32) pair.seal;
-          tag = sym one.tag ∙ ap (drop 32) pair.seal ∙ other.tag;
+          nonce = ap (take 32) pair.nonce_and_tag;
+          tag = sym one.tag ∙ ap (drop 32) pair.nonce_and_tag ∙ other.tag;
           apart = pair.apart;
         };
         first_encoding = first;
@@ -55,19 +55,19 @@ module _ {V : Type 0} (design : Design) (kept : List (Opened V)) (each : All (Is
         tag = tags ∙ one.tag;
       }
 
-  -- two that share a tag have one seal
-  one_seal : (a b : Opened V) → IsOpened design a → IsOpened design b → (share : ShareTag design (case_in a) (case_in b)) → seal_in a ≡ seal_in b
-  one_seal a b one other share =
+  -- two that share a tag have one nonce and tag
+  one_nonce_and_tag : (a b : Opened V) → IsOpened design a → IsOpened design b → (share : ShareTag design (case_in a) (case_in b)) → nonce_and_tag_in a ≡ nonce_and_tag_in b
+  one_nonce_and_tag a b one other share =
       let first = one.alone share.one share.first_opens in
       let second = other.alone share.other share.second_opens in
-      let nonces : take 32 (seal_in a) ≡ take 32 (seal_in b) =
+      let nonces : take 32 (nonce_and_tag_in a) ≡ take 32 (nonce_and_tag_in b) =
       ap (λ (c : Content). c.nonce) (sym first) ∙ share.nonce ∙ ap (λ (c : Content). c.nonce) second in
-      let tags : drop 32 (seal_in a) ≡ drop 32 (seal_in b) =
+      let tags : drop 32 (nonce_and_tag_in a) ≡ drop 32 (nonce_and_tag_in b) =
       one.tag ∙ ap (tag design (case_in a)) (sym first) ∙ share.tag ∙ ap (tag design (case_in b)) second ∙ sym other.tag in
-      sym (take-append-drop 32 (seal_in a)) ∙ ap₂ (λ (x y : List ℕ). x ++ y) nonces tags ∙ take-append-drop 32 (seal_in b)
+      sym (take-append-drop 32 (nonce_and_tag_in a)) ∙ ap₂ (λ (x y : List ℕ). x ++ y) nonces tags ∙ take-append-drop 32 (nonce_and_tag_in b)
 
-  -- where one seal vouches for one content, no two share a tag
-  pub none_share : VouchAlike design kept → NoneShareTag design (map {A = Opened V} case_in kept)
+  -- where one nonce and tag covers one content, no two share a tag
+  pub none_share : CoverTheSame design kept → NoneShareTag design (map {A = Opened V} case_in kept)
   none_share alike =
       All-map (λ (first : Case). All (λ (second : Case). ¬ ShareTag design first second) (map {A = Opened V} case_in kept)) {Y = Opened V} case_in kept
       (λ k d low.
@@ -79,9 +79,9 @@ module _ {V : Type 0} (design : Design) (kept : List (Opened V)) (each : All (Is
       let other = each l e high in
       let first = one.alone share.one share.first_opens in
       let second = other.alone share.other share.second_opens in
-      share.apart (ap (vouched design (case_in a)) first
-      ∙ alike k d low l e high (one_seal a b one other share)
-      ∙ ap (vouched design (case_in b)) (sym second))))
+      share.apart (ap (covered design (case_in a)) first
+      ∙ alike k d low l e high (one_nonce_and_tag a b one other share)
+      ∙ ap (covered design (case_in b)) (sym second))))
 
 -- the answers
 module _ (design : Design) (openings : List Case) where
@@ -111,7 +111,7 @@ module _ (design : Design) (openings : List Case) where
         (All-weaker (IsOpened {V = V} design) (λ (o : Opened V). Opens design (case_in o)) (λ o h. (content_in o, h.opens)) kept are.each))
 
     -- no pair is found
-    pub none_answer : VouchAlike design kept → IsCollisionAnswer design openings (Ok None)
+    pub none_answer : CoverTheSame design kept → IsCollisionAnswer design openings (Ok None)
     none_answer alike = record {
       opened = all_open;
       found = subst (NoneShareTag design) are.cases (none_share design kept are.each alike);

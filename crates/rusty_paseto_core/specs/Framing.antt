@@ -2,16 +2,16 @@
 -- section, and the footer's with the dot before it, where it is written (PASETO specification, "PASETO
 -- Message Format").
 use Rattle.std.specs.Prelude.{◌≡◌, ℕ, Bool, true, false, List, [], ◌∷◌, ◌++◌}
-use Rattle.rusty_paseto_parts.specs.Section.{HasNoDot, spelling}
+use Rattle.rusty_paseto_parts.specs.Section.{HasNoDot, base64url}
 
 -- the footer's section with the dot before it, where it is written
 unfoldable pub footer_part : Bool → List ℕ → List ℕ
-footer_part true footer = 46 ∷ spelling footer
+footer_part true footer = 46 ∷ base64url footer
 footer_part false footer = []
 
 -- a header, the payload's section, and the footer's where it is written
 unfoldable pub framing : List ℕ → List ℕ → Bool → List ℕ → List ℕ
-framing header payload written footer = header ++ spelling payload ++ footer_part written footer
+framing header payload written footer = header ++ base64url payload ++ footer_part written footer
 
 -- a header is a version's text and a purpose's, each with a dot after it
 pub record IsHeader (version purpose header : List ℕ) : Type 0 where

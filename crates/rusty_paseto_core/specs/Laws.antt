@@ -22,11 +22,11 @@ pub record IsText (text : List ℕ) : Type 0 where
   pub utf8 : IsUtf8 text
   pub bytes : IsBytes text
 
--- what is sealed with a given nonce opens to its text, in each form that the footer allows
+-- what is sealed with a seed opens to its text, in each form that the footer allows
 abbrev pub SealingsOpen : Design → Type 0
-SealingsOpen design = (binding : Binding) (given text : List ℕ) (written : Bool) → IsNonce given → IsText text
+SealingsOpen design = (binding : Binding) (seed text : List ℕ) (written : Bool) → IsNonce seed → IsText text
     → IsForm written binding.footer
-    → IsRead (opening design binding) (sealing design binding (design.token_nonce given text) written text) text
+    → IsRead (opening design binding) (sealing design binding (design.token_nonce seed text) written text) text
 
 -- the tokens that open to a text under one key, token nonce, footer and assertion are its forms that the footer
 -- allows: that with the footer's section, and for the empty footer that without one too
@@ -42,11 +42,11 @@ abbrev pub TextsHaveTheirForms : Design → Type 0
 TextsHaveTheirForms design = (binding : Binding) (nonce text : List ℕ) → IsNonce nonce → IsText text
     → HasItsForms design binding nonce text
 
--- what a box sealed with a given nonce opens to its text, in each form that the footer allows
+-- what a box sealed with a seed opens to its text, in each form that the footer allows
 abbrev pub BoxedSealingsOpen : Type 0
-BoxedSealingsOpen = (box : BoxSealing) (binding : Binding) (given text : List ℕ) (written : Bool) (token : List ℕ)
+BoxedSealingsOpen = (box : BoxSealing) (binding : Binding) (seed text : List ℕ) (written : Bool) (token : List ℕ)
     → IsText text → IsForm written binding.footer
-    → boxed_sealing box binding (token_nonce given text) written text ≡ Some token
+    → boxed_sealing box binding (token_nonce seed text) written text ≡ Some token
     → IsRead (box_opening box binding) token text
 
 -- what was signed is validly signed for the same public key, in each form that the footer allows

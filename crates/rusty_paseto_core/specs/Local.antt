@@ -23,11 +23,11 @@ local = codes "local"
 
 -- a local version: its text, whether its tag covers the implicit assertion, how it masks a text
 -- under a key and a nonce, its authentication key under a key and a nonce, its tag under an
--- authentication key, the tag's length, and the token's nonce from the given one and the text
+-- authentication key, the tag's length, and the token's nonce from its seed and the text
 pub record Design : Type 0 where
   pub version : List ℕ
   pub binds_assertion : Bool
-  pub mask : List ℕ → List ℕ → List ℕ → List ℕ
+  pub apply_keystream : List ℕ → List ℕ → List ℕ → List ℕ
   pub authentication_key : List ℕ → List ℕ → List ℕ
   pub tag : List ℕ → List ℕ → List ℕ
   pub tag_length : ℕ
@@ -45,10 +45,10 @@ header design = header_text design.version local
 -- what each design has: masking keeps the length and undoes itself, tags have their length, and
 -- what it makes of bytes is bytes
 pub record IsLawful (design : Design) : Type 0 where
-  pub length_mask : (key nonce bytes : List ℕ) → length (design.mask key nonce bytes) ≡ length bytes
-  pub mask_mask : (key nonce bytes : List ℕ) → design.mask key nonce (design.mask key nonce bytes) ≡ bytes
-  pub bytes_mask : (key nonce bytes : List ℕ) → IsBytes bytes → IsBytes (design.mask key nonce bytes)
+  pub length_applied : (key nonce bytes : List ℕ) → length (design.apply_keystream key nonce bytes) ≡ length bytes
+  pub applied_twice : (key nonce bytes : List ℕ) → design.apply_keystream key nonce (design.apply_keystream key nonce bytes) ≡ bytes
+  pub bytes_applied : (key nonce bytes : List ℕ) → IsBytes bytes → IsBytes (design.apply_keystream key nonce bytes)
   pub length_tag : (key message : List ℕ) → length (design.tag key message) ≡ design.tag_length
   pub bytes_tag : (key message : List ℕ) → IsBytes (design.tag key message)
   pub is_header : IsHeader design.version local (header design)
-  pub nonce : (given text : List ℕ) → IsNonce given → IsNonce (design.token_nonce given text)
+  pub nonce : (seed text : List ℕ) → IsNonce seed → IsNonce (design.token_nonce seed text)

@@ -5,7 +5,7 @@ use Rattle.std.specs.String.{string_bytes}
 use Rattle.rusty_paseto_primitives.specs.Bytes.{IsBytes}
 use Rattle.rusty_paseto_parts.specs.Error.{IsMemory}
 use Rattle.rusty_paseto_parts.specs.Header.{header_text}
-use Rattle.rusty_paseto_parts.specs.Section.{HasCount, IsSectionFault, sections, spelling}
+use Rattle.rusty_paseto_parts.specs.Section.{HasCount, IsSectionFault, sections, base64url}
 use Rattle.rusty_paseto_parts.specs.declared.error.PasetoError.{PasetoError}
 use Rattle.rusty_paseto_parts.specs.declared.error.PasetoError.TheVariants.{IncorrectSize, WrongHeader, FooterInvalid, PayloadBase64Decode}
 use Rattle.rusty_paseto_core.specs.Framing.{framing}
@@ -23,7 +23,7 @@ IsForm false footer = MayLackSection footer
 
 -- the section that was found for the footer is the footer's, and one was found unless it may be lacking
 abbrev pub IsExpected : List ℕ → Option (List ℕ) → Type 0
-IsExpected footer (Some section) = section ≡ spelling footer
+IsExpected footer (Some section) = section ≡ base64url footer
 IsExpected footer None = MayLackSection footer
 
 -- the fourth section is the one that is found for the footer
@@ -37,9 +37,9 @@ HasHeader version purpose (first ∷ second ∷ _) = (first ≡ version) × (sec
 HasHeader version purpose _ = ⊥
 
 -- the third section spells this payload
-abbrev pub Spells : List ℕ → List (List ℕ) → Type 0
-Spells payload (_ ∷ _ ∷ section ∷ _) = section ≡ spelling payload
-Spells payload _ = ⊥
+abbrev pub IsThirdBase64url : List ℕ → List (List ℕ) → Type 0
+IsThirdBase64url payload (_ ∷ _ ∷ section ∷ _) = section ≡ base64url payload
+IsThirdBase64url payload _ = ⊥
 
 -- the framing has no fault, and its payload is this one
 pub record IsFramed (version purpose expected token payload : List ℕ) : Type 0 where
@@ -47,7 +47,7 @@ pub record IsFramed (version purpose expected token payload : List ℕ) : Type 0
   pub footer : HasFooter expected (sections token)
   pub header : HasHeader version purpose (sections token)
   pub bytes : IsBytes payload
-  pub spells : Spells payload (sections token)
+  pub spells : IsThirdBase64url payload (sections token)
 
 -- the error is the fault of the third section, which spells no bytes
 abbrev pub IsThirdFault : List (List ℕ) → PasetoError → Type 0

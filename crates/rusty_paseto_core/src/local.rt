@@ -57,18 +57,18 @@ pub(crate) trait LocalSuite: VersionTrait {
     fn header() -> &'static str
         ensures { result.now ≡ header design };
 
-    /// The nonce of a token, from the nonce that was given and the text.
-    fn token_nonce(given: &[u8], text: &[u8]) -> [u8; 32]
-        requires { length given.now ≡ 32 }
-        ensures { result ≡ design.token_nonce given.now text.now };
+    /// The nonce of a token, from the seed and the text.
+    fn token_nonce(seed: &[u8], text: &[u8]) -> [u8; 32]
+        requires { length seed.now ≡ 32 }
+        ensures { result ≡ design.token_nonce seed.now text.now };
 
     /// The keys of a token, from the key and the token's nonce.
     fn split(key: &[u8; 32], nonce: &[u8; 32]) -> Self::Keys
         ensures { IsSplit result key.now nonce.now };
 
     /// Encrypts a text, or decrypts it, in place.
-    fn mask(keys: &Self::Keys, bytes: &mut [u8])
-        ensures { (key nonce : List ℕ) → IsSplit keys.now key nonce → bytes.new ≡ design.mask key nonce bytes.old };
+    fn apply_keystream(keys: &Self::Keys, bytes: &mut [u8])
+        ensures { (key nonce : List ℕ) → IsSplit keys.now key nonce → bytes.new ≡ design.apply_keystream key nonce bytes.old };
 
     /// Writes the tag of the pieces. The pieces are taken one by one, with no copy of them.
     fn write_tag(keys: &Self::Keys, pieces: &[&[u8]], tag: &mut [u8])

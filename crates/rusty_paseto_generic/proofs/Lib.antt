@@ -1,5 +1,5 @@
 pub mod MapLemmas
 pub mod RuleLemmas
-pub mod WalkLemmas
+pub mod CheckLemmas
 pub mod ParseLemmas
 pub mod AnswerLaws

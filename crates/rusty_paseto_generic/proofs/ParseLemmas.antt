@@ -84,9 +84,9 @@ reading_apart text value (ClaimError source) reads fault =
 reading_apart text value (CipherError source) reads fault = fault
 reading_apart text value (Memory refused) reads fault = fault
 
-meets_apart : (required : Bool) (stored : Option Data) (judge : Option Verdict) (key : List ℕ) (found : Data) (fault : Fault)
-    → Meets (record { required = required; stored = stored; judge = judge }) key found
-    → Misses (record { required = required; stored = stored; judge = judge }) key found fault → ⊥
+meets_apart : (required : Bool) (stored : Option Data) (checker : Option Verdict) (key : List ℕ) (found : Data) (fault : Fault)
+    → Meets (record { required = required; stored = stored; checker = checker }) key found
+    → Misses (record { required = required; stored = stored; checker = checker }) key found fault → ⊥
 meets_apart required None None key found fault meets misses = misses
 meets_apart required (Some stored) None key found fault meets (inl missing) = meets.0 missing.0
 meets_apart required (Some stored) None key found fault meets (inr other) = other.1 meets.1
@@ -94,7 +94,7 @@ meets_apart required stored (Some verdict) key found fault meets misses = cc (me
 
 rule_apart : (rule : Rule Verdict) (key : List ℕ) (found : Data) (fault : Fault) → Passes rule key found → Fails rule key found fault → ⊥
 rule_apart rule key found fault passes (inl absent) = passes.0 absent.0.0 absent.0.1
-rule_apart rule key found fault passes (inr other) = meets_apart rule.required rule.stored rule.judge key found fault passes.1 other.1
+rule_apart rule key found fault passes (inr other) = meets_apart rule.required rule.stored rule.checker key found fault passes.1 other.1
 
 check_apart : (rules : Rules Verdict) (value : Data) (error : GenericParserError) → PassesAll rules value → IsCheckFault rules value error → ⊥
 check_apart rules value (ClaimError source) passes fault =
@@ -131,7 +131,7 @@ text_answer rules text result ok err = record { value = ok; complete = completes
 
 -- ---- what is answered for a token
 
--- want of memory stays so, and no other error becomes it
+-- a failed allocation stays so, and no other error becomes it
 of_cipher-cases : (error : PasetoError) → IsMemory (of_cipher error) ⊎ ((IsMemoryOfCipher error → ⊥) × (of_cipher error ≡ CipherError error))
 of_cipher-cases (Cipher.Memory refused) = inl tt
 of_cipher-cases (Cipher.PasetoCipherError' _ _) = inr (λ memory. memory, refl)

@@ -12,11 +12,11 @@ use Rattle.rusty_paseto_claims.specs.declared.PasetoClaimError.{PasetoClaimError
 use Rattle.rusty_paseto_claims.specs.declared.PasetoClaimError.TheVariants as Claim
 use Rattle.rusty_paseto_generic.specs.Error.Parser.{IsMemory, of_claim}
 use Rattle.rusty_paseto_generic.specs.Parsers.Held.{HasEach, HasMore, rule_of}
-use Rattle.rusty_paseto_generic.specs.Parsers.Rules.{AreSame, Rule, Rules, all_judged, all_stored, no_rule, edited, with_judge, with_stored}
+use Rattle.rusty_paseto_generic.specs.Parsers.Rules.{AreSame, Rule, Rules, all_with_checkers, all_stored, no_rule, edited, with_checker, with_stored}
 use Rattle.rusty_paseto_generic.specs.declared.parsers.checks.Check.{Check}
-use Rattle.rusty_paseto_generic.specs.declared.parsers.checks.Judge.{Judge}
+use Rattle.rusty_paseto_generic.specs.declared.parsers.checks.Checker.{Checker}
 
--- want of memory of a claim is that of a parser
+-- a failed allocation of a claim is that of a parser
 pub memory_of_claim : (error : PasetoClaimError) → fault_of error ≡ None → IsMemory (of_claim error)
 memory_of_claim Claim.Expired none = cc none
 memory_of_claim (Claim.UseBeforeAvailable t) none = cc none
@@ -30,7 +30,7 @@ memory_of_claim (Claim.DuplicateTopLevelPayloadClaim k) none = cc none
 memory_of_claim (Claim.Memory refused) none = tt
 
 -- what is checked under a key, of a map of checks
-abbrev pub rule_at : {B : Type 0} → BTreeMap (String Global) (Check B) → List ℕ → Rule (Judge B)
+abbrev pub rule_at : {B : Type 0} → BTreeMap (String Global) (Check B) → List ℕ → Rule (Checker B)
 rule_at m key = option_map_or rule_of (get_by_text m key) no_rule
 
 -- the map has this entry at the bytes of a text, and its others as they were
@@ -42,7 +42,7 @@ none_from_test None h = refl
 none_from_test (Some x) h = cc h
 
 changed_at : {B : Type 0} (same : Bool) (bs key : List ℕ) (m : BTreeMap (String Global) (Check B)) (old new : Check B)
-    (change : Rule (Judge B) → Rule (Judge B)) → bytes_eq bs key ≡ same → get_by_text m bs ≡ Some old
+    (change : Rule (Checker B) → Rule (Checker B)) → bytes_eq bs key ≡ same → get_by_text m bs ≡ Some old
     → rule_of new ≡ change (rule_of old)
     → option_map_or rule_of (cond same (Some new) (get_by_text m key)) no_rule ≡ cond same (change (rule_at m key)) (rule_at m key)
 changed_at true bs key m old new change is found made = rw (← (bytes_eq-Decides bs key).0 is, found) made
@@ -50,7 +50,7 @@ changed_at false bs key m old new change is found made = refl
 
 -- an entry that was there is changed
 pub changed : {B : Type 0} (bs : List ℕ) (m n : BTreeMap (String Global) (Check B)) (old new : Check B)
-    (change : Rule (Judge B) → Rule (Judge B)) → Puts bs m n new → get_by_text m bs ≡ Some old
+    (change : Rule (Checker B) → Rule (Checker B)) → Puts bs m n new → get_by_text m bs ≡ Some old
     → rule_of new ≡ change (rule_of old) → (key : List ℕ) → rule_at n key ≡ edited bs change (rule_at m) key
 changed bs m n old new change puts found made key =
     rw (btree_map_updates_text bs m n (Some new) puts key) (changed_at (bytes_eq bs key) bs key m old new change refl found made)
@@ -89,9 +89,9 @@ pub all_stored-same : {J : Type 0} (more : Members) (r s : Rules J) → AreSame 
 all_stored-same no_members r s same = same
 all_stored-same (member key value more) r s same = all_stored-same more _ _ (edited-same key (with_stored value) r s same)
 
-pub all_judged-same : {J : Type 0} (more : List (List ℕ × J)) (r s : Rules J) → AreSame r s → AreSame (all_judged more r) (all_judged more s)
-all_judged-same [] r s same = same
-all_judged-same (named ∷ more) r s same = all_judged-same more _ _ (edited-same named.0 (with_judge named.1) r s same)
+pub all_with_checkers-same : {J : Type 0} (more : List (List ℕ × J)) (r s : Rules J) → AreSame r s → AreSame (all_with_checkers more r) (all_with_checkers more s)
+all_with_checkers-same [] r s same = same
+all_with_checkers-same (named ∷ more) r s same = all_with_checkers-same more _ _ (edited-same named.0 (with_checker named.1) r s same)
 
 -- ---- which keys have an entry
 

@@ -4,5 +4,5 @@ mod claims;
 mod generic_builder;
 mod setter;
 
-pub use generic_builder::{GenericBuilder, UnboxedVersion};
+pub use generic_builder::{GenericBuilder, GenericLocalVersion};
 pub use setter::ClaimSetter;

@@ -60,7 +60,7 @@ impl From<AllocError> for GenericBuilderError {
     }
 }
 
-/// Want of memory stays want of memory.
+/// A failed allocation stays one.
 impl From<PasetoClaimError> for GenericBuilderError {
     ghost from_gives = { λ source error. error ≡ of_claim source };
 
@@ -72,7 +72,7 @@ impl From<PasetoClaimError> for GenericBuilderError {
     }
 }
 
-/// Want of memory stays want of memory.
+/// A failed allocation stays one.
 impl From<PasetoError> for GenericBuilderError {
     ghost from_gives = { λ source error. error ≡ of_cipher source };
 
@@ -84,7 +84,7 @@ impl From<PasetoError> for GenericBuilderError {
     }
 }
 
-/// Want of memory stays want of memory.
+/// A failed allocation stays one.
 impl From<serde_json::Error> for GenericBuilderError {
     ghost from_gives = { IsOfJson };
 
@@ -147,7 +147,7 @@ impl From<AllocError> for GenericParserError {
     }
 }
 
-/// Want of memory stays want of memory.
+/// A failed allocation stays one.
 impl From<PasetoClaimError> for GenericParserError {
     ghost from_gives = { λ source error. error ≡ parser_of_claim source };
 
@@ -159,7 +159,7 @@ impl From<PasetoClaimError> for GenericParserError {
     }
 }
 
-/// Want of memory stays want of memory.
+/// A failed allocation stays one.
 impl From<PasetoError> for GenericParserError {
     ghost from_gives = { λ source error. error ≡ parser_of_cipher source };
 
@@ -171,7 +171,7 @@ impl From<PasetoError> for GenericParserError {
     }
 }
 
-/// Want of memory stays want of memory.
+/// A failed allocation stays one.
 impl From<serde_json::Error> for GenericParserError {
     ghost from_gives = { IsParserOfJson };
 

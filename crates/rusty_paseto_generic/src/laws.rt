@@ -3,12 +3,12 @@
 
 ghost use Rattle.rusty_paseto_generic.specs.Laws.{BoxedAnswersText, BoxedClaimsParse, OpenedAnswersText, SealedClaimsParse, SignedClaimsParse, VerifiedAnswersText};
 
-use crate::builders::UnboxedVersion;
+use crate::builders::GenericLocalVersion;
 use rusty_paseto_core::Verifies;
 
 /// The claims that `try_encrypt` of a builder sealed are what `parse` answers, under the same key, footer and
 /// implicit assertion, where they pass its checks and their values are nested at most 126 deep.
-pub fn sealed_claims_parse<V: UnboxedVersion>()
+pub fn sealed_claims_parse<V: GenericLocalVersion>()
     ensures { SealedClaimsParse V.design }
 {}
 
@@ -24,7 +24,7 @@ pub fn signed_claims_parse<V: Verifies<S>, S>()
 {}
 
 /// What `parse` answers for a token that opens depends on the token's text and the checks alone.
-pub fn opened_answers_text<V: UnboxedVersion>()
+pub fn opened_answers_text<V: GenericLocalVersion>()
     ensures { OpenedAnswersText V.design }
 {}
 

@@ -21,7 +21,7 @@ mod parsers;
 mod validator;
 mod whole;
 
-pub use builders::{ClaimSetter, GenericBuilder, UnboxedVersion};
+pub use builders::{ClaimSetter, GenericBuilder, GenericLocalVersion};
 pub use error::{GenericBuilderError, GenericParserError};
 pub use explained::Explained;
 pub use itself::Itself;

@@ -2,12 +2,12 @@
 
 mod checks;
 mod generic_parser;
-mod judge;
+mod check_entry;
 mod parsing;
 mod reading;
 mod setter;
 mod times;
-mod walk;
+mod check_all;
 
 pub use generic_parser::{GenericParser, TokenParser};
 pub use setter::CheckSetter;

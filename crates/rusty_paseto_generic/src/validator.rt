@@ -1,4 +1,4 @@
-//! What judges a value under a key, on behalf of a caller.
+//! What checks a value under a key, on behalf of a caller.
 
 ghost use Rattle.std.specs.Prelude.{◌≡◌, None, IfErr, OnOk};
 ghost use Rattle.serde_json.specs.View.{view};
@@ -28,5 +28,5 @@ pub trait Validator: Drop {
 /// A validator of any type, boxed.
 pub type ValidatorFn = Box<dyn Validator>;
 
-/// Validators by the keys that they judge.
+/// Validators by the keys that they check.
 pub type ValidatorMap = BTreeMap<String, ValidatorFn>;

@@ -1,4 +1,4 @@
--- Sections and their spelling.
+-- Sections and their base64url.
 use Rattle.std.proofs.Common.{◌≡◌, ◌≢◌, ◌↔◌, ℕ, ◌+◌, ◌*◌, ◌/◌, ◌%◌, ◌<◌, ◌==◌, Bool, true, false, not, List, [], ◌∷◌, ◌++◌, length, min, length-append, get_or, slice_index, Option, Some, Bor, refl, sym, ap, subst, ◌∙◌, arith, inl, inr}
 use Rattle.std.specs.Option.{option_map_or}
 use Rattle.std.specs.List.{All, list_all, join_with_byte, slice_split, onto_first}
@@ -13,7 +13,7 @@ use Rattle.base64.specs.Engines.{url_safe_no_pad}
 use Rattle.base64.specs.GeneralPurpose.{IsBytes, IsConsistent, decode_of, encode_of, engine_symbols}
 use Rattle.base64.specs.Rfc4648.{encode_symbols}
 use Rattle.base64.proofs.EngineFacts.{decode_of-encode_of, encode_of-append, encode_of-nil}
-use Rattle.rusty_paseto_parts.specs.Section.{AreSections, HasNoDot, sections, spelling}
+use Rattle.rusty_paseto_parts.specs.Section.{AreSections, HasNoDot, sections, base64url}
 
 -- ---- sections
 
@@ -84,7 +84,7 @@ more_sections text first found rest split is =
     let whole : sections text ≡ first ∷ sections rest.now = rw is at split in
     rw whole (omega arith)
 
--- ---- spelling
+-- ---- base64url
 
 injective_of : (e : GeneralPurpose) (a b : List ℕ) → IsConsistent e → IsBytes a → IsBytes b → encode_of e a ≡ encode_of e b → a ≡ b
 injective_of e a b consistent bytes_a bytes_b same =
@@ -93,41 +93,41 @@ injective_of e a b consistent bytes_a bytes_b same =
     let decoded : decode_of e (encode_of e a) ≡ decode_of e (encode_of e b) = ap (decode_of e) same in
     cc
 
--- Bytes of the same spelling are equal.
-pub spelling-injective : (a b : List ℕ) → IsBytes a → IsBytes b → spelling a ≡ spelling b → a ≡ b
-unfolding spelling
-spelling-injective a b bytes_a bytes_b same = injective_of url_safe_no_pad a b refl bytes_a bytes_b same
+-- Bytes of the same base64url are equal.
+pub base64url-injective : (a b : List ℕ) → IsBytes a → IsBytes b → base64url a ≡ base64url b → a ≡ b
+unfolding base64url
+base64url-injective a b bytes_a bytes_b same = injective_of url_safe_no_pad a b refl bytes_a bytes_b same
 
-pub spelling-nil : spelling [] ≡ []
-unfolding spelling
-spelling-nil = encode_of-nil url_safe_no_pad
+pub base64url-nil : base64url [] ≡ []
+unfolding base64url
+base64url-nil = encode_of-nil url_safe_no_pad
 
--- a text is the spelling of all, where its rest after the spelling of a piece, 48 bytes or the last, is that of the
+-- a text is the base64url of all, where its rest after the base64url of a piece, 48 bytes or the last, is that of the
 -- others
-pub spelled_after : (all piece others rest : List ℕ) → all ≡ piece ++ others → length piece ≡ min 48 (length all)
-    → (spelling piece ++ rest ≡ spelling all) ↔ (rest ≡ spelling others)
-unfolding spelling
-spelled_after all piece others rest parts size =
+pub base64url_after : (all piece others rest : List ℕ) → all ≡ piece ++ others → length piece ≡ min 48 (length all)
+    → (base64url piece ++ rest ≡ base64url all) ↔ (rest ≡ base64url others)
+unfolding base64url
+base64url_after all piece others rest parts size =
     let sum = ap length parts ∙ length-append piece others in
-    let whole : spelling all ≡ spelling piece ++ spelling others = elim (cases_lt (length all) 48) [
+    let whole : base64url all ≡ base64url piece ++ base64url others = elim (cases_lt (length all) 48) [
       | inl short ↦
           let none : others ≡ [] = nil_from_length others (omega arith) in
-          ap spelling (parts ∙ ap (λ (t : List ℕ). piece ++ t) none ∙ append-nil piece)
-          ∙ sym (append-nil (spelling piece))
-          ∙ ap (λ (t : List ℕ). spelling piece ++ t) (sym (ap spelling none ∙ spelling-nil))
+          ap base64url (parts ∙ ap (λ (t : List ℕ). piece ++ t) none ∙ append-nil piece)
+          ∙ sym (append-nil (base64url piece))
+          ∙ ap (λ (t : List ℕ). base64url piece ++ t) (sym (ap base64url none ∙ base64url-nil))
       | inr long ↦
           let third : length piece % 3 ≡ 0 = omega arith in
-          ap spelling parts ∙ encode_of-append url_safe_no_pad piece others third
+          ap base64url parts ∙ encode_of-append url_safe_no_pad piece others third
     ] in
-    (λ same. append_cancel_left (spelling piece) rest (spelling others) (same ∙ whole), λ same. ap (λ (t : List ℕ). spelling piece ++ t) same ∙ sym whole)
+    (λ same. append_cancel_left (base64url piece) rest (base64url others) (same ∙ whole), λ same. ap (λ (t : List ℕ). base64url piece ++ t) same ∙ sym whole)
 
 -- the 64 symbols
 abbrev pub symbols : List ℕ
 symbols = engine_symbols url_safe_no_pad
 
-pub spelling-symbols : (bytes : List ℕ) → spelling bytes ≡ encode_symbols symbols bytes
-unfolding spelling
-spelling-symbols bytes = append-nil (encode_symbols symbols bytes)
+pub base64url-symbols : (bytes : List ℕ) → base64url bytes ≡ encode_symbols symbols bytes
+unfolding base64url
+base64url-symbols bytes = append-nil (encode_symbols symbols bytes)
 
 one_symbol : (t : List ℕ) (i : ℕ) (rest : List ℕ) → ((k : ℕ) → IsNotDot (slice_index t k)) → HasNoDot rest → HasNoDot (slice_index t i ∷ rest)
 one_symbol t i rest dotless h = All-cons IsNotDot (slice_index t i) rest (dotless i) h
@@ -155,5 +155,5 @@ dotless-table t passes k = elim (cases_lt k (length t)) [
   | inr past ↦ λ is. let zero_is : 0 ≡ 46 = sym (get_or_past t k 0 past) ∙ is in cc zero_is
 ]
 
-pub HasNoDot-spelling : (bytes : List ℕ) → HasNoDot (spelling bytes)
-HasNoDot-spelling bytes = rw spelling-symbols (dotless-encode_symbols symbols bytes (dotless-table symbols refl))
+pub HasNoDot-base64url : (bytes : List ℕ) → HasNoDot (base64url bytes)
+HasNoDot-base64url bytes = rw base64url-symbols (dotless-encode_symbols symbols bytes (dotless-table symbols refl))

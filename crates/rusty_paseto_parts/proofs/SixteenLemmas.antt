@@ -14,9 +14,9 @@ use Rattle.base64.specs.Tables.{all_below}
 use Rattle.base64.specs.Engines.{url_safe_no_pad}
 use Rattle.base64.proofs.EngineFacts.{decode_of_strict, encode_of-append}
 use Rattle.base64.proofs.Tables.{all_below_at, are_tables_inverse, encode-decode_table}
-use Rattle.rusty_paseto_parts.specs.Section.{spelling}
+use Rattle.rusty_paseto_parts.specs.Section.{base64url}
 use Rattle.rusty_paseto_parts.specs.Sixteen.{sixteen, value}
-use Rattle.rusty_paseto_parts.proofs.SectionLemmas.{spelling-symbols, symbols}
+use Rattle.rusty_paseto_parts.proofs.SectionLemmas.{base64url-symbols, symbols}
 
 -- a list of sixteen numbers, by its numbers
 pub sixteen_of : (xs : List ℕ) → length xs ≡ 16 → xs ≡ sixteen (slice_index xs)
@@ -24,20 +24,20 @@ sixteen_of (a ∷ b ∷ c ∷ d ∷ e ∷ f ∷ g ∷ h ∷ i ∷ j ∷ k ∷ l 
 sixteen_of xs long = absurd (omega arith)
 
 -- the three bytes of four values, and those after them, are spelled by the symbols of the values
-pub spelled_group : (t rest : List ℕ) (a b c d : ℕ) → a < 64 → b < 64 → c < 64 → d < 64
+pub base64url_group : (t rest : List ℕ) (a b c d : ℕ) → a < 64 → b < 64 → c < 64 → d < 64
     → encode_symbols t ((a * 4 % 256 + b / 16) % 256 ∷ (b * 16 % 256 + c / 4) % 256 ∷ (c * 64 % 256 + d / 1) % 256 ∷ rest)
     ≡ slice_index t a ∷ slice_index t b ∷ slice_index t c ∷ slice_index t d ∷ encode_symbols t rest
 unfolding encode_symbols
-spelled_group t rest a b c d ha hb hc hd =
+base64url_group t rest a b c d ha hb hc hd =
     let first : (a * 4 % 256 + b / 16) % 256 / 4 ≡ a = omega arith in
     let second : (a * 4 % 256 + b / 16) % 256 % 4 * 16 + (b * 16 % 256 + c / 4) % 256 / 16 ≡ b = omega arith in
     let third : (b * 16 % 256 + c / 4) % 256 % 16 * 4 + (c * 64 % 256 + d / 1) % 256 / 64 ≡ c = omega arith in
     let fourth : (c * 64 % 256 + d / 1) % 256 % 64 ≡ d = omega arith in
     rw (first, second, third, fourth) refl
 
-pub spelled_none : (t : List ℕ) → encode_symbols t [] ≡ []
+pub base64url_none : (t : List ℕ) → encode_symbols t [] ≡ []
 unfolding encode_symbols
-spelled_none t = refl
+base64url_none t = refl
 
 -- ---- the lanes of the code
 
@@ -106,31 +106,31 @@ pub sixteen_read : (text chars values bytes : List ℕ) → length text ≡ 16 �
     → ((f : ℕ → ℕ) → ((i : ℕ) → f i < 256) → chars ≡ sixteen f → values ≡ sixteen (λ i. value (f i)))
     → ((i : ℕ) → slice_index values i < 64)
     → ((f : ℕ → ℕ) → ((i : ℕ) → f i < 64) → values ≡ sixteen f → (t : List ℕ) → encode_symbols t (take 12 bytes) ≡ sixteen (λ i. slice_index t (f i)))
-    → spelling (take 12 bytes) ≡ text
+    → base64url (take 12 bytes) ≡ text
 sixteen_read text chars values bytes long fits same made low packed =
     let is : values ≡ sixteen (λ i. value (slice_index text i)) = made (slice_index text) fits (same ∙ sixteen_of text long) in
     let size : length values ≡ 16 = ap length is in
     let one : (i : ℕ) → slice_index values i ≡ value (slice_index text i) → slice_index symbols (slice_index values i) ≡ slice_index text i =
     λ i e. ap (slice_index symbols) e ∙ symbol_of_value (slice_index text i) (fits i) (subst (λ (v : ℕ). v < 64) e (low i)) in
     let at = λ (i : ℕ). ap (λ (v : List ℕ). slice_index v i) is in
-    spelling-symbols (take 12 bytes) ∙ packed (slice_index values) low (sixteen_of values size) symbols
+    base64url-symbols (take 12 bytes) ∙ packed (slice_index values) low (sixteen_of values size) symbols
     ∙ (λ k. one 0 (at 0) k ∷ one 1 (at 1) k ∷ one 2 (at 2) k ∷ one 3 (at 3) k ∷ one 4 (at 4) k ∷ one 5 (at 5) k ∷ one 6 (at 6) k ∷ one 7 (at 7) k
     ∷ one 8 (at 8) k ∷ one 9 (at 9) k ∷ one 10 (at 10) k ∷ one 11 (at 11) k ∷ one 12 (at 12) k ∷ one 13 (at 13) k ∷ one 14 (at 14) k ∷ one 15 (at 15) k ∷ [])
     ∙ sym (sixteen_of text long)
 
--- the spelling of whole groups of three bytes, and then of more
-pub spelling-append : (a b : List ℕ) → length a % 3 ≡ 0 → spelling (a ++ b) ≡ spelling a ++ spelling b
-unfolding spelling
-spelling-append a b whole = encode_of-append url_safe_no_pad a b whole
+-- the base64url of whole groups of three bytes, and then of more
+pub base64url-append : (a b : List ℕ) → length a % 3 ≡ 0 → base64url (a ++ b) ≡ base64url a ++ base64url b
+unfolding base64url
+base64url-append a b whole = encode_of-append url_safe_no_pad a b whole
 
-pub spelling-nil : spelling [] ≡ []
-unfolding spelling encode_symbols
-spelling-nil = refl
+pub base64url-nil : base64url [] ≡ []
+unfolding base64url encode_symbols
+base64url-nil = refl
 
 -- twelve bytes more
-pub more_read : (text bytes part : List ℕ) (n k w : ℕ) → spelling (take (12 * n) bytes) ≡ take (16 * n) text → length part ≡ 16
-    → 12 * n + 16 ≤ length bytes → w ≡ 16 → spelling (take 12 part) ≡ take w (drop (16 * n) text)
-    → spelling (take (12 * (n + 1)) (put_mid (12 * n) k bytes part)) ≡ take (16 * (n + 1)) text
+pub more_read : (text bytes part : List ℕ) (n k w : ℕ) → base64url (take (12 * n) bytes) ≡ take (16 * n) text → length part ≡ 16
+    → 12 * n + 16 ≤ length bytes → w ≡ 16 → base64url (take 12 part) ≡ take w (drop (16 * n) text)
+    → base64url (take (12 * (n + 1)) (put_mid (12 * n) k bytes part)) ≡ take (16 * (n + 1)) text
 more_read text bytes part n k w so_far size fits width here =
     let all : List ℕ = put_mid (12 * n) k bytes part in
     let front : List ℕ = take (12 * n) bytes in
@@ -141,16 +141,16 @@ more_read text bytes part n k w so_far size fits width here =
     sym (take-take (12 * (n + 1)) (12 * n + 16) all (omega arith)) ∙ ap (take (12 * (n + 1))) whole
     ∙ ap (λ (m : ℕ). take m (front ++ part)) (sym to) ∙ take-append-add front part 12 in
     let place : 16 * n + 16 ≡ 16 * (n + 1) = omega arith in
-    ap spelling cut ∙ spelling-append front (take 12 part) (omega arith)
+    ap base64url cut ∙ base64url-append front (take 12 part) (omega arith)
     ∙ ap₂ ◌++◌ so_far (here ∙ ap (λ (m : ℕ). take m (drop (16 * n) text)) width)
     ∙ sym (take-add (16 * n) 16 text) ∙ ap (λ (m : ℕ). take m text) place
 
 -- the bytes of the front of a text, and behind them those of the rest
-pub rest_read : (text front out : List ℕ) (n len k w : ℕ) → spelling (take (12 * n) front) ≡ take (16 * n) text → 12 * n ≤ length front
+pub rest_read : (text front out : List ℕ) (n len k w : ℕ) → base64url (take (12 * n) front) ≡ take (16 * n) text → 12 * n ≤ length front
     → len ≤ length out → ((i : ℕ) → slice_index text i < 256) → w ≡ length text - 16 * n
     → decode_of url_safe_no_pad (take w (drop (16 * n) text)) ≡ Ok (take len out)
-    → text ≡ spelling (take (12 * n + len) (put_mid (12 * n) k front out))
-unfolding spelling
+    → text ≡ base64url (take (12 * n + len) (put_mid (12 * n) k front out))
+unfolding base64url
 rest_read text front out n len k w so_far fits within bytes width decoded =
     let all : List ℕ = put_mid (12 * n) k front out in
     let before : List ℕ = take (12 * n) front in
@@ -165,4 +165,4 @@ rest_read text front out n len k w so_far fits within bytes width decoded =
     let rest : behind ≡ encode_of url_safe_no_pad (take len out) =
     decode_of_strict url_safe_no_pad behind (take len out) (refl, refl) are_bytes (ap (decode_of url_safe_no_pad) (sym everything) ∙ decoded) in
     sym (take-append-drop (16 * n) text) ∙ ap₂ ◌++◌ (sym so_far) rest
-    ∙ sym (spelling-append before (take len out) (omega arith)) ∙ ap spelling (sym cut)
+    ∙ sym (base64url-append before (take len out) (omega arith)) ∙ ap base64url (sym cut)

@@ -1,4 +1,4 @@
--- The sections of a token's text, and their spelling (PASETO specification, "PASETO Message Format").
+-- The sections of a token's text, and their base64url (PASETO specification, "PASETO Message Format").
 use Rattle.std.specs.Prelude.{◌≡◌, ◌≢◌, ℕ, ◌<◌, ◌≤◌, ◌==◌, List, length, ⊤, All, Err}
 use Rattle.std.specs.List.{slice_split, join_with_byte}
 use Rattle.base64.specs.Engines.{url_safe_no_pad}
@@ -26,12 +26,12 @@ abbrev pub HasCount : List (List ℕ) → Type 0
 HasCount parts = (3 ≤ length parts) × (length parts ≤ 4)
 
 -- base64url without padding (RFC 4648, section 5)
-unfoldable pub spelling : List ℕ → List ℕ
-spelling bytes = encode_of url_safe_no_pad bytes
+unfoldable pub base64url : List ℕ → List ℕ
+base64url bytes = encode_of url_safe_no_pad bytes
 
--- no list of bytes has the text as its spelling
-abbrev pub IsNoSpelling : List ℕ → Type 0
-IsNoSpelling text = (bytes : List ℕ) → IsBytes bytes → text ≢ spelling bytes
+-- no list of bytes has the text as its base64url
+abbrev pub IsNoBase64url : List ℕ → Type 0
+IsNoBase64url text = (bytes : List ℕ) → IsBytes bytes → text ≢ base64url bytes
 
 -- what base64's own reading finds wrong with the text
 abbrev pub IsDecodeFault : List ℕ → DecodeError → Type 0
@@ -40,5 +40,5 @@ IsDecodeFault text fault = decode_of url_safe_no_pad text ≡ Err fault
 -- the errors of reading a section's text, and when they come
 abbrev pub IsSectionFault : List ℕ → PasetoError → Type 0
 IsSectionFault text (Memory _) = ⊤
-IsSectionFault text (PayloadBase64Decode source) = IsNoSpelling text × IsDecodeFault text source
+IsSectionFault text (PayloadBase64Decode source) = IsNoBase64url text × IsDecodeFault text source
 IsSectionFault text _ = ⊥

@@ -4,7 +4,7 @@ use Rattle.std.specs.List.{slice_get}
 use Rattle.std.specs.declared.str.Utf8Error.{Utf8Error as Utf8Fault}
 use Rattle.base64.specs.GeneralPurpose.{IsBytes}
 use Rattle.rusty_paseto_parts.specs.Error.{IsUtf8Fault}
-use Rattle.rusty_paseto_parts.specs.Section.{HasCount, IsSectionFault, spelling}
+use Rattle.rusty_paseto_parts.specs.Section.{HasCount, IsSectionFault, base64url}
 use Rattle.rusty_paseto_parts.specs.declared.error.PasetoError.{PasetoError}
 use Rattle.rusty_paseto_parts.specs.declared.error.PasetoError.TheVariants.{IncorrectSize, Utf8Error}
 use Rattle.rusty_paseto_parts.specs.declared.untrusted_token.UntrustedToken.{UntrustedToken}
@@ -27,7 +27,7 @@ pub record AreKept (parts : List (List ℕ)) (t : UntrustedToken) : Type 0 where
 
 -- the section spells the footer's bytes; without a section there is no footer
 abbrev pub HasFooterBytes : Option (List ℕ) → Option (List ℕ) → Type 0
-HasFooterBytes (Some section) (Some footer) = IsBytes footer × (section ≡ spelling footer)
+HasFooterBytes (Some section) (Some footer) = IsBytes footer × (section ≡ base64url footer)
 HasFooterBytes None None = ⊤
 HasFooterBytes _ _ = ⊥
 
@@ -41,16 +41,16 @@ IsFooterFault (Some section) error = IsSectionFault section error
 IsFooterFault None error = ⊥
 
 -- the section spells bytes that are no text, in which this is found
-pub record SpellsNoText (section : List ℕ) (fault : Utf8Fault) : Type 0 where
+pub record IsBase64urlOfNoText (section : List ℕ) (fault : Utf8Fault) : Type 0 where
   pub footer : List ℕ
   pub bytes : IsBytes footer
-  pub spelled : section ≡ spelling footer
+  pub spelled : section ≡ base64url footer
   pub no_text : ¬ IsUtf8 footer
   pub found : IsUtf8Fault footer fault
 
 -- the errors of reading a footer's text, and when they come
 abbrev pub IsFooterTextFault : Option (List ℕ) → PasetoError → Type 0
-IsFooterTextFault (Some section) (Utf8Error source) = SpellsNoText section source
+IsFooterTextFault (Some section) (Utf8Error source) = IsBase64urlOfNoText section source
 IsFooterTextFault section error = IsFooterFault section error
 
 -- the errors of reading the footer's text in a token of these sections, and when they come

@@ -2,7 +2,7 @@
 
 ghost use Rattle.std.specs.Prelude.{◌≡◌, ◌↔◌, ◌<◌, ◌^◌, ℕ, List, length, map, All};
 ghost use Rattle.rusty_paseto_parts.specs.PreAuthenticationEncoding.{pae};
-ghost use Rattle.rusty_paseto_parts.specs.Section.{AreSections, sections, spelling};
+ghost use Rattle.rusty_paseto_parts.specs.Section.{AreSections, sections, base64url};
 
 /// Two lists of pieces have the same pre-authentication encoding exactly if they are equal.
 pub fn equal_encodings(first: &[&[u8]], second: &[&[u8]])
@@ -28,8 +28,8 @@ fn length_fits(piece: &[u8])
 {}
 
 /// Two lists of bytes have the same base64url encoding exactly if they are equal.
-pub fn equal_spellings(first: &[u8], second: &[u8])
-    ensures { (spelling first.now ≡ spelling second.now) ↔ (first.now ≡ second.now) }
+pub fn equal_base64url(first: &[u8], second: &[u8])
+    ensures { (base64url first.now ≡ base64url second.now) ↔ (first.now ≡ second.now) }
 {}
 
 /// The sections of a text are the only list of at least one part in which no part holds a dot and

@@ -6,7 +6,7 @@ ghost use Rattle.std.specs.String.{string_bytes};
 ghost use Rattle.base64.specs.Decode.{decoded_estimate};
 ghost use Rattle.base64.specs.GeneralPurpose.{IsBytes};
 ghost use Rattle.rusty_paseto_parts.specs.Error.{IsMemory};
-ghost use Rattle.rusty_paseto_parts.specs.Section.{HasCount, IsNoSpelling, IsSectionFault, sections, spelling};
+ghost use Rattle.rusty_paseto_parts.specs.Section.{HasCount, IsNoBase64url, IsSectionFault, sections, base64url};
 
 use crate::error::PasetoError;
 use crate::sixteen::{self, read_sixteens};
@@ -17,7 +17,7 @@ use std::alloc::{AllocError, Global};
 /// How many bytes more than a section has are written past it at most.
 const ROOM: usize = 4;
 
-/// How many bytes are spelled at once where a spelling is compared, and by how many characters.
+/// How many bytes are spelled at once where a base64url is compared, and by how many characters.
 const PIECE: usize = 48;
 
 const SPELLED_PIECE: usize = 64;
@@ -62,7 +62,7 @@ fn first_section(text: &str) -> (&str, Option<&str>)
 ///
 /// Source: RFC 4648, section 5.
 pub fn to_section(alloc: Global, bytes: &[u8]) -> Result<String, PasetoError>
-    ensures ok { IfOk result (λ text. string_bytes text ≡ spelling bytes.now) }
+    ensures ok { IfOk result (λ text. string_bytes text ≡ base64url bytes.now) }
     ensures err { IfErr result IsMemory }
 {
     Ok(URL_SAFE_NO_PAD.encode(alloc, bytes)?)
@@ -73,7 +73,7 @@ pub fn to_section(alloc: Global, bytes: &[u8]) -> Result<String, PasetoError>
 ///
 /// Source: RFC 4648, section 5.
 pub fn push_section(bytes: &[u8], out: &mut String) -> Result<(), PasetoError>
-    ensures ok { OnOk result (string_bytes out.new ≡ string_bytes out.old ++ spelling bytes.now) }
+    ensures ok { OnOk result (string_bytes out.new ≡ string_bytes out.old ++ base64url bytes.now) }
     ensures same { OnErr result (string_bytes out.new ≡ string_bytes out.old) }
     ensures err { IfErr result IsMemory }
 {
@@ -85,11 +85,11 @@ pub fn push_section(bytes: &[u8], out: &mut String) -> Result<(), PasetoError>
 ///
 /// Source: RFC 4648, section 5.
 pub fn is_section_of(text: &str, bytes: &[u8]) -> bool
-    ensures { IsTrue result ↔ (text.now ≡ spelling bytes.now) }
+    ensures { IsTrue result ↔ (text.now ≡ base64url bytes.now) }
 {
     let mut rest = text.as_bytes();
     'pieces: for piece in bytes.chunks(PIECE) {
-        let Some(after) = strip_spelling(rest, piece) else {
+        let Some(after) = strip_base64url(rest, piece) else {
             return false;
         };
         rest = after;
@@ -97,11 +97,11 @@ pub fn is_section_of(text: &str, bytes: &[u8]) -> bool
     rest.is_empty()
 }
 
-// What stands after the spelling of a piece, where the text begins with it.
-fn strip_spelling<'a>(text: &'a [u8], piece: &[u8]) -> Option<&'a [u8]>
+// What stands after the base64url of a piece, where the text begins with it.
+fn strip_base64url<'a>(text: &'a [u8], piece: &[u8]) -> Option<&'a [u8]>
     requires { length piece.now ≤ 48 }
-    ensures { MatchOption result ((rest : List ℕ) → text.now ≢ spelling piece.now ++ rest)
-        (λ rest. text.now ≡ spelling piece.now ++ rest.now) }
+    ensures { MatchOption result ((rest : List ℕ) → text.now ≢ base64url piece.now ++ rest)
+        (λ rest. text.now ≡ base64url piece.now ++ rest.now) }
 {
     let mut spelled = [0u8; SPELLED_PIECE];
     let Ok(len) = URL_SAFE_NO_PAD.encode_slice(piece, &mut spelled) else {
@@ -118,17 +118,17 @@ fn strip_spelling<'a>(text: &'a [u8], piece: &[u8]) -> Option<&'a [u8]>
 ///
 /// Source: RFC 4648, section 5.
 pub fn from_section(alloc: Global, text: &str) -> Result<Vec<u8>, PasetoError>
-    ensures ok { IfOk result (λ bytes. text.now ≡ spelling bytes.items) }
+    ensures ok { IfOk result (λ bytes. text.now ≡ base64url bytes.items) }
     ensures bytes { IfOk result (λ bytes. IsBytes bytes.items) }
-    ensures read { (bytes : List ℕ) → IsBytes bytes → text.now ≡ spelling bytes
+    ensures read { (bytes : List ℕ) → IsBytes bytes → text.now ≡ base64url bytes
         → MatchResult result (λ found. found.items ≡ bytes) IsMemory }
-    ensures none { IsNoSpelling text.now → IsErr result }
+    ensures none { IsNoBase64url text.now → IsErr result }
     ensures err { IfErr result (IsSectionFault text.now) }
 {
-    if let Some(bytes) = read_spelling(alloc, text)? {
+    if let Some(bytes) = read_base64url(alloc, text)? {
         return Ok(bytes);
     }
-    // Why it is no spelling.
+    // Why it is no base64url.
     match URL_SAFE_NO_PAD.decode(alloc, text.as_bytes()) {
         Ok(bytes) => Ok(bytes),
         Err(DecodeAllocError::DecodeError(source)) => {
@@ -138,9 +138,9 @@ pub fn from_section(alloc: Global, text: &str) -> Result<Vec<u8>, PasetoError>
     }
 }
 
-// The bytes of which a text is the spelling, or `None` where it is none.
-fn read_spelling(alloc: Global, text: &str) -> Result<Option<Vec<u8>>, AllocError>
-    ensures { IfOk result (λ read. IfSome read (λ bytes. (text.now ≡ spelling bytes.items) × IsBytes bytes.items)) }
+// The bytes of which a text is the base64url, or `None` where it is none.
+fn read_base64url(alloc: Global, text: &str) -> Result<Option<Vec<u8>>, AllocError>
+    ensures { IfOk result (λ read. IfSome read (λ bytes. (text.now ≡ base64url bytes.items) × IsBytes bytes.items)) }
 {
     let mut bytes = vec![in alloc; 0u8; decoded_len_estimate(text.len()) + ROOM]?;
     let Some(len) = read_into(text.as_bytes(), &mut bytes) else {
@@ -150,11 +150,11 @@ fn read_spelling(alloc: Global, text: &str) -> Result<Option<Vec<u8>>, AllocErro
     Ok(Some(bytes))
 }
 
-// Writes the bytes of which a text is the spelling, and tells how many they are: those of the front of
+// Writes the bytes of which a text is the base64url, and tells how many they are: those of the front of
 // the text sixteen characters at once, and the rest by the engine.
 fn read_into(text: &[u8], bytes: &mut [u8]) -> Option<usize>
     requires { decoded_estimate (length text.now) + 4 ≤ length bytes.old }
-    ensures spelled { IfSome result (λ len. text.now ≡ spelling (take len bytes.new)) }
+    ensures spelled { IfSome result (λ len. text.now ≡ base64url (take len bytes.new)) }
     ensures bytes { IsBytes bytes.new }
 {
     let count = read_sixteens(text, bytes);

@@ -2,7 +2,7 @@
 
 ghost use Rattle.std.specs.Prelude.{◌≡◌, ℕ, ◌+◌, ◌*◌, ◌/◌, ◌<◌, ◌≤◌, List, IsTrue, length, take, slice_index};
 ghost use Rattle.base64.specs.Rfc4648.{encode_symbols};
-ghost use Rattle.rusty_paseto_parts.specs.Section.{spelling};
+ghost use Rattle.rusty_paseto_parts.specs.Section.{base64url};
 ghost use Rattle.rusty_paseto_parts.specs.Sixteen.{sixteen, value};
 
 use std::simd::u8x16;
@@ -60,13 +60,13 @@ fn are_values(values: u8x16) -> bool
     !values.simd_gt(u8x16::splat(63)).any()
 }
 
-// Writes the twelve bytes of which sixteen characters are the spelling, and four more. `false` where one
+// Writes the twelve bytes of which sixteen characters are the base64url, and four more. `false` where one
 // of the characters is none of the alphabet.
 #[inline(always)]
 fn read_sixteen(text: &[u8], bytes: &mut [u8]) -> bool
     requires text { length text.now ≡ 16 }
     requires bytes { length bytes.old ≡ 16 }
-    ensures { IsTrue result → spelling (take 12 bytes.new) ≡ text.now }
+    ensures { IsTrue result → base64url (take 12 bytes.new) ≡ text.now }
 {
     let values = values(u8x16::from_slice(text));
     if !are_values(values) {
@@ -81,7 +81,7 @@ fn read_sixteen(text: &[u8], bytes: &mut [u8]) -> bool
 pub(crate) fn read_sixteens(text: &[u8], bytes: &mut [u8]) -> usize
     requires room { 12 * (length text.now / 16) + 4 ≤ length bytes.old }
     ensures within { 16 * result ≤ length text.now }
-    ensures spelled { spelling (take (12 * result) bytes.new) ≡ take (16 * result) text.now }
+    ensures spelled { base64url (take (12 * result) bytes.new) ≡ take (16 * result) text.now }
 {
     let count = text.len() / CHARACTERS;
     'sixteens: for n in 0..count {

@@ -4,7 +4,7 @@ use Rattle.std.specs.declared.alloc.Global.{Global}
 use Rattle.std.specs.declared.string.String.{String}
 use Rattle.sha2.specs.Sha512.{sha384}
 use Rattle.rusty_paseto_primitives.specs.Blake2.Keyed.{blake2b}
-use Rattle.rusty_paseto_parts.specs.Section.{spelling}
+use Rattle.rusty_paseto_parts.specs.Section.{base64url}
 use Rattle.rusty_paseto_paserk.specs.declared.header.PaserkVersion.{PaserkVersion}
 use Rattle.rusty_paseto_paserk.specs.declared.header.PaserkVersion.TheVariants.{V1, V2, V3, V4}
 use Rattle.rusty_paseto_paserk.specs.declared.header.PaserkType.{PaserkType}
@@ -22,7 +22,7 @@ hash V4 message = blake2b [] 33 message
 
 -- the id of the key of this text
 unfoldable pub id_of_text : PaserkVersion → PaserkType → List ℕ → List ℕ
-id_of_text version kind text = id_header version kind ++ spelling (hash version (id_header version kind ++ text))
+id_of_text version kind text = id_header version kind ++ base64url (hash version (id_header version kind ++ text))
 
 -- the id of a key
 abbrev pub id_of : PaserkVersion → PaserkType → List ℕ → List ℕ

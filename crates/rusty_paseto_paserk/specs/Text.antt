@@ -5,7 +5,7 @@ use Rattle.std.specs.declared.alloc.Global.{Global}
 use Rattle.std.specs.declared.string.String.{String}
 use Rattle.std.specs.declared.vec.Vec.{Vec}
 use Rattle.base64.specs.GeneralPurpose.{IsBytes}
-use Rattle.rusty_paseto_parts.specs.Section.{spelling}
+use Rattle.rusty_paseto_parts.specs.Section.{base64url}
 use Rattle.rusty_paseto_paserk.specs.declared.header.PaserkVersion.{PaserkVersion}
 use Rattle.rusty_paseto_paserk.specs.declared.header.PaserkType.{PaserkType}
 use Rattle.rusty_paseto_paserk.specs.declared.header.PaserkType.TheVariants.{Secret}
@@ -16,7 +16,7 @@ use Rattle.rusty_paseto_paserk.specs.Error.{IsMemory}
 
 -- the text of a key
 abbrev pub writing : PaserkVersion → PaserkType → List ℕ → List ℕ
-writing version kind key = header version kind ++ spelling key
+writing version kind key = header version kind ++ base64url key
 
 -- the text is the writing of no key of this version and type
 abbrev pub IsNoWriting : PaserkVersion → PaserkType → (List ℕ → Type 0) → List ℕ → Type 0

@@ -1,7 +1,7 @@
 //! The text of a key, of any version and type: the header, and the base64url encoding of the key's bytes.
 
 ghost use Rattle.std.specs.Prelude.{◌≡◌, ◌++◌, IfOk, IfErr, OnOk, string_bytes};
-ghost use Rattle.rusty_paseto_parts.specs.Section.{spelling};
+ghost use Rattle.rusty_paseto_parts.specs.Section.{base64url};
 ghost use Rattle.rusty_paseto_paserk.specs.Error.{IsMemory};
 ghost use Rattle.rusty_paseto_paserk.specs.Text.{ReadsBytes, writing};
 
@@ -54,7 +54,7 @@ pub(crate) fn read_bytes(
 
 /// Appends the base64url encoding of bytes to a text. It fails only by `Memory`.
 pub(crate) fn push_encoded(bytes: &[u8], text: &mut String) -> Result<(), PaserkError>
-    ensures ok { OnOk result (string_bytes text.new ≡ string_bytes text.old ++ spelling bytes.now) }
+    ensures ok { OnOk result (string_bytes text.new ≡ string_bytes text.old ++ base64url bytes.now) }
     ensures err { IfErr result IsMemory }
 {
     URL_SAFE_NO_PAD.encode_string(bytes, text)?;

@@ -6,7 +6,7 @@ use Rattle.rusty_paseto_primitives.proofs.AesBytes.{agree_below, values}
 use Rattle.rusty_paseto_primitives.proofs.AesPlanes.{and-byte, bit-byte, byte-agree, byte-lt, xor-byte}
 use Rattle.rusty_paseto_primitives.proofs.Below.{below_eight}
 
--- a sum of two bits of which one is masked away
+-- a sum of two bits of which one is xored away
 pick_first : (a b : Bool) → differ (a && true) (b && false) ≡ a
 pick_first true true = refl
 pick_first true false = refl

@@ -3,12 +3,12 @@ use Rattle.std.proofs.Common.{◌≡◌, ℕ, ◌+◌, ◌-◌, ◌*◌, ◌/◌
 use Rattle.std.specs.Int.{w128, from_be_bytes, to_be_bytes}
 use Rattle.std.specs.List.{range_with_len}
 use Rattle.std.proofs.lemmas.List.FromFn.{get_or-map-range_with_len}
-use Rattle.rusty_paseto_primitives.specs.Keystream.{masked, stream_of_blocks}
+use Rattle.rusty_paseto_primitives.specs.Keystream.{xored, stream_of_blocks}
 use Rattle.rusty_paseto_primitives.specs.Aes.Cipher.{aes256, cipher}
 use Rattle.rusty_paseto_primitives.specs.Aes.Counter.{aes256_ctr_stream}
 use Rattle.rusty_paseto_primitives.specs.Aes.KeySchedule.{key_expansion}
 use Rattle.rusty_paseto_primitives.proofs.AesGroups.{length-cipher}
-use Rattle.rusty_paseto_primitives.proofs.Masking.{masked_in_two}
+use Rattle.rusty_paseto_primitives.proofs.Xored.{xored_in_two}
 
 -- block n of the keystream of a schedule, from the counter `start` on
 abbrev pub counter_block_of : List ℕ → ℕ → ℕ → List ℕ
@@ -51,14 +51,14 @@ pub group-stream : (w : List ℕ) (start next g : ℕ) (v : List (List ℕ)) →
 group-stream w start next g v e f i lt =
     ap (λ (b : List ℕ). slice_index b (i % 16)) (group-at w next v (i / 16) e (omega arith)) ∙ later w start next g i f
 
--- data whose whole groups are masked, and then the rest
-pub masked_by_groups : (key counter w old front back : List ℕ) (start g : ℕ) → w ≡ key_expansion key → start ≡ from_be_bytes w128 counter
-    → g ≡ length old / 128 → front ≡ masked (stream_of_blocks 16 (counter_block_of w start)) (take (128 * g) old)
+-- data whose whole groups are xored, and then the rest
+pub xored_by_groups : (key counter w old front back : List ℕ) (start g : ℕ) → w ≡ key_expansion key → start ≡ from_be_bytes w128 counter
+    → g ≡ length old / 128 → front ≡ xored (stream_of_blocks 16 (counter_block_of w start)) (take (128 * g) old)
     → let now = front ++ drop (128 * g) old in
-    back ≡ masked (stream_of_blocks 16 (counter_block_of w ((start + 8 * g) % 2 ^ 128))) (take (length now - 128 * g) (drop (128 * g) now))
-    → take (128 * g) now ++ (back ++ drop (length now - 128 * g) (drop (128 * g) now)) ≡ masked (aes256_ctr_stream key counter) old
+    back ≡ xored (stream_of_blocks 16 (counter_block_of w ((start + 8 * g) % 2 ^ 128))) (take (length now - 128 * g) (drop (128 * g) now))
+    → take (128 * g) now ++ (back ++ drop (length now - 128 * g) (drop (128 * g) now)) ≡ xored (aes256_ctr_stream key counter) old
 unfolding aes256 aes256_ctr_stream
-masked_by_groups key counter w old front back start g w-is start-is g-is front-is back-is =
-    masked_in_two (stream_of_blocks 16 (counter_block_of w start)) (stream_of_blocks 16 (counter_block_of w ((start + 8 * g) % 2 ^ 128)))
+xored_by_groups key counter w old front back start g w-is start-is g-is front-is back-is =
+    xored_in_two (stream_of_blocks 16 (counter_block_of w start)) (stream_of_blocks 16 (counter_block_of w ((start + 8 * g) % 2 ^ 128)))
     (128 * g) old front back (omega arith) front-is (stream_from w start ((start + 8 * g) % 2 ^ 128) g refl) back-is
-    ∙ ap₂ (λ (v : List ℕ) (n : ℕ). masked (stream_of_blocks 16 (counter_block_of v n)) old) w-is start-is
+    ∙ ap₂ (λ (v : List ℕ) (n : ℕ). xored (stream_of_blocks 16 (counter_block_of v n)) old) w-is start-is

@@ -4,7 +4,7 @@ pub mod ByteLists
 pub mod Differences
 pub mod ChaChaFacts
 pub mod LaneBytes
-pub mod Masking
+pub mod Xored
 pub mod QuarterRounds
 pub mod Quarters
 pub mod StreamBlocks

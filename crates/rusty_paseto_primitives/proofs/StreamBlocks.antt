@@ -1,12 +1,12 @@
 -- The keystream of XChaCha20.
 use Rattle.std.proofs.Common.{◌≡◌, ℕ, ◌+◌, ◌-◌, ◌*◌, ◌/◌, ◌%◌, ◌<◌, ◌^◌, List, ◌++◌, length, take, drop, slice_index, refl, ap, ◌∙◌, arith}
-use Rattle.rusty_paseto_primitives.specs.Keystream.{masked, masked_from, stream_of_blocks}
+use Rattle.rusty_paseto_primitives.specs.Keystream.{xored, xored_from, stream_of_blocks}
 use Rattle.rusty_paseto_primitives.specs.ChaCha.Block.{block_bytes, key_words}
 use Rattle.rusty_paseto_primitives.specs.ChaCha.Lanes.{quarters}
 use Rattle.rusty_paseto_primitives.specs.ChaCha.Stream.{numbered, tail_words, xchacha20_start, xchacha20_stream}
 use Rattle.rusty_paseto_primitives.specs.ChaCha.Subkey.{hchacha20}
 use Rattle.rusty_paseto_primitives.proofs.BlockBytes.{IsBytes-block_bytes}
-use Rattle.rusty_paseto_primitives.proofs.Masking.{masked_from-agree, masked_in_two}
+use Rattle.rusty_paseto_primitives.proofs.Xored.{xored_from-agree, xored_in_two}
 use Rattle.rusty_paseto_primitives.proofs.Quarters.{quarters-agree, stream_after_groups}
 
 -- the keystream is of bytes
@@ -38,25 +38,25 @@ quarters-wrap key tail first count n v n-is made =
     made ∙ quarters-agree (λ j. block_bytes (numbered key tail (n + j))) (λ j. block_bytes (numbered key tail (first + (count + j))))
     (λ j. ap block_bytes (numbered-wraps key tail first count n j n-is))
 
--- data whose whole groups are masked, and then the blocks after them, from block number `first` on
-pub masked_by_groups : (key nonce subkey tail old front back : List ℕ) (first g rest : ℕ)
+-- data whose whole groups are xored, and then the blocks after them, from block number `first` on
+pub xored_by_groups : (key nonce subkey tail old front back : List ℕ) (first g rest : ℕ)
     → subkey ≡ key_words (hchacha20 key (take 16 nonce)) → tail ≡ tail_words nonce → g ≡ length old / 256
     → rest ≡ (first + 4 * g) % 2 ^ 64
-    → front ≡ masked (stream_of_blocks 64 (λ n. block_bytes (numbered subkey tail (first + n)))) (take (256 * g) old)
+    → front ≡ xored (stream_of_blocks 64 (λ n. block_bytes (numbered subkey tail (first + n)))) (take (256 * g) old)
     → let now = front ++ drop (256 * g) old in
-    back ≡ masked (stream_of_blocks 64 (λ n. block_bytes (numbered subkey tail (rest + n)))) (take (length now - 256 * g) (drop (256 * g) now))
+    back ≡ xored (stream_of_blocks 64 (λ n. block_bytes (numbered subkey tail (rest + n)))) (take (length now - 256 * g) (drop (256 * g) now))
     → take (256 * g) now ++ (back ++ drop (length now - 256 * g) (drop (256 * g) now))
-    ≡ masked_from (xchacha20_stream key nonce) (64 * first) old
-unfolding xchacha20_stream masked
-masked_by_groups key nonce subkey tail old front back first g rest subkey-is tail-is g-is rest-is front-is back-is =
+    ≡ xored_from (xchacha20_stream key nonce) (64 * first) old
+unfolding xchacha20_stream xored
+xored_by_groups key nonce subkey tail old front back first g rest subkey-is tail-is g-is rest-is front-is back-is =
     let all : ℕ → List ℕ = λ n. block_bytes (numbered subkey tail n) in
     let block : ℕ → List ℕ = λ n. all (first + n) in
     let after : ℕ → List ℕ = λ n. all (rest + n) in
     let goes_on : (i : ℕ) → stream_of_blocks 64 after i ≡ stream_of_blocks 64 block (256 * g + i) =
     λ i. ap (λ (b : List ℕ). slice_index b (i % 64)) (ap block_bytes (numbered-wraps subkey tail first (4 * g) rest (i / 64) rest-is))
     ∙ stream_after_groups block g i in
-    masked_in_two (stream_of_blocks 64 block) (stream_of_blocks 64 after) (256 * g) old front back (omega arith)
+    xored_in_two (stream_of_blocks 64 block) (stream_of_blocks 64 after) (256 * g) old front back (omega arith)
     front-is goes_on back-is
-    ∙ masked_from-agree (stream_of_blocks 64 block) (stream_of_blocks 64 all) 0 (64 * first) old (λ i h. stream_from_block all first i)
-    ∙ ap (λ (k : List ℕ). masked_from (stream_of_blocks 64 (λ n. block_bytes (numbered k tail n))) (64 * first) old) subkey-is
-    ∙ ap (λ (t : List ℕ). masked_from (stream_of_blocks 64 (λ n. block_bytes (numbered (key_words (hchacha20 key (take 16 nonce))) t n))) (64 * first) old) tail-is
+    ∙ xored_from-agree (stream_of_blocks 64 block) (stream_of_blocks 64 all) 0 (64 * first) old (λ i h. stream_from_block all first i)
+    ∙ ap (λ (k : List ℕ). xored_from (stream_of_blocks 64 (λ n. block_bytes (numbered k tail n))) (64 * first) old) subkey-is
+    ∙ ap (λ (t : List ℕ). xored_from (stream_of_blocks 64 (λ n. block_bytes (numbered (key_words (hchacha20 key (take 16 nonce))) t n))) (64 * first) old) tail-is

@@ -11,7 +11,7 @@ use rusty_paseto_core::{
     Footer, ImplicitAssertion, ImplicitAssertionCapable, Local, Public, PurposeTrait, Signs, V1,
     V2, V3, V4, VersionTrait,
 };
-use rusty_paseto_generic::{ClaimSetter, GenericBuilder, GenericBuilderError, UnboxedVersion};
+use rusty_paseto_generic::{ClaimSetter, GenericBuilder, GenericBuilderError, GenericLocalVersion};
 use std::alloc::Global;
 use std::process::Abort;
 
@@ -58,7 +58,7 @@ fn asserted_of<'a, V: ImplicitAssertionCapable, P: PurposeTrait>(
     Ok(builder)
 }
 
-fn sealed<V: UnboxedVersion>(builder: Builder<'_, V, Local>) -> Token {
+fn sealed<V: GenericLocalVersion>(builder: Builder<'_, V, Local>) -> Token {
     builder?.try_encrypt(&mut Zeros, &symmetric_key(&SECRET))
 }
 

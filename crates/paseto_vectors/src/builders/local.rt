@@ -10,7 +10,7 @@ use rusty_paseto_core::{
     Footer, Key, Local, LocalVersion, Paseto, PasetoError, PasetoNonce, PasetoSymmetricKey,
     Payload, V1, V2, V3, V4, VersionTrait,
 };
-use rusty_paseto_generic::{GenericBuilder, GenericBuilderError, UnboxedVersion};
+use rusty_paseto_generic::{GenericBuilder, GenericBuilderError, GenericLocalVersion};
 use std::alloc::Global;
 use std::process::Abort;
 
@@ -43,7 +43,7 @@ fn is_of_generator(answer: &Result<String, GenericBuilderError>) -> bool {
 }
 
 // The core's token of the payload, with the builder's footer, under the generator's 32 bytes.
-fn core_token<V: UnboxedVersion>(
+fn core_token<V: GenericLocalVersion>(
     rt: &impl Abort,
     alloc: Global,
     key: &PasetoSymmetricKey<V, Local>,
@@ -54,7 +54,7 @@ fn core_token<V: UnboxedVersion>(
     V::seal(alloc, key, &nonce, Payload::from(PAYLOAD), footer, None).expect(rt, "a token")
 }
 
-fn check_token<V: UnboxedVersion>(
+fn check_token<V: GenericLocalVersion>(
     rt: &impl Abort,
     builder: &GenericBuilder<'_, V, Local>,
     key: &PasetoSymmetricKey<V, Local>,
@@ -67,7 +67,7 @@ fn check_token<V: UnboxedVersion>(
 }
 
 // A generator that fails is asked once.
-fn check_failing<V: UnboxedVersion>(
+fn check_failing<V: GenericLocalVersion>(
     rt: &impl Abort,
     builder: &GenericBuilder<'_, V, Local>,
     key: &PasetoSymmetricKey<V, Local>,
@@ -78,7 +78,7 @@ fn check_failing<V: UnboxedVersion>(
 }
 
 // The token is the core's, twice, and once more after a generator that failed.
-fn check<V: UnboxedVersion>(rt: &impl Abort, alloc: Global) {
+fn check<V: GenericLocalVersion>(rt: &impl Abort, alloc: Global) {
     let key = PasetoSymmetricKey::<V, Local>::from(Key::from(KEY));
     let builder = builder_of::<V>(rt, alloc);
     let wanted = core_token::<V>(rt, alloc, &key);

@@ -3,7 +3,7 @@
 use crate::expect::{expect_refusal, expect_text};
 use crate::kinds::{Binding, Kind, SECRET, symmetric_key};
 use rusty_paseto::prelude::{
-    AssertingVersion, BoxlessVersion, ImplicitAssertion, KeyRing, KeyRingError, PasetoError, V1,
+    DefaultAssertionVersion, DefaultLocalVersion, ImplicitAssertion, KeyRing, KeyRingError, PasetoError, V1,
     V3, V4,
 };
 use std::alloc::Global;
@@ -33,7 +33,7 @@ impl<'a> Question<'a> {
 }
 
 // A ring with the secret's key as `k1`, and a key of zeros as `k2`.
-fn ring_for<V: BoxlessVersion>(
+fn ring_for<V: DefaultLocalVersion>(
     alloc: Global,
     question: Question<'_>,
 ) -> Result<KeyRing<V>, KeyRingError> {
@@ -50,7 +50,7 @@ fn ask_version_1(alloc: Global, question: Question<'_>) -> Answer {
     ring_for::<V1>(alloc, question)?.open(question.token)
 }
 
-fn ask_version<V: AssertingVersion>(alloc: Global, question: Question<'_>) -> Answer {
+fn ask_version<V: DefaultAssertionVersion>(alloc: Global, question: Question<'_>) -> Answer {
     let assertion = question.assertion.map(|text| ImplicitAssertion::from(text));
     ring_for::<V>(alloc, question)?.open(question.token, assertion)
 }

@@ -9,7 +9,7 @@ use paseto_toys::ToyBox;
 use paseto_toys::generators::Zeros;
 use paseto_toys::keys::{Keys, ToyVersion};
 use rusty_paseto::prelude::{
-    BoxlessVersion, Footer, GenericBuilderError, GenericParserError, ImplicitAssertion,
+    DefaultLocalVersion, Footer, GenericBuilderError, GenericParserError, ImplicitAssertion,
     ImplicitAssertionCapable, Local, PasetoBuilder, PasetoParser, Public, PurposeTrait, Signs, V1,
     V2, V3, V4, Verifies, VersionTrait, fits_default,
 };
@@ -73,7 +73,7 @@ fn asserting_builder_of<'a, V: ImplicitAssertionCapable, P: PurposeTrait>(
     builder
 }
 
-fn sealed<V: BoxlessVersion>(builder: PasetoBuilder<'_, V, Local>) -> Token {
+fn sealed<V: DefaultLocalVersion>(builder: PasetoBuilder<'_, V, Local>) -> Token {
     builder.build(&mut Zeros, &symmetric_key(&SECRET))
 }
 
@@ -117,7 +117,7 @@ fn asserting_parser_of<'a, V: ImplicitAssertionCapable, P: PurposeTrait>(
     parser
 }
 
-fn opened<V: BoxlessVersion>(parser: PasetoParser<'_, V, Local>, token: &str) -> Answer {
+fn opened<V: DefaultLocalVersion>(parser: PasetoParser<'_, V, Local>, token: &str) -> Answer {
     parser.parse(token, &symmetric_key(&SECRET))
 }
 

@@ -6,7 +6,7 @@ use jiff::Timestamp;
 use paseto_toys::ToyBox;
 use paseto_toys::keys::{Keys, ToyVersion};
 use rusty_paseto::prelude::{
-    AssertingVersion, Footer, GenericParser, ImplicitAssertion, KeyRing, KeyRingError,
+    DefaultAssertionVersion, Footer, GenericParser, ImplicitAssertion, KeyRing, KeyRingError,
     KeyRingParserError, Local, PasetoError, PasetoParser, Public, PublicKeyRing, V1, V2, V3, V4,
     Verifies,
 };
@@ -102,7 +102,7 @@ fn ask(rt: &impl Abort, alloc: Global, kind: Kind, token: &str) -> Opened {
     }
 }
 
-fn ask_asserting<V: ToyVersion + AssertingVersion + Verifies<V::Toy>>(
+fn ask_asserting<V: ToyVersion + DefaultAssertionVersion + Verifies<V::Toy>>(
     rt: &impl Abort,
     alloc: Global,
     token: &str,

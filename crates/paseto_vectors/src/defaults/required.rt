@@ -85,7 +85,7 @@ const REQUIRED: &[(&str, &str)] = &[
         "Could not convert claim 'exp' to the expected data type",
     ),
     (EXP, EXPIRED),
-    // The audience is judged first, since its key comes first.
+    // The audience is checked first, since its key comes first.
     (
         "{\"aud\":\"others\"}",
         "The claim 'aud' failed validation.  Expected 'others' but received 'customers'",

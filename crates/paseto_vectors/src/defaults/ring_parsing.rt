@@ -4,7 +4,7 @@ use crate::expect::{expect_refusal, expect_text};
 use crate::kinds::{Binding, Kind, SECRET, symmetric_key};
 use jiff::Timestamp;
 use rusty_paseto::prelude::{
-    AudienceClaim, BoxlessVersion, CheckSetter, Footer, GenericParser, KeyRing, KeyRingError,
+    AudienceClaim, DefaultLocalVersion, CheckSetter, Footer, GenericParser, KeyRing, KeyRingError,
     KeyRingParserError, Local, PasetoError, PasetoParser, V1, V3, V4,
 };
 use serde_json::Value;
@@ -23,7 +23,7 @@ const EARLY: i64 = 1_735_689_600;
 const LATE: i64 = 1_924_992_000;
 
 // A ring with the secret's key as `k1`, and a key of zeros as `k2`.
-fn ring_of<V: BoxlessVersion>(rt: &impl Abort, alloc: Global) -> KeyRing<V> {
+fn ring_of<V: DefaultLocalVersion>(rt: &impl Abort, alloc: Global) -> KeyRing<V> {
     let mut ring = KeyRing::<V>::new(alloc);
     let second = ring.add("k2", symmetric_key(&[0; 64]));
     let first = ring.add("k1", symmetric_key(&SECRET));
@@ -32,7 +32,7 @@ fn ring_of<V: BoxlessVersion>(rt: &impl Abort, alloc: Global) -> KeyRing<V> {
 }
 
 // A default parser at a moment.
-fn parser_at<'a, V: BoxlessVersion>(
+fn parser_at<'a, V: DefaultLocalVersion>(
     rt: &impl Abort,
     alloc: Global,
     second: i64,
@@ -42,7 +42,7 @@ fn parser_at<'a, V: BoxlessVersion>(
 }
 
 // What the ring answers for a token of the text, by the parser.
-fn parsed<V: BoxlessVersion>(
+fn parsed<V: DefaultLocalVersion>(
     rt: &impl Abort,
     alloc: Global,
     kind: Kind,
@@ -64,7 +64,7 @@ fn check_parsed(rt: &impl Abort, alloc: Global, answer: Answer) {
 }
 
 // Claims that pass, then expired ones, a text that is no JSON, another audience, and another footer.
-fn check_version<V: BoxlessVersion>(rt: &impl Abort, alloc: Global, kind: Kind) {
+fn check_version<V: DefaultLocalVersion>(rt: &impl Abort, alloc: Global, kind: Kind) {
     let mut parser = parser_at::<V>(rt, alloc, EARLY);
     check_parsed(rt, alloc, parsed(rt, alloc, kind, CLAIMS, &parser));
     let late = parser_at::<V>(rt, alloc, LATE);
@@ -114,7 +114,7 @@ fn the_parsers_binding(rt: HostRuntime) {
 }
 
 // The ids in their order, and how many there are.
-fn check_ids<V: BoxlessVersion>(rt: &impl Abort, ring: &KeyRing<V>, expected: &[&str]) {
+fn check_ids<V: DefaultLocalVersion>(rt: &impl Abort, ring: &KeyRing<V>, expected: &[&str]) {
     assert_eq!(rt; ring.len(), expected.len());
     let mut ids = ring.ids();
     'ids: for &id in expected {

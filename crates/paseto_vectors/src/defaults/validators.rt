@@ -8,7 +8,7 @@ use rusty_paseto::validators::{
 use std::alloc::Global;
 use std::process::Abort;
 
-// What a parser answers for a text as `a`, which the validator judges.
+// What a parser answers for a text as `a`, which the validator checks.
 fn check_rows(rt: &impl Abort, alloc: Global, validator: ValidatorFn, rows: &[(&str, &str)]) {
     let mut parser = GenericParser::<V4, Local>::new(alloc);
     let claim = CustomClaim::try_from_str(alloc, "a", 0u64).expect(rt, "a claim");

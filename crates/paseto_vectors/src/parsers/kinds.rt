@@ -8,7 +8,7 @@ use rusty_paseto_core::{
     Footer, ImplicitAssertion, ImplicitAssertionCapable, Local, Public, PurposeTrait, V1, V2, V3,
     V4, Verifies, VersionTrait,
 };
-use rusty_paseto_generic::{GenericParser, GenericParserError, UnboxedVersion};
+use rusty_paseto_generic::{GenericParser, GenericParserError, GenericLocalVersion};
 use serde_json::Value;
 use std::alloc::Global;
 use std::process::Abort;
@@ -81,7 +81,7 @@ pub(crate) fn told(rt: &impl Abort, alloc: Global, answer: &Answer) -> String {
     text.expect(rt, "memory")
 }
 
-fn opened<V: UnboxedVersion>(parser: GenericParser<'_, V, Local>, token: &str) -> Answer {
+fn opened<V: GenericLocalVersion>(parser: GenericParser<'_, V, Local>, token: &str) -> Answer {
     parser.parse(token, &symmetric_key(&SECRET))
 }
 

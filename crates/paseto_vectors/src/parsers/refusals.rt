@@ -74,7 +74,7 @@ fn chains_of_calls(rt: HostRuntime) {
     let mut parser = Parser::new(alloc);
     let value = Value::from_str(alloc, "{\"d\":4}").expect(&rt, "JSON");
     let four = map_of(&rt, alloc, "d", value);
-    let judged = map_of(&rt, alloc, "a", Rule::Accepts.boxed(&rt, alloc));
+    let checked = map_of(&rt, alloc, "a", Rule::Accepts.boxed(&rt, alloc));
     let accepts = Rule::Accepts.boxed(&rt, alloc);
     let parser = parser
         .check_claim(&custom(&rt, alloc, "a", "1"))
@@ -83,7 +83,7 @@ fn chains_of_calls(rt: HostRuntime) {
         .expect(&rt, "a validator")
         .extend_check_claims(four)
         .expect(&rt, "checks")
-        .extend_validation_claims(judged)
+        .extend_validation_claims(checked)
         .expect(&rt, "validators");
     let payload = "{\"a\":0,\"b\":0,\"d\":4}";
     parsed(&rt, alloc, parser, payload).expect(&rt, "the check of d");

@@ -33,57 +33,57 @@ const ROWS: &[Row] = &[
     // A validator is handed the value that the payload has, or null where it has none.
     Row {
         payload: "{}",
-        steps: &[Step::JudgeKey("z", Rule::RefusesNull)],
+        steps: &[Step::CheckerKey("z", Rule::RefusesNull)],
         told: "The claim 'z' failed custom validation",
     },
     Row {
         payload: "{\"z\":1}",
-        steps: &[Step::JudgeKey("z", Rule::RefusesNull)],
+        steps: &[Step::CheckerKey("z", Rule::RefusesNull)],
         told: "{\"z\":1}",
     },
     Row {
         payload: "{\"seats\":4}",
-        steps: &[Step::JudgeKey("seats", Rule::Tells)],
+        steps: &[Step::CheckerKey("seats", Rule::Tells)],
         told: "The claim 'seats' failed validation.  Expected '' but received '4'",
     },
     Row {
         payload: "{\"seats\":0,\"row\":4}",
-        steps: &[Step::JudgeKey("seats", Rule::Tells)],
+        steps: &[Step::CheckerKey("seats", Rule::Tells)],
         told: "The claim 'seats' failed validation.  Expected '' but received '0'",
     },
     Row {
         payload: "{\"seats\":-9223372036854775808}",
-        steps: &[Step::JudgeKey("seats", Rule::Tells)],
+        steps: &[Step::CheckerKey("seats", Rule::Tells)],
         told: "The claim 'seats' failed validation.  Expected '' but received '-9223372036854775808'",
     },
     Row {
         payload: "{\"seats\":18446744073709551615}",
-        steps: &[Step::JudgeKey("seats", Rule::Tells)],
+        steps: &[Step::CheckerKey("seats", Rule::Tells)],
         told: "The claim 'seats' failed validation.  Expected '' but received '18446744073709551615'",
     },
     Row {
         payload: "{\"row\":4}",
-        steps: &[Step::JudgeKey("seats", Rule::Tells)],
+        steps: &[Step::CheckerKey("seats", Rule::Tells)],
         told: "The claim 'seats' failed validation.  Expected '' but received 'null'",
     },
-    // A validator judges alone.
+    // A validator checks alone.
     Row {
         payload: "{\"seats\":4}",
-        steps: &[Step::Judge("seats", "5", Rule::Accepts)],
+        steps: &[Step::Checker("seats", "5", Rule::Accepts)],
         told: "{\"seats\":4}",
     },
     Row {
         payload: "{\"seats\":4}",
         steps: &[
             Step::Check("seats", "5"),
-            Step::JudgeKey("seats", Rule::Accepts),
+            Step::CheckerKey("seats", Rule::Accepts),
         ],
         told: "{\"seats\":4}",
     },
     Row {
         payload: "{\"seats\":4}",
         steps: &[
-            Step::JudgeKey("seats", Rule::Accepts),
+            Step::CheckerKey("seats", Rule::Accepts),
             Step::Check("seats", "5"),
         ],
         told: "{\"seats\":4}",

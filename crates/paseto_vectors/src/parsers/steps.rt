@@ -9,7 +9,7 @@ use std::alloc::Global;
 use std::collections::BTreeMap;
 use std::process::Abort;
 
-/// Which validator judges.
+/// Which validator checks.
 #[derive(Clone, Copy, Debug)]
 pub(crate) enum Rule {
     Accepts,
@@ -38,9 +38,9 @@ pub(crate) enum Step<'a> {
     /// A key and JSON are stored as they are.
     Store(&'a str, &'a str),
     /// A claim of a key and JSON is checked by a validator.
-    Judge(&'a str, &'a str, Rule),
-    /// A key is judged by a validator.
-    JudgeKey(&'a str, Rule),
+    Checker(&'a str, &'a str, Rule),
+    /// A key is checked by a validator.
+    CheckerKey(&'a str, Rule),
 }
 
 /// A claim of a caller's own.
@@ -108,10 +108,10 @@ pub(crate) fn add<V: VersionTrait, P: PurposeTrait>(
             let value = Value::from_str(alloc, json).expect(rt, "JSON");
             parser.put_checks(map_of(rt, alloc, key, value))
         }
-        Step::Judge(key, json, rule) => {
+        Step::Checker(key, json, rule) => {
             put_validator(parser, custom(rt, alloc, key, json), rule.boxed(rt, alloc))
         }
-        Step::JudgeKey(key, rule) => {
+        Step::CheckerKey(key, rule) => {
             parser.put_validators(map_of(rt, alloc, key, rule.boxed(rt, alloc)))
         }
     }

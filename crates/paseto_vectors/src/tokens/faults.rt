@@ -106,7 +106,7 @@ fn other_headers(rt: HostRuntime) {
 // Sections that spell no bytes.
 const OTHER_SPELLINGS: &[&str] = &["AB", "AA==", "A", "A+A/", "é", "AAAA\n"];
 
-fn check_spelling(rt: &impl Abort, alloc: Global, kind: Kind, section: &str) {
+fn check_base64url(rt: &impl Abort, alloc: Global, kind: Kind, section: &str) {
     let header = kind.header();
     let token = format!(in alloc; "{header}{section}").expect(rt, "memory");
     let answer = fault_of(rt, alloc, kind, token.as_str(), None);
@@ -115,10 +115,10 @@ fn check_spelling(rt: &impl Abort, alloc: Global, kind: Kind, section: &str) {
 }
 
 #[test]
-fn other_spellings(rt: HostRuntime) {
+fn other_texts_of_bytes(rt: HostRuntime) {
     'kinds: for &kind in KINDS {
         'sections: for &section in OTHER_SPELLINGS {
-            check_spelling(&rt, rt.alloc(), kind, section);
+            check_base64url(&rt, rt.alloc(), kind, section);
         }
     }
 }

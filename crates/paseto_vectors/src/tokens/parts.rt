@@ -43,14 +43,14 @@ fn derived<const N: usize>(salt: &[u8], info: &[u8]) -> [u8; N]
 }
 
 // Masks data of version 1.
-fn mask_v1(rt: &impl Abort, nonce: &[u8; 32], data: &mut [u8]) {
+fn apply_v1(rt: &impl Abort, nonce: &[u8; 32], data: &mut [u8]) {
     let key: [u8; 32] = derived(&nonce[..16], ENCRYPTION);
     let counter = nonce.last_chunk::<16>().expect(rt, "a counter");
     aes256_ctr_apply(&key, counter, data);
 }
 
 // Masks data of version 3.
-fn mask_v3(rt: &impl Abort, nonce: &[u8; 32], data: &mut [u8]) {
+fn apply_v3(rt: &impl Abort, nonce: &[u8; 32], data: &mut [u8]) {
     let mut info = [0u8; 53];
     info[..21].copy_from_slice(ENCRYPTION);
     info[21..].copy_from_slice(nonce);
@@ -61,7 +61,7 @@ fn mask_v3(rt: &impl Abort, nonce: &[u8; 32], data: &mut [u8]) {
 }
 
 // Masks data of version 4.
-fn mask_v4(rt: &impl Abort, nonce: &[u8; 32], data: &mut [u8]) {
+fn apply_v4(rt: &impl Abort, nonce: &[u8; 32], data: &mut [u8]) {
     let mut message = [0u8; 53];
     message[..21].copy_from_slice(ENCRYPTION);
     message[21..].copy_from_slice(nonce);
@@ -124,16 +124,16 @@ pub(crate) fn payload_under(
     text: &[u8],
     binding: Binding<'_>,
 ) -> Vec<u8> {
-    let mut masked = text.to_vec(alloc).expect(rt, "memory");
+    let mut xored = text.to_vec(alloc).expect(rt, "memory");
     match kind {
-        Kind::V1Local => mask_v1(rt, nonce, masked.as_mut_slice()),
-        Kind::V3Local => mask_v3(rt, nonce, masked.as_mut_slice()),
-        _ => mask_v4(rt, nonce, masked.as_mut_slice()),
+        Kind::V1Local => apply_v1(rt, nonce, xored.as_mut_slice()),
+        Kind::V3Local => apply_v3(rt, nonce, xored.as_mut_slice()),
+        _ => apply_v4(rt, nonce, xored.as_mut_slice()),
     }
     let pieces = pieces(
         kind.header().as_bytes(),
         nonce,
-        masked.as_slice(),
+        xored.as_slice(),
         binding.footer.unwrap_or("").as_bytes(),
         binding.assertion.unwrap_or("").as_bytes(),
     );
@@ -149,7 +149,7 @@ pub(crate) fn payload_under(
     let tag = tag_of(rt, alloc, kind, nonce, encoding.as_bytes());
     let mut payload = Vec::new(alloc);
     payload.extend_from_slice(nonce).expect(rt, "memory");
-    payload.extend_from_slice(&masked).expect(rt, "memory");
+    payload.extend_from_slice(&xored).expect(rt, "memory");
     payload.extend_from_slice(&tag).expect(rt, "memory");
     payload
 }

@@ -15,12 +15,12 @@ use crate::key_ring::claims::claims_of;
 use crate::key_ring::opened::answer;
 use crate::key_ring::{Found, Ring};
 use crate::paseto_parser::PasetoParser;
-use crate::version::{AssertingVersion, BoxlessVersion};
+use crate::version::{DefaultAssertionVersion, DefaultLocalVersion};
 use rusty_paseto_core::{Footer, ImplicitAssertion, Local, PasetoSymmetricKey, V1};
 use rusty_paseto_generic::GenericParser;
 use serde_json::Value;
 
-impl<V: BoxlessVersion> Ring<PasetoSymmetricKey<V, Local>> {
+impl<V: DefaultLocalVersion> Ring<PasetoSymmetricKey<V, Local>> {
     /// Opens a token under the key that its footer names and under the parser's implicit assertion, and answers the
     /// id and the value of its text, which passes the parser's checks at the parser's moment. Where a footer was set
     /// in the parser, the token's has to be that one.
@@ -90,7 +90,7 @@ impl Ring<PasetoSymmetricKey<V1, Local>> {
     }
 }
 
-impl<V: AssertingVersion> Ring<PasetoSymmetricKey<V, Local>> {
+impl<V: DefaultAssertionVersion> Ring<PasetoSymmetricKey<V, Local>> {
     /// Opens a token under the key that its footer names, and under the implicit assertion, and checks no claim: the
     /// id, and the text that was sealed. An absent assertion and the empty one are the same. The faults are those of
     /// version 1, in the same order.

@@ -15,7 +15,7 @@ use crate::key_ring::claims::claims_of;
 use crate::key_ring::opened::answer;
 use crate::key_ring::{Found, Ring};
 use crate::paseto_parser::PasetoParser;
-use crate::version::AssertingVersion;
+use crate::version::DefaultAssertionVersion;
 use rusty_paseto_core::{
     Footer, ImplicitAssertion, PasetoAsymmetricPublicKey, Public, PublicVersion, SignatureScheme,
     V1, V2, Verifies,
@@ -124,7 +124,7 @@ impl Ring<PasetoAsymmetricPublicKey<'_, V2, Public>> {
     }
 }
 
-impl<V: AssertingVersion> Ring<PasetoAsymmetricPublicKey<'_, V, Public>> {
+impl<V: DefaultAssertionVersion> Ring<PasetoAsymmetricPublicKey<'_, V, Public>> {
     /// Verifies a token by the caller's scheme under the key that its footer names, and under the implicit assertion,
     /// and checks no claim: the id, and the text that was signed. An absent assertion and the empty one are the same.
     /// The faults are those of version 1, in the same order.

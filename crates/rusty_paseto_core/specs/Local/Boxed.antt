@@ -23,9 +23,9 @@ header = header_text v2 local
 
 -- ---- sealing
 
--- the token's nonce: the hash of the text under the given nonce
+-- the token's nonce: the hash of the text under its seed
 abbrev pub token_nonce : List ℕ → List ℕ → List ℕ
-token_nonce given text = blake2b given 24 text
+token_nonce seed text = blake2b seed 24 text
 
 -- what is bound to the text, and not encrypted: the header, the nonce and the footer
 abbrev pub associated : List ℕ → List ℕ → List ℕ

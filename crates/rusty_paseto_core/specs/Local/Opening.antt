@@ -14,12 +14,12 @@ pub record IsSealedPayload (design : Design) (binding : Binding) (payload text :
   pub is_nonce : IsNonce nonce
   pub is_sealed : payload ≡ sealed_payload design binding nonce text
 
--- the parts of a payload: the nonce, the masked text and the tag
+-- the parts of a payload: the nonce, the ciphertext and the tag
 abbrev pub nonce_in : List ℕ → List ℕ
 nonce_in payload = take 32 payload
 
-abbrev pub masked_in : Design → List ℕ → List ℕ
-masked_in design payload = drop 32 (take (length payload - design.tag_length) payload)
+abbrev pub ciphertext_in : Design → List ℕ → List ℕ
+ciphertext_in design payload = drop 32 (take (length payload - design.tag_length) payload)
 
 abbrev pub tag_in : Design → List ℕ → List ℕ
 tag_in design payload = drop (length payload - design.tag_length) payload
@@ -31,18 +31,18 @@ HasRoom design payload = 32 + design.tag_length ≤ length payload
 -- the payload ends in the tag of its pieces
 abbrev pub HasTag : Design → Binding → List ℕ → Type 0
 HasTag design binding payload =
-    tag_in design payload ≡ tag_of design binding (nonce_in payload) (masked_in design payload)
+    tag_in design payload ≡ tag_of design binding (nonce_in payload) (ciphertext_in design payload)
 
--- what the payload holds, unmasked
-abbrev pub unmasked : Design → Binding → List ℕ → List ℕ
-unmasked design binding payload =
-    design.mask binding.key (nonce_in payload) (masked_in design payload)
+-- what the payload holds, plaintext
+abbrev pub plaintext : Design → Binding → List ℕ → List ℕ
+plaintext design binding payload =
+    design.apply_keystream binding.key (nonce_in payload) (ciphertext_in design payload)
 
 -- the payload ends in its tag, and what it holds is this text
 pub record HoldsText (design : Design) (binding : Binding) (payload text : List ℕ) : Type 0 where
   pub room : HasRoom design payload
   pub tag : HasTag design binding payload
-  pub text_is : unmasked design binding payload ≡ text
+  pub text_is : plaintext design binding payload ≡ text
   pub utf8 : IsUtf8 text
 
 -- the error is the first fault of a sealed payload, in this order: its length, its tag, its text
@@ -52,8 +52,8 @@ IsSealedFault design binding payload Cryption =
     HasRoom design payload × (¬ HasTag design binding payload)
 IsSealedFault design binding payload (Utf8Error source) =
     HasRoom design payload × HasTag design binding payload
-    × (¬ IsUtf8 (unmasked design binding payload))
-    × IsUtf8Fault (unmasked design binding payload) source
+    × (¬ IsUtf8 (plaintext design binding payload))
+    × IsUtf8Fault (plaintext design binding payload) source
 IsSealedFault design binding payload _ = ⊥
 
 -- how a version's local tokens are read: opened under a key, a footer and an implicit assertion

@@ -8,20 +8,20 @@ use Rattle.rusty_paseto_core.specs.Framing.{framing}
 
 -- the pieces that the tag covers
 abbrev pub pieces : Design → Binding → List ℕ → List ℕ → List (List ℕ)
-pieces design binding nonce masked =
-    header design ∷ nonce ∷ masked ∷ binding.footer
+pieces design binding nonce ciphertext =
+    header design ∷ nonce ∷ ciphertext ∷ binding.footer
     ∷ (if design.binds_assertion then binding.assertion ∷ [] else [])
 
--- the tag of a masked text
+-- the tag of a ciphertext
 abbrev pub tag_of : Design → Binding → List ℕ → List ℕ → List ℕ
-tag_of design binding nonce masked =
-    design.tag (design.authentication_key binding.key nonce) (pae (pieces design binding nonce masked))
+tag_of design binding nonce ciphertext =
+    design.tag (design.authentication_key binding.key nonce) (pae (pieces design binding nonce ciphertext))
 
--- the payload of a sealed token: the nonce, the masked text and its tag
+-- the payload of a sealed token: the nonce, the ciphertext and its tag
 unfoldable pub sealed_payload : Design → Binding → List ℕ → List ℕ → List ℕ
 sealed_payload design binding nonce text =
-    let masked = design.mask binding.key nonce text in
-    nonce ++ masked ++ tag_of design binding nonce masked
+    let ciphertext = design.apply_keystream binding.key nonce text in
+    nonce ++ ciphertext ++ tag_of design binding nonce ciphertext
 
 -- the sealing of a text, with its footer's section or without
 abbrev pub sealing : Design → Binding → List ℕ → Bool → List ℕ → List ℕ

@@ -46,7 +46,7 @@ tag_key design case content = design.authentication_key case.binding.key content
 -- what its tag is made of
 abbrev pub encoding : Design → Case → Content → List ℕ
 encoding design case content =
-    pae (pieces design case.binding content.nonce (design.mask case.binding.key content.nonce content.text))
+    pae (pieces design case.binding content.nonce (design.apply_keystream case.binding.key content.nonce content.text))
 
 -- its tag
 abbrev pub tag : Design → Case → Content → List ℕ
@@ -54,22 +54,22 @@ tag design case content = design.tag (tag_key design case content) (encoding des
 
 -- ---- two tokens with one nonce and one tag
 
--- what a tag vouches for: the key, the text, the footer and, where the version covers it, the assertion
-pub record Vouched : Type 0 where
+-- what a tag covers: the key, the text, the footer and, where the version covers it, the assertion
+pub record Covered : Type 0 where
   pub key : List ℕ
   pub text : List ℕ
   pub footer : List ℕ
   pub assertion : List (List ℕ)
 
-abbrev pub vouched : Design → Case → Content → Vouched
-vouched design case content = record {
+abbrev pub covered : Design → Case → Content → Covered
+covered design case content = record {
   key = case.binding.key;
   text = content.text;
   footer = case.binding.footer;
   assertion = if design.binds_assertion then case.binding.assertion ∷ [] else [];
 }
 
--- two tokens open and have one nonce and one tag, which vouches for two keys, texts, footers or assertions
+-- two tokens open and have one nonce and one tag, which covers two keys, texts, footers or assertions
 pub record ShareTag (design : Design) (first second : Case) : Type 0 where
   pub one : Content
   pub other : Content
@@ -77,7 +77,7 @@ pub record ShareTag (design : Design) (first second : Case) : Type 0 where
   pub second_opens : OpensTo design second other
   pub nonce : one.nonce ≡ other.nonce
   pub tag : tag design first one ≡ tag design second other
-  pub apart : vouched design first one ≢ vouched design second other
+  pub apart : covered design first one ≢ covered design second other
 
 -- what was found is a collision: two of the openings share a tag, and these are their places, the encodings
 -- of both, which fit into memory, and the tag

@@ -4,7 +4,7 @@ use Rattle.rusty_paseto_primitives.proofs.AesBlocks.{aes256_ctr_stream-lt}
 use Rattle.rusty_paseto_primitives.proofs.ByteLists.{IsBytes-take}
 use Rattle.rusty_paseto_primitives.proofs.HkdfLengths.{IsBytes-hkdf}
 use Rattle.rusty_paseto_primitives.proofs.HmacLengths.{length-hmac, IsBytes-hmac}
-use Rattle.rusty_paseto_primitives.proofs.Masking.{length-masked, masked-masked, IsBytes-masked}
+use Rattle.rusty_paseto_primitives.proofs.Xored.{length-xored, xored-xored, IsBytes-xored}
 use Rattle.rusty_paseto_core.specs.Local.{IsLawful, local}
 use Rattle.rusty_paseto_core.specs.HeaderLaws.{IsHeader-known}
 use Rattle.rusty_paseto_core.specs.Local.V3.{v3, counter, encryption_key, split}
@@ -24,12 +24,12 @@ v3-binds_assertion = refl
 pub v3-IsLawful : IsLawful v3
 unfolding v3
 v3-IsLawful = record {
-  length_mask = λ key nonce bytes. length-masked _ bytes;
-  mask_mask = λ key nonce bytes. masked-masked _ bytes;
-  bytes_mask = λ key nonce bytes h. IsBytes-masked _ bytes
+  length_applied = λ key nonce bytes. length-xored _ bytes;
+  applied_twice = λ key nonce bytes. xored-xored _ bytes;
+  bytes_applied = λ key nonce bytes h. IsBytes-xored _ bytes
       (λ i. aes256_ctr_stream-lt (encryption_key key nonce) (counter key nonce) i (IsBytes-take 32 (split key nonce) (IsBytes-hkdf _ key _ 48))) h;
   length_tag = length-hmac;
   bytes_tag = IsBytes-hmac;
   is_header = IsHeader-known (codes "v3") local refl refl;
-  nonce = λ given text h. h;
+  nonce = λ seed text h. h;
 }

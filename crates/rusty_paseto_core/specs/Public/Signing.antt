@@ -29,7 +29,7 @@ pub record IsSigning (valid : Validity) (design : PublicDesign) (binding : Bindi
 
 -- the answer of signing a text under a private key whose public key is `public`: a signing, with the
 -- footer's section exactly where a footer is given; `TryFromSlice` exactly for a private key of another
--- length than the version tells; and else what the scheme declines with, or want of memory
+-- length than the version tells; and else what the scheme declines with, or a failed allocation
 pub record IsSignAnswer (valid : Validity) (Declined : PasetoError → Type 0) (design : PublicDesign) (private public : List ℕ)
     (footer : Option Footer) (assertion : Option ImplicitAssertion) (text : List ℕ)
     (result : Result (String Global) PasetoError) : Type 0 where

@@ -27,21 +27,21 @@ pub(crate) fn seal<B: SealedBox>(
     alloc: Global,
     sealed_box: &B,
     key: &[u8; 32],
-    given: &[u8],
+    seed: &[u8],
     text: &str,
     footer: Option<Footer<'_>>,
 ) -> Result<String, PasetoError>
-    requires { length given.now ≤ 64 }
+    requires { length seed.now ≤ 64 }
     ensures ok { let binding = binding_of key.now footer.entry None in
-        let nonce = token_nonce given.now text.now in
+        let nonce = token_nonce seed.now text.now in
         IfOk result (λ token. boxed_sealing B.sealing binding nonce (is_some footer.entry) text.now
         ≡ Some (string_bytes token)) }
     ensures err { let binding = binding_of key.now footer.entry None in
-        let nonce = token_nonce given.now text.now in
+        let nonce = token_nonce seed.now text.now in
         IfErr result (λ error. IsMemory error ⊎ ((error ≡ PasetoError.ChaChaCipherError)
         × (boxed_sealing B.sealing binding nonce (is_some footer.entry) text.now ≡ None))) }
 {
-    let nonce: [u8; 24] = blake2b_keyed(given, text.as_bytes());
+    let nonce: [u8; 24] = blake2b_keyed(seed, text.as_bytes());
     let context = Context::new(footer, None);
     let payload = boxed_payload(alloc, sealed_box, key, &nonce, &context, text.as_bytes())?;
     frame(alloc, HEADER, &payload, footer)

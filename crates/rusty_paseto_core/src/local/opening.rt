@@ -45,8 +45,8 @@ pub(crate) fn open_payload<V: LocalSuite>(
     if !has_tag::<V>(&keys, &nonce, context, &payload) {
         return Err(PasetoError::Cryption);
     }
-    keep_masked(&mut payload, len - V::TAG_LENGTH);
-    V::mask(&keys, &mut payload);
+    keep_ciphertext(&mut payload, len - V::TAG_LENGTH);
+    V::apply_keystream(&keys, &mut payload);
     match String::from_utf8(payload) {
         Ok(text) => Ok(text),
         Err(error) => Err(PasetoError::Utf8Error {
@@ -75,7 +75,7 @@ fn has_tag<V: LocalSuite>(
 }
 
 // Keeps what stands between the nonce and `end`, with no second buffer.
-fn keep_masked(payload: &mut Vec<u8>, end: usize)
+fn keep_ciphertext(payload: &mut Vec<u8>, end: usize)
     requires low { 32 ≤ end }
     requires high { end ≤ vec_len payload.old }
     ensures { payload.new.items ≡ drop 32 (take end payload.old.items) }

@@ -23,7 +23,7 @@ pub trait SealedBox {
     // What the box makes of a key, a nonce, data and a message: its sealing, where there is one.
     ghost sealing: { BoxSealing };
 
-    /// The sealing of a message, or `None` where the box has none. It fails only for want of memory.
+    /// The sealing of a message, or `None` where the box has none. It fails only where memory is refused.
     fn seal(
         &self,
         alloc: Global,
@@ -36,7 +36,7 @@ pub trait SealedBox {
             ≡ sealing key.now nonce.now «data».now message.now) };
 
     /// The message whose sealing `boxed` is, or `None` where it is the sealing of no message. It
-    /// fails only for want of memory.
+    /// fails only where memory is refused.
     fn open(
         &self,
         alloc: Global,

@@ -17,18 +17,18 @@ use std::alloc::Global;
 pub(crate) fn seal<V: LocalSuite>(
     alloc: Global,
     key: &[u8; 32],
-    given: &[u8],
+    seed: &[u8],
     text: &str,
     footer: Option<Footer<'_>>,
     assertion: Option<ImplicitAssertion<'_>>,
 ) -> Result<String, PasetoError>
-    requires { length given.now ≡ 32 }
+    requires { length seed.now ≡ 32 }
     ensures ok { let binding = binding_of key.now footer.entry assertion.entry in
-        let nonce = V.design.token_nonce given.now text.now in
+        let nonce = V.design.token_nonce seed.now text.now in
         IfOk result (λ token. string_bytes token ≡ sealing V.design binding nonce (is_some footer.entry) text.now) }
     ensures err { IfErr result IsMemory }
 {
-    let nonce = V::token_nonce(given, text.as_bytes());
+    let nonce = V::token_nonce(seed, text.as_bytes());
     let context = Context::new(footer, assertion);
     let payload = sealed_payload::<V>(alloc, key, &nonce, &context, text.as_bytes())?;
     frame(alloc, V::header(), &payload, footer)
@@ -51,18 +51,18 @@ fn sealed_payload<V: LocalSuite>(
     let mut payload = Vec::with_capacity(alloc, len)?;
     payload.extend_from_slice(nonce)?;
     payload.extend_from_slice(text)?;
-    mask_text::<V>(&keys, &mut payload);
+    encrypt_text::<V>(&keys, &mut payload);
     push_tag::<V>(&keys, nonce, context, &mut payload)?;
     Ok(payload)
 }
 
 // Encrypts what stands behind the nonce, in place.
-fn mask_text<V: LocalSuite>(keys: &V::Keys, payload: &mut [u8])
+fn encrypt_text<V: LocalSuite>(keys: &V::Keys, payload: &mut [u8])
     requires { 32 ≤ length payload.old }
     ensures { (key nonce : List ℕ) → V.IsSplit keys.now key nonce
-        → payload.new ≡ take 32 payload.old ++ V.design.mask key nonce (drop 32 payload.old) }
+        → payload.new ≡ take 32 payload.old ++ V.design.apply_keystream key nonce (drop 32 payload.old) }
 {
-    V::mask(keys, &mut payload[NONCE_LENGTH..]);
+    V::apply_keystream(keys, &mut payload[NONCE_LENGTH..]);
 }
 
 // Appends the tag of what stands behind the nonce.

@@ -3,7 +3,7 @@
 ghost use Rattle.std.specs.Prelude.{◌≡◌, ◌↔◌, ◌++◌, ◌<◌, ◌^◌, ◌≤◌, ◌⊎◌, All, IsTrue, IfOk, IfErr, length, map};
 ghost use Rattle.rusty_paseto_parts.specs.Error.{IsMemory};
 ghost use Rattle.rusty_paseto_core.specs.Context.{bound};
-ghost use Rattle.rusty_paseto_core.specs.Local.Opened.{AreOpened, IsOpened, IsPair, IsPairIn, IsUnopened, case_in, content_in, vouched_in};
+ghost use Rattle.rusty_paseto_core.specs.Local.Opened.{AreOpened, IsOpened, IsPair, IsPairIn, IsUnopened, case_in, content_in, covered_in};
 ghost use Rattle.rusty_paseto_core.specs.Local.Opening.{HasRoom, nonce_in, tag_in};
 ghost use Rattle.rusty_paseto_core.specs.Local.TagCollision.{IsCollision, IsCollisionAnswer, IsFirstFault, case_of, cases, encoding};
 
@@ -54,7 +54,7 @@ pub struct TagCollision {
 struct Opened<'a, V> {
     opening: Opening<'a, V>,
     /// The token's nonce, and its tag behind it.
-    seal: Vec<u8>,
+    nonce_and_tag: Vec<u8>,
     text: String,
 }
 
@@ -90,7 +90,7 @@ impl<V: LocalVersion> Paseto<'_, V, Local> {
     }
 }
 
-/// Two of the openings that share their nonce and their tag and differ in what the tag vouches for.
+/// Two of the openings that share their nonce and their tag and differ in what the tag covers.
 pub(crate) fn find_collision<V: LocalSuite>(
     alloc: Global,
     openings: &[Opening<'_, V>],
@@ -134,32 +134,32 @@ fn open_one<'a, V: LocalSuite>(
 {
     let context = Context::new(opening.footer, opening.assertion);
     let payload = unframe::<V, Local>(alloc, opening.token, context.footer())?;
-    let seal = seal_of::<V>(alloc, &payload)?;
+    let nonce_and_tag = seal_of::<V>(alloc, &payload)?;
     let text = open_payload::<V>(payload, opening.key.as_bytes(), &context)?;
     Ok(Opened {
         opening,
-        seal,
+        nonce_and_tag,
         text,
     })
 }
 
 // The nonce of a payload, and its tag behind it.
 fn seal_of<V: LocalSuite>(alloc: Global, payload: &[u8]) -> Result<Vec<u8>, PasetoError>
-    ensures ok { IfOk result (λ seal. seal.items ≡ nonce_in payload.now ++ tag_in V.design payload.now) }
+    ensures ok { IfOk result (λ nonce_and_tag. nonce_and_tag.items ≡ nonce_in payload.now ++ tag_in V.design payload.now) }
     ensures err { IfErr result (λ error. IsMemory error ⊎ ((error ≡ PasetoError.IncorrectSize) × (¬ HasRoom V.design payload.now))) }
 {
     if payload.len() < NONCE_LENGTH + V::TAG_LENGTH {
         return Err(PasetoError::IncorrectSize);
     }
     let end = payload.len() - V::TAG_LENGTH;
-    let mut seal = Vec::with_capacity(alloc, NONCE_LENGTH + V::TAG_LENGTH)?;
-    seal.extend_from_slice(&nonce_of::<NONCE_LENGTH>(payload))?;
-    seal.extend_from_slice(&payload[end..])?;
-    Ok(seal)
+    let mut nonce_and_tag = Vec::with_capacity(alloc, NONCE_LENGTH + V::TAG_LENGTH)?;
+    nonce_and_tag.extend_from_slice(&nonce_of::<NONCE_LENGTH>(payload))?;
+    nonce_and_tag.extend_from_slice(&payload[end..])?;
+    Ok(nonce_and_tag)
 }
 
-// The places of two tokens that have one seal, which vouches for two keys or contents. Each token is
-// compared with the first of its seal alone.
+// The places of two tokens that have one nonce and tag, which covers two keys or contents. Each token is
+// compared with the first of its nonce_and_tag alone.
 fn find_pair<'a, V: LocalSuite>(
     alloc: Global,
     opened: &'a [Opened<'_, V>],
@@ -169,21 +169,21 @@ fn find_pair<'a, V: LocalSuite>(
     let mut firsts: BTreeMap<&'a [u8], usize> = BTreeMap::new(alloc);
     'places: for place in 0..opened.len() {
         let kept = &opened[place];
-        let seal = kept.seal.as_slice();
-        if let Some(first) = firsts.insert(seal, place)? {
-            if !vouch_alike::<V>(&opened[first], kept) {
+        let nonce_and_tag = kept.nonce_and_tag.as_slice();
+        if let Some(first) = firsts.insert(nonce_and_tag, place)? {
+            if !cover_the_same::<V>(&opened[first], kept) {
                 return Ok(Some((first, place)));
             }
             // The first one stays, and not the last.
-            firsts.insert(seal, first)?;
+            firsts.insert(nonce_and_tag, first)?;
         }
     }
     Ok(None)
 }
 
-// Whether the tags of two tokens vouch for the same.
-fn vouch_alike<V: LocalSuite>(first: &Opened<'_, V>, second: &Opened<'_, V>) -> bool
-    ensures { IsTrue result ↔ (vouched_in V.design first.now ≡ vouched_in V.design second.now) }
+// Whether the tags of two tokens cover the same.
+fn cover_the_same<V: LocalSuite>(first: &Opened<'_, V>, second: &Opened<'_, V>) -> bool
+    ensures { IsTrue result ↔ (covered_in V.design first.now ≡ covered_in V.design second.now) }
 {
     let one = Context::new(first.opening.footer, first.opening.assertion);
     let other = Context::new(second.opening.footer, second.opening.assertion);
@@ -193,7 +193,7 @@ fn vouch_alike<V: LocalSuite>(first: &Opened<'_, V>, second: &Opened<'_, V>) -> 
         && (!V::BINDS_ASSERTION || one.assertion() == other.assertion())
 }
 
-// What is shown of the two tokens that a seal does not tell apart.
+// What is shown of the two tokens that a nonce_and_tag does not tell apart.
 fn collision_of<V: LocalSuite>(
     alloc: Global,
     opened: &[Opened<'_, V>],
@@ -208,7 +208,7 @@ fn collision_of<V: LocalSuite>(
     let first = &opened[i];
     let second = &opened[j];
     let mut tag = Vec::new(alloc);
-    tag.extend_from_slice(&first.seal[NONCE_LENGTH..])?;
+    tag.extend_from_slice(&first.nonce_and_tag[NONCE_LENGTH..])?;
     Ok(TagCollision {
         places: [i, j],
         first: encoding_of::<V>(alloc, first)?,
@@ -222,21 +222,21 @@ fn encoding_of<V: LocalSuite>(
     alloc: Global,
     opened: &Opened<'_, V>,
 ) -> Result<PreAuthenticationEncoding, PasetoError>
-    requires { 32 ≤ length opened.now.seal.items }
+    requires { 32 ≤ length opened.now.nonce_and_tag.items }
     ensures ok { IfOk result (λ made. made ≡ encoding V.design (case_in opened.now) (content_in opened.now)) }
     ensures fits { IfOk result (λ made. length made < 2 ^ 64) }
     ensures err { IfErr result IsMemory }
 {
-    let nonce = nonce_of::<NONCE_LENGTH>(&opened.seal);
+    let nonce = nonce_of::<NONCE_LENGTH>(&opened.nonce_and_tag);
     let keys = V::split(opened.opening.key.as_bytes(), &nonce);
-    let mut masked = Vec::with_capacity(alloc, opened.text.len())?;
-    masked.extend_from_slice(opened.text.as_bytes())?;
-    V::mask(&keys, &mut masked);
+    let mut ciphertext = Vec::with_capacity(alloc, opened.text.len())?;
+    ciphertext.extend_from_slice(opened.text.as_bytes())?;
+    V::apply_keystream(&keys, &mut ciphertext);
     let context = Context::new(opened.opening.footer, opened.opening.assertion);
     let pieces = five_pieces(
         V::header().as_bytes(),
         &nonce,
-        &masked,
+        &ciphertext,
         context.footer(),
         context.assertion(),
     );

@@ -33,10 +33,10 @@ impl LocalSuite for V1 {
         "v1.local."
     }
 
-    // The nonce depends on the text too, so that a given nonce that comes twice does no harm to two
+    // The nonce depends on the text too, so that a seed that comes twice does no harm to two
     // texts.
-    fn token_nonce(given: &[u8], text: &[u8]) -> [u8; 32] {
-        front(&hmac_sha384(given, text))
+    fn token_nonce(seed: &[u8], text: &[u8]) -> [u8; 32] {
+        front(&hmac_sha384(seed, text))
     }
 
     fn split(key: &[u8; 32], nonce: &[u8; 32]) -> NistKeys<32> {
@@ -48,7 +48,7 @@ impl LocalSuite for V1 {
         }
     }
 
-    fn mask(keys: &NistKeys<32>, bytes: &mut [u8]) {
+    fn apply_keystream(keys: &NistKeys<32>, bytes: &mut [u8]) {
         aes256_ctr_apply(&keys.encryption_key, &keys.counter, bytes);
     }
 

@@ -33,9 +33,9 @@ impl LocalSuite for V3 {
         "v3.local."
     }
 
-    fn token_nonce(given: &[u8], _text: &[u8]) -> [u8; 32] {
+    fn token_nonce(seed: &[u8], _text: &[u8]) -> [u8; 32] {
         let mut nonce = [0u8; 32];
-        nonce.copy_from_slice(given);
+        nonce.copy_from_slice(seed);
         nonce
     }
 
@@ -51,7 +51,7 @@ impl LocalSuite for V3 {
         }
     }
 
-    fn mask(keys: &NistKeys<48>, bytes: &mut [u8]) {
+    fn apply_keystream(keys: &NistKeys<48>, bytes: &mut [u8]) {
         aes256_ctr_apply(&keys.encryption_key, &keys.counter, bytes);
     }
 

@@ -2,7 +2,7 @@
 //! specification, "Version 4").
 
 ghost use Rattle.std.specs.Prelude.{◌≡◌, true, take, drop};
-ghost use Rattle.rusty_paseto_core.specs.Local.V4.{v4, authentication_key, encryption_key, start};
+ghost use Rattle.rusty_paseto_core.specs.Local.V4.{v4, authentication_key, encryption_key, stream_nonce};
 ghost use Rattle.rusty_paseto_core.specs.Local.V4Laws.{v4-IsLawful, v4-binds_assertion, v4-tag_length, v4-version};
 ghost use Rattle.std.proofs.Common.{rules};
 
@@ -16,7 +16,7 @@ use rusty_paseto_primitives::{blake2b_keyed_pair, xchacha20_apply};
 pub struct SodiumKeys {
     encryption_key: [u8; 32],
     /// The nonce of the stream.
-    start: [u8; 24],
+    stream_nonce: [u8; 24],
     authentication_key: [u8; 32],
 }
 
@@ -27,7 +27,7 @@ impl LocalSuite for V4 {
     ghost design = { v4 };
 
     ghost IsSplit = { λ keys key nonce. (keys.encryption_key ≡ encryption_key key nonce)
-        × (keys.start ≡ start key nonce) × (keys.authentication_key ≡ authentication_key key nonce) };
+        × (keys.stream_nonce ≡ stream_nonce key nonce) × (keys.authentication_key ≡ authentication_key key nonce) };
 
     ghost TAG_LENGTH = { 32 };
 
@@ -41,9 +41,9 @@ impl LocalSuite for V4 {
         "v4.local."
     }
 
-    fn token_nonce(given: &[u8], _text: &[u8]) -> [u8; 32] {
+    fn token_nonce(seed: &[u8], _text: &[u8]) -> [u8; 32] {
         let mut nonce = [0u8; 32];
-        nonce.copy_from_slice(given);
+        nonce.copy_from_slice(seed);
         nonce
     }
 
@@ -57,13 +57,13 @@ impl LocalSuite for V4 {
         );
         SodiumKeys {
             encryption_key: encryption_key(&keys),
-            start: start(&keys),
+            stream_nonce: stream_nonce(&keys),
             authentication_key,
         }
     }
 
-    fn mask(keys: &SodiumKeys, bytes: &mut [u8]) {
-        xchacha20_apply(&keys.encryption_key, &keys.start, bytes);
+    fn apply_keystream(keys: &SodiumKeys, bytes: &mut [u8]) {
+        xchacha20_apply(&keys.encryption_key, &keys.stream_nonce, bytes);
     }
 
     fn write_tag(keys: &SodiumKeys, pieces: &[&[u8]], tag: &mut [u8]) {
@@ -92,10 +92,10 @@ fn encryption_key(keys: &[u8; 56]) -> [u8; 32]
 }
 
 // The nonce of the stream.
-fn start(keys: &[u8; 56]) -> [u8; 24]
+fn stream_nonce(keys: &[u8; 56]) -> [u8; 24]
     ensures { result ≡ drop 32 keys.now }
 {
-    let mut start = [0u8; 24];
-    start.copy_from_slice(&keys[32..]);
-    start
+    let mut stream_nonce = [0u8; 24];
+    stream_nonce.copy_from_slice(&keys[32..]);
+    stream_nonce
 }

@@ -37,7 +37,7 @@ pub record IsBoxAnswer (box : BoxSealing) (binding : Binding) (written : Bool) (
 
 -- the answer of signing the claims' text under a private key whose public key is `public`: a signing, with
 -- the footer's section exactly where a footer is given; `TryFromSlice` for a private key of another length than
--- the version tells; and else what the scheme declines with. Want of memory may come in place of any answer
+-- the version tells; and else what the scheme declines with. A failed allocation may come in place of any answer
 pub record IsSignAnswer (valid : Validity) (Declined : PasetoError → Type 0) (design : PublicDesign) (private public : List ℕ)
     (footer : Option Footer) (assertion : Option ImplicitAssertion) (claims : Members)
     (result : Result (String Global) GenericBuilderError) : Type 0 where

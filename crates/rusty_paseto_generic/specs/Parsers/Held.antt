@@ -11,42 +11,42 @@ use Rattle.rusty_paseto_generic.specs.Parsers.Rules.{Rule, Rules, edited, no_rul
 use Rattle.rusty_paseto_generic.specs.Parsers.Times.{expiry, not_before}
 use Rattle.rusty_paseto_generic.specs.declared.parsers.checks.Check.{Check}
 use Rattle.rusty_paseto_generic.specs.declared.parsers.checks.Checks.{Checks}
-use Rattle.rusty_paseto_generic.specs.declared.parsers.checks.Judge.{Judge}
-use Rattle.rusty_paseto_generic.specs.declared.parsers.checks.Judge.TheVariants.{Boxed, Expiry, NotBefore}
+use Rattle.rusty_paseto_generic.specs.declared.parsers.checks.Checker.{Checker}
+use Rattle.rusty_paseto_generic.specs.declared.parsers.checks.Checker.TheVariants.{Boxed, Expiry, NotBefore}
 use Rattle.rusty_paseto_generic.specs.declared.parsers.times.Times.{Times}
 
 -- a check, its stored value as JSON
-abbrev pub rule_of : {B : Type 0} → Check B → Rule (Judge B)
-rule_of check = record { required = check.required; stored = option_map view check.stored; judge = check.judge }
+abbrev pub rule_of : {B : Type 0} → Check B → Rule (Checker B)
+rule_of check = record { required = check.required; stored = option_map view check.stored; checker = check.checker }
 
 -- what is checked under each key
-abbrev pub rules_of : {B : Type 0} → Checks B → Rules (Judge B)
+abbrev pub rules_of : {B : Type 0} → Checks B → Rules (Checker B)
 rules_of checks key = option_map_or rule_of (get_by_text checks.entries key) no_rule
 
--- what a judge finds, where a validator finds this, when the times are judged
-abbrev pub verdict_of : {B : Type 0} → (B → Verdict) → Times → Judge B → Verdict
+-- what a checker finds, where a validator finds this, when the times are checked
+abbrev pub verdict_of : {B : Type 0} → (B → Verdict) → Times → Checker B → Verdict
 verdict_of verdict times (Boxed validator) = verdict validator
 verdict_of verdict times Expiry = expiry times
 verdict_of verdict times NotBefore = not_before times
 
--- a check with what its judge finds
-abbrev pub judged : {B : Type 0} → (B → Verdict) → Times → Rule (Judge B) → Rule Verdict
-judged verdict times rule = record { required = rule.required; stored = rule.stored; judge = option_map (verdict_of verdict times) rule.judge }
+-- a check with what its checker finds
+abbrev pub checked : {B : Type 0} → (B → Verdict) → Times → Rule (Checker B) → Rule Verdict
+checked verdict times rule = record { required = rule.required; stored = rule.stored; checker = option_map (verdict_of verdict times) rule.checker }
 
--- what is checked under each key, with what the judges find
+-- what is checked under each key, with what the checkers find
 abbrev pub verdicts_of : {B : Type 0} → (B → Verdict) → Times → Checks B → Rules Verdict
-verdicts_of verdict times checks key = judged verdict times (rules_of checks key)
+verdicts_of verdict times checks key = checked verdict times (rules_of checks key)
 
--- what is to judge each key, by its bytes
-abbrev pub judges_of : {B : Type 0} → List (String Global × B) → List (List ℕ × Judge B)
-judges_of entries = map (λ named. (string_bytes named.0, Boxed named.1)) entries
+-- what is to check each key, by its bytes
+abbrev pub checkers_of : {B : Type 0} → List (String Global × B) → List (List ℕ × Checker B)
+checkers_of entries = map (λ named. (string_bytes named.0, Boxed named.1)) entries
 
 -- the JSON of the claim of a date and time that stands under a key by default
 abbrev pub default_date : List ℕ → Data
 default_date key = one_member key (string (codes "2019-01-01T00:00:00+00:00"))
 
--- `exp` and `nbf` are judged by the moment, and get their claims by default
-abbrev pub with_times : {B : Type 0} → Rules (Judge B) → Rules (Judge B)
+-- `exp` and `nbf` are checked by the moment, and get their claims by default
+abbrev pub with_times : {B : Type 0} → Rules (Checker B) → Rules (Checker B)
 with_times old =
     edited (codes "nbf") (with_both NotBefore (default_date (codes "nbf")))
     (edited (codes "exp") (with_both Expiry (default_date (codes "exp"))) old)

@@ -6,15 +6,15 @@ use Rattle.rusty_paseto_claims.specs.Claim.{Answer, gives, refuses}
 use Rattle.rusty_paseto_claims.specs.Error.{Fault, unexpected}
 use Rattle.rusty_paseto_claims.specs.Whole.{first_odd, is_whole}
 
--- what is checked under a key: whether a value has to be there, a stored value or none, and a judge or none
+-- what is checked under a key: whether a value has to be there, a stored value or none, and a checker or none
 pub record Rule (J : Type 0) : Type 0 where
   pub required : Bool
   pub stored : Option Data
-  pub judge : Option J
+  pub checker : Option J
 
 -- nothing is checked
 abbrev pub no_rule : {J : Type 0} → Rule J
-no_rule = record { required = false; stored = None; judge = None }
+no_rule = record { required = false; stored = None; checker = None }
 
 -- what is checked under every key
 abbrev pub Rules : Type 0 → Type 0
@@ -32,11 +32,11 @@ with_required rule = record rule { required = true }
 abbrev pub with_stored : {J : Type 0} → Data → Rule J → Rule J
 with_stored value rule = record rule { stored = Some value }
 
-abbrev pub with_judge : {J : Type 0} → J → Rule J → Rule J
-with_judge judge rule = record rule { judge = Some judge }
+abbrev pub with_checker : {J : Type 0} → J → Rule J → Rule J
+with_checker checker rule = record rule { checker = Some checker }
 
 abbrev pub with_both : {J : Type 0} → J → Data → Rule J → Rule J
-with_both judge value rule = with_judge judge (with_stored value rule)
+with_both checker value rule = with_checker checker (with_stored value rule)
 
 -- what is checked under one key is changed
 abbrev pub edited : {J : Type 0} → List ℕ → (Rule J → Rule J) → Rules J → Rules J
@@ -47,10 +47,10 @@ abbrev pub all_stored : {J : Type 0} → Members → Rules J → Rules J
 all_stored no_members old = old
 all_stored (member key value more) old = all_stored more (edited key (with_stored value) old)
 
--- each judge is set under its key
-abbrev pub all_judged : {J : Type 0} → List (List ℕ × J) → Rules J → Rules J
-all_judged [] old = old
-all_judged (named ∷ more) old = all_judged more (edited named.0 (with_judge named.1) old)
+-- each checker is set under its key
+abbrev pub all_with_checkers : {J : Type 0} → List (List ℕ × J) → Rules J → Rules J
+all_with_checkers [] old = old
+all_with_checkers (named ∷ more) old = all_with_checkers more (edited named.0 (with_checker named.1) old)
 
 -- what is taken of a claim's answer: its value, where that has whole numbers alone, and else a fault
 abbrev pub whole_answer : List ℕ → Answer → Answer

@@ -16,11 +16,11 @@ times_at moment leeway = record { moment = moment; leeway = leeway }
 abbrev pub leeway_of : Times → ℤ
 leeway_of times = pos (times.leeway * 1_000_000_000)
 
--- when `exp` is judged: by the leeway earlier
+-- when `exp` is checked: by the leeway earlier
 abbrev pub expires_at : Times → ℤ
 expires_at times = times.moment.nanosecond -ℤ leeway_of times
 
--- when `nbf` is judged: by the leeway later
+-- when `nbf` is checked: by the leeway later
 abbrev pub usable_at : Times → ℤ
 usable_at times = times.moment.nanosecond +ℤ leeway_of times
 

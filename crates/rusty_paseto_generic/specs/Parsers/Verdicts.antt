@@ -29,15 +29,15 @@ IsMismatch key stored found fault =
     ((found ≡ null) × (fault ≡ missing key))
     ⊎ ((found ≢ null) × (¬ IsSame found (entry key stored)) × (fault ≡ mismatch key found (entry key stored)))
 
--- the value is what is expected: a judge decides alone, where there is one, and else the stored value
+-- the value is what is expected: a checker decides alone, where there is one, and else the stored value
 abbrev pub Meets : Rule Verdict → List ℕ → Data → Type 0
 Meets rule key found =
-    MatchOption rule.judge (MatchOption rule.stored ⊤ (λ stored. Matches key stored found)) (λ verdict. verdict key found ≡ None)
+    MatchOption rule.checker (MatchOption rule.stored ⊤ (λ stored. Matches key stored found)) (λ verdict. verdict key found ≡ None)
 
 -- it is not, and this is the fault
 abbrev pub Misses : Rule Verdict → List ℕ → Data → Fault → Type 0
 Misses rule key found fault =
-    MatchOption rule.judge (MatchOption rule.stored ⊥ (λ stored. IsMismatch key stored found fault)) (λ verdict. verdict key found ≡ Some fault)
+    MatchOption rule.checker (MatchOption rule.stored ⊥ (λ stored. IsMismatch key stored found fault)) (λ verdict. verdict key found ≡ Some fault)
 
 -- there is a value, where there has to be one
 abbrev pub IsThere : Rule Verdict → Data → Type 0

@@ -26,13 +26,13 @@ use std::alloc::Global;
 use std::collections::BTreeMap;
 
 /// A version whose local tokens are sealed with nothing handed in: 1, 3 and 4.
-pub trait UnboxedVersion: LocalVersion {}
+pub trait GenericLocalVersion: LocalVersion {}
 
-impl UnboxedVersion for V1 {}
+impl GenericLocalVersion for V1 {}
 
-impl UnboxedVersion for V3 {}
+impl GenericLocalVersion for V3 {}
 
-impl UnboxedVersion for V4 {}
+impl GenericLocalVersion for V4 {}
 
 /// Claims, and the footer and the implicit assertion where they are set: what is to become a token of a
 /// version and a purpose, by `try_encrypt` or `try_sign`.
@@ -157,7 +157,7 @@ impl<'a, V: ImplicitAssertionCapable, P: PurposeTrait> GenericBuilder<'a, V, P> 
     }
 }
 
-impl<V: UnboxedVersion> GenericBuilder<'_, V, Local> {
+impl<V: GenericLocalVersion> GenericBuilder<'_, V, Local> {
     /// Seals the payload of the claims, with the footer and, in the versions 3 and 4, the implicit assertion,
     /// under 32 bytes that the generator gives.
     ///

@@ -6,8 +6,8 @@ ghost use Rattle.serde_json.specs.View.{view, members_view};
 ghost use Rattle.rusty_paseto_claims.specs.Claim.{IsRefusal, gives};
 ghost use Rattle.rusty_paseto_claims.specs.Whole.{first_odd};
 ghost use Rattle.rusty_paseto_generic.specs.Error.Parser.{IsMemory, IsRefusal as IsParserRefusal};
-ghost use Rattle.rusty_paseto_generic.specs.Parsers.Rules.{AreSame, IsStored, all_judged, all_stored, edited, fault_in, no_rule, odd_fault, whole_answer, with_both, with_judge, with_required, with_stored};
-ghost use Rattle.rusty_paseto_generic.specs.Parsers.Held.{HasEach, HasMore, default_date, judges_of, rules_of, with_times};
+ghost use Rattle.rusty_paseto_generic.specs.Parsers.Rules.{AreSame, IsStored, all_with_checkers, all_stored, edited, fault_in, no_rule, odd_fault, whole_answer, with_both, with_checker, with_required, with_stored};
+ghost use Rattle.rusty_paseto_generic.specs.Parsers.Held.{HasEach, HasMore, default_date, checkers_of, rules_of, with_times};
 
 use crate::error::GenericParserError;
 use crate::whole::check_whole;
@@ -18,9 +18,9 @@ use serde_json::{Map, Value};
 use std::alloc::{AllocError, Global};
 use std::collections::BTreeMap;
 
-/// What judges the value under a key, in place of a stored value.
+/// What checks the value under a key, in place of a stored value.
 #[derive(Drop)]
-pub(crate) enum Judge<B> {
+pub(crate) enum Checker<B> {
     /// A validator that the caller brought.
     Boxed(B),
     /// A token has expired from the value's instant on.
@@ -29,13 +29,13 @@ pub(crate) enum Judge<B> {
     NotBefore,
 }
 
-/// What is checked under a key. Where nothing is required, stored or judged, it is nothing.
+/// What is checked under a key. Where nothing is required, stored or checked, it is nothing.
 #[derive(Drop)]
 pub(crate) struct Check<B> {
     // Whether a value has to be there that is not null.
     pub(crate) required: bool,
     pub(crate) stored: Option<Value>,
-    pub(crate) judge: Option<Judge<B>>,
+    pub(crate) checker: Option<Checker<B>>,
 }
 
 /// Checks by their keys.
@@ -63,7 +63,7 @@ impl<B: Drop> Checks<B> {
         self.alloc
     }
 
-    /// Stores the JSON of a claim, as it is, under its key, and keeps the key's judge.
+    /// Stores the JSON of a claim, as it is, under its key, and keeps the key's checker.
     ///
     /// `ClaimError` comes for a value that holds another number than a whole one of 64 bits, `Unexpected`
     /// with the key, and for a fault of the claim. The checks are then unchanged.
@@ -79,13 +79,13 @@ impl<B: Drop> Checks<B> {
         Ok(())
     }
 
-    /// Stores the JSON of a claim, as `store` does, and what is to judge its key from now on.
-    pub(crate) fn store_judged<C: PasetoClaim>(
+    /// Stores the JSON of a claim, as `store` does, and what is to check its key from now on.
+    pub(crate) fn store_validator<C: PasetoClaim>(
         &mut self,
         claim: &C,
-        judge: B,
+        checker: B,
     ) -> Result<(), GenericParserError>
-        ensures ok { OnOk result (IsStored (C.key claim.now) (C.json claim.now) (with_both (Judge.Boxed judge))
+        ensures ok { OnOk result (IsStored (C.key claim.now) (C.json claim.now) (with_both (Checker.Boxed checker))
             (rules_of self.old) (rules_of self.new)) }
         ensures err { OnErr result (AreSame (rules_of self.new) (rules_of self.old)) }
         ensures fault { IfErr result (IsParserRefusal (fault_in (whole_answer (C.key claim.now) (C.json claim.now)))) }
@@ -94,11 +94,11 @@ impl<B: Drop> Checks<B> {
         let value = whole_json(self.alloc, claim)?;
         self.reserve(key)?;
         self.set_stored(key, value);
-        self.set_judge(key, Judge::Boxed(judge));
+        self.set_checker(key, Checker::Boxed(checker));
         Ok(())
     }
 
-    /// Stores all values as they are, each under its key, and keeps the keys' judges.
+    /// Stores all values as they are, each under its key, and keeps the keys' checkers.
     ///
     /// `ClaimError` of `Unexpected` with the key comes for the first key in byte order whose value holds
     /// another number than a whole one of 64 bits. The checks are then unchanged.
@@ -114,20 +114,20 @@ impl<B: Drop> Checks<B> {
         Ok(())
     }
 
-    /// Stores what is to judge each of the keys from now on, and keeps the keys' stored values. Nothing
+    /// Stores what is to check each of the keys from now on, and keeps the keys' stored values. Nothing
     /// but memory is refused, and the checks are then unchanged.
-    pub(crate) fn judge_all(&mut self, more: BTreeMap<String, B>) -> Result<(), AllocError>
-        ensures ok { OnOk result (AreSame (rules_of self.new) (all_judged (judges_of more.entries) (rules_of self.old))) }
+    pub(crate) fn store_validators(&mut self, more: BTreeMap<String, B>) -> Result<(), AllocError>
+        ensures ok { OnOk result (AreSame (rules_of self.new) (all_with_checkers (checkers_of more.entries) (rules_of self.old))) }
         ensures err { OnErr result (AreSame (rules_of self.new) (rules_of self.old)) }
     {
         self.reserve_all(&more)?;
-        self.set_all_judged(more);
+        self.set_all_checkers(more);
         Ok(())
     }
 
-    /// Stores `exp` and `nbf` with their claims by default, and what judges them by the moment from now on. A
+    /// Stores `exp` and `nbf` with their claims by default, and what checks them by the moment from now on. A
     /// key that is there gets the new ones. Nothing but memory is refused, and the checks are then unchanged.
-    pub(crate) fn judge_times(&mut self) -> Result<(), GenericParserError>
+    pub(crate) fn check_times(&mut self) -> Result<(), GenericParserError>
         ensures ok { OnOk result (AreSame (rules_of self.new) (with_times (rules_of self.old))) }
         ensures err { OnErr result (AreSame (rules_of self.new) (rules_of self.old)) }
         ensures fault { IfErr result IsMemory }
@@ -136,8 +136,8 @@ impl<B: Drop> Checks<B> {
         let not_before = default_json::<NotBefore>(self.alloc)?;
         self.reserve("exp")?;
         self.reserve("nbf")?;
-        self.set_both("exp", expiration, Judge::Expiry);
-        self.set_both("nbf", not_before, Judge::NotBefore);
+        self.set_both("exp", expiration, Checker::Expiry);
+        self.set_both("nbf", not_before, Checker::NotBefore);
         Ok(())
     }
 
@@ -164,7 +164,7 @@ impl<B: Drop> Checks<B> {
         let nothing = Check {
             required: false,
             stored: None,
-            judge: None,
+            checker: None,
         };
         drop(
             self.entries
@@ -206,25 +206,25 @@ impl<B: Drop> Checks<B> {
         }
     }
 
-    // Sets what judges a key that has an entry.
-    fn set_judge(&mut self, key: &str, judge: Judge<B>)
+    // Sets what checks a key that has an entry.
+    fn set_checker(&mut self, key: &str, checker: Checker<B>)
         requires { IsSome (get_by_text self.old.entries key.now) }
-        ensures rules { AreSame (rules_of self.new) (edited key.now (with_judge judge) (rules_of self.old)) }
+        ensures rules { AreSame (rules_of self.new) (edited key.now (with_checker checker) (rules_of self.old)) }
         ensures kept { HasMore (get_by_text self.new.entries) (get_by_text self.old.entries) }
     {
         if let Some(check) = self.entries.get_mut(key) {
-            check.judge = Some(judge);
+            check.checker = Some(checker);
         }
     }
 
-    // Stores a value and sets what judges, under a key that has an entry.
-    fn set_both(&mut self, key: &str, value: Value, judge: Judge<B>)
+    // Stores a value and sets what checks, under a key that has an entry.
+    fn set_both(&mut self, key: &str, value: Value, checker: Checker<B>)
         requires { IsSome (get_by_text self.old.entries key.now) }
-        ensures rules { AreSame (rules_of self.new) (edited key.now (with_both judge (view value)) (rules_of self.old)) }
+        ensures rules { AreSame (rules_of self.new) (edited key.now (with_both checker (view value)) (rules_of self.old)) }
         ensures kept { HasMore (get_by_text self.new.entries) (get_by_text self.old.entries) }
     {
         self.set_stored(key, value);
-        self.set_judge(key, judge);
+        self.set_checker(key, checker);
     }
 
     // Stores values under keys that have entries.
@@ -237,13 +237,13 @@ impl<B: Drop> Checks<B> {
         }
     }
 
-    // Sets what judges keys that have entries.
-    fn set_all_judged(&mut self, more: BTreeMap<String, B>)
+    // Sets what checks keys that have entries.
+    fn set_all_checkers(&mut self, more: BTreeMap<String, B>)
         requires { HasEach (get_by_text self.old.entries) more.entries }
-        ensures { AreSame (rules_of self.new) (all_judged (judges_of more.entries) (rules_of self.old)) }
+        ensures { AreSame (rules_of self.new) (all_with_checkers (checkers_of more.entries) (rules_of self.old)) }
     {
-        for (key, judge) in more {
-            self.set_judge(key.as_str(), Judge::Boxed(judge));
+        for (key, checker) in more {
+            self.set_checker(key.as_str(), Checker::Boxed(checker));
         }
     }
 }

@@ -10,12 +10,12 @@ ghost use Rattle.rusty_paseto_core.specs.Local.Boxed.{box_opening};
 ghost use Rattle.rusty_paseto_core.specs.Local.Opening.{opening};
 ghost use Rattle.rusty_paseto_core.specs.Public.Verifying.{verification};
 ghost use Rattle.rusty_paseto_generic.specs.Error.Parser.{IsMemory, IsRefusal};
-ghost use Rattle.rusty_paseto_generic.specs.Parsers.Held.{judges_of, rules_of, verdicts_of, with_times};
+ghost use Rattle.rusty_paseto_generic.specs.Parsers.Held.{checkers_of, rules_of, verdicts_of, with_times};
 ghost use Rattle.rusty_paseto_generic.specs.Parsers.Times.{times_at};
 ghost use Rattle.rusty_paseto_generic.specs.Parsers.Parsing.{IsParseAnswer, IsTextAnswer, assertion_in};
-ghost use Rattle.rusty_paseto_generic.specs.Parsers.Rules.{AreSame, IsStored, all_judged, all_stored, edited, fault_in, no_rule, odd_fault, whole_answer, with_both, with_required, with_stored};
+ghost use Rattle.rusty_paseto_generic.specs.Parsers.Rules.{AreSame, IsStored, all_with_checkers, all_stored, edited, fault_in, no_rule, odd_fault, whole_answer, with_both, with_required, with_stored};
 
-use crate::builders::UnboxedVersion;
+use crate::builders::GenericLocalVersion;
 use crate::error::GenericParserError;
 use crate::parsers::checks::Checks;
 use crate::parsers::parsing::{parse_opened, parse_text};
@@ -37,8 +37,8 @@ use std::marker::PhantomData;
 /// token of a version and a purpose is to have, so that `parse` answers its claims.
 ///
 /// A key is checked by a stored value, with `check_claim` or `extend_check_claims`, or by a validator of the
-/// caller's own, with `validate_claim` or `extend_validation_claims`. A key with a validator is judged by it
-/// alone. `check_times` brings the validators of `exp` and `nbf`, which judge at the parser's moment, with a leeway
+/// caller's own, with `validate_claim` or `extend_validation_claims`. A key with a validator is checked by it
+/// alone. `check_times` brings the validators of `exp` and `nbf`, which check at the parser's moment, with a leeway
 /// where `set_leeway` set one, and let a token without these claims pass: `require_claim` demands that a claim is
 /// there. The stored values have whole numbers of 64 bits alone.
 ///
@@ -60,7 +60,7 @@ pub struct TokenParser<'a, V, P, B> {
     version: PhantomData<V>,
     purpose: PhantomData<P>,
     checks: Checks<B>,
-    // When the times are judged, where they are, and by how many seconds the clocks may differ.
+    // When the times are checked, where they are, and by how many seconds the clocks may differ.
     moment: Timestamp,
     leeway: u32,
     footer: Option<Footer<'a>>,
@@ -97,7 +97,7 @@ impl<'a, V: VersionTrait, P: PurposeTrait, B: Drop> TokenParser<'a, V, P, B> {
         TokenParser::new(alloc)
     }
 
-    /// Sets the moment at which the times are judged, and keeps the rest. It changes no answer of a parser that
+    /// Sets the moment at which the times are checked, and keeps the rest. It changes no answer of a parser that
     /// checks no times. No memory is taken.
     pub fn set_now(&mut self, now: Timestamp) -> &mut Self
         ensures lent { result.ghost_name ≡ self.entry.ghost_name }
@@ -108,7 +108,7 @@ impl<'a, V: VersionTrait, P: PurposeTrait, B: Drop> TokenParser<'a, V, P, B> {
     }
 
     /// Sets how many seconds the clocks of issuer and reader may differ by, 0 until it is set, and keeps the rest: `exp`
-    /// is judged that much earlier than the moment, and `nbf` that much later. It changes no answer of a parser that
+    /// is checked that much earlier than the moment, and `nbf` that much later. It changes no answer of a parser that
     /// checks no times. No memory is taken.
     ///
     /// ```rust
@@ -123,7 +123,7 @@ impl<'a, V: VersionTrait, P: PurposeTrait, B: Drop> TokenParser<'a, V, P, B> {
         self
     }
 
-    // When the times are judged.
+    // When the times are checked.
     fn times(&self) -> Times
         ensures { result ≡ times_at self.now.moment self.now.leeway }
     {
@@ -182,7 +182,7 @@ impl<'a, V: VersionTrait, P: PurposeTrait, B: Drop> CheckSetter<B> for TokenPars
         claim: &C,
         validator: B,
     ) -> Result<(), GenericParserError> {
-        self.checks.store_judged(claim, validator)
+        self.checks.store_validator(claim, validator)
     }
 
     fn put_checks(&mut self, claims: BTreeMap<String, Value>) -> Result<(), GenericParserError> {
@@ -190,14 +190,14 @@ impl<'a, V: VersionTrait, P: PurposeTrait, B: Drop> CheckSetter<B> for TokenPars
     }
 
     fn put_validators(&mut self, validators: BTreeMap<String, B>) -> Result<(), GenericParserError>
-        ensures ok { OnOk result (AreSame (rules_of self.new.checks) (all_judged (judges_of validators.entries) (rules_of self.old.checks))) }
+        ensures ok { OnOk result (AreSame (rules_of self.new.checks) (all_with_checkers (checkers_of validators.entries) (rules_of self.old.checks))) }
         ensures moment { self.new.moment ≡ self.old.moment }
         ensures rest { (self.new.footer ≡ self.old.footer)
             × (self.new.implicit_assertion ≡ self.old.implicit_assertion) × (self.new.leeway ≡ self.old.leeway) }
         ensures err { OnErr result (AreSame (rules_of self.new.checks) (rules_of self.old.checks)) }
         ensures fault { IfErr result IsMemory }
     {
-        Ok(self.checks.judge_all(validators)?)
+        Ok(self.checks.store_validators(validators)?)
     }
 
     fn put_required(&mut self, key: &str) -> Result<(), GenericParserError> {
@@ -205,7 +205,7 @@ impl<'a, V: VersionTrait, P: PurposeTrait, B: Drop> CheckSetter<B> for TokenPars
     }
 
     fn put_times(&mut self, moment: Timestamp) -> Result<(), GenericParserError> {
-        self.checks.judge_times()?;
+        self.checks.check_times()?;
         self.moment = moment;
         Ok(())
     }
@@ -243,7 +243,7 @@ impl<V: VersionTrait, P: PurposeTrait> TokenParser<'_, V, P, ValidatorFn> {
     }
 }
 
-impl<V: UnboxedVersion> TokenParser<'_, V, Local, ValidatorFn> {
+impl<V: GenericLocalVersion> TokenParser<'_, V, Local, ValidatorFn> {
     /// Opens a token under the parser's footer and, in the versions 3 and 4, its implicit assertion, and answers
     /// the value of its text, which passes all checks.
     ///

@@ -10,7 +10,7 @@ use crate::error::GenericParserError;
 use crate::parsers::checks::Checks;
 use crate::parsers::reading::read_value;
 use crate::parsers::times::Times;
-use crate::parsers::walk::check_all;
+use crate::parsers::check_all::check_all;
 use crate::validator::ValidatorFn;
 use rusty_paseto_core::PasetoError;
 use serde_json::Value;

@@ -5,14 +5,14 @@ ghost use Rattle.std.specs.Prelude.{◌≡◌, None, IfOk, IfErr, OnOk, OnErr};
 ghost use Rattle.serde_json.specs.View.{members_view};
 ghost use Rattle.rusty_paseto_claims.specs.Whole.{first_odd};
 ghost use Rattle.rusty_paseto_generic.specs.Error.Parser.{IsMemory, IsRefusal};
-ghost use Rattle.rusty_paseto_generic.specs.Parsers.Held.{judges_of, with_times};
-ghost use Rattle.rusty_paseto_generic.specs.Parsers.Rules.{AreSame, IsStored, Rules, all_judged, all_stored, edited, fault_in, odd_fault, whole_answer, with_both, with_required, with_stored};
-ghost use Rattle.rusty_paseto_generic.specs.declared.parsers.checks.Judge.{Judge as JudgeOf};
+ghost use Rattle.rusty_paseto_generic.specs.Parsers.Held.{checkers_of, with_times};
+ghost use Rattle.rusty_paseto_generic.specs.Parsers.Rules.{AreSame, IsStored, Rules, all_with_checkers, all_stored, edited, fault_in, odd_fault, whole_answer, with_both, with_required, with_stored};
+ghost use Rattle.rusty_paseto_generic.specs.declared.parsers.checks.Checker.{Checker as CheckerOf};
 ghost use Rattle.jiff.specs.declared.Timestamp.{Timestamp};
 
 use crate::error::GenericParserError;
 use crate::itself::Itself;
-use crate::parsers::checks::Judge;
+use crate::parsers::checks::Checker;
 use jiff::Timestamp;
 use rusty_paseto_claims::PasetoClaim;
 use serde_json::Value;
@@ -22,9 +22,9 @@ use std::collections::BTreeMap;
 /// parser's own type under another name, and which the compiler finds by itself.
 pub trait CheckSetter<B> {
     // What is checked under each key.
-    ghost rules: { Self → Rules (JudgeOf B) };
+    ghost rules: { Self → Rules (CheckerOf B) };
 
-    // When the times are judged.
+    // When the times are checked.
     ghost moment: { Self → Timestamp };
 
     // The first has what the second has beside them.
@@ -44,7 +44,7 @@ pub trait CheckSetter<B> {
         claim: &C,
         validator: B,
     ) -> Result<(), GenericParserError>
-        ensures ok { OnOk result (IsStored (C.key claim.now) (C.json claim.now) (with_both (Judge.Boxed validator)) (rules self.old) (rules self.new)) }
+        ensures ok { OnOk result (IsStored (C.key claim.now) (C.json claim.now) (with_both (Checker.Boxed validator)) (rules self.old) (rules self.new)) }
         ensures moment { moment self.new ≡ moment self.old }
         ensures rest { is_rest self.new self.old }
         ensures err { OnErr result (AreSame (rules self.new) (rules self.old)) }
@@ -61,7 +61,7 @@ pub trait CheckSetter<B> {
 
     /// Stores all validators.
     fn put_validators(&mut self, validators: BTreeMap<String, B>) -> Result<(), GenericParserError>
-        ensures ok { OnOk result (AreSame (rules self.new) (all_judged (judges_of validators.entries) (rules self.old))) }
+        ensures ok { OnOk result (AreSame (rules self.new) (all_with_checkers (checkers_of validators.entries) (rules self.old))) }
         ensures moment { moment self.new ≡ moment self.old }
         ensures rest { is_rest self.new self.old }
         ensures err { OnErr result (AreSame (rules self.new) (rules self.old)) }
@@ -114,7 +114,7 @@ pub trait CheckSetter<B> {
         ensures* err { sem 𝓛 (LendsSoOk Self.row O.row self.entry result (λ last lent. last ≡ Self.whole lent)
             (λ last. AreSame (rules last) (rules self.entry.now) × (moment last ≡ moment self.entry.now) × is_rest last self.entry.now)) }
         ensures lent { IfOk result (λ lent. lent.ghost_name ≡ self.entry.ghost_name) }
-        ensures ok { IfOk result (λ lent. IsStored (C.key claim.now) (C.json claim.now) (with_both (Judge.Boxed validator)) (rules self.entry.now) (rules (Self.whole lent.now))) }
+        ensures ok { IfOk result (λ lent. IsStored (C.key claim.now) (C.json claim.now) (with_both (Checker.Boxed validator)) (rules self.entry.now) (rules (Self.whole lent.now))) }
         ensures moment { IfOk result (λ lent. moment (Self.whole lent.now) ≡ moment self.entry.now) }
         ensures rest { IfOk result (λ lent. is_rest (Self.whole lent.now) self.entry.now) }
         ensures fault { IfErr result (IsRefusal (fault_in (whole_answer (C.key claim.now) (C.json claim.now)))) }
@@ -153,7 +153,7 @@ pub trait CheckSetter<B> {
         ensures* err { sem 𝓛 (LendsSoOk Self.row O.row self.entry result (λ last lent. last ≡ Self.whole lent)
             (λ last. AreSame (rules last) (rules self.entry.now) × (moment last ≡ moment self.entry.now) × is_rest last self.entry.now)) }
         ensures lent { IfOk result (λ lent. lent.ghost_name ≡ self.entry.ghost_name) }
-        ensures ok { IfOk result (λ lent. AreSame (rules (Self.whole lent.now)) (all_judged (judges_of validators.entries) (rules self.entry.now))) }
+        ensures ok { IfOk result (λ lent. AreSame (rules (Self.whole lent.now)) (all_with_checkers (checkers_of validators.entries) (rules self.entry.now))) }
         ensures moment { IfOk result (λ lent. moment (Self.whole lent.now) ≡ moment self.entry.now) }
         ensures rest { IfOk result (λ lent. is_rest (Self.whole lent.now) self.entry.now) }
         ensures fault { IfErr result IsMemory }

@@ -16,7 +16,7 @@ use std::alloc::Global;
 /// How many nanoseconds a second has.
 const SECOND: i128 = 1_000_000_000;
 
-/// When the times of a token are judged: at the moment, but `exp` by the leeway earlier, and `nbf` by it later.
+/// When the times of a token are checked: at the moment, but `exp` by the leeway earlier, and `nbf` by it later.
 #[derive(Clone, Copy)]
 pub(crate) struct Times {
     pub(crate) moment: Timestamp,
@@ -25,14 +25,14 @@ pub(crate) struct Times {
 }
 
 impl Times {
-    // When the expiration is judged, in nanoseconds.
+    // When the expiration is checked, in nanoseconds.
     fn expires_at(self) -> i128
         ensures { result ≡ expires_at self }
     {
         self.moment.as_nanosecond() - self.leeway as i128 * SECOND
     }
 
-    // When the first moment of use is judged, in nanoseconds.
+    // When the first moment of use is checked, in nanoseconds.
     fn usable_at(self) -> i128
         ensures { result ≡ usable_at self }
     {
@@ -40,7 +40,7 @@ impl Times {
     }
 }
 
-/// Judges when a token expires: it is `Expired` where the instant is at or before the moment, less the leeway. A
+/// Checks when a token expires: it is `Expired` where the instant is at or before the moment, less the leeway. A
 /// null value is skipped. Another one that is no text is `Unexpected` with the key, and a text from which `jiff`
 /// reads no `Timestamp` is `RFC3339Date` with the text.
 pub(crate) fn check_expiry(
@@ -62,7 +62,7 @@ pub(crate) fn check_expiry(
     Ok(())
 }
 
-/// Judges from when on a token may be used: it is `UseBeforeAvailable`, with the text, where the instant is at
+/// Checks from when on a token may be used: it is `UseBeforeAvailable`, with the text, where the instant is at
 /// or after the moment and the leeway. The rest is as in `check_expiry`.
 pub(crate) fn check_not_before(
     alloc: Global,

@@ -1,7 +1,7 @@
 //! The keystream of XChaCha20, block after block.
 
 ghost use Rattle.std.specs.Prelude.{◌≡◌, ◌+◌, ◌*◌, ◌%◌, ◌≤◌, length, take};
-ghost use Rattle.rusty_paseto_primitives.specs.Keystream.{masked, masked_from, stream_of_blocks};
+ghost use Rattle.rusty_paseto_primitives.specs.Keystream.{xored, xored_from, stream_of_blocks};
 ghost use Rattle.rusty_paseto_primitives.specs.ChaCha.Block.{block_bytes, key_words};
 ghost use Rattle.rusty_paseto_primitives.specs.ChaCha.Stream.{numbered, tail_words, xchacha20_stream};
 ghost use Rattle.rusty_paseto_primitives.specs.ChaCha.Subkey.{hchacha20};
@@ -9,7 +9,7 @@ ghost use Rattle.rusty_paseto_primitives.specs.ChaCha.Subkey.{hchacha20};
 use crate::chacha::block::{self, high_half, low_half};
 use crate::chacha::lanes;
 use crate::chacha::subkey::hchacha20;
-use crate::keystream::{mask, mask_by_vectors};
+use crate::keystream::{apply_keystream, apply_by_vectors};
 
 const BLOCK_LEN: usize = 64;
 
@@ -39,35 +39,35 @@ fn block_at(key: &[u32; 8], tail: &[u32; 2], n: u64) -> [u8; 64]
 }
 
 // Masks whole groups of four blocks, from block number `first` on.
-fn mask_groups(key: &[u32; 8], tail: &[u32; 2], first: u64, data: &mut [u8])
+fn apply_groups(key: &[u32; 8], tail: &[u32; 2], first: u64, data: &mut [u8])
     requires { length «data».old % 256 ≡ 0 }
-    ensures { «data».new ≡ masked (stream_of_blocks 64 (λ n. block_bytes (numbered key.now tail.now (first + n)))) «data».old }
+    ensures { «data».new ≡ xored (stream_of_blocks 64 (λ n. block_bytes (numbered key.now tail.now (first + n)))) «data».old }
 {
     'groups: for g in 0..data.len() / GROUP_LEN {
         let at = GROUP_LEN * g;
         let number = first.wrapping_add(4 * g as u64);
         let keystream = lanes::keystream(key, tail, number);
-        mask_by_vectors(&mut data[at..at + GROUP_LEN], &keystream);
+        apply_by_vectors(&mut data[at..at + GROUP_LEN], &keystream);
     }
 }
 
 // Masks no more than a group, from block number `first` on. Four blocks by lanes cost less than two
 // one after the other.
-fn mask_rest(key: &[u32; 8], tail: &[u32; 2], first: u64, data: &mut [u8])
+fn apply_rest(key: &[u32; 8], tail: &[u32; 2], first: u64, data: &mut [u8])
     requires { length «data».old ≤ 256 }
-    ensures { «data».new ≡ masked (stream_of_blocks 64 (λ n. block_bytes (numbered key.now tail.now (first + n)))) «data».old }
+    ensures { «data».new ≡ xored (stream_of_blocks 64 (λ n. block_bytes (numbered key.now tail.now (first + n)))) «data».old }
 {
     if data.is_empty() {
         return;
     }
     if data.len() <= BLOCK_LEN {
-        mask(data, &block_at(key, tail, first));
+        apply_keystream(data, &block_at(key, tail, first));
         return;
     }
     let vectors = lanes::keystream(key, tail, first);
     let mut bytes = [0u8; GROUP_LEN];
-    mask_by_vectors(&mut bytes, &vectors);
-    mask(data, &bytes);
+    apply_by_vectors(&mut bytes, &vectors);
+    apply_keystream(data, &bytes);
 }
 
 /// Encrypts or decrypts `data`, in place, by XChaCha20: the byte-wise exclusive or with the keystream from
@@ -80,7 +80,7 @@ fn mask_rest(key: &[u32; 8], tail: &[u32; 2], first: u64, data: &mut [u8])
 /// Blocks are numbered by 64 bits, in words 12 and 13 of a block, so that no length of data comes to
 /// the end of the keystream.
 pub fn xchacha20_apply(key: &[u8; 32], nonce: &[u8; 24], data: &mut [u8])
-    ensures { «data».new ≡ masked (xchacha20_stream key.now nonce.now) «data».old }
+    ensures { «data».new ≡ xored (xchacha20_stream key.now nonce.now) «data».old }
 {
     xchacha20_apply_from(key, nonce, 0, data);
 }
@@ -98,13 +98,13 @@ pub fn xchacha20_apply(key: &[u8; 32], nonce: &[u8; 24], data: &mut [u8])
 /// xchacha20_apply_from(&key, &nonce, 1, &mut text);
 /// ```
 pub fn xchacha20_apply_from(key: &[u8; 32], nonce: &[u8; 24], first_block: u64, data: &mut [u8])
-    ensures { «data».new ≡ masked_from (xchacha20_stream key.now nonce.now) (64 * first_block) «data».old }
+    ensures { «data».new ≡ xored_from (xchacha20_stream key.now nonce.now) (64 * first_block) «data».old }
 {
     let subkey = subkey_words(key, nonce);
     let tail = tail_words(nonce);
     let group_count = data.len() / GROUP_LEN;
     let end = GROUP_LEN * group_count;
-    mask_groups(&subkey, &tail, first_block, &mut data[..end]);
+    apply_groups(&subkey, &tail, first_block, &mut data[..end]);
     let rest = first_block.wrapping_add(4 * group_count as u64);
-    mask_rest(&subkey, &tail, rest, &mut data[end..]);
+    apply_rest(&subkey, &tail, rest, &mut data[end..]);
 }

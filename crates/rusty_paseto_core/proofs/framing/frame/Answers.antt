@@ -1,12 +1,12 @@
 use Rattle.std.proofs.Common.{◌≡◌, ℕ, List, [], ◌∷◌, ◌++◌, refl, append_assoc, ◌∙◌}
-use Rattle.rusty_paseto_parts.specs.Section.{spelling}
+use Rattle.rusty_paseto_parts.specs.Section.{base64url}
 use Rattle.std.proofs.lemmas.List.{append-nil}
 use lib.Utf8.{encode}
 use Rattle.rusty_paseto_core.specs.Framing.{framing, footer_part}
 use Rattle.rusty_paseto_core.proofs.framing.frame.Goals as goal
 
-with_footer : (header payload footer first second third whole : List ℕ) → first ≡ header → second ≡ first ++ spelling payload
-    → third ≡ second ++ (46 ∷ []) → whole ≡ third ++ spelling footer → whole ≡ header ++ spelling payload ++ (46 ∷ spelling footer)
+with_footer : (header payload footer first second third whole : List ℕ) → first ≡ header → second ≡ first ++ base64url payload
+    → third ≡ second ++ (46 ∷ []) → whole ≡ third ++ base64url footer → whole ≡ header ++ base64url payload ++ (46 ∷ base64url footer)
 with_footer header payload footer first second third whole a b c d = rw (d, c, b, a) (simp append_assoc)
 
 pub returns-in_default-clause-ok : goal.returns-in_default-clause-ok

@@ -9,7 +9,7 @@ ghost use Rattle.rusty_paseto_core.specs.Local.{local};
 use super::{Opening, TagCollision, find_collision};
 use crate::context::five_pieces;
 use crate::local::LocalSuite;
-use crate::local::sealing::seal;
+use crate::local::sealing::nonce_and_tag;
 use rusty_paseto_parts::{
     Footer, ImplicitAssertion, Key, Local, PasetoError, PasetoSymmetricKey,
     PreAuthenticationEncoding, VersionTrait,
@@ -19,7 +19,7 @@ use std::fmt;
 use std::process::Abort;
 use std::test::Fail;
 
-/// A toy version with neither secrecy nor authenticity: a text is not masked, and the tag of each encoding is
+/// A toy version with neither secrecy nor authenticity: a text is not ciphertext, and the tag of each encoding is
 /// 32 zero bytes.
 #[derive(Clone, Copy, Debug, Default)]
 struct Toy;
@@ -59,11 +59,11 @@ impl LocalSuite for Toy {
     ghost design = { record {
       version = codes "v4";
       binds_assertion = true;
-      mask = λ key nonce bytes. bytes;
+      apply_keystream = λ key nonce bytes. bytes;
       authentication_key = λ key nonce. [];
       tag = λ key encoding. replicate 32 0;
       tag_length = 32;
-      token_nonce = λ given text. given;
+      token_nonce = λ seed text. seed;
     } };
 
     ghost IsSplit = { λ keys key nonce. ⊤ };
@@ -80,9 +80,9 @@ impl LocalSuite for Toy {
         "v4.local."
     }
 
-    fn token_nonce(given: &[u8], _text: &[u8]) -> [u8; 32] {
+    fn token_nonce(seed: &[u8], _text: &[u8]) -> [u8; 32] {
         let mut nonce = [0u8; 32];
-        nonce.copy_from_slice(given);
+        nonce.copy_from_slice(seed);
         nonce
     }
 
@@ -90,20 +90,20 @@ impl LocalSuite for Toy {
         ToyKeys
     }
 
-    fn mask(_keys: &ToyKeys, _bytes: &mut [u8]) {}
+    fn apply_keystream(_keys: &ToyKeys, _bytes: &mut [u8]) {}
 
     fn write_tag(_keys: &ToyKeys, _pieces: &[&[u8]], tag: &mut [u8]) {
         tag.copy_from_slice(&[0u8; 32]);
     }
 
     ghost lawful = { record {
-      length_mask = λ key nonce bytes. refl;
-      mask_mask = λ key nonce bytes. refl;
-      bytes_mask = λ key nonce bytes is. is;
+      length_applied = λ key nonce bytes. refl;
+      applied_twice = λ key nonce bytes. refl;
+      bytes_applied = λ key nonce bytes is. is;
       length_tag = λ key message. refl;
       bytes_tag = λ key message. IsBytes-serialized (replicate 8 0);
       is_header = IsHeader-known (codes "v4") local refl refl;
-      nonce = λ given text is. is;
+      nonce = λ seed text is. is;
     } };
 
     ghost has_version = { refl };
@@ -145,7 +145,7 @@ impl<'a> Made<'a> {
         Ok(Sealed {
             made: self,
             key: PasetoSymmetricKey::from(Key::from(key)),
-            token: seal::<Toy>(alloc, &key, &nonce, self.text, footer, assertion)?,
+            token: nonce_and_tag::<Toy>(alloc, &key, &nonce, self.text, footer, assertion)?,
         })
     }
 

@@ -1,6 +1,6 @@
-use Rattle.rusty_paseto_parts.specs.Section.{spelling}
+use Rattle.rusty_paseto_parts.specs.Section.{base64url}
 use Rattle.rusty_paseto_parts.proofs.section.to_section.Goals as goal
 
 pub returns-clause-ok : goal.returns-clause-ok
-unfolding spelling
+unfolding base64url
 returns-clause-ok c = c.in_ok-encode.ensures.text

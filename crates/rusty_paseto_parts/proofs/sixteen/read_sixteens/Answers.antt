@@ -1,9 +1,9 @@
 use Rattle.std.proofs.Common.{◌*◌, ◌+◌, ◌-◌, ℕ, refl, arith}
-use Rattle.rusty_paseto_parts.proofs.SixteenLemmas.{more_read, spelling-nil}
+use Rattle.rusty_paseto_parts.proofs.SixteenLemmas.{more_read, base64url-nil}
 use Rattle.rusty_paseto_parts.proofs.sixteen.read_sixteens.Goals as goal
 
 pub sixteens-init : goal.sixteens-init
-sixteens-init c = spelling-nil
+sixteens-init c = base64url-nil
 
 pub sixteens-preserved : goal.sixteens-preserved
 sixteens-preserved c =

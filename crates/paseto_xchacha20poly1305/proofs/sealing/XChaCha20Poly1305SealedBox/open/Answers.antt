@@ -1,7 +1,7 @@
 use Rattle.std.proofs.Common.{◌≡◌, true, false, ◌-◌, ◌≤◌, List, ℕ, length, take, drop, refl, sym, ap, ◌∙◌, arith}
 use Rattle.std.proofs.lemmas.List.{take_at}
 use Rattle.rusty_paseto_primitives.specs.Bytes.{IsBytes}
-use Rattle.paseto_xchacha20poly1305.specs.Sealing.{masked_text, text_tag}
+use Rattle.paseto_xchacha20poly1305.specs.Sealing.{xored_text, text_tag}
 use Rattle.paseto_xchacha20poly1305.proofs.Opening.{other_tag, own_tag, too_long, too_short}
 use Rattle.paseto_xchacha20poly1305.proofs.sealing.XChaCha20Poly1305SealedBox.open.Goals as goal
 use Rattle.paseto_xchacha20poly1305.proofs.sealing.XChaCha20Poly1305SealedBox.open.Goals.{then-boxed-lt-TAG_LENGTH-via-then-boxed-lt-TAG_LENGTH, then-boxed-lt-TAG_LENGTH-via-else-boxed-lt-TAG_LENGTH+then-boxed}
@@ -25,7 +25,7 @@ returns-then-not-same_bytes c =
     cc)
 
 pub returns : goal.returns
-unfolding masked_text
+unfolding xored_text
 returns c =
     let key = c.args.key.now in
     let nonce = c.args.nonce.now in
@@ -41,7 +41,7 @@ returns c =
     let text : List ℕ = c.xchacha20_apply_from.new.data in
     let same : length text ≡ copy.len = omega (arith, c.xchacha20_apply_from.auto.data, c.deref_mut.ensures.len) in
     let back = take_at text (drop (length text) copy.items) copy.len same in
-    let masked : text ≡ masked_text key nonce (take (length boxed - 16) boxed) =
+    let xored : text ≡ xored_text key nonce (take (length boxed - 16) boxed) =
     c.xchacha20_apply_from.ensures ∙ rw (c.deref_mut.ensures.value, copied) refl in
-    rw (back, masked)
+    rw (back, xored)
     (own_tag key nonce c.args.data.now boxed low high bytes (sym own ∙ found ∙ c.split_at.ensures.back))

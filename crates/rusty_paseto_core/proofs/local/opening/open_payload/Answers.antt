@@ -16,15 +16,15 @@ returns-in-Ok-clause-holds g c =
     let own : width ≡ design.tag_length = c.TAG_LENGTH.ensures ∙ sym g.met.V.LocalSuite.has_tag_length in
     let room : HasRoom design payload = omega arith in
     let tagged : HasTag design binding payload = rw c.deref-2.ensures.value at ((c.has_tag.ensures _ c.split-keys.ensures).0 c.if-not-has_tag.false) in
-    let new = c.mask.new.bytes in
-    let same : length new ≡ c.keep_masked.new.payload.len = omega (arith, c.mask.auto.bytes, c.deref_mut.ensures.len) in
-    let back : take c.keep_masked.new.payload.len (new ++ drop (length new) c.keep_masked.new.payload.items) ≡ new =
-    take_at new (drop (length new) c.keep_masked.new.payload.items) c.keep_masked.new.payload.len same in
+    let new = c.apply_keystream.new.bytes in
+    let same : length new ≡ c.keep_ciphertext.new.payload.len = omega (arith, c.apply_keystream.auto.bytes, c.deref_mut.ensures.len) in
+    let back : take c.keep_ciphertext.new.payload.len (new ++ drop (length new) c.keep_ciphertext.new.payload.items) ≡ new =
+    take_at new (drop (length new) c.keep_ciphertext.new.payload.items) c.keep_ciphertext.new.payload.len same in
     let text : string_bytes c.in-Ok.text ≡ new = ap (λ (v : Vec ℕ Global). v.items) c.in-Ok.ensures.ok ∙ back in
     let nonce : c.nonce_of-nonce.result ≡ take 32 payload = rw c.deref.ensures.value at c.nonce_of-nonce.ensures in
     let width_again : c.TAG_LENGTH-2.result ≡ width = c.TAG_LENGTH-2.ensures ∙ sym c.TAG_LENGTH.ensures in
     let len : c.len-len.result ≡ length payload = omega arith in
-    let masked : c.deref_mut.result.now ≡ drop 32 (take (length payload - width) payload) =
-    rw (c.deref_mut.ensures.value, c.keep_masked.ensures, len, width_again) refl in
+    let ciphertext : c.deref_mut.result.now ≡ drop 32 (take (length payload - width) payload) =
+    rw (c.deref_mut.ensures.value, c.keep_ciphertext.ensures, len, width_again) refl in
     holds_text design binding payload width own room c.args.key.now c.nonce_of-nonce.result c.deref_mut.result.now (string_bytes c.in-Ok.text)
-    tagged refl nonce masked (text ∙ c.mask.ensures _ _ c.split-keys.ensures) (IsUtf8-string_bytes c.in-Ok.text)
+    tagged refl nonce ciphertext (text ∙ c.apply_keystream.ensures _ _ c.split-keys.ensures) (IsUtf8-string_bytes c.in-Ok.text)

@@ -19,4 +19,4 @@ returns-clause-ok g c =
     c.in_ok-encoding_of.ensures.fits
     (c.in_ok-encoding_of-2.ensures.ok ∙ ap (λ kept. encoding design (case_in kept) (content_in kept)) second)
     c.in_ok-encoding_of-2.ensures.fits
-    (rw (c.in_ok-extend_from_slice.ensures.items, c.new-tag.ensures.items, c.deref.ensures.value) (take_rest c.index-opened-i.result.seal.items 32 ∙ ap tag_in first))
+    (rw (c.in_ok-extend_from_slice.ensures.items, c.new-tag.ensures.items, c.deref.ensures.value) (take_rest c.index-opened-i.result.nonce_and_tag.items 32 ∙ ap tag_in first))

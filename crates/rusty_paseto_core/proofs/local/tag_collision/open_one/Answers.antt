@@ -13,15 +13,15 @@ returns-in_err-payload-clause-err g c =
     (framing_unopened g.V.LocalSuite.design g.met.V.LocalSuite.lawful (case_of c.args.opening) binding _ _ own g.met.V.LocalSuite.has_version
     c.footer.ensures.text c.footer.ensures.bytes c.in_err-payload.field-0.0 c.in_err-payload.ensures.fault)
 
-pub returns-in_err-seal-clause-err : goal.returns-in_err-seal-clause-err
-returns-in_err-seal-clause-err g c =
+pub returns-in_err-nonce_and_tag-clause-err : goal.returns-in_err-nonce_and_tag-clause-err
+returns-in_err-nonce_and_tag-clause-err g c =
     let context = c.new-context.result in
     let binding : Binding = record { key = c.args.opening.key.now; footer = context.footer; assertion = context.assertion } in
     let own : binding ≡ (case_of c.args.opening).binding = rw c.new-context.ensures refl in
-    handed_on _ c.in_err-seal.field-0.0 c.from_residual-in_err-seal.result c.from_residual-in_err-seal.ensures.1
+    handed_on _ c.in_err-nonce_and_tag.field-0.0 c.from_residual-in_err-nonce_and_tag.result c.from_residual-in_err-nonce_and_tag.ensures.1
     (room_unopened g.V.LocalSuite.design g.met.V.LocalSuite.lawful (case_of c.args.opening) binding _ _ own g.met.V.LocalSuite.has_version
-    c.footer.ensures.text c.footer.ensures.bytes c.in_ok-payload.payload.items c.in_err-seal.field-0.0 c.in_ok-payload.ensures.framed
-    (rw c.deref.ensures.value at c.in_err-seal.ensures.err))
+    c.footer.ensures.text c.footer.ensures.bytes c.in_ok-payload.payload.items c.in_err-nonce_and_tag.field-0.0 c.in_ok-payload.ensures.framed
+    (rw c.deref.ensures.value at c.in_err-nonce_and_tag.ensures.err))
 
 pub returns-in_err-text-clause-err : goal.returns-in_err-text-clause-err
 returns-in_err-text-clause-err g c =
@@ -39,5 +39,5 @@ returns-clause-ok g c =
       refl,
       kept_opened g.V.LocalSuite.design g.met.V.LocalSuite.lawful _ binding _ _ c.in_ok-payload.payload.items
           own g.met.V.LocalSuite.has_version c.footer.ensures.text c.footer.ensures.bytes c.in_ok-payload.ensures.framed c.in_ok-text.ensures.holds
-          (rw c.deref.ensures.value at c.in_ok-seal.ensures.ok),
+          (rw c.deref.ensures.value at c.in_ok-nonce_and_tag.ensures.ok),
     )

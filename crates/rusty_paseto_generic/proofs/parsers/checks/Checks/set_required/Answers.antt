@@ -7,7 +7,7 @@ use Rattle.rusty_paseto_generic.proofs.parsers.checks.Checks.set_required.Goals 
 pub returns-in-Some : goal.returns-in-Some
 returns-in-Some g c =
     let old = c.args.self.now.entries in
-    let check : Check g.row.B.Denot = record { required = true; stored = c.in-Some.check.now.stored; judge = c.in-Some.check.now.judge } in
+    let check : Check g.row.B.Denot = record { required = true; stored = c.in-Some.check.now.stored; checker = c.in-Some.check.now.checker } in
     let new = c.get_mut.follows.lender check in
     let puts : Puts c.args.key.now old new check =
     written c.args.key.now old new c.in-Some.check.now check (c.get_mut.follows.holds check) c.in-Some.ensures.value in

@@ -1,0 +1,121 @@
+//! What checks the value under a key.
+
+ghost use Rattle.std.specs.Prelude.{◌≡◌, None, IfOk, IfErr, OnOk};
+ghost use Rattle.serde_json.specs.Data.{null};
+ghost use Rattle.serde_json.specs.View.{view};
+ghost use Rattle.rusty_paseto_claims.specs.Error.{IsFault};
+ghost use Rattle.rusty_paseto_generic.specs.Validator.{IfFault, IsFound};
+ghost use Rattle.rusty_paseto_generic.specs.Parsers.Verdicts.{Fails, IsMismatch, Matches, Meets, Misses, Passes, entry, mismatch as mismatch_fault};
+ghost use Rattle.rusty_paseto_generic.specs.Parsers.Held.{rule_of, checked, verdict_of};
+
+use crate::parsers::checks::{Check, Checker};
+use crate::parsers::times::{Times, check_expiry, check_not_before};
+use crate::validator::ValidatorFn;
+use rusty_paseto_claims::{PasetoClaimError, same_value};
+use serde_json::Value;
+use std::alloc::{AllocError, Global};
+
+/// Checks what a token's value has under a key, null where it has none: null fails where the key is required; then
+/// by the checker alone, where there is one, and else by the stored value.
+pub(crate) fn check_entry(
+    alloc: Global,
+    times: &Times,
+    key: &str,
+    check: &Check<ValidatorFn>,
+    value: &Value,
+) -> Result<(), PasetoClaimError>
+    ensures ok { OnOk result (Passes (checked (λ b. verdict b) times.now (rule_of check.now)) key.now (entry key.now (view value.now))) }
+    ensures err { IfErr result (IfFault (Fails (checked (λ b. verdict b) times.now (rule_of check.now)) key.now (entry key.now (view value.now)))) }
+{
+    let null = Value::Null;
+    let found = entry_or(value, key, &null);
+    if check.required && found.is_null() {
+        return Err(PasetoClaimError::Missing(String::from_str(alloc, key)?));
+    }
+    check_found(alloc, times, key, check, found)
+}
+
+// Checks the value that was found under a key.
+fn check_found(
+    alloc: Global,
+    times: &Times,
+    key: &str,
+    check: &Check<ValidatorFn>,
+    found: &Value,
+) -> Result<(), PasetoClaimError>
+    ensures ok { OnOk result (Meets (checked (λ b. verdict b) times.now (rule_of check.now)) key.now (view found.now)) }
+    ensures err { IfErr result (IfFault (Misses (checked (λ b. verdict b) times.now (rule_of check.now)) key.now (view found.now))) }
+{
+    if let Some(checker) = &check.checker {
+        return decide(alloc, times, key, checker, found);
+    }
+    match &check.stored {
+        Some(stored) => compare(alloc, key, stored, found),
+        None => Ok(()),
+    }
+}
+
+// Checks the value by a checker alone.
+fn decide(
+    alloc: Global,
+    times: &Times,
+    key: &str,
+    checker: &Checker<ValidatorFn>,
+    found: &Value,
+) -> Result<(), PasetoClaimError>
+    ensures ok { OnOk result (verdict_of (λ b. verdict b) times.now checker.now key.now (view found.now) ≡ None) }
+    ensures err { IfErr result (IsFound (verdict_of (λ b. verdict b) times.now checker.now key.now (view found.now))) }
+{
+    match checker {
+        Checker::Boxed(validator) => validator.validate(alloc, key, found),
+        Checker::Expiry => check_expiry(alloc, times, key, found),
+        Checker::NotBefore => check_not_before(alloc, times, key, found),
+    }
+}
+
+// Whether the value is there, and is what the stored one has under the key.
+fn compare(alloc: Global, key: &str, stored: &Value, found: &Value) -> Result<(), PasetoClaimError>
+    ensures ok { OnOk result (Matches key.now (view stored.now) (view found.now)) }
+    ensures err { IfErr result (IfFault (IsMismatch key.now (view stored.now) (view found.now))) }
+{
+    if found.is_null() {
+        return Err(PasetoClaimError::Missing(String::from_str(alloc, key)?));
+    }
+    let null = Value::Null;
+    let expected = entry_or(stored, key, &null);
+    if same_value(found, expected) {
+        return Ok(());
+    }
+    Err(mismatch(alloc, key, found, expected)?)
+}
+
+// The entry of a value under a key, or what stands for one where there is none or the value is no object.
+fn entry_or<'v>(value: &'v Value, key: &str, absent: &'v Value) -> &'v Value
+    requires { view absent.now ≡ null }
+    ensures { view result.now ≡ entry key.now (view value.now) }
+{
+    match value.get(key) {
+        Some(found) => found,
+        None => absent,
+    }
+}
+
+// The fault of a value that is not the expected one.
+fn mismatch(
+    alloc: Global,
+    key: &str,
+    found: &Value,
+    expected: &Value,
+) -> Result<PasetoClaimError, AllocError>
+    ensures { IfOk result (IsFault (mismatch_fault key.now (view found.now) (view expected.now))) }
+{
+    let key = String::from_str(alloc, key)?;
+    match (found.as_str(), expected.as_str()) {
+        (Some(found), Some(expected)) => Ok(PasetoClaimError::Invalid(
+            key,
+            String::from_str(alloc, found)?,
+            String::from_str(alloc, expected)?,
+        )),
+        _ => Ok(PasetoClaimError::Unexpected(key)),
+    }
+}
