@@ -19,24 +19,7 @@ here=$root/tests/c_library
 work=$(mktemp -d)
 services=()
 trap 'for service in "${services[@]}"; do kill "$service" 2>/dev/null; done; rm -rf "$work"' EXIT
-passed=0
-failed=0
-
-pass() {
-    passed=$((passed + 1))
-}
-
-fail() {
-    failed=$((failed + 1))
-    echo "FAILED: $1"
-}
-
-# The last line, and the status.
-finish() {
-    echo "$passed passed, $failed failed"
-    [ "$failed" -eq 0 ]
-    exit
-}
+source "$root/tests/counts.sh"
 
 # check NAME COMMAND..: the command has to end well.
 check() {

@@ -39,24 +39,7 @@ fi
 work=$(mktemp -d)
 trap 'rm -rf "$work"' EXIT
 library=$work/refused_memory.so
-passed=0
-failed=0
-
-pass() {
-    passed=$((passed + 1))
-}
-
-fail() {
-    failed=$((failed + 1))
-    echo "FAILED: $1"
-}
-
-# The last line, and the status.
-finish() {
-    echo "$passed passed, $failed failed"
-    [ "$failed" -eq 0 ]
-    exit
-}
+source "$root/tests/counts.sh"
 
 if ! cc -std=c11 -Wall -Wextra -Werror -O2 -shared -fPIC -o "$library" "$root/tests/refused_memory.c"; then
     fail 'the library that refuses is not built'

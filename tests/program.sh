@@ -196,7 +196,7 @@ refuses 'open v4, empty footer, before two line feeds' "$v4_empty.$line$line" "$
 refuses 'open v4 of input that is no text' $'\xff' "$not_utf8" open v4 "$key"
 refuses 'seal v4 of input that is no text' $'a\xffb' "$not_utf8" seal v4 "$key" "$zero"
 
-# ---- KEY and NONCE are judged before the input is read, and KEY is not echoed
+# ---- KEY and NONCE are checked before the input is read, and KEY is not echoed
 
 for bad in "${key%?}" "${key}0" "g${key#?}" '' ' ' "0x$key" 'my secret key'; do
     refuses "seal v4 with the bad key '$bad'" $'\xff' "$bad_key" seal v4 "$bad" "$zero"

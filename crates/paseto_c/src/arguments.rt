@@ -27,7 +27,8 @@ impl<'a> Texts<'a> {
         ensures { let texts = text.now ∷ footer.now ∷ assertion.now ∷ [] in
             MatchResult result
             (λ taken. (taken.text.now ≡ text.now) × (footer_of taken.footer ≡ footer.now)
-            × (is_some taken.footer ≡ has_bytes footer.now) × (assertion_of taken.assertion ≡ assertion.now)
+            × (is_some taken.footer ≡ has_bytes footer.now)
+            × (assertion_of taken.assertion ≡ assertion.now)
             × (is_some taken.assertion ≡ has_bytes assertion.now) × AreUtf8 texts)
             (λ refusal. (refusal ≡ Refusal.NotUtf8) × ¬ AreUtf8 texts) }
     {

@@ -82,10 +82,13 @@ fn seal(
     nonce: &Key<32>,
     texts: Texts<'_>,
 ) -> Result<String, PasetoError>
-    ensures ok { let sealing = box_sealing_of key.now nonce.now texts.entry.text.now texts.entry.footer in
+    ensures ok { let sealing = box_sealing_of key.now nonce.now texts.entry.text.now
+        texts.entry.footer in
         IfOk result (λ token. sealing ≡ Some (string_bytes token)) }
-    ensures err { let sealing = box_sealing_of key.now nonce.now texts.entry.text.now texts.entry.footer in
-        IfErr result (λ error. IsMemory error ⊎ ((error ≡ PasetoError.ChaChaCipherError) × (sealing ≡ None))) }
+    ensures err { let sealing = box_sealing_of key.now nonce.now texts.entry.text.now
+        texts.entry.footer in
+        IfErr result (λ error. IsMemory error
+        ⊎ ((error ≡ PasetoError.ChaChaCipherError) × (sealing ≡ None))) }
 {
     let mut paseto = Paseto::<V2, Local>::builder();
     paseto.set_payload(Payload::from(texts.text));

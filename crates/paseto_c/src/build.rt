@@ -94,7 +94,8 @@ fn begin<'a, P: PurposeTrait>(alloc: Global, now: i64) -> Result<PasetoBuilder<'
     ensures { MatchResult result
         (λ made. BeginsWith now (held made.builder.claims) (counting made.keys)
         × (made.builder.paseto.footer ≡ None) × (made.builder.paseto.implicit_assertion ≡ None))
-        (λ refusal. (refusal ≡ Refusal.Memory) ⊎ ((refusal ≡ Refusal.InvalidMoment) × HasNoMoment now)) }
+        (λ refusal. (refusal ≡ Refusal.Memory)
+        ⊎ ((refusal ≡ Refusal.InvalidMoment) × HasNoMoment now)) }
 {
     let Ok(moment) = Timestamp::from_second(now) else {
         return Err(Refusal::InvalidMoment);
@@ -111,12 +112,15 @@ fn set_members<'a, P: PurposeTrait>(
     builder: &mut PasetoBuilder<'a, V4, P>,
     members: Map<String, Value>,
 ) -> Result<(), Refusal>
-    ensures claims { OnOk result (all_set (members_view members.entries) (held builder.old.builder.claims)
+    ensures claims { OnOk result (all_set (members_view members.entries)
+        (held builder.old.builder.claims)
         ≡ becomes (held builder.new.builder.claims)) }
-    ensures keys { OnOk result (IsSame (all_counted (members_view members.entries) (counting builder.old.keys))
+    ensures keys { OnOk result (IsSame (all_counted (members_view members.entries)
+        (counting builder.old.keys))
         (counting builder.new.keys)) }
     ensures rest { OnOk result (builder.new.builder.paseto ≡ builder.old.builder.paseto) }
-    ensures err { IfErr result (λ refusal. (refusal ≡ Refusal.Memory) ⊎ IsClaimFault (members_view members.entries) refusal) }
+    ensures err { IfErr result (λ refusal. (refusal ≡ Refusal.Memory)
+        ⊎ IsClaimFault (members_view members.entries) refusal) }
 {
     for (key, value) in members {
         let claim = MemberClaim {
@@ -157,8 +161,10 @@ fn begun<'a, P: PurposeTrait>(
     footer: Option<Footer<'a>>,
     assertion: Option<ImplicitAssertion<'a>>,
 ) -> Result<PasetoBuilder<'a, V4, P>, Refusal>
-    ensures ok { IfOk result (λ made. IsBegun (members_view members.entries) now (held made.builder.claims) (counting made.keys)
-        × (made.builder.paseto.footer ≡ footer.entry) × (made.builder.paseto.implicit_assertion ≡ assertion.entry)) }
+    ensures ok { IfOk result (λ made. IsBegun (members_view members.entries) now
+        (held made.builder.claims) (counting made.keys)
+        × (made.builder.paseto.footer ≡ footer.entry)
+        × (made.builder.paseto.implicit_assertion ≡ assertion.entry)) }
     ensures err { IfErr result (λ refusal. (refusal ≡ Refusal.Memory)
         ⊎ IsBeginningFault (members_view members.entries) now refusal) }
 {
@@ -178,7 +184,8 @@ fn seal(
         let text = payload (held builder.now.builder.claims) in
         let binding = binding_of key.now paseto.footer paseto.implicit_assertion in
         IfOk result (λ token. ((counting builder.now.keys).repeated ≡ None)
-        × (string_bytes token ≡ sealing v4 binding (v4.token_nonce seed.now text) (is_some paseto.footer) text)) }
+        × (string_bytes token ≡ sealing v4 binding (v4.token_nonce seed.now text)
+        (is_some paseto.footer) text)) }
     ensures err { IfErr result (IsRepeat (counting builder.now.keys)) }
 {
     let mut given = Given {
@@ -198,7 +205,8 @@ fn sign(
         let text = payload (held builder.now.builder.claims) in
         let binding = binding_of (partner key.now) paseto.footer paseto.implicit_assertion in
         IfOk result (λ token. ((counting builder.now.keys).repeated ≡ None)
-        × IsSigning Ed25519Verifies v4_public binding (is_some paseto.footer) text (string_bytes token)) }
+        × IsSigning Ed25519Verifies v4_public binding (is_some paseto.footer) text
+        (string_bytes token)) }
     ensures err { IfErr result (λ refusal. IsRepeat (counting builder.now.keys) refusal
         ⊎ IsDeclined IsDeclinedKey key.now refusal) }
 {
@@ -216,7 +224,8 @@ fn sealed(
     footer: &[u8],
     assertion: &[u8],
 ) -> Result<String, Refusal>
-    ensures { IsMade (building_local key.now seed.now claims.now now footer.now assertion.now) result }
+    ensures { IsMade (building_local key.now seed.now claims.now now footer.now assertion.now)
+        result }
 {
     let key = PasetoSymmetricKey::<V4, Local>::from(key_of::<32>(key)?);
     let seed = nonce_of::<32>(seed)?;

@@ -40,7 +40,8 @@ impl PasetoClaim for MemberClaim<'_> {
 pub(crate) fn object_of(alloc: Global, text: &str) -> Result<Map<String, Value>, Refusal>
     ensures { MatchResult result
         (λ members. read text.now ≡ Some (object (members_view members.entries)))
-        (λ refusal. (refusal ≡ Refusal.Memory) ⊎ ((refusal ≡ Refusal.NotObject) × IsNoObject text.now)) }
+        (λ refusal. (refusal ≡ Refusal.Memory)
+        ⊎ ((refusal ≡ Refusal.NotObject) × IsNoObject text.now)) }
 {
     match Value::from_str(alloc, text) {
         Ok(value) => members_of(value).ok_or(Refusal::NotObject),

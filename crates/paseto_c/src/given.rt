@@ -13,7 +13,8 @@ pub(crate) struct Given<'a> {
 impl TryRng for Given<'_> {
     type Error = Infallible;
 
-    ghost may_fill = { λ given filled _. length filled ≡ length given.bytes.now → filled ≡ given.bytes.now };
+    ghost may_fill = { λ given filled _. length filled ≡ length given.bytes.now → filled
+        ≡ given.bytes.now };
 
     fn try_next_u32(&mut self) -> Result<u32, Infallible> {
         Ok(0)

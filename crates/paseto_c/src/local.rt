@@ -30,7 +30,8 @@ pub extern "C" fn paseto_v1_local_encrypt(
     room: &mut [u8],
     written: &mut usize,
 ) -> u8
-    ensures answer { IsAnswered (encrypting v1 key.now nonce.now text.now footer.now []) room.old room.new written.new result }
+    ensures answer { IsAnswered (encrypting v1 key.now nonce.now text.now footer.now []) room.old
+        room.new written.new result }
     ensures complete { IsComplete (encrypting v1 key.now nonce.now text.now footer.now []) result }
 {
     hand_over(
@@ -52,7 +53,8 @@ pub extern "C" fn paseto_v1_local_decrypt(
     room: &mut [u8],
     written: &mut usize,
 ) -> u8
-    ensures answer { IsAnswered (decrypting v1 key.now token.now footer.now []) room.old room.new written.new result }
+    ensures answer { IsAnswered (decrypting v1 key.now token.now footer.now []) room.old room.new
+        written.new result }
     ensures complete { IsComplete (decrypting v1 key.now token.now footer.now []) result }
 {
     hand_over(opened::<V1>(alloc, key, token, footer, &[]), room, written)
@@ -74,7 +76,8 @@ pub extern "C" fn paseto_v3_local_encrypt(
 ) -> u8
     ensures answer { IsAnswered (encrypting v3 key.now nonce.now text.now footer.now assertion.now)
         room.old room.new written.new result }
-    ensures complete { IsComplete (encrypting v3 key.now nonce.now text.now footer.now assertion.now) result }
+    ensures complete { IsComplete (encrypting v3 key.now nonce.now text.now footer.now
+        assertion.now) result }
 {
     hand_over(
         sealed::<V3>(alloc, key, nonce, text, footer, assertion),
@@ -96,8 +99,10 @@ pub extern "C" fn paseto_v3_local_decrypt(
     room: &mut [u8],
     written: &mut usize,
 ) -> u8
-    ensures answer { IsAnswered (decrypting v3 key.now token.now footer.now assertion.now) room.old room.new written.new result }
-    ensures complete { IsComplete (decrypting v3 key.now token.now footer.now assertion.now) result }
+    ensures answer { IsAnswered (decrypting v3 key.now token.now footer.now assertion.now) room.old
+        room.new written.new result }
+    ensures complete { IsComplete (decrypting v3 key.now token.now footer.now assertion.now)
+        result }
 {
     hand_over(
         opened::<V3>(alloc, key, token, footer, assertion),
@@ -122,7 +127,8 @@ pub extern "C" fn paseto_v4_local_encrypt(
 ) -> u8
     ensures answer { IsAnswered (encrypting v4 key.now nonce.now text.now footer.now assertion.now)
         room.old room.new written.new result }
-    ensures complete { IsComplete (encrypting v4 key.now nonce.now text.now footer.now assertion.now) result }
+    ensures complete { IsComplete (encrypting v4 key.now nonce.now text.now footer.now
+        assertion.now) result }
 {
     hand_over(
         sealed::<V4>(alloc, key, nonce, text, footer, assertion),
@@ -144,8 +150,10 @@ pub extern "C" fn paseto_v4_local_decrypt(
     room: &mut [u8],
     written: &mut usize,
 ) -> u8
-    ensures answer { IsAnswered (decrypting v4 key.now token.now footer.now assertion.now) room.old room.new written.new result }
-    ensures complete { IsComplete (decrypting v4 key.now token.now footer.now assertion.now) result }
+    ensures answer { IsAnswered (decrypting v4 key.now token.now footer.now assertion.now) room.old
+        room.new written.new result }
+    ensures complete { IsComplete (decrypting v4 key.now token.now footer.now assertion.now)
+        result }
 {
     hand_over(
         opened::<V4>(alloc, key, token, footer, assertion),
@@ -164,8 +172,10 @@ fn sealed<V: LocalVersion>(
     assertion: &[u8],
 ) -> Result<String, Refusal>
     requires { V.design.binds_assertion ≡ false → assertion.now ≡ [] }
-    ensures made { IsMade (encrypting V.design key.now nonce.now text.now footer.now assertion.now) result }
-    ensures whole { IsMadeWhole (encrypting V.design key.now nonce.now text.now footer.now assertion.now) result }
+    ensures made { IsMade (encrypting V.design key.now nonce.now text.now footer.now assertion.now)
+        result }
+    ensures whole { IsMadeWhole (encrypting V.design key.now nonce.now text.now footer.now
+        assertion.now) result }
 {
     let key = PasetoSymmetricKey::<V, Local>::from(key_of::<32>(key)?);
     let nonce = nonce_of::<32>(nonce)?;
@@ -188,7 +198,8 @@ fn opened<V: LocalVersion>(
 ) -> Result<String, Refusal>
     requires { V.design.binds_assertion ≡ false → assertion.now ≡ [] }
     ensures made { IsMade (decrypting V.design key.now token.now footer.now assertion.now) result }
-    ensures whole { IsMadeWhole (decrypting V.design key.now token.now footer.now assertion.now) result }
+    ensures whole { IsMadeWhole (decrypting V.design key.now token.now footer.now assertion.now)
+        result }
 {
     let key = PasetoSymmetricKey::<V, Local>::from(key_of::<32>(key)?);
     let texts = Texts::take(token, footer, assertion)?;

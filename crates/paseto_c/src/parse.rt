@@ -174,8 +174,10 @@ fn ready<'a, P: PurposeTrait, B: Drop>(
     ensures ok { IfOk result (λ made. IsTimestampNanos (nanoseconds now)
         × (first_odd (members_view members.entries) ≡ None)
         × (made.parser.moment.nanosecond ≡ nanoseconds now) × (made.parser.leeway ≡ 0)
-        × AreSame (rules_of made.parser.checks) (all_expected (members_view members.entries) (with_times (λ key. no_rule)))
-        × (made.parser.footer ≡ footer.entry) × (made.parser.implicit_assertion ≡ assertion.entry)) }
+        × AreSame (rules_of made.parser.checks)
+        (all_expected (members_view members.entries) (with_times (λ key. no_rule)))
+        × (made.parser.footer ≡ footer.entry)
+        × (made.parser.implicit_assertion ≡ assertion.entry)) }
     ensures err { IfErr result (λ refusal. (refusal ≡ Refusal.Memory)
         ⊎ IsReadyFault (members_view members.entries) now refusal) }
 {
@@ -192,8 +194,10 @@ fn open(
     key: &PasetoSymmetricKey<V4, Local>,
 ) -> Result<Value, GenericParserError>
     ensures { (members : Members) → parser.now.parser.leeway ≡ 0
-        → AreSame (rules_of parser.now.parser.checks) (all_expected members (with_times (λ key. no_rule)))
-        → IsParseAnswer (opening v4 (binding_of key.now parser.now.parser.footer parser.now.parser.implicit_assertion))
+        → AreSame (rules_of parser.now.parser.checks)
+        (all_expected members (with_times (λ key. no_rule)))
+        → IsParseAnswer (opening v4 (binding_of key.now parser.now.parser.footer
+        parser.now.parser.implicit_assertion))
         (expected_rules members parser.now.parser.moment) token.now result }
 {
     parser.parse(token, key)
@@ -206,7 +210,8 @@ fn verify(
     key: &PasetoAsymmetricPublicKey<'_, V4, Public>,
 ) -> Result<Value, GenericParserError>
     ensures { (members : Members) → parser.now.parser.leeway ≡ 0
-        → AreSame (rules_of parser.now.parser.checks) (all_expected members (with_times (λ key. no_rule)))
+        → AreSame (rules_of parser.now.parser.checks)
+        (all_expected members (with_times (λ key. no_rule)))
         → IsParseAnswer (verification Ed25519Verifies IsRefused v4_public
         (binding_of key.now parser.now.parser.footer parser.now.parser.implicit_assertion))
         (expected_rules members parser.now.parser.moment) token.now result }

@@ -203,7 +203,8 @@ fn ed25519_verified<V: V2orV4 + Verifies<Ed25519>>(
     requires { V.public_design.binds_assertion ≡ false → assertion.now ≡ [] }
     ensures made { IsMade (verifying (length public.now ≡ 32) V.valid V.refused V.public_design
         public.now token.now footer.now assertion.now) result }
-    ensures whole { IsMadeWhole (verifying (length public.now ≡ 32) V.valid V.refused V.public_design
+    ensures whole { IsMadeWhole (verifying (length public.now ≡ 32) V.valid V.refused
+        V.public_design
         public.now token.now footer.now assertion.now) result }
 {
     let public = key_of::<32>(public)?;

@@ -171,10 +171,12 @@ impl SignatureScheme<64> for Ed25519 {
         private: &[u8],
         message: &[u8],
     ) -> Result<[u8; 64], PasetoError>
-        ensures ok { IfOk result (λ signature. Ed25519Verifies (partner private.now) message.now signature
+        ensures ok { IfOk result (λ signature. Ed25519Verifies
+            (partner private.now) message.now signature
             × (signature ≡ ed25519_sign private.now message.now)) }
         ensures err { IfErr result (λ error. IsDeclined private.now error
-            × (¬ Ed25519Verifies (partner private.now) message.now (ed25519_sign private.now message.now))) }
+            × (¬ Ed25519Verifies (partner private.now) message.now
+            (ed25519_sign private.now message.now))) }
     {
         if private.len() != PRIVATE_LENGTH {
             return Err(PasetoError::KeyRejected);

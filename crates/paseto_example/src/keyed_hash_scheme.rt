@@ -34,7 +34,8 @@ impl SignatureScheme<64> for KeyedHashScheme {
         private: &[u8],
         message: &[u8],
     ) -> Result<[u8; 64], PasetoError>
-        ensures ok { IfOk result (λ signature. IsValid (partner private.now) message.now signature) }
+        ensures ok { IfOk result (λ signature. IsValid
+            (partner private.now) message.now signature) }
         ensures err { IfErr result (λ error. IsDeclined private.now error) }
     {
         if private.len() != PRIVATE_LENGTH {

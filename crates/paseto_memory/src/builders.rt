@@ -10,8 +10,8 @@ use paseto_toys::generators::Zeros;
 use paseto_toys::keys::{Keys, SECRET};
 use paseto_toys::{Lenient, PlainBox};
 use rusty_paseto::prelude::{
-    AudienceClaim, ClaimSetter, CustomClaim, GenericBuilder, Local, Public, PurposeTrait,
-    GenericLocalVersion, V2, V4, VersionTrait,
+    AudienceClaim, ClaimSetter, CustomClaim, GenericBuilder, GenericLocalVersion, Local, Public,
+    PurposeTrait, V2, V4, VersionTrait,
 };
 use serde_json::{Map, Value};
 use std::alloc::Global;

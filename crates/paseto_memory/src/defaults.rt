@@ -16,8 +16,8 @@ use paseto_toys::generators::Zeros;
 use paseto_toys::keys::{Keys, SECRET};
 use paseto_toys::{Lenient, PlainBox};
 use rusty_paseto::prelude::{
-    AudienceClaim, DefaultLocalVersion, CheckSetter, CountingSetter, CustomClaim, Local, PasetoBuilder,
-    PasetoParser, Public, PurposeTrait, V2, V4, VersionTrait, fits_default,
+    AudienceClaim, CheckSetter, CountingSetter, CustomClaim, DefaultLocalVersion, Local,
+    PasetoBuilder, PasetoParser, Public, PurposeTrait, V2, V4, VersionTrait, fits_default,
 };
 use std::alloc::Global;
 use std::io::Write;

@@ -14,8 +14,8 @@ use jiff::Timestamp;
 use paseto_toys::keys::{Keys, SECRET};
 use paseto_toys::{Lenient, PlainBox};
 use rusty_paseto::prelude::{
-    AudienceClaim, CheckSetter, CustomClaim, GenericParser, Local, Public, PurposeTrait,
-    GenericLocalVersion, V2, V4, VersionTrait,
+    AudienceClaim, CheckSetter, CustomClaim, GenericLocalVersion, GenericParser, Local, Public,
+    PurposeTrait, V2, V4, VersionTrait,
 };
 use std::alloc::Global;
 use std::io::Write;

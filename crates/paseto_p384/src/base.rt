@@ -219,7 +219,8 @@ fn add_chosen(sum: ProjectivePoint, points: &Pair, i: u64, j: u64) -> Projective
     requires first { i < 2 }
     requires second { j < 2 }
     ensures { coordinates result
-        ≡ point_add_by (coordinates sum) (coordinates points.now.first) (coordinates points.now.second) i j }
+        ≡ point_add_by (coordinates sum) (coordinates points.now.first)
+        (coordinates points.now.second) i j }
 {
     let single = choose_point(i, points.first, points.second);
     let chosen = choose_point(i & j, points.both, single);

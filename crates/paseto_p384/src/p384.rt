@@ -178,7 +178,8 @@ impl SignatureScheme<96> for P384 {
             P384Verifies (p384_public private.now) message.now signature
             × (p384_sign private.now message.now ≡ Some signature) × IsPrivate private.now) }
         ensures err { IfErr result (λ error. IsDeclined private.now error
-            × (IsPrivate private.now → (made : List ℕ) → p384_sign private.now message.now ≡ Some made
+            × (IsPrivate private.now → (made : List ℕ) → p384_sign private.now message.now
+            ≡ Some made
             → ¬ P384Verifies (p384_public private.now) message.now made)) }
     {
         match private_number(private) {

@@ -115,7 +115,8 @@ pub(crate) fn choose_point(choice: u64, p: ProjectivePoint, q: ProjectivePoint) 
 // A point and what two bits ask to be added to it. The bits are no secret.
 fn add_by(sum: ProjectivePoint, points: &Pair, i: u64, j: u64) -> ProjectivePoint
     ensures { coordinates result
-        ≡ point_add_by (coordinates sum) (coordinates points.now.first) (coordinates points.now.second) i j }
+        ≡ point_add_by (coordinates sum) (coordinates points.now.first)
+        (coordinates points.now.second) i j }
 {
     if i == 1 {
         if j == 1 {

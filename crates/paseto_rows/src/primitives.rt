@@ -84,7 +84,8 @@ fn check_xchacha20(
     data: &str,
     output: &str,
 ) -> Result<(), RowError>
-    ensures { IfOk result (λ _. IsMaskingRow xchacha20_stream key.now nonce.now «data».now output.now) }
+    ensures { IfOk result (λ _. IsMaskingRow xchacha20_stream key.now nonce.now «data».now
+        output.now) }
 {
     let (key, nonce) = (array_of(key)?, array_of(nonce)?);
     let xored = xored(&key, &nonce, bytes_of(alloc, data)?);
@@ -116,7 +117,8 @@ fn check_aes256_ctr(
     data: &str,
     output: &str,
 ) -> Result<(), RowError>
-    ensures { IfOk result (λ _. IsMaskingRow aes256_ctr_stream key.now counter.now «data».now output.now) }
+    ensures { IfOk result (λ _. IsMaskingRow aes256_ctr_stream key.now counter.now «data».now
+        output.now) }
 {
     let (key, counter) = (array_of(key)?, array_of(counter)?);
     let encrypted = encrypted(&key, &counter, bytes_of(alloc, data)?);

@@ -59,8 +59,10 @@ impl<'a> Row<'a> {
 
     /// The implicit assertion in a version that has one. A row of another version has none.
     fn assertion<V: LocalVersion>(&self) -> Result<Option<ImplicitAssertion<'_>>, RowError>
-        ensures text { IfOk result (λ assertion. assertion_of assertion ≡ string_bytes self.now.assertion) }
-        ensures none { V.design.binds_assertion ≡ false → IfOk result (λ assertion. assertion ≡ None) }
+        ensures text { IfOk result (λ assertion. assertion_of assertion
+            ≡ string_bytes self.now.assertion) }
+        ensures none { V.design.binds_assertion ≡ false → IfOk result
+            (λ assertion. assertion ≡ None) }
     {
         let given = ImplicitAssertion::from(self.assertion.as_str());
         let assertion = V::bound_assertion(Some(given));
@@ -94,7 +96,8 @@ impl<'a> Row<'a> {
 
     /// The text to which the version opens the token.
     fn open<V: LocalVersion>(&self, alloc: Global) -> Result<String, RowError>
-        ensures { IfOk result (λ text. IsRead (opening V.design (binding self.now)) self.now.token.now (string_bytes text)) }
+        ensures { IfOk result (λ text. IsRead (opening V.design (binding self.now))
+            self.now.token.now (string_bytes text)) }
     {
         let assertion = self.assertion::<V>()?;
         Ok(V::open(alloc, self.token, &self.key(), self.footer(), assertion)?)

@@ -22,7 +22,7 @@ pub enum Command<'a> {
 
 impl<'a> Command<'a> {
     /// The command of the words, or nothing where they are none: their number, the command and the
-    /// version are judged, and nothing else.
+    /// version are checked, and nothing else.
     pub fn parse(words: &'a [String]) -> Option<Command<'a>>
         ensures asked { IfSome result (Asks (words_of words.now)) }
         ensures fault { IsNone result ↔ IsUsageFault (words_of words.now) }
@@ -100,8 +100,10 @@ impl<'a> Attachments<'a> {
     /// for a version whose tokens are bound to no implicit assertion.
     fn parse(version: Version, words: &'a [String]) -> Option<Attachments<'a>>
         ensures last { IfSome result (λ attachments.
-            AreLast version (words_of words.now) (given_footer attachments) (given_assertion attachments)) }
-        ensures fault { IsNone result → (footer assertion : Option (List ℕ)) → ¬ AreLast version (words_of words.now) footer assertion }
+            AreLast version (words_of words.now) (given_footer attachments)
+            (given_assertion attachments)) }
+        ensures fault { IsNone result → (footer assertion : Option (List ℕ))
+            → ¬ AreLast version (words_of words.now) footer assertion }
     {
         match words {
             [] => Some(Attachments {

@@ -24,9 +24,11 @@ pub fn seal<V: LocalVersion>(
     attachments: Attachments<'_>,
 ) -> Result<String, PasetoError>
     requires { IsBound V.design (given_assertion attachments) }
-    ensures ok { let bound = binding key.now (given_footer attachments.entry) (given_assertion attachments.entry) in
+    ensures ok { let bound = binding key.now (given_footer attachments.entry)
+        (given_assertion attachments.entry) in
         IfOk result (λ token. string_bytes token
-        ≡ sealing V.design bound (V.design.token_nonce nonce.now text.now) (is_some (given_footer attachments.entry)) text.now) }
+        ≡ sealing V.design bound (V.design.token_nonce nonce.now text.now)
+        (is_some (given_footer attachments.entry)) text.now) }
     ensures err { IfErr result IsMemory }
 {
     let Attachments {
@@ -45,7 +47,8 @@ pub fn open<V: LocalVersion>(
     attachments: Attachments<'_>,
 ) -> Result<String, PasetoError>
     requires { IsBound V.design (given_assertion attachments) }
-    ensures { let bound = binding key.now (given_footer attachments.entry) (given_assertion attachments.entry) in
+    ensures { let bound = binding key.now (given_footer attachments.entry)
+        (given_assertion attachments.entry) in
         IsAnswer (opening V.design bound) token.now result }
 {
     let Attachments {

@@ -30,9 +30,13 @@ impl Opening<'_> {
     pub fn text<R: Read>(&self, alloc: Global, input: &mut R) -> Result<String, ToolError>
         requires { IsBound (design_of self.now.version) (given_assertion self.now.attachments) }
         ensures printed { IfOk result (λ text. IfSome (R.remaining input.old) (λ token.
-            OpensTo (design_of self.now.version) self.now.key.now (given_footer self.now.attachments) (given_assertion self.now.attachments) token (string_bytes text))) }
+            OpensTo (design_of self.now.version) self.now.key.now
+            (given_footer self.now.attachments) (given_assertion self.now.attachments) token
+            (string_bytes text))) }
         ensures refused { IfErr result (λ error. IfSome (R.remaining input.old) (λ token.
-            IsOpeningReason (design_of self.now.version) self.now.key.now (given_footer self.now.attachments) (given_assertion self.now.attachments) token error)) }
+            IsOpeningReason (design_of self.now.version) self.now.key.now
+            (given_footer self.now.attachments) (given_assertion self.now.attachments) token
+            error)) }
         ensures asked { result ≢ Err ToolError.Usage }
         ensures unread { (¬ IsDigits self.now.key.now) → IsErr result × (input.new ≡ input.old) }
     {
@@ -54,8 +58,11 @@ impl Opening<'_> {
     ) -> Result<String, ToolError>
         requires { IsBound V.design (given_assertion self.now.attachments) }
         ensures printed { Says self.now.key.now key
-            → MatchResult result (λ text. OpensTo V.design self.now.key.now (given_footer self.now.attachments) (given_assertion self.now.attachments) input.now (string_bytes text))
-            (λ error. IsOpeningReason V.design self.now.key.now (given_footer self.now.attachments) (given_assertion self.now.attachments) input.now error) }
+            → MatchResult result (λ text. OpensTo V.design self.now.key.now
+            (given_footer self.now.attachments) (given_assertion self.now.attachments) input.now
+            (string_bytes text))
+            (λ error. IsOpeningReason V.design self.now.key.now (given_footer self.now.attachments)
+            (given_assertion self.now.attachments) input.now error) }
     {
         let token = str::from_utf8(without_line_feed(input))?;
         let key = PasetoSymmetricKey::<V, Local>::from(key);

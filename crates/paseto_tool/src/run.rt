@@ -35,17 +35,23 @@ pub fn run<R: Read, W: Write, E: Write>(
 ) -> u8
     ensures status { result ≤ 2 }
     ensures usage { (result ≡ 2) ↔ IsUsageFault (words_of args.now) }
-    ensures written { (written : List ℕ) × Appends (W.contents output.old) (W.contents output.new) written
-        × IfSome (R.remaining input.old) (λ bytes. Writes (words_of args.now) bytes (result == 0) written) }
-    ensures refused { IfSome (R.remaining input.old) (λ bytes. PrintsNothing (words_of args.now) bytes
+    ensures written { (written : List ℕ)
+        × Appends (W.contents output.old) (W.contents output.new) written
+        × IfSome (R.remaining input.old)
+        (λ bytes. Writes (words_of args.now) bytes (result == 0) written) }
+    ensures refused { IfSome (R.remaining input.old)
+        (λ bytes. PrintsNothing (words_of args.now) bytes
         → (result ≢ 0) × (output.new ≡ output.old)) }
     ensures bad_key { HasBadKey (words_of args.now) → result ≡ 1 }
     ensures unread { IsUsageFault (words_of args.now) ⊎ HasBadKey (words_of args.now)
         → (input.new ≡ input.old) × (output.new ≡ output.old) }
-    ensures untouched { (token : List ℕ) → AsksToInspect (words_of args.now) token → input.new ≡ input.old }
+    ensures untouched { (token : List ℕ) → AsksToInspect (words_of args.now) token → input.new
+        ≡ input.old }
     ensures quiet { result ≡ 0 → errors.new ≡ errors.old }
-    ensures said { result ≢ 0 → (error : ToolError) × (status_of error ≡ result) × IfSome (R.remaining input.old) (λ bytes. IsReason (words_of args.now) bytes error)
-        × ((said : List ℕ) × StartsWith (line_of error) said × Appends (E.contents errors.old) (E.contents errors.new) said) }
+    ensures said { result ≢ 0 → (error : ToolError) × (status_of error ≡ result) × IfSome
+        (R.remaining input.old) (λ bytes. IsReason (words_of args.now) bytes error)
+        × ((said : List ℕ) × StartsWith (line_of error) said × Appends (E.contents errors.old)
+        (E.contents errors.new) said) }
 {
     match print(alloc, args, input, output) {
         Ok(()) => 0,
@@ -63,17 +69,21 @@ fn print<R: Read, W: Write>(
     input: &mut R,
     output: &mut W,
 ) -> Result<(), ToolError>
-    ensures written { (written : List ℕ) × Appends (W.contents output.old) (W.contents output.new) written
-        × IfSome (R.remaining input.old) (λ bytes. Writes (words_of args.now) bytes (is_ok result) written) }
+    ensures written { (written : List ℕ)
+        × Appends (W.contents output.old) (W.contents output.new) written
+        × IfSome (R.remaining input.old)
+        (λ bytes. Writes (words_of args.now) bytes (is_ok result) written) }
     ensures reason { IfErr result (λ error. IfSome (R.remaining input.old) (λ bytes.
         IsReason (words_of args.now) bytes error)) }
-    ensures refused { IfSome (R.remaining input.old) (λ bytes. PrintsNothing (words_of args.now) bytes
+    ensures refused { IfSome (R.remaining input.old)
+        (λ bytes. PrintsNothing (words_of args.now) bytes
         → IsErr result × (output.new ≡ output.old)) }
     ensures usage { (result ≡ Err ToolError.Usage) ↔ IsUsageFault (words_of args.now) }
     ensures bad_key { HasBadKey (words_of args.now) → IsErr result }
     ensures unread { IsUsageFault (words_of args.now) ⊎ HasBadKey (words_of args.now)
         → (input.new ≡ input.old) × (output.new ≡ output.old) }
-    ensures untouched { (token : List ℕ) → AsksToInspect (words_of args.now) token → input.new ≡ input.old }
+    ensures untouched { (token : List ℕ) → AsksToInspect (words_of args.now) token → input.new
+        ≡ input.old }
 {
     let made = make(alloc, args, input)?;
     write_whole(output, made.as_str().as_bytes())
@@ -89,7 +99,8 @@ fn make<R: Read>(alloc: Global, args: &[String], input: &mut R) -> Result<String
     ensures bad_key { HasBadKey (words_of args.now) → IsErr result }
     ensures unread { IsUsageFault (words_of args.now) ⊎ HasBadKey (words_of args.now)
         → input.new ≡ input.old }
-    ensures untouched { (token : List ℕ) → AsksToInspect (words_of args.now) token → input.new ≡ input.old }
+    ensures untouched { (token : List ℕ) → AsksToInspect (words_of args.now) token → input.new
+        ≡ input.old }
 {
     match Command::parse(args) {
         Some(Command::Inspect(command)) => command.lines(alloc),

@@ -33,7 +33,9 @@ impl Sealing<'_> {
     pub fn line<R: Read>(&self, alloc: Global, input: &mut R) -> Result<String, ToolError>
         requires { IsBound (design_of self.now.version) (given_assertion self.now.attachments) }
         ensures printed { IfOk result (λ line. IfSome (R.remaining input.old) (λ text.
-            Seals (design_of self.now.version) self.now.key.now self.now.nonce.now (given_footer self.now.attachments) (given_assertion self.now.attachments) text (string_bytes line))) }
+            Seals (design_of self.now.version) self.now.key.now self.now.nonce.now
+            (given_footer self.now.attachments) (given_assertion self.now.attachments) text
+            (string_bytes line))) }
         ensures refused { IfErr result (λ error. IfSome (R.remaining input.old) (λ text.
             IsSealingReason self.now.key.now self.now.nonce.now text error)) }
         ensures asked { result ≢ Err ToolError.Usage }
@@ -60,7 +62,9 @@ impl Sealing<'_> {
     ) -> Result<String, ToolError>
         requires { IsBound V.design (given_assertion self.now.attachments) }
         ensures printed { Says self.now.key.now key → Says self.now.nonce.now nonce.now
-            → MatchResult result (λ line. Seals V.design self.now.key.now self.now.nonce.now (given_footer self.now.attachments) (given_assertion self.now.attachments) text.now (string_bytes line))
+            → MatchResult result (λ line. Seals V.design self.now.key.now self.now.nonce.now
+            (given_footer self.now.attachments) (given_assertion self.now.attachments) text.now
+            (string_bytes line))
             (λ error. IsSealingReason self.now.key.now self.now.nonce.now text.now error) }
     {
         let text = str::from_utf8(text)?;

@@ -97,7 +97,8 @@ fn tag_of(key: &[u8; 32], nonce: &[u8; 24], data: &[u8], text: &[u8]) -> [u8; 16
 // Adds the bytes, and zeros up to a multiple of 16.
 fn update_padded(hasher: &mut Poly1305Hasher, bytes: &[u8])
     ensures { (key message : List ℕ) → Holds hasher.old key message
-        → Holds hasher.new key (message ++ (bytes.now ++ replicate ((16 - length bytes.now % 16) % 16) 0)) }
+        → Holds hasher.new key (message ++ (bytes.now
+        ++ replicate ((16 - length bytes.now % 16) % 16) 0)) }
 {
     let zeros = [0u8; 16];
     hasher.update(bytes);

@@ -10,14 +10,14 @@ use rusty_paseto_generic::GenericParserError;
 use std::alloc::AllocError;
 use thiserror::Error;
 
-/// An error of tokens in general. No call of this library answers it: each has an error of its own, which
-/// says more.
+/// The error of that name of the Rust crate, for code that names it. No call of this library answers it: each call
+/// has an error of its own, which says more.
 #[derive(Debug, Drop, Error)]
 pub enum GeneralPasetoError {
     /// Another error, passed on.
     #[error("A general paseto error occurred")]
     PasetoError(Box<GeneralPasetoError>),
-    /// What cannot come came.
+    /// An error of a call that has none.
     #[error("An infallible error occurred")]
     Infallible,
     /// A date was malformed.

@@ -84,7 +84,8 @@ impl<K: Drop> Ring<K> {
     ///
     /// Nothing but memory is refused, and the ring is then unchanged.
     pub fn add(&mut self, id: &str, key: K) -> Result<(), KeyRingError>
-        ensures ok { OnOk result (AreSame (keys_of self.new) (with_key id.now key (keys_of self.old))) }
+        ensures ok { OnOk result (AreSame (keys_of self.new)
+            (with_key id.now key (keys_of self.old))) }
         ensures err { OnErr result (AreSame (keys_of self.new) (keys_of self.old)) }
         ensures fault { IfErr result IsMemory }
     {
@@ -129,8 +130,10 @@ impl<K: Drop> Ring<K> {
     /// Else it answers the first of these: `NotAnObject`; `NoKeyId`; `UnknownKey` with the id. `Memory` may come in
     /// place of any answer.
     pub fn key_of(&self, footer: &str) -> Result<&K, KeyRingError>
-        ensures ok { IfOk result (λ key. (id : List ℕ) × Names footer.now id × (keys_of self.now id ≡ Some key.now)) }
-        ensures err { IfErr result (λ error. IsMemory error ⊎ IsKeyFault (keys_of self.now) footer.now error) }
+        ensures ok { IfOk result (λ key. (id : List ℕ) × Names footer.now id
+            × (keys_of self.now id ≡ Some key.now)) }
+        ensures err { IfErr result (λ error. IsMemory error
+            ⊎ IsKeyFault (keys_of self.now) footer.now error) }
     {
         let id = key_id(self.alloc, footer)?;
         match self.keys.get(id.as_str()) {
@@ -141,7 +144,8 @@ impl<K: Drop> Ring<K> {
 
     // Puts a key under the id that is handed in.
     fn put(&mut self, id: String, key: K) -> Result<(), AllocError>
-        ensures ok { OnOk result (AreSame (keys_of self.new) (with_key (string_bytes id) key (keys_of self.old))) }
+        ensures ok { OnOk result (AreSame (keys_of self.new)
+            (with_key (string_bytes id) key (keys_of self.old))) }
         ensures err { OnErr result (AreSame (keys_of self.new) (keys_of self.old)) }
     {
         drop(self.keys.insert(id, key)?);
@@ -150,11 +154,15 @@ impl<K: Drop> Ring<K> {
 
     // The footer of a token, the id that it names, and the id's key: before any of it can be trusted.
     fn find(&self, token: &str) -> Result<Found<'_, K>, KeyRingError>
-        ensures ok { IfOk result (λ found. IsFound (keys_of self.now) token.now (string_bytes found.footer) (string_bytes found.id) found.key.now) }
-        ensures complete { (footer id : List ℕ) (key : K) → IsFound (keys_of self.now) token.now footer id key
-            → MatchResult result (λ found. (string_bytes found.footer ≡ footer) × (string_bytes found.id ≡ id) × (found.key.now ≡ key)) IsMemory }
+        ensures ok { IfOk result (λ found. IsFound (keys_of self.now) token.now
+            (string_bytes found.footer) (string_bytes found.id) found.key.now) }
+        ensures complete { (footer id : List ℕ) (key : K)
+            → IsFound (keys_of self.now) token.now footer id key
+            → MatchResult result (λ found. (string_bytes found.footer ≡ footer)
+            × (string_bytes found.id ≡ id) × (found.key.now ≡ key)) IsMemory }
         ensures count { ¬ HasCount (sections token.now) → result ≡ Err (Untrusted IncorrectSize) }
-        ensures err { IfErr result (λ error. IsMemory error ⊎ IsFindingFault (keys_of self.now) token.now error) }
+        ensures err { IfErr result (λ error. IsMemory error
+            ⊎ IsFindingFault (keys_of self.now) token.now error) }
     {
         let footer = footer_of(self.alloc, token)?;
         let id = key_id(self.alloc, footer.as_str())?;

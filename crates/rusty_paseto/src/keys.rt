@@ -44,7 +44,8 @@ impl Keys {
 
     /// Counts the key.
     pub(crate) fn add(&mut self, key: String) -> Result<(), AllocError>
-        ensures ok { OnOk result (IsSame (acknowledged (string_bytes key) (counting self.old)) (counting self.new)) }
+        ensures ok { OnOk result (IsSame (acknowledged (string_bytes key) (counting self.old))
+            (counting self.new)) }
         ensures err { OnErr result (IsSame (counting self.old) (counting self.new)) }
     {
         self.counted.insert(key)?;
@@ -60,7 +61,8 @@ impl Keys {
 
     /// Makes the key the last that was set again. No memory is taken.
     pub(crate) fn repeat(&mut self, key: String)
-        ensures { counting self.new ≡ record (counting self.old) { repeated = Some (string_bytes key) } }
+        ensures { counting self.new ≡ record
+            (counting self.old) { repeated = Some (string_bytes key) } }
     {
         self.repeated = Some(key);
     }

@@ -119,7 +119,8 @@ fn push_fraction(text: &mut String, billionths: u32) -> Result<(), AllocError>
 // The digits of so many places, up to the last that is not zero.
 #[tactic(auto, using(crate::proofs::MomentLemmas::significant_none, crate::proofs::MomentLemmas::significant_zero, crate::proofs::MomentLemmas::significant_digits))]
 fn push_significant(text: &mut String, places: u32, number: u32) -> Result<(), AllocError>
-    ensures { OnOk result (string_bytes text.new ≡ string_bytes text.old ++ significant places number) }
+    ensures { OnOk result (string_bytes text.new ≡ string_bytes text.old
+        ++ significant places number) }
 {
     if places == 0 {
         return Ok(());

@@ -64,7 +64,8 @@ impl<'a, V: VersionTrait, P: PurposeTrait> PasetoBuilder<'a, V, P> {
         ensures claims { IfOk result (λ made. IsDefaultClaims now (held made.builder.claims)) }
         ensures keys { IfOk result (λ made. IsSame nothing_counted (counting made.keys)) }
         ensures footer { IfOk result (λ made. made.builder.paseto.footer ≡ None) }
-        ensures implicit_assertion { IfOk result (λ made. made.builder.paseto.implicit_assertion ≡ None) }
+        ensures implicit_assertion { IfOk result
+            (λ made. made.builder.paseto.implicit_assertion ≡ None) }
         ensures err { IfErr result IsMemory }
     {
         let mut builder = GenericBuilder::new(alloc);
@@ -81,14 +82,17 @@ impl<'a, V: VersionTrait, P: PurposeTrait> PasetoBuilder<'a, V, P> {
     fn put_new<C: PasetoClaim>(&mut self, key: String, claim: &C) -> Result<(), GenericBuilderError>
         requires key { string_bytes key ≡ C.key claim.now }
         requires new { (counting self.now.keys).is_counted (string_bytes key) ≡ false }
-        ensures ok { OnOk result (claim_set (C.key claim.now) (C.json claim.now) (held self.old.builder.claims)
+        ensures ok { OnOk result (claim_set (C.key claim.now) (C.json claim.now)
+            (held self.old.builder.claims)
             ≡ becomes (held self.new.builder.claims)) }
-        ensures keys { OnOk result (IsSame (acknowledged (C.key claim.now) (counting self.old.keys)) (counting self.new.keys)) }
+        ensures keys { OnOk result (IsSame (acknowledged (C.key claim.now) (counting self.old.keys))
+            (counting self.new.keys)) }
         ensures rest { self.new.builder.paseto ≡ self.old.builder.paseto }
         ensures err { OnErr result (held self.new.builder.claims ≡ held self.old.builder.claims) }
         ensures err_keys { OnErr result (IsSame (counting self.old.keys) (counting self.new.keys)) }
         ensures fault { IfErr result
-            (IsRefusal (claim_set (C.key claim.now) (C.json claim.now) (held self.old.builder.claims))) }
+            (IsRefusal (claim_set (C.key claim.now) (C.json claim.now)
+            (held self.old.builder.claims))) }
     {
         self.keys.add(key)?;
         if let Err(refusal) = self.builder.put_claim(claim) {
@@ -100,7 +104,8 @@ impl<'a, V: VersionTrait, P: PurposeTrait> PasetoBuilder<'a, V, P> {
 
     // Takes out the expiration.
     fn take_out_expiration(&mut self)
-        ensures claims { held self.new.builder.claims ≡ without expiration_key (held self.old.builder.claims) }
+        ensures claims { held self.new.builder.claims
+            ≡ without expiration_key (held self.old.builder.claims) }
         ensures gone { get_member expiration_key (held self.new.builder.claims) ≡ None }
         ensures keys { self.new.keys ≡ self.old.keys }
         ensures rest { self.new.builder.paseto ≡ self.old.builder.paseto }
@@ -111,7 +116,8 @@ impl<'a, V: VersionTrait, P: PurposeTrait> PasetoBuilder<'a, V, P> {
     /// Sets the footer, the empty one too, and keeps the rest. No memory is taken.
     pub fn set_footer(&mut self, footer: Footer<'a>) -> &mut Self
         ensures lent { result.ghost_name ≡ self.entry.ghost_name }
-        ensures change { result.now.builder.paseto ≡ record self.entry.now.builder.paseto { footer = Some footer.entry } }
+        ensures change { result.now.builder.paseto
+            ≡ record self.entry.now.builder.paseto { footer = Some footer.entry } }
         ensures claims { held result.now.builder.claims ≡ held self.entry.now.builder.claims }
         ensures keys { result.now.keys ≡ self.entry.now.keys }
     {
@@ -162,7 +168,8 @@ impl<'a, V: ImplicitAssertionCapable, P: PurposeTrait> PasetoBuilder<'a, V, P> {
     pub fn set_implicit_assertion(&mut self, implicit_assertion: ImplicitAssertion<'a>) -> &mut Self
         ensures lent { result.ghost_name ≡ self.entry.ghost_name }
         ensures change { result.now.builder.paseto
-            ≡ record self.entry.now.builder.paseto { implicit_assertion = Some implicit_assertion.entry } }
+            ≡ record self.entry.now.builder.paseto
+            { implicit_assertion = Some implicit_assertion.entry } }
         ensures claims { held result.now.builder.claims ≡ held self.entry.now.builder.claims }
         ensures keys { result.now.keys ≡ self.entry.now.keys }
     {
@@ -185,11 +192,14 @@ impl<V: DefaultLocalVersion> PasetoBuilder<'_, V, Local> {
     ) -> Result<String, GenericBuilderError>
         ensures repeated { IsRefusedRepeat (counting self.now.keys).repeated result }
         ensures asked { IsSome (counting self.now.keys).repeated → rng.new ≡ rng.old }
-        ensures ok { let binding = binding_of key.now self.now.builder.paseto.footer self.now.builder.paseto.implicit_assertion in
-            IfOk result (λ token. IsSealed V.design binding (is_some self.now.builder.paseto.footer) (held self.now.builder.claims)
+        ensures ok { let binding = binding_of key.now self.now.builder.paseto.footer
+            self.now.builder.paseto.implicit_assertion in
+            IfOk result (λ token. IsSealed V.design binding (is_some self.now.builder.paseto.footer)
+            (held self.now.builder.claims)
             (λ nonce. R.may_fill rng.old nonce rng.new) (string_bytes token)) }
         ensures read_back { OnOk result (IsReadBack (held self.now.builder.claims)) }
-        ensures err { (counting self.now.keys).repeated ≡ None → IfErr result (λ error. IsMemory error ⊎ IsOfGenerator R.Error error) }
+        ensures err { (counting self.now.keys).repeated ≡ None → IfErr result
+            (λ error. IsMemory error ⊎ IsOfGenerator R.Error error) }
     {
         self.check_keys()?;
         self.builder.try_encrypt(rng, key)
@@ -213,14 +223,17 @@ impl PasetoBuilder<'_, V2, Local> {
         ensures repeated { IsRefusedRepeat (counting self.now.keys).repeated result }
         ensures asked { IsSome (counting self.now.keys).repeated → rng.new ≡ rng.old }
         ensures ok { let binding = binding_of key.now self.now.builder.paseto.footer None in
-            IfOk result (λ token. IsBoxAnswer B.sealing binding (is_some self.now.builder.paseto.footer)
-            (held self.now.builder.claims) (λ nonce. R.may_fill rng.old nonce rng.new) (Some (string_bytes token))) }
+            IfOk result (λ token. IsBoxAnswer B.sealing binding
+            (is_some self.now.builder.paseto.footer)
+            (held self.now.builder.claims) (λ nonce. R.may_fill rng.old nonce rng.new)
+            (Some (string_bytes token))) }
         ensures read_back { OnOk result (IsReadBack (held self.now.builder.claims)) }
         ensures err { let binding = binding_of key.now self.now.builder.paseto.footer None in
             (counting self.now.keys).repeated ≡ None
             → IfErr result (λ error. IsMemory error ⊎ (IsOfGenerator R.Error error
             ⊎ (IsOfBox error
-            × IsBoxAnswer B.sealing binding (is_some self.now.builder.paseto.footer) (held self.now.builder.claims)
+            × IsBoxAnswer B.sealing binding (is_some self.now.builder.paseto.footer)
+            (held self.now.builder.claims)
             (λ nonce. R.may_fill rng.old nonce rng.new) None))) }
     {
         self.check_keys()?;
@@ -245,10 +258,12 @@ impl<V: PublicVersion> PasetoBuilder<'_, V, Public> {
         V: Signs<S>,
         ensures repeated { IsRefusedRepeat (counting self.now.keys).repeated result }
         ensures asked { IsSome (counting self.now.keys).repeated → scheme.new ≡ scheme.old }
-        ensures asked_length { ¬ HasPrivateLength V.public_design key.now → scheme.new ≡ scheme.old }
+        ensures asked_length { ¬ HasPrivateLength V.public_design key.now → scheme.new
+            ≡ scheme.old }
         ensures answer { (counting self.now.keys).repeated ≡ None
             → IsSignAnswer V.valid (V.declined key.now) V.public_design key.now (V.partner key.now)
-            self.now.builder.paseto.footer self.now.builder.paseto.implicit_assertion (held self.now.builder.claims) result }
+            self.now.builder.paseto.footer self.now.builder.paseto.implicit_assertion
+            (held self.now.builder.claims) result }
         ensures read_back { OnOk result (IsReadBack (held self.now.builder.claims)) }
     {
         self.check_keys()?;

@@ -66,8 +66,10 @@ impl<'a, V: VersionTrait, P: PurposeTrait, B: Drop> DefaultParser<'a, V, P, B> {
     /// A parser that checks the times at a moment, as `check_times` of a `GenericParser` does, with no other
     /// check, no footer and no implicit assertion. Nothing but memory is refused.
     pub fn default(alloc: Global, now: Timestamp) -> Result<Self, GenericParserError>
-        ensures checks { IfOk result (λ made. AreSame (rules_of made.parser.checks) (with_times (λ key. no_rule))) }
-        ensures times { IfOk result (λ made. (made.parser.moment ≡ now) × (made.parser.leeway ≡ 0)) }
+        ensures checks { IfOk result (λ made. AreSame (rules_of made.parser.checks)
+            (with_times (λ key. no_rule))) }
+        ensures times { IfOk result (λ made. (made.parser.moment ≡ now)
+            × (made.parser.leeway ≡ 0)) }
         ensures footer { IfOk result (λ made. made.parser.footer ≡ None) }
         ensures implicit_assertion { IfOk result (λ made. made.parser.implicit_assertion ≡ None) }
         ensures fault { IfErr result IsMemory }
@@ -100,7 +102,8 @@ impl<'a, V: VersionTrait, P: PurposeTrait, B: Drop> DefaultParser<'a, V, P, B> {
     /// Sets the footer, the empty one too, and keeps the rest. No memory is taken.
     pub fn set_footer(&mut self, footer: Footer<'a>) -> &mut Self
         ensures lent { result.ghost_name ≡ self.entry.ghost_name }
-        ensures change { result.now.parser ≡ record self.entry.now.parser { footer = Some footer.entry } }
+        ensures change { result.now.parser
+            ≡ record self.entry.now.parser { footer = Some footer.entry } }
     {
         self.parser.set_footer(footer);
         self
@@ -133,12 +136,15 @@ impl<'a, V: VersionTrait, P: PurposeTrait, B: Drop> CheckSetter<B> for DefaultPa
     }
 
     fn put_validators(&mut self, validators: BTreeMap<String, B>) -> Result<(), GenericParserError>
-        ensures ok { OnOk result (AreSame (rules_of self.new.parser.checks) (all_with_checkers (checkers_of validators.entries) (rules_of self.old.parser.checks))) }
+        ensures ok { OnOk result (AreSame (rules_of self.new.parser.checks)
+            (all_with_checkers (checkers_of validators.entries)
+            (rules_of self.old.parser.checks))) }
         ensures moment { self.new.parser.moment ≡ self.old.parser.moment }
         ensures rest { (self.new.parser.footer ≡ self.old.parser.footer)
             × (self.new.parser.implicit_assertion ≡ self.old.parser.implicit_assertion)
             × (self.new.parser.leeway ≡ self.old.parser.leeway) }
-        ensures err { OnErr result (AreSame (rules_of self.new.parser.checks) (rules_of self.old.parser.checks)) }
+        ensures err { OnErr result (AreSame (rules_of self.new.parser.checks)
+            (rules_of self.old.parser.checks)) }
         ensures fault { IfErr result IsMemory }
     {
         self.parser.put_validators(validators)
@@ -157,7 +163,8 @@ impl<'a, V: ImplicitAssertionCapable, P: PurposeTrait, B: Drop> DefaultParser<'a
     /// Sets the implicit assertion, the empty one too, and keeps the rest. No memory is taken.
     pub fn set_implicit_assertion(&mut self, implicit_assertion: ImplicitAssertion<'a>) -> &mut Self
         ensures lent { result.ghost_name ≡ self.entry.ghost_name }
-        ensures change { result.now.parser ≡ record self.entry.now.parser { implicit_assertion = Some implicit_assertion.entry } }
+        ensures change { result.now.parser
+            ≡ record self.entry.now.parser { implicit_assertion = Some implicit_assertion.entry } }
     {
         self.parser.set_implicit_assertion(implicit_assertion);
         self
@@ -175,8 +182,11 @@ impl<V: DefaultLocalVersion> DefaultParser<'_, V, Local, ValidatorFn> {
         key: &PasetoSymmetricKey<V, Local>,
     ) -> Result<Value, GenericParserError>
         ensures { let parser = self.now.parser in
-            let binding = binding_of key.now parser.footer (assertion_in V.design.binds_assertion parser.implicit_assertion) in
-            IsParseAnswer (opening V.design binding) (verdicts_of (λ b. verdict b) (times_at parser.moment parser.leeway) parser.checks) token.now result }
+            let binding = binding_of key.now parser.footer
+            (assertion_in V.design.binds_assertion parser.implicit_assertion) in
+            IsParseAnswer (opening V.design binding)
+            (verdicts_of (λ b. verdict b) (times_at parser.moment parser.leeway) parser.checks)
+            token.now result }
     {
         self.parser.parse(token, key)
     }
@@ -195,7 +205,8 @@ impl DefaultParser<'_, V2, Local, ValidatorFn> {
     ) -> Result<Value, GenericParserError>
         ensures { let parser = self.now.parser in
             IsParseAnswer (box_opening S.sealing (binding_of key.now parser.footer None))
-            (verdicts_of (λ b. verdict b) (times_at parser.moment parser.leeway) parser.checks) token.now result }
+            (verdicts_of (λ b. verdict b) (times_at parser.moment parser.leeway) parser.checks)
+            token.now result }
     {
         self.parser.parse(sealed_box, token, key)
     }
@@ -215,9 +226,11 @@ impl<V> DefaultParser<'_, V, Public, ValidatorFn> {
     where
         V: Verifies<S>,
         ensures { let parser = self.now.parser in
-            let binding = binding_of key.now parser.footer (assertion_in V.public_design.binds_assertion parser.implicit_assertion) in
+            let binding = binding_of key.now parser.footer
+            (assertion_in V.public_design.binds_assertion parser.implicit_assertion) in
             IsParseAnswer (verification V.valid V.refused V.public_design binding)
-            (verdicts_of (λ b. verdict b) (times_at parser.moment parser.leeway) parser.checks) token.now result }
+            (verdicts_of (λ b. verdict b) (times_at parser.moment parser.leeway) parser.checks)
+            token.now result }
     {
         self.parser.parse(scheme, token, key)
     }

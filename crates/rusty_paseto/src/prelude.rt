@@ -1,20 +1,20 @@
 //! Everything of `generic` and `paseto_core`, and the items of this crate.
 
 pub use crate::{
-    DefaultAssertionVersion, DefaultLocalVersion, CountingSetter, DefaultParser, GeneralPasetoError, KeyRing,
-    KeyRingError, KeyRingParserError, PasetoBuilder, PasetoParser, PublicKeyRing, Ring,
-    fits_default,
+    CountingSetter, DefaultAssertionVersion, DefaultLocalVersion, DefaultParser,
+    GeneralPasetoError, KeyRing, KeyRingError, KeyRingParserError, PasetoBuilder, PasetoParser,
+    PublicKeyRing, Ring, fits_default,
 };
 pub use rusty_paseto_generic::{
     AssertionVersion, Audience, AudienceClaim, CheckSetter, ClaimSetter, ClaimValue, CompressedKey,
     CustomClaim, DateClaim, Expiration, ExpirationClaim, Explained, Footer, GenericBuilder,
-    GenericBuilderError, GenericParser, GenericParserError, Header, ImplicitAssertion,
-    ImplicitAssertionCapable, IssuedAt, IssuedAtClaim, Issuer, IssuerClaim, Itself, Key, Local,
-    LocalVersion, NotBefore, NotBeforeClaim, Opening, Paseto, PasetoAsymmetricPrivateKey,
-    PasetoAsymmetricPublicKey, PasetoClaim, PasetoClaimError, PasetoError, PasetoNonce,
-    PasetoSymmetricKey, Payload, PreAuthenticationEncoding, Public, PublicVersion, PurposeTrait,
-    ReservedKey, SealedBox, SignatureScheme, Signs, Subject, SubjectClaim, TagCollision, TextClaim,
-    TokenIdentifier, TokenIdentifierClaim, TokenParser, GenericLocalVersion, UntrustedToken, V1, V1orV3,
-    V2, V2orV4, V3, V4, Validator, ValidatorFn, ValidatorMap, Verifies, VersionTrait, from_section,
-    is_whole, odd_key, same_value, split_token, to_section,
+    GenericBuilderError, GenericLocalVersion, GenericParser, GenericParserError, Header,
+    ImplicitAssertion, ImplicitAssertionCapable, IssuedAt, IssuedAtClaim, Issuer, IssuerClaim,
+    Itself, Key, Local, LocalVersion, NotBefore, NotBeforeClaim, Opening, Paseto,
+    PasetoAsymmetricPrivateKey, PasetoAsymmetricPublicKey, PasetoClaim, PasetoClaimError,
+    PasetoError, PasetoNonce, PasetoSymmetricKey, Payload, PreAuthenticationEncoding, Public,
+    PublicVersion, PurposeTrait, ReservedKey, SealedBox, SignatureScheme, Signs, Subject,
+    SubjectClaim, TagCollision, TextClaim, TokenIdentifier, TokenIdentifierClaim, TokenParser,
+    UntrustedToken, V1, V1orV3, V2, V2orV4, V3, V4, Validator, ValidatorFn, ValidatorMap, Verifies,
+    VersionTrait, from_section, is_whole, odd_key, same_value, split_token, to_section,
 };

@@ -27,12 +27,15 @@ pub trait CountingSetter {
     /// `ClaimError` comes for a value that holds another number than a whole one of 64 bits, `Unexpected`
     /// with the key, and for a fault of the claim. The builder is then unchanged.
     fn put_claim<C: PasetoClaim>(&mut self, claim: &C) -> Result<(), GenericBuilderError>
-        ensures ok { OnOk result (claim_set (C.key claim.now) (C.json claim.now) (claims self.old) ≡ becomes (claims self.new)) }
-        ensures keys { OnOk result (IsSame (counted (C.key claim.now) (keys self.old)) (keys self.new)) }
+        ensures ok { OnOk result (claim_set (C.key claim.now) (C.json claim.now) (claims self.old)
+            ≡ becomes (claims self.new)) }
+        ensures keys { OnOk result (IsSame (counted (C.key claim.now) (keys self.old))
+            (keys self.new)) }
         ensures rest { is_rest self.new self.old }
         ensures err { OnErr result (claims self.new ≡ claims self.old) }
         ensures err_keys { OnErr result (IsSame (keys self.old) (keys self.new)) }
-        ensures fault { IfErr result (IsRefusal (claim_set (C.key claim.now) (C.json claim.now) (claims self.old))) };
+        ensures fault { IfErr result (IsRefusal (claim_set (C.key claim.now) (C.json claim.now)
+            (claims self.old))) };
 
     /// Stores a claim, as `put_claim` does, and lends the builder back. Where it refuses, the builder is unchanged.
     final fn set_claim<C: PasetoClaim, O>(
@@ -41,14 +44,19 @@ pub trait CountingSetter {
     ) -> Result<&mut O, GenericBuilderError>
     where
         Self: Itself<O>,
-        ensures* err { sem 𝓛 (LendsSoOk Self.row O.row self.entry result (λ last lent. last ≡ Self.whole lent)
-            (λ last. (claims last ≡ claims self.entry.now) × IsSame (keys self.entry.now) (keys last) × is_rest last self.entry.now)) }
+        ensures* err { sem 𝓛 (LendsSoOk Self.row O.row self.entry result
+            (λ last lent. last ≡ Self.whole lent)
+            (λ last. (claims last ≡ claims self.entry.now) × IsSame (keys self.entry.now)
+            (keys last) × is_rest last self.entry.now)) }
         ensures lent { IfOk result (λ lent. lent.ghost_name ≡ self.entry.ghost_name) }
-        ensures ok { IfOk result (λ lent. claim_set (C.key claim.now) (C.json claim.now) (claims self.entry.now)
+        ensures ok { IfOk result (λ lent. claim_set (C.key claim.now) (C.json claim.now)
+            (claims self.entry.now)
             ≡ becomes (claims (Self.whole lent.now))) }
-        ensures keys { IfOk result (λ lent. IsSame (counted (C.key claim.now) (keys self.entry.now)) (keys (Self.whole lent.now))) }
+        ensures keys { IfOk result (λ lent. IsSame (counted (C.key claim.now) (keys self.entry.now))
+            (keys (Self.whole lent.now))) }
         ensures rest { IfOk result (λ lent. is_rest (Self.whole lent.now) self.entry.now) }
-        ensures fault { IfErr result (IsRefusal (claim_set (C.key claim.now) (C.json claim.now) (claims self.entry.now))) }
+        ensures fault { IfErr result (IsRefusal (claim_set (C.key claim.now) (C.json claim.now)
+            (claims self.entry.now))) }
     {
         self.put_claim(claim)?;
         Ok(self.itself())
@@ -61,7 +69,8 @@ pub trait CountingSetter {
     /// Nothing but memory is refused. The builder is then unchanged.
     fn put_no_expiration_danger_acknowledged(&mut self) -> Result<(), GenericBuilderError>
         ensures ok { OnOk result (claims self.new ≡ without expiration_key (claims self.old)) }
-        ensures keys { OnOk result (IsSame (acknowledged expiration_key (keys self.old)) (keys self.new)) }
+        ensures keys { OnOk result (IsSame (acknowledged expiration_key (keys self.old))
+            (keys self.new)) }
         ensures never { OnOk result (NeverExpires (claims self.new) (keys self.new)) }
         ensures rest { is_rest self.new self.old }
         ensures err { OnErr result (claims self.new ≡ claims self.old) }
@@ -75,12 +84,17 @@ pub trait CountingSetter {
     ) -> Result<&mut O, GenericBuilderError>
     where
         Self: Itself<O>,
-        ensures* err { sem 𝓛 (LendsSoOk Self.row O.row self.entry result (λ last lent. last ≡ Self.whole lent)
-            (λ last. (claims last ≡ claims self.entry.now) × IsSame (keys self.entry.now) (keys last) × is_rest last self.entry.now)) }
+        ensures* err { sem 𝓛 (LendsSoOk Self.row O.row self.entry result
+            (λ last lent. last ≡ Self.whole lent)
+            (λ last. (claims last ≡ claims self.entry.now) × IsSame (keys self.entry.now)
+            (keys last) × is_rest last self.entry.now)) }
         ensures lent { IfOk result (λ lent. lent.ghost_name ≡ self.entry.ghost_name) }
-        ensures ok { IfOk result (λ lent. claims (Self.whole lent.now) ≡ without expiration_key (claims self.entry.now)) }
-        ensures keys { IfOk result (λ lent. IsSame (acknowledged expiration_key (keys self.entry.now)) (keys (Self.whole lent.now))) }
-        ensures never { IfOk result (λ lent. NeverExpires (claims (Self.whole lent.now)) (keys (Self.whole lent.now))) }
+        ensures ok { IfOk result (λ lent. claims (Self.whole lent.now)
+            ≡ without expiration_key (claims self.entry.now)) }
+        ensures keys { IfOk result (λ lent. IsSame
+            (acknowledged expiration_key (keys self.entry.now)) (keys (Self.whole lent.now))) }
+        ensures never { IfOk result (λ lent. NeverExpires (claims (Self.whole lent.now))
+            (keys (Self.whole lent.now))) }
         ensures rest { IfOk result (λ lent. is_rest (Self.whole lent.now) self.entry.now) }
         ensures fault { IfErr result IsMemory }
     {

@@ -1,11 +1,11 @@
-//! Versions.
+//! The versions whose local tokens, and whose assertions, need nothing from the caller.
 
 use rusty_paseto_core::AssertionVersion;
 use rusty_paseto_generic::{GenericLocalVersion, V1, V3, V4};
 
-/// A version whose local tokens are sealed with nothing handed in: 1, 3 and 4. It is `GenericLocalVersion`, by a
-/// name of this crate: the blocks of one name that differ in their version are told apart by a trait of
-/// their own crate.
+/// A version whose local tokens need no sealed box from the caller: 1, 3 and 4. It demands no more than
+/// `GenericLocalVersion`, and stands here because `encrypt` and `decrypt` of version 2, which take a box, bear the same
+/// names: the compiler tells two `impl` blocks apart only by a trait of the crate that they are written in.
 pub trait DefaultLocalVersion: GenericLocalVersion {}
 
 impl DefaultLocalVersion for V1 {}

@@ -62,7 +62,8 @@ impl<'a> CustomClaim<&'a str> {
     ///
     /// `Reserved` with the key comes exactly for `iss`, `sub`, `aud`, `exp`, `nbf`, `iat` and `jti`.
     pub fn try_from_key(alloc: Global, key: &str) -> Result<Self, PasetoClaimError>
-        ensures kept { IfOk result (λ claim. (claim.0 ≡ key.now) × (claim.1.now ≡ []) × ¬ IsReserved key.now) }
+        ensures kept { IfOk result (λ claim. (claim.0 ≡ key.now) × (claim.1.now ≡ [])
+            × ¬ IsReserved key.now) }
         ensures err { IfErr result (IsReservedFault key.now) }
     {
         CustomClaim::try_from_str(alloc, key, "")

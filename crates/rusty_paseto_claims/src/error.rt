@@ -12,7 +12,7 @@ pub enum PasetoClaimError {
     /// The moment at which a token expires has come.
     #[error("This token is expired")]
     Expired,
-    /// The moment before which a token is not to be used, which this text says, is not over.
+    /// The token is used before its `nbf`, whose text this is.
     #[error("The token cannot be used before {0}")]
     UseBeforeAvailable(String),
     /// The text is no date and time.

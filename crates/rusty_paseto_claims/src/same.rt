@@ -79,7 +79,8 @@ fn are_items_same(left: &Vec<Value>, right: &Vec<Value>) -> bool
 
 #[cycle(same)]
 fn are_members_same(left: &Map<String, Value>, right: &Map<String, Value>) -> bool
-    ensures { result ≡ same_members (members_view left.now.entries) (members_view right.now.entries) }
+    ensures { result ≡ same_members (members_view left.now.entries)
+        (members_view right.now.entries) }
 {
     let mut other_members = right.iter();
     for (key, member) in left.iter() {

@@ -41,7 +41,8 @@ fn are_items_whole(items: &Vec<Value>) -> bool
 
 #[cycle(whole)]
 fn find_odd(members: &Map<String, Value>) -> Option<&str>
-    ensures value { option_map (λ key. key.now) result ≡ first_odd (members_view members.now.entries) }
+    ensures value { option_map (λ key. key.now) result
+        ≡ first_odd (members_view members.now.entries) }
     ensures ordered { IsStrictlySortedBy string_cmp (keys_of members.now.entries) }
 {
     for (key, member) in members.iter() {

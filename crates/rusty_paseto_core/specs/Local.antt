@@ -21,7 +21,7 @@ use Rattle.rusty_paseto_core.specs.Framing.{IsHeader}
 abbrev pub local : List ℕ
 local = codes "local"
 
--- a local version: its text, whether its tag covers the implicit assertion, how it masks a text
+-- a local version: its text, whether its tag covers the implicit assertion, its keystream over a text
 -- under a key and a nonce, its authentication key under a key and a nonce, its tag under an
 -- authentication key, the tag's length, and the token's nonce from its seed and the text
 pub record Design : Type 0 where
@@ -42,7 +42,7 @@ pub record IsNonce (nonce : List ℕ) : Type 0 where
 abbrev pub header : Design → List ℕ
 header design = header_text design.version local
 
--- what each design has: masking keeps the length and undoes itself, tags have their length, and
+-- what each design has: encryption keeps the length and undoes itself, tags have their length, and
 -- what it makes of bytes is bytes
 pub record IsLawful (design : Design) : Type 0 where
   pub length_applied : (key nonce bytes : List ℕ) → length (design.apply_keystream key nonce bytes) ≡ length bytes

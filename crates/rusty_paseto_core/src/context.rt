@@ -40,6 +40,7 @@ impl<'a> Context<'a> {
         ensures text { result.now ≡ self.now.footer }
         ensures bytes { IsBytes self.now.footer }
     {
+        // `bytes` is proved of what the call answered, which needs a name for that.
         let footer = self.footer.as_bytes();
         footer
     }

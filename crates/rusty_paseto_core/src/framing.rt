@@ -37,7 +37,8 @@ pub(crate) fn frame(
 // more, rounded up.
 fn framed_len(header: &str, payload: &[u8], footer: Option<Footer<'_>>) -> Result<usize, AllocError>
     ensures ok { let footer_length = length (footer_of footer.entry) in
-        IfOk result (λ room. room ≡ length header.now + (length payload.now + length payload.now / 3)
+        IfOk result (λ room. room ≡ length header.now
+        + (length payload.now + length payload.now / 3)
         + (footer_length + footer_length / 3) + 3) }
     ensures err { let footer_length = length (footer_of footer.entry) in
         IsErr result → 2 ^ 64 ≤ length header.now + (length payload.now + length payload.now / 3)

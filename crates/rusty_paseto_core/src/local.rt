@@ -44,18 +44,12 @@ pub(crate) trait LocalSuite: VersionTrait {
     ghost IsSplit: { Self.Keys → List ℕ → List ℕ → Type 0 };
 
     /// How many bytes a tag has.
-    ghost TAG_LENGTH: { ℕ };
-
-    const TAG_LENGTH: usize;
+    fn tag_length() -> usize
+        ensures { result ≡ design.tag_length };
 
     /// Whether the tag covers the implicit assertion.
-    ghost BINDS_ASSERTION: { Bool };
-
-    const BINDS_ASSERTION: bool;
-
-    /// The header that begins the version's local tokens.
-    fn header() -> &'static str
-        ensures { result.now ≡ header design };
+    fn binds_assertion() -> bool
+        ensures { result ≡ design.binds_assertion };
 
     /// The nonce of a token, from the seed and the text.
     fn token_nonce(seed: &[u8], text: &[u8]) -> [u8; 32]
@@ -68,23 +62,21 @@ pub(crate) trait LocalSuite: VersionTrait {
 
     /// Encrypts a text, or decrypts it, in place.
     fn apply_keystream(keys: &Self::Keys, bytes: &mut [u8])
-        ensures { (key nonce : List ℕ) → IsSplit keys.now key nonce → bytes.new ≡ design.apply_keystream key nonce bytes.old };
+        ensures { (key nonce : List ℕ) → IsSplit keys.now key nonce → bytes.new
+            ≡ design.apply_keystream key nonce bytes.old };
 
     /// Writes the tag of the pieces. The pieces are taken one by one, with no copy of them.
     fn write_tag(keys: &Self::Keys, pieces: &[&[u8]], tag: &mut [u8])
         requires { length tag.old ≡ design.tag_length }
         ensures { (key nonce : List ℕ) → IsSplit keys.now key nonce
-            → tag.new ≡ design.tag (design.authentication_key key nonce) (pae (map (λ piece. piece.now) pieces.now)) };
+            → tag.new ≡ design.tag (design.authentication_key key nonce)
+            (pae (map (λ piece. piece.now) pieces.now)) };
 
     ghost lawful: { IsLawful design };
 
     ghost has_version: { design.version ≡ Self.text };
 
-    ghost has_tag_length: { design.tag_length ≡ TAG_LENGTH };
-
-    ghost short_tag: { TAG_LENGTH ≤ 48 };
-
-    ghost has_assertion: { design.binds_assertion ≡ BINDS_ASSERTION };
+    ghost short_tag: { design.tag_length ≤ 48 };
 
     // No nonce has another length than 32 bytes.
     ghost has_nonces_of_32_alone: { (n : ℕ) → IsTrue (Self.nonce_length n) → n ≡ 32 };

@@ -17,7 +17,8 @@ use std::marker::PhantomData;
 /// A version whose tokens are bound to an implicit assertion: 3 and 4.
 pub trait AssertionVersion: LocalVersion + PublicVersion + ImplicitAssertionCapable {
     // Its local and its public tokens are.
-    ghost binds_assertion: { (Self.design.binds_assertion ≡ true) × (Self.public_design.binds_assertion ≡ true) };
+    ghost binds_assertion: { (Self.design.binds_assertion ≡ true)
+        × (Self.public_design.binds_assertion ≡ true) };
 }
 
 impl AssertionVersion for V3 {
@@ -46,7 +47,8 @@ pub struct Paseto<'a, Version, Purpose> {
 }
 
 impl<'a, Version: VersionTrait, Purpose: PurposeTrait> Default for Paseto<'a, Version, Purpose> {
-    ghost is_default = { λ made. (payload_text made.payload ≡ []) × (made.footer ≡ None) × (made.implicit_assertion ≡ None) };
+    ghost is_default = { λ made. (payload_text made.payload ≡ []) × (made.footer ≡ None)
+        × (made.implicit_assertion ≡ None) };
 
     fn default() -> Self {
         Paseto {
@@ -92,7 +94,8 @@ impl<'a, Version: ImplicitAssertionCapable, Purpose: PurposeTrait> Paseto<'a, Ve
     /// Sets the implicit assertion, the empty one too, and keeps the rest.
     pub fn set_implicit_assertion(&mut self, implicit_assertion: ImplicitAssertion<'a>) -> &mut Self
         ensures lent { result.ghost_name ≡ self.entry.ghost_name }
-        ensures change { result.now ≡ record self.entry.now { implicit_assertion = Some implicit_assertion.entry } }
+        ensures change { result.now ≡ record self.entry.now
+            { implicit_assertion = Some implicit_assertion.entry } }
     {
         self.implicit_assertion = Some(implicit_assertion);
         self

@@ -6,7 +6,9 @@ ghost use Rattle.rusty_paseto_core.specs.Context.{bound};
 ghost use Rattle.rusty_paseto_core.specs.Public.{HasPrivateLength, IsLawful, PublicDesign, header, message};
 
 use crate::context::{Context, five_pieces};
-use rusty_paseto_parts::{ImplicitAssertion, PasetoError, PreAuthenticationEncoding, VersionTrait};
+use rusty_paseto_parts::{
+    Header, ImplicitAssertion, PasetoError, PreAuthenticationEncoding, Public, VersionTrait,
+};
 use std::alloc::Global;
 
 pub(crate) mod scheme;
@@ -23,10 +25,6 @@ pub use tokens::{Signs, Verifies};
 pub(crate) trait PublicSuite: VersionTrait {
     // What the version means.
     ghost public_design: { PublicDesign };
-
-    /// The header that begins the version's public tokens.
-    fn header() -> &'static str
-        ensures { result.now ≡ header public_design };
 
     /// Whether the public key is the first piece that is signed.
     fn signs_key() -> bool
@@ -50,7 +48,8 @@ pub trait PublicVersion: PublicSuite {
     final fn signed_assertion(
         implicit_assertion: Option<ImplicitAssertion<'_>>,
     ) -> Option<ImplicitAssertion<'_>>
-        ensures bound { Self.public_design.binds_assertion ≡ true → result ≡ implicit_assertion.entry }
+        ensures bound { Self.public_design.binds_assertion ≡ true → result
+            ≡ implicit_assertion.entry }
         ensures none { Self.public_design.binds_assertion ≡ false → result ≡ None }
     {
         if Self::signs_assertion() {
@@ -70,12 +69,14 @@ fn message<V: PublicSuite>(
     context: &Context<'_>,
     text: &[u8],
 ) -> Result<PreAuthenticationEncoding, PasetoError>
-    ensures ok { IfOk result (λ encoding. encoding ≡ message V.public_design (bound public.now context.now) text.now) }
+    ensures ok { IfOk result (λ encoding. encoding
+        ≡ message V.public_design (bound public.now context.now) text.now) }
     ensures err { IfErr result IsMemory }
 {
+    let header = Header::<V, Public>::default();
     let pieces = five_pieces(
         public,
-        V::header().as_bytes(),
+        header.as_bytes(),
         text,
         context.footer(),
         context.assertion(),

@@ -18,8 +18,10 @@ pub(crate) fn unframe<V: VersionTrait, P: PurposeTrait>(
     token: &str,
     footer: &[u8],
 ) -> Result<Vec<u8>, PasetoError>
-    ensures framed { IfOk result (λ payload. IsFramed V.text P.text footer.now token.now payload.items) }
-    ensures fault { IfErr result (λ error. IsMemory error ⊎ IsFramingFault V.text P.text footer.now token.now error) }
+    ensures framed { IfOk result (λ payload.
+        IsFramed V.text P.text footer.now token.now payload.items) }
+    ensures fault { IfErr result (λ error. IsMemory error
+        ⊎ IsFramingFault V.text P.text footer.now token.now error) }
     ensures count { ¬ HasCount (sections token.now) → result ≡ Err PasetoError.IncorrectSize }
 {
     let Some(parts) = split_token(token) else {
@@ -44,7 +46,8 @@ fn is_header<V: VersionTrait, P: PurposeTrait>(version: &str, purpose: &str) -> 
 
 // Whether the section that was found is the expected footer's. It may be lacking where that is empty.
 fn is_expected(found: Option<&str>, footer: &[u8]) -> bool
-    ensures { IsTrue result ↔ IsExpected footer.now (option_map (λ section. section.now) found.entry) }
+    ensures { IsTrue result ↔ IsExpected footer.now
+        (option_map (λ section. section.now) found.entry) }
 {
     match found {
         Some(section) => is_section_of(section, footer),

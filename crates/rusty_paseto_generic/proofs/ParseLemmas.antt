@@ -19,8 +19,7 @@ use Rattle.rusty_paseto_core.specs.declared.ImplicitAssertion.{ImplicitAssertion
 use Rattle.rusty_paseto_core.specs.declared.PasetoError.{PasetoError}
 use Rattle.rusty_paseto_core.specs.declared.PasetoError.TheVariants as Cipher
 use Rattle.rusty_paseto_generic.specs.Error.Parser.{IsMemory, of_cipher, of_claim}
-use Rattle.rusty_paseto_generic.specs.Parsers.Parsing.{IsCheckFault, IsFirstFault, IsOpenedAnswer, IsParseAnswer, IsParsed, IsTextAnswer, IsTextFault, IsValueOf, assertion_in}
-use Rattle.rusty_paseto_generic.specs.Parsers.Reading.{IsReadAs, IsReadingFault}
+use Rattle.rusty_paseto_generic.specs.Parsers.Parsing.{IsCheckFault, IsFirstFault, IsOpenedAnswer, IsParseAnswer, IsParsed, IsReadAs, IsReadingFault, IsTextAnswer, IsTextFault, IsValueOf, assertion_in}
 use Rattle.rusty_paseto_generic.specs.Parsers.Rules.{Rule, Rules}
 use Rattle.rusty_paseto_generic.specs.Parsers.Verdicts.{Fails, IsFirstFailing, Meets, Misses, Passes, PassesAll}
 use Rattle.rusty_paseto_generic.specs.Validator.{IfFault, Verdict}

@@ -3,5 +3,4 @@ pub mod Rules
 pub mod Verdicts
 pub mod Times
 pub mod Held
-pub mod Reading
 pub mod Parsing

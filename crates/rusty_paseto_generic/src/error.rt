@@ -47,7 +47,10 @@ impl GenericBuilderError {
     }
 
     /// What shows the error with its cause, in one line.
-    pub fn explained(&self) -> Explained<'_, GenericBuilderError> {
+    pub fn explained(&self) -> Explained<'_, GenericBuilderError>
+        ensures error { result.error.now ≡ self.now }
+        ensures cause { option_map (λ cause. cause.now) result.cause ≡ cause_of self.now }
+    {
         Explained::new(self, self.cause())
     }
 }
@@ -134,7 +137,10 @@ impl GenericParserError {
 
     /// What shows the error with its cause, in one line: `A paseto cipher error occurred: The provided
     /// footer is invalid`.
-    pub fn explained(&self) -> Explained<'_, GenericParserError> {
+    pub fn explained(&self) -> Explained<'_, GenericParserError>
+        ensures error { result.error.now ≡ self.now }
+        ensures cause { option_map (λ cause. cause.now) result.cause ≡ parser_cause_of self.now }
+    {
         Explained::new(self, self.cause())
     }
 }

@@ -1,5 +1,7 @@
 //! An error beside what caused it.
 
+ghost use Rattle.std.specs.Prelude.{◌≡◌};
+
 use rusty_paseto_core::PasetoError;
 use std::fmt;
 
@@ -12,7 +14,10 @@ pub struct Explained<'a, E> {
 }
 
 impl<'a, E> Explained<'a, E> {
-    pub(crate) fn new(error: &'a E, cause: Option<&'a PasetoError>) -> Self {
+    pub(crate) fn new(error: &'a E, cause: Option<&'a PasetoError>) -> Self
+        ensures error { result.error.now ≡ error.now }
+        ensures cause { result.cause ≡ cause }
+    {
         Explained { error, cause }
     }
 }

@@ -14,7 +14,8 @@ pub trait Itself<O> {
     /// The value.
     fn itself(&mut self) -> &mut O
         ensures* back { sem 𝓛 (Lends Self.row O.row self.entry result whole) }
-        ensures same { (result.ghost_name ≡ self.entry.ghost_name) × (whole result.now ≡ self.old) };
+        ensures same { (result.ghost_name ≡ self.entry.ghost_name)
+            × (whole result.now ≡ self.old) };
 }
 
 impl<T> Itself<T> for T {

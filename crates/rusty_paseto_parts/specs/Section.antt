@@ -29,7 +29,7 @@ HasCount parts = (3 ≤ length parts) × (length parts ≤ 4)
 unfoldable pub base64url : List ℕ → List ℕ
 base64url bytes = encode_of url_safe_no_pad bytes
 
--- no list of bytes has the text as its base64url
+-- the text is the base64url of no list of bytes
 abbrev pub IsNoBase64url : List ℕ → Type 0
 IsNoBase64url text = (bytes : List ℕ) → IsBytes bytes → text ≢ base64url bytes
 

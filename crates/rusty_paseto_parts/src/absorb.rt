@@ -20,7 +20,8 @@ pub trait Absorb {
 
     // Two lists that are taken in one after the other are taken in as one.
     ghost joined: { (first second third : Self) (front back : List ℕ)
-        → absorbed first front second → absorbed second back third → absorbed first (front ++ back) third };
+        → absorbed first front second → absorbed second back third → absorbed first
+        (front ++ back) third };
 }
 
 /// A buffer keeps the bytes, behind those that it has.

@@ -6,7 +6,8 @@ ghost use Rattle.rusty_paseto_parts.specs.Section.{AreSections, sections, base64
 
 /// Two lists of pieces have the same pre-authentication encoding exactly if they are equal.
 pub fn equal_encodings(first: &[&[u8]], second: &[&[u8]])
-    ensures { let a = map (λ piece. piece.now) first.now in let b = map (λ piece. piece.now) second.now in
+    ensures { let a = map (λ piece. piece.now) first.now in let b = map
+        (λ piece. piece.now) second.now in
         (pae a ≡ pae b) ↔ (a ≡ b) }
 {
     lengths_fit(first);

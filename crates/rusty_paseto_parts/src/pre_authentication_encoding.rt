@@ -30,7 +30,8 @@ impl Model for PreAuthenticationEncoding {
 impl PreAuthenticationEncoding {
     /// The encoding of these pieces, in their order. It fails only by `Memory`.
     pub fn parse(alloc: Global, pieces: &[&[u8]]) -> Result<Self, PasetoError>
-        ensures ok { IfOk result (λ encoding. encoding ≡ pae (map (λ piece. piece.now) pieces.now)) }
+        ensures ok { IfOk result (λ encoding. encoding
+            ≡ pae (map (λ piece. piece.now) pieces.now)) }
         ensures err { IfErr result IsMemory }
     {
         let len = encoded_len(pieces)?;
@@ -52,7 +53,8 @@ impl PreAuthenticationEncoding {
 ///
 /// Source: PASETO specification, "Authentication Padding".
 pub fn absorb_pieces<A: Absorb>(pieces: &[&[u8]], absorber: &mut A) -> Result<(), A::Error>
-    ensures { OnOk result (A.absorbed absorber.old (pae (map (λ piece. piece.now) pieces.now)) absorber.new) }
+    ensures { OnOk result (A.absorbed absorber.old
+        (pae (map (λ piece. piece.now) pieces.now)) absorber.new) }
 {
     absorber.absorb(&(pieces.len() as u64).to_le_bytes())?;
     'pieces: for piece in pieces {

@@ -14,13 +14,13 @@ use base64::engine::general_purpose::URL_SAFE_NO_PAD;
 use base64::{DecodeAllocError, decoded_len_estimate};
 use std::alloc::{AllocError, Global};
 
-/// How many bytes more than a section has are written past it at most.
+/// By how many bytes the room for a decoded section is longer than its bytes: a block of twelve is written as sixteen.
 const ROOM: usize = 4;
 
-/// How many bytes are spelled at once where a base64url is compared, and by how many characters.
+/// How many bytes are encoded at once where a text is compared with an encoding, and how many characters they give.
 const PIECE: usize = 48;
 
-const SPELLED_PIECE: usize = 64;
+const ENCODED_PIECE: usize = 64;
 
 /// The sections of a token, its parts between dots: version, purpose, payload and, where there is
 /// a fourth, the footer. `None` where the sections are not three or four.
@@ -50,7 +50,8 @@ pub fn split_token(token: &str) -> Option<([&str; 3], Option<&str>)>
 
 // What stands before the first dot, and what stands after it where there is one.
 fn first_section(text: &str) -> (&str, Option<&str>)
-    ensures { sections text.now ≡ result.0.now ∷ option_map_or (λ rest. sections rest.now) result.1 [] }
+    ensures { sections text.now ≡ result.0.now ∷ option_map_or
+        (λ rest. sections rest.now) result.1 [] }
 {
     match text.split_once('.') {
         Some((section, rest)) => (section, Some(rest)),
@@ -103,11 +104,11 @@ fn strip_base64url<'a>(text: &'a [u8], piece: &[u8]) -> Option<&'a [u8]>
     ensures { MatchOption result ((rest : List ℕ) → text.now ≢ base64url piece.now ++ rest)
         (λ rest. text.now ≡ base64url piece.now ++ rest.now) }
 {
-    let mut spelled = [0u8; SPELLED_PIECE];
-    let Ok(len) = URL_SAFE_NO_PAD.encode_slice(piece, &mut spelled) else {
+    let mut encoded = [0u8; ENCODED_PIECE];
+    let Ok(len) = URL_SAFE_NO_PAD.encode_slice(piece, &mut encoded) else {
         unreachable!();
     };
-    text.strip_prefix(&spelled[..len])
+    text.strip_prefix(&encoded[..len])
 }
 
 /// The bytes of which a section's text is the base64url encoding.
@@ -140,7 +141,8 @@ pub fn from_section(alloc: Global, text: &str) -> Result<Vec<u8>, PasetoError>
 
 // The bytes of which a text is the base64url, or `None` where it is none.
 fn read_base64url(alloc: Global, text: &str) -> Result<Option<Vec<u8>>, AllocError>
-    ensures { IfOk result (λ read. IfSome read (λ bytes. (text.now ≡ base64url bytes.items) × IsBytes bytes.items)) }
+    ensures { IfOk result (λ read. IfSome read
+        (λ bytes. (text.now ≡ base64url bytes.items) × IsBytes bytes.items)) }
 {
     let mut bytes = vec![in alloc; 0u8; decoded_len_estimate(text.len()) + ROOM]?;
     let Some(len) = read_into(text.as_bytes(), &mut bytes) else {

@@ -20,7 +20,8 @@ const BACK: [usize; 16] = [1, 2, 3, 5, 6, 7, 9, 10, 11, 13, 14, 15, 15, 15, 15, 
 // The value of each character, and 255 for what is no character of the alphabet.
 #[inline(always)]
 fn values(text: u8x16) -> u8x16
-    ensures { (f : ℕ → ℕ) → ((i : ℕ) → f i < 256) → text ≡ sixteen f → result ≡ sixteen (λ i. value (f i)) }
+    ensures { (f : ℕ → ℕ) → ((i : ℕ) → f i < 256) → text ≡ sixteen f → result ≡ sixteen
+        (λ i. value (f i)) }
 {
     let upper = text - u8x16::splat(65);
     let lower = text - u8x16::splat(97);
@@ -76,8 +77,8 @@ fn read_sixteen(text: &[u8], bytes: &mut [u8]) -> bool
     true
 }
 
-/// Reads the front of a text, sixteen characters at a time, up to sixteen of which one is none of the
-/// alphabet. The answer is how often sixteen characters were read: each time they are twelve of the bytes.
+/// Decodes the front of a text in blocks of sixteen characters, twelve bytes each, and stops before the first block
+/// with a character that the alphabet has not. It answers how many blocks were decoded.
 pub(crate) fn read_sixteens(text: &[u8], bytes: &mut [u8]) -> usize
     requires room { 12 * (length text.now / 16) + 4 ≤ length bytes.old }
     ensures within { 16 * result ≤ length text.now }

@@ -74,9 +74,11 @@ impl<'a> UntrustedToken<'a> {
     /// `PayloadBase64Decode` comes exactly where the fourth section is the base64url encoding of no list
     /// of bytes, the empty one included.
     pub fn footer_decoded(&self, alloc: Global) -> Result<Option<Vec<u8>>, PasetoError>
-        ensures ok { IfOk result (λ found. HasFooterBytes (footer_section self.now) (option_map (λ bytes. bytes.items) found)) }
+        ensures ok { IfOk result (λ found. HasFooterBytes (footer_section self.now)
+            (option_map (λ bytes. bytes.items) found)) }
         ensures read { (footer : Option (List ℕ)) → HasFooterBytes (footer_section self.now) footer
-            → MatchResult result (λ found. option_map (λ bytes. bytes.items) found ≡ footer) IsMemory }
+            → MatchResult result (λ found. option_map (λ bytes. bytes.items) found ≡ footer)
+            IsMemory }
         ensures err { IfErr result (IsFooterFault (footer_section self.now)) }
     {
         match self.footer {
@@ -90,7 +92,8 @@ impl<'a> UntrustedToken<'a> {
     /// `PayloadBase64Decode` comes exactly where the fourth section is the base64url encoding of no list
     /// of bytes, and `Utf8Error` exactly where it is the encoding of bytes that are not UTF-8.
     pub fn footer_str(&self, alloc: Global) -> Result<Option<String>, PasetoError>
-        ensures ok { IfOk result (λ found. HasFooterText (footer_section self.now) (option_map string_bytes found)) }
+        ensures ok { IfOk result (λ found. HasFooterText (footer_section self.now)
+            (option_map string_bytes found)) }
         ensures read { (text : Option (List ℕ)) → HasFooterText (footer_section self.now) text
             → MatchResult result (λ found. option_map string_bytes found ≡ text) IsMemory }
         ensures err { IfErr result (IsFooterTextFault (footer_section self.now)) }

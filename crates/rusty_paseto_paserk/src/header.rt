@@ -28,7 +28,8 @@ impl PaserkVersion {
     // The version whose mark the text begins with, and what stands after it.
     fn strip(text: &str) -> Option<(PaserkVersion, &str)>
         ensures found { IfSome result (λ found. text.now ≡ mark found.0 ++ found.1.now) }
-        ensures none { IsNone result → (version : PaserkVersion) (rest : List ℕ) → text.now ≢ mark version ++ rest }
+        ensures none { IsNone result → (version : PaserkVersion) (rest : List ℕ) → text.now
+            ≢ mark version ++ rest }
     {
         if let Some(rest) = after(text, "k1.") {
             Some((PaserkVersion::V1, rest))
@@ -81,7 +82,8 @@ impl PaserkType {
     // The type whose word the text begins with, and what stands after it.
     fn strip(text: &str) -> Option<(PaserkType, &str)>
         ensures found { IfSome result (λ found. text.now ≡ word found.0 ++ found.1.now) }
-        ensures none { IsNone result → (kind : PaserkType) (rest : List ℕ) → text.now ≢ word kind ++ rest }
+        ensures none { IsNone result → (kind : PaserkType) (rest : List ℕ) → text.now ≢ word kind
+            ++ rest }
     {
         if let Some(rest) = after(text, "local.") {
             Some((PaserkType::Local, rest))
@@ -110,7 +112,8 @@ pub fn header_of(text: &str) -> Option<(PaserkVersion, PaserkType, &str)>
 
 // What stands after a front, where the text begins with it.
 fn after<'a>(text: &'a str, front: &str) -> Option<&'a str>
-    ensures { MatchOption result ((rest : List ℕ) → text.now ≢ front.now ++ rest) (λ rest. text.now ≡ front.now ++ rest.now) }
+    ensures { MatchOption result ((rest : List ℕ) → text.now ≢ front.now ++ rest)
+        (λ rest. text.now ≡ front.now ++ rest.now) }
 {
     text.strip_prefix(front)
 }

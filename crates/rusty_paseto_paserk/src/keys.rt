@@ -120,7 +120,8 @@ pub fn public_from_paserk<V: KeyPairVersion, const N: usize>(
     text: &str,
 ) -> Result<Key<N>, PaserkError>
     requires { N ≡ V.public_length }
-    ensures { ReadsKey V.paserk PublicKey (λ key. (length key ≡ N) × IsTrue (V.is_public_key key)) text.now result }
+    ensures { ReadsKey V.paserk PublicKey (λ key. (length key ≡ N) × IsTrue (V.is_public_key key))
+        text.now result }
 {
     let bytes = read_bytes(alloc, V::paserk_version(), PaserkType::Public, text)?;
     if bytes.len() != N || !V::is_public_key(&bytes) {

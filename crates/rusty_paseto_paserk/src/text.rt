@@ -54,7 +54,8 @@ pub(crate) fn read_bytes(
 
 /// Appends the base64url encoding of bytes to a text. It fails only by `Memory`.
 pub(crate) fn push_encoded(bytes: &[u8], text: &mut String) -> Result<(), PaserkError>
-    ensures ok { OnOk result (string_bytes text.new ≡ string_bytes text.old ++ base64url bytes.now) }
+    ensures ok { OnOk result (string_bytes text.new ≡ string_bytes text.old
+        ++ base64url bytes.now) }
     ensures err { IfErr result IsMemory }
 {
     URL_SAFE_NO_PAD.encode_string(bytes, text)?;

@@ -47,7 +47,7 @@ xored_from-twice s i [] = refl
 xored_from-twice s i (x ∷ xs) =
     ap₂ ◌∷◌ (xor_assoc x (s i) (s i) ∙ ap (bit_xor x) (xor_self (s i)) ∙ xor_zero_r x) (xored_from-twice s (i + 1) xs)
 
--- masking twice gives the bytes back
+-- the exclusive or, twice, gives the bytes back
 pub xored-xored : (s : ℕ → ℕ) (b : List ℕ) → xored s (xored s b) ≡ b
 unfolding xored
 xored-xored s b = xored_from-twice s 0 b

@@ -1,4 +1,4 @@
--- A keystream is a function from a place to the byte there. Data is xored, and unmasked, by the
+-- A keystream is a function from a place to the byte there. Data is encrypted, and decrypted, by the
 -- exclusive or with the keystream, byte by byte.
 use Rattle.std.specs.Prelude.{ℕ, ◌+◌, ◌/◌, ◌%◌, List, [], ◌∷◌, bit_xor, slice_index}
 

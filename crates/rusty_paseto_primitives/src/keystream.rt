@@ -23,7 +23,8 @@ pub(crate) fn apply_keystream(data: &mut [u8], keystream: &[u8])
 pub(crate) fn apply_by_vectors(data: &mut [u8], keystream: &[u8x16])
     requires { length «data».old ≡ 16 * length keystream.now }
     ensures { ((i : ℕ) → i < length keystream.now → length (slice_index_or keystream.now i []) ≡ 16)
-        → «data».new ≡ xored (stream_of_blocks 16 (λ i. slice_index_or keystream.now i [])) «data».old }
+        → «data».new ≡ xored (stream_of_blocks 16 (λ i. slice_index_or keystream.now i []))
+        «data».old }
 {
     'vectors: for i in 0..keystream.len() {
         let at = VECTOR_LEN * i;

@@ -62,7 +62,8 @@ impl SignatureScheme<96> for ToyV3 {
 impl CompressedKey for ToyV3 {
     /// The public key of a private key, or `KeyRejected` for the empty one.
     fn public_key(&self, _alloc: Global, private: &[u8]) -> Result<[u8; 49], PasetoError>
-        ensures ok { IfOk result (λ public. (private.now ≢ []) × (public ≡ toy_partner_v3 private.now)) }
+        ensures ok { IfOk result (λ public. (private.now ≢ [])
+            × (public ≡ toy_partner_v3 private.now)) }
         ensures err { IfErr result (λ error. toy_declined private.now error) }
     {
         check_private(private)?;

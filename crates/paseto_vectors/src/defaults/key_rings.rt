@@ -3,8 +3,8 @@
 use crate::expect::{expect_refusal, expect_text};
 use crate::kinds::{Binding, Kind, SECRET, symmetric_key};
 use rusty_paseto::prelude::{
-    DefaultAssertionVersion, DefaultLocalVersion, ImplicitAssertion, KeyRing, KeyRingError, PasetoError, V1,
-    V3, V4,
+    DefaultAssertionVersion, DefaultLocalVersion, ImplicitAssertion, KeyRing, KeyRingError,
+    PasetoError, V1, V3, V4,
 };
 use std::alloc::Global;
 use std::process::Abort;

@@ -4,7 +4,7 @@ use crate::expect::{expect_refusal, expect_text};
 use crate::kinds::{Binding, Kind, SECRET, symmetric_key};
 use jiff::Timestamp;
 use rusty_paseto::prelude::{
-    AudienceClaim, DefaultLocalVersion, CheckSetter, Footer, GenericParser, KeyRing, KeyRingError,
+    AudienceClaim, CheckSetter, DefaultLocalVersion, Footer, GenericParser, KeyRing, KeyRingError,
     KeyRingParserError, Local, PasetoError, PasetoParser, V1, V3, V4,
 };
 use serde_json::Value;

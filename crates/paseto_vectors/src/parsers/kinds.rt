@@ -8,7 +8,7 @@ use rusty_paseto_core::{
     Footer, ImplicitAssertion, ImplicitAssertionCapable, Local, Public, PurposeTrait, V1, V2, V3,
     V4, Verifies, VersionTrait,
 };
-use rusty_paseto_generic::{GenericParser, GenericParserError, GenericLocalVersion};
+use rusty_paseto_generic::{GenericLocalVersion, GenericParser, GenericParserError};
 use serde_json::Value;
 use std::alloc::Global;
 use std::process::Abort;

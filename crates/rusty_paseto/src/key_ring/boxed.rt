@@ -24,7 +24,9 @@ impl Ring<PasetoSymmetricKey<V2, Local>> {
         sealed_box: &S,
         token: &str,
     ) -> Result<(String, String), KeyRingError>
-        ensures { IsRingAnswer (keys_of self.now) (λ key footer. box_opening S.sealing (record { key = key; footer = footer; assertion = [] })) token.now result }
+        ensures { IsRingAnswer (keys_of self.now)
+            (λ key footer. box_opening S.sealing
+            (record { key = key; footer = footer; assertion = [] })) token.now result }
     {
         self.open_bound(sealed_box, token, None)
     }
@@ -38,8 +40,11 @@ impl Ring<PasetoSymmetricKey<V2, Local>> {
         token: &str,
     ) -> Result<(String, Value), KeyRingParserError>
         ensures { let held = parser.now.parser in
-            IsParsingAnswer (keys_of self.now) (λ key footer. box_opening S.sealing (record { key = key; footer = read_under held.footer footer; assertion = [] }))
-            (verdicts_of (λ b. verdict b) (times_at held.moment held.leeway) held.checks) token.now result }
+            IsParsingAnswer (keys_of self.now)
+            (λ key footer. box_opening S.sealing
+            (record { key = key; footer = read_under held.footer footer; assertion = [] }))
+            (verdicts_of (λ b. verdict b) (times_at held.moment held.leeway) held.checks) token.now
+            result }
     {
         self.parse_by(sealed_box, &parser.parser, token)
     }
@@ -52,8 +57,11 @@ impl Ring<PasetoSymmetricKey<V2, Local>> {
         token: &str,
     ) -> Result<(String, Value), KeyRingParserError>
         ensures { let held = parser.now in
-            IsParsingAnswer (keys_of self.now) (λ key footer. box_opening S.sealing (record { key = key; footer = read_under held.footer footer; assertion = [] }))
-            (verdicts_of (λ b. verdict b) (times_at held.moment held.leeway) held.checks) token.now result }
+            IsParsingAnswer (keys_of self.now)
+            (λ key footer. box_opening S.sealing
+            (record { key = key; footer = read_under held.footer footer; assertion = [] }))
+            (verdicts_of (λ b. verdict b) (times_at held.moment held.leeway) held.checks) token.now
+            result }
     {
         let opened = self.open_bound(sealed_box, token, parser.expected_footer());
         claims_of(parser, opened)
@@ -66,7 +74,10 @@ impl Ring<PasetoSymmetricKey<V2, Local>> {
         token: &str,
         expected: Option<Footer<'_>>,
     ) -> Result<(String, String), KeyRingError>
-        ensures { IsRingAnswer (keys_of self.now) (λ key footer. box_opening S.sealing (record { key = key; footer = read_under expected.entry footer; assertion = [] })) token.now result }
+        ensures { IsRingAnswer (keys_of self.now)
+            (λ key footer. box_opening S.sealing
+            (record { key = key; footer = read_under expected.entry footer; assertion = [] }))
+            token.now result }
     {
         let Found { footer, id, key } = self.find(token)?;
         let bound = expected.unwrap_or(Footer::from(footer.as_str()));

@@ -14,7 +14,8 @@ pub(super) fn claims_of<V: VersionTrait, P: PurposeTrait>(
     parser: &GenericParser<'_, V, P>,
     opened: Result<(String, String), KeyRingError>,
 ) -> Result<(String, Value), KeyRingParserError>
-    ensures { IsClaimsAnswer (verdicts_of (λ b. verdict b) (times_at parser.now.moment parser.now.leeway) parser.now.checks) opened result }
+    ensures { IsClaimsAnswer (verdicts_of (λ b. verdict b)
+        (times_at parser.now.moment parser.now.leeway) parser.now.checks) opened result }
 {
     let (id, text) = opened?;
     let value = parser.value_of(text.as_str())?;

@@ -34,9 +34,13 @@ impl<V: DefaultLocalVersion> Ring<PasetoSymmetricKey<V, Local>> {
         token: &str,
     ) -> Result<(String, Value), KeyRingParserError>
         ensures { let held = parser.now.parser in
-            let assertion = assertion_of (assertion_in V.design.binds_assertion held.implicit_assertion) in
-            IsParsingAnswer (keys_of self.now) (λ key footer. opening V.design (record { key = key; footer = read_under held.footer footer; assertion = assertion }))
-            (verdicts_of (λ b. verdict b) (times_at held.moment held.leeway) held.checks) token.now result }
+            let assertion = assertion_of (assertion_in V.design.binds_assertion
+            held.implicit_assertion) in
+            IsParsingAnswer (keys_of self.now)
+            (λ key footer. opening V.design
+            (record { key = key; footer = read_under held.footer footer; assertion = assertion }))
+            (verdicts_of (λ b. verdict b) (times_at held.moment held.leeway) held.checks) token.now
+            result }
     {
         self.parse_by(&parser.parser, token)
     }
@@ -48,9 +52,13 @@ impl<V: DefaultLocalVersion> Ring<PasetoSymmetricKey<V, Local>> {
         token: &str,
     ) -> Result<(String, Value), KeyRingParserError>
         ensures { let held = parser.now in
-            let assertion = assertion_of (assertion_in V.design.binds_assertion held.implicit_assertion) in
-            IsParsingAnswer (keys_of self.now) (λ key footer. opening V.design (record { key = key; footer = read_under held.footer footer; assertion = assertion }))
-            (verdicts_of (λ b. verdict b) (times_at held.moment held.leeway) held.checks) token.now result }
+            let assertion = assertion_of (assertion_in V.design.binds_assertion
+            held.implicit_assertion) in
+            IsParsingAnswer (keys_of self.now)
+            (λ key footer. opening V.design
+            (record { key = key; footer = read_under held.footer footer; assertion = assertion }))
+            (verdicts_of (λ b. verdict b) (times_at held.moment held.leeway) held.checks) token.now
+            result }
     {
         let assertion = V::bound_assertion(parser.expected_assertion());
         let opened = self.open_bound(token, parser.expected_footer(), assertion);
@@ -67,7 +75,13 @@ impl<V: DefaultLocalVersion> Ring<PasetoSymmetricKey<V, Local>> {
     ) -> Result<(String, String), KeyRingError>
         requires { V.design.binds_assertion ≡ false → implicit_assertion ≡ None }
         ensures { let assertion = assertion_of implicit_assertion.entry in
-            IsRingAnswer (keys_of self.now) (λ key footer. opening V.design (record { key = key; footer = read_under expected.entry footer; assertion = assertion })) token.now result }
+            IsRingAnswer (keys_of self.now)
+            (λ key footer. opening V.design
+            (record {
+              key = key;
+              footer = read_under expected.entry footer;
+              assertion = assertion;
+            })) token.now result }
     {
         let Found { footer, id, key } = self.find(token)?;
         let bound = expected.unwrap_or(Footer::from(footer.as_str()));
@@ -84,7 +98,9 @@ impl Ring<PasetoSymmetricKey<V1, Local>> {
     /// `NotAnObject`; `NoKeyId`; `UnknownKey` with the id; `Token` with the fault of `try_decrypt` under that key
     /// and that footer. `Memory` may come in place of any answer but the first.
     pub fn open(&self, token: &str) -> Result<(String, String), KeyRingError>
-        ensures { IsRingAnswer (keys_of self.now) (λ key footer. opening v1 (record { key = key; footer = footer; assertion = [] })) token.now result }
+        ensures { IsRingAnswer (keys_of self.now)
+            (λ key footer. opening v1 (record { key = key; footer = footer; assertion = [] }))
+            token.now result }
     {
         self.open_bound(token, None, None)
     }
@@ -100,7 +116,9 @@ impl<V: DefaultAssertionVersion> Ring<PasetoSymmetricKey<V, Local>> {
         implicit_assertion: Option<ImplicitAssertion<'_>>,
     ) -> Result<(String, String), KeyRingError>
         ensures { let assertion = assertion_of implicit_assertion.entry in
-            IsRingAnswer (keys_of self.now) (λ key footer. opening V.design (record { key = key; footer = footer; assertion = assertion })) token.now result }
+            IsRingAnswer (keys_of self.now)
+            (λ key footer. opening V.design
+            (record { key = key; footer = footer; assertion = assertion })) token.now result }
     {
         self.open_bound(token, None, implicit_assertion)
     }

@@ -16,7 +16,8 @@ use std::alloc::{AllocError, Global};
 pub(super) fn footer_of(alloc: Global, token: &str) -> Result<String, KeyRingError>
     ensures ok { IfOk result (λ footer. HasFooter token.now (Some (string_bytes footer))) }
     ensures count { ¬ HasCount (sections token.now) → result ≡ Err (Untrusted IncorrectSize) }
-    ensures read { (footer : List ℕ) → HasFooter token.now (Some footer) → MatchResult result (λ found. string_bytes found ≡ footer) IsMemory }
+    ensures read { (footer : List ℕ) → HasFooter token.now (Some footer) → MatchResult result
+        (λ found. string_bytes found ≡ footer) IsMemory }
     ensures err { IfErr result (λ error. IsMemory error ⊎ IsUntrustedFault token.now error) }
 {
     match Footer::try_from_token(alloc, token) {
@@ -29,7 +30,8 @@ pub(super) fn footer_of(alloc: Global, token: &str) -> Result<String, KeyRingErr
 /// The id that a footer names as its key's.
 pub(super) fn key_id(alloc: Global, footer: &str) -> Result<String, KeyRingError>
     ensures ok { IfOk result (λ id. Names footer.now (string_bytes id)) }
-    ensures read { (id : List ℕ) → Names footer.now id → MatchResult result (λ found. string_bytes found ≡ id) IsMemory }
+    ensures read { (id : List ℕ) → Names footer.now id → MatchResult result
+        (λ found. string_bytes found ≡ id) IsMemory }
     ensures err { IfErr result (λ error. IsMemory error ⊎ IsNamingFault footer.now error) }
 {
     let value = read_object(alloc, footer)?;
@@ -42,7 +44,8 @@ pub(super) fn key_id(alloc: Global, footer: &str) -> Result<String, KeyRingError
 // The object that a footer is as JSON.
 fn read_object(alloc: Global, footer: &str) -> Result<Value, KeyRingError>
     ensures ok { IfOk result (λ value. IsObject footer.now (view value)) }
-    ensures err { IfErr result (λ error. IsMemory error ⊎ ((error ≡ NotAnObject) × IsNamingFault footer.now NotAnObject)) }
+    ensures err { IfErr result (λ error. IsMemory error
+        ⊎ ((error ≡ NotAnObject) × IsNamingFault footer.now NotAnObject)) }
 {
     match Value::from_str(alloc, footer) {
         Ok(value) if value.is_object() => Ok(value),

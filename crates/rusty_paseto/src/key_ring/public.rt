@@ -36,9 +36,13 @@ impl<V: PublicVersion> Ring<PasetoAsymmetricPublicKey<'_, V, Public>> {
     where
         V: Verifies<S>,
         ensures { let held = parser.now.parser in
-            let assertion = assertion_of (assertion_in V.public_design.binds_assertion held.implicit_assertion) in
-            IsParsingAnswer (keys_of self.now) (λ key footer. verification V.valid V.refused V.public_design (record { key = key; footer = read_under held.footer footer; assertion = assertion }))
-            (verdicts_of (λ b. verdict b) (times_at held.moment held.leeway) held.checks) token.now result }
+            let assertion = assertion_of (assertion_in V.public_design.binds_assertion
+            held.implicit_assertion) in
+            IsParsingAnswer (keys_of self.now)
+            (λ key footer. verification V.valid V.refused V.public_design
+            (record { key = key; footer = read_under held.footer footer; assertion = assertion }))
+            (verdicts_of (λ b. verdict b) (times_at held.moment held.leeway) held.checks) token.now
+            result }
     {
         self.parse_by(scheme, &parser.parser, token)
     }
@@ -53,9 +57,13 @@ impl<V: PublicVersion> Ring<PasetoAsymmetricPublicKey<'_, V, Public>> {
     where
         V: Verifies<S>,
         ensures { let held = parser.now in
-            let assertion = assertion_of (assertion_in V.public_design.binds_assertion held.implicit_assertion) in
-            IsParsingAnswer (keys_of self.now) (λ key footer. verification V.valid V.refused V.public_design (record { key = key; footer = read_under held.footer footer; assertion = assertion }))
-            (verdicts_of (λ b. verdict b) (times_at held.moment held.leeway) held.checks) token.now result }
+            let assertion = assertion_of (assertion_in V.public_design.binds_assertion
+            held.implicit_assertion) in
+            IsParsingAnswer (keys_of self.now)
+            (λ key footer. verification V.valid V.refused V.public_design
+            (record { key = key; footer = read_under held.footer footer; assertion = assertion }))
+            (verdicts_of (λ b. verdict b) (times_at held.moment held.leeway) held.checks) token.now
+            result }
     {
         let assertion = V::signed_assertion(parser.expected_assertion());
         let opened = self.verify_bound(scheme, token, parser.expected_footer(), assertion);
@@ -75,7 +83,13 @@ impl<V: PublicVersion> Ring<PasetoAsymmetricPublicKey<'_, V, Public>> {
         V: Verifies<S>,
         requires { V.public_design.binds_assertion ≡ false → implicit_assertion ≡ None }
         ensures { let assertion = assertion_of implicit_assertion.entry in
-            IsRingAnswer (keys_of self.now) (λ key footer. verification V.valid V.refused V.public_design (record { key = key; footer = read_under expected.entry footer; assertion = assertion })) token.now result }
+            IsRingAnswer (keys_of self.now)
+            (λ key footer. verification V.valid V.refused V.public_design
+            (record {
+              key = key;
+              footer = read_under expected.entry footer;
+              assertion = assertion;
+            })) token.now result }
     {
         let Found { footer, id, key } = self.find(token)?;
         let bound = expected.unwrap_or(Footer::from(footer.as_str()));
@@ -104,7 +118,9 @@ impl Ring<PasetoAsymmetricPublicKey<'_, V1, Public>> {
         scheme: &S,
         token: &str,
     ) -> Result<(String, String), KeyRingError>
-        ensures { IsRingAnswer (keys_of self.now) (λ key footer. verification S.valid S.refused v1_public (record { key = key; footer = footer; assertion = [] })) token.now result }
+        ensures { IsRingAnswer (keys_of self.now)
+            (λ key footer. verification S.valid S.refused v1_public
+            (record { key = key; footer = footer; assertion = [] })) token.now result }
     {
         self.verify_bound(scheme, token, None, None)
     }
@@ -118,7 +134,9 @@ impl Ring<PasetoAsymmetricPublicKey<'_, V2, Public>> {
         scheme: &S,
         token: &str,
     ) -> Result<(String, String), KeyRingError>
-        ensures { IsRingAnswer (keys_of self.now) (λ key footer. verification S.valid S.refused v2_public (record { key = key; footer = footer; assertion = [] })) token.now result }
+        ensures { IsRingAnswer (keys_of self.now)
+            (λ key footer. verification S.valid S.refused v2_public
+            (record { key = key; footer = footer; assertion = [] })) token.now result }
     {
         self.verify_bound(scheme, token, None, None)
     }
@@ -137,7 +155,9 @@ impl<V: DefaultAssertionVersion> Ring<PasetoAsymmetricPublicKey<'_, V, Public>> 
     where
         V: Verifies<S>,
         ensures { let assertion = assertion_of implicit_assertion.entry in
-            IsRingAnswer (keys_of self.now) (λ key footer. verification V.valid V.refused V.public_design (record { key = key; footer = footer; assertion = assertion })) token.now result }
+            IsRingAnswer (keys_of self.now)
+            (λ key footer. verification V.valid V.refused V.public_design
+            (record { key = key; footer = footer; assertion = assertion })) token.now result }
     {
         self.verify_bound(scheme, token, None, implicit_assertion)
     }

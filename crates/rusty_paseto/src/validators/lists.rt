@@ -28,7 +28,8 @@ impl Validator for Holding {
 fn items_in<'v>(alloc: Global, key: &str, value: &'v Value) -> Result<&'v [Value], PasetoClaimError>
     ensures ok { IfOk result (λ items. (text : List ℕ) → holding text key.now (view value.now)
         ≡ allowed (list_any (λ item. is_text text (view item)) items.now) key.now) }
-    ensures err { IfErr result (IfFault (λ fault. (text : List ℕ) → holding text key.now (view value.now) ≡ Some fault)) }
+    ensures err { IfErr result (IfFault (λ fault. (text : List ℕ)
+        → holding text key.now (view value.now) ≡ Some fault)) }
 {
     match value.as_array() {
         Some(items) => Ok(items.as_slice()),

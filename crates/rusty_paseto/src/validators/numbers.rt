@@ -58,8 +58,10 @@ impl Validator for Within {
 
 // The whole number that a value is.
 fn number_in(alloc: Global, key: &str, value: &Value) -> Result<i128, PasetoClaimError>
-    ensures ok { IfOk result (λ number. (test : ℤ → Bool) → of_number test key.now (view value.now) ≡ allowed (test number) key.now) }
-    ensures err { IfErr result (IfFault (λ fault. (test : ℤ → Bool) → of_number test key.now (view value.now) ≡ Some fault)) }
+    ensures ok { IfOk result (λ number. (test : ℤ → Bool) → of_number test key.now (view value.now)
+        ≡ allowed (test number) key.now) }
+    ensures err { IfErr result (IfFault (λ fault. (test : ℤ → Bool)
+        → of_number test key.now (view value.now) ≡ Some fault)) }
 {
     if let Some(number) = value.as_i64() {
         return Ok(number as i128);

@@ -21,7 +21,8 @@ pub struct OneOf {
 impl OneOf {
     /// The validator that lets these texts pass, which are copied.
     pub fn new(alloc: Global, texts: &[&str]) -> Result<OneOf, AllocError>
-        ensures { IfOk result (λ made. map string_bytes made.texts.items ≡ map (λ text. text.now) texts.now) }
+        ensures { IfOk result (λ made. map string_bytes made.texts.items
+            ≡ map (λ text. text.now) texts.now) }
     {
         let mut copies = Vec::new(alloc);
         for text in texts {
@@ -68,8 +69,10 @@ impl Validator for BeginsWith {
 
 // The text that a value is.
 fn text_in<'v>(alloc: Global, key: &str, value: &'v Value) -> Result<&'v str, PasetoClaimError>
-    ensures ok { IfOk result (λ text. (test : List ℕ → Bool) → of_text test key.now (view value.now) ≡ allowed (test text.now) key.now) }
-    ensures err { IfErr result (IfFault (λ fault. (test : List ℕ → Bool) → of_text test key.now (view value.now) ≡ Some fault)) }
+    ensures ok { IfOk result (λ text. (test : List ℕ → Bool) → of_text test key.now (view value.now)
+        ≡ allowed (test text.now) key.now) }
+    ensures err { IfErr result (IfFault (λ fault. (test : List ℕ → Bool)
+        → of_text test key.now (view value.now) ≡ Some fault)) }
 {
     match value.as_str() {
         Some(text) => Ok(text),

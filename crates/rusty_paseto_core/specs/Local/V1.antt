@@ -26,7 +26,7 @@ authentication_key key nonce = hkdf (salt nonce) key (codes "paseto-auth-key-for
 abbrev pub token_nonce : List ℕ → List ℕ → List ℕ
 token_nonce seed text = take 32 (hmac seed text)
 
--- the text xored by AES-256 in counter mode, the tag by HMAC-SHA384, and no implicit assertion
+-- the text encrypted by AES-256 in counter mode, the tag by HMAC-SHA384, and no implicit assertion
 unfoldable pub v1 : Design
 v1 = record {
   version = codes "v1";

@@ -1,5 +1,5 @@
 -- What version 1 has of what every local version has.
-use Rattle.std.proofs.Common.{◌≡◌, false, refl, arith, codes}
+use Rattle.std.proofs.Common.{◌≡◌, ◌≤◌, false, refl, lit≤, arith, codes}
 use Rattle.std.proofs.lemmas.List.{length-take-le}
 use Rattle.rusty_paseto_primitives.specs.Hmac.{hmac}
 use Rattle.rusty_paseto_primitives.proofs.AesBlocks.{aes256_ctr_stream-lt}
@@ -15,9 +15,9 @@ pub v1-version : v1.version ≡ codes "v1"
 unfolding v1
 v1-version = refl
 
-pub v1-tag_length : v1.tag_length ≡ 48
+pub v1-short_tag : v1.tag_length ≤ 48
 unfolding v1
-v1-tag_length = refl
+v1-short_tag = lit≤ tt
 
 pub v1-binds_assertion : v1.binds_assertion ≡ false
 unfolding v1

@@ -22,7 +22,7 @@ counter key nonce = drop 32 (split key nonce)
 abbrev pub authentication_key : List ℕ → List ℕ → List ℕ
 authentication_key key nonce = hkdf [] key (codes "paseto-auth-key-for-aead" ++ nonce) 48
 
--- the text xored by AES-256 in counter mode, the tag by HMAC-SHA384, and its seed as it is
+-- the text encrypted by AES-256 in counter mode, the tag by HMAC-SHA384, and the seed itself for a nonce
 unfoldable pub v3 : Design
 v3 = record {
   version = codes "v3";

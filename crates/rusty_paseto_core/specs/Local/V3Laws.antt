@@ -1,5 +1,5 @@
 -- What version 3 has of what every local version has.
-use Rattle.std.proofs.Common.{◌≡◌, true, refl, codes}
+use Rattle.std.proofs.Common.{◌≡◌, ◌≤◌, true, refl, lit≤, codes}
 use Rattle.rusty_paseto_primitives.proofs.AesBlocks.{aes256_ctr_stream-lt}
 use Rattle.rusty_paseto_primitives.proofs.ByteLists.{IsBytes-take}
 use Rattle.rusty_paseto_primitives.proofs.HkdfLengths.{IsBytes-hkdf}
@@ -13,9 +13,9 @@ pub v3-version : v3.version ≡ codes "v3"
 unfolding v3
 v3-version = refl
 
-pub v3-tag_length : v3.tag_length ≡ 48
+pub v3-short_tag : v3.tag_length ≤ 48
 unfolding v3
-v3-tag_length = refl
+v3-short_tag = lit≤ tt
 
 pub v3-binds_assertion : v3.binds_assertion ≡ true
 unfolding v3

@@ -21,7 +21,7 @@ stream_nonce key nonce = drop 32 (split key nonce)
 abbrev pub authentication_key : List ℕ → List ℕ → List ℕ
 authentication_key key nonce = blake2b key 32 (codes "paseto-auth-key-for-aead" ++ nonce)
 
--- the text xored by XChaCha20, the tag by BLAKE2b, and its seed as it is
+-- the text encrypted by XChaCha20, the tag by BLAKE2b, and the seed itself for a nonce
 unfoldable pub v4 : Design
 v4 = record {
   version = codes "v4";

@@ -1,5 +1,5 @@
 -- What version 4 has of what every local version has.
-use Rattle.std.proofs.Common.{◌≡◌, true, refl, lit≤, codes}
+use Rattle.std.proofs.Common.{◌≡◌, ◌≤◌, true, refl, lit≤, codes}
 use Rattle.rusty_paseto_primitives.proofs.Xored.{length-xored, xored-xored, IsBytes-xored}
 use Rattle.rusty_paseto_primitives.proofs.StreamBlocks.{xchacha20_stream-lt}
 use Rattle.rusty_paseto_primitives.proofs.Blake2Lengths.{length-blake2b, IsBytes-blake2b}
@@ -11,9 +11,9 @@ pub v4-version : v4.version ≡ codes "v4"
 unfolding v4
 v4-version = refl
 
-pub v4-tag_length : v4.tag_length ≡ 32
+pub v4-short_tag : v4.tag_length ≤ 48
 unfolding v4
-v4-tag_length = refl
+v4-short_tag = lit≤ tt
 
 pub v4-binds_assertion : v4.binds_assertion ≡ true
 unfolding v4

@@ -56,7 +56,8 @@ fn boxed_payload<B: SealedBox>(
     context: &Context<'_>,
     text: &[u8],
 ) -> Result<Vec<u8>, PasetoError>
-    ensures ok { IfOk result (λ payload. boxed_payload B.sealing (bound key.now context.now) nonce.now text.now
+    ensures ok { IfOk result (λ payload. boxed_payload B.sealing
+        (bound key.now context.now) nonce.now text.now
         ≡ Some payload.items) }
     ensures err { IfErr result (λ error. IsMemory error ⊎ ((error ≡ PasetoError.ChaChaCipherError)
         × (boxed_payload B.sealing (bound key.now context.now) nonce.now text.now ≡ None))) }
@@ -107,7 +108,8 @@ fn open_payload<B: SealedBox>(
     key: &[u8; 32],
     context: &Context<'_>,
 ) -> Result<String, PasetoError>
-    ensures holds { IfOk result (λ text. HoldsBoxed B.sealing (bound key.now context.now) payload.now (string_bytes text)) }
+    ensures holds { IfOk result (λ text. HoldsBoxed B.sealing
+        (bound key.now context.now) payload.now (string_bytes text)) }
     ensures fault { IfErr result (λ error. IsMemory error
         ⊎ IsBoxedFault B.sealing (bound key.now context.now) payload.now error) }
 {

@@ -33,11 +33,13 @@ pub(crate) fn open_payload<V: LocalSuite>(
     key: &[u8; 32],
     context: &Context<'_>,
 ) -> Result<String, PasetoError>
-    ensures holds { IfOk result (λ text. HoldsText V.design (bound key.now context.now) payload.items (string_bytes text)) }
-    ensures fault { IfErr result (IsSealedFault V.design (bound key.now context.now) payload.items) }
+    ensures holds { IfOk result (λ text. HoldsText V.design
+        (bound key.now context.now) payload.items (string_bytes text)) }
+    ensures fault { IfErr result (IsSealedFault V.design
+        (bound key.now context.now) payload.items) }
 {
     let len = payload.len();
-    if len < NONCE_LENGTH + V::TAG_LENGTH {
+    if len < NONCE_LENGTH + V::tag_length() {
         return Err(PasetoError::IncorrectSize);
     }
     let nonce = nonce_of::<NONCE_LENGTH>(&payload);
@@ -45,7 +47,7 @@ pub(crate) fn open_payload<V: LocalSuite>(
     if !has_tag::<V>(&keys, &nonce, context, &payload) {
         return Err(PasetoError::Cryption);
     }
-    keep_ciphertext(&mut payload, len - V::TAG_LENGTH);
+    keep_ciphertext(&mut payload, len - V::tag_length());
     V::apply_keystream(&keys, &mut payload);
     match String::from_utf8(payload) {
         Ok(text) => Ok(text),
@@ -67,9 +69,9 @@ fn has_tag<V: LocalSuite>(
     ensures { (key : List ℕ) → V.IsSplit keys.now key nonce.now
         → (IsTrue result ↔ HasTag V.design (bound key context.now) payload.now) }
 {
-    let end = payload.len() - V::TAG_LENGTH;
+    let end = payload.len() - V::tag_length();
     let mut space = [0u8; LONGEST_TAG];
-    let tag = &mut space[..V::TAG_LENGTH];
+    let tag = &mut space[..V::tag_length()];
     write_tag::<V>(keys, nonce, &payload[NONCE_LENGTH..end], context, tag);
     same_bytes(tag, &payload[end..])
 }

@@ -46,7 +46,8 @@ pub trait SealedBox {
         boxed: &[u8],
     ) -> Result<Option<Vec<u8>>, AllocError>
         ensures { IfOk result (λ found.
-            IsOpening (sealing key.now nonce.now «data».now) boxed.now (option_map (λ bytes. bytes.items) found)) };
+            IsOpening (sealing key.now nonce.now «data».now) boxed.now
+            (option_map (λ bytes. bytes.items) found)) };
 
     // Where it is asked with a key, a nonce and bytes of data, different messages have different
     // sealings, and the sealing of bytes is bytes.

@@ -10,7 +10,7 @@ use crate::context::Context;
 use crate::framing::frame;
 use crate::local::{LocalSuite, NONCE_LENGTH};
 use crate::tag::{LONGEST_TAG, write_tag};
-use rusty_paseto_parts::{Footer, ImplicitAssertion, PasetoError};
+use rusty_paseto_parts::{Footer, Header, ImplicitAssertion, Local, PasetoError};
 use std::alloc::Global;
 
 /// The token of a text, with the footer's section where a footer is given.
@@ -25,13 +25,19 @@ pub(crate) fn seal<V: LocalSuite>(
     requires { length seed.now ≡ 32 }
     ensures ok { let binding = binding_of key.now footer.entry assertion.entry in
         let nonce = V.design.token_nonce seed.now text.now in
-        IfOk result (λ token. string_bytes token ≡ sealing V.design binding nonce (is_some footer.entry) text.now) }
+        IfOk result (λ token. string_bytes token ≡ sealing V.design binding nonce
+        (is_some footer.entry) text.now) }
     ensures err { IfErr result IsMemory }
 {
     let nonce = V::token_nonce(seed, text.as_bytes());
     let context = Context::new(footer, assertion);
     let payload = sealed_payload::<V>(alloc, key, &nonce, &context, text.as_bytes())?;
-    frame(alloc, V::header(), &payload, footer)
+    frame(
+        alloc,
+        Header::<V, Local>::default().as_str(),
+        &payload,
+        footer,
+    )
 }
 
 // The payload of a sealed token: the nonce, the ciphertext and the tag.
@@ -47,7 +53,7 @@ fn sealed_payload<V: LocalSuite>(
     ensures err { IfErr result IsMemory }
 {
     let keys = V::split(key, nonce);
-    let len = NONCE_LENGTH + V::TAG_LENGTH + text.len();
+    let len = NONCE_LENGTH + V::tag_length() + text.len();
     let mut payload = Vec::with_capacity(alloc, len)?;
     payload.extend_from_slice(nonce)?;
     payload.extend_from_slice(text)?;
@@ -60,7 +66,8 @@ fn sealed_payload<V: LocalSuite>(
 fn encrypt_text<V: LocalSuite>(keys: &V::Keys, payload: &mut [u8])
     requires { 32 ≤ length payload.old }
     ensures { (key nonce : List ℕ) → V.IsSplit keys.now key nonce
-        → payload.new ≡ take 32 payload.old ++ V.design.apply_keystream key nonce (drop 32 payload.old) }
+        → payload.new ≡ take 32 payload.old ++ V.design.apply_keystream key nonce
+        (drop 32 payload.old) }
 {
     V::apply_keystream(keys, &mut payload[NONCE_LENGTH..]);
 }
@@ -74,11 +81,12 @@ fn push_tag<V: LocalSuite>(
 ) -> Result<(), PasetoError>
     requires { 32 ≤ vec_len payload.old }
     ensures ok { OnOk result ((key : List ℕ) → V.IsSplit keys.now key nonce.now → payload.new.items
-        ≡ payload.old.items ++ tag_of V.design (bound key context.now) nonce.now (drop 32 payload.old.items)) }
+        ≡ payload.old.items ++ tag_of V.design (bound key context.now) nonce.now
+        (drop 32 payload.old.items)) }
     ensures err { IfErr result IsMemory }
 {
     let mut space = [0u8; LONGEST_TAG];
-    let tag = &mut space[..V::TAG_LENGTH];
+    let tag = &mut space[..V::tag_length()];
     write_tag::<V>(keys, nonce, &payload[NONCE_LENGTH..], context, tag);
     payload.extend_from_slice(tag)?;
     Ok(())

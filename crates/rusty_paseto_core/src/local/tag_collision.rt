@@ -13,7 +13,8 @@ use crate::local::{LocalSuite, LocalVersion, NONCE_LENGTH};
 use crate::paseto::Paseto;
 use crate::reading::{nonce_of, unframe};
 use rusty_paseto_parts::{
-    Footer, ImplicitAssertion, Local, PasetoError, PasetoSymmetricKey, PreAuthenticationEncoding,
+    Footer, Header, ImplicitAssertion, Local, PasetoError, PasetoSymmetricKey,
+    PreAuthenticationEncoding,
 };
 use std::alloc::{AllocError, Global};
 use std::collections::BTreeMap;
@@ -111,7 +112,8 @@ fn open_all<'a, V: LocalSuite>(
     openings: &[Opening<'a, V>],
 ) -> Result<Vec<Opened<'a, V>>, PasetoError>
     ensures ok { IfOk result (λ opened. AreOpened V.design (cases openings.now) opened.items) }
-    ensures err { IfErr result (λ error. IsMemory error ⊎ IsFirstFault V.design (cases openings.now) error) }
+    ensures err { IfErr result (λ error. IsMemory error
+        ⊎ IsFirstFault V.design (cases openings.now) error) }
 {
     let mut opened = Vec::with_capacity(alloc, openings.len())?;
     'openings: for opening in openings {
@@ -129,7 +131,8 @@ fn open_one<'a, V: LocalSuite>(
     alloc: Global,
     opening: Opening<'a, V>,
 ) -> Result<Opened<'a, V>, PasetoError>
-    ensures ok { IfOk result (λ opened. (case_in opened ≡ case_of opening.entry) × IsOpened V.design opened) }
+    ensures ok { IfOk result (λ opened. (case_in opened ≡ case_of opening.entry)
+        × IsOpened V.design opened) }
     ensures err { IfErr result (IsUnopened V.design (case_of opening.entry)) }
 {
     let context = Context::new(opening.footer, opening.assertion);
@@ -145,14 +148,16 @@ fn open_one<'a, V: LocalSuite>(
 
 // The nonce of a payload, and its tag behind it.
 fn seal_of<V: LocalSuite>(alloc: Global, payload: &[u8]) -> Result<Vec<u8>, PasetoError>
-    ensures ok { IfOk result (λ nonce_and_tag. nonce_and_tag.items ≡ nonce_in payload.now ++ tag_in V.design payload.now) }
-    ensures err { IfErr result (λ error. IsMemory error ⊎ ((error ≡ PasetoError.IncorrectSize) × (¬ HasRoom V.design payload.now))) }
+    ensures ok { IfOk result (λ nonce_and_tag. nonce_and_tag.items ≡ nonce_in payload.now
+        ++ tag_in V.design payload.now) }
+    ensures err { IfErr result (λ error. IsMemory error
+        ⊎ ((error ≡ PasetoError.IncorrectSize) × (¬ HasRoom V.design payload.now))) }
 {
-    if payload.len() < NONCE_LENGTH + V::TAG_LENGTH {
+    if payload.len() < NONCE_LENGTH + V::tag_length() {
         return Err(PasetoError::IncorrectSize);
     }
-    let end = payload.len() - V::TAG_LENGTH;
-    let mut nonce_and_tag = Vec::with_capacity(alloc, NONCE_LENGTH + V::TAG_LENGTH)?;
+    let end = payload.len() - V::tag_length();
+    let mut nonce_and_tag = Vec::with_capacity(alloc, NONCE_LENGTH + V::tag_length())?;
     nonce_and_tag.extend_from_slice(&nonce_of::<NONCE_LENGTH>(payload))?;
     nonce_and_tag.extend_from_slice(&payload[end..])?;
     Ok(nonce_and_tag)
@@ -190,10 +195,10 @@ fn cover_the_same<V: LocalSuite>(first: &Opened<'_, V>, second: &Opened<'_, V>) 
     first.opening.key.as_bytes() == second.opening.key.as_bytes()
         && first.text == second.text
         && one.footer() == other.footer()
-        && (!V::BINDS_ASSERTION || one.assertion() == other.assertion())
+        && (!V::binds_assertion() || one.assertion() == other.assertion())
 }
 
-// What is shown of the two tokens that a nonce_and_tag does not tell apart.
+// What shows the collision: the places of two tokens with one nonce and tag, and what that tag was made of.
 fn collision_of<V: LocalSuite>(
     alloc: Global,
     opened: &[Opened<'_, V>],
@@ -223,7 +228,8 @@ fn encoding_of<V: LocalSuite>(
     opened: &Opened<'_, V>,
 ) -> Result<PreAuthenticationEncoding, PasetoError>
     requires { 32 ≤ length opened.now.nonce_and_tag.items }
-    ensures ok { IfOk result (λ made. made ≡ encoding V.design (case_in opened.now) (content_in opened.now)) }
+    ensures ok { IfOk result (λ made. made ≡ encoding V.design (case_in opened.now)
+        (content_in opened.now)) }
     ensures fits { IfOk result (λ made. length made < 2 ^ 64) }
     ensures err { IfErr result IsMemory }
 {
@@ -233,13 +239,14 @@ fn encoding_of<V: LocalSuite>(
     ciphertext.extend_from_slice(opened.text.as_bytes())?;
     V::apply_keystream(&keys, &mut ciphertext);
     let context = Context::new(opened.opening.footer, opened.opening.assertion);
+    let header = Header::<V, Local>::default();
     let pieces = five_pieces(
-        V::header().as_bytes(),
+        header.as_bytes(),
         &nonce,
         &ciphertext,
         context.footer(),
         context.assertion(),
     );
-    let count = if V::BINDS_ASSERTION { 5 } else { 4 };
+    let count = if V::binds_assertion() { 5 } else { 4 };
     PreAuthenticationEncoding::parse(alloc, &pieces[..count])
 }

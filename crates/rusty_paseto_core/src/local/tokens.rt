@@ -33,7 +33,7 @@ pub trait LocalVersion: LocalSuite {
         ensures bound { Self.design.binds_assertion ≡ true → result ≡ implicit_assertion.entry }
         ensures none { Self.design.binds_assertion ≡ false → result ≡ None }
     {
-        if Self::BINDS_ASSERTION {
+        if Self::binds_assertion() {
             implicit_assertion
         } else {
             None
@@ -54,7 +54,8 @@ pub trait LocalVersion: LocalSuite {
         ensures ok { let binding = binding_of key.now footer.entry implicit_assertion.entry in
             let text = payload_text payload.entry in
             IfOk result (λ token. string_bytes token
-            ≡ sealing Self.design binding (Self.design.token_nonce nonce.now text) (is_some footer.entry) text) }
+            ≡ sealing Self.design binding (Self.design.token_nonce nonce.now text)
+            (is_some footer.entry) text) }
         ensures err { IfErr result IsMemory }
     {
         let (key, nonce, text) = (key.as_bytes(), nonce.as_bytes(), payload.as_str());
@@ -100,7 +101,8 @@ impl<V: LocalVersion> Paseto<'_, V, Local> {
         ensures ok { let binding = binding_of key.now self.now.footer self.now.implicit_assertion in
             let text = payload_text self.now.payload in
             IfOk result (λ token. string_bytes token
-            ≡ sealing V.design binding (V.design.token_nonce nonce.now text) (is_some self.now.footer) text) }
+            ≡ sealing V.design binding (V.design.token_nonce nonce.now text)
+            (is_some self.now.footer) text) }
         ensures err { IfErr result IsMemory }
     {
         let (key, nonce) = (key.as_bytes(), nonce.as_bytes());

@@ -3,12 +3,11 @@
 
 ghost use Rattle.std.specs.Prelude.{◌≡◌, ◌≤◌, false, take, drop};
 ghost use Rattle.rusty_paseto_core.specs.Local.V1.{v1, authentication_key, counter, encryption_key, salt};
-ghost use Rattle.rusty_paseto_core.specs.Local.V1Laws.{v1-IsLawful, v1-binds_assertion, v1-tag_length, v1-version};
+ghost use Rattle.rusty_paseto_core.specs.Local.V1Laws.{v1-IsLawful, v1-short_tag, v1-version};
 ghost use Rattle.std.proofs.Common.{rules};
 
-use crate::local::nist::{NistKeys, expand, front};
+use crate::local::nist::{NistKeys, expand, front, write_hmac};
 use crate::local::{AUTHENTICATION, ENCRYPTION, LocalSuite};
-use crate::tag::write_hmac;
 use rusty_paseto_parts::V1;
 use rusty_paseto_primitives::{aes256_ctr_apply, hkdf_sha384_extract, hmac_sha384};
 
@@ -19,18 +18,15 @@ impl LocalSuite for V1 {
     ghost design = { v1 };
 
     ghost IsSplit = { λ keys key nonce. (keys.encryption_key ≡ encryption_key key nonce)
-        × (keys.counter ≡ counter nonce) × (keys.authentication_key ≡ authentication_key key nonce) };
+        × (keys.counter ≡ counter nonce)
+        × (keys.authentication_key ≡ authentication_key key nonce) };
 
-    ghost TAG_LENGTH = { 48 };
+    fn tag_length() -> usize {
+        48
+    }
 
-    const TAG_LENGTH: usize = 48;
-
-    ghost BINDS_ASSERTION = { false };
-
-    const BINDS_ASSERTION: bool = false;
-
-    fn header() -> &'static str {
-        "v1.local."
+    fn binds_assertion() -> bool {
+        false
     }
 
     // The nonce depends on the text too, so that a seed that comes twice does no harm to two
@@ -60,11 +56,7 @@ impl LocalSuite for V1 {
 
     ghost has_version = { v1-version };
 
-    ghost has_tag_length = { v1-tag_length };
-
-    ghost short_tag = { Prim.search rules };
-
-    ghost has_assertion = { v1-binds_assertion };
+    ghost short_tag = { v1-short_tag };
 
     ghost has_nonces_of_32_alone = { Prim.search rules };
 }

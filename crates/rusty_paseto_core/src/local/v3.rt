@@ -3,12 +3,11 @@
 
 ghost use Rattle.std.specs.Prelude.{◌≡◌, ◌≤◌, true, drop};
 ghost use Rattle.rusty_paseto_core.specs.Local.V3.{v3, authentication_key, counter, encryption_key};
-ghost use Rattle.rusty_paseto_core.specs.Local.V3Laws.{v3-IsLawful, v3-binds_assertion, v3-tag_length, v3-version};
+ghost use Rattle.rusty_paseto_core.specs.Local.V3Laws.{v3-IsLawful, v3-short_tag, v3-version};
 ghost use Rattle.std.proofs.Common.{rules};
 
-use crate::local::nist::{NistKeys, expand, front};
+use crate::local::nist::{NistKeys, expand, front, write_hmac};
 use crate::local::{AUTHENTICATION, ENCRYPTION, LocalSuite, info};
-use crate::tag::write_hmac;
 use rusty_paseto_parts::V3;
 use rusty_paseto_primitives::{aes256_ctr_apply, hkdf_sha384_extract};
 
@@ -19,18 +18,15 @@ impl LocalSuite for V3 {
     ghost design = { v3 };
 
     ghost IsSplit = { λ keys key nonce. (keys.encryption_key ≡ encryption_key key nonce)
-        × (keys.counter ≡ counter key nonce) × (keys.authentication_key ≡ authentication_key key nonce) };
+        × (keys.counter ≡ counter key nonce)
+        × (keys.authentication_key ≡ authentication_key key nonce) };
 
-    ghost TAG_LENGTH = { 48 };
+    fn tag_length() -> usize {
+        48
+    }
 
-    const TAG_LENGTH: usize = 48;
-
-    ghost BINDS_ASSERTION = { true };
-
-    const BINDS_ASSERTION: bool = true;
-
-    fn header() -> &'static str {
-        "v3.local."
+    fn binds_assertion() -> bool {
+        true
     }
 
     fn token_nonce(seed: &[u8], _text: &[u8]) -> [u8; 32] {
@@ -63,11 +59,7 @@ impl LocalSuite for V3 {
 
     ghost has_version = { v3-version };
 
-    ghost has_tag_length = { v3-tag_length };
-
-    ghost short_tag = { Prim.search rules };
-
-    ghost has_assertion = { v3-binds_assertion };
+    ghost short_tag = { v3-short_tag };
 
     ghost has_nonces_of_32_alone = { Prim.search rules };
 }

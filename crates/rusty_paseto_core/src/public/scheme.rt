@@ -60,7 +60,8 @@ pub trait SignatureScheme<const SIG: usize> {
         signature: &[u8; SIG],
     ) -> Result<(), PasetoError>
         ensures ok { OnOk result (valid public.now message.now signature.now) }
-        ensures err { IfErr result (λ error. IsMemory error ⊎ ((¬ valid public.now message.now signature.now)
+        ensures err { IfErr result (λ error. IsMemory error
+            ⊎ ((¬ valid public.now message.now signature.now)
             × refused public.now message.now signature.now error)) };
 }
 

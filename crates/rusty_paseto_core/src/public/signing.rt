@@ -10,7 +10,7 @@ use crate::context::Context;
 use crate::framing::frame;
 use crate::public::scheme::SignatureScheme;
 use crate::public::{PublicSuite, message};
-use rusty_paseto_parts::{Footer, ImplicitAssertion, PasetoError};
+use rusty_paseto_parts::{Footer, Header, ImplicitAssertion, PasetoError, Public};
 use std::alloc::Global;
 
 /// The token of a text and its signature, with the footer's section where a footer is given. `public` is
@@ -27,7 +27,8 @@ pub(crate) fn sign<V: PublicSuite, S: SignatureScheme<SIG>, const SIG: usize>(
 ) -> Result<String, PasetoError>
     requires size { SIG ≡ V.public_design.signature_length }
     requires partner { V.public_design.binds_key ≡ true → public.now ≡ S.partner private.now }
-    ensures answer { IsSignAnswer S.valid (S.declined private.now) V.public_design private.now (S.partner private.now)
+    ensures answer { IsSignAnswer S.valid (S.declined private.now) V.public_design private.now
+        (S.partner private.now)
         footer.entry assertion.entry text.now result }
     ensures asked { ¬ HasPrivateLength V.public_design private.now → scheme.new ≡ scheme.old }
 {
@@ -38,7 +39,12 @@ pub(crate) fn sign<V: PublicSuite, S: SignatureScheme<SIG>, const SIG: usize>(
     let context = Context::new(footer, assertion);
     let message = message::<V>(alloc, public, &context, text)?;
     let payload = signed_payload(alloc, scheme, private, message.as_bytes(), text)?;
-    frame(alloc, V::header(), &payload, footer)
+    frame(
+        alloc,
+        Header::<V, Public>::default().as_str(),
+        &payload,
+        footer,
+    )
 }
 
 // The payload of a signed token: the text and the signature of its message.
@@ -50,8 +56,10 @@ fn signed_payload<S: SignatureScheme<SIG>, const SIG: usize>(
     text: &[u8],
 ) -> Result<Vec<u8>, PasetoError>
     requires { SIG ≤ 256 }
-    ensures ok { IfOk result (λ payload. (signature : List ℕ) × (length signature ≡ SIG) × IsBytes signature
-        × S.valid (S.partner private.now) message.now signature × (payload.items ≡ text.now ++ signature)) }
+    ensures ok { IfOk result (λ payload. (signature : List ℕ) × (length signature ≡ SIG)
+        × IsBytes signature
+        × S.valid (S.partner private.now) message.now signature
+        × (payload.items ≡ text.now ++ signature)) }
     ensures err { IfErr result (λ error. IsMemory error ⊎ S.declined private.now error) }
 {
     let signature = scheme.sign(alloc, private, message)?;

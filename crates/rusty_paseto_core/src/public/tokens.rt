@@ -48,7 +48,8 @@ pub trait Signs<S>: PublicVersion {
         implicit_assertion: Option<ImplicitAssertion<'_>>,
     ) -> Result<String, PasetoError>
         requires { Self.public_design.binds_assertion ≡ false → implicit_assertion ≡ None }
-        ensures answer { IsSignAnswer valid (declined key.now) Self.public_design key.now (partner key.now)
+        ensures answer { IsSignAnswer valid (declined key.now) Self.public_design key.now
+            (partner key.now)
             footer.entry implicit_assertion.entry (payload_text payload.entry) result }
         ensures asked { ¬ HasPrivateLength Self.public_design key.now → scheme.new ≡ scheme.old };
 }
@@ -251,7 +252,8 @@ impl<V: PublicVersion> Paseto<'_, V, Public> {
     ) -> Result<String, PasetoError>
     where
         V: Signs<S>,
-        ensures answer { IsSignAnswer V.valid (V.declined key.now) V.public_design key.now (V.partner key.now)
+        ensures answer { IsSignAnswer V.valid (V.declined key.now) V.public_design key.now
+            (V.partner key.now)
             self.now.footer self.now.implicit_assertion (payload_text self.now.payload) result }
         ensures asked { ¬ HasPrivateLength V.public_design key.now → scheme.new ≡ scheme.old }
     {

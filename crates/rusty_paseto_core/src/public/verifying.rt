@@ -23,7 +23,8 @@ pub(crate) fn verify<V: PublicSuite, S: SignatureScheme<SIG>, const SIG: usize>(
     context: &Context<'_>,
 ) -> Result<String, PasetoError>
     requires { SIG ≡ V.public_design.signature_length }
-    ensures { IsAnswer (verification S.valid S.refused V.public_design (bound public.now context.now)) token.now result }
+    ensures { IsAnswer (verification S.valid S.refused V.public_design
+        (bound public.now context.now)) token.now result }
 {
     let payload = unframe::<V, Public>(alloc, token, context.footer())?;
     verify_payload::<V, S, SIG>(alloc, scheme, payload, public, context)
@@ -38,9 +39,11 @@ fn verify_payload<V: PublicSuite, S: SignatureScheme<SIG>, const SIG: usize>(
     context: &Context<'_>,
 ) -> Result<String, PasetoError>
     requires { SIG ≡ V.public_design.signature_length }
-    ensures holds { IfOk result (λ text. HoldsSigned S.valid V.public_design (bound public.now context.now) payload.items (string_bytes text)) }
+    ensures holds { IfOk result (λ text. HoldsSigned S.valid V.public_design
+        (bound public.now context.now) payload.items (string_bytes text)) }
     ensures fault { IfErr result (λ error. IsMemory error
-        ⊎ IsSignedFault S.valid S.refused V.public_design (bound public.now context.now) payload.items error) }
+        ⊎ IsSignedFault S.valid S.refused V.public_design (bound public.now context.now)
+        payload.items error) }
 {
     check_signature::<V, S, SIG>(alloc, scheme, &payload, public, context)?;
     payload.truncate(payload.len() - SIG);
@@ -63,7 +66,8 @@ fn check_signature<V: PublicSuite, S: SignatureScheme<SIG>, const SIG: usize>(
     ensures ok { OnOk result (HasRoom V.public_design payload.now
         × HasSignature S.valid V.public_design (bound public.now context.now) payload.now) }
     ensures fault { IfErr result (λ error. IsMemory error
-        ⊎ IsSignedFault S.valid S.refused V.public_design (bound public.now context.now) payload.now error) }
+        ⊎ IsSignedFault S.valid S.refused V.public_design (bound public.now context.now) payload.now
+        error) }
 {
     let Some((text, signature)) = payload.split_last_chunk::<SIG>() else {
         return Err(PasetoError::IncorrectSize);

@@ -15,10 +15,6 @@ const PRIVATE_KEY_LENGTH: usize = 64;
 impl PublicSuite for V1 {
     ghost public_design = { v1_public };
 
-    fn header() -> &'static str {
-        "v1.public."
-    }
-
     fn signs_key() -> bool {
         false
     }
@@ -31,17 +27,14 @@ impl PublicSuite for V1 {
         true
     }
 
-    ghost public_lawful = { lawful v1_public (IsHeader-known (codes "v1") public refl refl) (lit≤ tt) };
+    ghost public_lawful = { lawful v1_public (IsHeader-known (codes "v1") public refl refl)
+        (lit≤ tt) };
 }
 
 #[tactic(auto, unfolding(rusty_paseto_parts::specs::Header::header_text))]
 impl PublicSuite for V2 {
     ghost public_design = { v2_public };
 
-    fn header() -> &'static str {
-        "v2.public."
-    }
-
     fn signs_key() -> bool {
         false
     }
@@ -54,16 +47,13 @@ impl PublicSuite for V2 {
         private.len() == PRIVATE_KEY_LENGTH
     }
 
-    ghost public_lawful = { lawful v2_public (IsHeader-known (codes "v2") public refl refl) (lit≤ tt) };
+    ghost public_lawful = { lawful v2_public (IsHeader-known (codes "v2") public refl refl)
+        (lit≤ tt) };
 }
 
 #[tactic(auto, unfolding(rusty_paseto_parts::specs::Header::header_text))]
 impl PublicSuite for V3 {
     ghost public_design = { v3_public };
-
-    fn header() -> &'static str {
-        "v3.public."
-    }
 
     fn signs_key() -> bool {
         true
@@ -77,16 +67,13 @@ impl PublicSuite for V3 {
         true
     }
 
-    ghost public_lawful = { lawful v3_public (IsHeader-known (codes "v3") public refl refl) (lit≤ tt) };
+    ghost public_lawful = { lawful v3_public (IsHeader-known (codes "v3") public refl refl)
+        (lit≤ tt) };
 }
 
 #[tactic(auto, unfolding(rusty_paseto_parts::specs::Header::header_text))]
 impl PublicSuite for V4 {
     ghost public_design = { v4_public };
-
-    fn header() -> &'static str {
-        "v4.public."
-    }
 
     fn signs_key() -> bool {
         false
@@ -100,5 +87,6 @@ impl PublicSuite for V4 {
         private.len() == PRIVATE_KEY_LENGTH
     }
 
-    ghost public_lawful = { lawful v4_public (IsHeader-known (codes "v4") public refl refl) (lit≤ tt) };
+    ghost public_lawful = { lawful v4_public (IsHeader-known (codes "v4") public refl refl)
+        (lit≤ tt) };
 }

@@ -1,24 +1,42 @@
 -- What a parser answers for a token.
-use Rattle.std.specs.Prelude.{◌≡◌, ◌⊎◌, ℕ, Bool, List, if◌then◌else◌, Option, None, Result, Err, IfOk, IfErr, MatchResult, String, string_bytes}
+use Rattle.std.specs.Prelude.{◌≡◌, ◌⊎◌, true, ℕ, Bool, List, if◌then◌else◌, Option, Some, None, Result, Err, IfOk, IfErr, MatchResult, String, string_bytes}
 use Rattle.std.specs.Global.{Global}
 use Rattle.serde_json.specs.Data.{Data}
+use Rattle.serde_json.specs.Read.{read}
 use Rattle.serde_json.specs.View.{view}
 use Rattle.serde_json.specs.declared.value.Value.{Value}
-use Rattle.rusty_paseto_claims.specs.Error.{Fault, IsFault as IsClaimFault}
+use Rattle.rusty_paseto_claims.specs.Error.{Fault, unexpected, IsFault as IsClaimFault}
+use Rattle.rusty_paseto_claims.specs.Whole.{IsOdd, is_whole}
 use Rattle.rusty_paseto_core.specs.Reading.{IsFault, IsRead, Reading}
 use Rattle.rusty_paseto_core.specs.Section.{HasCount, sections}
 use Rattle.rusty_paseto_core.specs.declared.ImplicitAssertion.{ImplicitAssertion}
 use Rattle.rusty_paseto_core.specs.declared.PasetoError.{PasetoError}
 use Rattle.rusty_paseto_core.specs.declared.PasetoError.TheVariants.{IncorrectSize}
 use Rattle.rusty_paseto_generic.specs.Error.Parser.{IsMemory, of_cipher}
-use Rattle.rusty_paseto_generic.specs.Parsers.Reading.{IsReadAs, IsReadingFault}
 use Rattle.rusty_paseto_generic.specs.Parsers.Rules.{Rules}
 use Rattle.rusty_paseto_generic.specs.Parsers.Verdicts.{IsFirstFailing, PassesAll}
 use Rattle.rusty_paseto_generic.specs.Validator.{Verdict}
 use Rattle.rusty_paseto_generic.specs.declared.error.GenericParserError.{GenericParserError}
-use Rattle.rusty_paseto_generic.specs.declared.error.GenericParserError.TheVariants.{ClaimError, CipherError}
+use Rattle.rusty_paseto_generic.specs.declared.error.GenericParserError.TheVariants.{ClaimError, CipherError, PayloadJsonError}
 
 -- ---- of a text that a token holds
+
+-- the text is JSON of the value, nested at most 127 deep, and every number in it is a whole number of 64 bits
+pub record IsReadAs (text : List ℕ) (value : Data) : Type 0 where
+  pub is_json : read text ≡ Some value
+  pub whole : is_whole value ≡ true
+
+-- the value holds another number, and this is the first key under which it does
+pub record IsOddUnder (text key : List ℕ) : Type 0 where
+  pub value : Data
+  pub is_json : read text ≡ Some value
+  pub odd : IsOdd (Some key) value
+
+-- the error is the first fault of reading the text: it is no such JSON, or it holds another number
+abbrev pub IsReadingFault : List ℕ → GenericParserError → Type 0
+IsReadingFault text (PayloadJsonError _) = read text ≡ None
+IsReadingFault text (ClaimError source) = (key : List ℕ) × IsOddUnder text key × IsClaimFault (unexpected key) source
+IsReadingFault text _ = ⊥
 
 -- the text is read as the value, which passes what is checked under every key
 pub record IsValueOf (rules : Rules Verdict) (text : List ℕ) (value : Data) : Type 0 where

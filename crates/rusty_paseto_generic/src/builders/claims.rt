@@ -53,9 +53,11 @@ impl Claims {
     /// `ClaimError` comes for a value that holds another number than a whole one of 64 bits, `Unexpected`
     /// with the key, and for a fault of the claim. The claims are then unchanged.
     pub(crate) fn set<C: PasetoClaim>(&mut self, claim: &C) -> Result<(), GenericBuilderError>
-        ensures ok { OnOk result (claim_set (C.key claim.now) (C.json claim.now) (held self.old) ≡ becomes (held self.new)) }
+        ensures ok { OnOk result (claim_set (C.key claim.now) (C.json claim.now) (held self.old)
+            ≡ becomes (held self.new)) }
         ensures err { OnErr result (held self.new ≡ held self.old) }
-        ensures fault { IfErr result (IsRefusal (claim_set (C.key claim.now) (C.json claim.now) (held self.old))) }
+        ensures fault { IfErr result (IsRefusal (claim_set (C.key claim.now) (C.json claim.now)
+            (held self.old))) }
         ensures empty { C.key claim.now ≡ [] → IsOk result }
     {
         let key = claim.get_key();
@@ -68,7 +70,8 @@ impl Claims {
 
     // Stores a value under a key, as it is.
     fn store(&mut self, key: &str, value: Value) -> Result<(), GenericBuilderError>
-        ensures ok { OnOk result (stored key.now (view value) (held self.old) ≡ becomes (held self.new)) }
+        ensures ok { OnOk result (stored key.now (view value) (held self.old)
+            ≡ becomes (held self.new)) }
         ensures err { OnErr result (held self.new ≡ held self.old) }
         ensures fault { IfErr result (IsRefusal (stored key.now (view value) (held self.old))) }
     {
@@ -87,9 +90,11 @@ impl Claims {
     /// `ClaimError` of `Unexpected` with the key comes for the first key in byte order whose value holds
     /// another number than a whole one of 64 bits. The claims are then unchanged.
     pub(crate) fn extend(&mut self, more: Map<String, Value>) -> Result<(), GenericBuilderError>
-        ensures ok { OnOk result (extended (members_view more.entries) (held self.old) ≡ becomes (held self.new)) }
+        ensures ok { OnOk result (extended (members_view more.entries) (held self.old)
+            ≡ becomes (held self.new)) }
         ensures err { OnErr result (held self.new ≡ held self.old) }
-        ensures fault { IfErr result (IsRefusal (extended (members_view more.entries) (held self.old))) }
+        ensures fault { IfErr result (IsRefusal (extended (members_view more.entries)
+            (held self.old))) }
     {
         check_whole(&more)?;
         let Some(members) = self.object.as_object() else {

@@ -93,7 +93,8 @@ impl<'a, V: VersionTrait, P: PurposeTrait> GenericBuilder<'a, V, P> {
     /// Sets the footer, the empty one too, and keeps the rest. No memory is taken.
     pub fn set_footer(&mut self, footer: Footer<'a>) -> &mut Self
         ensures lent { result.ghost_name ≡ self.entry.ghost_name }
-        ensures change { result.now.paseto ≡ record self.entry.now.paseto { footer = Some footer.entry } }
+        ensures change { result.now.paseto
+            ≡ record self.entry.now.paseto { footer = Some footer.entry } }
         ensures rest { held result.now.claims ≡ held self.entry.now.claims }
     {
         self.paseto.set_footer(footer);
@@ -122,7 +123,8 @@ impl<'a, V: VersionTrait, P: PurposeTrait> GenericBuilder<'a, V, P> {
     fn with_payload<'p>(&'p self, text: &'p str) -> Paseto<'p, V, P>
         ensures text { payload_text result.payload ≡ text.now }
         ensures footer { result.footer ≡ self.now.paseto.footer }
-        ensures implicit_assertion { result.implicit_assertion ≡ self.now.paseto.implicit_assertion }
+        ensures implicit_assertion { result.implicit_assertion
+            ≡ self.now.paseto.implicit_assertion }
     {
         let mut paseto = self.lent();
         paseto.set_payload(Payload::from(text));
@@ -169,8 +171,10 @@ impl<V: GenericLocalVersion> GenericBuilder<'_, V, Local> {
         rng: &mut R,
         key: &PasetoSymmetricKey<V, Local>,
     ) -> Result<String, GenericBuilderError>
-        ensures ok { let binding = binding_of key.now self.now.paseto.footer self.now.paseto.implicit_assertion in
-            IfOk result (λ token. IsSealed V.design binding (is_some self.now.paseto.footer) (held self.now.claims)
+        ensures ok { let binding = binding_of key.now self.now.paseto.footer
+            self.now.paseto.implicit_assertion in
+            IfOk result (λ token. IsSealed V.design binding (is_some self.now.paseto.footer)
+            (held self.now.claims)
             (λ nonce. R.may_fill rng.old nonce rng.new) (string_bytes token)) }
         ensures read_back { OnOk result (IsReadBack (held self.now.claims)) }
         ensures err { IfErr result (λ error. IsMemory error ⊎ IsOfGenerator R.Error error) }
@@ -197,7 +201,8 @@ impl GenericBuilder<'_, V2, Local> {
         key: &PasetoSymmetricKey<V2, Local>,
     ) -> Result<String, GenericBuilderError>
         ensures ok { let binding = binding_of key.now self.now.paseto.footer None in
-            IfOk result (λ token. IsBoxAnswer B.sealing binding (is_some self.now.paseto.footer) (held self.now.claims)
+            IfOk result (λ token. IsBoxAnswer B.sealing binding (is_some self.now.paseto.footer)
+            (held self.now.claims)
             (λ nonce. R.may_fill rng.old nonce rng.new) (Some (string_bytes token))) }
         ensures read_back { OnOk result (IsReadBack (held self.now.claims)) }
         ensures err { let binding = binding_of key.now self.now.paseto.footer None in
@@ -229,8 +234,10 @@ impl<V: PublicVersion> GenericBuilder<'_, V, Public> {
     ) -> Result<String, GenericBuilderError>
     where
         V: Signs<S>,
-        ensures answer { IsSignAnswer V.valid (V.declined key.now) V.public_design key.now (V.partner key.now)
-            self.now.paseto.footer self.now.paseto.implicit_assertion (held self.now.claims) result }
+        ensures answer { IsSignAnswer V.valid (V.declined key.now) V.public_design key.now
+            (V.partner key.now)
+            self.now.paseto.footer self.now.paseto.implicit_assertion (held self.now.claims)
+            result }
         ensures asked { ¬ HasPrivateLength V.public_design key.now → scheme.new ≡ scheme.old }
         ensures read_back { OnOk result (IsReadBack (held self.now.claims)) }
     {

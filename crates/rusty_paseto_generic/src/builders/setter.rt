@@ -29,10 +29,12 @@ pub trait ClaimSetter {
     /// `ClaimError` comes for a value that holds another number than a whole one of 64 bits, `Unexpected`
     /// with the key, and for a fault of the claim. The builder is then unchanged.
     fn put_claim<C: PasetoClaim>(&mut self, claim: &C) -> Result<(), GenericBuilderError>
-        ensures ok { OnOk result (claim_set (C.key claim.now) (C.json claim.now) (claims self.old) ≡ becomes (claims self.new)) }
+        ensures ok { OnOk result (claim_set (C.key claim.now) (C.json claim.now) (claims self.old)
+            ≡ becomes (claims self.new)) }
         ensures rest { is_rest self.new self.old }
         ensures err { OnErr result (claims self.new ≡ claims self.old) }
-        ensures fault { IfErr result (IsRefusal (claim_set (C.key claim.now) (C.json claim.now) (claims self.old))) }
+        ensures fault { IfErr result (IsRefusal (claim_set (C.key claim.now) (C.json claim.now)
+            (claims self.old))) }
         ensures empty { C.key claim.now ≡ [] → IsOk result };
 
     /// Stores all values as they are, each under its key, the empty one too. Keys that are there get the
@@ -41,10 +43,12 @@ pub trait ClaimSetter {
     /// `ClaimError` of `Unexpected` with the key comes for the first key in byte order whose value holds
     /// another number than a whole one of 64 bits. None of the values is then stored.
     fn put_claims(&mut self, more: BTreeMap<String, Value>) -> Result<(), GenericBuilderError>
-        ensures ok { OnOk result (extended (members_view more.entries) (claims self.old) ≡ becomes (claims self.new)) }
+        ensures ok { OnOk result (extended (members_view more.entries) (claims self.old)
+            ≡ becomes (claims self.new)) }
         ensures rest { is_rest self.new self.old }
         ensures err { OnErr result (claims self.new ≡ claims self.old) }
-        ensures fault { IfErr result (IsRefusal (extended (members_view more.entries) (claims self.old))) };
+        ensures fault { IfErr result (IsRefusal (extended (members_view more.entries)
+            (claims self.old))) };
 
     /// Stores a claim, as `put_claim` does, and lends the builder back. Where it refuses, the builder is unchanged.
     final fn set_claim<C: PasetoClaim, O>(
@@ -53,13 +57,16 @@ pub trait ClaimSetter {
     ) -> Result<&mut O, GenericBuilderError>
     where
         Self: Itself<O>,
-        ensures* err { sem 𝓛 (LendsSoOk Self.row O.row self.entry result (λ last lent. last ≡ Self.whole lent)
+        ensures* err { sem 𝓛 (LendsSoOk Self.row O.row self.entry result
+            (λ last lent. last ≡ Self.whole lent)
             (λ last. (claims last ≡ claims self.entry.now) × is_rest last self.entry.now)) }
         ensures lent { IfOk result (λ lent. lent.ghost_name ≡ self.entry.ghost_name) }
-        ensures ok { IfOk result (λ lent. claim_set (C.key claim.now) (C.json claim.now) (claims self.entry.now)
+        ensures ok { IfOk result (λ lent. claim_set (C.key claim.now) (C.json claim.now)
+            (claims self.entry.now)
             ≡ becomes (claims (Self.whole lent.now))) }
         ensures rest { IfOk result (λ lent. is_rest (Self.whole lent.now) self.entry.now) }
-        ensures fault { IfErr result (IsRefusal (claim_set (C.key claim.now) (C.json claim.now) (claims self.entry.now))) }
+        ensures fault { IfErr result (IsRefusal (claim_set (C.key claim.now) (C.json claim.now)
+            (claims self.entry.now))) }
         ensures empty { C.key claim.now ≡ [] → IsOk result }
     {
         self.put_claim(claim)?;
@@ -73,13 +80,16 @@ pub trait ClaimSetter {
     ) -> Result<&mut O, GenericBuilderError>
     where
         Self: Itself<O>,
-        ensures* err { sem 𝓛 (LendsSoOk Self.row O.row self.entry result (λ last lent. last ≡ Self.whole lent)
+        ensures* err { sem 𝓛 (LendsSoOk Self.row O.row self.entry result
+            (λ last lent. last ≡ Self.whole lent)
             (λ last. (claims last ≡ claims self.entry.now) × is_rest last self.entry.now)) }
         ensures lent { IfOk result (λ lent. lent.ghost_name ≡ self.entry.ghost_name) }
-        ensures ok { IfOk result (λ lent. extended (members_view more.entries) (claims self.entry.now)
+        ensures ok { IfOk result (λ lent. extended (members_view more.entries)
+            (claims self.entry.now)
             ≡ becomes (claims (Self.whole lent.now))) }
         ensures rest { IfOk result (λ lent. is_rest (Self.whole lent.now) self.entry.now) }
-        ensures fault { IfErr result (IsRefusal (extended (members_view more.entries) (claims self.entry.now))) }
+        ensures fault { IfErr result (IsRefusal (extended (members_view more.entries)
+            (claims self.entry.now))) }
     {
         self.put_claims(more)?;
         Ok(self.itself())

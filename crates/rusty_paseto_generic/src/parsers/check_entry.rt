@@ -24,8 +24,11 @@ pub(crate) fn check_entry(
     check: &Check<ValidatorFn>,
     value: &Value,
 ) -> Result<(), PasetoClaimError>
-    ensures ok { OnOk result (Passes (checked (λ b. verdict b) times.now (rule_of check.now)) key.now (entry key.now (view value.now))) }
-    ensures err { IfErr result (IfFault (Fails (checked (λ b. verdict b) times.now (rule_of check.now)) key.now (entry key.now (view value.now)))) }
+    ensures ok { OnOk result (Passes (checked (λ b. verdict b) times.now (rule_of check.now))
+        key.now (entry key.now (view value.now))) }
+    ensures err { IfErr result (IfFault (Fails
+        (checked (λ b. verdict b) times.now (rule_of check.now)) key.now
+        (entry key.now (view value.now)))) }
 {
     let null = Value::Null;
     let found = entry_or(value, key, &null);
@@ -43,8 +46,10 @@ fn check_found(
     check: &Check<ValidatorFn>,
     found: &Value,
 ) -> Result<(), PasetoClaimError>
-    ensures ok { OnOk result (Meets (checked (λ b. verdict b) times.now (rule_of check.now)) key.now (view found.now)) }
-    ensures err { IfErr result (IfFault (Misses (checked (λ b. verdict b) times.now (rule_of check.now)) key.now (view found.now))) }
+    ensures ok { OnOk result (Meets (checked (λ b. verdict b) times.now (rule_of check.now)) key.now
+        (view found.now)) }
+    ensures err { IfErr result (IfFault (Misses
+        (checked (λ b. verdict b) times.now (rule_of check.now)) key.now (view found.now))) }
 {
     if let Some(checker) = &check.checker {
         return decide(alloc, times, key, checker, found);
@@ -63,8 +68,10 @@ fn decide(
     checker: &Checker<ValidatorFn>,
     found: &Value,
 ) -> Result<(), PasetoClaimError>
-    ensures ok { OnOk result (verdict_of (λ b. verdict b) times.now checker.now key.now (view found.now) ≡ None) }
-    ensures err { IfErr result (IsFound (verdict_of (λ b. verdict b) times.now checker.now key.now (view found.now))) }
+    ensures ok { OnOk result (verdict_of (λ b. verdict b) times.now checker.now key.now
+        (view found.now) ≡ None) }
+    ensures err { IfErr result (IsFound (verdict_of (λ b. verdict b) times.now checker.now key.now
+        (view found.now))) }
 {
     match checker {
         Checker::Boxed(validator) => validator.validate(alloc, key, found),

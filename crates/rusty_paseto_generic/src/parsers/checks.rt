@@ -68,9 +68,11 @@ impl<B: Drop> Checks<B> {
     /// `ClaimError` comes for a value that holds another number than a whole one of 64 bits, `Unexpected`
     /// with the key, and for a fault of the claim. The checks are then unchanged.
     pub(crate) fn store<C: PasetoClaim>(&mut self, claim: &C) -> Result<(), GenericParserError>
-        ensures ok { OnOk result (IsStored (C.key claim.now) (C.json claim.now) with_stored (rules_of self.old) (rules_of self.new)) }
+        ensures ok { OnOk result (IsStored (C.key claim.now) (C.json claim.now) with_stored
+            (rules_of self.old) (rules_of self.new)) }
         ensures err { OnErr result (AreSame (rules_of self.new) (rules_of self.old)) }
-        ensures fault { IfErr result (IsParserRefusal (fault_in (whole_answer (C.key claim.now) (C.json claim.now)))) }
+        ensures fault { IfErr result (IsParserRefusal
+            (fault_in (whole_answer (C.key claim.now) (C.json claim.now)))) }
     {
         let key = claim.get_key();
         let value = whole_json(self.alloc, claim)?;
@@ -85,10 +87,12 @@ impl<B: Drop> Checks<B> {
         claim: &C,
         checker: B,
     ) -> Result<(), GenericParserError>
-        ensures ok { OnOk result (IsStored (C.key claim.now) (C.json claim.now) (with_both (Checker.Boxed checker))
+        ensures ok { OnOk result (IsStored (C.key claim.now) (C.json claim.now)
+            (with_both (Checker.Boxed checker))
             (rules_of self.old) (rules_of self.new)) }
         ensures err { OnErr result (AreSame (rules_of self.new) (rules_of self.old)) }
-        ensures fault { IfErr result (IsParserRefusal (fault_in (whole_answer (C.key claim.now) (C.json claim.now)))) }
+        ensures fault { IfErr result (IsParserRefusal
+            (fault_in (whole_answer (C.key claim.now) (C.json claim.now)))) }
     {
         let key = claim.get_key();
         let value = whole_json(self.alloc, claim)?;
@@ -103,7 +107,8 @@ impl<B: Drop> Checks<B> {
     /// `ClaimError` of `Unexpected` with the key comes for the first key in byte order whose value holds
     /// another number than a whole one of 64 bits. The checks are then unchanged.
     pub(crate) fn store_all(&mut self, more: Map<String, Value>) -> Result<(), GenericParserError>
-        ensures ok { OnOk result (AreSame (rules_of self.new) (all_stored (members_view more.entries) (rules_of self.old))) }
+        ensures ok { OnOk result (AreSame (rules_of self.new)
+            (all_stored (members_view more.entries) (rules_of self.old))) }
         ensures whole { OnOk result (first_odd (members_view more.entries) ≡ None) }
         ensures err { OnErr result (AreSame (rules_of self.new) (rules_of self.old)) }
         ensures fault { IfErr result (IsParserRefusal (odd_fault (members_view more.entries))) }
@@ -117,7 +122,8 @@ impl<B: Drop> Checks<B> {
     /// Stores what is to check each of the keys from now on, and keeps the keys' stored values. Nothing
     /// but memory is refused, and the checks are then unchanged.
     pub(crate) fn store_validators(&mut self, more: BTreeMap<String, B>) -> Result<(), AllocError>
-        ensures ok { OnOk result (AreSame (rules_of self.new) (all_with_checkers (checkers_of more.entries) (rules_of self.old))) }
+        ensures ok { OnOk result (AreSame (rules_of self.new)
+            (all_with_checkers (checkers_of more.entries) (rules_of self.old))) }
         ensures err { OnErr result (AreSame (rules_of self.new) (rules_of self.old)) }
     {
         self.reserve_all(&more)?;
@@ -144,7 +150,8 @@ impl<B: Drop> Checks<B> {
     /// Requires that a value is there under the key, and not null, and keeps what else is checked under it. Nothing
     /// but memory is refused, and the checks are then unchanged.
     pub(crate) fn require(&mut self, key: &str) -> Result<(), AllocError>
-        ensures ok { OnOk result (AreSame (rules_of self.new) (edited key.now with_required (rules_of self.old))) }
+        ensures ok { OnOk result (AreSame (rules_of self.new)
+            (edited key.now with_required (rules_of self.old))) }
         ensures err { OnErr result (AreSame (rules_of self.new) (rules_of self.old)) }
     {
         self.reserve(key)?;
@@ -152,7 +159,8 @@ impl<B: Drop> Checks<B> {
         Ok(())
     }
 
-    // An entry under the key, which may check nothing yet, so that a check may then be set with no memory.
+    // Makes an entry under the key, which checks nothing yet where it is new. A check is then set in it without memory,
+    // so that a refusal of memory finds no check changed.
     fn reserve(&mut self, key: &str) -> Result<(), AllocError>
         ensures rules { AreSame (rules_of self.new) (rules_of self.old) }
         ensures ok { OnOk result (IsSome (get_by_text self.new.entries key.now)) }
@@ -187,7 +195,8 @@ impl<B: Drop> Checks<B> {
     // Requires a value under a key that has an entry.
     fn set_required(&mut self, key: &str)
         requires { IsSome (get_by_text self.old.entries key.now) }
-        ensures rules { AreSame (rules_of self.new) (edited key.now with_required (rules_of self.old)) }
+        ensures rules { AreSame (rules_of self.new)
+            (edited key.now with_required (rules_of self.old)) }
         ensures kept { HasMore (get_by_text self.new.entries) (get_by_text self.old.entries) }
     {
         if let Some(check) = self.entries.get_mut(key) {
@@ -198,7 +207,8 @@ impl<B: Drop> Checks<B> {
     // Stores a value under a key that has an entry.
     fn set_stored(&mut self, key: &str, value: Value)
         requires { IsSome (get_by_text self.old.entries key.now) }
-        ensures rules { AreSame (rules_of self.new) (edited key.now (with_stored (view value)) (rules_of self.old)) }
+        ensures rules { AreSame (rules_of self.new)
+            (edited key.now (with_stored (view value)) (rules_of self.old)) }
         ensures kept { HasMore (get_by_text self.new.entries) (get_by_text self.old.entries) }
     {
         if let Some(check) = self.entries.get_mut(key) {
@@ -209,7 +219,8 @@ impl<B: Drop> Checks<B> {
     // Sets what checks a key that has an entry.
     fn set_checker(&mut self, key: &str, checker: Checker<B>)
         requires { IsSome (get_by_text self.old.entries key.now) }
-        ensures rules { AreSame (rules_of self.new) (edited key.now (with_checker checker) (rules_of self.old)) }
+        ensures rules { AreSame (rules_of self.new)
+            (edited key.now (with_checker checker) (rules_of self.old)) }
         ensures kept { HasMore (get_by_text self.new.entries) (get_by_text self.old.entries) }
     {
         if let Some(check) = self.entries.get_mut(key) {
@@ -220,7 +231,8 @@ impl<B: Drop> Checks<B> {
     // Stores a value and sets what checks, under a key that has an entry.
     fn set_both(&mut self, key: &str, value: Value, checker: Checker<B>)
         requires { IsSome (get_by_text self.old.entries key.now) }
-        ensures rules { AreSame (rules_of self.new) (edited key.now (with_both checker (view value)) (rules_of self.old)) }
+        ensures rules { AreSame (rules_of self.new)
+            (edited key.now (with_both checker (view value)) (rules_of self.old)) }
         ensures kept { HasMore (get_by_text self.new.entries) (get_by_text self.old.entries) }
     {
         self.set_stored(key, value);
@@ -230,7 +242,8 @@ impl<B: Drop> Checks<B> {
     // Stores values under keys that have entries.
     fn set_all_stored(&mut self, more: Map<String, Value>)
         requires { HasEach (get_by_text self.old.entries) more.entries }
-        ensures { AreSame (rules_of self.new) (all_stored (members_view more.entries) (rules_of self.old)) }
+        ensures { AreSame (rules_of self.new)
+            (all_stored (members_view more.entries) (rules_of self.old)) }
     {
         for (key, value) in more {
             self.set_stored(key.as_str(), value);
@@ -240,7 +253,8 @@ impl<B: Drop> Checks<B> {
     // Sets what checks keys that have entries.
     fn set_all_checkers(&mut self, more: BTreeMap<String, B>)
         requires { HasEach (get_by_text self.old.entries) more.entries }
-        ensures { AreSame (rules_of self.new) (all_with_checkers (checkers_of more.entries) (rules_of self.old)) }
+        ensures { AreSame (rules_of self.new)
+            (all_with_checkers (checkers_of more.entries) (rules_of self.old)) }
     {
         for (key, checker) in more {
             self.set_checker(key.as_str(), Checker::Boxed(checker));
@@ -250,7 +264,8 @@ impl<B: Drop> Checks<B> {
 
 // The JSON of a claim, where its numbers are whole.
 fn whole_json<C: PasetoClaim>(alloc: Global, claim: &C) -> Result<Value, PasetoClaimError>
-    ensures ok { IfOk result (λ value. whole_answer (C.key claim.now) (C.json claim.now) ≡ gives (view value)) }
+    ensures ok { IfOk result (λ value. whole_answer (C.key claim.now) (C.json claim.now)
+        ≡ gives (view value)) }
     ensures err { IfErr result (IsRefusal (whole_answer (C.key claim.now) (C.json claim.now))) }
 {
     let value = claim.to_json(alloc)?;

@@ -33,8 +33,8 @@ use std::alloc::Global;
 use std::collections::BTreeMap;
 use std::marker::PhantomData;
 
-/// The checks of a token's claims, and the footer and the implicit assertion where they are set: what a
-/// token of a version and a purpose is to have, so that `parse` answers its claims.
+/// What `parse` demands of a token of a version and a purpose before it answers the claims: the expected footer, the
+/// implicit assertion, and the checks of single claims.
 ///
 /// A key is checked by a stored value, with `check_claim` or `extend_check_claims`, or by a validator of the
 /// caller's own, with `validate_claim` or `extend_validation_claims`. A key with a validator is checked by it
@@ -190,10 +190,12 @@ impl<'a, V: VersionTrait, P: PurposeTrait, B: Drop> CheckSetter<B> for TokenPars
     }
 
     fn put_validators(&mut self, validators: BTreeMap<String, B>) -> Result<(), GenericParserError>
-        ensures ok { OnOk result (AreSame (rules_of self.new.checks) (all_with_checkers (checkers_of validators.entries) (rules_of self.old.checks))) }
+        ensures ok { OnOk result (AreSame (rules_of self.new.checks)
+            (all_with_checkers (checkers_of validators.entries) (rules_of self.old.checks))) }
         ensures moment { self.new.moment ≡ self.old.moment }
         ensures rest { (self.new.footer ≡ self.old.footer)
-            × (self.new.implicit_assertion ≡ self.old.implicit_assertion) × (self.new.leeway ≡ self.old.leeway) }
+            × (self.new.implicit_assertion ≡ self.old.implicit_assertion)
+            × (self.new.leeway ≡ self.old.leeway) }
         ensures err { OnErr result (AreSame (rules_of self.new.checks) (rules_of self.old.checks)) }
         ensures fault { IfErr result IsMemory }
     {
@@ -223,7 +225,8 @@ impl<'a, V: ImplicitAssertionCapable, P: PurposeTrait, B: Drop> TokenParser<'a, 
     /// Sets the implicit assertion, the empty one too, and keeps the rest. No memory is taken.
     pub fn set_implicit_assertion(&mut self, implicit_assertion: ImplicitAssertion<'a>) -> &mut Self
         ensures lent { result.ghost_name ≡ self.entry.ghost_name }
-        ensures change { result.now ≡ record self.entry.now { implicit_assertion = Some implicit_assertion.entry } }
+        ensures change { result.now ≡ record self.entry.now
+            { implicit_assertion = Some implicit_assertion.entry } }
     {
         self.implicit_assertion = Some(implicit_assertion);
         self
@@ -237,7 +240,8 @@ impl<V: VersionTrait, P: PurposeTrait> TokenParser<'_, V, P, ValidatorFn> {
     /// Else it answers the first fault of `parse` that is none of the token: `PayloadJsonError` or `ClaimError`.
     /// `Memory` may come in place of any answer.
     pub fn value_of(&self, text: &str) -> Result<Value, GenericParserError>
-        ensures { IsTextAnswer (verdicts_of (λ b. verdict b) (times_at self.now.moment self.now.leeway) self.now.checks) text.now result }
+        ensures { IsTextAnswer (verdicts_of (λ b. verdict b)
+            (times_at self.now.moment self.now.leeway) self.now.checks) text.now result }
     {
         parse_text(&self.checks, &self.times(), text)
     }
@@ -259,8 +263,11 @@ impl<V: GenericLocalVersion> TokenParser<'_, V, Local, ValidatorFn> {
         token: &str,
         key: &PasetoSymmetricKey<V, Local>,
     ) -> Result<Value, GenericParserError>
-        ensures { let binding = binding_of key.now self.now.footer (assertion_in V.design.binds_assertion self.now.implicit_assertion) in
-            IsParseAnswer (opening V.design binding) (verdicts_of (λ b. verdict b) (times_at self.now.moment self.now.leeway) self.now.checks) token.now result }
+        ensures { let binding = binding_of key.now self.now.footer
+            (assertion_in V.design.binds_assertion self.now.implicit_assertion) in
+            IsParseAnswer (opening V.design binding)
+            (verdicts_of (λ b. verdict b) (times_at self.now.moment self.now.leeway)
+            self.now.checks) token.now result }
     {
         let assertion = V::bound_assertion(self.implicit_assertion);
         let alloc = self.checks.allocator();
@@ -281,7 +288,9 @@ impl TokenParser<'_, V2, Local, ValidatorFn> {
         key: &PasetoSymmetricKey<V2, Local>,
     ) -> Result<Value, GenericParserError>
         ensures { let binding = binding_of key.now self.now.footer None in
-            IsParseAnswer (box_opening S.sealing binding) (verdicts_of (λ b. verdict b) (times_at self.now.moment self.now.leeway) self.now.checks) token.now result }
+            IsParseAnswer (box_opening S.sealing binding)
+            (verdicts_of (λ b. verdict b) (times_at self.now.moment self.now.leeway)
+            self.now.checks) token.now result }
     {
         let alloc = self.checks.allocator();
         let opened = Paseto::<V2, Local>::try_decrypt(alloc, sealed_box, token, key, self.footer);
@@ -305,8 +314,11 @@ impl<V> TokenParser<'_, V, Public, ValidatorFn> {
     ) -> Result<Value, GenericParserError>
     where
         V: Verifies<S>,
-        ensures { let binding = binding_of key.now self.now.footer (assertion_in V.public_design.binds_assertion self.now.implicit_assertion) in
-            IsParseAnswer (verification V.valid V.refused V.public_design binding) (verdicts_of (λ b. verdict b) (times_at self.now.moment self.now.leeway) self.now.checks) token.now result }
+        ensures { let binding = binding_of key.now self.now.footer
+            (assertion_in V.public_design.binds_assertion self.now.implicit_assertion) in
+            IsParseAnswer (verification V.valid V.refused V.public_design binding)
+            (verdicts_of (λ b. verdict b) (times_at self.now.moment self.now.leeway)
+            self.now.checks) token.now result }
     {
         let assertion = V::signed_assertion(self.implicit_assertion);
         let alloc = self.checks.allocator();

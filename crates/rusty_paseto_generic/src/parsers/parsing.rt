@@ -1,19 +1,36 @@
-//! From a text that a token holds to the value that a parser answers.
+//! From a text that a token holds to the value that a parser answers: read as JSON, and checked.
 
 ghost use Rattle.std.specs.Prelude.{◌⊎◌, IfOk, IfErr};
 ghost use Rattle.serde_json.specs.View.{view};
 ghost use Rattle.rusty_paseto_generic.specs.Error.Parser.{IsMemory};
 ghost use Rattle.rusty_paseto_generic.specs.Parsers.Held.{verdicts_of};
-ghost use Rattle.rusty_paseto_generic.specs.Parsers.Parsing.{IsOpenedAnswer, IsTextFault, IsValueOf};
+ghost use Rattle.rusty_paseto_generic.specs.Parsers.Parsing.{IsOpenedAnswer, IsReadAs, IsReadingFault, IsTextFault, IsValueOf};
 
 use crate::error::GenericParserError;
-use crate::parsers::checks::Checks;
-use crate::parsers::reading::read_value;
-use crate::parsers::times::Times;
 use crate::parsers::check_all::check_all;
+use crate::parsers::checks::Checks;
+use crate::parsers::times::Times;
 use crate::validator::ValidatorFn;
+use rusty_paseto_claims::{PasetoClaimError, odd_key};
 use rusty_paseto_core::PasetoError;
 use serde_json::Value;
+use std::alloc::Global;
+
+/// The value that a text is as JSON, nested at most 127 deep, whose numbers are whole numbers of 64 bits.
+///
+/// `PayloadJsonError` comes for a text that is no such JSON, and `ClaimError` of `Unexpected` for one that
+/// holds another number, with the first key in byte order under which it does.
+fn read_value(alloc: Global, text: &str) -> Result<Value, GenericParserError>
+    ensures ok { IfOk result (λ value. IsReadAs text.now (view value)) }
+    ensures err { IfErr result (λ error. IsMemory error ⊎ IsReadingFault text.now error) }
+{
+    let value = Value::from_str(alloc, text)?;
+    if let Some(key) = odd_key(&value) {
+        let fault = PasetoClaimError::Unexpected(String::from_str(alloc, key)?);
+        return Err(GenericParserError::ClaimError { source: fault });
+    }
+    Ok(value)
+}
 
 /// The value of a text, which passes all checks. Else it answers the first of these: `PayloadJsonError` for a text
 /// that is no JSON, `ClaimError` of `Unexpected` for a number that is not a whole number of 64 bits, and
@@ -23,8 +40,10 @@ pub(crate) fn parse_text(
     times: &Times,
     text: &str,
 ) -> Result<Value, GenericParserError>
-    ensures ok { IfOk result (λ value. IsValueOf (verdicts_of (λ b. verdict b) times.now checks.now) text.now (view value)) }
-    ensures err { IfErr result (λ error. IsMemory error ⊎ IsTextFault (verdicts_of (λ b. verdict b) times.now checks.now) text.now error) }
+    ensures ok { IfOk result (λ value. IsValueOf
+        (verdicts_of (λ b. verdict b) times.now checks.now) text.now (view value)) }
+    ensures err { IfErr result (λ error. IsMemory error
+        ⊎ IsTextFault (verdicts_of (λ b. verdict b) times.now checks.now) text.now error) }
 {
     let alloc = checks.allocator();
     let value = read_value(alloc, text)?;

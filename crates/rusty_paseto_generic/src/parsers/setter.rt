@@ -32,11 +32,13 @@ pub trait CheckSetter<B> {
 
     /// Stores a claim's JSON under its key.
     fn put_check<C: PasetoClaim>(&mut self, claim: &C) -> Result<(), GenericParserError>
-        ensures ok { OnOk result (IsStored (C.key claim.now) (C.json claim.now) with_stored (rules self.old) (rules self.new)) }
+        ensures ok { OnOk result (IsStored (C.key claim.now) (C.json claim.now) with_stored
+            (rules self.old) (rules self.new)) }
         ensures moment { moment self.new ≡ moment self.old }
         ensures rest { is_rest self.new self.old }
         ensures err { OnErr result (AreSame (rules self.new) (rules self.old)) }
-        ensures fault { IfErr result (IsRefusal (fault_in (whole_answer (C.key claim.now) (C.json claim.now)))) };
+        ensures fault { IfErr result (IsRefusal (fault_in
+            (whole_answer (C.key claim.now) (C.json claim.now)))) };
 
     /// Stores a claim's JSON and a validator.
     fn put_validator<C: PasetoClaim>(
@@ -44,15 +46,18 @@ pub trait CheckSetter<B> {
         claim: &C,
         validator: B,
     ) -> Result<(), GenericParserError>
-        ensures ok { OnOk result (IsStored (C.key claim.now) (C.json claim.now) (with_both (Checker.Boxed validator)) (rules self.old) (rules self.new)) }
+        ensures ok { OnOk result (IsStored (C.key claim.now) (C.json claim.now)
+            (with_both (Checker.Boxed validator)) (rules self.old) (rules self.new)) }
         ensures moment { moment self.new ≡ moment self.old }
         ensures rest { is_rest self.new self.old }
         ensures err { OnErr result (AreSame (rules self.new) (rules self.old)) }
-        ensures fault { IfErr result (IsRefusal (fault_in (whole_answer (C.key claim.now) (C.json claim.now)))) };
+        ensures fault { IfErr result (IsRefusal (fault_in
+            (whole_answer (C.key claim.now) (C.json claim.now)))) };
 
     /// Stores all values as they are.
     fn put_checks(&mut self, claims: BTreeMap<String, Value>) -> Result<(), GenericParserError>
-        ensures ok { OnOk result (AreSame (rules self.new) (all_stored (members_view claims.entries) (rules self.old))) }
+        ensures ok { OnOk result (AreSame (rules self.new)
+            (all_stored (members_view claims.entries) (rules self.old))) }
         ensures whole { OnOk result (first_odd (members_view claims.entries) ≡ None) }
         ensures moment { moment self.new ≡ moment self.old }
         ensures rest { is_rest self.new self.old }
@@ -61,7 +66,8 @@ pub trait CheckSetter<B> {
 
     /// Stores all validators.
     fn put_validators(&mut self, validators: BTreeMap<String, B>) -> Result<(), GenericParserError>
-        ensures ok { OnOk result (AreSame (rules self.new) (all_with_checkers (checkers_of validators.entries) (rules self.old))) }
+        ensures ok { OnOk result (AreSame (rules self.new)
+            (all_with_checkers (checkers_of validators.entries) (rules self.old))) }
         ensures moment { moment self.new ≡ moment self.old }
         ensures rest { is_rest self.new self.old }
         ensures err { OnErr result (AreSame (rules self.new) (rules self.old)) }
@@ -69,7 +75,8 @@ pub trait CheckSetter<B> {
 
     /// Requires that a token has a value under the key, and not null.
     fn put_required(&mut self, key: &str) -> Result<(), GenericParserError>
-        ensures ok { OnOk result (AreSame (rules self.new) (edited key.now with_required (rules self.old))) }
+        ensures ok { OnOk result (AreSame (rules self.new)
+            (edited key.now with_required (rules self.old))) }
         ensures moment { moment self.new ≡ moment self.old }
         ensures rest { is_rest self.new self.old }
         ensures err { OnErr result (AreSame (rules self.new) (rules self.old)) }
@@ -91,13 +98,18 @@ pub trait CheckSetter<B> {
     ) -> Result<&mut O, GenericParserError>
     where
         Self: Itself<O>,
-        ensures* err { sem 𝓛 (LendsSoOk Self.row O.row self.entry result (λ last lent. last ≡ Self.whole lent)
-            (λ last. AreSame (rules last) (rules self.entry.now) × (moment last ≡ moment self.entry.now) × is_rest last self.entry.now)) }
+        ensures* err { sem 𝓛 (LendsSoOk Self.row O.row self.entry result
+            (λ last lent. last ≡ Self.whole lent)
+            (λ last. AreSame (rules last) (rules self.entry.now)
+            × (moment last ≡ moment self.entry.now) × is_rest last self.entry.now)) }
         ensures lent { IfOk result (λ lent. lent.ghost_name ≡ self.entry.ghost_name) }
-        ensures ok { IfOk result (λ lent. IsStored (C.key claim.now) (C.json claim.now) with_stored (rules self.entry.now) (rules (Self.whole lent.now))) }
-        ensures moment { IfOk result (λ lent. moment (Self.whole lent.now) ≡ moment self.entry.now) }
+        ensures ok { IfOk result (λ lent. IsStored (C.key claim.now) (C.json claim.now) with_stored
+            (rules self.entry.now) (rules (Self.whole lent.now))) }
+        ensures moment { IfOk result (λ lent. moment (Self.whole lent.now)
+            ≡ moment self.entry.now) }
         ensures rest { IfOk result (λ lent. is_rest (Self.whole lent.now) self.entry.now) }
-        ensures fault { IfErr result (IsRefusal (fault_in (whole_answer (C.key claim.now) (C.json claim.now)))) }
+        ensures fault { IfErr result (IsRefusal (fault_in
+            (whole_answer (C.key claim.now) (C.json claim.now)))) }
     {
         self.put_check(claim)?;
         Ok(self.itself())
@@ -111,13 +123,19 @@ pub trait CheckSetter<B> {
     ) -> Result<&mut O, GenericParserError>
     where
         Self: Itself<O>,
-        ensures* err { sem 𝓛 (LendsSoOk Self.row O.row self.entry result (λ last lent. last ≡ Self.whole lent)
-            (λ last. AreSame (rules last) (rules self.entry.now) × (moment last ≡ moment self.entry.now) × is_rest last self.entry.now)) }
+        ensures* err { sem 𝓛 (LendsSoOk Self.row O.row self.entry result
+            (λ last lent. last ≡ Self.whole lent)
+            (λ last. AreSame (rules last) (rules self.entry.now)
+            × (moment last ≡ moment self.entry.now) × is_rest last self.entry.now)) }
         ensures lent { IfOk result (λ lent. lent.ghost_name ≡ self.entry.ghost_name) }
-        ensures ok { IfOk result (λ lent. IsStored (C.key claim.now) (C.json claim.now) (with_both (Checker.Boxed validator)) (rules self.entry.now) (rules (Self.whole lent.now))) }
-        ensures moment { IfOk result (λ lent. moment (Self.whole lent.now) ≡ moment self.entry.now) }
+        ensures ok { IfOk result (λ lent. IsStored (C.key claim.now) (C.json claim.now)
+            (with_both (Checker.Boxed validator)) (rules self.entry.now)
+            (rules (Self.whole lent.now))) }
+        ensures moment { IfOk result (λ lent. moment (Self.whole lent.now)
+            ≡ moment self.entry.now) }
         ensures rest { IfOk result (λ lent. is_rest (Self.whole lent.now) self.entry.now) }
-        ensures fault { IfErr result (IsRefusal (fault_in (whole_answer (C.key claim.now) (C.json claim.now)))) }
+        ensures fault { IfErr result (IsRefusal (fault_in
+            (whole_answer (C.key claim.now) (C.json claim.now)))) }
     {
         self.put_validator(claim, validator)?;
         Ok(self.itself())
@@ -130,12 +148,16 @@ pub trait CheckSetter<B> {
     ) -> Result<&mut O, GenericParserError>
     where
         Self: Itself<O>,
-        ensures* err { sem 𝓛 (LendsSoOk Self.row O.row self.entry result (λ last lent. last ≡ Self.whole lent)
-            (λ last. AreSame (rules last) (rules self.entry.now) × (moment last ≡ moment self.entry.now) × is_rest last self.entry.now)) }
+        ensures* err { sem 𝓛 (LendsSoOk Self.row O.row self.entry result
+            (λ last lent. last ≡ Self.whole lent)
+            (λ last. AreSame (rules last) (rules self.entry.now)
+            × (moment last ≡ moment self.entry.now) × is_rest last self.entry.now)) }
         ensures lent { IfOk result (λ lent. lent.ghost_name ≡ self.entry.ghost_name) }
-        ensures ok { IfOk result (λ lent. AreSame (rules (Self.whole lent.now)) (all_stored (members_view claims.entries) (rules self.entry.now))) }
+        ensures ok { IfOk result (λ lent. AreSame (rules (Self.whole lent.now))
+            (all_stored (members_view claims.entries) (rules self.entry.now))) }
         ensures whole { OnOk result (first_odd (members_view claims.entries) ≡ None) }
-        ensures moment { IfOk result (λ lent. moment (Self.whole lent.now) ≡ moment self.entry.now) }
+        ensures moment { IfOk result (λ lent. moment (Self.whole lent.now)
+            ≡ moment self.entry.now) }
         ensures rest { IfOk result (λ lent. is_rest (Self.whole lent.now) self.entry.now) }
         ensures fault { IfErr result (IsRefusal (odd_fault (members_view claims.entries))) }
     {
@@ -150,11 +172,15 @@ pub trait CheckSetter<B> {
     ) -> Result<&mut O, GenericParserError>
     where
         Self: Itself<O>,
-        ensures* err { sem 𝓛 (LendsSoOk Self.row O.row self.entry result (λ last lent. last ≡ Self.whole lent)
-            (λ last. AreSame (rules last) (rules self.entry.now) × (moment last ≡ moment self.entry.now) × is_rest last self.entry.now)) }
+        ensures* err { sem 𝓛 (LendsSoOk Self.row O.row self.entry result
+            (λ last lent. last ≡ Self.whole lent)
+            (λ last. AreSame (rules last) (rules self.entry.now)
+            × (moment last ≡ moment self.entry.now) × is_rest last self.entry.now)) }
         ensures lent { IfOk result (λ lent. lent.ghost_name ≡ self.entry.ghost_name) }
-        ensures ok { IfOk result (λ lent. AreSame (rules (Self.whole lent.now)) (all_with_checkers (checkers_of validators.entries) (rules self.entry.now))) }
-        ensures moment { IfOk result (λ lent. moment (Self.whole lent.now) ≡ moment self.entry.now) }
+        ensures ok { IfOk result (λ lent. AreSame (rules (Self.whole lent.now))
+            (all_with_checkers (checkers_of validators.entries) (rules self.entry.now))) }
+        ensures moment { IfOk result (λ lent. moment (Self.whole lent.now)
+            ≡ moment self.entry.now) }
         ensures rest { IfOk result (λ lent. is_rest (Self.whole lent.now) self.entry.now) }
         ensures fault { IfErr result IsMemory }
     {
@@ -172,11 +198,15 @@ pub trait CheckSetter<B> {
     final fn require_claim<O>(&mut self, key: &str) -> Result<&mut O, GenericParserError>
     where
         Self: Itself<O>,
-        ensures* err { sem 𝓛 (LendsSoOk Self.row O.row self.entry result (λ last lent. last ≡ Self.whole lent)
-            (λ last. AreSame (rules last) (rules self.entry.now) × (moment last ≡ moment self.entry.now) × is_rest last self.entry.now)) }
+        ensures* err { sem 𝓛 (LendsSoOk Self.row O.row self.entry result
+            (λ last lent. last ≡ Self.whole lent)
+            (λ last. AreSame (rules last) (rules self.entry.now)
+            × (moment last ≡ moment self.entry.now) × is_rest last self.entry.now)) }
         ensures lent { IfOk result (λ lent. lent.ghost_name ≡ self.entry.ghost_name) }
-        ensures ok { IfOk result (λ lent. AreSame (rules (Self.whole lent.now)) (edited key.now with_required (rules self.entry.now))) }
-        ensures moment { IfOk result (λ lent. moment (Self.whole lent.now) ≡ moment self.entry.now) }
+        ensures ok { IfOk result (λ lent. AreSame (rules (Self.whole lent.now))
+            (edited key.now with_required (rules self.entry.now))) }
+        ensures moment { IfOk result (λ lent. moment (Self.whole lent.now)
+            ≡ moment self.entry.now) }
         ensures rest { IfOk result (λ lent. is_rest (Self.whole lent.now) self.entry.now) }
         ensures fault { IfErr result IsMemory }
     {
@@ -188,10 +218,13 @@ pub trait CheckSetter<B> {
     final fn check_times<O>(&mut self, now: Timestamp) -> Result<&mut O, GenericParserError>
     where
         Self: Itself<O>,
-        ensures* err { sem 𝓛 (LendsSoOk Self.row O.row self.entry result (λ last lent. last ≡ Self.whole lent)
-            (λ last. AreSame (rules last) (rules self.entry.now) × (moment last ≡ moment self.entry.now) × is_rest last self.entry.now)) }
+        ensures* err { sem 𝓛 (LendsSoOk Self.row O.row self.entry result
+            (λ last lent. last ≡ Self.whole lent)
+            (λ last. AreSame (rules last) (rules self.entry.now)
+            × (moment last ≡ moment self.entry.now) × is_rest last self.entry.now)) }
         ensures lent { IfOk result (λ lent. lent.ghost_name ≡ self.entry.ghost_name) }
-        ensures ok { IfOk result (λ lent. AreSame (rules (Self.whole lent.now)) (with_times (rules self.entry.now))) }
+        ensures ok { IfOk result (λ lent. AreSame (rules (Self.whole lent.now))
+            (with_times (rules self.entry.now))) }
         ensures moment { IfOk result (λ lent. moment (Self.whole lent.now) ≡ now) }
         ensures rest { IfOk result (λ lent. is_rest (Self.whole lent.now) self.entry.now) }
         ensures fault { IfErr result IsMemory }

@@ -90,7 +90,8 @@ fn text_of<'v>(
     key: &str,
     found: &'v Value,
 ) -> Result<Option<&'v str>, PasetoClaimError>
-    ensures ok { IfOk result (λ text. MatchOption text (view found.now ≡ null) (λ text. view found.now ≡ string text.now)) }
+    ensures ok { IfOk result (λ text. MatchOption text (view found.now ≡ null)
+        (λ text. view found.now ≡ string text.now)) }
     ensures err { IfErr result (IfFault (λ found_fault. (fault : List ℕ → ℤ → Option Fault)
         → time_fault fault key.now (view found.now) ≡ Some found_fault)) }
 {
@@ -104,7 +105,8 @@ fn text_of<'v>(
 // The instant that is read from a text.
 fn instant_of(alloc: Global, text: &str) -> Result<Timestamp, PasetoClaimError>
     ensures ok { IfOk result (λ instant. parse_timestamp text.now ≡ Ok instant.nanosecond) }
-    ensures err { IfErr result (IfFault (λ fault. (fault ≡ malformed_date text.now) × IsErr (parse_timestamp text.now))) }
+    ensures err { IfErr result (IfFault (λ fault. (fault ≡ malformed_date text.now)
+        × IsErr (parse_timestamp text.now))) }
 {
     match text.parse::<Timestamp>() {
         Ok(instant) => Ok(instant),

@@ -45,7 +45,8 @@ impl<'a> Footer<'a> {
     pub fn try_from_token(alloc: Global, token: &str) -> Result<Option<String>, PasetoError>
         ensures ok { IfOk result (λ found. HasCount (sections token.now)
             × HasFooterText (slice_get (sections token.now) 3) (option_map string_bytes found)) }
-        ensures read { (text : Option (List ℕ)) → HasCount (sections token.now) → HasFooterText (slice_get (sections token.now) 3) text
+        ensures read { (text : Option (List ℕ)) → HasCount (sections token.now) → HasFooterText
+            (slice_get (sections token.now) 3) text
             → MatchResult result (λ found. option_map string_bytes found ≡ text) IsMemory }
         ensures count { ¬ HasCount (sections token.now) → result ≡ Err PasetoError.IncorrectSize }
         ensures err { IfErr result (IsTokenFooterFault (sections token.now)) }

@@ -15,7 +15,8 @@ use std::simd::u8x16;
 #[inline(always)]
 fn spread(q: [u8x16; 8]) -> [u8x16; 22]
     ensures { (f : ℕ → ℕ → ℕ → Bool) → q ≡ vectors 8 f
-        → result ≡ vectors 22 (bits_of_gates spread_gates spread_outputs (map f (range_with_len 0 8))) }
+        → result ≡ vectors 22 (bits_of_gates spread_gates spread_outputs
+        (map f (range_with_len 0 8))) }
 {
     let y14 = q[4] ^ q[2];
     let y13 = q[7] ^ q[1];
@@ -50,7 +51,8 @@ fn spread(q: [u8x16; 8]) -> [u8x16; 22]
 #[inline(always)]
 fn folded(y: [u8x16; 22]) -> [u8x16; 4]
     ensures { (f : ℕ → ℕ → ℕ → Bool) → y ≡ vectors 22 f
-        → result ≡ vectors 4 (bits_of_gates folded_gates folded_outputs (map f (range_with_len 0 22))) }
+        → result ≡ vectors 4 (bits_of_gates folded_gates folded_outputs
+        (map f (range_with_len 0 22))) }
 {
     let t2 = y[12] & y[15];
     let t3 = y[3] & y[6];
@@ -82,7 +84,8 @@ fn folded(y: [u8x16; 22]) -> [u8x16; 4]
 #[inline(always)]
 fn inverted(t: [u8x16; 4]) -> [u8x16; 9]
     ensures { (f : ℕ → ℕ → ℕ → Bool) → t ≡ vectors 4 f
-        → result ≡ vectors 9 (bits_of_gates inverted_gates inverted_outputs (map f (range_with_len 0 4))) }
+        → result ≡ vectors 9 (bits_of_gates inverted_gates inverted_outputs
+        (map f (range_with_len 0 4))) }
 {
     let t25 = t[0] ^ t[1];
     let t26 = t[0] & t[2];
@@ -112,7 +115,8 @@ fn inverted(t: [u8x16; 4]) -> [u8x16; 9]
 #[inline(always)]
 fn multiplied(y: [u8x16; 22], t: [u8x16; 9]) -> [u8x16; 18]
     ensures { (f g : ℕ → ℕ → ℕ → Bool) → y ≡ vectors 22 f → t ≡ vectors 9 g
-        → result ≡ vectors 18 (bits_of_gates multiplied_gates multiplied_outputs (map f (range_with_len 0 22) ++ map g (range_with_len 0 9))) }
+        → result ≡ vectors 18 (bits_of_gates multiplied_gates multiplied_outputs
+        (map f (range_with_len 0 22) ++ map g (range_with_len 0 9))) }
 {
     let z0 = t[7] & y[15];
     let z1 = t[2] & y[6];
@@ -148,7 +152,8 @@ fn ones() -> u8x16
 #[inline(always)]
 fn gathered(z: [u8x16; 18]) -> [u8x16; 8]
     ensures { (f : ℕ → ℕ → ℕ → Bool) → z ≡ vectors 18 f
-        → result ≡ vectors 8 (bits_of_gates gathered_gates gathered_outputs (map f (range_with_len 0 18) ++ (λ i j. true) ∷ [])) }
+        → result ≡ vectors 8 (bits_of_gates gathered_gates gathered_outputs
+        (map f (range_with_len 0 18) ++ (λ i j. true) ∷ [])) }
 {
     let one = ones();
     let t46 = z[15] ^ z[16];
@@ -191,7 +196,8 @@ fn gathered(z: [u8x16; 18]) -> [u8x16; 8]
 // SubBytes of each block (FIPS 197, section 5.1.1).
 #[inline(always)]
 pub(super) fn sub_bytes(q: [u8x16; 8]) -> [u8x16; 8]
-    ensures { (s : ℕ → List ℕ) → ((j : ℕ) → IsBytes (s j)) → q ≡ planes s → result ≡ planes (λ j. sub_bytes (s j)) }
+    ensures { (s : ℕ → List ℕ) → ((j : ℕ) → IsBytes (s j)) → q ≡ planes s → result ≡ planes
+        (λ j. sub_bytes (s j)) }
 {
     let y = spread(q);
     gathered(multiplied(y, inverted(folded(y))))

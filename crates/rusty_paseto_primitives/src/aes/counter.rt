@@ -10,7 +10,7 @@ ghost use Rattle.rusty_paseto_primitives.specs.Aes.Planes.{AreRoundKeys};
 
 use crate::aes::group::{keystream, round_keys};
 use crate::aes::key_schedule::key_expansion;
-use crate::keystream::{apply_keystream, apply_by_vectors};
+use crate::keystream::{apply_by_vectors, apply_keystream};
 use std::simd::u8x16;
 
 // Eight blocks.
@@ -20,7 +20,8 @@ const GROUP_LEN: usize = 128;
 fn apply_groups(keys: &[[u8x16; 8]; 15], start: u128, data: &mut [u8])
     requires { length «data».old % 128 ≡ 0 }
     ensures { (w : List ℕ) → IsBytes w → AreRoundKeys keys.now w
-        → «data».new ≡ xored (stream_of_blocks 16 (λ n. cipher w (to_be_bytes w128 ((start + n) % 2 ^ 128)))) «data».old }
+        → «data».new ≡ xored (stream_of_blocks 16
+        (λ n. cipher w (to_be_bytes w128 ((start + n) % 2 ^ 128)))) «data».old }
 {
     'groups: for g in 0..data.len() / GROUP_LEN {
         let at = GROUP_LEN * g;
@@ -33,7 +34,8 @@ fn apply_groups(keys: &[[u8x16; 8]; 15], start: u128, data: &mut [u8])
 fn apply_rest(keys: &[[u8x16; 8]; 15], start: u128, data: &mut [u8])
     requires { length «data».old ≤ 128 }
     ensures { (w : List ℕ) → IsBytes w → AreRoundKeys keys.now w
-        → «data».new ≡ xored (stream_of_blocks 16 (λ n. cipher w (to_be_bytes w128 ((start + n) % 2 ^ 128)))) «data».old }
+        → «data».new ≡ xored (stream_of_blocks 16
+        (λ n. cipher w (to_be_bytes w128 ((start + n) % 2 ^ 128)))) «data».old }
 {
     if data.is_empty() {
         return;

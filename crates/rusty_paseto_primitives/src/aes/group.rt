@@ -26,7 +26,8 @@ pub(super) fn round_keys(schedule: &[u8; 240]) -> [[u8x16; 8]; 15]
 // The cipher of each of eight blocks.
 #[inline(always)]
 fn encrypted(keys: &[[u8x16; 8]; 15], blocks: [u8x16; 8]) -> [u8x16; 8]
-    ensures { (w : List ℕ) (s : ℕ → List ℕ) → IsBytes w → ((j : ℕ) → IsBytes (s j)) → AreRoundKeys keys.now w
+    ensures { (w : List ℕ) (s : ℕ → List ℕ) → IsBytes w → ((j : ℕ) → IsBytes (s j))
+        → AreRoundKeys keys.now w
         → blocks ≡ planes s → result ≡ planes (λ j. cipher w (s j)) }
 {
     let mut state = sum(blocks, keys[0]);
@@ -67,7 +68,8 @@ fn counters(start: u128) -> [u8x16; 8]
 // The eight blocks of keystream from the counter `start` on.
 pub(super) fn keystream(keys: &[[u8x16; 8]; 15], start: u128) -> [u8x16; 8]
     ensures { (w : List ℕ) → IsBytes w → AreRoundKeys keys.now w
-        → result ≡ map (λ j. cipher w (to_be_bytes w128 ((start + j) % 2 ^ 128))) (range_with_len 0 8) }
+        → result ≡ map (λ j. cipher w (to_be_bytes w128 ((start + j) % 2 ^ 128)))
+        (range_with_len 0 8) }
 {
     transposed(encrypted(keys, transposed(counters(start))))
 }

@@ -82,7 +82,8 @@ pub(super) fn transposed(v: [u8x16; 8]) -> [u8x16; 8]
 // round key.
 #[inline(always)]
 pub(super) fn sum(q: [u8x16; 8], r: [u8x16; 8]) -> [u8x16; 8]
-    ensures { (s t : ℕ → List ℕ) → q ≡ planes s → r ≡ planes t → result ≡ planes (λ j. add_round_key (s j) (t j)) }
+    ensures { (s t : ℕ → List ℕ) → q ≡ planes s → r ≡ planes t → result ≡ planes
+        (λ j. add_round_key (s j) (t j)) }
 {
     [
         q[0] ^ r[0],
@@ -148,7 +149,8 @@ fn turned_two(q: [u8x16; 8]) -> [u8x16; 8]
 // Each byte times x: the highest bit comes back where the modulus has a bit.
 #[inline(always)]
 fn doubled(q: [u8x16; 8]) -> [u8x16; 8]
-    ensures { (s : ℕ → List ℕ) → ((j : ℕ) → IsBytes (s j)) → q ≡ planes s → result ≡ planes (λ j. doubled (s j)) }
+    ensures { (s : ℕ → List ℕ) → ((j : ℕ) → IsBytes (s j)) → q ≡ planes s → result ≡ planes
+        (λ j. doubled (s j)) }
 {
     [
         q[7],
@@ -165,7 +167,8 @@ fn doubled(q: [u8x16; 8]) -> [u8x16; 8]
 // MixColumns of each block: a byte and the next are doubled together.
 #[inline(always)]
 pub(super) fn mix_columns(q: [u8x16; 8]) -> [u8x16; 8]
-    ensures { (s : ℕ → List ℕ) → ((j : ℕ) → IsBytes (s j)) → q ≡ planes s → result ≡ planes (λ j. mix_columns (s j)) }
+    ensures { (s : ℕ → List ℕ) → ((j : ℕ) → IsBytes (s j)) → q ≡ planes s → result ≡ planes
+        (λ j. mix_columns (s j)) }
 {
     let next = turned_one(q);
     let both = sum(q, next);

@@ -105,8 +105,10 @@ fn folded(hashes: &[u64x2; 8], v: &[u64x2; 16]) -> [u64x2; 8]
 // Takes the words of a block into each lane's hash value. `offsets` are the numbers of bytes up to the
 // blocks' ends.
 pub(super) fn compress(hashes: &mut [u64x2; 8], m: &[u64x2; 16], offsets: [u64; 2], is_last: bool)
-    ensures { (values blocks : ℕ → List ℕ) → hashes.old ≡ hash_lanes values → m.now ≡ lanes (λ j. words (blocks j))
-        → hashes.new ≡ hash_lanes (λ j. compress (values j) (blocks j) (slice_index offsets j) is_last) }
+    ensures { (values blocks : ℕ → List ℕ) → hashes.old ≡ hash_lanes values → m.now ≡ lanes
+        (λ j. words (blocks j))
+        → hashes.new ≡ hash_lanes (λ j. compress (values j) (blocks j)
+        (slice_index offsets j) is_last) }
 {
     let v = work_vectors(hashes, offsets, is_last);
     let v = round(v, m, SIGMA[0]);
@@ -170,7 +172,8 @@ pub(super) fn hashes_side_by_side(first: &[u64; 8], second: &[u64; 8]) -> [u64x2
 #[inline(always)]
 pub(super) fn hash_in_lane(hashes: &[u64x2; 8], j: usize) -> [u64; 8]
     requires { j < 2 }
-    ensures { (values : ℕ → List ℕ) → hashes.now ≡ hash_lanes values → result ≡ hash_words (values j) }
+    ensures { (values : ℕ → List ℕ) → hashes.now ≡ hash_lanes values → result ≡ hash_words
+        (values j) }
 {
     [
         hashes[0].to_array()[j],

@@ -65,7 +65,8 @@ fn final_hashes(start: [u64x2; 8], key: &[u8], first: &[u8], second: &[u8]) -> [
     requires second { 1 ≤ length second.now }
     requires second_len { length second.now ≤ 128 }
     ensures { (values : ℕ → List ℕ) → start ≡ hash_lanes values
-        → result ≡ hash_lanes (λ j. final_hash (values j) (keyed_input key.now (both first.now second.now j))) }
+        → result ≡ hash_lanes (λ j. final_hash (values j)
+        (keyed_input key.now (both first.now second.now j))) }
 {
     let mut hashes = start;
     let block_len = BLOCK_LEN as u64;

@@ -9,7 +9,8 @@ use std::simd::u64x2;
 // The message word is added first, since the sum with it waits for nothing.
 #[inline(always)]
 fn sum_of_three(a: u64x2, b: u64x2, x: u64x2) -> u64x2
-    ensures { (f g h : ℕ → ℕ) → a ≡ two f → b ≡ two g → x ≡ two h → result ≡ two (λ j. (f j + g j + h j) % 2 ^ 64) }
+    ensures { (f g h : ℕ → ℕ) → a ≡ two f → b ≡ two g → x ≡ two h → result ≡ two
+        (λ j. (f j + g j + h j) % 2 ^ 64) }
 {
     a + x + b
 }
@@ -46,7 +47,8 @@ fn rotated(x: u64x2, k: u64) -> u64x2
 fn xor_rotated(a: u64x2, b: u64x2, k: u64) -> u64x2
     requires low { 0 < k }
     requires high { k < 64 }
-    ensures { (f g : ℕ → ℕ) → a ≡ two f → b ≡ two g → result ≡ two (λ j. rotate_right w64 (bit_xor (f j) (g j)) k) }
+    ensures { (f g : ℕ → ℕ) → a ≡ two f → b ≡ two g → result ≡ two
+        (λ j. rotate_right w64 (bit_xor (f j) (g j)) k) }
 {
     rotated(a ^ b, k)
 }

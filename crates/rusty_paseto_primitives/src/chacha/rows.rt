@@ -37,7 +37,8 @@ fn words_of(rows: [u32x4; 4]) -> [u32; 16]
 // The quarter round in each lane.
 #[inline(always)]
 fn mixed(x: [u32x4; 4]) -> [u32x4; 4]
-    ensures { (p q u v : ℕ → ℕ) → x ≡ four p ∷ four q ∷ four u ∷ four v ∷ [] → result ≡ mixed_rows p q u v }
+    ensures { (p q u v : ℕ → ℕ) → x ≡ four p ∷ four q ∷ four u ∷ four v ∷ [] → result
+        ≡ mixed_rows p q u v }
 {
     let (a, b, c, d) = half_mixed(x[0], x[1], x[2], x[3], 16, 12);
     let (a, b, c, d) = half_mixed(a, b, c, d, 8, 7);

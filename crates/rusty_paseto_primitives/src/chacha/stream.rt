@@ -9,7 +9,7 @@ ghost use Rattle.rusty_paseto_primitives.specs.ChaCha.Subkey.{hchacha20};
 use crate::chacha::block::{self, high_half, low_half};
 use crate::chacha::lanes;
 use crate::chacha::subkey::hchacha20;
-use crate::keystream::{apply_keystream, apply_by_vectors};
+use crate::keystream::{apply_by_vectors, apply_keystream};
 
 const BLOCK_LEN: usize = 64;
 
@@ -41,7 +41,8 @@ fn block_at(key: &[u32; 8], tail: &[u32; 2], n: u64) -> [u8; 64]
 // Masks whole groups of four blocks, from block number `first` on.
 fn apply_groups(key: &[u32; 8], tail: &[u32; 2], first: u64, data: &mut [u8])
     requires { length «data».old % 256 ≡ 0 }
-    ensures { «data».new ≡ xored (stream_of_blocks 64 (λ n. block_bytes (numbered key.now tail.now (first + n)))) «data».old }
+    ensures { «data».new ≡ xored (stream_of_blocks 64
+        (λ n. block_bytes (numbered key.now tail.now (first + n)))) «data».old }
 {
     'groups: for g in 0..data.len() / GROUP_LEN {
         let at = GROUP_LEN * g;
@@ -55,7 +56,8 @@ fn apply_groups(key: &[u32; 8], tail: &[u32; 2], first: u64, data: &mut [u8])
 // one after the other.
 fn apply_rest(key: &[u32; 8], tail: &[u32; 2], first: u64, data: &mut [u8])
     requires { length «data».old ≤ 256 }
-    ensures { «data».new ≡ xored (stream_of_blocks 64 (λ n. block_bytes (numbered key.now tail.now (first + n)))) «data».old }
+    ensures { «data».new ≡ xored (stream_of_blocks 64
+        (λ n. block_bytes (numbered key.now tail.now (first + n)))) «data».old }
 {
     if data.is_empty() {
         return;
@@ -98,7 +100,8 @@ pub fn xchacha20_apply(key: &[u8; 32], nonce: &[u8; 24], data: &mut [u8])
 /// xchacha20_apply_from(&key, &nonce, 1, &mut text);
 /// ```
 pub fn xchacha20_apply_from(key: &[u8; 32], nonce: &[u8; 24], first_block: u64, data: &mut [u8])
-    ensures { «data».new ≡ xored_from (xchacha20_stream key.now nonce.now) (64 * first_block) «data».old }
+    ensures { «data».new ≡ xored_from (xchacha20_stream key.now nonce.now)
+        (64 * first_block) «data».old }
 {
     let subkey = subkey_words(key, nonce);
     let tail = tail_words(nonce);

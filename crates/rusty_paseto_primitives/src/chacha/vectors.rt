@@ -17,7 +17,8 @@ pub(super) fn sum(a: u32x4, b: u32x4) -> u32x4
 fn xor_rotate(a: u32x4, b: u32x4, k: u32) -> u32x4
     requires low { 0 < k }
     requires high { k < 32 }
-    ensures { (f g : ℕ → ℕ) → a ≡ four f → b ≡ four g → result ≡ four (λ j. xor_rotate (f j) (g j) k) }
+    ensures { (f g : ℕ → ℕ) → a ≡ four f → b ≡ four g → result ≡ four
+        (λ j. xor_rotate (f j) (g j) k) }
 {
     let x = a ^ b;
     (x << u32x4::splat(k)) | (x >> u32x4::splat(32 - k))

@@ -1,4 +1,6 @@
-use Rattle.std.proofs.Common.{◌≡◌, ◌∙◌, if◌then◌else◌, sym}
+use Rattle.std.proofs.Common.{◌≡◌, ◌∙◌, ℕ, List, if◌then◌else◌, sym, ap}
+use Rattle.rusty_paseto_parts.specs.Header.{header_text}
+use Rattle.rusty_paseto_core.specs.Public.{header, public}
 use Rattle.rusty_paseto_core.specs.Context.{bound}
 use Rattle.rusty_paseto_core.proofs.SignedMessage.{bound_message}
 use Rattle.rusty_paseto_core.proofs.public.message.Goals as goal
@@ -19,6 +21,8 @@ returns-clause-ok g c =
     ] in
     let key = sym c.signs_key.ensures in
     let assertion = sym c.signs_assertion.ensures in
-    let five = rw (c.footer.ensures.text, c.assertion.ensures, c.as_bytes.ensures.value, c.header.ensures) at c.five_pieces-pieces.ensures in
+    let own_header : c.as_bytes.result.now ≡ header design =
+    c.as_bytes.ensures ∙ ap (λ (v : List ℕ). header_text v public) (sym g.met.V.PublicSuite.public_lawful.has_version) in
+    let five = rw (c.footer.ensures.text, c.assertion.ensures, own_header) at c.five_pieces-pieces.ensures in
     let same = bound_message design (bound c.args.public.now c.args.context.now) c.args.text.now c.five_pieces-pieces.result _ _ _ _ five key assertion start end in
     simp same at c.parse.ensures.ok

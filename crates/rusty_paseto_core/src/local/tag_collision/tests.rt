@@ -68,16 +68,12 @@ impl LocalSuite for Toy {
 
     ghost IsSplit = { λ keys key nonce. ⊤ };
 
-    ghost TAG_LENGTH = { 32 };
+    fn tag_length() -> usize {
+        32
+    }
 
-    const TAG_LENGTH: usize = 32;
-
-    ghost BINDS_ASSERTION = { true };
-
-    const BINDS_ASSERTION: bool = true;
-
-    fn header() -> &'static str {
-        "v4.local."
+    fn binds_assertion() -> bool {
+        true
     }
 
     fn token_nonce(seed: &[u8], _text: &[u8]) -> [u8; 32] {
@@ -108,11 +104,7 @@ impl LocalSuite for Toy {
 
     ghost has_version = { refl };
 
-    ghost has_tag_length = { refl };
-
     ghost short_tag = { Prim.search rules };
-
-    ghost has_assertion = { refl };
 
     ghost has_nonces_of_32_alone = { Prim.search rules };
 }

@@ -12,8 +12,8 @@ returns-in-Ok-clause-holds g c =
     let design = g.V.LocalSuite.design in
     let binding : Binding = bound c.args.key.now c.args.context.now in
     let payload = c.args.payload.items in
-    let width = c.TAG_LENGTH.result in
-    let own : width ≡ design.tag_length = c.TAG_LENGTH.ensures ∙ sym g.met.V.LocalSuite.has_tag_length in
+    let width = c.tag_length.result in
+    let own : width ≡ design.tag_length = c.tag_length.ensures in
     let room : HasRoom design payload = omega arith in
     let tagged : HasTag design binding payload = rw c.deref-2.ensures.value at ((c.has_tag.ensures _ c.split-keys.ensures).0 c.if-not-has_tag.false) in
     let new = c.apply_keystream.new.bytes in
@@ -22,7 +22,7 @@ returns-in-Ok-clause-holds g c =
     take_at new (drop (length new) c.keep_ciphertext.new.payload.items) c.keep_ciphertext.new.payload.len same in
     let text : string_bytes c.in-Ok.text ≡ new = ap (λ (v : Vec ℕ Global). v.items) c.in-Ok.ensures.ok ∙ back in
     let nonce : c.nonce_of-nonce.result ≡ take 32 payload = rw c.deref.ensures.value at c.nonce_of-nonce.ensures in
-    let width_again : c.TAG_LENGTH-2.result ≡ width = c.TAG_LENGTH-2.ensures ∙ sym c.TAG_LENGTH.ensures in
+    let width_again : c.tag_length-2.result ≡ width = c.tag_length-2.ensures ∙ sym c.tag_length.ensures in
     let len : c.len-len.result ≡ length payload = omega arith in
     let ciphertext : c.deref_mut.result.now ≡ drop 32 (take (length payload - width) payload) =
     rw (c.deref_mut.ensures.value, c.keep_ciphertext.ensures, len, width_again) refl in

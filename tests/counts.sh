@@ -1,0 +1,20 @@
+# What the scripts of this folder count by: each reads this file, calls `pass` or `fail` for each thing that it asks, and
+# ends with `finish`.
+passed=0
+failed=0
+
+pass() {
+    passed=$((passed + 1))
+}
+
+fail() {
+    failed=$((failed + 1))
+    echo "FAILED: $1"
+}
+
+# The last line, and the status.
+finish() {
+    echo "$passed passed, $failed failed"
+    [ "$failed" -eq 0 ]
+    exit
+}
