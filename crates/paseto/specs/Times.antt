@@ -1,6 +1,6 @@
 -- Moments and lengths of time, as words say them.
 use Rattle.std.specs.Prelude.{◌≡◌, ◌⊎◌, ◌*◌, ◌+ℤ◌, ⊤, ℕ, ℤ, pos, List, ◌++◌, Option, None, Some, Ok, codes}
-use Rattle.std.specs.Str.Parse.{digits_value, without_leading_plus}
+use Rattle.std.specs.Str.Parse.{IsNumeral, digits_value, without_leading_plus}
 use Rattle.jiff.specs.Names.{iso_datetime_text}
 use Rattle.jiff.specs.Types.{DateTime, Timestamp}
 use Rattle.jiff.specs.Words.{civil_nanos, parse_timestamp}
@@ -8,10 +8,10 @@ use Rattle.serde_json.specs.Data.{Members, string}
 use Rattle.rusty_paseto_claims.specs.Claim.{gives, one_member}
 use Rattle.rusty_paseto_generic.specs.Builders.Claims.{becomes, claim_set}
 
--- the word is a number and a unit of so many seconds
+-- the word is a number in decimal digits, behind a plus or none, and a unit of so many seconds
 abbrev pub IsCount : List ℕ → List ℕ → ℕ → ℕ → Type 0
 IsCount word unit size seconds =
-    (number : List ℕ) × (word ≡ number ++ unit) × (seconds ≡ size * digits_value 10 (without_leading_plus number))
+    (number : List ℕ) × (word ≡ number ++ unit) × IsNumeral 10 (without_leading_plus number) × (seconds ≡ size * digits_value 10 (without_leading_plus number))
 
 -- the word says a length of so many seconds
 abbrev pub IsLength : List ℕ → ℕ → Type 0

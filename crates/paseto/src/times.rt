@@ -1,7 +1,7 @@
 //! Moments and lengths of time, as words say them.
 
 ghost use Rattle.std.specs.Prelude.{◌≡◌, ◌≢◌, ◌<◌, ◌^◌, ◌*◌, ◌++◌, ◌+ℤ◌, ℕ, List, pos, IfOk, IfSome, MatchOption, codes, string_bytes};
-ghost use Rattle.std.specs.Str.Parse.{digits_value, without_leading_plus};
+ghost use Rattle.std.specs.Str.Parse.{IsNumeral, digits_value, without_leading_plus};
 ghost use Rattle.jiff.specs.Names.{iso_datetime_text};
 ghost use Rattle.jiff.specs.Words.{civil_nanos};
 ghost use Rattle.paseto.specs.Times.{IsLength, IsMomentText, SaysMoment};
@@ -61,6 +61,7 @@ fn before<'a>(text: &'a str, end: &str) -> Option<&'a str>
 /// The number that a word is.
 fn number_of(word: &str) -> Option<u64>
     ensures small { IfSome result (λ number. number < 2 ^ 32) }
+    ensures numeral { IfSome result (λ number. IsNumeral 10 (without_leading_plus word.now)) }
     ensures value { IfSome result (λ number. number ≡ digits_value 10 (without_leading_plus word.now)) }
 {
     match word.parse::<u32>() {

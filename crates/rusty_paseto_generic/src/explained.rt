@@ -16,7 +16,7 @@ pub struct Explained<'a, E> {
 impl<'a, E> Explained<'a, E> {
     pub(crate) fn new(error: &'a E, cause: Option<&'a PasetoError>) -> Self
         ensures error { result.error.now ≡ error.now }
-        ensures cause { result.cause ≡ cause }
+        ensures cause { result.cause ≡ cause.entry }
     {
         Explained { error, cause }
     }
