@@ -32,8 +32,8 @@ work=$(mktemp -d)
 trap 'rm -rf "$work"' EXIT
 cd "$work" || exit 1
 umask 077
-passed=0
-failed=0
+# shellcheck source=tests/counts.sh
+source "$root/tests/counts.sh"
 
 # Keys that Python's base64 wrote: the bytes 70, 71 and on, and what OpenSSL's Ed25519 (through Python's
 # `cryptography`) and RFC 8032 make of the seed of test 1 there.
@@ -63,15 +63,10 @@ bad_time='A time is as 90s, 30m, 12h, 7d or 2026-11-22T10:00:00Z'
 time_claim='exp, nbf and iat are set by --expires and --not-before'
 other_footer='The token has another footer: say it by --footer or --footer-kid; paseto inspect shows it'
 
-fail() {
-    failed=$((failed + 1))
-    echo "FAILED: $1"
-}
-
 # is NAME FOUND WANTED
 is() {
     if [ "$2" = "$3" ]; then
-        passed=$((passed + 1))
+        pass
     else
         fail "$1: ${2:0:200} in place of ${3:0:200}"
     fi
@@ -115,7 +110,7 @@ made() {
 for kind in v1.local v2.local v3.local v4.local; do
     line=$("$program" keygen $kind)
     is "keygen $kind" "$(printf %s "$line" | sed -E 's/^k([1-4])\.local\.[A-Za-z0-9_-]{43}$/v\1.local/')" $kind
-    [ "$("$program" keygen $kind)" != "$line" ] && passed=$((passed + 1)) || fail "keygen $kind gives one key twice"
+    [ "$("$program" keygen $kind)" != "$line" ] && pass || fail "keygen $kind gives one key twice"
 done
 for version in 2 3 4; do
     "$program" keygen v$version.public --public half$version.public --out half$version.secret >out 2>err
@@ -145,7 +140,7 @@ for key in v4.local v3.local; do
     gives "a token of $key" "$token" hello decrypt --key $key
     gives "a token of $key and a line feed" "$token
 " hello decrypt --key $key
-    [ "$(made encrypt --key $key)" != "$token" ] && passed=$((passed + 1)) || fail "one nonce twice, $key"
+    [ "$(made encrypt --key $key)" != "$token" ] && pass || fail "one nonce twice, $key"
     token=$(made encrypt --assertion for --footer id --key $key)
     gives "options in another order, $key" "$token" hello decrypt --footer id --key $key --assertion for
     refuses "another footer, $key" 1 "$token" "$bad_footer" decrypt --key $key --assertion for
@@ -218,7 +213,7 @@ refuses "no key file" 3 hello "$no_file" encrypt --key nowhere
 truncate -s 1G huge
 SECONDS=0
 refuses "a key file of 1 GB" 1 hello "$too_long" encrypt --key huge
-[ "$SECONDS" -le 2 ] && passed=$((passed + 1)) || fail "a key file of 1 GB takes $SECONDS seconds"
+[ "$SECONDS" -le 2 ] && pass || fail "a key file of 1 GB takes $SECONDS seconds"
 refuses "a folder as a key file" 3 hello "$bad_stream" encrypt --key .
 cp v4.local open.local
 chmod 644 open.local
@@ -366,5 +361,4 @@ is "a closed input" "$? $(cat out)$(cat err)" "3 $bad_stream"
 "$program" encrypt --key nowhere <in >out 2>&-
 is "a closed standard error" "$? $(cat out)" "3 "
 
-echo "$passed passed, $failed failed"
-[ "$failed" -eq 0 ]
+finish
