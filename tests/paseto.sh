@@ -291,7 +291,7 @@ refuses "no token for a ring" 1 "" "$bad_count" check --ring ring
 refuses "a token of another kind for a ring" 1 v1.public.AAAA "$bad_header" check --ring ring
 refuses "no footer for a ring" 1 "$("$program" issue --key 4.issues)" "The token has no footer" check --ring ring
 refuses "a footer that names no key" 1 "$("$program" issue --key 4.issues --footer id)" "The footer is not a JSON object" check --ring ring
-refuses "a key that is not in the ring" 1 "$("$program" issue --key 4.issues --footer-kid "$(printf 'a\nb')")" "The key 'a?b' is not in the ring" check --ring ring
+refuses "a key that is not in the ring" 1 "$("$program" issue --key 4.issues --footer-kid "$(printf 'a\nb')")" "The key \"a\\nb\" is not in the ring" check --ring ring
 refuses "no ring" 3 "$(cat token)" "$no_file" check --ring nowhere
 cp -r ring rings && echo nothing >rings/notes && cp ring/4 rings/.hidden && echo nothing >rings/.notes
 refuses "a ring with a file that is no key" 1 "$(cat token)" "The file 'notes' of the ring is no key file" check --ring rings
