@@ -50,18 +50,17 @@ impl<'a> Context<'a> {
     {
         self.assertion.as_bytes()
     }
-}
 
-/// Five pieces of an encoding, at the shortest of their lifetimes.
-pub(crate) fn five_pieces<'a>(
-    first: &'a [u8],
-    second: &'a [u8],
-    third: &'a [u8],
-    fourth: &'a [u8],
-    fifth: &'a [u8],
-) -> [&'a [u8]; 5]
-    ensures { map (λ piece. piece.now) result
-        ≡ first.now ∷ second.now ∷ third.now ∷ fourth.now ∷ fifth.now ∷ [] }
-{
-    [first, second, third, fourth, fifth]
+    /// The pieces of an encoding: three of its own, the footer and the assertion, at the shortest of their lifetimes.
+    pub(crate) fn five_pieces(
+        &'a self,
+        first: &'a [u8],
+        second: &'a [u8],
+        third: &'a [u8],
+    ) -> [&'a [u8]; 5]
+        ensures { map (λ piece. piece.now) result
+            ≡ first.now ∷ second.now ∷ third.now ∷ self.now.footer ∷ self.now.assertion ∷ [] }
+    {
+        [first, second, third, self.footer(), self.assertion()]
+    }
 }

@@ -5,7 +5,7 @@ ghost use Rattle.rusty_paseto_parts.specs.Error.{IsMemory};
 ghost use Rattle.rusty_paseto_core.specs.Context.{bound};
 ghost use Rattle.rusty_paseto_core.specs.Public.{HasPrivateLength, IsLawful, PublicDesign, header, message};
 
-use crate::context::{Context, five_pieces};
+use crate::context::Context;
 use rusty_paseto_parts::{
     Header, ImplicitAssertion, PasetoError, PreAuthenticationEncoding, Public, VersionTrait,
 };
@@ -74,13 +74,7 @@ fn message<V: PublicSuite>(
     ensures err { IfErr result IsMemory }
 {
     let header = Header::<V, Public>::default();
-    let pieces = five_pieces(
-        public,
-        header.as_bytes(),
-        text,
-        context.footer(),
-        context.assertion(),
-    );
+    let pieces = context.five_pieces(public, header.as_bytes(), text);
     let start = if V::signs_key() { 0 } else { 1 };
     let end = if V::signs_assertion() { 5 } else { 4 };
     PreAuthenticationEncoding::parse(alloc, &pieces[start..end])

@@ -4,7 +4,7 @@ ghost use Rattle.std.specs.Prelude.{◌≡◌, ℕ, List, length};
 ghost use Rattle.rusty_paseto_core.specs.Context.{bound};
 ghost use Rattle.rusty_paseto_core.specs.Local.Sealing.{tag_of};
 
-use crate::context::{Context, five_pieces};
+use crate::context::Context;
 use crate::local::LocalSuite;
 use rusty_paseto_parts::{Header, Local};
 
@@ -24,13 +24,7 @@ pub(crate) fn write_tag<V: LocalSuite>(
         → tag.new ≡ tag_of V.design (bound key context.now) nonce.now ciphertext.now }
 {
     let header = Header::<V, Local>::default();
-    let pieces = five_pieces(
-        header.as_bytes(),
-        nonce,
-        ciphertext,
-        context.footer(),
-        context.assertion(),
-    );
+    let pieces = context.five_pieces(header.as_bytes(), nonce, ciphertext);
     if V::binds_assertion() {
         V::write_tag(keys, &pieces, tag);
     } else {

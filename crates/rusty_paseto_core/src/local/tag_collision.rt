@@ -7,7 +7,7 @@ ghost use Rattle.rusty_paseto_core.specs.Local.Opened.{AreOpened, IsOpened, IsPa
 ghost use Rattle.rusty_paseto_core.specs.Local.Opening.{HasRoom, nonce_in, tag_in};
 ghost use Rattle.rusty_paseto_core.specs.Local.TagCollision.{IsCollision, IsCollisionAnswer, IsFirstFault, case_of, cases, encoding};
 
-use crate::context::{Context, five_pieces};
+use crate::context::Context;
 use crate::local::opening::open_payload;
 use crate::local::{LocalSuite, LocalVersion, NONCE_LENGTH};
 use crate::paseto::Paseto;
@@ -258,13 +258,7 @@ fn encoding_of<V: LocalSuite>(
     V::apply_keystream(&keys, &mut ciphertext);
     let context = Context::new(opened.opening.footer, opened.opening.assertion);
     let header = Header::<V, Local>::default();
-    let pieces = five_pieces(
-        header.as_bytes(),
-        &nonce,
-        &ciphertext,
-        context.footer(),
-        context.assertion(),
-    );
+    let pieces = context.five_pieces(header.as_bytes(), &nonce, &ciphertext);
     let count = if V::binds_assertion() { 5 } else { 4 };
     PreAuthenticationEncoding::parse(alloc, &pieces[..count])
 }

@@ -23,6 +23,6 @@ returns-clause-ok g c =
     let assertion = sym c.signs_assertion.ensures in
     let own_header : c.as_bytes.result.now ≡ header design =
     c.as_bytes.ensures ∙ ap (λ (v : List ℕ). header_text v public) (sym g.met.V.PublicSuite.public_lawful.has_version) in
-    let five = rw (c.footer.ensures.text, c.assertion.ensures, own_header) at c.five_pieces-pieces.ensures in
+    let five = rw own_header at c.five_pieces-pieces.ensures in
     let same = bound_message design (bound c.args.public.now c.args.context.now) c.args.text.now c.five_pieces-pieces.result _ _ _ _ five key assertion start end in
     simp same at c.parse.ensures.ok

@@ -7,7 +7,7 @@ ghost use Rattle.rusty_paseto_core.specs.HeaderLaws.{IsHeader-known};
 ghost use Rattle.rusty_paseto_core.specs.Local.{local};
 
 use super::{Opening, TagCollision, find_collision};
-use crate::context::five_pieces;
+use crate::context::Context;
 use crate::local::LocalSuite;
 use crate::local::sealing::seal;
 use rusty_paseto_parts::{
@@ -152,13 +152,8 @@ impl<'a> Made<'a> {
     // What the tag is made of.
     fn encoding(self, alloc: Global) -> Result<PreAuthenticationEncoding, PasetoError> {
         let nonce = [self.nonce; 32];
-        let pieces = five_pieces(
-            b"v4.local.",
-            &nonce,
-            self.text.as_bytes(),
-            self.footer.as_bytes(),
-            self.assertion.as_bytes(),
-        );
+        let context = Context::new(self.footer(), self.assertion());
+        let pieces = context.five_pieces(b"v4.local.", &nonce, self.text.as_bytes());
         PreAuthenticationEncoding::parse(alloc, &pieces)
     }
 }
