@@ -1,5 +1,5 @@
 -- What is issued and parsed under the keys of lines.
-use Rattle.std.proofs.Common.{◌≡◌, ℕ, List, Bool, Option, None, Some, Result, Ok, Err, IfOk, IsOkAnd, String, Global, string_bytes, is_some}
+use Rattle.std.proofs.Common.{◌≡◌, ℕ, List, Bool, Option, None, Result, Ok, Err, IfOk, IsOkAnd, String, Global, string_bytes, is_some}
 use Rattle.serde_json.specs.Data.{Data, Members}
 use Rattle.serde_json.specs.View.{view}
 use Rattle.serde_json.specs.declared.value.Value.{Value}
@@ -11,12 +11,7 @@ use Rattle.rusty_paseto_core.specs.Local.Opening.{opening}
 use Rattle.rusty_paseto_core.specs.Public.{PublicDesign}
 use Rattle.rusty_paseto_core.specs.Public.Scheme.{Refusal, Validity}
 use Rattle.rusty_paseto_core.specs.Public.Verifying.{verification}
-use Rattle.rusty_paseto_generic.specs.Builders.GenericBuilder.{IsBoxAnswer, IsSealed, IsSignAnswer}
-use Rattle.rusty_paseto_generic.specs.declared.error.GenericBuilderError.{GenericBuilderError}
-use Rattle.paseto_xchacha20poly1305.specs.Sealing.{box_sealing}
-use Rattle.rusty_paseto.specs.PasetoBuilder.{IsRefusedRepeat}
-use Rattle.rusty_paseto_parts.specs.declared.error.PasetoError.{PasetoError}
-use Rattle.rusty_paseto_paserk.specs.declared.header.PaserkVersion.TheVariants.{V2}
+use Rattle.rusty_paseto_generic.specs.Builders.GenericBuilder.{IsSealed}
 use Rattle.rusty_paseto_generic.specs.Parsers.Parsing.{IsParsed, assertion_in}
 use Rattle.rusty_paseto_generic.specs.Parsers.Rules.{Rules}
 use Rattle.rusty_paseto_generic.specs.Validator.{Verdict}
@@ -29,7 +24,7 @@ use Rattle.paseto.specs.declared.check.Demands.{Demands}
 use Rattle.paseto.specs.declared.issue.Order.{Order}
 use Rattle.paseto.specs.Check.{AreRules, OpensClaims, VerifiesClaims}
 use Rattle.paseto.specs.Footers.{IsFooterOf}
-use Rattle.paseto.specs.Issue.{AreOrdered, BoxesClaims, IsLineOf, SealsClaims, SignsOrder}
+use Rattle.paseto.specs.Issue.{AreOrdered, IsLineOf, SealsClaims}
 use Rattle.paseto.specs.Local.{IsLocalKey}
 use Rattle.paseto.specs.Public.{IsHalf}
 use Rattle.paseto.specs.Ring.{IsRingOf, ParsesIn, opened_in, verified_in}
@@ -56,46 +51,6 @@ seals_line version design key order IsDrawn (Ok l) built token key_bytes claims 
   line_is = line_is;
 }
 seals_line version design key order IsDrawn (Err e) built token key_bytes claims footer assertion is_key ordered is_footer none is sealed line_is = tt
-
-pub boxes_line : {E F : Type 0} (key : List ℕ) (order : Order) (IsDrawn : List ℕ → Type 0)
-    (line : Result (String Global) E) (answer : Result (String Global) F) (token : String Global)
-    (key_bytes : List ℕ) (claims : Members) (footer : Option Footer)
-    → IsLocalKey V2 key key_bytes → AreOrdered order claims → IsFooterOf order.footer footer
-    → answer ≡ Ok token
-    → IfOk answer (λ t. IsBoxAnswer box_sealing (binding_of key_bytes footer None) (is_some footer) claims IsDrawn (Some (string_bytes t)))
-    → IfOk line (λ l. IsLineOf (string_bytes token) (string_bytes l))
-    → IfOk line (λ l. BoxesClaims key order IsDrawn (string_bytes l))
-boxes_line key order IsDrawn (Ok l) answer token key_bytes claims footer is_key ordered is_footer is sealed line_is = record {
-  key_bytes = key_bytes;
-  is_key = is_key;
-  claims = claims;
-  are_ordered = ordered;
-  footer = footer;
-  is_footer = is_footer;
-  token = string_bytes token;
-  is_sealed = rw is at sealed;
-  line_is = line_is;
-}
-boxes_line key order IsDrawn (Err e) answer token key_bytes claims footer is_key ordered is_footer is sealed line_is = tt
-
-pub signs_line : {E : Type 0} (valid : Validity) (Declined : PasetoError → Type 0) (design : PublicDesign) (private public : List ℕ) (order : Order)
-    (line : Result (String Global) E) (answer : Result (String Global) GenericBuilderError) (token : String Global)
-    (claims : Members) (footer : Option Footer) (assertion : Option ImplicitAssertion) (repeated : Option (List ℕ))
-    → AreOrdered order claims → IsFooterOf order.footer footer → assertion ≡ None
-    → answer ≡ Ok token → IsRefusedRepeat repeated answer
-    → (repeated ≡ None → IsSignAnswer valid Declined design private public footer assertion claims answer)
-    → IfOk line (λ l. IsLineOf (string_bytes token) (string_bytes l))
-    → IfOk line (λ l. SignsOrder valid design public order (string_bytes l))
-signs_line valid Declined design private public order (Ok l) answer token claims footer assertion repeated ordered is_footer none is once signed line_is = record {
-  claims = claims;
-  are_ordered = ordered;
-  footer = footer;
-  is_footer = is_footer;
-  token = string_bytes token;
-  is_signed = rw none at (rw is at (signed (rw is at once.ok)).ok);
-  line_is = line_is;
-}
-signs_line valid Declined design private public order (Err e) answer token claims footer assertion repeated ordered is_footer none is once signed line_is = tt
 
 -- ---- parsed
 

@@ -1,5 +1,5 @@
 -- The lines of a ring, one after the other.
-use Rattle.std.proofs.Common.{◌≡◌, ◌⊎◌, ℕ, List, [], ◌∷◌, Result, Ok, Err, OnOk, IsOk, inl, inr, refl}
+use Rattle.std.proofs.Common.{◌≡◌, ℕ, List, ◌∷◌, Result, Ok, Err, OnOk, IsOk, inl, inr, refl}
 use Rattle.std.proofs.lemmas.Bool.{false≢true}
 use Rattle.rusty_paseto.specs.KeyRing.{AreSame, Keys, with_key}
 use Rattle.rusty_paseto_paserk.specs.declared.header.PaserkVersion.{PaserkVersion}
@@ -8,7 +8,7 @@ use Rattle.rusty_paseto_paserk.specs.declared.error.PaserkError.{PaserkError}
 use Rattle.rusty_paseto_paserk.specs.declared.error.PaserkError.TheVariants.{NoKey, OtherVersion, OtherType, InvalidKey, Memory}
 use Rattle.rusty_paseto_paserk.specs.Id.{id_of}
 use Rattle.rusty_paseto_paserk.specs.Text.{IsKeyFault, writing}
-use Rattle.paseto.specs.Ring.{AreKeysOf, HasKeys, IsAdded, IsInserted, IsOther, IsPassedOver, IsRingOf}
+use Rattle.paseto.specs.Ring.{AreKeysOf, IsAdded, IsInserted, IsOther, IsPassedOver, IsRingOf}
 
 module _ (version : PaserkVersion) (kind : PaserkType) (line : List ℕ) where
   -- a line that is passed over begins as a key of another version or type

@@ -1,7 +1,7 @@
 -- What a parser checks, with what its checks find.
 use Rattle.std.proofs.Common.{◌≡◌, ℕ, List, [], ◌∷◌, Bool, true, false, if◌then◌else◌, bytes_eq, codes, refl, ap, ◌∙◌}
 use Rattle.rusty_paseto_generic.specs.Parsers.Held.{default_date, checked, rules_of, verdict_of, verdicts_of}
-use Rattle.rusty_paseto_generic.specs.Parsers.Rules.{AreSame, IsStored, Rule, Rules, edited, no_rule, with_both, with_stored}
+use Rattle.rusty_paseto_generic.specs.Parsers.Rules.{AreSame, Rule, Rules, edited, no_rule, with_both, with_stored}
 use Rattle.rusty_paseto_generic.specs.Parsers.Times.{not_before, times_at}
 use Rattle.rusty_paseto_generic.specs.Validator.{Verdict}
 use Rattle.rusty_paseto_generic.specs.declared.parsers.checks.Checks.{Checks}

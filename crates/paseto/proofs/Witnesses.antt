@@ -1,6 +1,5 @@
 -- What is printed of what was parsed from words and input.
-use Rattle.std.proofs.Common.{◌≡◌, ℕ, List, Option, None, Some, IfSome, Result, Ok, Err, IfOk, IsOkAnd, String, Global, string_bytes, sym, ◌∙◌}
-use Rattle.std.specs.Io.KnownBytes.{Appends}
+use Rattle.std.proofs.Common.{◌≡◌, ℕ, List, Option, None, Some, IfSome, Result, Ok, Err, IfOk, String, Global, string_bytes, sym, ◌∙◌}
 use Rattle.jiff.specs.Types.{Timestamp}
 use Rattle.paseto.specs.declared.arguments.Options.{Options}
 use Rattle.paseto.specs.declared.check.Demands.{Demands}
@@ -19,13 +18,6 @@ for_some (Err e) x A B a b = tt
 pub in_other_words : {T E : Type 0} (result : Result T E) (A B : T → Type 0) → ((t : T) → A t → B t) → IfOk result A → IfOk result B
 in_other_words (Ok t) A B step a = step t a
 in_other_words (Err e) A B step a = tt
-
--- what is written of a text that was made is what the text is
-pub printed : {E : Type 0} (made : Result (String Global) E) (before after : Option (List ℕ)) (P : List ℕ → Type 0)
-    → IfOk made (λ text. P (string_bytes text)) → IsOkAnd made (λ text. Appends before after (string_bytes text))
-    → (written : List ℕ) × Appends before after written × P written
-printed (Ok text) before after P is appended = (string_bytes text, appended, is)
-printed (Err error) before after P is appended = absurd appended
 
 -- a token that is checked is the line of the input
 pub checks_for : {E : Type 0} (known : Option (List ℕ)) (result : Result (String Global) E) (line text : List ℕ)

@@ -1,5 +1,5 @@
 -- Claims by name, as words say them.
-use Rattle.std.specs.Prelude.{◌≡◌, ◌≢◌, ◌⊎◌, ⊤, ◌==◌, ℕ, List, [], ◌∷◌, ◌++◌, Option, Some, codes, string_bytes}
+use Rattle.std.specs.Prelude.{◌≡◌, ◌≢◌, ◌⊎◌, ⊤, ◌==◌, ℕ, List, [], ◌∷◌, ◌++◌, Some, codes, string_bytes}
 use Rattle.std.specs.List.{before_first, after_first}
 use Rattle.serde_json.specs.Data.{Data, Members, string}
 use Rattle.serde_json.specs.Read.{read}

@@ -1,9 +1,7 @@
 -- The command `issue`.
-use Rattle.std.specs.Prelude.{◌≡◌, ◌⊎◌, ℕ, List, [], ◌∷◌, ◌++◌, length, Option, None, Some, codes, is_some, option_map, string_bytes}
+use Rattle.std.specs.Prelude.{◌≡◌, ◌⊎◌, ℕ, List, [], ◌∷◌, ◌++◌, Option, None, Some, codes, is_some, option_map, string_bytes}
 use Rattle.jiff.specs.Types.{Timestamp}
-use Rattle.serde_json.specs.Data.{Members, member, no_members, object, string}
-use Rattle.serde_json.specs.Written.{compact_text}
-use Rattle.rusty_paseto_parts.specs.Footer.{footer_text}
+use Rattle.serde_json.specs.Data.{Members}
 use Rattle.rusty_paseto_parts.specs.declared.texts.footer.Footer.{Footer}
 use Rattle.rusty_paseto_core.specs.Context.{binding_of}
 use Rattle.rusty_paseto_core.specs.Local.{Design}

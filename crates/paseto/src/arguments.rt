@@ -376,7 +376,8 @@ impl<'a> Options<'a> {
 
     /// The same and a further option, unless its name is none or it is there already.
     fn with(self, name: &str, value: &'a str) -> Option<Options<'a>>
-        ensures { option_map settings result ≡ with_setting (settings self.entry) name.now value.now }
+        ensures { option_map settings result ≡ with_setting
+            (settings self.entry) name.now value.now }
     {
         let mut options = self;
         if name == "--key" && self.key.is_none() {

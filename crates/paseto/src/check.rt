@@ -62,7 +62,8 @@ impl Demands {
         options: &Options<'_>,
         now: Timestamp,
     ) -> Result<Demands, ProgramError>
-        ensures { IfOk result (λ demands. AreDemands (claim_words (words_of words.now)) options.now now demands) }
+        ensures { IfOk result (λ demands. AreDemands
+            (claim_words (words_of words.now)) options.now now demands) }
     {
         Ok(Demands {
             at: checked_at(options.at, now)?,
@@ -79,7 +80,8 @@ impl Demands {
         timed: bool,
     ) -> Result<PasetoParser<'d, V, P>, ProgramError>
         ensures rules { IfOk result (λ made. AreRules self.now timed
-            (verdicts_of (λ b. verdict b) (times_at made.parser.moment made.parser.leeway) made.parser.checks)) }
+            (verdicts_of (λ b. verdict b) (times_at made.parser.moment made.parser.leeway)
+            made.parser.checks)) }
         ensures footer { IfOk result (λ made. IsFooterOf self.now.footer made.parser.footer) }
         ensures assertion { IfOk result (λ made. made.parser.implicit_assertion ≡ None) }
     {
@@ -98,7 +100,8 @@ fn first_parser<'d, V: VersionTrait, P: PurposeTrait>(
     at: Timestamp,
     timed: bool,
 ) -> Result<PasetoParser<'d, V, P>, ProgramError>
-    ensures checks { IfOk result (λ made. AreSame (rules_of made.parser.checks) (begun_rules timed)) }
+    ensures checks { IfOk result (λ made. AreSame (rules_of made.parser.checks)
+        (begun_rules timed)) }
     ensures times { IfOk result (λ made. (made.parser.moment ≡ at) × (made.parser.leeway ≡ 0)) }
     ensures footer { IfOk result (λ made. made.parser.footer ≡ None) }
     ensures assertion { IfOk result (λ made. made.parser.implicit_assertion ≡ None) }
@@ -129,10 +132,13 @@ fn put_checks<V: VersionTrait, P: PurposeTrait, B: Drop>(
     parser: &mut DefaultParser<'_, V, P, B>,
     claims: &[NamedClaim],
 ) -> Result<(), ProgramError>
-    ensures set { OnOk result (AreStored claims.now (rules_of parser.old.parser.checks) (rules_of parser.new.parser.checks)) }
-    ensures times { (parser.new.parser.moment ≡ parser.old.parser.moment) × (parser.new.parser.leeway ≡ parser.old.parser.leeway) }
+    ensures set { OnOk result (AreStored claims.now (rules_of parser.old.parser.checks)
+        (rules_of parser.new.parser.checks)) }
+    ensures times { (parser.new.parser.moment ≡ parser.old.parser.moment)
+        × (parser.new.parser.leeway ≡ parser.old.parser.leeway) }
     ensures footer { parser.new.parser.footer ≡ parser.old.parser.footer }
-    ensures assertion { parser.new.parser.implicit_assertion ≡ parser.old.parser.implicit_assertion }
+    ensures assertion { parser.new.parser.implicit_assertion
+        ≡ parser.old.parser.implicit_assertion }
 {
     let [claim, rest @ ..] = claims else {
         return Ok(());
@@ -221,7 +227,8 @@ fn opened<V: DefaultLocalVersion + KeyVersion>(
     timed: bool,
     token: &str,
 ) -> Result<Value, ProgramError>
-    ensures { IfOk result (λ value. OpensClaims V.paserk V.design key.now demands.now timed token.now (view value)) }
+    ensures { IfOk result (λ value. OpensClaims V.paserk V.design key.now demands.now timed
+        token.now (view value)) }
 {
     let key = local_from_paserk::<V>(alloc, key)?;
     let parser = demands.parser::<V, Local>(alloc, timed)?;
@@ -235,7 +242,8 @@ fn unboxed(
     timed: bool,
     token: &str,
 ) -> Result<Value, ProgramError>
-    ensures { IfOk result (λ value. UnboxesClaims key.now demands.now timed token.now (view value)) }
+    ensures { IfOk result (λ value. UnboxesClaims key.now demands.now timed token.now
+        (view value)) }
 {
     let key = local_from_paserk::<V2>(alloc, key)?;
     let parser = demands.parser::<V2, Local>(alloc, timed)?;
@@ -268,7 +276,8 @@ fn verified_in_v2(
     timed: bool,
     token: &str,
 ) -> Result<Value, ProgramError>
-    ensures { IfOk result (λ value. VerifiesClaims K2 32 Ed25519Verifies IsRefused v2_public key.now demands.now timed token.now (view value)) }
+    ensures { IfOk result (λ value. VerifiesClaims K2 32 Ed25519Verifies IsRefused v2_public key.now
+        demands.now timed token.now (view value)) }
 {
     let key = public_from_paserk::<V2, 32>(alloc, key)?;
     let parser = demands.parser::<V2, Public>(alloc, timed)?;
@@ -283,7 +292,8 @@ fn verified_in_v3(
     timed: bool,
     token: &str,
 ) -> Result<Value, ProgramError>
-    ensures { IfOk result (λ value. VerifiesClaims K3 49 P384Verifies IsRefusedByP384 v3_public key.now demands.now timed token.now (view value)) }
+    ensures { IfOk result (λ value. VerifiesClaims K3 49 P384Verifies IsRefusedByP384 v3_public
+        key.now demands.now timed token.now (view value)) }
 {
     let key = public_from_paserk::<V3, 49>(alloc, key)?;
     let parser = demands.parser::<V3, Public>(alloc, timed)?;
@@ -298,7 +308,8 @@ fn verified_in_v4(
     timed: bool,
     token: &str,
 ) -> Result<Value, ProgramError>
-    ensures { IfOk result (λ value. VerifiesClaims K4 32 Ed25519Verifies IsRefused v4_public key.now demands.now timed token.now (view value)) }
+    ensures { IfOk result (λ value. VerifiesClaims K4 32 Ed25519Verifies IsRefused v4_public key.now
+        demands.now timed token.now (view value)) }
 {
     let key = public_from_paserk::<V4, 32>(alloc, key)?;
     let parser = demands.parser::<V4, Public>(alloc, timed)?;

@@ -52,7 +52,8 @@ impl NamedClaim {
     }
 
     fn of(alloc: Global, name: &str, value: Value) -> Result<NamedClaim, ProgramError>
-        ensures { IfOk result (λ claim. (string_bytes claim.name ≡ name.now) × (view claim.value ≡ view value)) }
+        ensures { IfOk result (λ claim. (string_bytes claim.name ≡ name.now)
+            × (view claim.value ≡ view value)) }
     {
         if name.is_empty() {
             return Err(ProgramError::Claim);
@@ -67,7 +68,8 @@ impl NamedClaim {
 
 /// What stands in front of a colon at the end of a text, where there is one.
 fn without_colon(text: &str) -> Option<&str>
-    ensures { MatchOption result ((other : List ℕ) → text.now ≢ other ++ codes ":") (λ name. text.now ≡ name.now ++ codes ":") }
+    ensures { MatchOption result ((other : List ℕ) → text.now ≢ other ++ codes ":")
+        (λ name. text.now ≡ name.now ++ codes ":") }
 {
     text.strip_suffix(":")
 }

@@ -86,7 +86,8 @@ impl ProgramError {
     /// Writes the text and a line feed, or a beginning of them where a write fails, which changes nothing else. No
     /// memory is taken.
     pub fn say<E: Write>(&self, errors: &mut E)
-        ensures { (said : List ℕ) × StartsWith (line_of self.now) said × Appends (E.contents errors.old) (E.contents errors.new) said }
+        ensures { (said : List ℕ) × StartsWith (line_of self.now) said × Appends
+            (E.contents errors.old) (E.contents errors.new) said }
     {
         if write_whole(errors, self.text().as_bytes()).is_ok() {
             let _ = write_whole(errors, b"\n");

@@ -43,8 +43,10 @@ fn read_whole<R: Read>(alloc: Global, input: &mut R) -> Result<Vec<u8>, ProgramE
 
 /// The text that the input is. One that is not UTF-8 is refused.
 pub fn read_text<R: Read>(alloc: Global, input: &mut R) -> Result<String, ProgramError>
-    ensures text { IfOk result (λ text. IfSome (R.remaining input.old) (λ bytes. bytes ≡ string_bytes text)) }
-    ensures refused { IfErr result (λ error. IfSome (R.remaining input.old) (λ bytes. IsOutside error ⊎ (¬ IsUtf8 bytes))) }
+    ensures text { IfOk result (λ text. IfSome (R.remaining input.old)
+        (λ bytes. bytes ≡ string_bytes text)) }
+    ensures refused { IfErr result (λ error. IfSome (R.remaining input.old)
+        (λ bytes. IsOutside error ⊎ (¬ IsUtf8 bytes))) }
 {
     let bytes = read_whole(alloc, input)?;
     match String::from_utf8(bytes) {
@@ -56,8 +58,10 @@ pub fn read_text<R: Read>(alloc: Global, input: &mut R) -> Result<String, Progra
 /// The line that the input is: its text without the line feed at its end, where it has one. One that is not UTF-8 is
 /// refused.
 pub fn read_line<R: Read>(alloc: Global, input: &mut R) -> Result<String, ProgramError>
-    ensures line { IfOk result (λ line. IfSome (R.remaining input.old) (λ bytes. line_of_input bytes ≡ string_bytes line)) }
-    ensures refused { IfErr result (λ error. IfSome (R.remaining input.old) (λ bytes. IsOutside error ⊎ (¬ IsUtf8 (line_of_input bytes)))) }
+    ensures line { IfOk result (λ line. IfSome (R.remaining input.old)
+        (λ bytes. line_of_input bytes ≡ string_bytes line)) }
+    ensures refused { IfErr result (λ error. IfSome (R.remaining input.old)
+        (λ bytes. IsOutside error ⊎ (¬ IsUtf8 (line_of_input bytes)))) }
 {
     let bytes = read_whole(alloc, input)?;
     let line = str::from_utf8(without_line_feed(&bytes))?;
@@ -67,8 +71,10 @@ pub fn read_line<R: Read>(alloc: Global, input: &mut R) -> Result<String, Progra
 /// The line of a key file. Not more is read of it than a little over the longest line that a key has, and a longer file
 /// is refused as `TooLong`, and bytes that are no text as `NoKey`.
 pub fn read_key_line<K: Read>(alloc: Global, file: &mut K) -> Result<String, ProgramError>
-    ensures line { IfOk result (λ line. IfSome (K.remaining file.old) (λ bytes. line_of_input bytes ≡ string_bytes line)) }
-    ensures refused { IfErr result (λ error. IfSome (K.remaining file.old) (λ bytes. IsOutside error ⊎ IsNoKeyFile bytes)) }
+    ensures line { IfOk result (λ line. IfSome (K.remaining file.old)
+        (λ bytes. line_of_input bytes ≡ string_bytes line)) }
+    ensures refused { IfErr result (λ error. IfSome (K.remaining file.old)
+        (λ bytes. IsOutside error ⊎ IsNoKeyFile bytes)) }
 {
     let bytes = read_short(alloc, file)?;
     let Ok(line) = str::from_utf8(without_line_feed(&bytes)) else {
@@ -80,7 +86,8 @@ pub fn read_key_line<K: Read>(alloc: Global, file: &mut K) -> Result<String, Pro
 /// The bytes of a file that has not more than a key file.
 fn read_short<K: Read>(alloc: Global, file: &mut K) -> Result<Vec<u8>, ProgramError>
     ensures whole { IfOk result (λ bytes. IsInput (K.remaining file.old) bytes.items) }
-    ensures failed { IfErr result (λ error. IfSome (K.remaining file.old) (λ bytes. IsOutside error ⊎ (1024 < length bytes))) }
+    ensures failed { IfErr result (λ error. IfSome (K.remaining file.old)
+        (λ bytes. IsOutside error ⊎ (1024 < length bytes))) }
 {
     let mut bytes = Vec::new(alloc);
     let mut space = [0u8; LIMIT];

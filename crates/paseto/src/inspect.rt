@@ -40,7 +40,8 @@ fn payload_of(token: &str) -> Result<&str, PasetoError>
 
 /// Appends a line of a name and what stands there.
 fn push_line(lines: &mut String, name: &str, value: &str) -> Result<(), AllocError>
-    ensures { OnOk result (string_bytes lines.new ≡ string_bytes lines.old ++ line name.now value.now) }
+    ensures { OnOk result (string_bytes lines.new ≡ string_bytes lines.old
+        ++ line name.now value.now) }
 {
     lines.push_str(name)?;
     lines.push_str(value)?;
@@ -49,7 +50,8 @@ fn push_line(lines: &mut String, name: &str, value: &str) -> Result<(), AllocErr
 
 /// Appends the line of a footer.
 fn push_footer(lines: &mut String, footer: &Option<String>) -> Result<(), AllocError>
-    ensures { OnOk result (string_bytes lines.new ≡ string_bytes lines.old ++ footer_line (option_map string_bytes footer.now)) }
+    ensures { OnOk result (string_bytes lines.new ≡ string_bytes lines.old
+        ++ footer_line (option_map string_bytes footer.now)) }
 {
     match footer {
         Some(text) => push_line(lines, "footer: ", text.as_str()),

@@ -49,7 +49,8 @@ impl Order {
         options: &Options<'_>,
         now: Timestamp,
     ) -> Result<Order, ProgramError>
-        ensures { IfOk result (λ order. IsOrder (claim_words (words_of words.now)) options.now now order) }
+        ensures { IfOk result (λ order. IsOrder (claim_words (words_of words.now)) options.now now
+            order) }
     {
         Ok(Order {
             moment: now,
@@ -63,7 +64,8 @@ impl Order {
 
 /// The moment that a word says, where there is one.
 fn time_of(word: Option<&str>, now: Timestamp) -> Result<Option<Timestamp>, ProgramError>
-    ensures { IfOk result (λ moment. SaysTime (option_map (λ text. text.now) word.entry) now moment) }
+    ensures { IfOk result (λ moment. SaysTime
+        (option_map (λ text. text.now) word.entry) now moment) }
 {
     let Some(word) = word else {
         return Ok(None);
@@ -81,7 +83,8 @@ pub fn issue<G: TryRng>(
     order: &Order,
     generator: &mut G,
 ) -> Result<String, ProgramError>
-    ensures { IfOk result (λ line. Issues key.now order.now (λ nonce. G.may_fill generator.old nonce generator.new) (string_bytes line)) }
+    ensures { IfOk result (λ line. Issues key.now order.now
+        (λ nonce. G.may_fill generator.old nonce generator.new) (string_bytes line)) }
 {
     match header_of(key) {
         Some((PaserkVersion::V1, PaserkType::Local, _)) => sealed::<V1, G>(
@@ -170,7 +173,8 @@ fn signed_by<V: Signs<S>, S>(
     key: &PasetoAsymmetricPrivateKey<'_, V, Public>,
     order: &Order,
 ) -> Result<String, ProgramError>
-    ensures { IfOk result (λ line. SignsOrder V.valid V.public_design (V.partner key.now) order.now (string_bytes line)) }
+    ensures { IfOk result (λ line. SignsOrder V.valid V.public_design (V.partner key.now) order.now
+        (string_bytes line)) }
 {
     let builder = ordered::<V, Public>(alloc, order)?;
     with_line_feed(built(alloc, builder.build(scheme, key))?)
@@ -203,7 +207,8 @@ fn set_claims<V: VersionTrait, P: PurposeTrait>(
     builder: &mut PasetoBuilder<'_, V, P>,
     claims: &[NamedClaim],
 ) -> Result<(), ProgramError>
-    ensures set { OnOk result (AreSet claims.now (held builder.old.builder.claims) (held builder.new.builder.claims)) }
+    ensures set { OnOk result (AreSet claims.now (held builder.old.builder.claims)
+        (held builder.new.builder.claims)) }
     ensures rest { builder.new.builder.paseto ≡ builder.old.builder.paseto }
 {
     let [claim, rest @ ..] = claims else {
@@ -218,7 +223,8 @@ fn set_expiry<V: VersionTrait, P: PurposeTrait>(
     builder: &mut PasetoBuilder<'_, V, P>,
     moment: Option<Timestamp>,
 ) -> Result<(), ProgramError>
-    ensures set { OnOk result (IsTimeSet (codes "exp") moment (held builder.old.builder.claims) (held builder.new.builder.claims)) }
+    ensures set { OnOk result (IsTimeSet (codes "exp") moment (held builder.old.builder.claims)
+        (held builder.new.builder.claims)) }
     ensures rest { builder.new.builder.paseto ≡ builder.old.builder.paseto }
 {
     let Some(moment) = moment else {
@@ -233,7 +239,8 @@ fn set_begin<V: VersionTrait, P: PurposeTrait>(
     builder: &mut PasetoBuilder<'_, V, P>,
     moment: Option<Timestamp>,
 ) -> Result<(), ProgramError>
-    ensures set { OnOk result (IsTimeSet (codes "nbf") moment (held builder.old.builder.claims) (held builder.new.builder.claims)) }
+    ensures set { OnOk result (IsTimeSet (codes "nbf") moment (held builder.old.builder.claims)
+        (held builder.new.builder.claims)) }
     ensures rest { builder.new.builder.paseto ≡ builder.old.builder.paseto }
 {
     let Some(moment) = moment else {

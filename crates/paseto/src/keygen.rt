@@ -37,7 +37,8 @@ pub fn keygen<G: TryRng>(
     generator: &mut G,
 ) -> Result<NewKey, ProgramError>
     ensures refused { IfErr result (λ error. IsOutside error ⊎ (kind ≡ V3Public)) }
-    ensures made { IfOk result (λ made. IsGenerated kind (λ drawn. G.may_fill generator.old drawn generator.new)
+    ensures made { IfOk result (λ made. IsGenerated kind
+        (λ drawn. G.may_fill generator.old drawn generator.new)
         (string_bytes made.secret) (option_map string_bytes made.public)) }
 {
     match kind {
@@ -53,7 +54,8 @@ pub fn keygen<G: TryRng>(
 
 fn local<V: KeyVersion, G: TryRng>(alloc: Global, generator: &mut G) -> Result<NewKey, ProgramError>
     ensures refused { IfErr result IsOutside }
-    ensures made { IfOk result (λ made. IsNewLocalKey V.paserk (λ drawn. G.may_fill generator.old drawn generator.new)
+    ensures made { IfOk result (λ made. IsNewLocalKey V.paserk
+        (λ drawn. G.may_fill generator.old drawn generator.new)
         (string_bytes made.secret) (option_map string_bytes made.public)) }
 {
     let key = PasetoSymmetricKey::<V, Local>::from(Key::try_new_random(generator)?);
@@ -66,7 +68,8 @@ fn local<V: KeyVersion, G: TryRng>(alloc: Global, generator: &mut G) -> Result<N
 
 fn pair_of_v2<G: TryRng>(alloc: Global, generator: &mut G) -> Result<NewKey, ProgramError>
     ensures refused { IfErr result IsOutside }
-    ensures made { IfOk result (λ made. IsPairOfEd25519 K2 (λ drawn. G.may_fill generator.old drawn generator.new)
+    ensures made { IfOk result (λ made. IsPairOfEd25519 K2
+        (λ drawn. G.may_fill generator.old drawn generator.new)
         (string_bytes made.secret) (option_map string_bytes made.public)) }
 {
     let (private, public) = Ed25519::key_pair(generator)?;
@@ -78,7 +81,8 @@ fn pair_of_v2<G: TryRng>(alloc: Global, generator: &mut G) -> Result<NewKey, Pro
 }
 
 fn pair_of_v3<G: TryRng>(alloc: Global, generator: &mut G) -> Result<NewKey, ProgramError>
-    ensures { IfOk result (λ made. IsPairOfV3 (λ drawn. G.may_fill generator.old drawn generator.new)
+    ensures { IfOk result (λ made. IsPairOfV3
+        (λ drawn. G.may_fill generator.old drawn generator.new)
         (string_bytes made.secret) (option_map string_bytes made.public)) }
 {
     let (private, public) = P384::key_pair(generator)?;
@@ -91,7 +95,8 @@ fn pair_of_v3<G: TryRng>(alloc: Global, generator: &mut G) -> Result<NewKey, Pro
 
 fn pair_of_v4<G: TryRng>(alloc: Global, generator: &mut G) -> Result<NewKey, ProgramError>
     ensures refused { IfErr result IsOutside }
-    ensures made { IfOk result (λ made. IsPairOfEd25519 K4 (λ drawn. G.may_fill generator.old drawn generator.new)
+    ensures made { IfOk result (λ made. IsPairOfEd25519 K4
+        (λ drawn. G.may_fill generator.old drawn generator.new)
         (string_bytes made.secret) (option_map string_bytes made.public)) }
 {
     let (private, public) = Ed25519::key_pair(generator)?;
@@ -121,8 +126,10 @@ fn pair<V: KeyPairVersion>(
 
 /// A text and a line feed.
 fn with_line_feed(text: Result<String, PaserkError>) -> Result<String, ProgramError>
-    ensures refused { IfErr result (λ error. IsErrAnd text (λ source. error ≡ key_error_of source) ⊎ IsOutside error) }
-    ensures line { IfOk result (λ line. IsOkAnd text (λ text. string_bytes line ≡ string_bytes text ++ (10 ∷ []))) }
+    ensures refused { IfErr result (λ error. IsErrAnd text (λ source. error ≡ key_error_of source)
+        ⊎ IsOutside error) }
+    ensures line { IfOk result (λ line. IsOkAnd text
+        (λ text. string_bytes line ≡ string_bytes text ++ (10 ∷ []))) }
 {
     let mut line = text?;
     line.push('\n')?;

@@ -24,9 +24,11 @@ pub fn encrypt<R: Read, G: TryRng>(
     input: &mut R,
 ) -> Result<String, ProgramError>
     ensures printed { IfOk result (λ line. IfSome (R.remaining input.old) (λ text.
-        Encrypts key.now options.now (λ nonce. G.may_fill generator.old nonce generator.new) text (string_bytes line))) }
+        Encrypts key.now options.now (λ nonce. G.may_fill generator.old nonce generator.new) text
+        (string_bytes line))) }
     ensures refused { IfErr result (λ error. IfSome (R.remaining input.old) (λ text.
-        IsOutside error ⊎ EncryptsNothing key.now options.now (λ nonce. G.may_fill generator.old nonce generator.new) text)) }
+        IsOutside error ⊎ EncryptsNothing key.now options.now
+        (λ nonce. G.may_fill generator.old nonce generator.new) text)) }
 {
     if is_of_version_3(key) {
         sealed::<V3, R, G>(alloc, key, options, generator, input)
@@ -43,9 +45,12 @@ fn sealed<V: AssertionVersion + KeyVersion, R: Read, G: TryRng>(
     input: &mut R,
 ) -> Result<String, ProgramError>
     ensures printed { IfOk result (λ line. IfSome (R.remaining input.old) (λ text.
-        Seals V.paserk V.design key.now options.now (λ nonce. G.may_fill generator.old nonce generator.new) text (string_bytes line))) }
-    ensures refused { IfErr result (λ error. IfSome (R.remaining input.old) (λ text. IsOutside error ⊎ ((line : List ℕ)
-        → ¬ Seals V.paserk V.design key.now options.now (λ nonce. G.may_fill generator.old nonce generator.new) text line))) }
+        Seals V.paserk V.design key.now options.now
+        (λ nonce. G.may_fill generator.old nonce generator.new) text (string_bytes line))) }
+    ensures refused { IfErr result (λ error. IfSome (R.remaining input.old)
+        (λ text. IsOutside error ⊎ ((line : List ℕ)
+        → ¬ Seals V.paserk V.design key.now options.now
+        (λ nonce. G.may_fill generator.old nonce generator.new) text line))) }
 {
     let key = local_from_paserk::<V>(alloc, key)?;
     let text = read_text(alloc, input)?;
@@ -85,7 +90,8 @@ fn opened<V: AssertionVersion + KeyVersion, R: Read>(
 ) -> Result<String, ProgramError>
     ensures printed { IfOk result (λ text. IfSome (R.remaining input.old) (λ bytes.
         Opens V.paserk V.design key.now options.now (line_of_input bytes) (string_bytes text))) }
-    ensures refused { IfErr result (λ error. IfSome (R.remaining input.old) (λ bytes. IsOutside error ⊎ ((text : List ℕ)
+    ensures refused { IfErr result (λ error. IfSome (R.remaining input.old)
+        (λ bytes. IsOutside error ⊎ ((text : List ℕ)
         → ¬ Opens V.paserk V.design key.now options.now (line_of_input bytes) text))) }
 {
     let key = local_from_paserk::<V>(alloc, key)?;

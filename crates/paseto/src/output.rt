@@ -10,7 +10,8 @@ use std::io::Write;
 /// Writes all the bytes. A write that fails or takes none is `InputOrOutput`, and the writer then
 /// has a beginning of them, and not all.
 pub fn write_whole<W: Write>(output: &mut W, bytes: &[u8]) -> Result<(), ProgramError>
-    ensures whole { OnOk result (Appends (W.contents output.old) (W.contents output.new) bytes.now) }
+    ensures whole { OnOk result (Appends (W.contents output.old)
+        (W.contents output.new) bytes.now) }
     ensures beginning { OnErr result ((written : List ℕ) × IsCutShort bytes.now written
         × Appends (W.contents output.old) (W.contents output.new) written) }
     ensures failed { IfErr result (λ error. error ≡ ProgramError.InputOrOutput) }

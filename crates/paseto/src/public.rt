@@ -49,7 +49,8 @@ fn sign_in_v3<R: Read>(
     ensures printed { IfOk result (λ line. IfSome (R.remaining input.old) (λ text.
         SignsInV3 key.now options.now text (string_bytes line))) }
     ensures refused { IfErr result (λ error. IfSome (R.remaining input.old) (λ text. IsOutside error
-        ⊎ (((line : List ℕ) → ¬ SignsInV3 key.now options.now text line) ⊎ IsDeclinedInV3 key.now))) }
+        ⊎ (((line : List ℕ) → ¬ SignsInV3 key.now options.now text line)
+        ⊎ IsDeclinedInV3 key.now))) }
 {
     let key = secret_from_paserk::<V3, 48>(alloc, key)?;
     let text = read_text(alloc, input)?;
@@ -66,7 +67,8 @@ fn sign_in_v4<R: Read>(
     ensures printed { IfOk result (λ line. IfSome (R.remaining input.old) (λ text.
         SignsInV4 key.now options.now text (string_bytes line))) }
     ensures refused { IfErr result (λ error. IfSome (R.remaining input.old) (λ text. IsOutside error
-        ⊎ (((line : List ℕ) → ¬ SignsInV4 key.now options.now text line) ⊎ IsDeclinedInV4 key.now))) }
+        ⊎ (((line : List ℕ) → ¬ SignsInV4 key.now options.now text line)
+        ⊎ IsDeclinedInV4 key.now))) }
 {
     let key = secret_from_paserk::<V4, 64>(alloc, key)?;
     let text = read_text(alloc, input)?;
@@ -82,9 +84,11 @@ fn signed<V: AssertionVersion + Signs<S>, S>(
     options: &Options<'_>,
 ) -> Result<String, ProgramError>
     ensures printed { IfOk result (λ line.
-        IsSigned V.valid V.public_design (V.partner key.now) options.now text.now (string_bytes line)) }
+        IsSigned V.valid V.public_design (V.partner key.now) options.now text.now
+        (string_bytes line)) }
     ensures refused { HasPrivateLength V.public_design key.now
-        → IfErr result (λ error. IsOutside error ⊎ ((source : PasetoError) × V.declined key.now source)) }
+        → IfErr result (λ error. IsOutside error
+        ⊎ ((source : PasetoError) × V.declined key.now source)) }
 {
     let assertion = V::signed_assertion(options.assertion);
     let payload = Payload::from(text);
@@ -120,7 +124,8 @@ fn verify_in_v3<R: Read>(
 ) -> Result<String, ProgramError>
     ensures printed { IfOk result (λ text. IfSome (R.remaining input.old) (λ bytes.
         VerifiesInV3 key.now options.now (line_of_input bytes) (string_bytes text))) }
-    ensures refused { IfErr result (λ error. IfSome (R.remaining input.old) (λ bytes. IsOutside error
+    ensures refused { IfErr result (λ error. IfSome (R.remaining input.old)
+        (λ bytes. IsOutside error
         ⊎ ((text : List ℕ) → ¬ VerifiesInV3 key.now options.now (line_of_input bytes) text))) }
 {
     let key = public_from_paserk::<V3, 49>(alloc, key)?;
@@ -137,7 +142,8 @@ fn verify_in_v4<R: Read>(
 ) -> Result<String, ProgramError>
     ensures printed { IfOk result (λ text. IfSome (R.remaining input.old) (λ bytes.
         VerifiesInV4 key.now options.now (line_of_input bytes) (string_bytes text))) }
-    ensures refused { IfErr result (λ error. IfSome (R.remaining input.old) (λ bytes. IsOutside error
+    ensures refused { IfErr result (λ error. IfSome (R.remaining input.old)
+        (λ bytes. IsOutside error
         ⊎ ((text : List ℕ) → ¬ VerifiesInV4 key.now options.now (line_of_input bytes) text))) }
 {
     let key = public_from_paserk::<V4, 32>(alloc, key)?;
@@ -154,7 +160,8 @@ fn verified<V: AssertionVersion + Verifies<S>, S>(
     options: &Options<'_>,
 ) -> Result<String, ProgramError>
     ensures printed { IfOk result (λ text.
-        IsVerified V.valid V.refused V.public_design key.now options.now token.now (string_bytes text)) }
+        IsVerified V.valid V.refused V.public_design key.now options.now token.now
+        (string_bytes text)) }
     ensures refused { IfErr result (λ error. IsOutside error ⊎ ((text : List ℕ)
         → ¬ IsVerified V.valid V.refused V.public_design key.now options.now token.now text)) }
 {

@@ -37,7 +37,8 @@ pub fn claims_by_ring(
     timed: bool,
     token: &str,
 ) -> Result<Value, ProgramError>
-    ensures { IfOk result (λ value. ParsesByRing (words_of lines.now) demands.now timed token.now (view value)) }
+    ensures { IfOk result (λ value. ParsesByRing (words_of lines.now) demands.now timed token.now
+        (view value)) }
 {
     let untrusted = UntrustedToken::try_parse(token)?;
     match (untrusted.version(), untrusted.purpose()) {
@@ -59,7 +60,8 @@ fn opened<V: DefaultLocalVersion + KeyVersion>(
     timed: bool,
     token: &str,
 ) -> Result<Value, ProgramError>
-    ensures { IfOk result (λ value. ParsesIn V.paserk LocalKey (opened_in V.design) (words_of lines.now) demands.now timed token.now (view value)) }
+    ensures { IfOk result (λ value. ParsesIn V.paserk LocalKey (opened_in V.design)
+        (words_of lines.now) demands.now timed token.now (view value)) }
 {
     let ring = local_ring::<V>(alloc, lines)?;
     let parser = demands.parser::<V, Local>(alloc, timed)?;
@@ -73,7 +75,8 @@ fn unboxed(
     timed: bool,
     token: &str,
 ) -> Result<Value, ProgramError>
-    ensures { IfOk result (λ value. ParsesIn K2 LocalKey unboxed_in (words_of lines.now) demands.now timed token.now (view value)) }
+    ensures { IfOk result (λ value. ParsesIn K2 LocalKey unboxed_in
+        (words_of lines.now) demands.now timed token.now (view value)) }
 {
     let ring = local_ring::<V2>(alloc, lines)?;
     let parser = demands.parser::<V2, Local>(alloc, timed)?;
@@ -87,7 +90,9 @@ fn verified_in_v2(
     timed: bool,
     token: &str,
 ) -> Result<Value, ProgramError>
-    ensures { IfOk result (λ value. ParsesIn K2 PublicKey (verified_in Ed25519Verifies IsRefused v2_public) (words_of lines.now) demands.now timed token.now (view value)) }
+    ensures { IfOk result (λ value. ParsesIn K2 PublicKey
+        (verified_in Ed25519Verifies IsRefused v2_public) (words_of lines.now) demands.now timed
+        token.now (view value)) }
 {
     let keys = public_keys::<V2, 32>(alloc, lines)?;
     let ring = ring_of_v2(alloc, &keys)?;
@@ -102,7 +107,9 @@ fn verified_in_v3(
     timed: bool,
     token: &str,
 ) -> Result<Value, ProgramError>
-    ensures { IfOk result (λ value. ParsesIn K3 PublicKey (verified_in P384Verifies IsRefusedByP384 v3_public) (words_of lines.now) demands.now timed token.now (view value)) }
+    ensures { IfOk result (λ value. ParsesIn K3 PublicKey
+        (verified_in P384Verifies IsRefusedByP384 v3_public) (words_of lines.now) demands.now timed
+        token.now (view value)) }
 {
     let keys = public_keys::<V3, 49>(alloc, lines)?;
     let ring = ring_of_v3(alloc, &keys)?;
@@ -117,7 +124,9 @@ fn verified_in_v4(
     timed: bool,
     token: &str,
 ) -> Result<Value, ProgramError>
-    ensures { IfOk result (λ value. ParsesIn K4 PublicKey (verified_in Ed25519Verifies IsRefused v4_public) (words_of lines.now) demands.now timed token.now (view value)) }
+    ensures { IfOk result (λ value. ParsesIn K4 PublicKey
+        (verified_in Ed25519Verifies IsRefused v4_public) (words_of lines.now) demands.now timed
+        token.now (view value)) }
 {
     let keys = public_keys::<V4, 32>(alloc, lines)?;
     let ring = ring_of_v4(alloc, &keys)?;
@@ -143,7 +152,8 @@ fn add_line<V: KeyVersion>(
     ring: &mut KeyRing<V>,
     line: &str,
 ) -> Result<(), ProgramError>
-    ensures { OnOk result (IsAdded V.paserk LocalKey line.now (keys_of ring.old) (keys_of ring.new)) }
+    ensures { OnOk result (IsAdded V.paserk LocalKey line.now (keys_of ring.old)
+        (keys_of ring.new)) }
 {
     match local_from_paserk::<V>(alloc, line) {
         Ok(key) => put(alloc, ring.add(local_id(alloc, &key)?.as_str(), key)),

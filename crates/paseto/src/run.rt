@@ -45,16 +45,20 @@ pub fn run<K: Read, G: TryRng, R: Read, W: Write, E: Write>(
     errors: &mut E,
 ) -> u8
     ensures status { result ≤ 3 }
-    ensures written { (written : List ℕ) × Appends (W.contents output.old) (W.contents output.new) written
+    ensures written { (written : List ℕ)
+        × Appends (W.contents output.old) (W.contents output.new) written
         × IfSome (K.remaining key_file.old) (λ file. IfSome (R.remaining input.old) (λ bytes.
-        Writes task options.now (λ drawn. G.may_fill generator.old drawn generator.new) file bytes (result == 0) written)) }
+        Writes task options.now (λ drawn. G.may_fill generator.old drawn generator.new) file bytes
+        (result == 0) written)) }
     ensures untouched { (result ≡ 1) ⊎ (result ≡ 2) → output.new ≡ output.old }
     ensures refused { (result ≡ 1) ⊎ (result ≡ 2)
         → IfSome (K.remaining key_file.old) (λ file. IfSome (R.remaining input.old) (λ bytes.
-        IsRefused task options.now (λ drawn. G.may_fill generator.old drawn generator.new) file bytes)) }
+        IsRefused task options.now (λ drawn. G.may_fill generator.old drawn generator.new) file
+        bytes)) }
     ensures quiet { result ≡ 0 → errors.new ≡ errors.old }
     ensures said { result ≢ 0 → (error : ProgramError) × (status_of error ≡ result)
-        × ((said : List ℕ) × StartsWith (line_of error) said × Appends (E.contents errors.old) (E.contents errors.new) said) }
+        × ((said : List ℕ) × StartsWith (line_of error) said × Appends (E.contents errors.old)
+        (E.contents errors.new) said) }
 {
     match print(alloc, task, options, key_file, generator, input, output) {
         Ok(()) => 0,
@@ -75,12 +79,16 @@ fn print<K: Read, G: TryRng, R: Read, W: Write>(
     input: &mut R,
     output: &mut W,
 ) -> Result<(), ProgramError>
-    ensures written { (written : List ℕ) × Appends (W.contents output.old) (W.contents output.new) written
+    ensures written { (written : List ℕ)
+        × Appends (W.contents output.old) (W.contents output.new) written
         × IfSome (K.remaining key_file.old) (λ file. IfSome (R.remaining input.old) (λ bytes.
-        Writes task options.now (λ drawn. G.may_fill generator.old drawn generator.new) file bytes (is_ok result) written)) }
+        Writes task options.now (λ drawn. G.may_fill generator.old drawn generator.new) file bytes
+        (is_ok result) written)) }
     ensures untouched { IfErr result (λ error. (status_of error ≡ 3) ⊎ (output.new ≡ output.old)) }
-    ensures refused { IfErr result (λ error. IfSome (K.remaining key_file.old) (λ file. IfSome (R.remaining input.old) (λ bytes.
-        IsOutside error ⊎ IsRefused task options.now (λ drawn. G.may_fill generator.old drawn generator.new) file bytes))) }
+    ensures refused { IfErr result (λ error. IfSome (K.remaining key_file.old)
+        (λ file. IfSome (R.remaining input.old) (λ bytes.
+        IsOutside error ⊎ IsRefused task options.now
+        (λ drawn. G.may_fill generator.old drawn generator.new) file bytes))) }
 {
     let made = make(alloc, task, options, key_file, generator, input)?;
     write_whole(output, made.as_str().as_bytes())
@@ -94,12 +102,14 @@ pub fn run_inspect<R: Read, W: Write, E: Write>(
     errors: &mut E,
 ) -> u8
     ensures status { result ≤ 3 }
-    ensures written { result ≡ 0 → (written : List ℕ) × Appends (W.contents output.old) (W.contents output.new) written
+    ensures written { result ≡ 0 → (written : List ℕ)
+        × Appends (W.contents output.old) (W.contents output.new) written
         × IfSome (R.remaining input.old) (λ bytes. Inspects (line_of_input bytes) written) }
     ensures refused { (result ≡ 1) ⊎ (result ≡ 2) → output.new ≡ output.old }
     ensures quiet { result ≡ 0 → errors.new ≡ errors.old }
     ensures said { result ≢ 0 → (error : ProgramError) × (status_of error ≡ result)
-        × ((said : List ℕ) × StartsWith (line_of error) said × Appends (E.contents errors.old) (E.contents errors.new) said) }
+        × ((said : List ℕ) × StartsWith (line_of error) said × Appends (E.contents errors.old)
+        (E.contents errors.new) said) }
 {
     match print_inspection(alloc, input, output) {
         Ok(()) => 0,
@@ -116,7 +126,8 @@ fn print_inspection<R: Read, W: Write>(
     input: &mut R,
     output: &mut W,
 ) -> Result<(), ProgramError>
-    ensures written { OnOk result ((written : List ℕ) × Appends (W.contents output.old) (W.contents output.new) written
+    ensures written { OnOk result ((written : List ℕ)
+        × Appends (W.contents output.old) (W.contents output.new) written
         × IfSome (R.remaining input.old) (λ bytes. Inspects (line_of_input bytes) written)) }
     ensures refused { IfErr result (λ error. (status_of error ≡ 3) ⊎ (output.new ≡ output.old)) }
 {
@@ -134,10 +145,14 @@ fn make<K: Read, G: TryRng, R: Read>(
     generator: &mut G,
     input: &mut R,
 ) -> Result<String, ProgramError>
-    ensures printed { IfOk result (λ made. IfSome (K.remaining key_file.old) (λ file. IfSome (R.remaining input.old) (λ bytes.
-        Prints task options.now (λ drawn. G.may_fill generator.old drawn generator.new) file bytes (string_bytes made)))) }
-    ensures refused { IfErr result (λ error. IfSome (K.remaining key_file.old) (λ file. IfSome (R.remaining input.old) (λ bytes.
-        IsOutside error ⊎ IsRefused task options.now (λ drawn. G.may_fill generator.old drawn generator.new) file bytes))) }
+    ensures printed { IfOk result (λ made. IfSome (K.remaining key_file.old)
+        (λ file. IfSome (R.remaining input.old) (λ bytes.
+        Prints task options.now (λ drawn. G.may_fill generator.old drawn generator.new) file bytes
+        (string_bytes made)))) }
+    ensures refused { IfErr result (λ error. IfSome (K.remaining key_file.old)
+        (λ file. IfSome (R.remaining input.old) (λ bytes.
+        IsOutside error ⊎ IsRefused task options.now
+        (λ drawn. G.may_fill generator.old drawn generator.new) file bytes))) }
 {
     let key = read_key_line(alloc, key_file)?;
     let key = key.as_str();
@@ -161,13 +176,15 @@ pub fn run_issue<G: TryRng, W: Write, E: Write>(
     errors: &mut E,
 ) -> u8
     ensures status { result ≤ 3 }
-    ensures written { result ≡ 0 → (written : List ℕ) × Appends (W.contents output.old) (W.contents output.new) written
+    ensures written { result ≡ 0 → (written : List ℕ)
+        × Appends (W.contents output.old) (W.contents output.new) written
         × IssuesFor (claim_words (words_of words.now)) options.now now key.now
         (λ nonce. G.may_fill generator.old nonce generator.new) written }
     ensures refused { (result ≡ 1) ⊎ (result ≡ 2) → output.new ≡ output.old }
     ensures quiet { result ≡ 0 → errors.new ≡ errors.old }
     ensures said { result ≢ 0 → (error : ProgramError) × (status_of error ≡ result)
-        × ((said : List ℕ) × StartsWith (line_of error) said × Appends (E.contents errors.old) (E.contents errors.new) said) }
+        × ((said : List ℕ) × StartsWith (line_of error) said × Appends (E.contents errors.old)
+        (E.contents errors.new) said) }
 {
     let made = token_of(alloc, words, options, key, now, generator);
     finish(made, output, errors)
@@ -182,7 +199,8 @@ fn token_of<G: TryRng>(
     now: Timestamp,
     generator: &mut G,
 ) -> Result<String, ProgramError>
-    ensures { IfOk result (λ line. IssuesFor (claim_words (words_of words.now)) options.now now key.now
+    ensures { IfOk result (λ line. IssuesFor
+        (claim_words (words_of words.now)) options.now now key.now
         (λ nonce. G.may_fill generator.old nonce generator.new) (string_bytes line)) }
 {
     let order = Order::parse(alloc, words, options, now)?;
@@ -201,13 +219,16 @@ pub fn run_check<R: Read, W: Write, E: Write>(
     errors: &mut E,
 ) -> u8
     ensures status { result ≤ 3 }
-    ensures written { result ≡ 0 → (written : List ℕ) × Appends (W.contents output.old) (W.contents output.new) written
-        × IfSome (R.remaining input.old) (λ bytes. ChecksFor (claim_words (words_of words.now)) options.now now keys.now
+    ensures written { result ≡ 0 → (written : List ℕ)
+        × Appends (W.contents output.old) (W.contents output.new) written
+        × IfSome (R.remaining input.old)
+        (λ bytes. ChecksFor (claim_words (words_of words.now)) options.now now keys.now
         (line_of_input bytes) written) }
     ensures refused { (result ≡ 1) ⊎ (result ≡ 2) → output.new ≡ output.old }
     ensures quiet { result ≡ 0 → errors.new ≡ errors.old }
     ensures said { result ≢ 0 → (error : ProgramError) × (status_of error ≡ result)
-        × ((said : List ℕ) × StartsWith (line_of error) said × Appends (E.contents errors.old) (E.contents errors.new) said) }
+        × ((said : List ℕ) × StartsWith (line_of error) said × Appends (E.contents errors.old)
+        (E.contents errors.new) said) }
 {
     let made = claims_line(alloc, words, options, keys, now, input);
     finish(made, output, errors)
@@ -234,12 +255,14 @@ fn claims_line<R: Read>(
 /// Prints the id of a key, and returns the status, as `run` does.
 pub fn run_id<W: Write, E: Write>(alloc: Global, key: &str, output: &mut W, errors: &mut E) -> u8
     ensures status { result ≤ 3 }
-    ensures written { result ≡ 0 → (written : List ℕ) × Appends (W.contents output.old) (W.contents output.new) written
+    ensures written { result ≡ 0 → (written : List ℕ)
+        × Appends (W.contents output.old) (W.contents output.new) written
         × Identifies key.now written }
     ensures refused { (result ≡ 1) ⊎ (result ≡ 2) → output.new ≡ output.old }
     ensures quiet { result ≡ 0 → errors.new ≡ errors.old }
     ensures said { result ≢ 0 → (error : ProgramError) × (status_of error ≡ result)
-        × ((said : List ℕ) × StartsWith (line_of error) said × Appends (E.contents errors.old) (E.contents errors.new) said) }
+        × ((said : List ℕ) × StartsWith (line_of error) said × Appends (E.contents errors.old)
+        (E.contents errors.new) said) }
 {
     finish(id(alloc, key), output, errors)
 }
@@ -251,11 +274,13 @@ fn finish<W: Write, E: Write>(
     errors: &mut E,
 ) -> u8
     ensures status { result ≤ 3 }
-    ensures written { result ≡ 0 → IsOkAnd made (λ text. Appends (W.contents output.old) (W.contents output.new) (string_bytes text)) }
+    ensures written { result ≡ 0 → IsOkAnd made
+        (λ text. Appends (W.contents output.old) (W.contents output.new) (string_bytes text)) }
     ensures refused { (result ≡ 1) ⊎ (result ≡ 2) → output.new ≡ output.old }
     ensures quiet { result ≡ 0 → errors.new ≡ errors.old }
     ensures said { result ≢ 0 → (error : ProgramError) × (status_of error ≡ result)
-        × ((said : List ℕ) × StartsWith (line_of error) said × Appends (E.contents errors.old) (E.contents errors.new) said) }
+        × ((said : List ℕ) × StartsWith (line_of error) said × Appends (E.contents errors.old)
+        (E.contents errors.new) said) }
 {
     match written(made, output) {
         Ok(()) => 0,
@@ -268,7 +293,8 @@ fn finish<W: Write, E: Write>(
 
 /// Writes what was made.
 fn written<W: Write>(made: Result<String, ProgramError>, output: &mut W) -> Result<(), ProgramError>
-    ensures written { OnOk result (IsOkAnd made (λ text. Appends (W.contents output.old) (W.contents output.new) (string_bytes text))) }
+    ensures written { OnOk result (IsOkAnd made
+        (λ text. Appends (W.contents output.old) (W.contents output.new) (string_bytes text))) }
     ensures refused { IfErr result (λ error. (status_of error ≡ 3) ⊎ (output.new ≡ output.old)) }
 {
     write_whole(output, made?.as_str().as_bytes())

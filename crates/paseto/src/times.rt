@@ -26,7 +26,8 @@ pub fn moment_of(word: &str, now: Timestamp) -> Option<Timestamp>
 
 /// The moment so many seconds later.
 fn moment_after(seconds: u64, now: Timestamp) -> Option<Timestamp>
-    ensures { IfSome result (λ moment. moment.nanosecond ≡ now.nanosecond +ℤ pos (seconds * 1_000_000_000)) }
+    ensures { IfSome result (λ moment. moment.nanosecond
+        ≡ now.nanosecond +ℤ pos (seconds * 1_000_000_000)) }
 {
     match Timestamp::from_nanosecond(now.as_nanosecond() + seconds as i128 * SECOND) {
         Ok(moment) => Some(moment),
@@ -53,7 +54,8 @@ fn seconds_of(word: &str) -> Option<u64>
 
 /// What stands in front of the end of a text, where it ends so.
 fn before<'a>(text: &'a str, end: &str) -> Option<&'a str>
-    ensures { MatchOption result ((front : List ℕ) → text.now ≢ front ++ end.now) (λ front. text.now ≡ front.now ++ end.now) }
+    ensures { MatchOption result ((front : List ℕ) → text.now ≢ front ++ end.now)
+        (λ front. text.now ≡ front.now ++ end.now) }
 {
     text.strip_suffix(end)
 }
@@ -62,7 +64,8 @@ fn before<'a>(text: &'a str, end: &str) -> Option<&'a str>
 fn number_of(word: &str) -> Option<u64>
     ensures small { IfSome result (λ number. number < 2 ^ 32) }
     ensures numeral { IfSome result (λ number. IsNumeral 10 (without_leading_plus word.now)) }
-    ensures value { IfSome result (λ number. number ≡ digits_value 10 (without_leading_plus word.now)) }
+    ensures value { IfSome result (λ number. number
+        ≡ digits_value 10 (without_leading_plus word.now)) }
 {
     match word.parse::<u32>() {
         Ok(number) => Some(number as u64),
