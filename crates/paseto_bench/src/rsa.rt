@@ -3,6 +3,7 @@
 //! Each call answers 2^64 - 1 where a length is not one that it has, or the scheme refused.
 
 ghost use Rattle.std.specs.Prelude.{◌≡◌, ◌≢◌, ◌^◌, ◌-◌};
+ghost use Rattle.paseto_rsa.specs.Keys.{rsa_public};
 ghost use Rattle.paseto_rsa.specs.RsaPss.{RsaPssVerifies};
 
 use paseto_rsa::{PublicKey, RsaPss};
@@ -46,7 +47,10 @@ pub extern "C" fn paseto_bench_rsa_sign(
     message: &[u8],
     signature: &mut [u8],
     reps: u32,
-) -> u64 {
+) -> u64
+    ensures { result ≢ 2 ^ 64 - 1
+        → RsaPssVerifies (rsa_public private.now) message.now signature.new }
+{
     if signature.len() != 256 {
         return FAILED;
     }
@@ -101,7 +105,9 @@ pub extern "C" fn paseto_bench_rsa_verify_read(
     message: &[u8],
     signature: &[u8],
     reps: u32,
-) -> u64 {
+) -> u64
+    ensures { result ≢ 2 ^ 64 - 1 → RsaPssVerifies public.now message.now signature.now }
+{
     let Some(signature) = signature.as_array::<256>() else {
         return FAILED;
     };
