@@ -1,5 +1,5 @@
 #!/usr/bin/env python3
-"""Counts where the libraries and the program make up a refusal of memory, or a failure of input and output.
+"""Counts where the libraries and the programs make up a refusal of memory, or a failure of input and output.
 
 No contract says that memory was refused where `Memory` is answered: a refusal has no relation. So each place
 that writes down such an error, and does not hand on one that it was given, stands in tests/origins.txt, with

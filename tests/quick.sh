@@ -1,7 +1,7 @@
 #!/usr/bin/env bash
 # Says within minutes whether a change is sound, while one works on it: the formats, the checks of the crates
 # that changed and of those above them, over the work that earlier checks kept, their tests, run with no
-# proof, and the program from outside.
+# proof, and the programs from outside.
 #
 #   tests/quick.sh [REVISION]
 #

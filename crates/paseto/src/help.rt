@@ -68,9 +68,9 @@ const INSPECT: &str = "  paseto inspect [INPUT]
 const STATUSES: &str = "
   paseto --help, paseto COMMAND --help, paseto --version
 
-The status is 0, or 1 where a key, a text or a token is refused, 2 for words that ask for nothing of this, and 3
-where a file, the input, the output, memory or the system's random bytes or clock fail. What is refused prints
-nothing.
+The status is 0, or 1 where a key, a text or a token is refused, 2 for words that ask for nothing of this and for
+a claim or a time that is none, and 3 where a file, the input, the output, memory or the system's random bytes or
+clock fail. What is refused prints nothing.
 ";
 
 /// What stands between two commands.

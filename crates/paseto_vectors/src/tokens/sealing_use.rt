@@ -1,4 +1,4 @@
-//! The example of sealing in the README.
+//! A token is sealed and opened as a service does it.
 
 use crate::expect::expect_same;
 use rusty_paseto_core::{

@@ -1,4 +1,4 @@
-//! The example of signing in the README.
+//! A token is signed and verified as a service does it.
 
 use crate::expect::expect_same;
 use paseto_toys::{ToyV4, toy_partner};
