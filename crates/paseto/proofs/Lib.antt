@@ -10,3 +10,4 @@ pub mod Rings
 pub mod Parsed
 pub mod Fronts
 pub mod Witnesses
+pub mod Ids

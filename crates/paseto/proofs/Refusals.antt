@@ -1,5 +1,5 @@
 -- What is refused has no output.
-use Rattle.std.proofs.Common.{◌≡◌, ◌≢◌, ◌⊎◌, ℕ, List, ◌++◌, length, get_or, codes, eqb, append_assoc, Option, None, Some, IfSome, Result, Ok, Err, IfErr, inl, inr, refl, sym, ap, subst, ◌∙◌}
+use Rattle.std.proofs.Common.{◌≡◌, ◌≢◌, ◌⊎◌, ℕ, List, ◌++◌, length, get_or, codes, eqb, append_assoc, Option, None, Some, IfSome, Result, Ok, Err, IfErr, IsErrAnd, inl, inr, refl, sym, ap, subst, ◌∙◌}
 use Rattle.std.proofs.lemmas.Bool.{false≢true}
 use Rattle.base64.specs.GeneralPurpose.{IsBytes}
 use Rattle.rusty_paseto_parts.specs.Error.{IsMemory}
@@ -177,3 +177,10 @@ status_refused error status None known X is some h = tt
 status_refused error status (Some file) None X is some h = tt
 status_refused error status (Some file) (Some bytes) X is some (inl outside) = absurd (inside error status is some outside)
 status_refused error status (Some file) (Some bytes) X is some (inr refused) = refused
+
+-- what is not done, where its error is no one from outside
+pub refused_as : {T : Type 0} (made : Result T ProgramError) (status : ℕ) (X : Type 0) → (status ≡ 1) ⊎ (status ≡ 2)
+    → IsErrAnd made (λ error. status_of error ≡ status) → IfErr made (λ error. IsOutside error ⊎ X) → X
+refused_as (Ok value) status X some is h = absurd is
+refused_as (Err error) status X some is (inl outside) = absurd (inside error status (sym is) some outside)
+refused_as (Err error) status X some is (inr x) = x

@@ -1,7 +1,9 @@
 //! The command `id`: the id of the key that a line is.
 
-ghost use Rattle.std.specs.Prelude.{IfOk, string_bytes};
-ghost use Rattle.paseto.specs.Id.{Identifies, IsIdOf};
+ghost use Rattle.std.specs.Prelude.{◌⊎◌, IfErr, IfOk, string_bytes};
+ghost use Rattle.rusty_paseto_paserk.specs.declared.header.PaserkType.TheVariants.{Local as LocalKey, Public as PublicKey, Secret};
+ghost use Rattle.paseto.specs.Error.{IsOutside};
+ghost use Rattle.paseto.specs.Id.{Identifies, IdentifiesNothing, IsIdOf, IsNoKeyOf};
 
 use crate::error::ProgramError;
 use crate::issue::with_line_feed;
@@ -17,7 +19,8 @@ use std::alloc::Global;
 
 /// The line of the id of the key of a line.
 pub fn id(alloc: Global, key: &str) -> Result<String, ProgramError>
-    ensures { IfOk result (λ line. Identifies key.now (string_bytes line)) }
+    ensures printed { IfOk result (λ line. Identifies key.now (string_bytes line)) }
+    ensures refused { IfErr result (λ error. IsOutside error ⊎ IdentifiesNothing key.now) }
 {
     let id = match header_of(key) {
         Some((version, PaserkType::Local, _)) => id_of_local(alloc, version, key)?,
@@ -29,7 +32,8 @@ pub fn id(alloc: Global, key: &str) -> Result<String, ProgramError>
 }
 
 fn id_of_local(alloc: Global, version: PaserkVersion, key: &str) -> Result<String, ProgramError>
-    ensures { IfOk result (λ id. IsIdOf key.now (string_bytes id)) }
+    ensures printed { IfOk result (λ id. IsIdOf key.now (string_bytes id)) }
+    ensures refused { IfErr result (λ error. IsOutside error ⊎ IsNoKeyOf version LocalKey key.now) }
 {
     match version {
         PaserkVersion::V1 => Ok(local_id(alloc, &local_from_paserk::<V1>(alloc, key)?)?),
@@ -40,7 +44,8 @@ fn id_of_local(alloc: Global, version: PaserkVersion, key: &str) -> Result<Strin
 }
 
 fn id_of_secret(alloc: Global, version: PaserkVersion, key: &str) -> Result<String, ProgramError>
-    ensures { IfOk result (λ id. IsIdOf key.now (string_bytes id)) }
+    ensures printed { IfOk result (λ id. IsIdOf key.now (string_bytes id)) }
+    ensures refused { IfErr result (λ error. IsOutside error ⊎ IsNoKeyOf version Secret key.now) }
 {
     match version {
         PaserkVersion::V1 => Err(ProgramError::Key(PaserkError::OtherVersion(version))),
@@ -63,7 +68,8 @@ fn id_of_secret(alloc: Global, version: PaserkVersion, key: &str) -> Result<Stri
 }
 
 fn id_of_public(alloc: Global, version: PaserkVersion, key: &str) -> Result<String, ProgramError>
-    ensures { IfOk result (λ id. IsIdOf key.now (string_bytes id)) }
+    ensures printed { IfOk result (λ id. IsIdOf key.now (string_bytes id)) }
+    ensures refused { IfErr result (λ error. IsOutside error ⊎ IsNoKeyOf version PublicKey key.now) }
 {
     match version {
         PaserkVersion::V1 => Err(ProgramError::Key(PaserkError::OtherVersion(version))),

@@ -1,10 +1,11 @@
 //! The command `issue`: a token of claims, by the default builder.
 
-ghost use Rattle.std.specs.Prelude.{◌≡◌, ◌++◌, ◌∷◌, [], None, IfOk, OnOk, codes, option_map, string_bytes};
+ghost use Rattle.std.specs.Prelude.{◌≡◌, ◌++◌, ◌∷◌, [], None, IfErr, IfOk, OnOk, codes, option_map, string_bytes};
 ghost use Rattle.rusty_paseto_generic.specs.Builders.Held.{held};
 ghost use Rattle.rusty_paseto_core.specs.Local.V1.{v1};
 ghost use Rattle.paseto.specs.Arguments.{claim_words, words_of};
 ghost use Rattle.paseto.specs.Claims.{AreSet};
+ghost use Rattle.paseto.specs.Error.{IsOutside};
 ghost use Rattle.paseto.specs.Footers.{IsFooterOf};
 ghost use Rattle.paseto.specs.Issue.{AreOrdered, BoxesClaims, IsLineOf, IsOrder, Issues, SealsClaims, SignsAny, SignsOrder};
 ghost use Rattle.paseto.specs.Times.{IsTimeSet, SaysTime};
@@ -252,7 +253,8 @@ fn set_begin<V: VersionTrait, P: PurposeTrait>(
 
 /// A text and a line feed.
 pub fn with_line_feed(text: String) -> Result<String, ProgramError>
-    ensures { IfOk result (λ line. IsLineOf (string_bytes text) (string_bytes line)) }
+    ensures line { IfOk result (λ line. IsLineOf (string_bytes text) (string_bytes line)) }
+    ensures memory { IfErr result IsOutside }
 {
     let mut line = text;
     line.push('\n')?;

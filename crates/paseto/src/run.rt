@@ -1,11 +1,11 @@
 //! The program, over any key file, generator, input and outputs.
 
-ghost use Rattle.std.specs.Prelude.{◌≡◌, ◌≢◌, ◌≤◌, ◌==◌, ◌⊎◌, ℕ, List, IfOk, IfErr, IfSome, IsOkAnd, OnOk, is_ok, string_bytes};
+ghost use Rattle.std.specs.Prelude.{◌≡◌, ◌≢◌, ◌≤◌, ◌==◌, ◌⊎◌, ℕ, List, IfOk, IfErr, IfSome, IsErrAnd, IsOkAnd, OnOk, is_ok, string_bytes};
 ghost use Rattle.std.specs.Io.{StartsWith};
 ghost use Rattle.std.specs.Io.KnownBytes.{Appends};
 ghost use Rattle.paseto.specs.Arguments.{claim_words, words_of};
 ghost use Rattle.paseto.specs.Checked.{ChecksFor};
-ghost use Rattle.paseto.specs.Id.{Identifies};
+ghost use Rattle.paseto.specs.Id.{Identifies, IdentifiesNothing};
 ghost use Rattle.paseto.specs.Issue.{IssuesFor};
 ghost use Rattle.paseto.specs.declared.error.ProgramError.{ProgramError};
 ghost use Rattle.paseto.specs.Error.{IsOutside, line_of, status_of};
@@ -258,7 +258,8 @@ pub fn run_id<W: Write, E: Write>(alloc: Global, key: &str, output: &mut W, erro
     ensures written { result ≡ 0 → (written : List ℕ)
         × Appends (W.contents output.old) (W.contents output.new) written
         × Identifies key.now written }
-    ensures refused { (result ≡ 1) ⊎ (result ≡ 2) → output.new ≡ output.old }
+    ensures refused { (result ≡ 1) ⊎ (result ≡ 2)
+        → (output.new ≡ output.old) × IdentifiesNothing key.now }
     ensures quiet { result ≡ 0 → errors.new ≡ errors.old }
     ensures said { result ≢ 0 → (error : ProgramError) × (status_of error ≡ result)
         × ((said : List ℕ) × StartsWith (line_of error) said × Appends (E.contents errors.old)
@@ -276,7 +277,8 @@ fn finish<W: Write, E: Write>(
     ensures status { result ≤ 3 }
     ensures written { result ≡ 0 → IsOkAnd made
         (λ text. Appends (W.contents output.old) (W.contents output.new) (string_bytes text)) }
-    ensures refused { (result ≡ 1) ⊎ (result ≡ 2) → output.new ≡ output.old }
+    ensures refused { (result ≡ 1) ⊎ (result ≡ 2) → (output.new ≡ output.old)
+        × IsErrAnd made (λ error. status_of error ≡ result) }
     ensures quiet { result ≡ 0 → errors.new ≡ errors.old }
     ensures said { result ≢ 0 → (error : ProgramError) × (status_of error ≡ result)
         × ((said : List ℕ) × StartsWith (line_of error) said × Appends (E.contents errors.old)
@@ -295,7 +297,8 @@ fn finish<W: Write, E: Write>(
 fn written<W: Write>(made: Result<String, ProgramError>, output: &mut W) -> Result<(), ProgramError>
     ensures written { OnOk result (IsOkAnd made
         (λ text. Appends (W.contents output.old) (W.contents output.new) (string_bytes text))) }
-    ensures refused { IfErr result (λ error. (status_of error ≡ 3) ⊎ (output.new ≡ output.old)) }
+    ensures refused { IfErr result (λ error. (status_of error ≡ 3)
+        ⊎ ((output.new ≡ output.old) × IsErrAnd made (λ cause. cause ≡ error))) }
 {
     write_whole(output, made?.as_str().as_bytes())
 }
