@@ -1,9 +1,9 @@
 -- The command `inspect`.
-use Rattle.std.specs.Prelude.{◌≡◌, ℕ, ◌≤◌, ◌-◌, List, [], ◌∷◌, ◌++◌, Bool, true, false, if◌then◌else◌, take, length, nat_eq, Option, None, Some, codes}
+use Rattle.std.specs.Prelude.{◌≡◌, ℕ, ◌≤◌, ◌-◌, List, [], ◌∷◌, ◌++◌, Bool, true, false, if◌then◌else◌, take, length, nat_eq, Option, None, Some, codes, IsUtf8}
 use Rattle.std.specs.List.{slice_get}
 use Rattle.std.specs.Cmp.Lexicographic.{pointwise}
 use Rattle.base64.specs.GeneralPurpose.{IsBytes}
-use Rattle.rusty_paseto_parts.specs.Section.{sections, base64url}
+use Rattle.rusty_paseto_parts.specs.Section.{HasCount, sections, base64url}
 use Rattle.rusty_paseto_parts.specs.UntrustedToken.{HasFooterText}
 
 -- a line of a name and what stands there
@@ -30,6 +30,7 @@ pub record SaysText (version section lines : List ℕ) : Type 0 where
   pub spelled : section ≡ base64url payload
   pub room : signature_length version ≤ length payload
   pub text_is : text ≡ take (length payload - signature_length version) payload
+  pub utf8 : IsUtf8 text
   pub lines_are : lines ≡ line (codes "text, not verified: ") text
 
 -- a local token says nothing of what it holds
@@ -44,9 +45,15 @@ pub record Inspects (token lines : List ℕ) : Type 0 where
   pub payload : List ℕ
   pub footer : Option (List ℕ)
   pub text_line : List ℕ
+  pub utf8 : IsUtf8 token
+  pub count : HasCount (sections token)
   pub has_version : slice_get (sections token) 0 ≡ Some version
   pub has_purpose : slice_get (sections token) 1 ≡ Some purpose
   pub has_payload : slice_get (sections token) 2 ≡ Some payload
   pub has_footer : HasFooterText (slice_get (sections token) 3) footer
   pub has_text : IsTextLine (pointwise nat_eq purpose (codes "public")) version payload text_line
   pub lines_are : lines ≡ line (codes "version: ") version ++ (line (codes "purpose: ") purpose ++ (footer_line footer ++ text_line))
+
+-- no lines are printed of the token
+abbrev pub InspectsNothing : List ℕ → Type 0
+InspectsNothing token = (lines : List ℕ) → ¬ Inspects token lines

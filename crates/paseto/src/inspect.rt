@@ -1,10 +1,11 @@
 //! The command `inspect`.
 
-ghost use Rattle.std.specs.Prelude.{◌≡◌, ◌++◌, ℕ, List, IfOk, OnOk, Some, codes, nat_eq, option_map, string_bytes};
+ghost use Rattle.std.specs.Prelude.{◌≡◌, ◌⊎◌, ◌++◌, ℕ, List, IfErr, IfOk, OnOk, Some, codes, nat_eq, option_map, string_bytes};
 ghost use Rattle.std.specs.List.{slice_get};
 ghost use Rattle.std.specs.Cmp.Lexicographic.{pointwise};
-ghost use Rattle.rusty_paseto_parts.specs.Section.{sections};
-ghost use Rattle.paseto.specs.Inspect.{Inspects, IsTextLine, SaysText, footer_line, line, signature_length};
+ghost use Rattle.rusty_paseto_parts.specs.Section.{HasCount, sections};
+ghost use Rattle.paseto.specs.Error.{IsOutside};
+ghost use Rattle.paseto.specs.Inspect.{Inspects, InspectsNothing, IsTextLine, SaysText, footer_line, line, signature_length};
 
 use crate::error::ProgramError;
 use rusty_paseto_core::{PasetoError, UntrustedToken, from_section, split_token};
@@ -13,7 +14,8 @@ use std::str;
 
 /// The lines of what a token says of itself, none of which is to be trusted.
 pub fn inspect(alloc: Global, token: &str) -> Result<String, ProgramError>
-    ensures { IfOk result (λ lines. Inspects token.now (string_bytes lines)) }
+    ensures printed { IfOk result (λ lines. Inspects token.now (string_bytes lines)) }
+    ensures refused { IfErr result (λ error. IsOutside error ⊎ InspectsNothing token.now) }
 {
     let untrusted = UntrustedToken::try_parse(token)?;
     let (version, purpose) = (untrusted.version(), untrusted.purpose());
@@ -29,7 +31,8 @@ pub fn inspect(alloc: Global, token: &str) -> Result<String, ProgramError>
 
 /// The third section of a token.
 fn payload_of(token: &str) -> Result<&str, PasetoError>
-    ensures { IfOk result (λ payload. slice_get (sections token.now) 2 ≡ Some payload.now) }
+    ensures third { IfOk result (λ payload. slice_get (sections token.now) 2 ≡ Some payload.now) }
+    ensures count { IfErr result (λ error. ¬ HasCount (sections token.now)) }
 {
     let Some(parts) = split_token(token) else {
         return Err(PasetoError::IncorrectSize);
@@ -67,9 +70,12 @@ fn push_text_line(
     purpose: &str,
     section: &str,
 ) -> Result<(), ProgramError>
-    ensures { OnOk result ((added : List ℕ)
+    ensures appended { OnOk result ((added : List ℕ)
         × IsTextLine (pointwise nat_eq purpose.now (codes "public")) version.now section.now added
         × (string_bytes lines.new ≡ string_bytes lines.old ++ added)) }
+    ensures refused { IfErr result (λ error. IsOutside error ⊎ ((added : List ℕ)
+        → ¬ IsTextLine (pointwise nat_eq purpose.now (codes "public")) version.now section.now
+        added)) }
 {
     if purpose == "public" {
         push_text(alloc, lines, version, section)
@@ -86,8 +92,10 @@ fn push_text(
     version: &str,
     section: &str,
 ) -> Result<(), ProgramError>
-    ensures { OnOk result ((added : List ℕ) × SaysText version.now section.now added
+    ensures appended { OnOk result ((added : List ℕ) × SaysText version.now section.now added
         × (string_bytes lines.new ≡ string_bytes lines.old ++ added)) }
+    ensures refused { IfErr result (λ error. IsOutside error
+        ⊎ ((added : List ℕ) → ¬ SaysText version.now section.now added)) }
 {
     let payload = from_section(alloc, section)?;
     let length = signature_length(version);

@@ -10,7 +10,7 @@ ghost use Rattle.paseto.specs.Issue.{IssuesFor};
 ghost use Rattle.paseto.specs.declared.error.ProgramError.{ProgramError};
 ghost use Rattle.paseto.specs.Error.{IsOutside, line_of, status_of};
 ghost use Rattle.paseto.specs.Input.{line_of_input};
-ghost use Rattle.paseto.specs.Inspect.{Inspects};
+ghost use Rattle.paseto.specs.Inspect.{Inspects, InspectsNothing};
 ghost use Rattle.paseto.specs.Run.{IsRefused, Prints, Writes};
 
 use crate::arguments::{Options, Task};
@@ -105,7 +105,8 @@ pub fn run_inspect<R: Read, W: Write, E: Write>(
     ensures written { result ≡ 0 → (written : List ℕ)
         × Appends (W.contents output.old) (W.contents output.new) written
         × IfSome (R.remaining input.old) (λ bytes. Inspects (line_of_input bytes) written) }
-    ensures refused { (result ≡ 1) ⊎ (result ≡ 2) → output.new ≡ output.old }
+    ensures refused { (result ≡ 1) ⊎ (result ≡ 2) → (output.new ≡ output.old)
+        × IfSome (R.remaining input.old) (λ bytes. InspectsNothing (line_of_input bytes)) }
     ensures quiet { result ≡ 0 → errors.new ≡ errors.old }
     ensures said { result ≢ 0 → (error : ProgramError) × (status_of error ≡ result)
         × ((said : List ℕ) × StartsWith (line_of error) said × Appends (E.contents errors.old)
@@ -130,6 +131,8 @@ fn print_inspection<R: Read, W: Write>(
         × Appends (W.contents output.old) (W.contents output.new) written
         × IfSome (R.remaining input.old) (λ bytes. Inspects (line_of_input bytes) written)) }
     ensures refused { IfErr result (λ error. (status_of error ≡ 3) ⊎ (output.new ≡ output.old)) }
+    ensures nothing { IfErr result (λ error. IfSome (R.remaining input.old)
+        (λ bytes. IsOutside error ⊎ InspectsNothing (line_of_input bytes))) }
 {
     let token = read_line(alloc, input)?;
     let made = inspect(alloc, token.as_str())?;
