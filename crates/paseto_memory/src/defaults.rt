@@ -1,12 +1,13 @@
 //! The calls of default builders and parsers.
 
 use crate::answer::{Answer, Snapshot};
-use crate::checks::{Parser, ask_checks, ask_maps, ask_times, ask_validator_maps, ask_validators};
+use crate::builders::three_maps;
 use crate::claims::numbered;
 use crate::kinds::{Signed, footer, local_kinds, public_kinds, symmetric_key};
-use crate::parsers::{good, now};
-use crate::run::{Run, calls, edits};
+use crate::parsers::{SEVERAL, good, late, now};
+use crate::run::{Run, calls, changes, edits, three};
 use crate::tokens::{seal, seal_boxed, sign};
+use crate::validators::{refusing, validators};
 use anyhow::{Result, ensure};
 use paseto_toys::generators::Zeros;
 use paseto_toys::keys::{Keys, SECRET};
@@ -32,26 +33,15 @@ impl Snapshot for PasetoParser<'_, V4, Local> {
     }
 }
 
-impl Parser for PasetoParser<'static, V4, Local> {
-    const PATH: &'static str = "DefaultParser::";
-
-    fn made(alloc: Global) -> Result<Self> {
-        parser_of(alloc)
-    }
-}
-
 /// Asks them.
 pub fn ask(run: &mut Run<'_>) -> Result<()> {
-    type Edited = PasetoParser<'static, V4, Local>;
     ask_defaults(run)?;
     ask_claims(run)?;
     ask_repeated_claims(run)?;
     ask_expirations(run)?;
-    ask_checks::<Edited>(run)?;
-    ask_maps::<Edited>(run)?;
-    ask_validators::<Edited>(run)?;
-    ask_validator_maps::<Edited>(run)?;
-    ask_times::<Edited>(run)?;
+    ask_checks(run)?;
+    ask_validators(run)?;
+    ask_times(run)?;
     local_kinds! { run, ask_local }
     ask_boxed(run)?;
     public_kinds! { run, ask_public }
@@ -130,6 +120,42 @@ fn ask_expirations(run: &mut Run<'_>) -> Result<()> {
         "put_no_expiration_danger_acknowledged", of => |builder| builder.put_no_expiration_danger_acknowledged();
         "set_no_expiration_danger_acknowledged", of
             => |builder| builder.set_no_expiration_danger_acknowledged().map(drop);
+    }
+}
+
+fn ask_checks(run: &mut Run<'_>) -> Result<()> {
+    let (alloc, claim) = (run.alloc, AudienceClaim::from("others"));
+    edits!(run, "DefaultParser::", parser_of::<V4, Local>(alloc);
+        "put_check", "a claim" => |parser| parser.put_check(&claim);
+        "check_claim", "a claim" => |parser| parser.check_claim(&claim).map(drop);
+    )?;
+    changes! { run, "DefaultParser::", parser_of::<V4, Local>(alloc);
+        "put_checks", "a map" => three_maps(alloc, SEVERAL)? => |parser, map| parser.put_checks(map);
+        "extend_check_claims", "a map" => three_maps(alloc, SEVERAL)?
+            => |parser, map| parser.extend_check_claims(map).map(drop);
+    }
+}
+
+fn ask_validators(run: &mut Run<'_>) -> Result<()> {
+    let (alloc, claim) = (run.alloc, AudienceClaim::from("customers"));
+    changes! { run, "DefaultParser::", parser_of::<V4, Local>(alloc);
+        "put_validator", "a claim" => refusing!(alloc) => |parser, given| parser.put_validator(&claim, given);
+        "validate_claim", "a claim" => refusing!(alloc)
+            => |parser, given| parser.validate_claim(&claim, given).map(drop);
+        "put_validators", "a map" => three!(validators(alloc, refusing!(alloc))?)
+            => |parser, map| parser.put_validators(map);
+        "extend_validation_claims", "a map" => three!(validators(alloc, refusing!(alloc))?)
+            => |parser, map| parser.extend_validation_claims(map).map(drop);
+    }
+}
+
+fn ask_times(run: &mut Run<'_>) -> Result<()> {
+    let (alloc, late) = (run.alloc, late()?);
+    edits! { run, "DefaultParser::", parser_of::<V4, Local>(alloc);
+        "put_required", "a claim" => |parser| parser.put_required("sub");
+        "require_claim", "a claim" => |parser| parser.require_claim("sub").map(drop);
+        "put_times", "a moment" => |parser| parser.put_times(late);
+        "check_times", "a moment" => |parser| parser.check_times(late).map(drop);
     }
 }
 

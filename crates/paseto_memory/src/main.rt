@@ -4,7 +4,6 @@
 
 mod answer;
 mod builders;
-mod checks;
 mod claims;
 mod defaults;
 mod encoding;
@@ -18,6 +17,7 @@ mod rsa_key;
 mod run;
 mod schemes;
 mod tokens;
+mod validators;
 
 use anyhow::{Result, ensure};
 use run::Run;

@@ -1,11 +1,10 @@
 //! The calls that take no memory. `tests/memory.sh` counts that they make no request for any: the name of each case
 //! ends in `with no memory`.
 
-use crate::checks::Parser;
 use crate::claims::{ask_value, tree};
 use crate::parsers::now;
 use crate::run::{Run, calls, changes, edits, three};
-use crate::{builders, defaults, primitives};
+use crate::{builders, defaults, parsers, primitives};
 use anyhow::Result;
 use paseto_toys::generators::Zeros;
 use paseto_toys::keys::{Keys, SECRET, ToyVersion};
@@ -171,14 +170,14 @@ fn ask_setters(run: &mut Run<'_>) -> Result<()> {
         "set_footer and others", of => |builder| bind!(builder);
     )?;
     let of = "a parser, with no memory";
-    edits!(run, "TokenParser::", GenericParser::made(alloc);
+    edits!(run, "TokenParser::", parsers::parser_of::<V4, Local>(alloc);
         "set_footer and others", of => |parser| {
             let is_empty = parser.get_footer().as_str().is_empty();
             parser.set_footer(Footer::from(if is_empty { "" } else { "other" }));
             bind!(parser.set_now(now))
         };
     )?;
-    edits! { run, "DefaultParser::", PasetoParser::made(alloc);
+    edits! { run, "DefaultParser::", defaults::parser_of::<V4, Local>(alloc);
         "set_footer and others", of => |parser| bind!(parser.set_now(now));
     }
 }

@@ -2,14 +2,11 @@
 
 use crate::answer::{Answer, Snapshot};
 use crate::builders::{ODD, odd_claim, three_maps};
-use crate::checks::{
-    Parser, ask_checks, ask_maps, ask_times, ask_validator_maps, ask_validators, refusing,
-    validators,
-};
 use crate::claims::numbered;
 use crate::kinds::{Signed, footer, local_kinds, public_kinds, symmetric_key};
-use crate::run::{Run, calls, changes, edits};
+use crate::run::{Run, calls, changes, edits, three};
 use crate::tokens::{seal, seal_boxed, sign};
+use crate::validators::{refusing, validators};
 use anyhow::Result;
 use jiff::Timestamp;
 use paseto_toys::keys::{Keys, SECRET};
@@ -49,23 +46,12 @@ impl Snapshot for GenericParser<'_, V4, Local> {
     }
 }
 
-impl Parser for GenericParser<'static, V4, Local> {
-    const PATH: &'static str = "TokenParser::";
-
-    fn made(alloc: Global) -> Result<Self> {
-        parser_of(alloc)
-    }
-}
-
 /// Asks them.
 pub fn ask(run: &mut Run<'_>) -> Result<()> {
-    type Edited = GenericParser<'static, V4, Local>;
-    ask_checks::<Edited>(run)?;
-    ask_refusals(run)?;
-    ask_validators::<Edited>(run)?;
-    ask_maps::<Edited>(run)?;
-    ask_validator_maps::<Edited>(run)?;
-    ask_times::<Edited>(run)?;
+    ask_checks(run)?;
+    ask_validators(run)?;
+    ask_maps(run)?;
+    ask_times(run)?;
     ask_value(run)?;
     local_kinds! { run, ask_local }
     ask_boxed(run)?;
@@ -73,8 +59,8 @@ pub fn ask(run: &mut Run<'_>) -> Result<()> {
     ask_failed_checks(run)
 }
 
-// A parser that checks fifteen claims, and expects the footer.
-fn parser_of<V: VersionTrait, P: PurposeTrait>(
+/// A parser that checks fifteen claims, and expects the footer.
+pub fn parser_of<V: VersionTrait, P: PurposeTrait>(
     alloc: Global,
 ) -> Result<GenericParser<'static, V, P>> {
     let mut parser = GenericParser::new(alloc);
@@ -93,17 +79,65 @@ fn timed<V: VersionTrait, P: PurposeTrait>(alloc: Global) -> Result<GenericParse
     Ok(parser)
 }
 
-fn ask_refusals(run: &mut Run<'_>) -> Result<()> {
-    let (alloc, odd) = (run.alloc, odd_claim(run.alloc)?);
+fn ask_checks(run: &mut Run<'_>) -> Result<()> {
+    let (alloc, claim, odd) = (
+        run.alloc,
+        AudienceClaim::from("others"),
+        odd_claim(run.alloc)?,
+    );
     let seats = CustomClaim::try_from_str(alloc, "seats", 5u64)?;
-    edits!(run, "TokenParser::", parser_of::<V4, Local>(alloc);
+    edits! { run, "TokenParser::", parser_of::<V4, Local>(alloc);
+        "put_check", "a claim" => |parser| parser.put_check(&claim);
+        "check_claim", "a claim" => |parser| parser.check_claim(&claim).map(drop);
         "put_check", "a key that is there" => |parser| parser.put_check(&seats);
         "put_check", "a fraction, refused" => |parser| parser.put_check(&odd);
-    )?;
+    }
+}
+
+fn ask_validators(run: &mut Run<'_>) -> Result<()> {
+    let (alloc, claim, odd) = (
+        run.alloc,
+        AudienceClaim::from("customers"),
+        odd_claim(run.alloc)?,
+    );
     changes! { run, "TokenParser::", parser_of::<V4, Local>(alloc);
         "put_validator", "a fraction, refused" => refusing!(alloc) => |parser, given| parser.put_validator(&odd, given);
         "put_checks", "a map with a fraction, refused" => three_maps(alloc, ODD)?
             => |parser, map| parser.put_checks(map);
+        "put_validator", "a claim" => refusing!(alloc) => |parser, given| parser.put_validator(&claim, given);
+        "validate_claim", "a claim" => refusing!(alloc)
+            => |parser, given| parser.validate_claim(&claim, given).map(drop);
+    }
+}
+
+/// Entries of several keys, one of which is stored already.
+pub const SEVERAL: &str = "{\"a\":{\"a\":1},\"aud\":{\"aud\":\"others\"},\"seats\":5}";
+
+fn ask_maps(run: &mut Run<'_>) -> Result<()> {
+    let alloc = run.alloc;
+    changes! { run, "TokenParser::", parser_of::<V4, Local>(alloc);
+        "put_checks", "a map" => three_maps(alloc, SEVERAL)? => |parser, map| parser.put_checks(map);
+        "extend_check_claims", "a map" => three_maps(alloc, SEVERAL)?
+            => |parser, map| parser.extend_check_claims(map).map(drop);
+        "put_validators", "a map" => three!(validators(alloc, refusing!(alloc))?)
+            => |parser, map| parser.put_validators(map);
+        "extend_validation_claims", "a map" => three!(validators(alloc, refusing!(alloc))?)
+            => |parser, map| parser.extend_validation_claims(map).map(drop);
+    }
+}
+
+/// A moment at which all tokens of the cases have expired: the first of 2060.
+pub fn late() -> Result<Timestamp> {
+    Ok(Timestamp::from_second(2_840_140_800)?)
+}
+
+fn ask_times(run: &mut Run<'_>) -> Result<()> {
+    let (alloc, late) = (run.alloc, late()?);
+    edits! { run, "TokenParser::", parser_of::<V4, Local>(alloc);
+        "put_required", "a claim" => |parser| parser.put_required("sub");
+        "require_claim", "a claim" => |parser| parser.require_claim("sub").map(drop);
+        "put_times", "a moment" => |parser| parser.put_times(late);
+        "check_times", "a moment" => |parser| parser.check_times(late).map(drop);
     }
 }
 

@@ -1,0 +1,44 @@
+//! A validator that refuses each value, and takes memory for it.
+
+ghost use Rattle.std.specs.Prelude.{Some};
+ghost use Rattle.rusty_paseto_claims.specs.Error.{custom_validation};
+
+use anyhow::Result;
+use rusty_paseto::prelude::{PasetoClaimError, Validator, ValidatorFn, ValidatorMap};
+use serde_json::Value;
+use std::alloc::Global;
+use std::collections::BTreeMap;
+
+/// A validator that refuses each value, with a copy of its key.
+#[derive(Drop)]
+pub struct Refuses;
+
+impl Validator for Refuses {
+    ghost verdict = { λ _ key value. Some (custom_validation key) };
+
+    fn validate(&self, alloc: Global, key: &str, _value: &Value) -> Result<(), PasetoClaimError> {
+        let key = String::from_str(alloc, key)?;
+        Err(PasetoClaimError::CustomValidation(key))
+    }
+}
+
+/// So many boxes with such a validator as a case is given.
+macro_rules! refusing {
+    ($alloc:expr) => {{
+        let boxes: [rusty_paseto::prelude::ValidatorFn; 3] =
+            $crate::run::three!(Box::new($alloc, $crate::validators::Refuses)?);
+        boxes
+    }};
+}
+
+pub(crate) use refusing;
+
+/// Validators of three keys, the last of which a parser of the cases checks already.
+pub fn validators(alloc: Global, boxes: [ValidatorFn; 3]) -> Result<ValidatorMap> {
+    let mut map = BTreeMap::new(alloc);
+    let [first, second, third] = boxes;
+    drop(map.insert(String::from_str(alloc, "a")?, first)?);
+    drop(map.insert(String::from_str(alloc, "aud")?, second)?);
+    drop(map.insert(String::from_str(alloc, "seats")?, third)?);
+    Ok(map)
+}
