@@ -9,11 +9,9 @@ use rusty_paseto_parts::push_section;
 
 /// Asks them.
 pub fn ask(run: &mut Run<'_>) -> Result<()> {
-    let (alloc, bytes) = (run.alloc, run.text.as_bytes());
-    let (section, padded) = (
-        to_section(alloc, bytes)?,
-        format!(in alloc; "{}=", run.text)?,
-    );
+    let (alloc, text) = (run.alloc, run.text);
+    let bytes = text.as_bytes();
+    let (section, padded) = (to_section(alloc, bytes)?, format!(in alloc; "{text}=")?);
     let (section, padded) = (section.as_str(), padded.as_str());
     let pieces = [bytes, b"piece".as_slice(), &[]];
     let more = b"behind a text, and so long that it has to grow";
