@@ -14,6 +14,7 @@ import sys
 from html import escape
 
 ROW = re.compile(r"^(\S.*?)\s+(0 B|100 B|1 KB|10 KB|1 MB)\s+(\d+)\s+(\d+)\s+\d+\.\d+(\s|$)")
+LOAD = re.compile(r"load before the run: ([\d.]+)")
 SIZES = ["0 B", "100 B", "1 KB", "10 KB", "1 MB"]
 PANELS = ["v1", "v2", "v3", "v4"]
 KINDS = {"seal": "#0072b2", "open": "#56b4e9", "sign": "#d55e00", "verify": "#e69f00"}
@@ -23,18 +24,22 @@ WIDTH, HEIGHT, LEFT, TOP, GAP = 430, 190, 50, 74, 74
 
 
 def read(paths):
-    """The ratio of each subject and size, and the runs' lines of date, processor and load."""
-    times, lines = {}, []
+    """The ratio of each subject and size, and what the runs say of date, processor, peers and load."""
+    times, lines, loads = {}, [], []
     for path in paths:
         with open(path, encoding="utf-8") as run:
-            for line in run:
-                row = ROW.match(line)
+            for line in map(str.strip, run):
+                row, load = ROW.match(line), LOAD.match(line)
                 if row:
                     pair = int(row[3]), int(row[4])
                     best = times.setdefault(row[1], {})
                     best[row[2]] = min(best.get(row[2], pair), pair, key=sum)
-                elif re.match(r"\d{4}-\d\d-\d\d, |load before |peers: ", line) and line.strip() not in lines:
-                    lines.append(line.strip())
+                elif load:
+                    loads.append(float(load[1]))
+                elif re.match(r"\d{4}-\d\d-\d\d, |peers: ", line) and line not in lines:
+                    lines.append(line)
+    if loads:
+        lines.append(f"load before each of {len(loads)} runs: {min(loads):.1f} to {max(loads):.1f}")
     ratios = {name: {size: ours / peer for size, (ours, peer) in row.items()} for name, row in times.items()}
     return ratios, lines
 

@@ -32,8 +32,8 @@ work=$(mktemp -d)
 trap 'rm -rf "$work"' EXIT
 cd "$work" || exit 1
 umask 077
-passed=0
-failed=0
+# shellcheck source=tests/counts.sh
+source "$root/tests/counts.sh"
 
 # Keys that Python's base64 wrote: the bytes 70, 71 and on, and what OpenSSL's Ed25519 (through Python's
 # `cryptography`) and RFC 8032 make of the seed of test 1 there.
@@ -58,16 +58,15 @@ not_utf8='A Utf8 parsing error occurred'
 no_file='There is no such file: paseto keygen makes a key file'
 exists='The file is there already, and is not written over'
 bad_stream='A file, the input or the output failed'
-
-fail() {
-    failed=$((failed + 1))
-    echo "FAILED: $1"
-}
+bad_claim='A claim is as aud=customers, or as seats:=4 with a value of JSON'
+bad_time='A time is as 90s, 30m, 12h, 7d or 2026-11-22T10:00:00Z'
+time_claim='exp, nbf and iat are set by --expires and --not-before'
+other_footer='The token has another footer: say it by --footer or --footer-kid; paseto inspect shows it'
 
 # is NAME FOUND WANTED
 is() {
     if [ "$2" = "$3" ]; then
-        passed=$((passed + 1))
+        pass
     else
         fail "$1: ${2:0:200} in place of ${3:0:200}"
     fi
@@ -108,12 +107,12 @@ made() {
 
 # -- keygen
 
-for kind in v3.local v4.local; do
+for kind in v1.local v2.local v3.local v4.local; do
     line=$("$program" keygen $kind)
-    is "keygen $kind" "$(printf %s "$line" | sed -E 's/^k([34])\.local\.[A-Za-z0-9_-]{43}$/v\1.local/')" $kind
-    [ "$("$program" keygen $kind)" != "$line" ] && passed=$((passed + 1)) || fail "keygen $kind gives one key twice"
+    is "keygen $kind" "$(printf %s "$line" | sed -E 's/^k([1-4])\.local\.[A-Za-z0-9_-]{43}$/v\1.local/')" $kind
+    [ "$("$program" keygen $kind)" != "$line" ] && pass || fail "keygen $kind gives one key twice"
 done
-for version in 3 4; do
+for version in 2 3 4; do
     "$program" keygen v$version.public --public half$version.public --out half$version.secret >out 2>err
     is "keygen v$version.public, status" $? 0
     is "keygen v$version.public, streams" "$(cat out err)" ""
@@ -130,6 +129,8 @@ is "the file is as it was" "$(cat half4.secret)" "$before"
 refuses "a public half of a local key" 2 "" "$usage" keygen v4.local --public other
 refuses "keygen of an unknown kind" 2 "" "$usage" keygen v5.local
 refuses "keygen with no kind" 2 "" "$usage" keygen
+refuses "keygen of version 1's pairs" 2 "" "$usage" keygen v1.public
+is "the words of keygen in another order" "$("$program" --out ordered.local keygen v4.local 2>&1 && cut -c 1-9 ordered.local)" k4.local.
 refuses "keygen into no folder" 3 "" "$no_file" keygen v4.local --out nowhere/key
 
 # -- encrypt and decrypt
@@ -139,7 +140,7 @@ for key in v4.local v3.local; do
     gives "a token of $key" "$token" hello decrypt --key $key
     gives "a token of $key and a line feed" "$token
 " hello decrypt --key $key
-    [ "$(made encrypt --key $key)" != "$token" ] && passed=$((passed + 1)) || fail "one nonce twice, $key"
+    [ "$(made encrypt --key $key)" != "$token" ] && pass || fail "one nonce twice, $key"
     token=$(made encrypt --assertion for --footer id --key $key)
     gives "options in another order, $key" "$token" hello decrypt --footer id --key $key --assertion for
     refuses "another footer, $key" 1 "$token" "$bad_footer" decrypt --key $key --assertion for
@@ -212,7 +213,7 @@ refuses "no key file" 3 hello "$no_file" encrypt --key nowhere
 truncate -s 1G huge
 SECONDS=0
 refuses "a key file of 1 GB" 1 hello "$too_long" encrypt --key huge
-[ "$SECONDS" -le 2 ] && passed=$((passed + 1)) || fail "a key file of 1 GB takes $SECONDS seconds"
+[ "$SECONDS" -le 2 ] && pass || fail "a key file of 1 GB takes $SECONDS seconds"
 refuses "a folder as a key file" 3 hello "$bad_stream" encrypt --key .
 cp v4.local open.local
 chmod 644 open.local
@@ -240,21 +241,113 @@ refuses "no token to inspect" 1 v4.local "$bad_count" inspect
 refuses "a public token that is too short" 1 v4.public.AAAA "$bad_count" inspect
 refuses "inspect with a key" 2 "" "$usage" inspect --key v4.local
 
+# -- id
+
+# The key of zeros is one of PASERK's own, with its id.
+is "id of a local key" "$("$program" id --key other.local)" k4.lid.bqltbNc4JLUAmc9Xtpok-fBuI0dQN5_m3CD9W_nbh559
+is "id of a private key" "$("$program" id --key v4.secret | cut -c 1-7)" k4.sid.
+is "id of a public key" "$("$program" id --key v4.public | cut -c 1-7)" k4.pid.
+refuses "id of no key" 1 "" "$no_key" id --key empty
+
+# -- issue and check
+
+mkdir ring
+for kind in 1.local 2.local 3.local 4.local 2 3 4; do
+    case $kind in
+        *.local) "$program" keygen v$kind --out its && cp its ring/$kind && mv -f its $kind.opens && cp $kind.opens $kind.issues ;;
+        *) cp half$kind.secret $kind.issues && cp half$kind.public $kind.opens && cp half$kind.public ring/$kind ;;
+    esac
+    "$program" issue --key $kind.issues --claim seats:=4 --claim aud=customers --expires 1h >token 2>err
+    is "issue $kind, status" "$? $(cat err)" "0 "
+    claims=$("$program" check --key $kind.opens --claim aud=customers token)
+    is "check $kind" "$(printf %s "$claims" | sed -E 's/[0-9]{4}-[0-9]{2}-[0-9]{2}T[0-9:]{8}Z/WHEN/g')" \
+        '{"aud":"customers","exp":"WHEN","iat":"WHEN","nbf":"WHEN","seats":4}'
+    refuses "check $kind by another claim" 1 "$(cat token)" "The claim 'aud' is 'customers', and not 'staff'" check --key $kind.opens --claim aud=staff
+    refuses "check $kind by a claim that is not there" 1 "$(cat token)" "The expected claim 'sub' was not found in the payload" \
+        check --key $kind.opens --claim sub=me
+    id=$("$program" id --key $kind.opens)
+    "$program" issue --key $kind.issues --claim sub=me --footer-kid "$id" >token
+    is "a ring, $kind" "$("$program" check --ring ring --claim sub=me token | grep -c '"sub":"me"')" 1
+    refuses "a footer that is not demanded, $kind" 1 "$(cat token)" "$other_footer" check --key $kind.opens
+    is "a footer that is demanded, $kind" "$("$program" check --key $kind.opens --footer-kid "$id" <token | grep -c '"sub":"me"')" 1
+    is "the footer, $kind" "$("$program" inspect token | grep '^footer')" "footer: {\"kid\":\"$id\"}"
+done
+"$program" issue --key v4.local --expires 2026-11-22T10:00:00Z --not-before 2026-11-22T09:00:00Z --footer id >token
+for case in "10:00:00Z|expired 0 seconds ago" "10:00:01Z|expired 1 second ago" "10:03:00.5Z|expired 3 minutes ago" "12:00:00Z|expired 2 hours ago"; do
+    refuses "at ${case%|*}" 1 "$(cat token)" "${case#*|}, at 2026-11-22T10:00:00Z" check --key v4.local --footer id --at "2026-11-22T${case%|*}"
+done
+refuses "days later" 1 "$(cat token)" "expired 3 days ago, at 2026-11-22T10:00:00Z" check --key v4.local --footer id --at 2026-11-25T12:00:00+02:00
+refuses "too early" 1 "$(cat token)" "not valid before 2026-11-22T09:00:00Z, in 30 minutes" check --key v4.local --footer id --at 2026-11-22T08:30:00Z
+is "in time" "$("$program" check --key v4.local --footer id --at 2026-11-22T09:59:59Z token | cut -c 1-31)" '{"exp":"2026-11-22T10:00:00Z","'
+refuses "an expired token of a ring" 1 "$("$program" issue --key 4.issues --footer-kid "$id" --expires 2026-11-22T10:00:00Z)" \
+    "expired 2 hours ago, at 2026-11-22T10:00:00Z" check --ring ring --at 2026-11-22T12:59:00Z
+refuses "another key's token" 1 "$(cat token)" "$bad_tag" check --key other.local --footer id
+refuses "a changed signature" 1 "$("$program" issue --key 4.issues | sed 's/....$/AAAA/')" "$bad_signature" check --key 4.opens
+refuses "a private key to check" 1 "$(cat token)" "The key is a private one, which signs" check --key v4.secret
+refuses "a public key to issue" 1 "" "The key is a public one, which verifies" issue --key v4.public
+refuses "a truncated key to issue" 1 "" "$bad_key" issue --key cut
+refuses "no token to check" 1 "" "$bad_count" check --key v4.local
+refuses "no token for a ring" 1 "" "$bad_count" check --ring ring
+refuses "a token of another kind for a ring" 1 v1.public.AAAA "$bad_header" check --ring ring
+refuses "no footer for a ring" 1 "$("$program" issue --key 4.issues)" "The token has no footer" check --ring ring
+refuses "a footer that names no key" 1 "$("$program" issue --key 4.issues --footer id)" "The footer is not a JSON object" check --ring ring
+refuses "a key that is not in the ring" 1 "$("$program" issue --key 4.issues --footer-kid "$(printf 'a\nb')")" "The key \"a\\nb\" is not in the ring" check --ring ring
+refuses "no ring" 3 "$(cat token)" "$no_file" check --ring nowhere
+cp -r ring rings && echo nothing >rings/notes && cp ring/4 rings/.hidden && echo nothing >rings/.notes
+refuses "a ring with a file that is no key" 1 "$(cat token)" "The file 'notes' of the ring is no key file" check --ring rings
+rm rings/notes
+is "files that begin with a dot" "$("$program" issue --key 4.issues --footer-kid "$id" | "$program" check --ring rings | grep -c iat)" 1
+truncate -s 1G rings/huge
+refuses "a ring with a file of 1 GB" 1 "$(cat token)" "$too_long" check --ring rings
+for claim in seats =4 :=4 seats:= seats:=4x; do
+    refuses "the claim $claim" 2 "" "$bad_claim" issue --key v4.local --claim "$claim"
+done
+for claim in exp=never nbf:=null iat=now; do
+    refuses "the claim $claim" 2 "" "$time_claim" issue --key v4.local --claim $claim
+done
+for time in "" h 1 1y -1h 1.5h 5000000000s tomorrow 2026-11-22; do
+    refuses "the time '$time'" 2 "" "$bad_time" issue --key v4.local --expires "$time"
+    refuses "the time '$time' of check" 2 "" "$bad_time" check --key v4.local --at "$time"
+done
+refuses "a claim twice" 1 "" "The claim 'a' appears more than once in the top level payload json" issue --key v4.local --claim a=1 --claim a=2
+refuses "a claim that is no whole number" 1 "" "Could not convert claim 'a' to the expected data type" issue --key v4.local --claim a:=1.5
+is "claims of every kind" "$("$program" issue --key v4.local --claim 'a:={"b":[1,null,true]}' --claim 'c:d=e=f' --claim g= | "$program" check --key v4.local |
+    sed -E 's/"(exp|iat|nbf)":"[^"]*",?//g; s/,}$/}/')" '{"a":{"b":[1,null,true]},"c:d":"e=f","g":""}'
+is "paseto_tool opens what is issued" "$("$program" issue --key v4.local --claim a=1 | "$tool" open v4 $hex | grep -c '"a":"1"')" 1
+is "check takes paseto_tool's" "$(printf '{"a":"1"}' | "$tool" seal v4 $hex $zero | "$program" check --key v4.local --claim a=1)" '{"a":"1"}'
+refuses "a text that is no JSON" 1 "$(made encrypt --key v4.local)" "The payload was unable to be serialized into json" check --key v4.local
+"$program" issue --key open.local >out 2>err
+is "issue by a key file that others can read" "$? $(cat err)" "0 warning: others than its owner can read the key file"
+"$program" issue --key v4.local >/dev/full 2>err
+is "issue to a full output" "$? $(cat err)" "3 $bad_stream"
+"$program" issue --key v4.local >&- 2>err
+is "issue to a closed output" "$? $(cat err)" "3 $bad_stream"
+"$program" check --key v4.local <&- >out 2>err
+is "check of a closed input" "$? $(cat out)$(cat err)" "3 $bad_stream"
+
 # -- words
 
-for words in "" "nothing" "encrypt" "decrypt --key" "encrypt --key v4.local --key v4.local" "encrypt --key v4.local more" \
-    "encrypt --key v4.local --out file" "sign --footer id" "keygen v4.local --key v4.local" "--version more" "encrypt --Key v4.local"; do
+for words in "" "nothing" "encrypt" "decrypt --key" "encrypt --key v4.local --key v4.local" "encrypt --key v4.local - more" \
+    "encrypt --key v4.local --out file" "sign --footer id" "keygen v4.local --key v4.local" "--version more" "encrypt --Key v4.local" \
+    "encrypt -- --key v4.local" "issue" "issue --key v4.local more" "issue --key v4.local --at 2026-11-22T10:00:00Z" \
+    "issue --key v4.local --footer one --footer-kid two" "check" "check --key v4.local --ring ring" "check --key v4.local --expires 1h" \
+    "id" "id --key v4.local more" "issue --key v4.local --assertion for" "decrypt --key v4.local --claim a=1" "inspect --at 1h"; do
     # shellcheck disable=SC2086
     refuses "the words '$words'" 2 "" "$usage" $words
 done
-for words in "--help" "encrypt --help" "keygen --help" "inspect --help"; do
-    # shellcheck disable=SC2086
-    "$program" $words >out 2>err
-    is "the words '$words', status" $? 0
-    is "the words '$words', standard error" "$(cat err)" ""
-    is "the words '$words'" "$(grep -c 'paseto keygen v4.local --out office.key' out)" 1
+for words in keygen id issue check encrypt decrypt sign verify inspect; do
+    "$program" $words --help >out 2>err
+    is "$words --help, status" $? 0
+    is "$words --help, standard error" "$(cat err)" ""
+    is "$words --help, how it is called" "$(head -n 1 out | cut -d ' ' -f 3-4)" "paseto $words"
+    is "$words --help, an example" "$(grep -cE "^        (echo hello \\| )?paseto $words" out | sed 's/^[1-9]$/some/')" some
+    is "--help tells of $words" "$("$program" --help | grep -cxF "$(head -n 1 out)")" 1
 done
-is "--version" "$("$program" --version)" "paseto 0.1.0"
+is "--version" "$("$program" --version)" "paseto 0.2.0"
+printf hello >text
+is "an input that is named" "$("$program" encrypt text --key v4.local | "$program" decrypt - --key v4.local)" hello
+is "words behind --" "$("$program" encrypt --key v4.local -- text | "$program" --key v4.local -- decrypt)" hello
+refuses "an input that is not there" 3 hello "$no_file" encrypt --key v4.local nowhere
 
 # -- closed and full outputs
 
@@ -268,5 +361,4 @@ is "a closed input" "$? $(cat out)$(cat err)" "3 $bad_stream"
 "$program" encrypt --key nowhere <in >out 2>&-
 is "a closed standard error" "$? $(cat out)" "3 "
 
-echo "$passed passed, $failed failed"
-[ "$failed" -eq 0 ]
+finish

@@ -3,3 +3,10 @@ pub mod Lines
 pub mod Outputs
 pub mod Inspections
 pub mod Refusals
+pub mod Readings
+pub mod Rulings
+pub mod Orders
+pub mod Rings
+pub mod Parsed
+pub mod Fronts
+pub mod Witnesses

@@ -7,7 +7,7 @@ use Rattle.rusty_paseto_paserk.specs.declared.error.PaserkError.TheVariants.{NoK
 use Rattle.paseto.specs.declared.arguments.Options.{Options}
 use Rattle.paseto.specs.declared.arguments.Task.{Task}
 use Rattle.paseto.specs.declared.error.ProgramError.{ProgramError}
-use Rattle.paseto.specs.declared.error.ProgramError.TheVariants.{Usage, Key, TooLong, Refused, NoFile, FileExists, Random, InputOrOutput, Memory}
+use Rattle.paseto.specs.declared.error.ProgramError.TheVariants.{Usage, Claim, TimeClaim, Time, Key, TooLong, Refused, OtherFooter, Expired, Early, Unfit, NoFile, FileExists, Clock, Random, InputOrOutput, Memory}
 use Rattle.paseto.specs.Error.{status_of}
 use Rattle.paseto.specs.Output.{IsCutShort}
 use Rattle.paseto.specs.Run.{Prints, Writes}
@@ -31,6 +31,9 @@ IfSome-all (Some x) P h = h x
 -- no error ends the program with the status of success
 pub status_of-some : (error : ProgramError) → (status_of error == 0) ≡ false
 status_of-some Usage = refl
+status_of-some Claim = refl
+status_of-some TimeClaim = refl
+status_of-some Time = refl
 status_of-some (Key NoKey) = refl
 status_of-some (Key (OtherVersion version)) = refl
 status_of-some (Key (OtherType kind)) = refl
@@ -38,8 +41,13 @@ status_of-some (Key InvalidKey) = refl
 status_of-some (Key (NoKeyMemory source)) = refl
 status_of-some TooLong = refl
 status_of-some (Refused error) = refl
+status_of-some OtherFooter = refl
+status_of-some Expired = refl
+status_of-some (Early text) = refl
+status_of-some (Unfit line) = refl
 status_of-some NoFile = refl
 status_of-some FileExists = refl
+status_of-some Clock = refl
 status_of-some Random = refl
 status_of-some InputOrOutput = refl
 status_of-some (Memory source) = refl

@@ -19,7 +19,7 @@ use Rattle.rusty_paseto_paserk.specs.Text.{writing}
 use Rattle.paseto.specs.declared.arguments.Options.{Options}
 use Rattle.paseto.specs.declared.arguments.Task.{Task}
 use Rattle.paseto.specs.declared.error.ProgramError.{ProgramError}
-use Rattle.paseto.specs.declared.error.ProgramError.TheVariants.{Random, InputOrOutput, Memory}
+use Rattle.paseto.specs.declared.error.ProgramError.TheVariants.{Clock, Random, InputOrOutput, Memory}
 use Rattle.paseto.specs.Error.{IsOutside, program_error_of, status_of}
 use Rattle.paseto.specs.Input.{line_of_input}
 use Rattle.paseto.specs.Local.{Opens}
@@ -160,6 +160,7 @@ module _ (task : Task) (options : Options) (IsDrawn : List ℕ → Type 0) where
 
 -- an error that says nothing of the input ends the program with status 3
 outside_status : (error : ProgramError) → IsOutside error → status_of error ≡ 3
+outside_status Clock h = refl
 outside_status Random h = refl
 outside_status InputOrOutput h = refl
 outside_status (Memory source) h = refl

@@ -2,8 +2,16 @@ pub mod Error
 pub mod Input
 pub mod Output
 pub mod Arguments
+pub mod Claims
+pub mod Times
+pub mod Footers
 pub mod Local
 pub mod Public
 pub mod Keygen
 pub mod Inspect
+pub mod Id
+pub mod Issue
+pub mod Check
+pub mod Ring
+pub mod Checked
 pub mod Run

@@ -1,17 +1,18 @@
 //! Why the program does not do what it was asked.
 
-ghost use Rattle.std.specs.Prelude.{◌≡◌, ℕ, List};
+ghost use Rattle.std.specs.Prelude.{◌≡◌, ℕ, List, alloc_error};
 ghost use Rattle.std.specs.Io.{StartsWith};
 ghost use Rattle.std.specs.Io.KnownBytes.{Appends};
 ghost use Rattle.std.specs.IoError.{error_kind};
 ghost use Rattle.rusty_paseto_parts.specs.declared.error.PasetoError.TheVariants.{Utf8Error as NotUtf8};
-ghost use Rattle.paseto.specs.declared.error.ProgramError.TheVariants.{InputOrOutput, Memory, Refused};
-ghost use Rattle.paseto.specs.Error.{file_error, key_error_of, line_of, program_error_of, status_of, text_of, words_error};
+ghost use Rattle.paseto.specs.declared.error.ProgramError.TheVariants.{Clock, InputOrOutput, Memory, Refused};
+ghost use Rattle.paseto.specs.Error.{claim_error_of, file_error, key_error_of, line_of, program_error_of, status_of, text_of, words_error};
 
 use crate::output::write_whole;
+use rusty_paseto::prelude::PasetoClaimError;
 use rusty_paseto_core::PasetoError;
 use rusty_paseto_paserk::PaserkError;
-use std::alloc::AllocError;
+use std::alloc::{AllocError, AllocFailed};
 use std::io::{self, Write};
 use std::str::Utf8Error;
 
@@ -26,6 +27,22 @@ pub enum ProgramError {
     TooLong,
     /// A text or a token was refused.
     Refused(PasetoError),
+    /// A claim of the words is none.
+    Claim,
+    /// A claim of the words is one of the three that are times.
+    TimeClaim,
+    /// A time of the words is none.
+    Time,
+    /// The footer of a token is another one than the one that is demanded.
+    OtherFooter,
+    /// A token has expired.
+    Expired,
+    /// A token may not be used before the moment of this text.
+    Early(String),
+    /// A token, or what is to become one, was refused, as this line says.
+    Unfit(String),
+    /// The system's clock tells no moment at which a token can be issued.
+    Clock,
     /// A file that was named is not there.
     NoFile,
     /// A file that is to be made is there already.
@@ -40,7 +57,7 @@ pub enum ProgramError {
 
 impl ProgramError {
     /// What the program says of it on standard error: one line, without its end.
-    fn text(&self) -> &'static str
+    fn text(&self) -> &str
         ensures { result.now ≡ text_of self.now }
     {
         match self {
@@ -49,6 +66,15 @@ impl ProgramError {
             ProgramError::Key(source) => source.text(),
             ProgramError::TooLong => "The file is longer than any key: it is no key file",
             ProgramError::Refused(source) => source.text(),
+            ProgramError::Claim =>
+                "A claim is as aud=customers, or as seats:=4 with a value of JSON",
+            ProgramError::TimeClaim => "exp, nbf and iat are set by --expires and --not-before",
+            ProgramError::Time => "A time is as 90s, 30m, 12h, 7d or 2026-11-22T10:00:00Z",
+            ProgramError::OtherFooter =>
+                "The token has another footer: say it by --footer or --footer-kid; paseto inspect shows it",
+            ProgramError::Expired => "expired",
+            ProgramError::Early(text) | ProgramError::Unfit(text) => text.as_str(),
+            ProgramError::Clock => "The system's clock tells no moment of the years 0 to 9999",
             ProgramError::NoFile => "There is no such file: paseto keygen makes a key file",
             ProgramError::FileExists => "The file is there already, and is not written over",
             ProgramError::Random => "The system gave no random bytes",
@@ -72,11 +98,21 @@ impl ProgramError {
         ensures { result ≡ status_of self.now }
     {
         match self {
-            ProgramError::Usage => 2,
+            ProgramError::Usage
+            | ProgramError::Claim
+            | ProgramError::TimeClaim
+            | ProgramError::Time => 2,
             ProgramError::Key(PaserkError::Memory(_)) => 3,
-            ProgramError::Key(_) | ProgramError::TooLong | ProgramError::Refused(_) => 1,
+            ProgramError::Key(_)
+            | ProgramError::TooLong
+            | ProgramError::Refused(_)
+            | ProgramError::OtherFooter
+            | ProgramError::Expired
+            | ProgramError::Early(_)
+            | ProgramError::Unfit(_) => 1,
             ProgramError::NoFile
             | ProgramError::FileExists
+            | ProgramError::Clock
             | ProgramError::Random
             | ProgramError::InputOrOutput
             | ProgramError::Memory(_) => 3,
@@ -131,6 +167,17 @@ impl From<PaserkError> for ProgramError {
     }
 }
 
+impl From<PasetoClaimError> for ProgramError {
+    ghost from_gives = { λ source error. error ≡ claim_error_of source };
+
+    fn from(source: PasetoClaimError) -> ProgramError {
+        match source {
+            PasetoClaimError::Memory(source) => ProgramError::Memory(source),
+            _ => ProgramError::Time,
+        }
+    }
+}
+
 impl From<io::Error> for ProgramError {
     ghost from_gives = { λ _ error. error ≡ InputOrOutput };
 
@@ -147,10 +194,26 @@ impl From<Utf8Error> for ProgramError {
     }
 }
 
+impl From<jiff::Error> for ProgramError {
+    ghost from_gives = { λ _ error. error ≡ Clock };
+
+    fn from(_source: jiff::Error) -> ProgramError {
+        ProgramError::Clock
+    }
+}
+
 impl From<AllocError> for ProgramError {
     ghost from_gives = { λ source error. error ≡ Memory source };
 
     fn from(source: AllocError) -> ProgramError {
         ProgramError::Memory(source)
+    }
+}
+
+impl<T: Drop> From<AllocFailed<T>> for ProgramError {
+    ghost from_gives = { λ _ error. error ≡ Memory alloc_error };
+
+    fn from(refused: AllocFailed<T>) -> ProgramError {
+        ProgramError::Memory(AllocError::from(refused))
     }
 }

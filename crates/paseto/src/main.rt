@@ -1,28 +1,42 @@
-//! Makes keys in files, encrypts, decrypts, signs and verifies by them, in PASETO tokens.
+//! Makes keys in files, and PASETO tokens by them: issues and checks claims, encrypts, decrypts, signs and verifies.
 #![tactic(auto)]
 
 ghost use Rattle.std.specs.Prelude.{◌≡◌, drop};
 
+mod answers;
 mod arguments;
+mod check;
+mod claims;
 mod error;
+mod folder;
+mod footer;
 mod help;
+mod id;
 mod input;
 mod inspect;
+mod issue;
 mod keygen;
 mod local;
 mod output;
 mod public;
+mod ring;
 mod run;
+mod times;
 mod version;
 
 use arguments::{Action, Command, Kind, Options, Task};
+use check::Keys;
 use error::ProgramError;
-use help::{HELP, VERSION};
+use folder::key_lines;
+use help::{VERSION, help_of};
+use input::read_key_line;
+use jiff::Timestamp;
 use keygen::keygen;
 use output::write_whole;
 use rand::rngs::SysRng;
-use run::{run, run_inspect};
+use run::{run, run_check, run_id, run_inspect, run_issue};
 use std::fs::File;
+use std::io::Read;
 use std::os::fd::AsRawFd;
 use std::os::unix::fs::{OpenOptionsExt, PermissionsExt};
 use std::process::ExitCode;
@@ -44,27 +58,55 @@ fn serve(rt: &HostRuntime, words: &[String]) -> u8 {
     let Some(command) = Command::parse(words) else {
         return report(rt, &ProgramError::Usage);
     };
-    let done = match command.action {
-        Action::Help => print(rt, HELP),
-        Action::Version => print(rt, VERSION),
-        Action::Inspect => Ok(run_inspect(
-            rt.alloc(),
-            &mut rt.stdin(),
-            &mut rt.stdout(),
-            &mut rt.stderr(),
-        )),
-        Action::Keygen(kind) => make_key(rt, kind, &command.options),
-        Action::Keyed(task) => with_key(rt, task, &command.options),
-    };
-    match done {
+    match done(rt, words, &command) {
         Ok(status) => status,
         Err(error) => report(rt, &error),
     }
 }
 
-/// Writes a text to standard output.
-fn print(rt: &HostRuntime, text: &str) -> Result<u8, ProgramError> {
-    write_whole(&mut rt.stdout(), text.as_bytes())?;
+/// What is done for a command, and the status.
+fn done(rt: &HostRuntime, words: &[String], command: &Command<'_>) -> Result<u8, ProgramError> {
+    let options = &command.options;
+    match command.action {
+        Action::Help => print(rt, help_of(options.first)),
+        Action::Version => print(rt, &[VERSION]),
+        Action::Keygen(kind) => make_key(rt, kind, options),
+        Action::Id => tell_id(rt, options),
+        Action::Issue => issue_by(rt, words, options),
+        Action::Check | Action::Keyed(_) | Action::Inspect => with_input(rt, words, command),
+    }
+}
+
+/// Hands a command its input: the file that is named, or standard input.
+fn with_input(
+    rt: &HostRuntime,
+    words: &[String],
+    command: &Command<'_>,
+) -> Result<u8, ProgramError> {
+    match command.options.second {
+        None | Some("-") => with(rt, words, command, &mut rt.stdin()),
+        Some(path) => with(rt, words, command, &mut opened(File::open(rt, path))?),
+    }
+}
+
+fn with<R: Read>(
+    rt: &HostRuntime,
+    words: &[String],
+    command: &Command<'_>,
+    input: &mut R,
+) -> Result<u8, ProgramError> {
+    match command.action {
+        Action::Check => check_by(rt, words, &command.options, input),
+        Action::Keyed(task) => with_key(rt, task, &command.options, input),
+        _ => Ok(run_inspect(rt.alloc(), input, &mut rt.stdout(), &mut rt.stderr())),
+    }
+}
+
+/// Writes texts to standard output.
+fn print(rt: &HostRuntime, texts: &[&str]) -> Result<u8, ProgramError> {
+    for text in texts {
+        write_whole(&mut rt.stdout(), text.as_bytes())?;
+    }
     Ok(0)
 }
 
@@ -74,26 +116,121 @@ fn report(rt: &HostRuntime, error: &ProgramError) -> u8 {
     error.status()
 }
 
-/// Hands the key file, the system's random bytes and the standard streams to a task.
-fn with_key(rt: &HostRuntime, task: Task, options: &Options<'_>) -> Result<u8, ProgramError> {
-    let Some(path) = options.key else {
-        return Err(ProgramError::Usage);
-    };
-    let mut file = opened(File::open(rt, path))?;
-    if is_secret(task) && is_open_to_others(&file)? {
+/// The key file that is named.
+fn key_file(rt: &HostRuntime, options: &Options<'_>) -> Result<File, ProgramError> {
+    match options.key {
+        Some(path) => opened(File::open(rt, path)),
+        None => Err(ProgramError::Usage),
+    }
+}
+
+/// The line of a key file, with a warning where the line is secret and others can read the file.
+fn key_line(rt: &HostRuntime, options: &Options<'_>) -> Result<String, ProgramError> {
+    let mut file = key_file(rt, options)?;
+    let line = read_key_line(rt.alloc(), &mut file)?;
+    if !line.as_str().contains(".public.") {
+        warn_of(rt, &file)?;
+    }
+    Ok(line)
+}
+
+/// Warns where others than its owner can read a file of a key that is to be kept secret.
+fn warn_of(rt: &HostRuntime, file: &File) -> Result<(), ProgramError> {
+    if is_open_to_others(file)? {
         rt.eprintln("warning: others than its owner can read the key file")?;
     }
-    let (mut input, mut output, mut errors) = (rt.stdin(), rt.stdout(), rt.stderr());
-    let mut generator = SysRng::new(rt);
+    Ok(())
+}
+
+/// Prints the id of a key.
+fn tell_id(rt: &HostRuntime, options: &Options<'_>) -> Result<u8, ProgramError> {
+    let line = read_key_line(rt.alloc(), &mut key_file(rt, options)?)?;
+    Ok(run_id(
+        rt.alloc(),
+        line.as_str(),
+        &mut rt.stdout(),
+        &mut rt.stderr(),
+    ))
+}
+
+/// Issues a token at the present second.
+fn issue_by(rt: &HostRuntime, words: &[String], options: &Options<'_>) -> Result<u8, ProgramError> {
+    let line = key_line(rt, options)?;
+    let now = Timestamp::from_second(clock(rt)?.as_second())?;
+    Ok(run_issue(
+        rt.alloc(),
+        words,
+        options,
+        line.as_str(),
+        now,
+        &mut SysRng::new(rt),
+        &mut rt.stdout(),
+        &mut rt.stderr(),
+    ))
+}
+
+/// Checks a token at the present moment.
+fn check_by<R: Read>(
+    rt: &HostRuntime,
+    words: &[String],
+    options: &Options<'_>,
+    input: &mut R,
+) -> Result<u8, ProgramError> {
+    if let Some(folder) = options.ring {
+        let lines = key_lines(rt, folder)?;
+        return checked(rt, words, options, &Keys::Ring(&lines), input);
+    }
+    let line = key_line(rt, options)?;
+    checked(rt, words, options, &Keys::One(line.as_str()), input)
+}
+
+fn checked<R: Read>(
+    rt: &HostRuntime,
+    words: &[String],
+    options: &Options<'_>,
+    keys: &Keys<'_>,
+    input: &mut R,
+) -> Result<u8, ProgramError> {
+    Ok(run_check(
+        rt.alloc(),
+        words,
+        options,
+        keys,
+        clock(rt)?,
+        input,
+        &mut rt.stdout(),
+        &mut rt.stderr(),
+    ))
+}
+
+/// The present moment.
+fn clock(rt: &HostRuntime) -> Result<Timestamp, ProgramError> {
+    match Timestamp::now(rt) {
+        Ok(now) => Ok(now),
+        Err(_) => Err(ProgramError::Clock),
+    }
+}
+
+/// Hands the key file, the system's random bytes and the streams to a task.
+fn with_key<R: Read>(
+    rt: &HostRuntime,
+    task: Task,
+    options: &Options<'_>,
+    input: &mut R,
+) -> Result<u8, ProgramError> {
+    let mut file = key_file(rt, options)?;
+    if is_secret(task) {
+        warn_of(rt, &file)?;
+    }
     Ok(run(
         rt.alloc(),
         task,
         options,
         &mut file,
-        &mut generator,
-        &mut input,
-        &mut output,
-        &mut errors,
+        &mut SysRng::new(rt),
+        input,
+        &mut rt.stdout(),
+        &mut rt.stderr(),
     ))
 }
 
@@ -135,7 +272,7 @@ fn new_file(rt: &HostRuntime, path: &str, mode: u32) -> Result<File, ProgramErro
 
 /// A file, or why there is none. One that was given the number of a closed standard stream is refused, since it would
 /// be read or written as that stream.
-fn opened(file: io::Result<File>) -> Result<File, ProgramError> {
+pub fn opened(file: io::Result<File>) -> Result<File, ProgramError> {
     match file {
         Ok(file) if file.as_raw_fd() <= LAST_STREAM => Err(ProgramError::InputOrOutput),
         Ok(file) => Ok(file),

@@ -1,8 +1,12 @@
 //! The program, over any key file, generator, input and outputs.
 
-ghost use Rattle.std.specs.Prelude.{◌≡◌, ◌≢◌, ◌≤◌, ◌==◌, ◌⊎◌, ℕ, List, IfOk, IfErr, IfSome, OnOk, is_ok, string_bytes};
+ghost use Rattle.std.specs.Prelude.{◌≡◌, ◌≢◌, ◌≤◌, ◌==◌, ◌⊎◌, ℕ, List, IfOk, IfErr, IfSome, IsOkAnd, OnOk, is_ok, string_bytes};
 ghost use Rattle.std.specs.Io.{StartsWith};
 ghost use Rattle.std.specs.Io.KnownBytes.{Appends};
+ghost use Rattle.paseto.specs.Arguments.{claim_words, words_of};
+ghost use Rattle.paseto.specs.Checked.{ChecksFor};
+ghost use Rattle.paseto.specs.Id.{Identifies};
+ghost use Rattle.paseto.specs.Issue.{IssuesFor};
 ghost use Rattle.paseto.specs.declared.error.ProgramError.{ProgramError};
 ghost use Rattle.paseto.specs.Error.{IsOutside, line_of, status_of};
 ghost use Rattle.paseto.specs.Input.{line_of_input};
@@ -10,12 +14,16 @@ ghost use Rattle.paseto.specs.Inspect.{Inspects};
 ghost use Rattle.paseto.specs.Run.{IsRefused, Prints, Writes};
 
 use crate::arguments::{Options, Task};
+use crate::check::{Demands, Keys, check};
 use crate::error::ProgramError;
+use crate::id::id;
 use crate::input::{read_key_line, read_line};
 use crate::inspect::inspect;
+use crate::issue::{Order, issue};
 use crate::local::{decrypt, encrypt};
 use crate::output::write_whole;
 use crate::public::{sign, verify};
+use jiff::Timestamp;
 use rand_core::TryRng;
 use std::alloc::Global;
 use std::io::{Read, Write};
@@ -139,4 +147,129 @@ fn make<K: Read, G: TryRng, R: Read>(
         Task::Sign => sign(alloc, key, options, input),
         Task::Verify => verify(alloc, key, options, input),
     }
+}
+
+/// Prints the token of claims that the words ask for, and returns the status, as `run` does.
+pub fn run_issue<G: TryRng, W: Write, E: Write>(
+    alloc: Global,
+    words: &[String],
+    options: &Options<'_>,
+    key: &str,
+    now: Timestamp,
+    generator: &mut G,
+    output: &mut W,
+    errors: &mut E,
+) -> u8
+    ensures status { result ≤ 3 }
+    ensures written { result ≡ 0 → (written : List ℕ) × Appends (W.contents output.old) (W.contents output.new) written
+        × IssuesFor (claim_words (words_of words.now)) options.now now key.now
+        (λ nonce. G.may_fill generator.old nonce generator.new) written }
+    ensures refused { (result ≡ 1) ⊎ (result ≡ 2) → output.new ≡ output.old }
+    ensures quiet { result ≡ 0 → errors.new ≡ errors.old }
+    ensures said { result ≢ 0 → (error : ProgramError) × (status_of error ≡ result)
+        × ((said : List ℕ) × StartsWith (line_of error) said × Appends (E.contents errors.old) (E.contents errors.new) said) }
+{
+    let made = token_of(alloc, words, options, key, now, generator);
+    finish(made, output, errors)
+}
+
+/// The line of the token of claims that the words ask for.
+fn token_of<G: TryRng>(
+    alloc: Global,
+    words: &[String],
+    options: &Options<'_>,
+    key: &str,
+    now: Timestamp,
+    generator: &mut G,
+) -> Result<String, ProgramError>
+    ensures { IfOk result (λ line. IssuesFor (claim_words (words_of words.now)) options.now now key.now
+        (λ nonce. G.may_fill generator.old nonce generator.new) (string_bytes line)) }
+{
+    let order = Order::parse(alloc, words, options, now)?;
+    issue(alloc, key, &order, generator)
+}
+
+/// Prints the claims of a token, and returns the status, as `run` does.
+pub fn run_check<R: Read, W: Write, E: Write>(
+    alloc: Global,
+    words: &[String],
+    options: &Options<'_>,
+    keys: &Keys<'_>,
+    now: Timestamp,
+    input: &mut R,
+    output: &mut W,
+    errors: &mut E,
+) -> u8
+    ensures status { result ≤ 3 }
+    ensures written { result ≡ 0 → (written : List ℕ) × Appends (W.contents output.old) (W.contents output.new) written
+        × IfSome (R.remaining input.old) (λ bytes. ChecksFor (claim_words (words_of words.now)) options.now now keys.now
+        (line_of_input bytes) written) }
+    ensures refused { (result ≡ 1) ⊎ (result ≡ 2) → output.new ≡ output.old }
+    ensures quiet { result ≡ 0 → errors.new ≡ errors.old }
+    ensures said { result ≢ 0 → (error : ProgramError) × (status_of error ≡ result)
+        × ((said : List ℕ) × StartsWith (line_of error) said × Appends (E.contents errors.old) (E.contents errors.new) said) }
+{
+    let made = claims_line(alloc, words, options, keys, now, input);
+    finish(made, output, errors)
+}
+
+/// The line of the claims of a token.
+fn claims_line<R: Read>(
+    alloc: Global,
+    words: &[String],
+    options: &Options<'_>,
+    keys: &Keys<'_>,
+    now: Timestamp,
+    input: &mut R,
+) -> Result<String, ProgramError>
+    ensures { IfOk result (λ line. IfSome (R.remaining input.old) (λ bytes.
+        ChecksFor (claim_words (words_of words.now)) options.now now keys.now
+        (line_of_input bytes) (string_bytes line))) }
+{
+    let demands = Demands::parse(alloc, words, options, now)?;
+    let token = read_line(alloc, input)?;
+    check(alloc, keys, &demands, token.as_str())
+}
+
+/// Prints the id of a key, and returns the status, as `run` does.
+pub fn run_id<W: Write, E: Write>(alloc: Global, key: &str, output: &mut W, errors: &mut E) -> u8
+    ensures status { result ≤ 3 }
+    ensures written { result ≡ 0 → (written : List ℕ) × Appends (W.contents output.old) (W.contents output.new) written
+        × Identifies key.now written }
+    ensures refused { (result ≡ 1) ⊎ (result ≡ 2) → output.new ≡ output.old }
+    ensures quiet { result ≡ 0 → errors.new ≡ errors.old }
+    ensures said { result ≢ 0 → (error : ProgramError) × (status_of error ≡ result)
+        × ((said : List ℕ) × StartsWith (line_of error) said × Appends (E.contents errors.old) (E.contents errors.new) said) }
+{
+    finish(id(alloc, key), output, errors)
+}
+
+/// Writes what was made, or says why nothing was, and returns the status.
+fn finish<W: Write, E: Write>(
+    made: Result<String, ProgramError>,
+    output: &mut W,
+    errors: &mut E,
+) -> u8
+    ensures status { result ≤ 3 }
+    ensures written { result ≡ 0 → IsOkAnd made (λ text. Appends (W.contents output.old) (W.contents output.new) (string_bytes text)) }
+    ensures refused { (result ≡ 1) ⊎ (result ≡ 2) → output.new ≡ output.old }
+    ensures quiet { result ≡ 0 → errors.new ≡ errors.old }
+    ensures said { result ≢ 0 → (error : ProgramError) × (status_of error ≡ result)
+        × ((said : List ℕ) × StartsWith (line_of error) said × Appends (E.contents errors.old) (E.contents errors.new) said) }
+{
+    match written(made, output) {
+        Ok(()) => 0,
+        Err(error) => {
+            error.say(errors);
+            error.status()
+        }
+    }
+}
+
+/// Writes what was made.
+fn written<W: Write>(made: Result<String, ProgramError>, output: &mut W) -> Result<(), ProgramError>
+    ensures written { OnOk result (IsOkAnd made (λ text. Appends (W.contents output.old) (W.contents output.new) (string_bytes text))) }
+    ensures refused { IfErr result (λ error. (status_of error ≡ 3) ⊎ (output.new ≡ output.old)) }
+{
+    write_whole(output, made?.as_str().as_bytes())
 }

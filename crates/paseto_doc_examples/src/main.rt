@@ -2,6 +2,7 @@
 //! proved here, and most are run.
 #![tactic(auto)]
 
+#[cfg(test)]
 mod at_most;
 mod boxed_decrypting;
 mod boxed_tokens;
@@ -32,6 +33,8 @@ mod ring_causes;
 mod rsa_public_key;
 mod rsa_signature;
 mod sections;
+#[cfg(test)]
+mod tests;
 mod toy_tokens;
 
 use anyhow::Result;
@@ -122,7 +125,6 @@ fn show_generic(rt: &HostRuntime) -> Result<()> {
     if let Err(error) = parser.parse(token.as_str(), &key) {
         println!(rt; "another footer: {}", causes::has_another_footer(&error))?;
     }
-    at_most::limit_seats(alloc, &mut parser)?;
     let even = CustomClaim::try_from_str(alloc, "seats", 0u64)?;
     parser.put_validator(&even, Box::new(alloc, Even)?)?;
     if let Err(error) = required_claims::demanding_parser(alloc)?.parse(token.as_str(), &key) {

@@ -1,13 +1,11 @@
 //! Tokens that share a nonce and a tag.
 
-use crate::expect::expect_that;
 use crate::kinds::{Binding, Kind, SECRET, symmetric_key};
 use rusty_paseto_core::{
     ImplicitAssertion, Local, LocalVersion, Opening, Paseto, PasetoError, PasetoSymmetricKey, V1,
     V3, V4,
 };
 use std::alloc::Global;
-use std::process::Abort;
 
 // A token that is to be opened with no footer and no implicit assertion.
 fn opening_of<'a, V: LocalVersion>(
@@ -22,45 +20,75 @@ fn opening_of<'a, V: LocalVersion>(
     }
 }
 
-// The tokens open, and no two of them share a nonce and a tag for two contents.
-fn expect_none<V: LocalVersion>(rt: &impl Abort, alloc: Global, openings: &[Opening<'_, V>]) {
-    let found = Paseto::<V, Local>::tag_collision(alloc, openings);
-    expect_that(rt, found.expect(rt, "an answer").is_none(), "the tokens");
+// Whether these tokens open, and no two of them share a nonce and a tag for two contents.
+fn is_none<'a, V: LocalVersion>(
+    alloc: Global,
+    key: &'a PasetoSymmetricKey<V, Local>,
+    first: &'a str,
+    second: &'a str,
+    third: &'a str,
+) -> Result<bool, PasetoError> {
+    let openings = [
+        opening_of(key, first),
+        opening_of(key, second),
+        opening_of(key, third),
+    ];
+    Ok(Paseto::<V, Local>::tag_collision(alloc, &openings)?.is_none())
 }
 
 #[test]
 fn none_of_no_tokens(rt: HostRuntime) {
-    expect_none::<V1>(&rt, rt.alloc(), &[]);
-    expect_none::<V3>(&rt, rt.alloc(), &[]);
-    expect_none::<V4>(&rt, rt.alloc(), &[]);
-}
-
-// The three tokens have one nonce and one tag, or two.
-fn check_tokens<V: LocalVersion>(rt: &impl Abort, alloc: Global, tokens: [&str; 3]) {
-    let key = symmetric_key::<V>(&SECRET);
-    let [first, second, third] = tokens;
-    let openings = [
-        opening_of(&key, first),
-        opening_of(&key, second),
-        opening_of(&key, third),
-    ];
-    expect_none::<V>(rt, alloc, &openings);
+    let alloc = rt.alloc();
+    assert!(rt;
+        Paseto::<V1, Local>::tag_collision(alloc, &[])
+            .expect(&rt, "an answer")
+            .is_none()
+    );
+    assert!(rt;
+        Paseto::<V3, Local>::tag_collision(alloc, &[])
+            .expect(&rt, "an answer")
+            .is_none()
+    );
+    assert!(rt;
+        Paseto::<V4, Local>::tag_collision(alloc, &[])
+            .expect(&rt, "an answer")
+            .is_none()
+    );
 }
 
 // The two forms of one text share a nonce and a tag, and one content.
-fn check_forms<V: LocalVersion>(rt: &impl Abort, alloc: Global, kind: Kind) {
-    let empty = Binding::of_footer(Some(""));
-    let bare = kind.make(alloc, "", Binding::NONE).expect(rt, "a token");
-    let section = kind.make(alloc, "", empty).expect(rt, "a token");
-    let other = kind.make(alloc, "a", Binding::NONE).expect(rt, "a token");
-    check_tokens::<V>(rt, alloc, [bare.as_str(), section.as_str(), other.as_str()]);
-}
-
 #[test]
 fn none_of_two_forms_and_another_text(rt: HostRuntime) {
-    check_forms::<V1>(&rt, rt.alloc(), Kind::V1Local);
-    check_forms::<V3>(&rt, rt.alloc(), Kind::V3Local);
-    check_forms::<V4>(&rt, rt.alloc(), Kind::V4Local);
+    let alloc = rt.alloc();
+    'kinds: for kind in [Kind::V1Local, Kind::V3Local, Kind::V4Local] {
+        let bare = kind.make(alloc, "", Binding::NONE).expect(&rt, "a token");
+        let with_section = kind
+            .make(alloc, "", Binding::of_footer(Some("")))
+            .expect(&rt, "a token");
+        let other = kind.make(alloc, "a", Binding::NONE).expect(&rt, "a token");
+        let (bare, section, other) = (bare.as_str(), with_section.as_str(), other.as_str());
+        let none = match kind {
+            Kind::V1Local => is_none::<V1>(
+                alloc,
+                &symmetric_key(&SECRET),
+                bare,
+                section,
+                other,
+            ).expect(&rt, "an answer"),
+            Kind::V3Local => is_none::<V3>(
+                alloc,
+                &symmetric_key(&SECRET),
+                bare,
+                section,
+                other,
+            ).expect(&rt, "an answer"),
+            _ => is_none::<V4>(alloc, &symmetric_key(&SECRET), bare, section, other).expect(
+                &rt,
+                "an answer",
+            ),
+        };
+        assert!(rt; none, "{kind:?}");
+    }
 }
 
 #[test]
@@ -73,7 +101,11 @@ fn version_1_has_no_assertion(rt: HostRuntime) {
     let mut asserting = opening_of(&key, token.as_str());
     asserting.assertion = Some(ImplicitAssertion::from("x"));
     let openings = [asserting, opening_of(&key, token.as_str())];
-    expect_none::<V1>(&rt, alloc, &openings);
+    assert!(rt;
+        Paseto::<V1, Local>::tag_collision(alloc, &openings)
+            .expect(&rt, "an answer")
+            .is_none()
+    );
 }
 
 #[test]
@@ -89,11 +121,7 @@ fn the_first_that_does_not_open(rt: HostRuntime) {
         opening_of(&key, "v4.local"),
     ];
     let answer = Paseto::<V4, Local>::tag_collision(alloc, &openings);
-    expect_that(
-        &rt,
-        matches!(&answer, Err(PasetoError::WrongHeader)),
-        "the answer",
-    );
+    assert!(rt; matches!(&answer, Err(PasetoError::WrongHeader)));
 }
 
 // Openings of one token share a nonce and a tag, and one content.
@@ -110,5 +138,6 @@ fn none_of_seventy_thousand(rt: HostRuntime) {
             .push(opening_of::<V4>(&key, token.as_str()))
             .expect(&rt, "memory");
     }
-    expect_none::<V4>(&rt, alloc, &openings);
+    let found = Paseto::<V4, Local>::tag_collision(alloc, &openings).expect(&rt, "an answer");
+    assert!(rt; found.is_none());
 }

@@ -1,7 +1,6 @@
 //! The nonces of local tokens.
 
 use super::parts::KEY;
-use crate::expect::{expect_same, expect_that};
 use crate::kinds::{Binding, Kind};
 use paseto_toys::ToyBox;
 use rusty_paseto_core::{Key, Local, Paseto, PasetoNonce, PasetoSymmetricKey, V2, to_section};
@@ -24,7 +23,7 @@ fn the_given_nonce(rt: HostRuntime) {
             .strip_prefix(kind.header())
             .expect(&rt, "a header");
         let shown = payload.starts_with("AAAAAAAAAAAAAAAAAAAAAAAAAAAAAAAAAAAAAAAAAA");
-        expect_same(&rt, &shown, &is_shown, &kind);
+        assert_eq!(rt; shown, is_shown, "{kind:?}");
     }
 }
 
@@ -37,7 +36,7 @@ fn the_nonce_is_a_hash_of_the_text(rt: HostRuntime) {
     let nonce: [u8; 24] = blake2b_keyed(&[0; 32], b"hello");
     let section = to_section(rt.alloc(), &nonce).expect(&rt, "a section");
     let begin = format!(in rt.alloc(); "v2.local.{section}").expect(&rt, "memory");
-    expect_that(&rt, token.as_str().starts_with(begin.as_str()), &token);
+    assert!(rt; token.as_str().starts_with(begin.as_str()), "{token}");
 }
 
 // Version 2 takes a nonce of 24 bytes too.
@@ -49,9 +48,9 @@ fn a_short_nonce(rt: HostRuntime) {
     let token = paseto
         .try_encrypt(rt.alloc(), &ToyBox, &key, &PasetoNonce::from(&nonce))
         .expect(&rt, "a token");
-    expect_same(&rt, &token.len(), &63, "the answer");
+    assert_eq!(rt; token.len(), 63);
     let text = Kind::V2Local
         .read(rt.alloc(), token.as_str(), Binding::NONE)
         .expect(&rt, "a text");
-    expect_same(&rt, text.as_str(), "", "the answer");
+    assert_eq!(rt; text.as_str(), "");
 }

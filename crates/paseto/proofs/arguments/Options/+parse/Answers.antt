@@ -1,14 +1,16 @@
-use Rattle.std.proofs.Common.{◌≡◌, ◌<◌, ◌≤◌, List, [], ◌∷◌, length, None, arith, refl}
-use Rattle.std.specs.declared.alloc.Global.{Global}
-use Rattle.std.specs.declared.string.String.{String}
-use Rattle.paseto.specs.Arguments.{settings_of, words_of}
+use Rattle.std.proofs.Common.{option_map, string_bytes}
+use Rattle.paseto.specs.Arguments.{settings, words_of}
+use Rattle.paseto.proofs.Fronts.{flag_more, word_and_rest, word_more}
 use Rattle.paseto.proofs.arguments.Options.+parse.Goals as goal
 
--- one word alone is no option
-alone : (words : List (String Global)) → 1 ≤ length words → length words < 2 → None ≡ settings_of (words_of words)
-alone [] some few = absurd (omega arith)
-alone (word ∷ []) some few = refl
-alone (word ∷ value ∷ words) some few = absurd (omega arith)
+pub returns-then-is_flag : goal.returns-then-is_flag
+returns-then-is_flag t c =
+    flag_more (words_of c.args.words.now) (string_bytes c.word-item.result) _ (settings c.in_ok-parse.field-0)
+    (word_and_rest c.args.words.now c.word-item.result c.in-len1-up.len_at_least c.word-item.is) c.in_ok-parse.ensures
+    (settings c.with_flag.result) (cc) (cc) (cc)
 
-pub returns-in_default : goal.returns-in_default
-returns-in_default t c = alone c.args.words.now c.in_default.len_at_least c.in_default.len_below
+pub returns-then-not-is_name : goal.returns-then-not-is_name
+returns-then-not-is_name t c =
+    word_more (words_of c.args.words.now) (string_bytes c.word-item.result) _ (settings c.in_ok-parse-2.field-0)
+    (word_and_rest c.args.words.now c.word-item.result c.in-len1-up.len_at_least c.word-item.is) c.in_ok-parse-2.ensures
+    (option_map settings c.with_word.result) (cc) (cc) (cc) (cc)

@@ -1,0 +1,144 @@
+//! What the program says of the errors of builders, parsers and rings.
+
+ghost use Rattle.std.specs.Prelude.{◌≡◌, Ok, IfOk, IsOk, IsOkAnd, OnOk};
+
+use crate::error::ProgramError;
+use crate::times::between;
+use jiff::Timestamp;
+use rusty_paseto::prelude::{
+    GenericBuilderError, GenericParserError, KeyRingError, KeyRingParserError, PasetoClaimError,
+    PasetoError,
+};
+use serde_json::Value;
+use std::alloc::{AllocError, Global};
+use std::fmt::Display;
+
+/// The answer of a builder.
+pub fn built<T: Drop>(
+    alloc: Global,
+    answer: Result<T, GenericBuilderError>,
+) -> Result<T, ProgramError>
+    ensures { IfOk result (λ value. answer ≡ Ok value) }
+{
+    match answer {
+        Ok(value) => Ok(value),
+        Err(GenericBuilderError::Memory(source)) => Err(ProgramError::Memory(source)),
+        Err(GenericBuilderError::CipherError { source }) => Err(ProgramError::from(source)),
+        Err(source) => Err(unfit(alloc, &source)),
+    }
+}
+
+/// The answer of a parser.
+pub fn parsed<T: Drop>(
+    alloc: Global,
+    answer: Result<T, GenericParserError>,
+) -> Result<T, ProgramError>
+    ensures { IfOk result (λ value. answer ≡ Ok value) }
+{
+    match answer {
+        Ok(value) => Ok(value),
+        Err(source) => Err(by_parser(alloc, source)),
+    }
+}
+
+/// The answer of a ring, without the id of the key.
+pub fn found(
+    alloc: Global,
+    answer: Result<(String, Value), KeyRingParserError>,
+) -> Result<Value, ProgramError>
+    ensures { IfOk result (λ value. IsOkAnd answer (λ found. found.1 ≡ value)) }
+{
+    match answer {
+        Ok((_id, value)) => Ok(value),
+        Err(KeyRingParserError::Memory(source)) => Err(ProgramError::Memory(source)),
+        Err(KeyRingParserError::Parser(source)) => Err(by_parser(alloc, source)),
+        Err(KeyRingParserError::Ring(source)) => Err(by_ring(alloc, source)),
+    }
+}
+
+/// The answer of a setter of a ring.
+pub fn put(alloc: Global, answer: Result<(), KeyRingError>) -> Result<(), ProgramError>
+    ensures { OnOk result (IsOk answer) }
+{
+    match answer {
+        Ok(()) => Ok(()),
+        Err(source) => Err(by_ring(alloc, source)),
+    }
+}
+
+fn by_parser(alloc: Global, source: GenericParserError) -> ProgramError {
+    match source {
+        GenericParserError::Memory(source) => ProgramError::Memory(source),
+        GenericParserError::CipherError {
+            source: PasetoError::FooterInvalid,
+        } => ProgramError::OtherFooter,
+        GenericParserError::CipherError { source } => ProgramError::from(source),
+        GenericParserError::ClaimError {
+            source: PasetoClaimError::Expired,
+        } => ProgramError::Expired,
+        GenericParserError::ClaimError {
+            source: PasetoClaimError::UseBeforeAvailable(text),
+        } => ProgramError::Early(text),
+        GenericParserError::ClaimError {
+            source: PasetoClaimError::Invalid(key, found, wanted),
+        } => other_text(alloc, key.as_str(), found.as_str(), wanted.as_str()),
+        source => unfit(alloc, &source),
+    }
+}
+
+/// A text stands under a key that is another one than the one that is demanded.
+fn other_text(alloc: Global, key: &str, found: &str, wanted: &str) -> ProgramError {
+    match format!(in alloc; "The claim '{key}' is '{found}', and not '{wanted}'") {
+        Ok(text) => unfit(alloc, &text),
+        Err(source) => ProgramError::Memory(source),
+    }
+}
+
+fn by_ring(alloc: Global, source: KeyRingError) -> ProgramError {
+    match source {
+        KeyRingError::Memory(source) => ProgramError::Memory(source),
+        KeyRingError::Untrusted(source) | KeyRingError::Token(source) => ProgramError::from(source),
+        source => unfit(alloc, &source),
+    }
+}
+
+/// A refusal that is told by one line.
+pub fn unfit(alloc: Global, source: &impl Display) -> ProgramError {
+    match one_line(alloc, source) {
+        Ok(line) => ProgramError::Unfit(line),
+        Err(source) => ProgramError::Memory(source),
+    }
+}
+
+/// The text of an error, in which each control character is a question mark: it may tell of a token that anyone wrote.
+fn one_line(alloc: Global, source: &impl Display) -> Result<String, AllocError> {
+    let text = format!(in alloc; "{source}")?;
+    let mut line = String::new(alloc);
+    for letter in text.chars() {
+        line.push(if letter.is_control() { '?' } else { letter })?;
+    }
+    Ok(line)
+}
+
+/// Why a token that has expired is refused: `expired 3 minutes ago, at 2026-11-22T10:00:00Z`.
+pub fn expired(alloc: Global, claims: &Value, at: Timestamp) -> Result<String, AllocError> {
+    let text = claims.get("exp").and_then(Value::as_str).unwrap_or("");
+    match text.parse::<Timestamp>() {
+        Ok(moment) => {
+            let ago = between(alloc, moment, at)?;
+            format!(in alloc; "expired {ago} ago, at {text}")
+        }
+        Err(_) => String::from_str(alloc, "expired"),
+    }
+}
+
+/// Why a token that may not be used yet is refused: `not valid before 2026-11-22T10:00:00Z, in 3 minutes`.
+pub fn early(alloc: Global, text: &str, at: Timestamp) -> Result<String, AllocError> {
+    match text.parse::<Timestamp>() {
+        Ok(moment) => {
+            let wait = between(alloc, at, moment)?;
+            format!(in alloc; "not valid before {text}, in {wait}")
+        }
+        Err(_) => String::from_str(alloc, "not valid yet"),
+    }
+}
