@@ -1,24 +1,20 @@
 //! The calls of generic builders.
 
-use crate::answer::{Answer, Snapshot};
 use crate::claims::numbered;
 use crate::kinds::{Signed, footer, local_kinds, public_kinds, symmetric_key};
-use crate::run::{Run, calls, changes, edits};
+use crate::run::{Run, Snapshot, calls, changes, edits};
 use anyhow::{Result, bail};
 use paseto_toys::generators::Zeros;
 use paseto_toys::keys::{Keys, SECRET};
 use paseto_toys::{Lenient, PlainBox};
-use rusty_paseto::prelude::{
-    AudienceClaim, ClaimSetter, CustomClaim, GenericBuilder, GenericLocalVersion, Local, Public,
-    PurposeTrait, V2, V4, VersionTrait,
-};
+use rusty_paseto::prelude::*;
 use serde_json::{Map, Value};
 use std::alloc::Global;
 
 /// A builder is known by its token.
 impl Snapshot for GenericBuilder<'_, V4, Local> {
-    fn snapshot(&self, alloc: Global) -> Result<Vec<u8>> {
-        Answer::of(alloc, self.try_encrypt(&mut Zeros, &symmetric_key()))?.snapshot(alloc)
+    fn snapshot(&self, alloc: Global) -> Result<String> {
+        Ok(format!(in alloc; "{:?}", self.try_encrypt(&mut Zeros, &symmetric_key()))?)
     }
 }
 
@@ -96,19 +92,21 @@ fn ask_payload(run: &mut Run<'_>) -> Result<()> {
 
 fn ask_local<V: GenericLocalVersion>(run: &mut Run<'_>, kind: &str) -> Result<()> {
     let builder = builder_of::<V, Local>(run.alloc, run.text)?;
-    let key = symmetric_key::<V>();
-    calls! { run; "GenericBuilder::try_encrypt", kind => builder.try_encrypt(&mut Zeros, &key); }
+    calls! { run; "GenericBuilder::try_encrypt", kind => builder.try_encrypt(&mut Zeros, &symmetric_key()); }
 }
 
 fn ask_boxed(run: &mut Run<'_>) -> Result<()> {
-    let builder = builder_of::<V2, Local>(run.alloc, run.text)?;
-    let key = symmetric_key::<V2>();
+    let (builder, key) = (
+        builder_of::<V2, Local>(run.alloc, run.text)?,
+        symmetric_key(),
+    );
     calls! { run; "GenericBuilder::try_encrypt", "v2.local" => builder.try_encrypt(&PlainBox, &mut Zeros, &key); }
 }
 
-fn ask_public<V: Signed>(run: &mut Run<'_>) -> Result<()> {
-    let builder = builder_of::<V, Public>(run.alloc, run.text)?;
-    let keys = Keys::of(&SECRET);
-    let key = V::private_key(&keys);
-    calls! { run; "GenericBuilder::try_sign", V::KIND => builder.try_sign(&mut Lenient, &key); }
+fn ask_public<V: Signed>(run: &mut Run<'_>, kind: &str) -> Result<()> {
+    let (builder, keys) = (
+        builder_of::<V, Public>(run.alloc, run.text)?,
+        Keys::of(&SECRET),
+    );
+    calls! { run; "GenericBuilder::try_sign", kind => builder.try_sign(&mut Lenient, &V::private_key(&keys)); }
 }

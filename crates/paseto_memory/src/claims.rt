@@ -1,12 +1,24 @@
 //! The calls on claims.
 
-use crate::run::{Run, calls};
+use crate::run::{Run, Snapshot, calls, edits, put};
 use anyhow::Result;
-use rusty_paseto::prelude::{AudienceClaim, ClaimValue, CustomClaim, ExpirationClaim, PasetoClaim};
+use rusty_paseto::prelude::*;
 use serde_json::Value;
 use std::alloc::Global;
 
 const DATE: &str = "2024-01-01T00:00:00Z";
+
+impl<K: ReservedKey> Snapshot for DateClaim<K> {
+    fn snapshot(&self, alloc: Global) -> Result<String> {
+        Ok(format!(in alloc; "{:?}", self.to_json(alloc)?)?)
+    }
+}
+
+impl Snapshot for CustomClaim<&str> {
+    fn snapshot(&self, alloc: Global) -> Result<String> {
+        Ok(format!(in alloc; "{:?}", self.to_json(alloc)?)?)
+    }
+}
 
 /// Asks them.
 pub fn ask(run: &mut Run<'_>) -> Result<()> {
@@ -21,11 +33,13 @@ pub fn ask(run: &mut Run<'_>) -> Result<()> {
 fn ask_made(run: &mut Run<'_>) -> Result<()> {
     let (alloc, text) = (run.alloc, run.text);
     let claim = ExpirationClaim::try_from_str(alloc, DATE)?;
+    edits!(run, "DateClaim::", Ok(None);
+        "try_from_str", "a date" => |slot| put(slot, ExpirationClaim::try_from_str(alloc, DATE));
+        "try_from_str", "no date, refused" => |slot| put(slot, ExpirationClaim::try_from_str(alloc, text));
+        "default", "its date" => |slot| put(slot, ExpirationClaim::default(alloc));
+        "try_clone", "a claim" => |slot| put(slot, claim.try_clone(alloc));
+    )?;
     calls! { run;
-        "DateClaim::try_from_str", "a date" => ExpirationClaim::try_from_str(alloc, DATE);
-        "DateClaim::try_from_str", "no date, refused" => ExpirationClaim::try_from_str(alloc, text);
-        "DateClaim::default", "its date" => ExpirationClaim::default(alloc);
-        "DateClaim::try_clone", "a claim" => claim.try_clone(alloc);
         "CustomClaim::try_from_str", "a key and a text" => CustomClaim::try_from_str(alloc, text, text);
         "CustomClaim::try_from_key", "a key" => CustomClaim::<&str>::try_from_key(alloc, text);
         "CustomClaim::try_from_str", "iss, refused" => CustomClaim::try_from_str(alloc, "iss", "a");
@@ -52,21 +66,16 @@ pub fn ask_value<T: ClaimValue>(run: &mut Run<'_>, of: &str, value: &T) -> Resul
 }
 
 fn ask_json(run: &mut Run<'_>) -> Result<()> {
-    let (alloc, text) = (run.alloc, run.text);
+    let (alloc, text, call) = (run.alloc, run.text, "PasetoClaim::to_json");
     let date = ExpirationClaim::try_from_str(alloc, DATE)?;
-    ask_claim(run, "TextClaim", &AudienceClaim::from(text))?;
-    ask_claim(run, "DateClaim", &date)?;
-    ask_custom(run, "CustomClaim, a text", text)?;
-    ask_custom(run, "CustomClaim, a number", 4u64)?;
-    ask_custom(run, "CustomClaim, JSON", tree(alloc, text)?)
-}
-
-fn ask_custom<T: ClaimValue + Drop>(run: &mut Run<'_>, of: &str, value: T) -> Result<()> {
-    let claim = CustomClaim::try_from_str(run.alloc, "a", value)?;
-    ask_claim(run, of, &claim)
-}
-
-fn ask_claim<T: PasetoClaim>(run: &mut Run<'_>, of: &str, claim: &T) -> Result<()> {
-    let alloc = run.alloc;
-    calls! { run; "PasetoClaim::to_json", of => claim.to_json(alloc); }
+    let of_text = CustomClaim::try_from_str(alloc, "a", text)?;
+    let of_number = CustomClaim::try_from_str(alloc, "a", 4u64)?;
+    let of_tree = CustomClaim::try_from_str(alloc, "a", tree(alloc, text)?)?;
+    calls! { run;
+        call, "TextClaim" => AudienceClaim::from(text).to_json(alloc);
+        call, "DateClaim" => date.to_json(alloc);
+        call, "CustomClaim, a text" => of_text.to_json(alloc);
+        call, "CustomClaim, a number" => of_number.to_json(alloc);
+        call, "CustomClaim, JSON" => of_tree.to_json(alloc);
+    }
 }

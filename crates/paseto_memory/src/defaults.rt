@@ -1,35 +1,32 @@
 //! The calls of default builders and parsers.
 
-use crate::answer::{Answer, Snapshot};
 use crate::builders::three_maps;
 use crate::claims::numbered;
 use crate::kinds::{Signed, footer, local_kinds, public_kinds, symmetric_key};
-use crate::parsers::{SEVERAL, good, late, now};
-use crate::run::{Run, calls, changes, edits, three};
+use crate::parsers::{SEVERAL, good, now};
+use crate::run::{Run, Snapshot, calls, changes, edits, put, three};
 use crate::tokens::{seal, seal_boxed, sign};
 use crate::validators::{refusing, validators};
 use anyhow::{Result, ensure};
+use jiff::Timestamp;
 use paseto_toys::generators::Zeros;
 use paseto_toys::keys::{Keys, SECRET};
 use paseto_toys::{Lenient, PlainBox};
-use rusty_paseto::prelude::{
-    AudienceClaim, CheckSetter, CountingSetter, CustomClaim, DefaultLocalVersion, Local,
-    PasetoBuilder, PasetoParser, Public, PurposeTrait, V2, V4, VersionTrait, fits_default,
-};
+use rusty_paseto::prelude::*;
 use std::alloc::Global;
 
 /// A builder is known by its token.
 impl Snapshot for PasetoBuilder<'_, V4, Local> {
-    fn snapshot(&self, alloc: Global) -> Result<Vec<u8>> {
-        Answer::of(alloc, self.build(&mut Zeros, &symmetric_key()))?.snapshot(alloc)
+    fn snapshot(&self, alloc: Global) -> Result<String> {
+        Ok(format!(in alloc; "{:?}", self.build(&mut Zeros, &symmetric_key()))?)
     }
 }
 
 /// A parser is known by what it answers for a token.
 impl Snapshot for PasetoParser<'_, V4, Local> {
-    fn snapshot(&self, alloc: Global) -> Result<Vec<u8>> {
+    fn snapshot(&self, alloc: Global) -> Result<String> {
         let token = seal::<V4>(alloc, good(alloc, "customers")?.as_str(), footer())?;
-        Answer::of(alloc, self.parse(token.as_str(), &symmetric_key()))?.snapshot(alloc)
+        Ok(format!(in alloc; "{:?}", self.parse(token.as_str(), &symmetric_key()))?)
     }
 }
 
@@ -38,7 +35,6 @@ pub fn ask(run: &mut Run<'_>) -> Result<()> {
     ask_defaults(run)?;
     ask_claims(run)?;
     ask_repeated_claims(run)?;
-    ask_expirations(run)?;
     ask_checks(run)?;
     ask_validators(run)?;
     ask_times(run)?;
@@ -80,11 +76,13 @@ pub fn parser_of<V: VersionTrait, P: PurposeTrait>(
 }
 
 fn ask_defaults(run: &mut Run<'_>) -> Result<()> {
-    let (alloc, now) = (run.alloc, now()?);
+    let (alloc, now, of) = (run.alloc, now()?, "a moment");
     ensure!(fits_default(now), "no default builder begins at the moment");
-    calls! { run;
-        "PasetoBuilder::default", "a moment" => PasetoBuilder::<V4, Local>::default(alloc, now);
-        "DefaultParser::default", "a moment" => PasetoParser::<V4, Local>::default(alloc, now);
+    edits!(run, "PasetoBuilder::", Ok(None);
+        "default", of => |slot| put(slot, PasetoBuilder::<V4, Local>::default(alloc, now));
+    )?;
+    edits! { run, "DefaultParser::", Ok(None);
+        "default", of => |slot| put(slot, PasetoParser::<V4, Local>::default(alloc, now));
     }
 }
 
@@ -111,14 +109,11 @@ fn ask_repeated_claims(run: &mut Run<'_>) -> Result<()> {
     )?;
     let mut builder = builder_of::<V4, Local>(alloc, "a", 10)?;
     builder.put_claim(&claim)?;
-    calls! { run; "PasetoBuilder::build", "a key that was set again, refused" => builder.build(&mut Zeros, &key); }
-}
-
-fn ask_expirations(run: &mut Run<'_>) -> Result<()> {
-    let (alloc, of) = (run.alloc, "a builder");
+    calls!(run; "PasetoBuilder::build", "a key that was set again, refused" => builder.build(&mut Zeros, &key);)?;
     edits! { run, "PasetoBuilder::", builder_of::<V4, Local>(alloc, "a", 10);
-        "put_no_expiration_danger_acknowledged", of => |builder| builder.put_no_expiration_danger_acknowledged();
-        "set_no_expiration_danger_acknowledged", of
+        "put_no_expiration_danger_acknowledged", "a builder"
+            => |builder| builder.put_no_expiration_danger_acknowledged();
+        "set_no_expiration_danger_acknowledged", "a builder"
             => |builder| builder.set_no_expiration_danger_acknowledged().map(drop);
     }
 }
@@ -149,8 +144,9 @@ fn ask_validators(run: &mut Run<'_>) -> Result<()> {
     }
 }
 
+// At the first moment of 2060 all tokens of the cases have expired.
 fn ask_times(run: &mut Run<'_>) -> Result<()> {
-    let (alloc, late) = (run.alloc, late()?);
+    let (alloc, late) = (run.alloc, Timestamp::from_second(2_840_140_800)?);
     edits! { run, "DefaultParser::", parser_of::<V4, Local>(alloc);
         "put_required", "a claim" => |parser| parser.put_required("sub");
         "require_claim", "a claim" => |parser| parser.require_claim("sub").map(drop);
@@ -160,11 +156,10 @@ fn ask_times(run: &mut Run<'_>) -> Result<()> {
 }
 
 fn ask_local<V: DefaultLocalVersion>(run: &mut Run<'_>, kind: &str) -> Result<()> {
-    let builder = builder_of::<V, Local>(run.alloc, run.text, 10)?;
-    let key = symmetric_key::<V>();
-    let parser = parser_of::<V, Local>(run.alloc)?;
-    let payload = good(run.alloc, run.text)?;
-    let token = seal::<V>(run.alloc, payload.as_str(), footer())?;
+    let (alloc, key) = (run.alloc, symmetric_key());
+    let builder = builder_of::<V, Local>(alloc, run.text, 10)?;
+    let parser = parser_of::<V, Local>(alloc)?;
+    let token = seal::<V>(alloc, good(alloc, run.text)?.as_str(), footer())?;
     calls! { run;
         "PasetoBuilder::build", kind => builder.build(&mut Zeros, &key);
         "DefaultParser::parse", kind => parser.parse(token.as_str(), &key);
@@ -172,26 +167,24 @@ fn ask_local<V: DefaultLocalVersion>(run: &mut Run<'_>, kind: &str) -> Result<()
 }
 
 fn ask_boxed(run: &mut Run<'_>) -> Result<()> {
-    let builder = builder_of::<V2, Local>(run.alloc, run.text, 10)?;
-    let key = symmetric_key::<V2>();
-    let parser = parser_of::<V2, Local>(run.alloc)?;
-    let payload = good(run.alloc, run.text)?;
-    let token = seal_boxed(run.alloc, payload.as_str(), footer())?;
+    let (alloc, key) = (run.alloc, symmetric_key());
+    let builder = builder_of::<V2, Local>(alloc, run.text, 10)?;
+    let parser = parser_of::<V2, Local>(alloc)?;
+    let token = seal_boxed(alloc, good(alloc, run.text)?.as_str(), footer())?;
     calls! { run;
         "PasetoBuilder::build", "v2.local" => builder.build(&PlainBox, &mut Zeros, &key);
         "DefaultParser::parse", "v2.local" => parser.parse(&PlainBox, token.as_str(), &key);
     }
 }
 
-fn ask_public<V: Signed>(run: &mut Run<'_>) -> Result<()> {
-    let builder = builder_of::<V, Public>(run.alloc, run.text, 10)?;
-    let keys = Keys::of(&SECRET);
+fn ask_public<V: Signed>(run: &mut Run<'_>, kind: &str) -> Result<()> {
+    let (alloc, keys) = (run.alloc, Keys::of(&SECRET));
     let (private, public) = (V::private_key(&keys), V::public_key(&keys)?);
-    let parser = parser_of::<V, Public>(run.alloc)?;
-    let payload = good(run.alloc, run.text)?;
-    let token = sign::<V>(run.alloc, payload.as_str(), footer())?;
+    let builder = builder_of::<V, Public>(alloc, run.text, 10)?;
+    let parser = parser_of::<V, Public>(alloc)?;
+    let token = sign::<V>(alloc, good(alloc, run.text)?.as_str(), footer())?;
     calls! { run;
-        "PasetoBuilder::build", V::KIND => builder.build(&mut Lenient, &private);
-        "DefaultParser::parse", V::KIND => parser.parse(&Lenient, token.as_str(), &public);
+        "PasetoBuilder::build", kind => builder.build(&mut Lenient, &private);
+        "DefaultParser::parse", kind => parser.parse(&Lenient, token.as_str(), &public);
     }
 }

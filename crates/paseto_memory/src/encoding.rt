@@ -1,32 +1,46 @@
 //! The calls on encodings, sections and tokens that were not opened.
 
-use crate::run::{Run, calls, edits};
+use crate::run::{Run, Snapshot, calls, edits, put};
 use anyhow::Result;
-use rusty_paseto::prelude::{
-    Footer, PreAuthenticationEncoding, UntrustedToken, from_section, to_section,
-};
+use rusty_paseto::prelude::*;
 use rusty_paseto_parts::push_section;
+use std::alloc::Global;
+
+impl Snapshot for PreAuthenticationEncoding {
+    fn snapshot(&self, alloc: Global) -> Result<String> {
+        Ok(format!(in alloc; "{:?}", self.as_bytes())?)
+    }
+}
 
 /// Asks them.
 pub fn ask(run: &mut Run<'_>) -> Result<()> {
-    let (alloc, text) = (run.alloc, run.text);
-    let bytes = text.as_bytes();
-    let (section, padded) = (to_section(alloc, bytes)?, format!(in alloc; "{text}=")?);
-    let (section, padded) = (section.as_str(), padded.as_str());
+    let (alloc, bytes) = (run.alloc, run.text.as_bytes());
     let pieces = [bytes, b"piece".as_slice(), &[]];
+    edits!(run, "PreAuthenticationEncoding::", Ok(None);
+        "parse", "three pieces" => |slot| put(slot, PreAuthenticationEncoding::parse(alloc, &pieces));
+    )?;
+    ask_sections(run)?;
+    ask_footers(run)
+}
+
+fn ask_sections(run: &mut Run<'_>) -> Result<()> {
+    let (alloc, bytes) = (run.alloc, run.text.as_bytes());
+    let (section, padded) = (
+        to_section(alloc, bytes)?,
+        format!(in alloc; "{}=", run.text)?,
+    );
+    let (section, padded) = (section.as_str(), padded.as_str());
     let more = b"behind a text, and so long that it has to grow";
     calls!(run;
-        "PreAuthenticationEncoding::parse", "three pieces" => PreAuthenticationEncoding::parse(alloc, &pieces);
         "to_section", "a text" => to_section(alloc, bytes);
         "from_section", "a section" => from_section(alloc, section);
     )?;
     edits!(run, "", Ok(String::from_str(alloc, "v4.")?); "push_section", "bytes" => |out| push_section(more, out);)?;
-    calls!(run; "from_section", "padding, refused" => from_section(alloc, padded);)?;
-    ask_footers(run, section)
+    calls! { run; "from_section", "padding, refused" => from_section(alloc, padded); }
 }
 
-fn ask_footers(run: &mut Run<'_>, section: &str) -> Result<()> {
-    let alloc = run.alloc;
+fn ask_footers(run: &mut Run<'_>) -> Result<()> {
+    let (alloc, section) = (run.alloc, to_section(run.alloc, run.text.as_bytes())?);
     let text = format!(in alloc; "v4.local.AAAA.{section}")?;
     let text = text.as_str();
     let token = UntrustedToken::try_parse(text)?;

@@ -2,27 +2,32 @@
 
 use paseto_toys::Lenient;
 use paseto_toys::keys::{SECRET, ToyVersion};
-use rusty_paseto::prelude::{Footer, Local, PasetoSymmetricKey, Signs, Verifies, VersionTrait};
+use rusty_paseto::prelude::*;
+
+/// Asks the cases of each kind of tokens, where one of them may be asked.
+macro_rules! kinds {
+    ($run:expr, $ask:ident; $($version:ident $kind:literal)*) => {
+        $(if $run.asks_of($kind) {
+            $ask::<rusty_paseto::prelude::$version>($run, $kind)?;
+        })*
+    };
+}
 
 /// Asks the cases of each kind of local tokens that needs no box.
 macro_rules! local_kinds {
     ($run:expr, $ask:ident) => {
-        $ask::<rusty_paseto::prelude::V1>($run, "v1.local")?;
-        $ask::<rusty_paseto::prelude::V3>($run, "v3.local")?;
-        $ask::<rusty_paseto::prelude::V4>($run, "v4.local")?;
+        $crate::kinds::kinds! { $run, $ask; V1 "v1.local" V3 "v3.local" V4 "v4.local" }
     };
 }
 
 /// Asks the cases of each kind of public tokens.
 macro_rules! public_kinds {
     ($run:expr, $ask:ident) => {
-        $ask::<rusty_paseto::prelude::V1>($run)?;
-        $ask::<rusty_paseto::prelude::V2>($run)?;
-        $ask::<rusty_paseto::prelude::V3>($run)?;
-        $ask::<rusty_paseto::prelude::V4>($run)?;
+        $crate::kinds::kinds! { $run, $ask; V1 "v1.public" V2 "v2.public" V3 "v3.public" V4 "v4.public" }
     };
 }
 
+pub(crate) use kinds;
 pub(crate) use local_kinds;
 pub(crate) use public_kinds;
 

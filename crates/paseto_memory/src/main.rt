@@ -2,7 +2,6 @@
 //! and what the same object answers after it.
 #![tactic(auto)]
 
-mod answer;
 mod builders;
 mod claims;
 mod defaults;

@@ -3,17 +3,12 @@
 
 use crate::claims::{ask_value, tree};
 use crate::parsers::now;
-use crate::run::{Run, calls, changes, edits, three};
+use crate::run::{Run, calls, changes, edits, put, three};
 use crate::{builders, defaults, parsers, primitives};
 use anyhow::Result;
 use paseto_toys::generators::Zeros;
 use paseto_toys::keys::{Keys, SECRET, ToyVersion};
-use rusty_paseto::prelude::{
-    AudienceClaim, CustomClaim, ExpirationClaim, Footer, GenericBuilder, GenericParser, Header,
-    ImplicitAssertion, Key, Local, Paseto, PasetoAsymmetricPublicKey, PasetoClaim, PasetoError,
-    PasetoNonce, PasetoParser, PasetoSymmetricKey, Payload, Public, UntrustedToken, V3, V4,
-    fits_default, is_whole, odd_key, same_value, split_token,
-};
+use rusty_paseto::prelude::*;
 use rusty_paseto_parts::is_section_of;
 use serde_json::Value;
 
@@ -23,16 +18,11 @@ pub fn ask(run: &mut Run<'_>) -> Result<()> {
     ask_texts(run)?;
     ask_values(run)?;
     ask_claims(run)?;
-    let (alloc, of) = (run.alloc, "nothing, with no memory");
-    calls!(run;
-        "GenericBuilder::new", of => always(GenericBuilder::<V4, Local>::new(alloc));
-        "TokenParser::new", of => always(GenericParser::<V4, Local>::new(alloc));
-        "DefaultParser::new", of => always(PasetoParser::<V4, Local>::new(alloc));
-    )?;
+    ask_objects(run)?;
     ask_setters(run)?;
     let (now, text) = (now()?, run.text.as_bytes());
     calls! { run;
-        "fits_default", "a moment, with no memory" => always([usize::from(fits_default(now))]);
+        "fits_default", "a moment, with no memory" => always(fits_default(now));
         "the primitives", "a text, with no memory" => always(primitives::digest(text));
     }
 }
@@ -47,11 +37,12 @@ const DIGITS: &str = "77756262616c7562626164756264756277756262616c75626261647562
 fn ask_keys(run: &mut Run<'_>) -> Result<()> {
     let (call, point) = ("TryFrom::try_from", Key::<49>::from([2; 49]));
     calls! { run;
-        call, "Key, with no memory" => Key::<32>::try_from(DIGITS);
-        call, "Key of no digits, with no memory, refused" => Key::<32>::try_from("no digits");
-        "Key::try_new_random", "a generator, with no memory" => Key::<32>::try_new_random(&mut Zeros);
+        call, "Key, with no memory" => Key::<32>::try_from(DIGITS).map(|key| *key.as_bytes());
+        call, "Key of no digits, with no memory, refused" => Key::<32>::try_from("no digits").map(|key| *key.as_bytes());
+        "Key::try_new_random", "a generator, with no memory"
+            => Key::<32>::try_new_random(&mut Zeros).map(|key| *key.as_bytes());
         call, "PasetoAsymmetricPublicKey, with no memory"
-            => PasetoAsymmetricPublicKey::<V3, Public>::try_from(&point).map(drop);
+            => PasetoAsymmetricPublicKey::<V3, Public>::try_from(&point).map(|key| key.as_bytes().first_chunk::<49>().copied());
     }
 }
 
@@ -60,25 +51,29 @@ fn ask_texts(run: &mut Run<'_>) -> Result<()> {
     let token = format!(in run.alloc; "v4.local.{text}.a2V5LTE")?;
     let token = token.as_str();
     calls! { run;
-        call, "a token, with no memory" => UntrustedToken::try_parse(token).map(drop);
-        call, "two sections, with no memory, refused" => UntrustedToken::try_parse("v4.local").map(drop);
+        call, "a token, with no memory" => UntrustedToken::try_parse(token);
+        call, "two sections, with no memory, refused" => UntrustedToken::try_parse("v4.local");
         "the parts of a token", "its text, with no memory" => parts_of(token);
         "texts, keys and Paseto", "a text, with no memory" => texts_of(text);
     }
 }
 
-// How many bytes the parts have that are told of a token.
-fn parts_of(text: &str) -> Result<[usize; 6], PasetoError> {
+// How many bytes the parts have that are told of a token, and whether its footer is the one of the cases.
+fn parts_of(text: &str) -> Result<([usize; 5], bool), PasetoError> {
     let token = UntrustedToken::try_parse(text)?;
     let (sections, footer) = split_token(text).unwrap_or((["", "", ""], None));
-    Ok([
-        token.version().len(),
-        token.purpose().len(),
-        token.footer_base64().unwrap_or("").len(),
-        sections[2].len(),
-        footer.unwrap_or("").len(),
-        usize::from(is_section_of(footer.unwrap_or(""), b"key-1")),
-    ])
+    let (footer, decoded) = (footer.unwrap_or(""), token.footer_base64().unwrap_or(""));
+    let parts = [
+        token.version(),
+        token.purpose(),
+        decoded,
+        sections[2],
+        footer,
+    ];
+    Ok((
+        parts.map(|part| part.len()),
+        is_section_of(footer, b"key-1"),
+    ))
 }
 
 // How many bytes the texts and keys have that are made of a text.
@@ -97,7 +92,9 @@ fn texts_of(text: &str) -> Result<[usize; 8], PasetoError> {
         PasetoNonce::<V4, Local>::from(&key).as_bytes().len(),
         V4::private_key(&keys).as_bytes().len(),
         V4::public_key(&keys)?.as_bytes().len(),
-        PasetoSymmetricKey::<V4, Local>::from(key).as_bytes().len(),
+        PasetoSymmetricKey::<V4, Local>::from(Key::default())
+            .as_bytes()
+            .len(),
     ])
 }
 
@@ -116,9 +113,12 @@ fn ask_values(run: &mut Run<'_>) -> Result<()> {
 }
 
 // What the tests find of a value.
-fn marks_of(value: &Value) -> [usize; 3] {
-    let (is_same, is_odd) = (same_value(value, value), odd_key(value).is_some());
-    [is_same, is_whole(value), is_odd].map(|mark| usize::from(mark))
+fn marks_of(value: &Value) -> [bool; 3] {
+    [
+        same_value(value, value),
+        is_whole(value),
+        odd_key(value).is_some(),
+    ]
 }
 
 fn ask_claims(run: &mut Run<'_>) -> Result<()> {
@@ -146,10 +146,17 @@ fn lengths_of(claim: &CustomClaim<&str>, text: &str) -> [usize; 4] {
     ]
 }
 
-// Puts what was made where there was nothing.
-fn put<T: Drop, E>(slot: &mut Option<T>, made: Result<T, E>) -> Result<(), E> {
-    *slot = Some(made?);
-    Ok(())
+fn ask_objects(run: &mut Run<'_>) -> Result<()> {
+    let (alloc, of) = (run.alloc, "nothing, with no memory");
+    edits!(run, "GenericBuilder::", Ok(None);
+        "new", of => |slot| put(slot, always(GenericBuilder::<V4, Local>::new(alloc)));
+    )?;
+    edits!(run, "TokenParser::", Ok(None);
+        "new", of => |slot| put(slot, always(GenericParser::<V4, Local>::new(alloc)));
+    )?;
+    edits! { run, "DefaultParser::", Ok(None);
+        "new", of => |slot| put(slot, always(PasetoParser::<V4, Local>::new(alloc)));
+    }
 }
 
 // Sets the footer and the implicit assertion of a builder or of a default parser.
@@ -173,8 +180,8 @@ fn ask_setters(run: &mut Run<'_>) -> Result<()> {
     edits!(run, "TokenParser::", parsers::parser_of::<V4, Local>(alloc);
         "set_footer and others", of => |parser| {
             let is_empty = parser.get_footer().as_str().is_empty();
-            parser.set_footer(Footer::from(if is_empty { "" } else { "other" }));
-            bind!(parser.set_now(now))
+            parser.set_now(now).set_footer(Footer::from(if is_empty { "" } else { "another" }));
+            always(())
         };
     )?;
     edits! { run, "DefaultParser::", defaults::parser_of::<V4, Local>(alloc);

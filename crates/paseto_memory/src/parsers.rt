@@ -1,20 +1,16 @@
 //! The calls of generic parsers.
 
-use crate::answer::{Answer, Snapshot};
 use crate::builders::{ODD, odd_claim, three_maps};
 use crate::claims::numbered;
 use crate::kinds::{Signed, footer, local_kinds, public_kinds, symmetric_key};
-use crate::run::{Run, calls, changes, edits, three};
+use crate::run::{Run, Snapshot, calls, changes, edits, three};
 use crate::tokens::{seal, seal_boxed, sign};
 use crate::validators::{refusing, validators};
 use anyhow::Result;
 use jiff::Timestamp;
 use paseto_toys::keys::{Keys, SECRET};
 use paseto_toys::{Lenient, PlainBox};
-use rusty_paseto::prelude::{
-    AudienceClaim, CheckSetter, CustomClaim, GenericLocalVersion, GenericParser, Local, Public,
-    PurposeTrait, V2, V4, VersionTrait,
-};
+use rusty_paseto::prelude::*;
 use std::alloc::Global;
 
 /// The entries that all parsers check.
@@ -40,9 +36,9 @@ pub fn now() -> Result<Timestamp> {
 
 /// A parser is known by what it answers for a token.
 impl Snapshot for GenericParser<'_, V4, Local> {
-    fn snapshot(&self, alloc: Global) -> Result<Vec<u8>> {
+    fn snapshot(&self, alloc: Global) -> Result<String> {
         let token = seal::<V4>(alloc, expired(alloc)?.as_str(), footer())?;
-        Answer::of(alloc, self.parse(token.as_str(), &symmetric_key()))?.snapshot(alloc)
+        Ok(format!(in alloc; "{:?}", self.parse(token.as_str(), &symmetric_key()))?)
     }
 }
 
@@ -80,12 +76,11 @@ fn timed<V: VersionTrait, P: PurposeTrait>(alloc: Global) -> Result<GenericParse
 }
 
 fn ask_checks(run: &mut Run<'_>) -> Result<()> {
-    let (alloc, claim, odd) = (
-        run.alloc,
-        AudienceClaim::from("others"),
-        odd_claim(run.alloc)?,
+    let (alloc, claim) = (run.alloc, AudienceClaim::from("others"));
+    let (odd, seats) = (
+        odd_claim(alloc)?,
+        CustomClaim::try_from_str(alloc, "seats", 5u64)?,
     );
-    let seats = CustomClaim::try_from_str(alloc, "seats", 5u64)?;
     edits! { run, "TokenParser::", parser_of::<V4, Local>(alloc);
         "put_check", "a claim" => |parser| parser.put_check(&claim);
         "check_claim", "a claim" => |parser| parser.check_claim(&claim).map(drop);
@@ -95,11 +90,8 @@ fn ask_checks(run: &mut Run<'_>) -> Result<()> {
 }
 
 fn ask_validators(run: &mut Run<'_>) -> Result<()> {
-    let (alloc, claim, odd) = (
-        run.alloc,
-        AudienceClaim::from("customers"),
-        odd_claim(run.alloc)?,
-    );
+    let (alloc, claim) = (run.alloc, AudienceClaim::from("customers"));
+    let odd = odd_claim(alloc)?;
     changes! { run, "TokenParser::", parser_of::<V4, Local>(alloc);
         "put_validator", "a fraction, refused" => refusing!(alloc) => |parser, given| parser.put_validator(&odd, given);
         "put_checks", "a map with a fraction, refused" => three_maps(alloc, ODD)?
@@ -126,18 +118,13 @@ fn ask_maps(run: &mut Run<'_>) -> Result<()> {
     }
 }
 
-/// A moment at which all tokens of the cases have expired: the first of 2060.
-pub fn late() -> Result<Timestamp> {
-    Ok(Timestamp::from_second(2_840_140_800)?)
-}
-
 fn ask_times(run: &mut Run<'_>) -> Result<()> {
-    let (alloc, late) = (run.alloc, late()?);
+    let (alloc, now) = (run.alloc, now()?);
     edits! { run, "TokenParser::", parser_of::<V4, Local>(alloc);
         "put_required", "a claim" => |parser| parser.put_required("sub");
         "require_claim", "a claim" => |parser| parser.require_claim("sub").map(drop);
-        "put_times", "a moment" => |parser| parser.put_times(late);
-        "check_times", "a moment" => |parser| parser.check_times(late).map(drop);
+        "put_times", "a moment" => |parser| parser.put_times(now);
+        "check_times", "a moment" => |parser| parser.check_times(now).map(drop);
     }
 }
 
@@ -147,22 +134,22 @@ fn ask_value(run: &mut Run<'_>) -> Result<()> {
 }
 
 fn ask_local<V: GenericLocalVersion>(run: &mut Run<'_>, kind: &str) -> Result<()> {
-    let (parser, key) = (timed::<V, Local>(run.alloc)?, symmetric_key::<V>());
+    let parser = timed::<V, Local>(run.alloc)?;
     let token = seal::<V>(run.alloc, good(run.alloc, run.text)?.as_str(), footer())?;
-    calls! { run; "TokenParser::parse", kind => parser.parse(token.as_str(), &key); }
+    calls! { run; "TokenParser::parse", kind => parser.parse(token.as_str(), &symmetric_key()); }
 }
 
 fn ask_boxed(run: &mut Run<'_>) -> Result<()> {
-    let (parser, key) = (timed::<V2, Local>(run.alloc)?, symmetric_key::<V2>());
+    let (parser, key) = (timed::<V2, Local>(run.alloc)?, symmetric_key());
     let token = seal_boxed(run.alloc, good(run.alloc, run.text)?.as_str(), footer())?;
     calls! { run; "TokenParser::parse", "v2.local" => parser.parse(&PlainBox, token.as_str(), &key); }
 }
 
-fn ask_public<V: Signed>(run: &mut Run<'_>) -> Result<()> {
+fn ask_public<V: Signed>(run: &mut Run<'_>, kind: &str) -> Result<()> {
     let (parser, keys) = (timed::<V, Public>(run.alloc)?, Keys::of(&SECRET));
     let key = V::public_key(&keys)?;
     let token = sign::<V>(run.alloc, good(run.alloc, run.text)?.as_str(), footer())?;
-    calls! { run; "TokenParser::parse", V::KIND => parser.parse(&Lenient, token.as_str(), &key); }
+    calls! { run; "TokenParser::parse", kind => parser.parse(&Lenient, token.as_str(), &key); }
 }
 
 // Payloads that are no JSON, or fail a check, and so are refused.
@@ -196,6 +183,5 @@ type Refusing<'a> = &'a GenericParser<'static, V4, Local>;
 
 fn ask_refused(run: &mut Run<'_>, of: &str, payload: &str, parser: Refusing<'_>) -> Result<()> {
     let token = seal::<V4>(run.alloc, payload, footer())?;
-    let key = symmetric_key::<V4>();
-    calls! { run; "TokenParser::parse", of => parser.parse(token.as_str(), &key); }
+    calls! { run; "TokenParser::parse", of => parser.parse(token.as_str(), &symmetric_key()); }
 }

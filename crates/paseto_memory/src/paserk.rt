@@ -4,7 +4,7 @@ use crate::kinds::symmetric_key;
 use crate::run::{Run, calls};
 use anyhow::Result;
 use paseto_toys::keys::{Keys, SECRET, ToyVersion};
-use rusty_paseto::prelude::{Local, PasetoSymmetricKey, V4};
+use rusty_paseto::prelude::*;
 use rusty_paseto_paserk::{
     PaserkError, local_from_paserk, local_id, local_to_paserk, public_from_paserk, public_id,
     public_to_paserk, secret_from_paserk, secret_id, secret_to_paserk,
@@ -38,10 +38,10 @@ fn ask_pairs(run: &mut Run<'_>) -> Result<()> {
     let (secret, text) = (secret.as_str(), text.as_str());
     calls! { run;
         "secret_to_paserk", "v4.public" => secret_to_paserk(alloc, &private);
-        "secret_from_paserk", "v4.public" => secret_from_paserk::<V4, 64>(alloc, secret);
+        "secret_from_paserk", "v4.public" => secret_from_paserk::<V4, 64>(alloc, secret).map(|key| *key.as_bytes());
         "secret_id", "v4.public" => secret_id(alloc, &private);
         "public_to_paserk", "v4.public" => public_to_paserk(alloc, &public);
-        "public_from_paserk", "v4.public" => public_from_paserk::<V4, 32>(alloc, text);
+        "public_from_paserk", "v4.public" => public_from_paserk::<V4, 32>(alloc, text).map(|key| *key.as_bytes());
         "public_id", "v4.public" => public_id(alloc, &public);
     }
 }

@@ -1,9 +1,8 @@
 //! A run over the cases.
 
-use crate::answer::{Answer, Snapshot};
-use anyhow::{Result, bail};
+use anyhow::{Result, ensure};
 use std::alloc::Global;
-use std::fmt::Display;
+use std::fmt::Debug;
 use std::io::{Stdout, Write};
 
 /// A line for each case of a call that changes nothing: what is called, of what, and the call.
@@ -48,16 +47,53 @@ pub(crate) use changes;
 pub(crate) use edits;
 pub(crate) use three;
 
+/// What has a snapshot: a text that is the same for two objects that answer alike.
+pub trait Snapshot: Drop {
+    fn snapshot(&self, alloc: Global) -> Result<String>;
+}
+
+impl Snapshot for String {
+    fn snapshot(&self, _alloc: Global) -> Result<String> {
+        Ok(self.clone()?)
+    }
+}
+
+/// Where an object may be put.
+impl<T: Snapshot> Snapshot for Option<T> {
+    fn snapshot(&self, alloc: Global) -> Result<String> {
+        match self {
+            Some(object) => Ok(format!(in alloc; "some {}", object.snapshot(alloc)?)?),
+            None => Ok(String::new(alloc)),
+        }
+    }
+}
+
+/// Puts what was made where there was nothing.
+pub fn put<T: Drop, E>(slot: &mut Option<T>, made: Result<T, E>) -> Result<(), E> {
+    *slot = Some(made?);
+    Ok(())
+}
+
+/// The answers, as `Debug` shows them, by which calls tell that memory was refused: an error of the variant `Memory`,
+/// in which no other error stands, or one that has no variants.
+const MEMORY: &[&str] = &["Err(Memory(AllocError))", "Err(AllocError)"];
+
+/// Whether an answer is what a case of this name is about: a refusal for another cause than memory where its name says
+/// so, and else a value.
+fn is_as_named(answer: &str, of: &str) -> bool {
+    answer.starts_with("Err(") == of.ends_with(", refused") && !MEMORY.contains(&answer)
+}
+
 /// An object before an edit, what the edit answered, and the object then.
 #[derive(Drop, PartialEq, Eq)]
 struct Change {
-    before: Vec<u8>,
-    answer: Answer,
-    after: Vec<u8>,
+    before: String,
+    answer: String,
+    after: String,
 }
 
 impl Change {
-    fn made<O: Snapshot, A: Drop, E: Display + Drop, F>(
+    fn made<O: Snapshot, A: Drop, E: Debug + Drop, F>(
         alloc: Global,
         object: O,
         given: A,
@@ -68,20 +104,17 @@ impl Change {
         requires { F.IsAlwaysCallable edit }
     {
         let mut object = object;
-        let before = object.snapshot(alloc)?;
-        let answer = Answer::of(alloc, edit(&mut object, given))?;
-        let after = object.snapshot(alloc)?;
         Ok(Change {
-            before,
-            answer,
-            after,
+            before: object.snapshot(alloc)?,
+            answer: format!(in alloc; "{:?}", edit(&mut object, given))?,
+            after: object.snapshot(alloc)?,
         })
     }
 
     // What refuses changes nothing, and what does not refuse changes something.
-    fn is_as_named(&self, name: &str) -> bool {
-        let is_value = matches!(self.answer, Answer::Value(_));
-        self.answer.is_as_named(name) && (self.before != self.after) == is_value
+    fn is_as_named(&self, of: &str) -> bool {
+        let answer = self.answer.as_str();
+        is_as_named(answer, of) && (self.before == self.after) == answer.starts_with("Err(")
     }
 }
 
@@ -111,8 +144,13 @@ impl<'a> Run<'a> {
         }
     }
 
+    /// Whether what the cases of this kind of tokens need has to be made: a run for one case makes nothing for others.
+    pub fn asks_of(&self, kind: &str) -> bool {
+        self.asked.is_none_or(|asked| asked.contains(kind))
+    }
+
     /// Asks a call of something between the marks, and then again. What is right is what it answers before.
-    pub fn call<T: Snapshot, E: Display + Drop, F>(
+    pub fn call<T: Debug + Drop, E: Debug + Drop, F>(
         &mut self,
         call: &str,
         of: &str,
@@ -126,16 +164,17 @@ impl<'a> Run<'a> {
         if !self.is_asked(name.as_str()) {
             return Ok(());
         }
-        let expected = Answer::of(self.alloc, asked())?;
-        if !expected.is_as_named(of) {
-            bail!("{name}: this is another answer than the case is about");
-        }
+        let right = format!(in self.alloc; "{:?}", asked())?;
+        ensure!(
+            is_as_named(right.as_str(), of),
+            "{name}: another answer than the case is about"
+        );
         self.mark("memory: begin\n")?;
         let met = asked();
         self.mark("memory: end\n")?;
-        let met = Answer::of(self.alloc, met)?;
-        let then = Answer::of(self.alloc, asked())?;
-        self.report(name.as_str(), &met, &expected, then == expected)
+        let met = format!(in self.alloc; "{met:?}")?;
+        let then = format!(in self.alloc; "{:?}", asked())?;
+        self.report(name.as_str(), met.as_str(), right.as_str(), then == right)
     }
 
     /// Makes two alike objects, and edits the second between the marks, by the second of the given values. What is
@@ -143,7 +182,7 @@ impl<'a> Run<'a> {
     /// what is called, and of what.
     ///
     /// Where memory was refused, the second is to answer as before the edit, and is then edited again.
-    pub fn edit<O: Snapshot, A: Drop, E: Display + Drop, M, F>(
+    pub fn edit<O: Snapshot, A: Drop, E: Debug + Drop, M, F>(
         &mut self,
         case: [&str; 3],
         make: M,
@@ -163,19 +202,21 @@ impl<'a> Run<'a> {
         }
         let [first, second, third] = given;
         let right = Change::made(self.alloc, make()?, first, edit)?;
-        if !right.is_as_named(of) {
-            bail!("{name}: this is another answer than the case is about");
-        }
+        ensure!(
+            right.is_as_named(of),
+            "{name}: another answer than the case is about"
+        );
         let mut object = make()?;
         self.mark("memory: begin\n")?;
         let met = edit(&mut object, second);
         self.mark("memory: end\n")?;
-        let met = Answer::of(self.alloc, met)?;
-        let then = match met {
-            Answer::Memory => Change::made(self.alloc, object, third, edit)? == right,
-            _ => object.snapshot(self.alloc)? == right.after,
+        let met = format!(in self.alloc; "{met:?}")?;
+        let then = if MEMORY.contains(&met.as_str()) {
+            Change::made(self.alloc, object, third, edit)? == right
+        } else {
+            object.snapshot(self.alloc)? == right.after
         };
-        self.report(name.as_str(), &met, &right.answer, then)
+        self.report(name.as_str(), met.as_str(), right.answer.as_str(), then)
     }
 
     fn is_asked(&mut self, name: &str) -> bool {
@@ -192,11 +233,11 @@ impl<'a> Run<'a> {
         Ok(())
     }
 
-    // Tells what was met where this was expected, and whether it was right then.
-    fn report(&mut self, name: &str, met: &Answer, expected: &Answer, then: bool) -> Result<()> {
+    // Tells what was met where this is right, and whether it was right then.
+    fn report(&mut self, name: &str, met: &str, right: &str, then: bool) -> Result<()> {
         let word = match met {
-            Answer::Memory => "memory",
-            _ if met == expected => "right",
+            _ if MEMORY.contains(&met) => "memory",
+            _ if met == right => "right",
             _ => "wrong",
         };
         let then = if then { "right" } else { "wrong" };

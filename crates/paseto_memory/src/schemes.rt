@@ -8,14 +8,11 @@ use paseto_p384::P384;
 use paseto_rsa::RsaPss;
 use paseto_toys::generators::{Counting, Zeros};
 use paseto_xchacha20poly1305::XChaCha20Poly1305;
-use rusty_paseto::prelude::{
-    CompressedKey, Key, SealedBox, SignatureScheme, Validator, from_section,
-};
+use rusty_paseto::prelude::*;
 use rusty_paseto::validators::{
     AtLeast, AtMost, AtMostCharacters, BeginsWith, Holding, OneOf, Present, Within,
 };
 use serde_json::Value;
-use std::alloc::Global;
 
 /// Asks them.
 pub fn ask(run: &mut Run<'_>) -> Result<()> {
@@ -38,12 +35,17 @@ fn ask_box(run: &mut Run<'_>) -> Result<()> {
     }
 }
 
+// The private half of a key pair.
+fn private_half<const N: usize, const M: usize>(pair: (Key<N>, Key<M>)) -> [u8; N] {
+    *pair.0.as_bytes()
+}
+
 fn ask_ed25519(run: &mut Run<'_>) -> Result<()> {
     let (alloc, text, of) = (run.alloc, run.text.as_bytes(), "Ed25519, with no memory");
     let (private, public) = Ed25519::key_pair(&mut Zeros)?;
     let signature = Ed25519.sign(alloc, private.as_bytes(), text)?;
     calls! { run;
-        "Ed25519::key_pair", "a generator, with no memory" => Ed25519::key_pair(&mut Zeros).map(drop);
+        "Ed25519::key_pair", "a generator, with no memory" => Ed25519::key_pair(&mut Zeros).map(private_half);
         "SignatureScheme::sign", of => Ed25519.sign(alloc, private.as_bytes(), text);
         "SignatureScheme::verify", of => Ed25519.verify(alloc, public.as_bytes(), text, &signature);
     }
@@ -55,7 +57,7 @@ fn ask_p384(run: &mut Run<'_>) -> Result<()> {
     let public = P384.public_key(alloc, &private)?;
     let signature = P384.sign(alloc, &private, text)?;
     calls! { run;
-        "P384::key_pair", "a generator, with no memory" => P384::key_pair(&mut Counting::new()).map(drop);
+        "P384::key_pair", "a generator, with no memory" => P384::key_pair(&mut Counting::new()).map(private_half);
         "CompressedKey::public_key", of => P384.public_key(alloc, &private);
         "SignatureScheme::sign", of => P384.sign(alloc, &private, text);
         "SignatureScheme::verify", of => P384.verify(alloc, &public, text, &signature);
@@ -73,14 +75,13 @@ fn ask_rsa(run: &mut Run<'_>) -> Result<()> {
 }
 
 fn ask_validators(run: &mut Run<'_>) -> Result<()> {
-    let (alloc, text) = (run.alloc, run.text);
+    let (alloc, text) = (run.alloc, String::from_str(run.alloc, run.text)?);
     ask_validator(run, "Present, refused", &Present)?;
     ask_validator(run, "AtMost, refused", &AtMost(8))?;
     ask_validator(run, "AtLeast, refused", &AtLeast(8))?;
     ask_validator(run, "Within, refused", &Within { least: 0, most: 8 })?;
     ask_validator(run, "OneOf, refused", &OneOf::new(alloc, &["a", "b"])?)?;
     ask_validator(run, "AtMostCharacters, refused", &AtMostCharacters(8))?;
-    let text = String::from_str(alloc, text)?;
     ask_validator(run, "BeginsWith, refused", &BeginsWith(text.clone()?))?;
     ask_validator(run, "Holding, refused", &Holding(text))
 }

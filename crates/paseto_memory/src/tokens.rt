@@ -5,10 +5,7 @@ use crate::run::{Run, calls};
 use anyhow::Result;
 use paseto_toys::keys::{Keys, SECRET, ToyVersion};
 use paseto_toys::{Lenient, PlainBox};
-use rusty_paseto::prelude::{
-    Footer, Key, Local, LocalVersion, Opening, Paseto, PasetoError, PasetoNonce,
-    PasetoSymmetricKey, Payload, Public, PurposeTrait, V1, V2, V3, V4, VersionTrait,
-};
+use rusty_paseto::prelude::*;
 use std::alloc::Global;
 
 /// A token, or what one is read as.
@@ -34,8 +31,12 @@ pub fn seal_boxed(alloc: Global, text: &str, footer: Footer<'_>) -> Answer {
     let nonce = Key::<32>::from([0; 32]);
     let mut paseto = token_of::<V2, Local>(text);
     paseto.set_footer(footer);
-    let nonce = PasetoNonce::from(&nonce);
-    paseto.try_encrypt(alloc, &PlainBox, &symmetric_key(), &nonce)
+    paseto.try_encrypt(
+        alloc,
+        &PlainBox,
+        &symmetric_key(),
+        &PasetoNonce::from(&nonce),
+    )
 }
 
 /// The public token of a text.
@@ -109,15 +110,14 @@ fn ask_decrypting(run: &mut Run<'_>) -> Result<()> {
     }
 }
 
-fn ask_public<V: Signed>(run: &mut Run<'_>) -> Result<()> {
+fn ask_public<V: Signed>(run: &mut Run<'_>, kind: &str) -> Result<()> {
     let (alloc, text, keys) = (run.alloc, run.text, Keys::of(&SECRET));
     let (paseto, key) = (token_of::<V, Public>(text), V::private_key(&keys));
     let (token, public) = (sign::<V>(alloc, text, footer())?, V::public_key(&keys)?);
     calls! { run;
-        "Signs::sign", V::KIND => V::sign(alloc, &mut Lenient, &key, Payload::from(text), Some(footer()), None);
-        "Paseto::try_sign", V::KIND => paseto.try_sign(alloc, &mut Lenient, &key);
-        "Verifies::verify", V::KIND
-            => V::verify(alloc, &Lenient, token.as_str(), &public, Some(footer()), None);
+        "Signs::sign", kind => V::sign(alloc, &mut Lenient, &key, Payload::from(text), Some(footer()), None);
+        "Paseto::try_sign", kind => paseto.try_sign(alloc, &mut Lenient, &key);
+        "Verifies::verify", kind => V::verify(alloc, &Lenient, token.as_str(), &public, Some(footer()), None);
     }
 }
 
