@@ -22,7 +22,9 @@ impl Snapshot for GenericBuilder<'_, V4, Local> {
 pub fn ask(run: &mut Run<'_>) -> Result<()> {
     ask_claims(run)?;
     ask_maps(run)?;
-    ask_payload(run)?;
+    let call = "GenericBuilder::build_payload_from_claims";
+    let builder = builder_of::<V4, Local>(run.alloc, run.text)?;
+    calls!(run; call, "some claims" => builder.build_payload_from_claims();)?;
     local_kinds! { run, ask_local }
     ask_boxed(run)?;
     public_kinds! { run, ask_public }
@@ -79,15 +81,11 @@ fn ask_maps(run: &mut Run<'_>) -> Result<()> {
     let (alloc, text) = (run.alloc, run.text);
     changes! { run, "GenericBuilder::", builder_of::<V4, Local>(alloc, text);
         "put_claims", "a map" => three_maps(alloc, SEVERAL)? => |builder, map| builder.put_claims(map);
-        "extend_claims", "a map" => three_maps(alloc, SEVERAL)? => |builder, map| builder.extend_claims(map).map(drop);
+        "extend_claims", "a map" => three_maps(alloc, SEVERAL)?
+            => |builder, map| builder.extend_claims(map).map(drop);
         "put_claims", "a map with a fraction, refused" => three_maps(alloc, ODD)?
             => |builder, map| builder.put_claims(map);
     }
-}
-
-fn ask_payload(run: &mut Run<'_>) -> Result<()> {
-    let builder = builder_of::<V4, Local>(run.alloc, run.text)?;
-    calls! { run; "GenericBuilder::build_payload_from_claims", "some claims" => builder.build_payload_from_claims(); }
 }
 
 fn ask_local<V: GenericLocalVersion>(run: &mut Run<'_>, kind: &str) -> Result<()> {
@@ -96,17 +94,14 @@ fn ask_local<V: GenericLocalVersion>(run: &mut Run<'_>, kind: &str) -> Result<()
 }
 
 fn ask_boxed(run: &mut Run<'_>) -> Result<()> {
-    let (builder, key) = (
-        builder_of::<V2, Local>(run.alloc, run.text)?,
-        symmetric_key(),
-    );
-    calls! { run; "GenericBuilder::try_encrypt", "v2.local" => builder.try_encrypt(&PlainBox, &mut Zeros, &key); }
+    let (call, key) = ("GenericBuilder::try_encrypt", symmetric_key());
+    let builder = builder_of::<V2, Local>(run.alloc, run.text)?;
+    calls! { run; call, "v2.local" => builder.try_encrypt(&PlainBox, &mut Zeros, &key); }
 }
 
 fn ask_public<V: Signed>(run: &mut Run<'_>, kind: &str) -> Result<()> {
-    let (builder, keys) = (
-        builder_of::<V, Public>(run.alloc, run.text)?,
-        Keys::of(&SECRET),
-    );
-    calls! { run; "GenericBuilder::try_sign", kind => builder.try_sign(&mut Lenient, &V::private_key(&keys)); }
+    let builder = builder_of::<V, Public>(run.alloc, run.text)?;
+    let keys = Keys::of(&SECRET);
+    let key = V::private_key(&keys);
+    calls! { run; "GenericBuilder::try_sign", kind => builder.try_sign(&mut Lenient, &key); }
 }

@@ -6,7 +6,8 @@ use rusty_paseto::prelude::*;
 use serde_json::Value;
 use std::alloc::Global;
 
-const DATE: &str = "2024-01-01T00:00:00Z";
+/// A date.
+pub const DATE: &str = "2024-01-01T00:00:00Z";
 
 impl<K: ReservedKey> Snapshot for DateClaim<K> {
     fn snapshot(&self, alloc: Global) -> Result<String> {

@@ -109,7 +109,8 @@ fn ask_repeated_claims(run: &mut Run<'_>) -> Result<()> {
     )?;
     let mut builder = builder_of::<V4, Local>(alloc, "a", 10)?;
     builder.put_claim(&claim)?;
-    calls!(run; "PasetoBuilder::build", "a key that was set again, refused" => builder.build(&mut Zeros, &key);)?;
+    let of = "a key that was set again, refused";
+    calls!(run; "PasetoBuilder::build", of => builder.build(&mut Zeros, &key);)?;
     edits! { run, "PasetoBuilder::", builder_of::<V4, Local>(alloc, "a", 10);
         "put_no_expiration_danger_acknowledged", "a builder"
             => |builder| builder.put_no_expiration_danger_acknowledged();

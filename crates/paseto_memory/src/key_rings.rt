@@ -1,6 +1,6 @@
 //! The calls of key rings.
 
-use crate::kinds::{Signed, local_kinds, public_kinds, symmetric_key};
+use crate::kinds::{Signed, public_kinds, symmetric_key};
 use crate::parsers::{good, now};
 use crate::run::{Run, Snapshot, calls, edits};
 use crate::tokens::{seal, seal_boxed, sign};
@@ -16,47 +16,23 @@ const NEW: &str = "{\"kid\":\"new\"}";
 /// Names the key whose id is `old`.
 const OLD: &str = "{\"kid\":\"old\"}";
 
-type Opened = Result<(String, String), KeyRingError>;
-
-/// A version whose rings open a token with no implicit assertion by one call.
-trait Opens: DefaultLocalVersion {
-    fn open_by(ring: &KeyRing<Self>, token: &str) -> Opened;
-}
-
-impl Opens for V1 {
-    fn open_by(ring: &KeyRing<V1>, token: &str) -> Opened {
-        ring.open(token)
-    }
-}
-
-impl Opens for V3 {
-    fn open_by(ring: &KeyRing<V3>, token: &str) -> Opened {
-        ring.open(token, None)
-    }
-}
-
-impl Opens for V4 {
-    fn open_by(ring: &KeyRing<V4>, token: &str) -> Opened {
-        ring.open(token, None)
-    }
-}
-
 /// A ring is known by what it answers for a token of each id.
-impl<V: Opens> Snapshot for KeyRing<V> {
+impl<V: DefaultLocalVersion> Snapshot for KeyRing<V> {
     fn snapshot(&self, alloc: Global) -> Result<String> {
-        let new = seal::<V>(alloc, "a text", Footer::from(NEW))?;
-        let old = seal::<V>(alloc, "a text", Footer::from(OLD))?;
-        let (new, old) = (
-            V::open_by(self, new.as_str()),
-            V::open_by(self, old.as_str()),
-        );
+        let parser = GenericParser::<V, Local>::new(alloc);
+        let new = seal::<V>(alloc, "{}", Footer::from(NEW))?;
+        let old = seal::<V>(alloc, "{}", Footer::from(OLD))?;
+        let new = self.parse_by(&parser, new.as_str());
+        let old = self.parse_by(&parser, old.as_str());
         Ok(format!(in alloc; "{new:?} {old:?}")?)
     }
 }
 
 /// Asks them.
 pub fn ask(run: &mut Run<'_>) -> Result<()> {
-    local_kinds! { run, ask_local }
+    ask_local::<V1, _>(run, "v1.local", |ring, token| ring.open(token))?;
+    ask_local::<V3, _>(run, "v3.local", |ring, token| ring.open(token, None))?;
+    ask_local::<V4, _>(run, "v4.local", |ring, token| ring.open(token, None))?;
     ask_boxed(run)?;
     ask_verifying(run)?;
     public_kinds! { run, ask_public }
@@ -85,27 +61,35 @@ fn other_key<V: DefaultLocalVersion>() -> PasetoSymmetricKey<V, Local> {
     PasetoSymmetricKey::from(Key::<32>::from([8; 32]))
 }
 
-fn ask_local<V: Opens>(run: &mut Run<'_>, kind: &str) -> Result<()> {
-    let (alloc, key) = (run.alloc, symmetric_key::<V>());
-    let of_new = format!(in alloc; "{kind}, a new id")?;
-    let of_old = format!(in alloc; "{kind}, an id that is there")?;
-    edits!(run, "Ring::", ring_of::<V>(alloc);
-        "add", of_new.as_str() => |ring| ring.add("new", key.clone());
-        "add", of_old.as_str() => |ring| ring.add("old", key.clone());
-    )?;
-    ask_opening::<V>(run, kind)?;
-    ask_parsing::<V>(run, kind)
-}
-
-fn ask_opening<V: Opens>(run: &mut Run<'_>, kind: &str) -> Result<()> {
+// Asks the rings of a version, which open a token with no implicit assertion so.
+fn ask_local<V: DefaultLocalVersion, F>(run: &mut Run<'_>, kind: &str, opened: F) -> Result<()>
+where
+    F: Copy + FnOnce(&KeyRing<V>, &str) -> Result<(String, String), KeyRingError>,
+    requires { F.IsAlwaysCallable opened }
+{
+    if !run.asks_of(kind) {
+        return Ok(());
+    }
+    ask_adding::<V>(run, kind)?;
     let alloc = run.alloc;
     let (ring, other) = (full_ring::<V>(alloc)?, ring_of::<V>(alloc)?);
     let token = seal::<V>(alloc, run.text, Footer::from(NEW))?;
     let of_other = format!(in alloc; "{kind}, an id that is not there, refused")?;
-    calls! { run;
-        "Ring::open", kind => V::open_by(&ring, token.as_str());
-        "Ring::open", of_other.as_str() => V::open_by(&other, token.as_str());
+    calls!(run;
+        "Ring::open", kind => opened(&ring, token.as_str());
+        "Ring::open", of_other.as_str() => opened(&other, token.as_str());
         "Ring::key_of", kind => ring.key_of(NEW).map(|key| *key.as_bytes());
+    )?;
+    ask_parsing::<V>(run, kind)
+}
+
+fn ask_adding<V: DefaultLocalVersion>(run: &mut Run<'_>, kind: &str) -> Result<()> {
+    let (alloc, key) = (run.alloc, symmetric_key::<V>());
+    let of_new = format!(in alloc; "{kind}, a new id")?;
+    let of_old = format!(in alloc; "{kind}, an id that is there")?;
+    edits! { run, "Ring::", ring_of::<V>(alloc);
+        "add", of_new.as_str() => |ring| ring.add("new", key.clone());
+        "add", of_old.as_str() => |ring| ring.add("old", key.clone());
     }
 }
 

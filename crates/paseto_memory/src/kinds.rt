@@ -41,6 +41,11 @@ pub fn footer() -> Footer<'static> {
     Footer::from("key-1")
 }
 
+/// The bytes of a key.
+pub fn bytes_of<const N: usize>(key: Key<N>) -> [u8; N] {
+    *key.as_bytes()
+}
+
 /// The key of all local tokens.
 pub fn symmetric_key<V: VersionTrait>() -> PasetoSymmetricKey<V, Local> {
     paseto_toys::keys::symmetric_key(&SECRET)

@@ -1,5 +1,5 @@
-//! Asks each public call that takes memory, so that `tests/memory.sh` can refuse it: what a call answers then,
-//! and what the same object answers after it.
+//! Asks each public call that takes memory, so that `tests/memory.sh` can refuse it: what a call answers
+//! then, and what the same object answers after it.
 #![tactic(auto)]
 
 mod builders;
@@ -20,7 +20,6 @@ mod validators;
 
 use anyhow::{Result, ensure};
 use run::Run;
-use std::alloc::{AllocError, Global};
 use std::env;
 
 /// How long the text is that the calls are about, where no word says so.
@@ -42,20 +41,17 @@ fn main(rt: HostRuntime) -> Result<()> {
         None => LENGTH,
     };
     ensure!(length <= LONGEST, "the text is too long");
-    let text = text_of(alloc, length)?;
-    let mut run = Run::new(alloc, rt.stdout(), asked, text.as_str());
+    let text = "a".repeat(alloc, length)?;
+    let mut run = Run {
+        alloc,
+        text: text.as_str(),
+        output: rt.stdout(),
+        asked,
+        found: false,
+    };
     ask(&mut run)?;
     ensure!(run.found, "no case has this name");
     Ok(())
-}
-
-/// A text of so many letters.
-fn text_of(alloc: Global, length: usize) -> Result<String, AllocError> {
-    let mut text = String::new(alloc);
-    'letters: for _ in 0..length {
-        text.push('a')?;
-    }
-    Ok(text)
 }
 
 fn ask(run: &mut Run<'_>) -> Result<()> {

@@ -1,7 +1,8 @@
-//! The calls that take no memory. `tests/memory.sh` counts that they make no request for any: the name of each case
-//! ends in `with no memory`.
+//! The calls that take no memory. `tests/memory.sh` counts that they make no request for any: the name of
+//! each case ends in `with no memory`.
 
-use crate::claims::{ask_value, tree};
+use crate::claims::{DATE, ask_value, tree};
+use crate::kinds::bytes_of;
 use crate::parsers::now;
 use crate::run::{Run, calls, changes, edits, put, three};
 use crate::{builders, defaults, parsers, primitives};
@@ -37,12 +38,13 @@ const DIGITS: &str = "77756262616c7562626164756264756277756262616c75626261647562
 fn ask_keys(run: &mut Run<'_>) -> Result<()> {
     let (call, point) = ("TryFrom::try_from", Key::<49>::from([2; 49]));
     calls! { run;
-        call, "Key, with no memory" => Key::<32>::try_from(DIGITS).map(|key| *key.as_bytes());
-        call, "Key of no digits, with no memory, refused" => Key::<32>::try_from("no digits").map(|key| *key.as_bytes());
+        call, "Key, with no memory" => Key::<32>::try_from(DIGITS).map(bytes_of);
+        call, "Key of no digits, with no memory, refused" => Key::<32>::try_from("no digits").map(bytes_of);
         "Key::try_new_random", "a generator, with no memory"
-            => Key::<32>::try_new_random(&mut Zeros).map(|key| *key.as_bytes());
+            => Key::<32>::try_new_random(&mut Zeros).map(bytes_of);
         call, "PasetoAsymmetricPublicKey, with no memory"
-            => PasetoAsymmetricPublicKey::<V3, Public>::try_from(&point).map(|key| key.as_bytes().first_chunk::<49>().copied());
+            => PasetoAsymmetricPublicKey::<V3, Public>::try_from(&point)
+                .map(|key| key.as_bytes().first_chunk::<49>().copied());
     }
 }
 
@@ -53,32 +55,18 @@ fn ask_texts(run: &mut Run<'_>) -> Result<()> {
     calls! { run;
         call, "a token, with no memory" => UntrustedToken::try_parse(token);
         call, "two sections, with no memory, refused" => UntrustedToken::try_parse("v4.local");
-        "the parts of a token", "its text, with no memory" => parts_of(token);
+        "the parts of a token", "its text, with no memory" => UntrustedToken::try_parse(token).map(|parts| (
+            (parts.version(), parts.purpose(), parts.footer_base64()), split_token(token),
+            is_section_of(parts.footer_base64().unwrap_or(""), b"key-1"),
+        ));
         "texts, keys and Paseto", "a text, with no memory" => texts_of(text);
     }
-}
-
-// How many bytes the parts have that are told of a token, and whether its footer is the one of the cases.
-fn parts_of(text: &str) -> Result<([usize; 5], bool), PasetoError> {
-    let token = UntrustedToken::try_parse(text)?;
-    let (sections, footer) = split_token(text).unwrap_or((["", "", ""], None));
-    let (footer, decoded) = (footer.unwrap_or(""), token.footer_base64().unwrap_or(""));
-    let parts = [
-        token.version(),
-        token.purpose(),
-        decoded,
-        sections[2],
-        footer,
-    ];
-    Ok((
-        parts.map(|part| part.len()),
-        is_section_of(footer, b"key-1"),
-    ))
 }
 
 // How many bytes the texts and keys have that are made of a text.
 fn texts_of(text: &str) -> Result<[usize; 8], PasetoError> {
     let (key, keys) = (Key::<32>::from_slice(&[7; 32]).clone(), Keys::of(&SECRET));
+    let secret = PasetoSymmetricKey::<V4, Local>::from(Key::default());
     let mut paseto = Paseto::<V4, Local>::builder();
     paseto
         .set_payload(Payload::from(text))
@@ -92,9 +80,7 @@ fn texts_of(text: &str) -> Result<[usize; 8], PasetoError> {
         PasetoNonce::<V4, Local>::from(&key).as_bytes().len(),
         V4::private_key(&keys).as_bytes().len(),
         V4::public_key(&keys)?.as_bytes().len(),
-        PasetoSymmetricKey::<V4, Local>::from(Key::default())
-            .as_bytes()
-            .len(),
+        secret.as_bytes().len(),
     ])
 }
 
@@ -108,42 +94,31 @@ fn ask_values(run: &mut Run<'_>) -> Result<()> {
     ask_value(run, "u16, with no memory", &16u16)?;
     ask_value(run, "u32, with no memory", &32u32)?;
     ask_value(run, "u64, with no memory", &64u64)?;
-    let value = tree(run.alloc, run.text)?;
-    calls! { run; "is_whole, odd_key and same_value", "JSON, with no memory" => always(marks_of(&value)); }
-}
-
-// What the tests find of a value.
-fn marks_of(value: &Value) -> [bool; 3] {
-    [
-        same_value(value, value),
-        is_whole(value),
-        odd_key(value).is_some(),
-    ]
+    let value = &tree(run.alloc, run.text)?;
+    calls! { run;
+        "is_whole, odd_key and same_value", "JSON, with no memory"
+            => always((same_value(value, value), is_whole(value), odd_key(value).is_some()));
+    }
 }
 
 fn ask_claims(run: &mut Run<'_>) -> Result<()> {
     let (alloc, text) = (run.alloc, run.text);
     let claim = CustomClaim::try_from_str(alloc, "a", "b")?;
-    calls!(run; "get_key and as_pair", "claims, with no memory" => always(lengths_of(&claim, text));)?;
+    calls!(run;
+        "get_key and as_pair", "claims, with no memory" => always((
+            (claim.get_key().len(), claim.as_pair().0.len()),
+            (AudienceClaim::from(text).as_pair().1.len(), AudienceClaim::default().get_key().len()),
+        ));
+    )?;
     // Claims that are made of a text that is given, and so not copied.
     changes!(run, "CustomClaim::", Ok(None);
         "try_from_string", "a key, with no memory" => three!(String::from_str(alloc, text)?)
             => |slot, key| put(slot, CustomClaim::try_from_string(key, "a"));
     )?;
     changes! { run, "DateClaim::", Ok(None);
-        "try_from_string", "a date, with no memory" => three!(String::from_str(alloc, "2024-01-01T00:00:00Z")?)
+        "try_from_string", "a date, with no memory" => three!(String::from_str(alloc, DATE)?)
             => |slot, text| put(slot, ExpirationClaim::try_from_string(alloc, text));
     }
-}
-
-// How many bytes the keys and texts of claims have.
-fn lengths_of(claim: &CustomClaim<&str>, text: &str) -> [usize; 4] {
-    [
-        claim.get_key().len(),
-        claim.as_pair().0.len(),
-        AudienceClaim::from(text).as_pair().1.len(),
-        AudienceClaim::default().get_key().len(),
-    ]
 }
 
 fn ask_objects(run: &mut Run<'_>) -> Result<()> {

@@ -48,7 +48,8 @@ pub fn ask(run: &mut Run<'_>) -> Result<()> {
     ask_validators(run)?;
     ask_maps(run)?;
     ask_times(run)?;
-    ask_value(run)?;
+    let (payload, parser) = (good(run.alloc, run.text)?, timed::<V4, Local>(run.alloc)?);
+    calls!(run; "TokenParser::value_of", "a text" => parser.value_of(payload.as_str());)?;
     local_kinds! { run, ask_local }
     ask_boxed(run)?;
     public_kinds! { run, ask_public }
@@ -77,10 +78,8 @@ fn timed<V: VersionTrait, P: PurposeTrait>(alloc: Global) -> Result<GenericParse
 
 fn ask_checks(run: &mut Run<'_>) -> Result<()> {
     let (alloc, claim) = (run.alloc, AudienceClaim::from("others"));
-    let (odd, seats) = (
-        odd_claim(alloc)?,
-        CustomClaim::try_from_str(alloc, "seats", 5u64)?,
-    );
+    let seats = CustomClaim::try_from_str(alloc, "seats", 5u64)?;
+    let odd = odd_claim(alloc)?;
     edits! { run, "TokenParser::", parser_of::<V4, Local>(alloc);
         "put_check", "a claim" => |parser| parser.put_check(&claim);
         "check_claim", "a claim" => |parser| parser.check_claim(&claim).map(drop);
@@ -91,9 +90,9 @@ fn ask_checks(run: &mut Run<'_>) -> Result<()> {
 
 fn ask_validators(run: &mut Run<'_>) -> Result<()> {
     let (alloc, claim) = (run.alloc, AudienceClaim::from("customers"));
-    let odd = odd_claim(alloc)?;
+    let (odd, of) = (odd_claim(alloc)?, "a fraction, refused");
     changes! { run, "TokenParser::", parser_of::<V4, Local>(alloc);
-        "put_validator", "a fraction, refused" => refusing!(alloc) => |parser, given| parser.put_validator(&odd, given);
+        "put_validator", of => refusing!(alloc) => |parser, given| parser.put_validator(&odd, given);
         "put_checks", "a map with a fraction, refused" => three_maps(alloc, ODD)?
             => |parser, map| parser.put_checks(map);
         "put_validator", "a claim" => refusing!(alloc) => |parser, given| parser.put_validator(&claim, given);
@@ -126,11 +125,6 @@ fn ask_times(run: &mut Run<'_>) -> Result<()> {
         "put_times", "a moment" => |parser| parser.put_times(now);
         "check_times", "a moment" => |parser| parser.check_times(now).map(drop);
     }
-}
-
-fn ask_value(run: &mut Run<'_>) -> Result<()> {
-    let (payload, parser) = (good(run.alloc, run.text)?, timed::<V4, Local>(run.alloc)?);
-    calls! { run; "TokenParser::value_of", "a text" => parser.value_of(payload.as_str()); }
 }
 
 fn ask_local<V: GenericLocalVersion>(run: &mut Run<'_>, kind: &str) -> Result<()> {

@@ -1,6 +1,6 @@
 //! The calls of keys as text.
 
-use crate::kinds::symmetric_key;
+use crate::kinds::{bytes_of, symmetric_key};
 use crate::run::{Run, calls};
 use anyhow::Result;
 use paseto_toys::keys::{Keys, SECRET, ToyVersion};
@@ -38,10 +38,10 @@ fn ask_pairs(run: &mut Run<'_>) -> Result<()> {
     let (secret, text) = (secret.as_str(), text.as_str());
     calls! { run;
         "secret_to_paserk", "v4.public" => secret_to_paserk(alloc, &private);
-        "secret_from_paserk", "v4.public" => secret_from_paserk::<V4, 64>(alloc, secret).map(|key| *key.as_bytes());
+        "secret_from_paserk", "v4.public" => secret_from_paserk::<V4, 64>(alloc, secret).map(bytes_of);
         "secret_id", "v4.public" => secret_id(alloc, &private);
         "public_to_paserk", "v4.public" => public_to_paserk(alloc, &public);
-        "public_from_paserk", "v4.public" => public_from_paserk::<V4, 32>(alloc, text).map(|key| *key.as_bytes());
+        "public_from_paserk", "v4.public" => public_from_paserk::<V4, 32>(alloc, text).map(bytes_of);
         "public_id", "v4.public" => public_id(alloc, &public);
     }
 }

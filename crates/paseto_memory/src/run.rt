@@ -13,8 +13,8 @@ macro_rules! calls {
     }};
 }
 
-/// A line for each case of a method that edits an object and is given nothing: what is called, of what, and the edit.
-/// Before them stand the path of the type, and how an object is made.
+/// A line for each case of a method that edits an object and is given nothing: what is called, of what, and
+/// the edit. Before them stand the path of the type, and how an object is made.
 macro_rules! edits {
     ($run:expr, $path:expr, $object:expr; $($call:expr, $of:expr => |$name:ident| $edit:expr;)*) => {{
         let make = || $object;
@@ -74,12 +74,12 @@ pub fn put<T: Drop, E>(slot: &mut Option<T>, made: Result<T, E>) -> Result<(), E
     Ok(())
 }
 
-/// The answers, as `Debug` shows them, by which calls tell that memory was refused: an error of the variant `Memory`,
-/// in which no other error stands, or one that has no variants.
+/// The answers, as `Debug` shows them, by which calls tell that memory was refused: an error of the variant
+/// `Memory`, in which no other error stands, or one that has no variants.
 const MEMORY: &[&str] = &["Err(Memory(AllocError))", "Err(AllocError)"];
 
-/// Whether an answer is what a case of this name is about: a refusal for another cause than memory where its name says
-/// so, and else a value.
+/// Whether an answer is what a case of this name is about: a refusal for another cause than memory where its
+/// name says so, and else a value.
 fn is_as_named(answer: &str, of: &str) -> bool {
     answer.starts_with("Err(") == of.ends_with(", refused") && !MEMORY.contains(&answer)
 }
@@ -92,71 +92,49 @@ struct Change {
     after: String,
 }
 
-impl Change {
-    fn made<O: Snapshot, A: Drop, E: Debug + Drop, F>(
-        alloc: Global,
-        object: O,
-        given: A,
-        edit: F,
-    ) -> Result<Change>
-    where
-        F: FnOnce(&mut O, A) -> Result<(), E>,
-        requires { F.IsAlwaysCallable edit }
-    {
-        let mut object = object;
-        Ok(Change {
-            before: object.snapshot(alloc)?,
-            answer: format!(in alloc; "{:?}", edit(&mut object, given))?,
-            after: object.snapshot(alloc)?,
-        })
-    }
-
-    // What refuses changes nothing, and what does not refuse changes something.
-    fn is_as_named(&self, of: &str) -> bool {
-        let answer = self.answer.as_str();
-        is_as_named(answer, of) && (self.before == self.after) == answer.starts_with("Err(")
-    }
+fn edited<O: Snapshot, A, E, F>(alloc: Global, object: O, given: A, edit: F) -> Result<Change>
+where
+    A: Drop,
+    E: Debug + Drop,
+    F: FnOnce(&mut O, A) -> Result<(), E>,
+    requires { F.IsAlwaysCallable edit }
+{
+    let mut object = object;
+    Ok(Change {
+        before: object.snapshot(alloc)?,
+        answer: format!(in alloc; "{:?}", edit(&mut object, given))?,
+        after: object.snapshot(alloc)?,
+    })
 }
 
-/// A run over all cases, or over one of them with marks around the call: `memory: begin` and `memory: end`, each
-/// written in one piece. Memory may be refused between the two.
+/// A run over all cases, or over one of them with marks around the call: `memory: begin` and `memory: end`,
+/// each written in one piece. Memory may be refused between the two.
 #[derive(Drop)]
 pub struct Run<'a> {
     /// The allocator of all calls.
     pub alloc: Global,
     /// The text that the calls are about.
     pub text: &'a str,
-    output: Stdout,
-    asked: Option<&'a str>,
+    /// Where the answers are told.
+    pub output: Stdout,
+    /// The name of the one case.
+    pub asked: Option<&'a str>,
     /// Whether a case had the name that was asked for.
     pub found: bool,
 }
 
-impl<'a> Run<'a> {
-    /// A run over the case of this name, or over all where there is none.
-    pub fn new(alloc: Global, output: Stdout, asked: Option<&'a str>, text: &'a str) -> Self {
-        Run {
-            alloc,
-            text,
-            output,
-            asked,
-            found: false,
-        }
-    }
-
-    /// Whether what the cases of this kind of tokens need has to be made: a run for one case makes nothing for others.
+impl Run<'_> {
+    /// Whether what the cases of this kind of tokens need has to be made: a run for one case makes nothing
+    /// for the others.
     pub fn asks_of(&self, kind: &str) -> bool {
         self.asked.is_none_or(|asked| asked.contains(kind))
     }
 
     /// Asks a call of something between the marks, and then again. What is right is what it answers before.
-    pub fn call<T: Debug + Drop, E: Debug + Drop, F>(
-        &mut self,
-        call: &str,
-        of: &str,
-        asked: F,
-    ) -> Result<()>
+    pub fn call<T, E, F>(&mut self, call: &str, of: &str, asked: F) -> Result<()>
     where
+        T: Debug + Drop,
+        E: Debug + Drop,
         F: Copy + FnOnce() -> Result<T, E>,
         requires { F.IsAlwaysCallable asked }
     {
@@ -165,10 +143,8 @@ impl<'a> Run<'a> {
             return Ok(());
         }
         let right = format!(in self.alloc; "{:?}", asked())?;
-        ensure!(
-            is_as_named(right.as_str(), of),
-            "{name}: another answer than the case is about"
-        );
+        let is_named = is_as_named(right.as_str(), of);
+        ensure!(is_named, "{name}: its name tells of another answer");
         self.mark("memory: begin\n")?;
         let met = asked();
         self.mark("memory: end\n")?;
@@ -177,11 +153,12 @@ impl<'a> Run<'a> {
         self.report(name.as_str(), met.as_str(), right.as_str(), then == right)
     }
 
-    /// Makes two alike objects, and edits the second between the marks, by the second of the given values. What is
-    /// right is what the first answers before the same edit and after it. A case is the path of the objects' type,
-    /// what is called, and of what.
+    /// Makes two alike objects, and edits the second between the marks, by the second of the given values.
+    /// What is right is what the first answers before the same edit and after it. What refuses changes
+    /// nothing, and what does not refuse changes something. A case is the type's path, the call, and of what.
     ///
-    /// Where memory was refused, the second is to answer as before the edit, and is then edited again.
+    /// Where memory was refused, the second is to answer as before the edit, and is then edited again. Else it is
+    /// to answer as the first, and a third is made and edited.
     pub fn edit<O: Snapshot, A: Drop, E: Debug + Drop, M, F>(
         &mut self,
         case: [&str; 3],
@@ -201,22 +178,22 @@ impl<'a> Run<'a> {
             return Ok(());
         }
         let [first, second, third] = given;
-        let right = Change::made(self.alloc, make()?, first, edit)?;
-        ensure!(
-            right.is_as_named(of),
-            "{name}: another answer than the case is about"
-        );
+        let right = edited(self.alloc, make()?, first, edit)?;
+        let (answer, is_kept) = (right.answer.as_str(), right.before == right.after);
+        let is_named = is_as_named(answer, of) && is_kept == of.ends_with(", refused");
+        ensure!(is_named, "{name}: its name tells of another answer");
         let mut object = make()?;
         self.mark("memory: begin\n")?;
         let met = edit(&mut object, second);
         self.mark("memory: end\n")?;
         let met = format!(in self.alloc; "{met:?}")?;
         let then = if MEMORY.contains(&met.as_str()) {
-            Change::made(self.alloc, object, third, edit)? == right
+            edited(self.alloc, object, third, edit)? == right
         } else {
-            object.snapshot(self.alloc)? == right.after
+            let is_alike = object.snapshot(self.alloc)? == right.after;
+            is_alike && edited(self.alloc, make()?, third, edit)? == right
         };
-        self.report(name.as_str(), met.as_str(), right.answer.as_str(), then)
+        self.report(name.as_str(), met.as_str(), answer, then)
     }
 
     fn is_asked(&mut self, name: &str) -> bool {

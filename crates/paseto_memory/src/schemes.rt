@@ -57,7 +57,8 @@ fn ask_p384(run: &mut Run<'_>) -> Result<()> {
     let public = P384.public_key(alloc, &private)?;
     let signature = P384.sign(alloc, &private, text)?;
     calls! { run;
-        "P384::key_pair", "a generator, with no memory" => P384::key_pair(&mut Counting::new()).map(private_half);
+        "P384::key_pair", "a generator, with no memory"
+            => P384::key_pair(&mut Counting::new()).map(private_half);
         "CompressedKey::public_key", of => P384.public_key(alloc, &private);
         "SignatureScheme::sign", of => P384.sign(alloc, &private, text);
         "SignatureScheme::verify", of => P384.verify(alloc, &public, text, &signature);

@@ -79,17 +79,13 @@ fn collision<'a, V: LocalVersion>(
     first: &'a str,
     second: &'a str,
 ) -> Result<Option<Vec<u8>>, PasetoError> {
-    let opening = Opening {
+    let openings = [first, second, first].map(|token| Opening {
         key,
-        token: first,
+        token,
         footer: Some(footer()),
         assertion: None,
-    };
-    let other = Opening {
-        token: second,
-        ..opening
-    };
-    let found = Paseto::<V, Local>::tag_collision(alloc, &[opening, other, opening])?;
+    });
+    let found = Paseto::<V, Local>::tag_collision(alloc, &openings)?;
     Ok(found.map(|collision| collision.tag))
 }
 
@@ -99,11 +95,12 @@ fn ask_decrypting(run: &mut Run<'_>) -> Result<()> {
     let third = seal::<V3>(alloc, text, footer())?;
     let fourth = seal::<V4>(alloc, text, footer())?;
     let boxed = seal_boxed(alloc, text, footer())?;
+    let (first, third, fourth) = (first.as_str(), third.as_str(), fourth.as_str());
     let (call, own) = ("Paseto::try_decrypt", Some(footer()));
     calls! { run;
-        call, "v1.local" => Paseto::<V1, Local>::try_decrypt(alloc, first.as_str(), &symmetric_key(), own);
-        call, "v3.local" => Paseto::<V3, Local>::try_decrypt(alloc, third.as_str(), &symmetric_key(), own, None);
-        call, "v4.local" => Paseto::<V4, Local>::try_decrypt(alloc, fourth.as_str(), &symmetric_key(), own, None);
+        call, "v1.local" => Paseto::<V1, Local>::try_decrypt(alloc, first, &symmetric_key(), own);
+        call, "v3.local" => Paseto::<V3, Local>::try_decrypt(alloc, third, &symmetric_key(), own, None);
+        call, "v4.local" => Paseto::<V4, Local>::try_decrypt(alloc, fourth, &symmetric_key(), own, None);
         "Paseto::try_encrypt", "v2.local" => seal_boxed(alloc, text, footer());
         call, "v2.local"
             => Paseto::<V2, Local>::try_decrypt(alloc, &PlainBox, boxed.as_str(), &symmetric_key(), own);
@@ -121,21 +118,20 @@ fn ask_public<V: Signed>(run: &mut Run<'_>, kind: &str) -> Result<()> {
     }
 }
 
+/// Asks for the verifying of a version, to which `None` is given where it has an implicit assertion.
+macro_rules! verifying {
+    ($run:expr, $version:ident $(, $none:expr)?) => {{
+        let (alloc, keys, own) = ($run.alloc, Keys::of(&SECRET), Some(footer()));
+        let (token, key) = (sign::<$version>(alloc, $run.text, footer())?, $version::public_key(&keys)?);
+        let token = token.as_str();
+        calls!($run; "Paseto::try_verify", $version::KIND
+            => Paseto::<$version, Public>::try_verify(alloc, &Lenient, token, &key, own $(, $none)?);)
+    }};
+}
+
 fn ask_verifying(run: &mut Run<'_>) -> Result<()> {
-    let (alloc, text, keys) = (run.alloc, run.text, Keys::of(&SECRET));
-    let first = sign::<V1>(alloc, text, footer())?;
-    let second = sign::<V2>(alloc, text, footer())?;
-    let third = sign::<V3>(alloc, text, footer())?;
-    let fourth = sign::<V4>(alloc, text, footer())?;
-    let (keys, footer, call) = (&keys, Some(footer()), "Paseto::try_verify");
-    calls! { run;
-        call, V1::KIND
-            => Paseto::<V1, Public>::try_verify(alloc, &Lenient, first.as_str(), &V1::public_key(keys)?, footer);
-        call, V2::KIND
-            => Paseto::<V2, Public>::try_verify(alloc, &Lenient, second.as_str(), &V2::public_key(keys)?, footer);
-        call, V3::KIND
-            => Paseto::<V3, Public>::try_verify(alloc, &Lenient, third.as_str(), &V3::public_key(keys)?, footer, None);
-        call, V4::KIND
-            => Paseto::<V4, Public>::try_verify(alloc, &Lenient, fourth.as_str(), &V4::public_key(keys)?, footer, None);
-    }
+    verifying!(run, V1)?;
+    verifying!(run, V2)?;
+    verifying!(run, V3, None)?;
+    verifying!(run, V4, None)
 }
