@@ -157,8 +157,8 @@ impl Run<'_> {
     /// What is right is what the first answers before the same edit and after it. What refuses changes
     /// nothing, and what does not refuse changes something. A case is the type's path, the call, and of what.
     ///
-    /// Where memory was refused, the second is to answer as before the edit, and is then edited again. Else it is
-    /// to answer as the first, and a third is made and edited.
+    /// Where memory was refused, the second is to answer as before the edit, and is then edited again. Else it
+    /// is to answer as the first, and a third is made and edited.
     pub fn edit<O: Snapshot, A: Drop, E: Debug + Drop, M, F>(
         &mut self,
         case: [&str; 3],
