@@ -87,8 +87,10 @@ fn ask_adding<V: DefaultLocalVersion>(run: &mut Run<'_>, kind: &str) -> Result<(
     let (alloc, key) = (run.alloc, symmetric_key::<V>());
     let of_new = format!(in alloc; "{kind}, a new id")?;
     let of_old = format!(in alloc; "{kind}, an id that is there")?;
-    edits! { run, "Ring::", ring_of::<V>(alloc);
+    edits!(run, "Ring::", ring_of::<V>(alloc);
         "add", of_new.as_str() => |ring| ring.add("new", key.clone());
+    )?;
+    edits! { run, "Ring::", ring_of::<V>(alloc);
         "add", of_old.as_str() => |ring| ring.add("old", key.clone());
     }
 }

@@ -127,7 +127,7 @@ impl Run<'_> {
     /// Whether what the cases of this kind of tokens need has to be made: a run for one case makes nothing
     /// for the others.
     pub fn asks_of(&self, kind: &str) -> bool {
-        self.asked.is_none_or(|asked| asked.contains(kind))
+        self.asked.unwrap_or(kind).contains(kind)
     }
 
     /// Asks a call of something between the marks, and then again. What is right is what it answers before.
@@ -157,8 +157,8 @@ impl Run<'_> {
     /// What is right is what the first answers before the same edit and after it. What refuses changes
     /// nothing, and what does not refuse changes something. A case is the type's path, the call, and of what.
     ///
-    /// Where memory was refused, the second is to answer as before the edit, and is then edited again. Else it
-    /// is to answer as the first, and a third is made and edited.
+    /// Where memory was refused, the second is to answer as before the edit, and is then edited again. Else
+    /// it is to answer as the first, and a third is made and edited.
     pub fn edit<O: Snapshot, A: Drop, E: Debug + Drop, M, F>(
         &mut self,
         case: [&str; 3],
@@ -197,7 +197,7 @@ impl Run<'_> {
     }
 
     fn is_asked(&mut self, name: &str) -> bool {
-        let is_asked = self.asked.is_none_or(|asked| asked == name);
+        let is_asked = self.asked.unwrap_or(name) == name;
         self.found = self.found || is_asked;
         is_asked
     }
