@@ -1,55 +1,40 @@
 //! The calls of generic builders.
 
-use crate::answer::{Answer, Snapshot};
 use crate::claims::numbered;
-use crate::kinds::{footer, local_kinds, public_kinds, symmetric_key};
-use crate::run::{Run, calls, changes, edits};
-use crate::signed::Signed;
+use crate::kinds::{Signed, footer, local_kinds, public_kinds, symmetric_key};
+use crate::run::{Run, Snapshot, calls, changes, edits};
 use anyhow::{Result, bail};
 use paseto_toys::generators::Zeros;
 use paseto_toys::keys::{Keys, SECRET};
 use paseto_toys::{Lenient, PlainBox};
-use rusty_paseto::prelude::{
-    AudienceClaim, ClaimSetter, CustomClaim, GenericBuilder, GenericLocalVersion, Local, Public,
-    PurposeTrait, V2, V4, VersionTrait,
-};
+use rusty_paseto::prelude::*;
 use serde_json::{Map, Value};
 use std::alloc::Global;
-use std::io::Write;
 
 /// A builder is known by its token.
 impl Snapshot for GenericBuilder<'_, V4, Local> {
-    fn snapshot(&self, alloc: Global) -> Result<Vec<u8>> {
-        Answer::of(alloc, self.try_encrypt(&mut Zeros, &symmetric_key()))?.snapshot(alloc)
+    fn snapshot(&self, alloc: Global) -> Result<String> {
+        Ok(format!(in alloc; "{:?}", self.try_encrypt(&mut Zeros, &symmetric_key()))?)
     }
 }
 
 /// Asks them.
-pub fn ask<W: Write>(run: &mut Run<W>) -> Result<()> {
-    let (text, keys) = (run.text()?, Keys::of(&SECRET));
-    let text = text.as_str();
-    ask_claims(run, text)?;
-    ask_maps(run, text)?;
-    let builder = builder_of::<V4, Local>(run.alloc(), text)?;
-    calls! { run; "GenericBuilder::build_payload_from_claims", "some claims" => builder.build_payload_from_claims(); }
-    local_kinds! { run, ask_sealing, text }
-    ask_boxing(run, text)?;
-    public_kinds! { run, ask_signing, &keys, text }
+pub fn ask(run: &mut Run<'_>) -> Result<()> {
+    ask_claims(run)?;
+    ask_maps(run)?;
+    let call = "GenericBuilder::build_payload_from_claims";
+    let builder = builder_of::<V4, Local>(run.alloc, run.text)?;
+    calls!(run; call, "some claims" => builder.build_payload_from_claims();)?;
+    local_kinds! { run, ask_local }
+    ask_boxed(run)?;
+    public_kinds! { run, ask_public }
     Ok(())
 }
 
-/// So many copies of an object of JSON as `Run::change` takes.
+/// So many copies of an object of JSON as a case is given.
 pub fn three_maps(alloc: Global, json: &str) -> Result<[Map<String, Value>; 3]> {
-    Ok([
-        members(alloc, json)?,
-        members(alloc, json)?,
-        members(alloc, json)?,
-    ])
-}
-
-fn members(alloc: Global, json: &str) -> Result<Map<String, Value>> {
     match Value::from_str(alloc, json)? {
-        Value::Object(members) => Ok(members),
+        Value::Object(members) => Ok([members.clone()?, members.clone()?, members]),
         _ => bail!("{json} is no object"),
     }
 }
@@ -63,7 +48,7 @@ pub fn odd_claim(alloc: Global) -> Result<CustomClaim<Value>> {
 pub const ODD: &str = "{\"a\":1,\"b\":3.5}";
 
 /// A builder of fifteen claims, one of them with the text, and a footer.
-fn builder_of<V: VersionTrait, P: PurposeTrait>(
+pub fn builder_of<V: VersionTrait, P: PurposeTrait>(
     alloc: Global,
     text: &str,
 ) -> Result<GenericBuilder<'static, V, P>> {
@@ -78,72 +63,45 @@ fn builder_of<V: VersionTrait, P: PurposeTrait>(
     Ok(builder)
 }
 
-/// Two of them, of version 4 and local.
-pub fn two_builders(alloc: Global, text: &str) -> Result<[GenericBuilder<'static, V4, Local>; 2]> {
-    Ok([builder_of(alloc, text)?, builder_of(alloc, text)?])
-}
-
-fn ask_claims<W: Write>(run: &mut Run<W>, text: &str) -> Result<()> {
-    let alloc = run.alloc();
-    let (claim, odd) = (
-        CustomClaim::try_from_str(alloc, "text", text)?,
-        odd_claim(alloc)?,
-    );
-    let other = AudienceClaim::from("another one");
-    edits! { run, two_builders(alloc, text);
-        "GenericBuilder::put_claim", "a claim" => |builder| builder.put_claim(&claim);
-        "GenericBuilder::set_claim", "a claim" => |builder| builder.set_claim(&claim).map(drop);
-        "GenericBuilder::put_claim", "a key that is there" => |builder| builder.put_claim(&other);
+fn ask_claims(run: &mut Run<'_>) -> Result<()> {
+    let (alloc, text) = (run.alloc, run.text);
+    let (other, odd) = (AudienceClaim::from("another one"), odd_claim(alloc)?);
+    let claim = CustomClaim::try_from_str(alloc, "text", text)?;
+    edits! { run, "GenericBuilder::", builder_of::<V4, Local>(alloc, text);
+        "put_claim", "a claim" => |builder| builder.put_claim(&claim);
+        "set_claim", "a claim" => |builder| builder.set_claim(&claim).map(drop);
+        "put_claim", "a key that is there" => |builder| builder.put_claim(&other);
+        "put_claim", "a fraction, refused" => |builder| builder.put_claim(&odd);
     }
-    edits! { run, two_builders(alloc, "a");
-        "GenericBuilder::put_claim", "a fraction, refused" => |builder| builder.put_claim(&odd);
-    }
-    Ok(())
 }
 
 const SEVERAL: &str = "{\"a\":[1,2],\"aud\":null,\"z\":{\"b\":\"c\"}}";
 
-fn ask_maps<W: Write>(run: &mut Run<W>, text: &str) -> Result<()> {
-    let alloc = run.alloc();
-    changes! { run, two_builders(alloc, text);
-        "GenericBuilder::put_claims", "a map" => three_maps(alloc, SEVERAL)? => |builder, map| builder.put_claims(map);
-        "GenericBuilder::extend_claims", "a map" => three_maps(alloc, SEVERAL)?
+fn ask_maps(run: &mut Run<'_>) -> Result<()> {
+    let (alloc, text) = (run.alloc, run.text);
+    changes! { run, "GenericBuilder::", builder_of::<V4, Local>(alloc, text);
+        "put_claims", "a map" => three_maps(alloc, SEVERAL)? => |builder, map| builder.put_claims(map);
+        "extend_claims", "a map" => three_maps(alloc, SEVERAL)?
             => |builder, map| builder.extend_claims(map).map(drop);
-    }
-    changes! { run, two_builders(alloc, "a");
-        "GenericBuilder::put_claims", "a map with a fraction, refused" => three_maps(alloc, ODD)?
+        "put_claims", "a map with a fraction, refused" => three_maps(alloc, ODD)?
             => |builder, map| builder.put_claims(map);
     }
-    Ok(())
 }
 
-fn ask_sealing<V: GenericLocalVersion, W: Write>(
-    run: &mut Run<W>,
-    kind: &str,
-    text: &str,
-) -> Result<()> {
-    let (builder, key) = (
-        builder_of::<V, Local>(run.alloc(), text)?,
-        symmetric_key::<V>(),
-    );
-    calls! { run; "GenericBuilder::try_encrypt", kind => builder.try_encrypt(&mut Zeros, &key); }
-    Ok(())
+fn ask_local<V: GenericLocalVersion>(run: &mut Run<'_>, kind: &str) -> Result<()> {
+    let builder = builder_of::<V, Local>(run.alloc, run.text)?;
+    calls! { run; "GenericBuilder::try_encrypt", kind => builder.try_encrypt(&mut Zeros, &symmetric_key()); }
 }
 
-fn ask_boxing<W: Write>(run: &mut Run<W>, text: &str) -> Result<()> {
-    let (builder, key) = (
-        builder_of::<V2, Local>(run.alloc(), text)?,
-        symmetric_key::<V2>(),
-    );
-    calls! { run; "GenericBuilder::try_encrypt", "v2.local" => builder.try_encrypt(&PlainBox, &mut Zeros, &key); }
-    Ok(())
+fn ask_boxed(run: &mut Run<'_>) -> Result<()> {
+    let (call, key) = ("GenericBuilder::try_encrypt", symmetric_key());
+    let builder = builder_of::<V2, Local>(run.alloc, run.text)?;
+    calls! { run; call, "v2.local" => builder.try_encrypt(&PlainBox, &mut Zeros, &key); }
 }
 
-fn ask_signing<V: Signed, W: Write>(run: &mut Run<W>, keys: &Keys, text: &str) -> Result<()> {
-    let (builder, key) = (
-        builder_of::<V, Public>(run.alloc(), text)?,
-        V::private_key(keys),
-    );
-    calls! { run; "GenericBuilder::try_sign", V::KIND => builder.try_sign(&mut Lenient, &key); }
-    Ok(())
+fn ask_public<V: Signed>(run: &mut Run<'_>, kind: &str) -> Result<()> {
+    let builder = builder_of::<V, Public>(run.alloc, run.text)?;
+    let keys = Keys::of(&SECRET);
+    let key = V::private_key(&keys);
+    calls! { run; "GenericBuilder::try_sign", kind => builder.try_sign(&mut Lenient, &key); }
 }

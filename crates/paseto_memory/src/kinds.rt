@@ -1,47 +1,49 @@
 //! The kinds of tokens, and what all tokens of the cases share.
 
-use paseto_toys::keys::SECRET;
-use rusty_paseto::prelude::{Footer, Local, PasetoSymmetricKey, VersionTrait};
+use paseto_toys::Lenient;
+use paseto_toys::keys::{SECRET, ToyVersion};
+use rusty_paseto::prelude::*;
 
-/// Asks the cases of each kind of local tokens that needs no box, where one of them may be asked.
+/// Asks the cases of each kind of tokens, where one of them may be asked.
+macro_rules! kinds {
+    ($run:expr, $ask:ident; $($version:ident $kind:literal)*) => {
+        $(if $run.asks_of($kind) {
+            $ask::<rusty_paseto::prelude::$version>($run, $kind)?;
+        })*
+    };
+}
+
+/// Asks the cases of each kind of local tokens that needs no box.
 macro_rules! local_kinds {
-    ($run:expr, $ask:ident $(, $more:expr)*) => {
-        if $run.asks_of("v1.local") {
-            $ask::<rusty_paseto::prelude::V1, W>($run, "v1.local" $(, $more)*)?;
-        }
-        if $run.asks_of("v3.local") {
-            $ask::<rusty_paseto::prelude::V3, W>($run, "v3.local" $(, $more)*)?;
-        }
-        if $run.asks_of("v4.local") {
-            $ask::<rusty_paseto::prelude::V4, W>($run, "v4.local" $(, $more)*)?;
-        }
+    ($run:expr, $ask:ident) => {
+        $crate::kinds::kinds! { $run, $ask; V1 "v1.local" V3 "v3.local" V4 "v4.local" }
     };
 }
 
-/// Asks the cases of each kind of public tokens, where one of them may be asked.
+/// Asks the cases of each kind of public tokens.
 macro_rules! public_kinds {
-    ($run:expr, $ask:ident $(, $more:expr)*) => {
-        if $run.asks_of("v1.public") {
-            $ask::<rusty_paseto::prelude::V1, W>($run $(, $more)*)?;
-        }
-        if $run.asks_of("v2.public") {
-            $ask::<rusty_paseto::prelude::V2, W>($run $(, $more)*)?;
-        }
-        if $run.asks_of("v3.public") {
-            $ask::<rusty_paseto::prelude::V3, W>($run $(, $more)*)?;
-        }
-        if $run.asks_of("v4.public") {
-            $ask::<rusty_paseto::prelude::V4, W>($run $(, $more)*)?;
-        }
+    ($run:expr, $ask:ident) => {
+        $crate::kinds::kinds! { $run, $ask; V1 "v1.public" V2 "v2.public" V3 "v3.public" V4 "v4.public" }
     };
 }
 
+pub(crate) use kinds;
 pub(crate) use local_kinds;
 pub(crate) use public_kinds;
+
+/// A version whose tokens are signed and verified by the lenient scheme.
+pub trait Signed: ToyVersion + Signs<Lenient> + Verifies<Lenient> {}
+
+impl<V: ToyVersion + Signs<Lenient> + Verifies<Lenient>> Signed for V {}
 
 /// The footer of all tokens.
 pub fn footer() -> Footer<'static> {
     Footer::from("key-1")
+}
+
+/// The bytes of a key.
+pub fn bytes_of<const N: usize>(key: Key<N>) -> [u8; N] {
+    *key.as_bytes()
 }
 
 /// The key of all local tokens.

@@ -1,16 +1,13 @@
-//! Asks each public call that takes memory, so that `tests/memory.sh` can refuse it: what a call answers then,
-//! and what the same object answers after it.
+//! Asks each public call that takes memory, so that `tests/memory.sh` can refuse it: what a call answers
+//! then, and what the same object answers after it.
 #![tactic(auto)]
 
-mod answer;
-mod boxed_local;
 mod builders;
 mod claims;
 mod defaults;
 mod encoding;
 mod key_rings;
 mod kinds;
-mod local;
 mod no_memory;
 mod parsers;
 mod paserk;
@@ -18,14 +15,12 @@ mod primitives;
 mod rsa_key;
 mod run;
 mod schemes;
-mod signed;
+mod tokens;
 mod validators;
 
-use anyhow::{Context, Result, ensure};
+use anyhow::{Result, ensure};
 use run::Run;
-use std::alloc::{AllocError, Global};
 use std::env;
-use std::io::Write;
 
 /// How long the text is that the calls are about, where no word says so.
 const LENGTH: usize = 100;
@@ -38,7 +33,7 @@ fn main(rt: HostRuntime) -> Result<()> {
     let alloc = rt.alloc();
     let words: Vec<String> = env::args(&rt)?.skip(1).collect(alloc)?;
     let asked = match words.first() {
-        Some(name) if name.as_str() != "all" => Some(name.clone()?),
+        Some(name) if name.as_str() != "all" => Some(name.as_str()),
         _ => None,
     };
     let length = match words.get(1) {
@@ -46,26 +41,23 @@ fn main(rt: HostRuntime) -> Result<()> {
         None => LENGTH,
     };
     ensure!(length <= LONGEST, "the text is too long");
-    let mut run = Run::new(alloc, rt.stdout(), asked, text_of(alloc, length)?);
-    ask_all(&mut run)?;
-    run.finish().context("no case has this name")
+    let text = "a".repeat(alloc, length)?;
+    let mut run = Run {
+        alloc,
+        text: text.as_str(),
+        output: rt.stdout(),
+        asked,
+        found: false,
+    };
+    ask(&mut run)?;
+    ensure!(run.found, "no case has this name");
+    Ok(())
 }
 
-/// A text of so many letters.
-fn text_of(alloc: Global, length: usize) -> Result<String, AllocError> {
-    let mut text = String::new(alloc);
-    'letters: for _ in 0..length {
-        text.push('a')?;
-    }
-    Ok(text)
-}
-
-fn ask_all<W: Write>(run: &mut Run<W>) -> Result<()> {
+fn ask(run: &mut Run<'_>) -> Result<()> {
     encoding::ask(run)?;
     claims::ask(run)?;
-    local::ask(run)?;
-    boxed_local::ask(run)?;
-    signed::ask(run)?;
+    tokens::ask(run)?;
     builders::ask(run)?;
     parsers::ask(run)?;
     defaults::ask(run)?;

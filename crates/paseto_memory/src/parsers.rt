@@ -1,24 +1,17 @@
 //! The calls of generic parsers.
 
-use crate::answer::{Answer, Snapshot};
-use crate::boxed_local;
 use crate::builders::{ODD, odd_claim, three_maps};
 use crate::claims::numbered;
-use crate::kinds::{footer, local_kinds, public_kinds, symmetric_key};
-use crate::local::seal;
-use crate::run::{Run, calls, changes, edits};
-use crate::signed::{Signed, sign};
-use crate::validators::{refusing, refusing_maps, validators};
+use crate::kinds::{Signed, footer, local_kinds, public_kinds, symmetric_key};
+use crate::run::{Run, Snapshot, calls, changes, edits, three};
+use crate::tokens::{seal, seal_boxed, sign};
+use crate::validators::{refusing, validators};
 use anyhow::Result;
 use jiff::Timestamp;
 use paseto_toys::keys::{Keys, SECRET};
 use paseto_toys::{Lenient, PlainBox};
-use rusty_paseto::prelude::{
-    AudienceClaim, CheckSetter, CustomClaim, GenericLocalVersion, GenericParser, Local, Public,
-    PurposeTrait, V2, V4, VersionTrait,
-};
+use rusty_paseto::prelude::*;
 use std::alloc::Global;
-use std::io::Write;
 
 /// The entries that all parsers check.
 const CHECKED: &str = "\"k0\":0,\"k1\":1,\"k10\":10,\"k11\":11,\"k12\":12,\"k13\":13,\
@@ -43,31 +36,28 @@ pub fn now() -> Result<Timestamp> {
 
 /// A parser is known by what it answers for a token.
 impl Snapshot for GenericParser<'_, V4, Local> {
-    fn snapshot(&self, alloc: Global) -> Result<Vec<u8>> {
-        let token = seal::<V4>(alloc, expired(alloc)?.as_str())?;
-        Answer::of(alloc, self.parse(token.as_str(), &symmetric_key()))?.snapshot(alloc)
+    fn snapshot(&self, alloc: Global) -> Result<String> {
+        let token = seal::<V4>(alloc, expired(alloc)?.as_str(), footer())?;
+        Ok(format!(in alloc; "{:?}", self.parse(token.as_str(), &symmetric_key()))?)
     }
 }
 
 /// Asks them.
-pub fn ask<W: Write>(run: &mut Run<W>) -> Result<()> {
+pub fn ask(run: &mut Run<'_>) -> Result<()> {
     ask_checks(run)?;
-    ask_refusals(run)?;
     ask_validators(run)?;
     ask_maps(run)?;
     ask_times(run)?;
-    let (alloc, text, keys) = (run.alloc(), run.text()?, Keys::of(&SECRET));
-    let payload = good(alloc, text.as_str())?;
-    let (payload, parser) = (payload.as_str(), timed::<V4, Local>(alloc)?);
-    calls! { run; "TokenParser::value_of", "a text" => parser.value_of(payload); }
-    local_kinds! { run, ask_opening, payload }
-    ask_unboxing(run, payload)?;
-    public_kinds! { run, ask_verifying, &keys, payload }
+    let (payload, parser) = (good(run.alloc, run.text)?, timed::<V4, Local>(run.alloc)?);
+    calls!(run; "TokenParser::value_of", "a text" => parser.value_of(payload.as_str());)?;
+    local_kinds! { run, ask_local }
+    ask_boxed(run)?;
+    public_kinds! { run, ask_public }
     ask_failed_checks(run)
 }
 
 /// A parser that checks fifteen claims, and expects the footer.
-fn parser_of<V: VersionTrait, P: PurposeTrait>(
+pub fn parser_of<V: VersionTrait, P: PurposeTrait>(
     alloc: Global,
 ) -> Result<GenericParser<'static, V, P>> {
     let mut parser = GenericParser::new(alloc);
@@ -79,103 +69,81 @@ fn parser_of<V: VersionTrait, P: PurposeTrait>(
     Ok(parser)
 }
 
-/// Two of them, of version 4 and local.
-pub fn two_parsers(alloc: Global) -> Result<[GenericParser<'static, V4, Local>; 2]> {
-    Ok([parser_of(alloc)?, parser_of(alloc)?])
-}
-
-/// A parser that checks the times too.
+// A parser that checks the times too.
 fn timed<V: VersionTrait, P: PurposeTrait>(alloc: Global) -> Result<GenericParser<'static, V, P>> {
     let mut parser = parser_of(alloc)?;
     parser.put_times(now()?)?;
     Ok(parser)
 }
 
-fn ask_checks<W: Write>(run: &mut Run<W>) -> Result<()> {
-    let alloc = run.alloc();
-    let claim = AudienceClaim::from("others");
+fn ask_checks(run: &mut Run<'_>) -> Result<()> {
+    let (alloc, claim) = (run.alloc, AudienceClaim::from("others"));
     let seats = CustomClaim::try_from_str(alloc, "seats", 5u64)?;
-    edits! { run, two_parsers(alloc);
-        "TokenParser::put_check", "a claim" => |parser| parser.put_check(&claim);
-        "TokenParser::check_claim", "a claim" => |parser| parser.check_claim(&claim).map(drop);
-        "TokenParser::put_check", "a key that is there" => |parser| parser.put_check(&seats);
+    let odd = odd_claim(alloc)?;
+    edits! { run, "TokenParser::", parser_of::<V4, Local>(alloc);
+        "put_check", "a claim" => |parser| parser.put_check(&claim);
+        "check_claim", "a claim" => |parser| parser.check_claim(&claim).map(drop);
+        "put_check", "a key that is there" => |parser| parser.put_check(&seats);
+        "put_check", "a fraction, refused" => |parser| parser.put_check(&odd);
     }
-    Ok(())
 }
 
-fn ask_refusals<W: Write>(run: &mut Run<W>) -> Result<()> {
-    let alloc = run.alloc();
+fn ask_validators(run: &mut Run<'_>) -> Result<()> {
+    let (alloc, claim) = (run.alloc, AudienceClaim::from("customers"));
     let (odd, of) = (odd_claim(alloc)?, "a fraction, refused");
-    edits! { run, two_parsers(alloc); "TokenParser::put_check", of => |parser| parser.put_check(&odd); }
-    changes! { run, two_parsers(alloc);
-        "TokenParser::put_validator", of => refusing!(alloc) => |parser, validator| parser.put_validator(&odd, validator);
-        "TokenParser::put_checks", "a map with a fraction, refused" => three_maps(alloc, ODD)?
+    changes! { run, "TokenParser::", parser_of::<V4, Local>(alloc);
+        "put_validator", of => refusing!(alloc) => |parser, given| parser.put_validator(&odd, given);
+        "put_checks", "a map with a fraction, refused" => three_maps(alloc, ODD)?
             => |parser, map| parser.put_checks(map);
+        "put_validator", "a claim" => refusing!(alloc) => |parser, given| parser.put_validator(&claim, given);
+        "validate_claim", "a claim" => refusing!(alloc)
+            => |parser, given| parser.validate_claim(&claim, given).map(drop);
     }
-    Ok(())
-}
-
-fn ask_validators<W: Write>(run: &mut Run<W>) -> Result<()> {
-    let (alloc, claim) = (run.alloc(), AudienceClaim::from("customers"));
-    changes! { run, two_parsers(alloc);
-        "TokenParser::put_validator", "a claim" => refusing!(alloc)
-            => |parser, validator| parser.put_validator(&claim, validator);
-        "TokenParser::validate_claim", "a claim" => refusing!(alloc)
-            => |parser, validator| parser.validate_claim(&claim, validator).map(drop);
-    }
-    Ok(())
 }
 
 /// Entries of several keys, one of which is stored already.
 pub const SEVERAL: &str = "{\"a\":{\"a\":1},\"aud\":{\"aud\":\"others\"},\"seats\":5}";
 
-fn ask_maps<W: Write>(run: &mut Run<W>) -> Result<()> {
-    let alloc = run.alloc();
-    changes! { run, two_parsers(alloc);
-        "TokenParser::put_checks", "a map" => three_maps(alloc, SEVERAL)? => |parser, map| parser.put_checks(map);
-        "TokenParser::extend_check_claims", "a map" => three_maps(alloc, SEVERAL)?
+fn ask_maps(run: &mut Run<'_>) -> Result<()> {
+    let alloc = run.alloc;
+    changes! { run, "TokenParser::", parser_of::<V4, Local>(alloc);
+        "put_checks", "a map" => three_maps(alloc, SEVERAL)? => |parser, map| parser.put_checks(map);
+        "extend_check_claims", "a map" => three_maps(alloc, SEVERAL)?
             => |parser, map| parser.extend_check_claims(map).map(drop);
-        "TokenParser::put_validators", "a map" => refusing_maps!(alloc) => |parser, map| parser.put_validators(map);
-        "TokenParser::extend_validation_claims", "a map" => refusing_maps!(alloc)
+        "put_validators", "a map" => three!(validators(alloc, refusing!(alloc))?)
+            => |parser, map| parser.put_validators(map);
+        "extend_validation_claims", "a map" => three!(validators(alloc, refusing!(alloc))?)
             => |parser, map| parser.extend_validation_claims(map).map(drop);
     }
-    Ok(())
 }
 
-fn ask_times<W: Write>(run: &mut Run<W>) -> Result<()> {
-    let (alloc, now) = (run.alloc(), now()?);
-    edits! { run, two_parsers(alloc);
-        "TokenParser::put_required", "a claim" => |parser| parser.put_required("sub");
-        "TokenParser::require_claim", "a claim" => |parser| parser.require_claim("sub").map(drop);
-        "TokenParser::put_times", "a moment" => |parser| parser.put_times(now);
-        "TokenParser::check_times", "a moment" => |parser| parser.check_times(now).map(drop);
+fn ask_times(run: &mut Run<'_>) -> Result<()> {
+    let (alloc, now) = (run.alloc, now()?);
+    edits! { run, "TokenParser::", parser_of::<V4, Local>(alloc);
+        "put_required", "a claim" => |parser| parser.put_required("sub");
+        "require_claim", "a claim" => |parser| parser.require_claim("sub").map(drop);
+        "put_times", "a moment" => |parser| parser.put_times(now);
+        "check_times", "a moment" => |parser| parser.check_times(now).map(drop);
     }
-    Ok(())
 }
 
-fn ask_opening<V: GenericLocalVersion, W: Write>(
-    run: &mut Run<W>,
-    kind: &str,
-    payload: &str,
-) -> Result<()> {
-    let (parser, key) = (timed::<V, Local>(run.alloc())?, symmetric_key::<V>());
-    let token = seal::<V>(run.alloc(), payload)?;
-    calls! { run; "TokenParser::parse", kind => parser.parse(token.as_str(), &key); }
-    Ok(())
+fn ask_local<V: GenericLocalVersion>(run: &mut Run<'_>, kind: &str) -> Result<()> {
+    let parser = timed::<V, Local>(run.alloc)?;
+    let token = seal::<V>(run.alloc, good(run.alloc, run.text)?.as_str(), footer())?;
+    calls! { run; "TokenParser::parse", kind => parser.parse(token.as_str(), &symmetric_key()); }
 }
 
-fn ask_unboxing<W: Write>(run: &mut Run<W>, payload: &str) -> Result<()> {
-    let (parser, key) = (timed::<V2, Local>(run.alloc())?, symmetric_key::<V2>());
-    let token = boxed_local::seal(run.alloc(), payload, footer())?;
+fn ask_boxed(run: &mut Run<'_>) -> Result<()> {
+    let (parser, key) = (timed::<V2, Local>(run.alloc)?, symmetric_key());
+    let token = seal_boxed(run.alloc, good(run.alloc, run.text)?.as_str(), footer())?;
     calls! { run; "TokenParser::parse", "v2.local" => parser.parse(&PlainBox, token.as_str(), &key); }
-    Ok(())
 }
 
-fn ask_verifying<V: Signed, W: Write>(run: &mut Run<W>, keys: &Keys, payload: &str) -> Result<()> {
-    let (parser, key) = (timed::<V, Public>(run.alloc())?, V::public_key(keys)?);
-    let token = sign::<V>(run.alloc(), payload, footer(), keys)?;
-    calls! { run; "TokenParser::parse", V::KIND => parser.parse(&Lenient, token.as_str(), &key); }
-    Ok(())
+fn ask_public<V: Signed>(run: &mut Run<'_>, kind: &str) -> Result<()> {
+    let (parser, keys) = (timed::<V, Public>(run.alloc)?, Keys::of(&SECRET));
+    let key = V::public_key(&keys)?;
+    let token = sign::<V>(run.alloc, good(run.alloc, run.text)?.as_str(), footer())?;
+    calls! { run; "TokenParser::parse", kind => parser.parse(&Lenient, token.as_str(), &key); }
 }
 
 // Payloads that are no JSON, or fail a check, and so are refused.
@@ -191,32 +159,23 @@ const REFUSED: &[(&str, &str)] = &[
     ),
 ];
 
-fn ask_failed_checks<W: Write>(run: &mut Run<W>) -> Result<()> {
-    let alloc = run.alloc();
+fn ask_failed_checks(run: &mut Run<'_>) -> Result<()> {
+    let (alloc, payload) = (run.alloc, expired(run.alloc)?);
+    let payload = payload.as_str();
     let mut parser = timed::<V4, Local>(alloc)?;
     parser.put_check(&AudienceClaim::from("customers"))?;
     'payloads: for &(of, payload) in REFUSED {
         ask_refused(run, of, payload, &parser)?;
     }
-    let payload = expired(alloc)?;
-    ask_refused(run, "an expired token, refused", payload.as_str(), &parser)?;
-    let mut parser = parser_of::<V4, Local>(alloc)?;
+    ask_refused(run, "an expired token, refused", payload, &parser)?;
+    let mut parser = parser_of(alloc)?;
     parser.put_validators(validators(alloc, refusing!(alloc))?)?;
-    ask_refused(
-        run,
-        "what a validator refuses, refused",
-        payload.as_str(),
-        &parser,
-    )
+    ask_refused(run, "what a validator refuses, refused", payload, &parser)
 }
 
-fn ask_refused<W: Write>(
-    run: &mut Run<W>,
-    of: &str,
-    payload: &str,
-    parser: &GenericParser<'_, V4, Local>,
-) -> Result<()> {
-    let (token, key) = (seal::<V4>(run.alloc(), payload)?, symmetric_key::<V4>());
-    calls! { run; "TokenParser::parse", of => parser.parse(token.as_str(), &key); }
-    Ok(())
+type Refusing<'a> = &'a GenericParser<'static, V4, Local>;
+
+fn ask_refused(run: &mut Run<'_>, of: &str, payload: &str, parser: Refusing<'_>) -> Result<()> {
+    let token = seal::<V4>(run.alloc, payload, footer())?;
+    calls! { run; "TokenParser::parse", of => parser.parse(token.as_str(), &symmetric_key()); }
 }

@@ -1,35 +1,27 @@
 //! The calls of keys as text.
 
-use crate::answer::Refusal;
-use crate::kinds::symmetric_key;
+use crate::kinds::{bytes_of, symmetric_key};
 use crate::run::{Run, calls};
 use anyhow::Result;
 use paseto_toys::keys::{Keys, SECRET, ToyVersion};
-use rusty_paseto::prelude::{Local, PasetoSymmetricKey, V4};
+use rusty_paseto::prelude::*;
 use rusty_paseto_paserk::{
     PaserkError, local_from_paserk, local_id, local_to_paserk, public_from_paserk, public_id,
     public_to_paserk, secret_from_paserk, secret_id, secret_to_paserk,
 };
 use std::alloc::Global;
-use std::io::Write;
-
-impl Refusal for PaserkError {
-    fn is_memory(&self) -> bool {
-        matches!(self, PaserkError::Memory(_))
-    }
-}
 
 /// Asks them.
-pub fn ask<W: Write>(run: &mut Run<W>) -> Result<()> {
-    let (alloc, key) = (run.alloc(), symmetric_key::<V4>());
+pub fn ask(run: &mut Run<'_>) -> Result<()> {
+    let (alloc, key) = (run.alloc, symmetric_key::<V4>());
     let text = local_to_paserk(alloc, &key)?;
     let text = text.as_str();
-    calls! { run;
+    calls!(run;
         "local_to_paserk", "v4.local" => local_to_paserk(alloc, &key);
         "local_from_paserk", "v4.local" => read_local(alloc, text);
         "local_from_paserk", "another text, refused" => read_local(alloc, "k4.local.AAAA");
         "local_id", "v4.local" => local_id(alloc, &key);
-    }
+    )?;
     ask_pairs(run)
 }
 
@@ -38,21 +30,18 @@ fn read_local(alloc: Global, text: &str) -> Result<String, PaserkError> {
     local_to_paserk(alloc, &key)
 }
 
-fn ask_pairs<W: Write>(run: &mut Run<W>) -> Result<()> {
-    let (alloc, keys) = (run.alloc(), Keys::of(&SECRET));
+fn ask_pairs(run: &mut Run<'_>) -> Result<()> {
+    let (alloc, keys) = (run.alloc, Keys::of(&SECRET));
     let (private, public) = (V4::private_key(&keys), V4::public_key(&keys)?);
-    let (secret, text) = (
-        secret_to_paserk(alloc, &private)?,
-        public_to_paserk(alloc, &public)?,
-    );
+    let secret = secret_to_paserk(alloc, &private)?;
+    let text = public_to_paserk(alloc, &public)?;
     let (secret, text) = (secret.as_str(), text.as_str());
     calls! { run;
         "secret_to_paserk", "v4.public" => secret_to_paserk(alloc, &private);
-        "secret_from_paserk", "v4.public" => secret_from_paserk::<V4, 64>(alloc, secret);
+        "secret_from_paserk", "v4.public" => secret_from_paserk::<V4, 64>(alloc, secret).map(bytes_of);
         "secret_id", "v4.public" => secret_id(alloc, &private);
         "public_to_paserk", "v4.public" => public_to_paserk(alloc, &public);
-        "public_from_paserk", "v4.public" => public_from_paserk::<V4, 32>(alloc, text);
+        "public_from_paserk", "v4.public" => public_from_paserk::<V4, 32>(alloc, text).map(bytes_of);
         "public_id", "v4.public" => public_id(alloc, &public);
     }
-    Ok(())
 }

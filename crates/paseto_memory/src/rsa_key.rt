@@ -1,4 +1,4 @@
-//! A key pair of RSA with 2048 bits, in base64url: a PrivateKeyInfo of PKCS #8, and its RSAPublicKey of PKCS #1.
+//! A key pair of RSA with 2048 bits, in base64url: a PrivateKeyInfo of PKCS #8, and the RSAPublicKey.
 
 /// The private key.
 pub const PRIVATE: &str = "\

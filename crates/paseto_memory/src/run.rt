@@ -1,131 +1,140 @@
 //! A run over the cases.
 
-use crate::answer::{Answer, Refusal, Snapshot};
-use anyhow::{Result, bail, ensure};
+use anyhow::{Result, ensure};
 use std::alloc::Global;
-use std::io::Write;
+use std::fmt::Debug;
+use std::io::{Stdout, Write};
 
 /// A line for each case of a call that changes nothing: what is called, of what, and the call.
 macro_rules! calls {
-    ($run:expr; $($call:expr, $of:expr => $asked:expr;)*) => {
+    ($run:expr; $($call:expr, $of:expr => $asked:expr;)*) => {{
         $($run.call($call, $of, || $asked)?;)*
-    };
+        Ok::<(), anyhow::Error>(())
+    }};
 }
 
-/// A line for each case of a call that changes an object and is given nothing: what is called, of what, and the
-/// change. Two alike objects are made for each.
+/// A line for each case of a method that edits an object and is given nothing: what is called, of what, and
+/// the edit. Before them stand the path of the type, and how an object is made.
 macro_rules! edits {
-    ($run:expr, $objects:expr; $($call:expr, $of:expr => |$object:ident| $edit:expr;)*) => {
-        $($run.change($call, $of, $objects, [(), (), ()], |$object, _| $edit)?;)*
-    };
+    ($run:expr, $path:expr, $object:expr; $($call:expr, $of:expr => |$name:ident| $edit:expr;)*) => {{
+        let make = || $object;
+        $($run.edit([$path, $call, $of], make, [(), (), ()], |$name, _| $edit)?;)*
+        Ok::<(), anyhow::Error>(())
+    }};
 }
 
-/// The same for calls that are given a value, of which three are made.
+/// The same for methods that are given a value, of which three are made.
 macro_rules! changes {
-    ($run:expr, $objects:expr; $($call:expr, $of:expr => $given:expr => |$object:ident, $value:ident| $edit:expr;)*) => {
-        $($run.change($call, $of, $objects, $given, |$object, $value| $edit)?;)*
+    (
+        $run:expr, $path:expr, $object:expr;
+        $($call:expr, $of:expr => $given:expr => |$name:ident, $value:ident| $edit:expr;)*
+    ) => {{
+        let make = || $object;
+        $($run.edit([$path, $call, $of], make, $given, |$name, $value| $edit)?;)*
+        Ok::<(), anyhow::Error>(())
+    }};
+}
+
+/// So many values as a case is given.
+macro_rules! three {
+    ($value:expr) => {
+        [$value, $value, $value]
     };
 }
 
 pub(crate) use calls;
 pub(crate) use changes;
 pub(crate) use edits;
+pub(crate) use three;
 
-/// Whether what is asked is to be refused, for another cause than memory: the end of its name says so.
-fn is_refused(of: &str) -> bool {
-    of.ends_with(", refused")
+/// What has a snapshot: a text that is the same for two objects that answer alike.
+pub trait Snapshot: Drop {
+    fn snapshot(&self, alloc: Global) -> Result<String>;
 }
 
-/// An object before a change, what the change answered, and the object then.
-#[derive(Drop)]
+impl Snapshot for String {
+    fn snapshot(&self, _alloc: Global) -> Result<String> {
+        Ok(self.clone()?)
+    }
+}
+
+/// Where an object may be put.
+impl<T: Snapshot> Snapshot for Option<T> {
+    fn snapshot(&self, alloc: Global) -> Result<String> {
+        match self {
+            Some(object) => Ok(format!(in alloc; "some {}", object.snapshot(alloc)?)?),
+            None => Ok(String::new(alloc)),
+        }
+    }
+}
+
+/// Puts what was made where there was nothing.
+pub fn put<T: Drop, E>(slot: &mut Option<T>, made: Result<T, E>) -> Result<(), E> {
+    *slot = Some(made?);
+    Ok(())
+}
+
+/// The answers, as `Debug` shows them, by which calls tell that memory was refused: an error of the variant
+/// `Memory`, in which no other error stands, or one that has no variants.
+const MEMORY: &[&str] = &["Err(Memory(AllocError))", "Err(AllocError)"];
+
+/// Whether an answer is what a case of this name is about: a refusal for another cause than memory where its
+/// name says so, and else a value.
+fn is_as_named(answer: &str, of: &str) -> bool {
+    answer.starts_with("Err(") == of.ends_with(", refused") && !MEMORY.contains(&answer)
+}
+
+/// An object before an edit, what the edit answered, and the object then.
+#[derive(Drop, PartialEq, Eq)]
 struct Change {
-    before: Vec<u8>,
-    answer: Answer,
-    after: Vec<u8>,
+    before: String,
+    answer: String,
+    after: String,
 }
 
-impl Change {
-    fn made<O, A, E, F>(alloc: Global, object: O, given: A, call: F) -> Result<Change>
-    where
-        O: Snapshot + Drop,
-        A: Drop,
-        E: Refusal,
-        F: FnOnce(&mut O, A) -> Result<(), E>,
-        requires { F.IsAlwaysCallable call }
-    {
-        let mut object = object;
-        let before = object.snapshot(alloc)?;
-        let answer = Answer::of(alloc, call(&mut object, given))?;
-        let after = object.snapshot(alloc)?;
-        Ok(Change {
-            before,
-            answer,
-            after,
-        })
-    }
-
-    // What refuses changes nothing, and what does not refuse changes something.
-    fn is_right(&self, is_refused: bool) -> bool {
-        self.answer.is_refusal() == is_refused && (self.before == self.after) == is_refused
-    }
-
-    fn is(&self, other: &Change) -> bool {
-        self.before == other.before && self.answer.is(&other.answer) && self.after == other.after
-    }
+fn edited<O: Snapshot, A, E, F>(alloc: Global, object: O, given: A, edit: F) -> Result<Change>
+where
+    A: Drop,
+    E: Debug + Drop,
+    F: FnOnce(&mut O, A) -> Result<(), E>,
+    requires { F.IsAlwaysCallable edit }
+{
+    let mut object = object;
+    Ok(Change {
+        before: object.snapshot(alloc)?,
+        answer: format!(in alloc; "{:?}", edit(&mut object, given))?,
+        after: object.snapshot(alloc)?,
+    })
 }
 
-/// A run over all cases, or over one of them with marks around the call: `memory: begin` and `memory: end`, each
-/// written in one piece. Memory may be refused between the two.
+/// A run over all cases, or over one of them with marks around the call: `memory: begin` and `memory: end`,
+/// each written in one piece. Memory may be refused between the two.
 #[derive(Drop)]
-pub struct Run<W> {
-    alloc: Global,
-    output: W,
-    asked: Option<String>,
-    found: bool,
-    text: String,
+pub struct Run<'a> {
+    /// The allocator of all calls.
+    pub alloc: Global,
+    /// The text that the calls are about.
+    pub text: &'a str,
+    /// Where the answers are told.
+    pub output: Stdout,
+    /// The name of the one case.
+    pub asked: Option<&'a str>,
+    /// Whether a case had the name that was asked for.
+    pub found: bool,
 }
 
-impl<W: Write> Run<W> {
-    /// A run over the case of this name, or over all where there is none. The calls are about the text.
-    pub fn new(alloc: Global, output: W, asked: Option<String>, text: String) -> Self {
-        Run {
-            alloc,
-            output,
-            asked,
-            found: false,
-            text,
-        }
-    }
-
-    /// The allocator of all calls.
-    pub fn alloc(&self) -> Global {
-        self.alloc
-    }
-
-    /// Whether what the cases of this kind of token need has to be made: a run for one case makes nothing for the others.
+impl Run<'_> {
+    /// Whether what the cases of this kind of tokens need has to be made: a run for one case makes nothing
+    /// for the others.
     pub fn asks_of(&self, kind: &str) -> bool {
-        match &self.asked {
-            Some(asked) => asked.as_str().contains(kind),
-            None => true,
-        }
-    }
-
-    /// A copy of the text that the calls are about.
-    pub fn text(&self) -> Result<String> {
-        Ok(self.text.clone()?)
-    }
-
-    /// Fails where no case had the name that was asked for.
-    pub fn finish(&self) -> Result<()> {
-        ensure!(self.found, "nothing was asked");
-        Ok(())
+        self.asked.unwrap_or(kind).contains(kind)
     }
 
     /// Asks a call of something between the marks, and then again. What is right is what it answers before.
     pub fn call<T, E, F>(&mut self, call: &str, of: &str, asked: F) -> Result<()>
     where
-        T: Snapshot + Drop,
-        E: Refusal,
+        T: Debug + Drop,
+        E: Debug + Drop,
         F: Copy + FnOnce() -> Result<T, E>,
         requires { F.IsAlwaysCallable asked }
     {
@@ -133,85 +142,62 @@ impl<W: Write> Run<W> {
         if !self.is_asked(name.as_str()) {
             return Ok(());
         }
-        let expected = Answer::of(self.alloc, asked())?;
-        if expected.is_refusal() != is_refused(of) {
-            bail!("{name}: this is another answer than the case is about");
-        }
+        let right = format!(in self.alloc; "{:?}", asked())?;
+        let is_named = is_as_named(right.as_str(), of);
+        ensure!(is_named, "{name}: its name tells of another answer");
         self.mark("memory: begin\n")?;
         let met = asked();
         self.mark("memory: end\n")?;
-        let met = Answer::of(self.alloc, met)?;
-        let then = Answer::of(self.alloc, asked())?;
-        self.report(name.as_str(), met.word(&expected), then.is(&expected))
+        let met = format!(in self.alloc; "{met:?}")?;
+        let then = format!(in self.alloc; "{:?}", asked())?;
+        self.report(name.as_str(), met.as_str(), right.as_str(), then == right)
     }
 
-    /// Changes the second of two alike objects between the marks, by the second of the given values. What is right is
-    /// what the first answers before and after the same change. Objects that could not be made end the run.
+    /// Makes two alike objects, and edits the second between the marks, by the second of the given values.
+    /// What is right is what the first answers before the same edit and after it. What refuses changes
+    /// nothing, and what does not refuse changes something. A case is the type's path, the call, and of what.
     ///
-    /// Where memory was refused, the object is to answer as before the change, and is then changed again.
-    pub fn change<O, A, E, F>(
+    /// Where memory was refused, the second is to answer as before the edit, and is then edited again. Else
+    /// it is to answer as the first, and a third is made and edited.
+    pub fn edit<O: Snapshot, A: Drop, E: Debug + Drop, M, F>(
         &mut self,
-        call: &str,
-        of: &str,
-        objects: Result<[O; 2]>,
+        case: [&str; 3],
+        make: M,
         given: [A; 3],
         edit: F,
     ) -> Result<()>
     where
-        O: Snapshot + Drop,
-        A: Drop,
-        E: Refusal,
+        M: Copy + FnOnce() -> Result<O>,
         F: Copy + FnOnce(&mut O, A) -> Result<(), E>,
-        requires { F.IsAlwaysCallable edit }
+        requires made { M.IsAlwaysCallable make }
+        requires edited { F.IsAlwaysCallable edit }
     {
-        let [untouched, object] = objects?;
-        let name = format!(in self.alloc; "{call} of {of}")?;
+        let [path, call, of] = case;
+        let name = format!(in self.alloc; "{path}{call} of {of}")?;
         if !self.is_asked(name.as_str()) {
             return Ok(());
         }
         let [first, second, third] = given;
-        let right = Change::made(self.alloc, untouched, first, edit)?;
-        if !right.is_right(is_refused(of)) {
-            bail!("{name}: this is another answer than the case is about");
-        }
-        let (word, then) = self.change_marked(&right, object, [second, third], edit)?;
-        self.report(name.as_str(), word, then)
-    }
-
-    // The word for what the change answers between the marks, and whether the object is then right.
-    fn change_marked<O, A, E, F>(
-        &mut self,
-        right: &Change,
-        object: O,
-        given: [A; 2],
-        call: F,
-    ) -> Result<(&'static str, bool)>
-    where
-        O: Snapshot + Drop,
-        A: Drop,
-        E: Refusal,
-        F: Copy + FnOnce(&mut O, A) -> Result<(), E>,
-        requires { F.IsAlwaysCallable call }
-    {
-        let mut object = object;
-        let [given, again] = given;
+        let right = edited(self.alloc, make()?, first, edit)?;
+        let (answer, is_kept) = (right.answer.as_str(), right.before == right.after);
+        let is_named = is_as_named(answer, of) && is_kept == of.ends_with(", refused");
+        ensure!(is_named, "{name}: its name tells of another answer");
+        let mut object = make()?;
         self.mark("memory: begin\n")?;
-        let met = call(&mut object, given);
+        let met = edit(&mut object, second);
         self.mark("memory: end\n")?;
-        let met = Answer::of(self.alloc, met)?;
-        let then = if met.is_memory() {
-            Change::made(self.alloc, object, again, call)?.is(right)
+        let met = format!(in self.alloc; "{met:?}")?;
+        let then = if MEMORY.contains(&met.as_str()) {
+            edited(self.alloc, object, third, edit)? == right
         } else {
-            object.snapshot(self.alloc)? == right.after
+            let is_alike = object.snapshot(self.alloc)? == right.after;
+            is_alike && edited(self.alloc, make()?, third, edit)? == right
         };
-        Ok((met.word(&right.answer), then))
+        self.report(name.as_str(), met.as_str(), answer, then)
     }
 
     fn is_asked(&mut self, name: &str) -> bool {
-        let is_asked = match &self.asked {
-            Some(asked) => asked.as_str() == name,
-            None => true,
-        };
+        let is_asked = self.asked.unwrap_or(name) == name;
         self.found = self.found || is_asked;
         is_asked
     }
@@ -224,7 +210,13 @@ impl<W: Write> Run<W> {
         Ok(())
     }
 
-    fn report(&mut self, name: &str, word: &str, then: bool) -> Result<()> {
+    // Tells what was met where this is right, and whether it was right then.
+    fn report(&mut self, name: &str, met: &str, right: &str, then: bool) -> Result<()> {
+        let word = match met {
+            _ if MEMORY.contains(&met) => "memory",
+            _ if met == right => "right",
+            _ => "wrong",
+        };
         let then = if then { "right" } else { "wrong" };
         writeln!(self.output, "{name}: {word}, then {then}")?;
         Ok(())

@@ -22,31 +22,16 @@ impl Validator for Refuses {
     }
 }
 
-/// So many boxes with such a validator as `Run::change` takes.
+/// So many boxes with such a validator as a case is given.
 macro_rules! refusing {
     ($alloc:expr) => {{
-        let boxes: [rusty_paseto::prelude::ValidatorFn; 3] = [
-            Box::new($alloc, $crate::validators::Refuses)?,
-            Box::new($alloc, $crate::validators::Refuses)?,
-            Box::new($alloc, $crate::validators::Refuses)?,
-        ];
+        let boxes: [rusty_paseto::prelude::ValidatorFn; 3] =
+            $crate::run::three!(Box::new($alloc, $crate::validators::Refuses)?);
         boxes
     }};
 }
 
-/// So many maps of such validators as `Run::change` takes.
-macro_rules! refusing_maps {
-    ($alloc:expr) => {
-        [
-            $crate::validators::validators($alloc, refusing!($alloc))?,
-            $crate::validators::validators($alloc, refusing!($alloc))?,
-            $crate::validators::validators($alloc, refusing!($alloc))?,
-        ]
-    };
-}
-
 pub(crate) use refusing;
-pub(crate) use refusing_maps;
 
 /// Validators of three keys, the last of which a parser of the cases checks already.
 pub fn validators(alloc: Global, boxes: [ValidatorFn; 3]) -> Result<ValidatorMap> {

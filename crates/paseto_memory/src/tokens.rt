@@ -1,0 +1,137 @@
+//! The calls of local and of public tokens.
+
+use crate::kinds::{Signed, footer, local_kinds, public_kinds, symmetric_key};
+use crate::run::{Run, calls};
+use anyhow::Result;
+use paseto_toys::keys::{Keys, SECRET, ToyVersion};
+use paseto_toys::{Lenient, PlainBox};
+use rusty_paseto::prelude::*;
+use std::alloc::Global;
+
+/// A token, or what one is read as.
+type Answer = Result<String, PasetoError>;
+
+/// Asks them.
+pub fn ask(run: &mut Run<'_>) -> Result<()> {
+    local_kinds! { run, ask_local }
+    ask_decrypting(run)?;
+    public_kinds! { run, ask_public }
+    ask_verifying(run)
+}
+
+/// The local token of a text.
+pub fn seal<V: LocalVersion>(alloc: Global, text: &str, footer: Footer<'_>) -> Answer {
+    let nonce = Key::<32>::from([0; 32]);
+    let (key, nonce) = (symmetric_key(), PasetoNonce::from(&nonce));
+    V::seal(alloc, &key, &nonce, Payload::from(text), Some(footer), None)
+}
+
+/// The same of version 2, over a box.
+pub fn seal_boxed(alloc: Global, text: &str, footer: Footer<'_>) -> Answer {
+    let nonce = Key::<32>::from([0; 32]);
+    let mut paseto = token_of::<V2, Local>(text);
+    paseto.set_footer(footer);
+    paseto.try_encrypt(
+        alloc,
+        &PlainBox,
+        &symmetric_key(),
+        &PasetoNonce::from(&nonce),
+    )
+}
+
+/// The public token of a text.
+pub fn sign<V: Signed>(alloc: Global, text: &str, footer: Footer<'_>) -> Answer {
+    let keys = Keys::of(&SECRET);
+    let (key, text) = (V::private_key(&keys), Payload::from(text));
+    V::sign(alloc, &mut Lenient, &key, text, Some(footer), None)
+}
+
+fn token_of<V: VersionTrait, P: PurposeTrait>(text: &str) -> Paseto<'_, V, P> {
+    let mut paseto = Paseto::<V, P>::builder();
+    paseto.set_payload(Payload::from(text)).set_footer(footer());
+    paseto
+}
+
+fn ask_local<V: LocalVersion>(run: &mut Run<'_>, kind: &str) -> Result<()> {
+    let (alloc, text, key) = (run.alloc, run.text, symmetric_key::<V>());
+    let bytes = Key::<32>::from([0; 32]);
+    let (paseto, nonce) = (token_of::<V, Local>(text), PasetoNonce::from(&bytes));
+    calls!(run;
+        "LocalVersion::seal", kind => seal::<V>(alloc, text, footer());
+        "Paseto::try_encrypt", kind => paseto.try_encrypt(alloc, &key, &nonce);
+    )?;
+    let other = PasetoSymmetricKey::<V, Local>::from(Key::<32>::from([8; 32]));
+    let of_other = format!(in alloc; "{kind} under another key, refused")?;
+    let token = seal::<V>(alloc, text, footer())?;
+    let second = seal::<V>(alloc, "another text", footer())?;
+    let (token, second) = (token.as_str(), second.as_str());
+    calls! { run;
+        "LocalVersion::open", kind => V::open(alloc, token, &key, Some(footer()), None);
+        "LocalVersion::open", of_other.as_str() => V::open(alloc, token, &other, Some(footer()), None);
+        "Paseto::tag_collision", kind => collision(alloc, &key, token, second);
+    }
+}
+
+// What is found among the first token, the second and the first again.
+fn collision<'a, V: LocalVersion>(
+    alloc: Global,
+    key: &'a PasetoSymmetricKey<V, Local>,
+    first: &'a str,
+    second: &'a str,
+) -> Result<Option<Vec<u8>>, PasetoError> {
+    let openings = [first, second, first].map(|token| Opening {
+        key,
+        token,
+        footer: Some(footer()),
+        assertion: None,
+    });
+    let found = Paseto::<V, Local>::tag_collision(alloc, &openings)?;
+    Ok(found.map(|collision| collision.tag))
+}
+
+fn ask_decrypting(run: &mut Run<'_>) -> Result<()> {
+    let (alloc, text) = (run.alloc, run.text);
+    let first = seal::<V1>(alloc, text, footer())?;
+    let third = seal::<V3>(alloc, text, footer())?;
+    let fourth = seal::<V4>(alloc, text, footer())?;
+    let boxed = seal_boxed(alloc, text, footer())?;
+    let (first, third, fourth) = (first.as_str(), third.as_str(), fourth.as_str());
+    let (call, own) = ("Paseto::try_decrypt", Some(footer()));
+    calls! { run;
+        call, "v1.local" => Paseto::<V1, Local>::try_decrypt(alloc, first, &symmetric_key(), own);
+        call, "v3.local" => Paseto::<V3, Local>::try_decrypt(alloc, third, &symmetric_key(), own, None);
+        call, "v4.local" => Paseto::<V4, Local>::try_decrypt(alloc, fourth, &symmetric_key(), own, None);
+        "Paseto::try_encrypt", "v2.local" => seal_boxed(alloc, text, footer());
+        call, "v2.local"
+            => Paseto::<V2, Local>::try_decrypt(alloc, &PlainBox, boxed.as_str(), &symmetric_key(), own);
+    }
+}
+
+fn ask_public<V: Signed>(run: &mut Run<'_>, kind: &str) -> Result<()> {
+    let (alloc, text, keys) = (run.alloc, run.text, Keys::of(&SECRET));
+    let (paseto, key) = (token_of::<V, Public>(text), V::private_key(&keys));
+    let (token, public) = (sign::<V>(alloc, text, footer())?, V::public_key(&keys)?);
+    calls! { run;
+        "Signs::sign", kind => V::sign(alloc, &mut Lenient, &key, Payload::from(text), Some(footer()), None);
+        "Paseto::try_sign", kind => paseto.try_sign(alloc, &mut Lenient, &key);
+        "Verifies::verify", kind => V::verify(alloc, &Lenient, token.as_str(), &public, Some(footer()), None);
+    }
+}
+
+/// Asks for the verifying of a version, to which `None` is given where it has an implicit assertion.
+macro_rules! verifying {
+    ($run:expr, $version:ident $(, $none:expr)?) => {{
+        let (alloc, keys, own) = ($run.alloc, Keys::of(&SECRET), Some(footer()));
+        let (token, key) = (sign::<$version>(alloc, $run.text, footer())?, $version::public_key(&keys)?);
+        let token = token.as_str();
+        calls!($run; "Paseto::try_verify", $version::KIND
+            => Paseto::<$version, Public>::try_verify(alloc, &Lenient, token, &key, own $(, $none)?);)
+    }};
+}
+
+fn ask_verifying(run: &mut Run<'_>) -> Result<()> {
+    verifying!(run, V1)?;
+    verifying!(run, V2)?;
+    verifying!(run, V3, None)?;
+    verifying!(run, V4, None)
+}
