@@ -69,7 +69,8 @@ fn id_of_secret(alloc: Global, version: PaserkVersion, key: &str) -> Result<Stri
 
 fn id_of_public(alloc: Global, version: PaserkVersion, key: &str) -> Result<String, ProgramError>
     ensures printed { IfOk result (λ id. IsIdOf key.now (string_bytes id)) }
-    ensures refused { IfErr result (λ error. IsOutside error ⊎ IsNoKeyOf version PublicKey key.now) }
+    ensures refused { IfErr result (λ error. IsOutside error
+        ⊎ IsNoKeyOf version PublicKey key.now) }
 {
     match version {
         PaserkVersion::V1 => Err(ProgramError::Key(PaserkError::OtherVersion(version))),
