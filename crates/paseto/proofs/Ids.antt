@@ -1,6 +1,5 @@
 -- A key that has no id.
 use Rattle.std.proofs.Common.{◌≡◌, ◌⊎◌, ℕ, ◌==◌, List, ◌++◌, if◌then◌else◌, get_or, inl, inr, refl, sym, ap, subst, ◌∙◌}
-use Rattle.base64.specs.GeneralPurpose.{IsBytes}
 use Rattle.rusty_paseto_parts.specs.Section.{base64url}
 use Rattle.rusty_paseto_paserk.specs.declared.header.PaserkVersion.{PaserkVersion}
 use Rattle.rusty_paseto_paserk.specs.declared.header.PaserkVersion.TheVariants.{V1, V2, V3, V4}
@@ -10,7 +9,7 @@ use Rattle.rusty_paseto_paserk.specs.Header.{HasNoHeader, header}
 use Rattle.rusty_paseto_paserk.specs.Text.{writing}
 use Rattle.paseto.specs.declared.error.ProgramError.{ProgramError}
 use Rattle.paseto.specs.Error.{IsOutside}
-use Rattle.paseto.specs.Id.{Identifies, IdentifiesNothing, IsIdOf, IsKeyOf, IsNoKeyOf}
+use Rattle.paseto.specs.Id.{IdentifiesNothing, IsIdOf, IsKeyOf, IsNoKeyOf}
 
 -- the version and the type that a line begins with, by one byte of each
 version_at : ℕ → PaserkVersion
