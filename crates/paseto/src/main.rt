@@ -3,47 +3,19 @@
 
 ghost use Rattle.std.specs.Prelude.{◌≡◌, drop};
 
-mod answers;
-mod arguments;
-mod check;
-mod claims;
-mod error;
-mod folder;
-mod footer;
-mod help;
-mod id;
-mod input;
-mod inspect;
-mod issue;
-mod keygen;
-mod local;
-mod output;
-mod public;
-mod ring;
-mod run;
-mod times;
-mod version;
-
-use arguments::{Action, Command, Kind, Options, Task};
-use check::Keys;
-use error::ProgramError;
-use folder::key_lines;
-use help::{VERSION, help_of};
-use input::read_key_line;
 use jiff::Timestamp;
-use keygen::keygen;
-use output::write_whole;
+use paseto_commands::keygen::keygen;
+use paseto_commands::run::{run, run_check, run_id, run_inspect, run_issue};
+use paseto_commands::{
+    Action, Command, Keys, Kind, Options, ProgramError, Task, VERSION, help_of, key_lines, opened,
+    read_key_line, write_whole,
+};
 use rand::rngs::SysRng;
-use run::{run, run_check, run_id, run_inspect, run_issue};
 use std::fs::File;
 use std::io::Read;
-use std::os::fd::AsRawFd;
 use std::os::unix::fs::{OpenOptionsExt, PermissionsExt};
 use std::process::ExitCode;
 use std::{env, io};
-
-/// The number of standard error, the last of the standard streams.
-const LAST_STREAM: i32 = 2;
 
 fn main(rt: HostRuntime) -> ExitCode {
     let status = match words(&rt) {
@@ -268,16 +240,6 @@ fn new_file(rt: &HostRuntime, path: &str, mode: u32) -> Result<File, ProgramErro
         .mode(mode)
         .open(rt, path);
     opened(file)
-}
-
-/// A file, or why there is none. One that was given the number of a closed standard stream is refused, since it would
-/// be read or written as that stream.
-pub fn opened(file: io::Result<File>) -> Result<File, ProgramError> {
-    match file {
-        Ok(file) if file.as_raw_fd() <= LAST_STREAM => Err(ProgramError::InputOrOutput),
-        Ok(file) => Ok(file),
-        Err(source) => Err(ProgramError::of_file(&source)),
-    }
 }
 
 /// The words after the program's name.

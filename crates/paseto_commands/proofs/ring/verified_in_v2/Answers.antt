@@ -1,0 +1,14 @@
+use Rattle.paseto_ed25519.specs.Ed25519.{Ed25519Verifies, IsRefused}
+use Rattle.rusty_paseto_core.specs.Public.{v2_public}
+use Rattle.rusty_paseto.specs.Held.{keys_of}
+use Rattle.rusty_paseto_paserk.specs.declared.header.PaserkVersion.TheVariants.{V2}
+use Rattle.rusty_paseto_paserk.specs.declared.header.PaserkType.TheVariants.{Public}
+use Rattle.paseto_commands.proofs.Parsed.{verifies_by_ring}
+use Rattle.paseto_commands.proofs.ring.verified_in_v2.Goals as goal
+
+pub returns : goal.returns
+returns c =
+    let made = c.in_ok-parser.ensures in
+    verifies_by_ring V2 Public _ c.args.demands.now c.args.timed c.args.token.now (keys_of c.in_ok-ring.ring) _ c.in_ok-parser.parser.parser.footer
+    Ed25519Verifies IsRefused v2_public _ c.found.result c.parse.result
+    (c.in_ok-keys.keys.items, c.in_ok-keys.ensures, rw c.deref.ensures.value at c.in_ok-ring.ensures) made.rules made.footer made.assertion c.found.ensures c.parse.ensures.parsed

@@ -1,0 +1,115 @@
+//! Claims by name, as words say them.
+
+ghost use Rattle.std.specs.Prelude.{◌≡◌, ◌≢◌, ◌++◌, ℕ, List, IfOk, MatchOption, Some, codes, string_bytes};
+ghost use Rattle.serde_json.specs.View.{view};
+ghost use Rattle.serde_json.specs.Read.{read};
+ghost use Rattle.rusty_paseto_claims.specs.Claim.{gives, one_member};
+ghost use Rattle.paseto_commands.specs.Arguments.{claim_words, words_of};
+ghost use Rattle.paseto_commands.specs.Claims.{AreClaims, IsClaimOf};
+
+use crate::arguments::{is_flag, is_name};
+use crate::error::ProgramError;
+use rusty_paseto::prelude::{PasetoClaim, PasetoClaimError};
+use serde_json::{Map, Value};
+use std::alloc::{AllocError, Global};
+
+/// A claim under a name, which may be any but that of a time.
+#[derive(Drop)]
+pub struct NamedClaim {
+    name: String,
+    value: Value,
+}
+
+impl PasetoClaim for NamedClaim {
+    ghost key = { λ claim. string_bytes claim.name };
+
+    ghost json = { λ claim. gives (one_member (string_bytes claim.name) (view claim.value)) };
+
+    fn get_key(&self) -> &str {
+        self.name.as_str()
+    }
+
+    fn to_json(&self, alloc: Global) -> Result<Value, PasetoClaimError> {
+        let mut members = Map::new(alloc);
+        let value = self.value.clone()?;
+        serde_json::put(&mut members, alloc, self.name.as_str(), value)?;
+        Ok(Value::Object(members))
+    }
+}
+
+impl NamedClaim {
+    /// The claim of a word `NAME=TEXT` or `NAME:=JSON`.
+    fn parse(alloc: Global, word: &str) -> Result<NamedClaim, ProgramError>
+        ensures { IfOk result (λ claim. IsClaimOf word.now claim) }
+    {
+        let Some((front, text)) = word.split_once('=') else {
+            return Err(ProgramError::Claim);
+        };
+        match without_colon(front) {
+            Some(name) => NamedClaim::of(alloc, name, json_of(alloc, text)?),
+            None => NamedClaim::of(alloc, front, Value::try_from_str(alloc, text)?),
+        }
+    }
+
+    fn of(alloc: Global, name: &str, value: Value) -> Result<NamedClaim, ProgramError>
+        ensures { IfOk result (λ claim. (string_bytes claim.name ≡ name.now)
+            × (view claim.value ≡ view value)) }
+    {
+        if name.is_empty() {
+            return Err(ProgramError::Claim);
+        }
+        if is_time(name) {
+            return Err(ProgramError::TimeClaim);
+        }
+        let name = String::from_str(alloc, name)?;
+        Ok(NamedClaim { name, value })
+    }
+}
+
+/// What stands in front of a colon at the end of a text, where there is one.
+fn without_colon(text: &str) -> Option<&str>
+    ensures { MatchOption result ((other : List ℕ) → text.now ≢ other ++ codes ":")
+        (λ name. text.now ≡ name.now ++ codes ":") }
+{
+    text.strip_suffix(":")
+}
+
+/// The value that a text is as JSON.
+fn json_of(alloc: Global, text: &str) -> Result<Value, ProgramError>
+    ensures { IfOk result (λ value. read text.now ≡ Some (view value)) }
+{
+    match Value::from_str(alloc, text) {
+        Ok(value) => Ok(value),
+        Err(source) if source.is_memory() => Err(ProgramError::Memory(AllocError)),
+        Err(_) => Err(ProgramError::Claim),
+    }
+}
+
+/// Whether the name is that of a claim that is a time.
+fn is_time(name: &str) -> bool {
+    matches!(name, "exp" | "nbf" | "iat")
+}
+
+/// The claims that words say by `--claim`, in their order. The words are those of a command.
+#[tactic(auto, using(crate::proofs::Readings::claims_cons))]
+pub fn claims_of(alloc: Global, words: &[String]) -> Result<Vec<NamedClaim>, ProgramError>
+    ensures { IfOk result (λ claims. AreClaims (claim_words (words_of words.now)) claims.items) }
+{
+    let [word, rest @ ..] = words else {
+        return Ok(Vec::new(alloc));
+    };
+    if word.as_str() == "--" {
+        return Ok(Vec::new(alloc));
+    }
+    if !is_name(word) || is_flag(word) {
+        return claims_of(alloc, rest);
+    }
+    let [value, rest @ ..] = rest else {
+        return Ok(Vec::new(alloc));
+    };
+    let mut claims = claims_of(alloc, rest)?;
+    if word.as_str() == "--claim" {
+        claims.insert(0, NamedClaim::parse(alloc, value)?)?;
+    }
+    Ok(claims)
+}

@@ -1,0 +1,28 @@
+//! Writing the whole output.
+
+ghost use Rattle.std.specs.Prelude.{◌≡◌, ℕ, List, IfErr, OnErr, OnOk};
+ghost use Rattle.std.specs.Io.KnownBytes.{Appends};
+ghost use Rattle.paseto_commands.specs.Output.{IsCutShort};
+
+use crate::error::ProgramError;
+use std::io::Write;
+
+/// Writes all the bytes. A write that fails or takes none is `InputOrOutput`, and the writer then
+/// has a beginning of them, and not all.
+pub fn write_whole<W: Write>(output: &mut W, bytes: &[u8]) -> Result<(), ProgramError>
+    ensures whole { OnOk result (Appends (W.contents output.old)
+        (W.contents output.new) bytes.now) }
+    ensures beginning { OnErr result ((written : List ℕ) × IsCutShort bytes.now written
+        × Appends (W.contents output.old) (W.contents output.new) written) }
+    ensures failed { IfErr result (λ error. error ≡ ProgramError.InputOrOutput) }
+{
+    let mut rest = bytes;
+    'writes: while !rest.is_empty() {
+        let count = output.write(rest)?;
+        if count == 0 {
+            return Err(ProgramError::InputOrOutput);
+        }
+        rest = &rest[count..];
+    }
+    Ok(())
+}

@@ -1,0 +1,120 @@
+//! Moments and lengths of time, as words say them.
+
+ghost use Rattle.std.specs.Prelude.{◌≡◌, ◌≢◌, ◌<◌, ◌^◌, ◌*◌, ◌++◌, ◌+ℤ◌, ℕ, List, pos, IfOk, IfSome, MatchOption, codes, string_bytes};
+ghost use Rattle.std.specs.Str.Parse.{IsNumeral, digits_value, without_leading_plus};
+ghost use Rattle.jiff.specs.Names.{iso_datetime_text};
+ghost use Rattle.jiff.specs.Words.{civil_nanos};
+ghost use Rattle.paseto_commands.specs.Times.{IsLength, IsMomentText, SaysMoment};
+
+use jiff::Timestamp;
+use jiff::civil::DateTime;
+use jiff::tz::Offset;
+use std::alloc::{AllocError, Global};
+
+/// The nanoseconds of a second.
+const SECOND: i128 = 1_000_000_000;
+
+/// The moment that a word says: a moment of RFC 3339, or a length of time after the present one.
+pub fn moment_of(word: &str, now: Timestamp) -> Option<Timestamp>
+    ensures { IfSome result (λ moment. SaysMoment word.now now moment) }
+{
+    match word.parse::<Timestamp>() {
+        Ok(moment) => Some(moment),
+        Err(_) => moment_after(seconds_of(word)?, now),
+    }
+}
+
+/// The moment so many seconds later.
+fn moment_after(seconds: u64, now: Timestamp) -> Option<Timestamp>
+    ensures { IfSome result (λ moment. moment.nanosecond
+        ≡ now.nanosecond +ℤ pos (seconds * 1_000_000_000)) }
+{
+    match Timestamp::from_nanosecond(now.as_nanosecond() + seconds as i128 * SECOND) {
+        Ok(moment) => Some(moment),
+        Err(_) => None,
+    }
+}
+
+/// How many seconds a word says: a number and `s`, `m`, `h` or `d`.
+fn seconds_of(word: &str) -> Option<u64>
+    ensures { IfSome result (λ seconds. IsLength word.now seconds) }
+{
+    if let Some(number) = before(word, "s") {
+        Some(1 * number_of(number)?)
+    } else if let Some(number) = before(word, "m") {
+        Some(60 * number_of(number)?)
+    } else if let Some(number) = before(word, "h") {
+        Some(3_600 * number_of(number)?)
+    } else if let Some(number) = before(word, "d") {
+        Some(86_400 * number_of(number)?)
+    } else {
+        None
+    }
+}
+
+/// What stands in front of the end of a text, where it ends so.
+fn before<'a>(text: &'a str, end: &str) -> Option<&'a str>
+    ensures { MatchOption result ((front : List ℕ) → text.now ≢ front ++ end.now)
+        (λ front. text.now ≡ front.now ++ end.now) }
+{
+    text.strip_suffix(end)
+}
+
+/// The number that a word is.
+fn number_of(word: &str) -> Option<u64>
+    ensures small { IfSome result (λ number. number < 2 ^ 32) }
+    ensures numeral { IfSome result (λ number. IsNumeral 10 (without_leading_plus word.now)) }
+    ensures value { IfSome result (λ number. number
+        ≡ digits_value 10 (without_leading_plus word.now)) }
+{
+    match word.parse::<u32>() {
+        Ok(number) => Some(number as u64),
+        Err(_) => None,
+    }
+}
+
+/// The text of a moment, in UTC.
+pub fn text_of(alloc: Global, moment: Timestamp) -> Result<String, AllocError>
+    ensures { IfOk result (λ text. IsMomentText moment (string_bytes text)) }
+{
+    text_in_utc(alloc, civil_of(moment))
+}
+
+/// The text of a date and time in UTC.
+fn text_in_utc(alloc: Global, civil: DateTime) -> Result<String, AllocError>
+    ensures { IfOk result (λ text. string_bytes text ≡ iso_datetime_text civil ++ codes "Z") }
+{
+    let mut text = format!(in alloc; "{civil}")?;
+    text.push('Z')?;
+    Ok(text)
+}
+
+/// The date and time of a moment in UTC.
+fn civil_of(moment: Timestamp) -> DateTime
+    ensures { civil_nanos result ≡ moment.nanosecond }
+{
+    Offset::UTC.to_datetime(moment)
+}
+
+/// How long it is from one moment to another, in words: `3 minutes`. It is rounded down.
+pub fn between(alloc: Global, one: Timestamp, other: Timestamp) -> Result<String, AllocError> {
+    let seconds = (other.as_second() - one.as_second()).unsigned_abs();
+    if seconds < 120 {
+        count_of(alloc, seconds, "second")
+    } else if seconds < 7_200 {
+        count_of(alloc, seconds / 60, "minute")
+    } else if seconds < 172_800 {
+        count_of(alloc, seconds / 3_600, "hour")
+    } else {
+        count_of(alloc, seconds / 86_400, "day")
+    }
+}
+
+/// A number and what it counts.
+fn count_of(alloc: Global, count: u64, unit: &str) -> Result<String, AllocError> {
+    if count == 1 {
+        format!(in alloc; "{count} {unit}")
+    } else {
+        format!(in alloc; "{count} {unit}s")
+    }
+}
