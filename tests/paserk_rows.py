@@ -1,5 +1,5 @@
 #!/usr/bin/env python3
-"""Prints the rows of crates/rusty_paseto_paserk/src/tests/rows.rt: a key's version, type and bytes, its text, and its id.
+"""Prints the rows of crates/paseto_vectors/src/paserk/rows.rt: a key's version, type and bytes, its text, and its id.
 
 The texts and the ids are made by Python's base64 and hashlib, as the PASERK specification says them.
 """
@@ -45,8 +45,8 @@ for version, length in PUBLIC.items():
 
 print("//! What an independent implementation made of keys: `tests/paserk_rows.py` prints this file.\n")
 print("/// A row: the version, the type, the key's bytes in hexadecimal digits, its text, and its id.")
-print("pub type Row = (u8, &'static str, &'static str, &'static str, &'static str);\n")
-print(f"pub const ROWS: [Row; {len(rows)}] = [")
+print("pub(super) type Row = (u8, &'static str, &'static str, &'static str, &'static str);\n")
+print("pub(super) const ROWS: &[Row] = &[")
 for version, kind, key, text, name in rows:
     print(f'    (\n        {version},\n        "{kind}",\n        "{key}",\n        "{text}",\n        "{name}",\n    ),')
 print("];")

@@ -9,6 +9,3 @@ mod point;
 mod scalar;
 
 pub use ed25519::Ed25519;
-
-#[cfg(test)]
-mod tests;

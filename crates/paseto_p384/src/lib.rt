@@ -11,6 +11,3 @@ mod point;
 mod scalar;
 
 pub use p384::P384;
-
-#[cfg(test)]
-mod tests;

@@ -14,6 +14,3 @@ mod verifying;
 
 pub use public_key::PublicKey;
 pub use rsa_pss::RsaPss;
-
-#[cfg(test)]
-mod tests;

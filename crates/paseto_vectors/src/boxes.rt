@@ -1,52 +1,12 @@
-//! The toy box by itself.
+//! Sealed boxes: XChaCha20-Poly1305, against values of standards and of another implementation, and the toy by itself.
 
-use crate::expect::{expect_same, expect_that};
-use crate::long::text_of;
-use paseto_toys::ToyBox;
-use rusty_paseto_core::SealedBox;
-use std::alloc::{AllocError, Global};
-use std::process::Abort;
+mod cuts;
+mod refusals;
+mod sealings;
+mod tags;
+mod toys;
 
-const KEY: [u8; 32] = [7; 32];
+// The key and the nonce of the draft.
+const KEY: &str = "808182838485868788898a8b8c8d8e8f909192939495969798999a9b9c9d9e9f";
 
-const NONCE: [u8; 24] = [7; 24];
-
-// Whether the toy box opens these bytes.
-fn opens(rt: &impl Abort, alloc: Global, data: &[u8], boxed: &[u8]) -> bool {
-    ToyBox
-        .open(alloc, &KEY, &NONCE, data, boxed)
-        .expect(rt, "memory")
-        .is_some()
-}
-
-#[test]
-fn a_toy_box_opens_its_own(rt: HostRuntime) {
-    let alloc = rt.alloc();
-    let found = ToyBox
-        .seal(alloc, &KEY, &NONCE, b"data", b"hello")
-        .expect(&rt, "memory");
-    let mut boxed = found.expect(&rt, "a sealing");
-    expect_same(&rt, &boxed.len(), &21, "the answer");
-    expect_that(&rt, boxed.as_slice().starts_with(b"hello"), "the answer");
-    let found = ToyBox
-        .open(alloc, &KEY, &NONCE, b"data", &boxed)
-        .expect(&rt, "memory");
-    let message = found.expect(&rt, "a message");
-    expect_same(&rt, message.as_slice(), b"hello".as_slice(), "the answer");
-    expect_that(&rt, !opens(&rt, alloc, b"dato", &boxed), "the answer");
-    if let Some(last) = boxed.last_mut() {
-        *last ^= 1;
-    }
-    expect_that(&rt, !opens(&rt, alloc, b"data", &boxed), "the answer");
-}
-
-#[test]
-fn a_toy_box_opens_no_other_lengths(rt: HostRuntime) {
-    expect_that(&rt, !opens(&rt, rt.alloc(), b"", &[0; 15]), "the answer");
-    let long = text_of(rt.alloc(), 4_113).expect(&rt, "memory");
-    expect_that(
-        &rt,
-        !opens(&rt, rt.alloc(), b"", long.as_bytes()),
-        "the answer",
-    );
-}
+const NONCE: &str = "404142434445464748494a4b4c4d4e4f5051525354555657";

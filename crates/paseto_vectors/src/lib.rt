@@ -1,7 +1,8 @@
 //! Known answers: published vectors and worked examples, and the calls that have to give them. They
 //! test what no proof can see: that the definitions are the standards', and that calls succeed.
 //!
-//! What a caller brings to tokens, as a sealed box or a signature scheme, are the toys of `paseto_toys`.
+//! What a caller brings to tokens, as a sealed box or a signature scheme, are the toys of `paseto_toys`. The box and the
+//! schemes of the versions have tests of their own, in `boxes` and in `schemes`.
 #![tactic(auto)]
 
 #[cfg(test)]
@@ -10,6 +11,8 @@ mod boxes;
 mod builders;
 #[cfg(test)]
 mod claims;
+#[cfg(test)]
+mod counted;
 #[cfg(test)]
 mod defaults;
 #[cfg(test)]
@@ -27,7 +30,11 @@ mod kinds;
 #[cfg(test)]
 mod long;
 #[cfg(test)]
+mod montgomery;
+#[cfg(test)]
 mod parsers;
+#[cfg(test)]
+mod paserk;
 #[cfg(test)]
 mod primitives;
 #[cfg(test)]

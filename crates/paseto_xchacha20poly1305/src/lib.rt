@@ -24,8 +24,6 @@ mod hasher;
 mod limbs;
 mod sealing;
 mod tag;
-#[cfg(test)]
-mod tests;
 
 pub use hasher::Poly1305Hasher;
 pub use sealing::XChaCha20Poly1305;

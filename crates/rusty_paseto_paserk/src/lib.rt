@@ -24,8 +24,6 @@ mod error;
 mod header;
 mod id;
 mod keys;
-#[cfg(test)]
-mod tests;
 mod text;
 mod versions;
 

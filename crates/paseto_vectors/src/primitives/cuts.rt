@@ -1,7 +1,7 @@
 //! A message that a hasher is given in two pieces has the authentication code of the whole, at each place where
 //! it can be cut. The lengths are those at the edges of a block and of what a last block holds.
 
-use super::counted_bytes;
+use crate::counted::counted_bytes;
 use crate::expect::expect_bytes;
 use rusty_paseto_primitives::{HmacSha384, hmac_sha384};
 use std::process::Abort;
@@ -50,7 +50,7 @@ const LENGTHS: &[(usize, usize)] = &[
 
 #[test]
 fn hmac_at_each_cut(rt: HostRuntime) {
-    let bytes = counted_bytes();
+    let bytes: [u8; 257] = counted_bytes();
     'lengths: for &(key, message) in LENGTHS {
         let key = bytes.get(..key).expect(&rt, "a key");
         check_cuts(&rt, key, bytes.get(..message).expect(&rt, "a message"));

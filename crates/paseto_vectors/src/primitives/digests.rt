@@ -1,6 +1,6 @@
 //! BLAKE2b (RFC 7693).
 
-use super::counted_bytes;
+use crate::counted::counted_bytes;
 use crate::expect::{expect_bytes, expect_digits};
 use rusty_paseto_primitives::{Blake2b, blake2b_keyed, blake2b_keyed_pair};
 use std::process::Abort;
@@ -131,7 +131,7 @@ const CUT: &[(usize, usize)] = &[
 
 #[test]
 fn cut_at_each_place(rt: HostRuntime) {
-    let bytes = counted_bytes();
+    let bytes: [u8; 257] = counted_bytes();
     'lengths: for &(key, message) in CUT {
         let key = bytes.get(..key).expect(&rt, "a key");
         check_cuts(&rt, key, bytes.get(..message).expect(&rt, "a message"));

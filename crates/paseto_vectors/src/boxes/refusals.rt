@@ -1,12 +1,15 @@
 //! What the box does not open.
 
-use super::{KEY, NONCE, array_of, counted_bytes};
-use crate::XChaCha20Poly1305;
+use super::{KEY, NONCE};
+use crate::counted::counted_bytes;
+use crate::expect::{expect_same, expect_that};
+use crate::hexadecimal::array_of;
+use paseto_xchacha20poly1305::XChaCha20Poly1305;
 use rusty_paseto_core::SealedBox;
 use std::alloc::Global;
 use std::process::Abort;
 
-const DATA: &[u8; 5] = b"bound";
+const DATA: &[u8] = b"bound";
 
 const OTHER_NONCE: &str = "404142434445464748494a4b4c4d4e4f5051525354555658";
 
@@ -31,25 +34,31 @@ fn opens(rt: &impl Abort, alloc: Global, nonce: &str, data: &[u8], boxed: &[u8])
         .is_some()
 }
 
+// A nonce and data, and whether the box opens under them what it sealed.
+const OPENINGS: &[(&str, &[u8], bool)] = &[
+    (NONCE, DATA, true),
+    (OTHER_NONCE, DATA, false),
+    (NONCE, b"bounds", false),
+    (NONCE, b"", false),
+];
+
 #[test]
 fn another_nonce_and_other_data(rt: HostRuntime) {
     let alloc = rt.alloc();
     let boxed = boxed_bytes(&rt, alloc);
-    assert!(rt; opens(&rt, alloc, NONCE, DATA, &boxed));
-    assert!(rt; !opens(&rt, alloc, OTHER_NONCE, DATA, &boxed));
-    assert!(rt; !opens(&rt, alloc, NONCE, b"bounds", &boxed));
-    assert!(rt; !opens(&rt, alloc, NONCE, b"", &boxed));
+    'rows: for &(nonce, data, is_opened) in OPENINGS {
+        let found = opens(&rt, alloc, nonce, data, &boxed);
+        expect_same(&rt, found, is_opened, &(nonce, data));
+    }
 }
 
 #[test]
 fn fewer_than_sixteen_bytes(rt: HostRuntime) {
-    let bytes = counted_bytes();
+    let bytes: [u8; 15] = counted_bytes();
     'lengths: for length in 0..16usize {
         let boxed = bytes.get(..length).expect(&rt, "bytes");
-        assert!(rt;
-            !opens(&rt, rt.alloc(), NONCE, DATA, boxed),
-            "{length} bytes"
-        );
+        let is_opened = opens(&rt, rt.alloc(), NONCE, DATA, boxed);
+        expect_that(&rt, !is_opened, &length);
     }
 }
 
@@ -60,9 +69,7 @@ fn a_changed_byte(rt: HostRuntime) {
         let mut boxed = boxed_bytes(&rt, rt.alloc());
         let byte = boxed.get_mut(place).expect(&rt, "a byte");
         *byte ^= 1;
-        assert!(rt;
-            !opens(&rt, rt.alloc(), NONCE, DATA, &boxed),
-            "the byte {place}"
-        );
+        let is_opened = opens(&rt, rt.alloc(), NONCE, DATA, &boxed);
+        expect_that(&rt, !is_opened, &place);
     }
 }

@@ -1,12 +1,13 @@
 //! Values of RFC 6979, appendix A.2.6, published tokens, and what is to be refused.
 
-use super::P384;
-use rand_core::{Infallible, TryRng};
+use super::Repeated;
+use crate::expect::{expect_digits, expect_text, expect_that};
+use crate::hexadecimal::array_of;
+use paseto_p384::P384;
 use rusty_paseto_core::{
-    CompressedKey, Footer, Paseto, PasetoAsymmetricPublicKey, PasetoError, Public, SignatureScheme,
-    V3,
+    CompressedKey, Footer, Key, Paseto, PasetoAsymmetricPublicKey, PasetoError, Public,
+    SignatureScheme, V3,
 };
-use rusty_paseto_parts::Key;
 use std::alloc::Global;
 use std::process::Abort;
 
@@ -40,46 +41,35 @@ const SEVENS: &str = concat!(
     "615da9d1bfd101e8d191e85902c0a34eaa3a16e666880b73",
 );
 
-// The bytes that digits spell.
-fn bytes<const N: usize>(rt: &impl Abort, digits: &str) -> [u8; N] {
-    *Key::<N>::try_from(digits)
-        .expect(rt, "hexadecimal digits")
-        .as_bytes()
-}
-
 // The public key of a private key.
 fn public_of(rt: &impl Abort, alloc: Global, private: &str) -> [u8; 49] {
-    P384.public_key(alloc, &bytes::<48>(rt, private))
+    P384.public_key(alloc, &array_of::<48>(rt, private))
         .expect(rt, "a public key")
 }
 
 // The signature of a message under the private key of RFC 6979.
 fn signature_of(rt: &impl Abort, alloc: Global, message: &[u8]) -> [u8; 96] {
-    P384.sign(alloc, &bytes::<48>(rt, PRIVATE), message)
+    P384.sign(alloc, &array_of::<48>(rt, PRIVATE), message)
         .expect(rt, "a signature")
 }
 
 #[test]
 fn public_keys(rt: HostRuntime) {
-    assert_eq!(rt;
-        public_of(&rt, rt.alloc(), PRIVATE),
-        bytes::<49>(&rt, PUBLIC)
-    );
+    let public = public_of(&rt, rt.alloc(), PRIVATE);
+    expect_digits(&rt, rt.alloc(), &public, PUBLIC);
     // The private key of the published tokens.
     let private = concat!(
         "20347609607477aca8fbfbc5e6218455f3199669792ef8b4",
         "66faa87bdc67798144c848dd03661eed5ac62461340cea96",
     );
-    assert_eq!(rt;
-        public_of(&rt, rt.alloc(), private),
-        bytes::<49>(&rt, TOKENS_PUBLIC)
-    );
+    let public = public_of(&rt, rt.alloc(), private);
+    expect_digits(&rt, rt.alloc(), &public, TOKENS_PUBLIC);
 }
 
 #[test]
 fn sample(rt: HostRuntime) {
     let made = signature_of(&rt, rt.alloc(), b"sample");
-    assert_eq!(rt; made, bytes::<96>(&rt, SAMPLE));
+    expect_digits(&rt, rt.alloc(), &made, SAMPLE);
 }
 
 #[test]
@@ -88,10 +78,8 @@ fn test(rt: HostRuntime) {
         "8203b63d3c853e8d77227fb377bcf7b7b772e97892a80f36ab775d509d7a5feb0542a7f0812998da8f1dd3ca3cf023db",
         "ddd0760448d42d8a43af45af836fce4de8be06b485e9b61b827c2f13173923e06a739f040649a667bf3b828246baa5a5",
     );
-    assert_eq!(rt;
-        signature_of(&rt, rt.alloc(), b"test"),
-        bytes::<96>(&rt, expected)
-    );
+    let made = signature_of(&rt, rt.alloc(), b"test");
+    expect_digits(&rt, rt.alloc(), &made, expected);
 }
 
 // Opens a published token.
@@ -102,10 +90,8 @@ fn expect_token(rt: &impl Abort, alloc: Global, token: &str, footer: Option<Foot
         rt,
         "a valid token",
     );
-    assert_eq!(rt;
-        text.as_str(),
-        "{\"data\":\"this is a signed message\",\"exp\":\"2022-01-01T00:00:00+00:00\"}"
-    );
+    let wanted = "{\"data\":\"this is a signed message\",\"exp\":\"2022-01-01T00:00:00+00:00\"}";
+    expect_text(rt, text.as_str(), wanted);
 }
 
 #[test]
@@ -140,96 +126,78 @@ fn is_valid(rt: &impl Abort, alloc: Global, public: &[u8], signature: &[u8; 96])
 
 #[test]
 fn every_bit_of_a_signature_counts(rt: HostRuntime) {
-    let public = bytes::<49>(&rt, PUBLIC);
-    let signature = bytes::<96>(&rt, SAMPLE);
-    assert!(rt; is_valid(&rt, rt.alloc(), &public, &signature));
-    for i in 0..768usize {
+    let public: [u8; 49] = array_of(&rt, PUBLIC);
+    let signature: [u8; 96] = array_of(&rt, SAMPLE);
+    let alloc = rt.alloc();
+    expect_that(
+        &rt,
+        is_valid(&rt, alloc, &public, &signature),
+        "the signature",
+    );
+    'bits: for i in 0..768usize {
         let mut changed = signature;
         changed[i / 8] ^= 1 << (i % 8);
-        assert!(rt; !is_valid(&rt, rt.alloc(), &public, &changed));
+        expect_that(&rt, !is_valid(&rt, alloc, &public, &changed), &i);
     }
 }
 
 #[test]
 fn every_bit_of_a_public_key_counts(rt: HostRuntime) {
-    let public = bytes::<49>(&rt, PUBLIC);
-    let signature = bytes::<96>(&rt, SAMPLE);
-    for i in 0..392usize {
+    let public: [u8; 49] = array_of(&rt, PUBLIC);
+    let signature: [u8; 96] = array_of(&rt, SAMPLE);
+    'bits: for i in 0..392usize {
         let mut changed = public;
         changed[i / 8] ^= 1 << (i % 8);
-        assert!(rt; !is_valid(&rt, rt.alloc(), &changed, &signature));
+        expect_that(&rt, !is_valid(&rt, rt.alloc(), &changed, &signature), &i);
     }
 }
 
 // Expects that neither call takes a private key.
 fn expect_rejected(rt: &impl Abort, alloc: Global, private: &[u8]) {
-    match P384.sign(alloc, private, b"sample") {
-        Err(PasetoError::KeyRejected) => {}
-        _ => panic!(rt; "not refused by its name"),
-    }
-    match P384.public_key(alloc, private) {
-        Err(PasetoError::KeyRejected) => {}
-        _ => panic!(rt; "not refused by its name"),
-    }
+    let signed = P384.sign(alloc, private, b"sample");
+    let is_named = matches!(&signed, Err(PasetoError::KeyRejected));
+    expect_that(rt, is_named, private);
+    let told = P384.public_key(alloc, private);
+    let is_named = matches!(&told, Err(PasetoError::KeyRejected));
+    expect_that(rt, is_named, private);
 }
 
 #[test]
 fn no_private_keys(rt: HostRuntime) {
-    expect_rejected(&rt, rt.alloc(), &[0; 48]);
-    expect_rejected(&rt, rt.alloc(), &[255; 48]);
-    expect_rejected(&rt, rt.alloc(), &[1; 47]);
-    expect_rejected(&rt, rt.alloc(), &[1; 49]);
+    let alloc = rt.alloc();
+    expect_rejected(&rt, alloc, &[0; 48]);
+    expect_rejected(&rt, alloc, &[255; 48]);
+    expect_rejected(&rt, alloc, &[1; 47]);
+    expect_rejected(&rt, alloc, &[1; 49]);
     // n is none, and n - 1 is one.
-    let mut order = bytes::<48>(
+    let mut order: [u8; 48] = array_of(
         &rt,
         concat!(
             "ffffffffffffffffffffffffffffffffffffffffffffffff",
             "c7634d81f4372ddf581a0db248b0a77aecec196accc52973",
         ),
     );
-    expect_rejected(&rt, rt.alloc(), &order);
+    expect_rejected(&rt, alloc, &order);
     order[47] = 0x72;
-    assert!(rt; P384.public_key(rt.alloc(), &order).is_ok());
-}
-
-// A generator that gives one byte again and again.
-#[derive(Drop)]
-struct Repeated {
-    byte: u8,
-}
-
-impl TryRng for Repeated {
-    type Error = Infallible;
-
-    fn try_next_u32(&mut self) -> Result<u32, Infallible> {
-        Ok(7)
-    }
-
-    fn try_next_u64(&mut self) -> Result<u64, Infallible> {
-        Ok(7)
-    }
-
-    fn try_fill_bytes(&mut self, bytes: &mut [u8]) -> Result<(), Infallible> {
-        bytes.fill(self.byte);
-        Ok(())
-    }
+    let told = P384.public_key(alloc, &order);
+    expect_that(&rt, told.is_ok(), "n - 1");
 }
 
 #[test]
 fn key_pairs_sign(rt: HostRuntime) {
-    let mut sevens = Repeated { byte: 7 };
-    let (private, public) = P384::key_pair(&mut sevens).expect(&rt, "a pair of keys");
-    assert_eq!(rt; public.as_bytes(), &bytes::<49>(&rt, SEVENS));
+    let alloc = rt.alloc();
+    let (private, public) = P384::key_pair(&mut Repeated { byte: 7 }).expect(&rt, "a pair of keys");
+    expect_digits(&rt, alloc, public.as_bytes().as_slice(), SEVENS);
     let signature = P384
-        .sign(rt.alloc(), private.as_bytes(), b"sample")
+        .sign(alloc, private.as_bytes(), b"sample")
         .expect(&rt, "a signature");
-    assert!(rt; is_valid(&rt, rt.alloc(), public.as_bytes(), &signature));
+    let found = is_valid(&rt, alloc, public.as_bytes(), &signature);
+    expect_that(&rt, found, "the signature");
 }
 
 #[test]
 fn a_generator_that_gives_no_private_key(rt: HostRuntime) {
-    match P384::key_pair(&mut Repeated { byte: 0 }) {
-        Err(PasetoError::KeyRejected) => {}
-        _ => panic!(&rt; "not refused by its name"),
-    }
+    let answer = P384::key_pair(&mut Repeated { byte: 0 });
+    let is_named = matches!(&answer, Err(PasetoError::KeyRejected));
+    expect_that(&rt, is_named, "zeros");
 }

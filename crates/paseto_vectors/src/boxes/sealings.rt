@@ -1,7 +1,10 @@
 //! Sealings of the draft, of another implementation, and in a token.
 
-use super::{KEY, NONCE, array_of, counted_bytes};
-use crate::XChaCha20Poly1305;
+use super::{KEY, NONCE};
+use crate::counted::counted_bytes;
+use crate::expect::{expect_bytes, expect_same, expect_text};
+use crate::hexadecimal::{array_of, bytes_of};
+use paseto_xchacha20poly1305::XChaCha20Poly1305;
 use rusty_paseto_core::{
     Key, Local, Paseto, PasetoNonce, PasetoSymmetricKey, Payload, SealedBox, V2,
 };
@@ -35,7 +38,8 @@ fn sealing_of_the_draft(rt: HostRuntime) {
         b"Ladies and Gentlemen of the class of '99: If I could offer you only one tip for the future, \
 sunscreen would be it.";
     let data: [u8; 12] = array_of(&rt, "50515253c0c1c2c3c4c5c6c7");
-    let wanted = hex::decode(
+    let wanted = bytes_of(
+        &rt,
         rt.alloc(),
         concat!(
             "bd6d179d3e83d43b9576579493c0e939572a1700252bfaccbed2902c21396cbb",
@@ -44,14 +48,11 @@ sunscreen would be it.";
             "21f9664c97637da9768812f615c68b13b52e",
             "c0875924c1c7987947deafd8780acf49",
         ),
-    )
-    .expect(&rt, "digits");
-    let boxed = sealed(&rt, rt.alloc(), &data, message);
-    assert_eq!(rt; boxed.as_slice(), wanted.as_slice());
-    assert_eq!(rt;
-        opened(&rt, rt.alloc(), &data, &wanted).as_slice(),
-        message.as_slice()
     );
+    let boxed = sealed(&rt, rt.alloc(), &data, message);
+    expect_bytes(&rt, boxed.as_slice(), wanted.as_slice());
+    let found = opened(&rt, rt.alloc(), &data, &wanted);
+    expect_bytes(&rt, found.as_slice(), message.as_slice());
 }
 
 // Length of the message, length of the data and the tag, by libsodium: tests/box_rows.py prints these rows.
@@ -98,20 +99,22 @@ const ROWS: &[(usize, usize, &str)] = &[
     (1025, 17, "4cf535cba46e8da3f54279f4c559cca4"),
 ];
 
+// A message is sealed with the tag, and opened again.
+fn check(rt: &impl Abort, alloc: Global, message: &[u8], data: &[u8], tag: &str) {
+    let boxed = sealed(rt, alloc, data, message);
+    let found = boxed.get(message.len()..).expect(rt, "a tag");
+    let wanted: [u8; 16] = array_of(rt, tag);
+    expect_same(rt, found, wanted.as_slice(), &(message.len(), data.len()));
+    expect_bytes(rt, opened(rt, alloc, data, &boxed).as_slice(), message);
+}
+
 #[test]
 fn sealings_of_another_implementation(rt: HostRuntime) {
-    let bytes = counted_bytes();
+    let bytes: [u8; 1088] = counted_bytes();
     'rows: for &(message_length, data_length, tag) in ROWS {
         let message = bytes.get(..message_length).expect(&rt, "a message");
         let data = bytes.get(..data_length).expect(&rt, "data");
-        let boxed = sealed(&rt, rt.alloc(), data, message);
-        let found = boxed.get(message_length..).expect(&rt, "a tag");
-        assert_eq!(rt;
-            found,
-            array_of::<16>(&rt, tag).as_slice(),
-            "{message_length}, {data_length}"
-        );
-        assert_eq!(rt; opened(&rt, rt.alloc(), data, &boxed).as_slice(), message);
+        check(&rt, rt.alloc(), message, data, tag);
     }
 }
 
@@ -134,7 +137,7 @@ fn token_of_the_specification(rt: HostRuntime) {
         "v2.local.97TTOvgwIxNGvV80XKiGZg_kD3tsXM_-qB4dZGHOeN1cTkgQ4PnW8888l802W8d9AvEGnoNBY3BnqHORy8a5cC8aKpbA0En8",
         "XELw2yDk2f1sVODyfnDbi6rEGMY3pSfCbLWMM2oHJxvlEl2XbQ",
     );
-    assert_eq!(rt; token.as_str(), wanted);
+    expect_text(&rt, token.as_str(), wanted);
     let found = Paseto::<V2, Local>::try_decrypt(
         alloc,
         &XChaCha20Poly1305,
@@ -142,5 +145,5 @@ fn token_of_the_specification(rt: HostRuntime) {
         &key,
         None,
     ).expect(&rt, "a text");
-    assert_eq!(rt; found.as_str(), text);
+    expect_text(&rt, found.as_str(), text);
 }

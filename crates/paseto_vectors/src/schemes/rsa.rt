@@ -1,13 +1,13 @@
 //! A key and signatures of OpenSSL, a token, and what is to be refused.
 
-use super::{PublicKey, RsaPss};
-use rand_core::{Infallible, TryRng};
+use super::Repeated;
+use crate::expect::{expect_digits, expect_text, expect_that};
+use crate::hexadecimal::{array_of, bytes_of};
+use paseto_rsa::{PublicKey, RsaPss};
+use paseto_toys::generators::Failing;
 use rusty_paseto_core::{
     Footer, Paseto, PasetoAsymmetricPublicKey, PasetoError, Public, SignatureScheme, V1,
 };
-use std::alloc::Global;
-use std::fmt;
-use std::process::Abort;
 
 // A private key of OpenSSL in PKCS #8.
 const PRIVATE: &str = concat!(
@@ -77,60 +77,6 @@ const TOKEN: &str = concat!(
     "SBmb290ZXI",
 );
 
-// The bytes that digits spell.
-fn bytes(rt: &impl Abort, alloc: Global, digits: &str) -> Vec<u8> {
-    hex::decode(alloc, digits).expect(rt, "hexadecimal digits")
-}
-
-// The 256 bytes that digits spell.
-fn signature(rt: &impl Abort, alloc: Global, digits: &str) -> [u8; 256] {
-    let bytes = bytes(rt, alloc, digits);
-    *bytes.as_array::<256>().expect(rt, "256 bytes")
-}
-
-// A generator that gives one byte again and again.
-#[derive(Drop)]
-struct Repeated {
-    byte: u8,
-}
-
-impl TryRng for Repeated {
-    type Error = Infallible;
-
-    fn try_next_u32(&mut self) -> Result<u32, Infallible> {
-        Ok(7)
-    }
-
-    fn try_next_u64(&mut self) -> Result<u64, Infallible> {
-        Ok(7)
-    }
-
-    fn try_fill_bytes(&mut self, bytes: &mut [u8]) -> Result<(), Infallible> {
-        bytes.fill(self.byte);
-        Ok(())
-    }
-}
-
-// A generator that fails.
-#[derive(Drop)]
-struct Failing;
-
-impl TryRng for Failing {
-    type Error = fmt::Error;
-
-    fn try_next_u32(&mut self) -> Result<u32, fmt::Error> {
-        Err(fmt::Error)
-    }
-
-    fn try_next_u64(&mut self) -> Result<u64, fmt::Error> {
-        Err(fmt::Error)
-    }
-
-    fn try_fill_bytes(&mut self, _bytes: &mut [u8]) -> Result<(), fmt::Error> {
-        Err(fmt::Error)
-    }
-}
-
 // The scheme with salts of 7.
 fn sevens() -> RsaPss<Repeated> {
     RsaPss::new(Repeated { byte: 7 })
@@ -138,89 +84,80 @@ fn sevens() -> RsaPss<Repeated> {
 
 #[test]
 fn signs_with_the_salt_that_it_draws(rt: HostRuntime) {
-    let private = bytes(&rt, rt.alloc(), PRIVATE);
+    let private = bytes_of(&rt, rt.alloc(), PRIVATE);
     let made = sevens()
         .sign(rt.alloc(), &private, b"sample")
         .expect(&rt, "a signature");
-    assert_eq!(rt; made, signature(&rt, rt.alloc(), SIGNATURE));
+    expect_digits(&rt, rt.alloc(), &made, SIGNATURE);
 }
 
 #[test]
 fn verifies_signatures_of_openssl(rt: HostRuntime) {
-    let public = bytes(&rt, rt.alloc(), PUBLIC);
+    let public = bytes_of(&rt, rt.alloc(), PUBLIC);
     let key = PublicKey::from_der(&public).expect(&rt, "a public key");
-    let other = signature(&rt, rt.alloc(), OTHER);
-    assert!(rt; key.verify(b"sample", &other));
-    assert!(rt; !key.verify(b"Sample", &other));
-    assert!(rt;
-        sevens()
-            .verify(rt.alloc(), &public, b"sample", &other)
-            .is_ok()
-    );
+    let other: [u8; 256] = array_of(&rt, OTHER);
+    expect_that(&rt, key.verify(b"sample", &other), "the signature");
+    expect_that(&rt, !key.verify(b"Sample", &other), "another message");
+    sevens()
+        .verify(rt.alloc(), &public, b"sample", &other)
+        .expect(&rt, "a signature");
 }
 
 #[test]
 fn bits_of_a_signature_count(rt: HostRuntime) {
-    let public = bytes(&rt, rt.alloc(), PUBLIC);
+    let public = bytes_of(&rt, rt.alloc(), PUBLIC);
     let key = PublicKey::from_der(&public).expect(&rt, "a public key");
-    let other = signature(&rt, rt.alloc(), OTHER);
-    for i in 0..64usize {
+    let other: [u8; 256] = array_of(&rt, OTHER);
+    'bits: for i in 0..64usize {
         let mut changed = other;
         changed[4 * i] ^= 1 << (i % 8);
-        assert!(rt; !key.verify(b"sample", &changed));
+        expect_that(&rt, !key.verify(b"sample", &changed), &i);
     }
 }
 
+// Another message, and a private key, which is no public one.
 #[test]
 fn what_is_not_valid_is_refused_by_its_name(rt: HostRuntime) {
-    let public = bytes(&rt, rt.alloc(), PUBLIC);
-    let other = signature(&rt, rt.alloc(), OTHER);
-    match sevens().verify(rt.alloc(), &public, b"Sample", &other) {
-        Err(PasetoError::InvalidSignature) => {}
-        _ => panic!(&rt; "not refused by its name"),
-    }
-    // A private key is no public one.
-    let private = bytes(&rt, rt.alloc(), PRIVATE);
-    match sevens().verify(rt.alloc(), &private, b"sample", &other) {
-        Err(PasetoError::InvalidSignature) => {}
-        _ => panic!(&rt; "not refused by its name"),
+    let other: [u8; 256] = array_of(&rt, OTHER);
+    'rows: for &(key, message) in &[(PUBLIC, "Sample"), (PRIVATE, "sample")] {
+        let key = bytes_of(&rt, rt.alloc(), key);
+        let answer = sevens().verify(rt.alloc(), &key, message.as_bytes(), &other);
+        let is_named = matches!(&answer, Err(PasetoError::InvalidSignature));
+        expect_that(&rt, is_named, message);
     }
 }
 
 #[test]
 fn no_private_key(rt: HostRuntime) {
-    let public = bytes(&rt, rt.alloc(), PUBLIC);
-    match sevens().sign(rt.alloc(), &public, b"sample") {
-        Err(PasetoError::KeyRejected) => {}
-        _ => panic!(&rt; "not refused by its name"),
-    }
+    let public = bytes_of(&rt, rt.alloc(), PUBLIC);
+    let answer = sevens().sign(rt.alloc(), &public, b"sample");
+    let is_named = matches!(&answer, Err(PasetoError::KeyRejected));
+    expect_that(&rt, is_named, "a public key");
 }
 
 #[test]
 fn numbers_of_two_keys(rt: HostRuntime) {
-    let mut private = bytes(&rt, rt.alloc(), PRIVATE);
+    let mut private = bytes_of(&rt, rt.alloc(), PRIVATE);
     // The last byte is of the coefficient.
     if let Some(last) = private.last_mut() {
         *last ^= 1;
     }
-    match sevens().sign(rt.alloc(), &private, b"sample") {
-        Err(PasetoError::RsaCipher) => {}
-        _ => panic!(&rt; "not refused by its name"),
-    }
+    let answer = sevens().sign(rt.alloc(), &private, b"sample");
+    let is_named = matches!(&answer, Err(PasetoError::RsaCipher));
+    expect_that(&rt, is_named, "another coefficient");
 }
 
 #[test]
 fn a_generator_that_fails(rt: HostRuntime) {
-    let private = bytes(&rt, rt.alloc(), PRIVATE);
-    match RsaPss::new(Failing).sign(rt.alloc(), &private, b"sample") {
-        Err(PasetoError::Cipher) => {}
-        _ => panic!(&rt; "not refused by its name"),
-    }
+    let private = bytes_of(&rt, rt.alloc(), PRIVATE);
+    let answer = RsaPss::new(Failing { asked: 0 }).sign(rt.alloc(), &private, b"sample");
+    let is_named = matches!(&answer, Err(PasetoError::Cipher));
+    expect_that(&rt, is_named, "no salt");
 }
 
 #[test]
 fn opens_a_token_signed_by_openssl(rt: HostRuntime) {
-    let public = bytes(&rt, rt.alloc(), PUBLIC);
+    let public = bytes_of(&rt, rt.alloc(), PUBLIC);
     let key = PasetoAsymmetricPublicKey::<V1, Public>::from(public.as_slice());
     let text = Paseto::<V1, Public>::try_verify(
         rt.alloc(),
@@ -230,5 +167,9 @@ fn opens_a_token_signed_by_openssl(rt: HostRuntime) {
         Some(Footer::from("a footer")),
     )
     .expect(&rt, "a valid token");
-    assert_eq!(rt; text.as_str(), "{\"data\":\"this is a signed message\"}");
+    expect_text(
+        &rt,
+        text.as_str(),
+        "{\"data\":\"this is a signed message\"}",
+    );
 }

@@ -1,11 +1,11 @@
 //! The public tokens of the PASETO specification's test vectors.
 
-use super::bytes;
-use crate::Ed25519;
-use rusty_paseto_core::Paseto;
-use rusty_paseto_parts::{
-    Footer, ImplicitAssertion, Key, PasetoAsymmetricPrivateKey, PasetoAsymmetricPublicKey, Payload,
-    Public, V2, V4,
+use crate::expect::expect_text;
+use crate::hexadecimal::array_of;
+use paseto_ed25519::Ed25519;
+use rusty_paseto_core::{
+    Footer, ImplicitAssertion, Key, Paseto, PasetoAsymmetricPrivateKey, PasetoAsymmetricPublicKey,
+    Payload, Public, V2, V4,
 };
 use std::alloc::Global;
 use std::process::Abort;
@@ -28,10 +28,8 @@ const FOOTER: &str = "{\"kid\":\"zVhMiPBP9fRf2snEcT7gFTioeA9COcNy9DfgL1W60haN\"}
 
 // The text is signed to the token, and the token verifies as the text.
 fn expect_v2(rt: &impl Abort, alloc: Global, footer: Option<Footer<'_>>, token: &str) {
-    let (private, public) = (
-        Key::from(bytes::<64>(rt, PRIVATE)),
-        Key::from(bytes::<32>(rt, PUBLIC)),
-    );
+    let private = Key::<64>::from(array_of(rt, PRIVATE));
+    let public = Key::<32>::from(array_of(rt, PUBLIC));
     let mut paseto = Paseto::<V2, Public>::builder();
     paseto.set_payload(Payload::from(TEXT_2));
     if let Some(footer) = footer {
@@ -41,12 +39,12 @@ fn expect_v2(rt: &impl Abort, alloc: Global, footer: Option<Footer<'_>>, token: 
     let made = paseto
         .try_sign(alloc, &mut Ed25519, &key)
         .expect(rt, "a token");
-    assert_eq!(rt; made.as_str(), token);
+    expect_text(rt, made.as_str(), token);
     let key = PasetoAsymmetricPublicKey::<V2, Public>::from(&public);
     let text = Paseto::<V2, Public>::try_verify(alloc, &Ed25519, token, &key, footer).expect(
         rt, "a text",
     );
-    assert_eq!(rt; text.as_str(), TEXT_2);
+    expect_text(rt, text.as_str(), TEXT_2);
 }
 
 // The same in version 4.
@@ -57,10 +55,8 @@ fn expect_v4(
     assertion: &str,
     token: &str,
 ) {
-    let (private, public) = (
-        Key::from(bytes::<64>(rt, PRIVATE)),
-        Key::from(bytes::<32>(rt, PUBLIC)),
-    );
+    let private = Key::<64>::from(array_of(rt, PRIVATE));
+    let public = Key::<32>::from(array_of(rt, PUBLIC));
     let assertion = ImplicitAssertion::from(assertion);
     let mut paseto = Paseto::<V4, Public>::builder();
     paseto.set_payload(Payload::from(TEXT_4));
@@ -72,7 +68,7 @@ fn expect_v4(
     let made = paseto
         .try_sign(alloc, &mut Ed25519, &key)
         .expect(rt, "a token");
-    assert_eq!(rt; made.as_str(), token);
+    expect_text(rt, made.as_str(), token);
     let key = PasetoAsymmetricPublicKey::<V4, Public>::from(&public);
     let text = Paseto::<V4, Public>::try_verify(
         alloc,
@@ -82,7 +78,7 @@ fn expect_v4(
         footer,
         Some(assertion),
     ).expect(rt, "a text");
-    assert_eq!(rt; text.as_str(), TEXT_4);
+    expect_text(rt, text.as_str(), TEXT_4);
 }
 
 // 2-S-1.

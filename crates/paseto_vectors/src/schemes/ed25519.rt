@@ -2,10 +2,12 @@
 
 mod tokens;
 
-use super::Ed25519;
-use rand_core::{Infallible, TryRng};
-use rusty_paseto_core::SignatureScheme;
-use rusty_paseto_parts::{Key, PasetoError};
+use super::Repeated;
+use crate::counted::counted_bytes;
+use crate::expect::{expect_bytes, expect_digits, expect_same, expect_that};
+use crate::hexadecimal::{array_of, bytes_of};
+use paseto_ed25519::Ed25519;
+use rusty_paseto_core::{PasetoError, SignatureScheme};
 use std::alloc::Global;
 use std::process::Abort;
 
@@ -33,13 +35,6 @@ const NEUTRAL_SIGNATURE: &str = concat!(
     "0000000000000000000000000000000000000000000000000000000000000000",
 );
 
-// The bytes that digits spell.
-fn bytes<const N: usize>(rt: &impl Abort, digits: &str) -> [u8; N] {
-    *Key::<N>::try_from(digits)
-        .expect(rt, "hexadecimal digits")
-        .as_bytes()
-}
-
 // Whether a signature is valid; a refusal is by its name.
 fn is_valid(
     rt: &impl Abort,
@@ -48,7 +43,7 @@ fn is_valid(
     message: &[u8],
     signature: &str,
 ) -> bool {
-    match Ed25519.verify(alloc, public, message, &bytes::<64>(rt, signature)) {
+    match Ed25519.verify(alloc, public, message, &array_of(rt, signature)) {
         Ok(()) => true,
         Err(PasetoError::InvalidSignature) => false,
         Err(_) => panic!(rt; "refused by another name"),
@@ -57,88 +52,81 @@ fn is_valid(
 
 // The key pair of a seed signs as the vector says, and the signature is valid.
 fn expect_vector(rt: &impl Abort, alloc: Global, private: &str, message: &[u8], signature: &str) {
-    let private = bytes::<64>(rt, private);
+    let private: [u8; 64] = array_of(rt, private);
     let seed = *private.first_chunk::<32>().expect(rt, "a seed");
     let public = Ed25519::public_key(&seed);
-    assert_eq!(rt; &public[..], &private[32..]);
+    expect_bytes(rt, &public, &private[32..]);
     let made = Ed25519
         .sign(alloc, &private, message)
         .expect(rt, "a signature");
-    assert_eq!(rt; made, bytes::<64>(rt, signature));
-    assert!(rt; is_valid(rt, alloc, &public, message, signature));
+    let wanted: [u8; 64] = array_of(rt, signature);
+    expect_bytes(rt, &made, &wanted);
+    expect_that(
+        rt,
+        is_valid(rt, alloc, &public, message, signature),
+        signature,
+    );
 }
 
-#[test]
-fn empty_message(rt: HostRuntime) {
-    expect_vector(
-        &rt,
-        rt.alloc(),
+// A private key, a message in hexadecimal digits and its signature. The last message is SHA-512 of "abc".
+const VECTORS: &[(&str, &str, &str)] = &[
+    (
         concat!(
             "9d61b19deffd5a60ba844af492ec2cc44449c5697b326919703bac031cae7f60",
             "d75a980182b10ab7d54bfed3c964073a0ee172f3daa62325af021a68f707511a",
         ),
-        b"",
+        "",
         concat!(
             "e5564300c360ac729086e2cc806e828a84877f1eb8e5d974d873e06522490155",
             "5fb8821590a33bacc61e39701cf9b46bd25bf5f0595bbe24655141438e7a100b",
         ),
-    );
-}
-
-#[test]
-fn message_of_one_byte(rt: HostRuntime) {
-    expect_vector(
-        &rt,
-        rt.alloc(),
+    ),
+    (
         concat!(
             "4ccd089b28ff96da9db6c346ec114e0f5b8a319f35aba624da8cf6ed4fb8a6fb",
             "3d4017c3e843895a92b70aa74d1b7ebc9c982ccf2ec4968cc0cd55f12af4660c",
         ),
-        &[0x72],
+        "72",
         concat!(
             "92a009a9f0d4cab8720e820b5f642540a2b27b5416503f8fb3762223ebdb69da",
             "085ac1e43e15996e458f3613d0f11d8c387b2eaeb4302aeeb00d291612bb0c00",
         ),
-    );
-}
-
-#[test]
-fn message_of_two_bytes(rt: HostRuntime) {
-    expect_vector(&rt, rt.alloc(), PRIVATE, MESSAGE, SIGNATURE);
-}
-
-#[test]
-fn message_of_a_digest(rt: HostRuntime) {
-    // SHA-512 of "abc".
-    let message = bytes::<64>(
-        &rt,
-        concat!(
-            "ddaf35a193617abacc417349ae20413112e6fa4e89a97ea20a9eeee64b55d39a",
-            "2192992a274fc1a836ba3c23a3feebbd454d4423643ce80e2a9ac94fa54ca49f",
-        ),
-    );
-    expect_vector(
-        &rt,
-        rt.alloc(),
+    ),
+    (PRIVATE, "af82", SIGNATURE),
+    (
         concat!(
             "833fe62409237b9d62ec77587520911e9a759cec1d19755b7da901b96dca3d42",
             "ec172b93ad5e563bf4932c70e1245034c35467ef2efd4d64ebf819683467e2bf",
         ),
-        &message,
+        concat!(
+            "ddaf35a193617abacc417349ae20413112e6fa4e89a97ea20a9eeee64b55d39a",
+            "2192992a274fc1a836ba3c23a3feebbd454d4423643ce80e2a9ac94fa54ca49f",
+        ),
         concat!(
             "dc2a4459e7369633a52b1bf277839a00201009a3efbf3ecb69bea2186c26b589",
             "09351fc9ac90b3ecfdfbc7c66431e0303dca179c138ac17ad9bef1177331a704",
         ),
-    );
+    ),
+];
+
+#[test]
+fn vectors_of_the_standard(rt: HostRuntime) {
+    let alloc = rt.alloc();
+    'rows: for &(private, message, signature) in VECTORS {
+        expect_vector(
+            &rt,
+            alloc,
+            private,
+            &bytes_of(&rt, alloc, message),
+            signature,
+        );
+    }
 }
 
 // The message of 1,023 bytes, which count to 250 and begin anew, was signed by OpenSSL.
 #[test]
 fn message_of_many_blocks(rt: HostRuntime) {
-    let mut message = [0u8; 1023];
-    for (i, byte) in message.iter_mut().enumerate() {
-        *byte = (i % 251) as u8;
-    }
+    let message: [u8; 1023] = counted_bytes();
     expect_vector(
         &rt,
         rt.alloc(),
@@ -151,38 +139,66 @@ fn message_of_many_blocks(rt: HostRuntime) {
     );
 }
 
+// A public key in hexadecimal digits, a message, a signature and whether it is valid.
+type Row = (&'static str, &'static [u8], &'static str, bool);
+
+fn expect_rows(rt: &impl Abort, alloc: Global, rows: &[Row]) {
+    'rows: for &(public, message, signature, wanted) in rows {
+        let public = bytes_of(rt, alloc, public);
+        let found = is_valid(rt, alloc, &public, message, signature);
+        expect_same(rt, found, wanted, signature);
+    }
+}
+
 // S and the order: the same multiple of the base point, which would be a second signature.
 #[test]
 fn s_above_the_order_is_refused(rt: HostRuntime) {
-    let public = bytes::<32>(&rt, PUBLIC);
     let signature = concat!(
         "6291d657deec24024827e69c3abe01a30ce548a284743a445e3680d7db5ac3ac",
         "05d391b0a77904e98404ef037747a56e4a7c15e9716ed28dc027beceea1ec41a",
     );
-    assert!(rt; !is_valid(&rt, rt.alloc(), &public, MESSAGE, signature));
     let order = concat!(
         "0100000000000000000000000000000000000000000000000000000000000000",
         "edd3f55c1a631258d69cf7a2def9de1400000000000000000000000000000010",
     );
-    assert!(rt; !is_valid(&rt, rt.alloc(), &bytes::<32>(&rt, NEUTRAL), MESSAGE, order));
+    expect_rows(
+        &rt,
+        rt.alloc(),
+        &[
+            (PUBLIC, MESSAGE, signature, false),
+            (NEUTRAL, MESSAGE, order, false),
+        ],
+    );
 }
 
 // A signature of the neutral point is valid under the neutral point, which has no multiple but itself; OpenSSL
 // says so too. Under another encoding of the neutral point, whose y is p + 1 or whose x = 0 has a sign, it is not.
+const ENCODINGS: &[Row] = &[
+    (NEUTRAL, MESSAGE, NEUTRAL_SIGNATURE, true),
+    (
+        "eeffffffffffffffffffffffffffffffffffffffffffffffffffffffffffff7f",
+        MESSAGE,
+        NEUTRAL_SIGNATURE,
+        false,
+    ),
+    (
+        "0100000000000000000000000000000000000000000000000000000000000080",
+        MESSAGE,
+        NEUTRAL_SIGNATURE,
+        false,
+    ),
+    (
+        "0200000000000000000000000000000000000000000000000000000000000000",
+        MESSAGE,
+        NEUTRAL_SIGNATURE,
+        false,
+    ),
+    ("", MESSAGE, NEUTRAL_SIGNATURE, false),
+];
+
 #[test]
 fn public_keys_have_one_encoding(rt: HostRuntime) {
-    let neutral = bytes::<32>(&rt, NEUTRAL);
-    assert!(rt; is_valid(&rt, rt.alloc(), &neutral, MESSAGE, NEUTRAL_SIGNATURE));
-    let others = [
-        "eeffffffffffffffffffffffffffffffffffffffffffffffffffffffffffff7f",
-        "0100000000000000000000000000000000000000000000000000000000000080",
-        "0200000000000000000000000000000000000000000000000000000000000000",
-    ];
-    for other in others {
-        let public = bytes::<32>(&rt, other);
-        assert!(rt; !is_valid(&rt, rt.alloc(), &public, MESSAGE, NEUTRAL_SIGNATURE));
-    }
-    assert!(rt; !is_valid(&rt, rt.alloc(), b"", MESSAGE, NEUTRAL_SIGNATURE));
+    expect_rows(&rt, rt.alloc(), ENCODINGS);
 }
 
 // R is the neutral point, with y = p + 1.
@@ -192,96 +208,65 @@ fn r_has_one_encoding(rt: HostRuntime) {
         "eeffffffffffffffffffffffffffffffffffffffffffffffffffffffffffff7f",
         "0000000000000000000000000000000000000000000000000000000000000000",
     );
-    assert!(rt;
-        !is_valid(
-            &rt,
-            rt.alloc(),
-            &bytes::<32>(&rt, NEUTRAL),
-            MESSAGE,
-            signature
-        )
-    );
+    expect_rows(&rt, rt.alloc(), &[(NEUTRAL, MESSAGE, signature, false)]);
 }
 
 // Under the point of order two a signature of the neutral point is valid where k is even, as OpenSSL finds of these
 // two messages.
 #[test]
 fn order_two(rt: HostRuntime) {
-    let public = bytes::<32>(
+    let public = "ecffffffffffffffffffffffffffffffffffffffffffffffffffffffffffff7f";
+    expect_rows(
         &rt,
-        "ecffffffffffffffffffffffffffffffffffffffffffffffffffffffffffff7f",
+        rt.alloc(),
+        &[
+            (public, &[1], NEUTRAL_SIGNATURE, true),
+            (public, &[0], NEUTRAL_SIGNATURE, false),
+        ],
     );
-    assert!(rt; is_valid(&rt, rt.alloc(), &public, &[1], NEUTRAL_SIGNATURE));
-    assert!(rt; !is_valid(&rt, rt.alloc(), &public, &[0], NEUTRAL_SIGNATURE));
 }
 
 #[test]
 fn every_bit_of_a_signature_counts(rt: HostRuntime) {
-    let public = bytes::<32>(&rt, PUBLIC);
-    let signature = bytes::<64>(&rt, SIGNATURE);
-    for i in 0..512usize {
+    let public: [u8; 32] = array_of(&rt, PUBLIC);
+    let signature: [u8; 64] = array_of(&rt, SIGNATURE);
+    'bits: for i in 0..512usize {
         let mut changed = signature;
         changed[i / 8] ^= 1 << (i % 8);
-        assert!(rt;
-            Ed25519
-                .verify(rt.alloc(), &public, MESSAGE, &changed)
-                .is_err()
-        );
+        let answer = Ed25519.verify(rt.alloc(), &public, MESSAGE, &changed);
+        expect_that(&rt, answer.is_err(), &i);
     }
 }
 
 // A signature with another seed's public half would give the seed away.
 #[test]
 fn mismatched_halves_sign_nothing(rt: HostRuntime) {
-    let mut private = bytes::<64>(&rt, PRIVATE);
+    let mut private: [u8; 64] = array_of(&rt, PRIVATE);
     private[0] ^= 1;
-    match Ed25519.sign(rt.alloc(), &private, MESSAGE) {
-        Err(PasetoError::Signature) => {}
-        _ => panic!(&rt; "not refused by its name"),
-    }
-    match Ed25519.sign(rt.alloc(), &[1; 63], MESSAGE) {
-        Err(PasetoError::KeyRejected) => {}
-        _ => panic!(&rt; "not refused by its name"),
-    }
-}
-
-// A generator that gives one byte again and again.
-#[derive(Drop)]
-struct Sevens;
-
-impl TryRng for Sevens {
-    type Error = Infallible;
-
-    fn try_next_u32(&mut self) -> Result<u32, Infallible> {
-        Ok(7)
-    }
-
-    fn try_next_u64(&mut self) -> Result<u64, Infallible> {
-        Ok(7)
-    }
-
-    fn try_fill_bytes(&mut self, bytes: &mut [u8]) -> Result<(), Infallible> {
-        bytes.fill(7);
-        Ok(())
-    }
+    let answer = Ed25519.sign(rt.alloc(), &private, MESSAGE);
+    let is_named = matches!(&answer, Err(PasetoError::Signature));
+    expect_that(&rt, is_named, "another half");
+    let answer = Ed25519.sign(rt.alloc(), &[1; 63], MESSAGE);
+    let is_named = matches!(&answer, Err(PasetoError::KeyRejected));
+    expect_that(&rt, is_named, "another length");
 }
 
 #[test]
 fn key_pairs_sign(rt: HostRuntime) {
-    let (private, public) = Ed25519::key_pair(&mut Sevens).expect(&rt, "a pair of keys");
-    assert_eq!(rt;
-        public.as_bytes(),
-        &bytes::<32>(
-            &rt,
-            "ea4a6c63e29c520abef5507b132ec5f9954776aebebe7b92421eea691446d22c"
-        )
+    let (private, public) = Ed25519::key_pair(&mut Repeated { byte: 7 }).expect(
+        &rt,
+        "a pair of keys",
+    );
+    expect_digits(
+        &rt,
+        rt.alloc(),
+        public.as_bytes().as_slice(),
+        "ea4a6c63e29c520abef5507b132ec5f9954776aebebe7b92421eea691446d22c",
     );
     let signature = Ed25519
         .sign(rt.alloc(), private.as_bytes(), b"text")
         .expect(&rt, "a signature");
-    assert!(rt;
-        Ed25519
-            .verify(rt.alloc(), public.as_bytes(), b"text", &signature)
-            .is_ok()
-    );
+    Ed25519
+        .verify(rt.alloc(), public.as_bytes(), b"text", &signature)
+        .expect(&rt, "a signature");
 }

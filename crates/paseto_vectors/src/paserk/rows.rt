@@ -1,9 +1,9 @@
 //! What an independent implementation made of keys: `tests/paserk_rows.py` prints this file.
 
 /// A row: the version, the type, the key's bytes in hexadecimal digits, its text, and its id.
-pub type Row = (u8, &'static str, &'static str, &'static str, &'static str);
+pub(super) type Row = (u8, &'static str, &'static str, &'static str, &'static str);
 
-pub const ROWS: [Row; 30] = [
+pub(super) const ROWS: &[Row] = &[
     (
         1,
         "local",

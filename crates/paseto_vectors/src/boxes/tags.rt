@@ -1,7 +1,8 @@
 //! Tags of Poly1305 (RFC 8439).
 
-use super::array_of;
-use crate::poly1305;
+use crate::expect::expect_same;
+use crate::hexadecimal::{array_of, bytes_of};
+use paseto_xchacha20poly1305::poly1305;
 use std::process::Abort;
 
 // A key, a message and its tag.
@@ -13,7 +14,8 @@ struct Row {
 
 fn check(rt: &impl Abort, key: &str, message: &[u8], tag: &str) {
     let found = poly1305(&array_of(rt, key), message);
-    assert_eq!(rt; found, array_of::<16>(rt, tag), "the tag of {tag}");
+    let wanted: [u8; 16] = array_of(rt, tag);
+    expect_same(rt, found.as_slice(), wanted.as_slice(), tag);
 }
 
 const SUBMISSION: &[u8] =
@@ -131,7 +133,6 @@ const BLOCKS: &[(&str, &str, &str)] = &[
 #[test]
 fn blocks_of_the_standard(rt: HostRuntime) {
     'rows: for &(key, message, tag) in BLOCKS {
-        let message = hex::decode(rt.alloc(), message).expect(&rt, "digits");
-        check(&rt, key, &message, tag);
+        check(&rt, key, &bytes_of(&rt, rt.alloc(), message), tag);
     }
 }

@@ -1,22 +1,25 @@
 //! What is refused, by its name.
 
-use crate::{
+use crate::expect::{expect_text, expect_that};
+use rusty_paseto_parts::{PasetoAsymmetricPrivateKey, Public, V1, V3, V4};
+use rusty_paseto_paserk::{
     PaserkError, PaserkType, PaserkVersion, header_of, local_from_paserk, public_from_paserk,
     secret_from_paserk, secret_id, secret_to_paserk,
 };
-use rusty_paseto_parts::{PasetoAsymmetricPrivateKey, Public, V1, V3, V4};
+use std::process::Abort;
 
 const LOCAL: &str = "k4.local.AAAAAAAAAAAAAAAAAAAAAAAAAAAAAAAAAAAAAAAAAAA";
 
-fn fault<T: Drop>(answer: Result<T, PaserkError>) -> &'static str {
+// What the error says is the wanted text, which is `a key` where there is none.
+fn expect_fault<T: Drop>(rt: &impl Abort, answer: Result<T, PaserkError>, wanted: &str) {
     match answer {
-        Ok(_) => "a key",
-        Err(error) => error.text(),
+        Ok(_) => expect_text(rt, "a key", wanted),
+        Err(error) => expect_text(rt, error.text(), wanted),
     }
 }
 
 // Each text with what is said of it where a local key of version 4 is asked for.
-const REFUSED: [(&str, &str); 20] = [
+const REFUSED: &[(&str, &str)] = &[
     ("", "The text is no PASERK key"),
     ("k4", "The text is no PASERK key"),
     ("k4.local", "The text is no PASERK key"),
@@ -71,20 +74,23 @@ const REFUSED: [(&str, &str); 20] = [
 
 #[test]
 fn other_texts_are_refused_by_name(rt: HostRuntime) {
-    for (text, wanted) in &REFUSED {
-        assert_eq!(&rt; fault(local_from_paserk::<V4>(rt.alloc(), text)), *wanted);
+    'texts: for &(text, wanted) in REFUSED {
+        expect_fault(&rt, local_from_paserk::<V4>(rt.alloc(), text), wanted);
     }
-    assert_eq!(&rt;
-        fault(local_from_paserk::<V1>(rt.alloc(), LOCAL)),
-        "The key is one of version 4"
+    expect_fault(
+        &rt,
+        local_from_paserk::<V1>(rt.alloc(), LOCAL),
+        "The key is one of version 4",
     );
-    assert_eq!(&rt;
-        fault(secret_from_paserk::<V4, 64>(rt.alloc(), LOCAL)),
-        "The key is one for local tokens"
+    expect_fault(
+        &rt,
+        secret_from_paserk::<V4, 64>(rt.alloc(), LOCAL),
+        "The key is one for local tokens",
     );
-    assert_eq!(&rt;
-        fault(public_from_paserk::<V3, 49>(rt.alloc(), LOCAL)),
-        "The key is one of version 4"
+    expect_fault(
+        &rt,
+        public_from_paserk::<V3, 49>(rt.alloc(), LOCAL),
+        "The key is one of version 4",
     );
 }
 
@@ -92,14 +98,12 @@ fn other_texts_are_refused_by_name(rt: HostRuntime) {
 #[test]
 fn only_compressed_points_are_keys(rt: HostRuntime) {
     let text = "k3.public.AgAAAAAAAAAAAAAAAAAAAAAAAAAAAAAAAAAAAAAAAAAAAAAAAAAAAAAAAAAAAAAAAA";
-    assert_eq!(&rt;
-        fault(public_from_paserk::<V3, 49>(rt.alloc(), text)),
-        "a key"
-    );
+    expect_fault(&rt, public_from_paserk::<V3, 49>(rt.alloc(), text), "a key");
     let text = "k3.public.BAAAAAAAAAAAAAAAAAAAAAAAAAAAAAAAAAAAAAAAAAAAAAAAAAAAAAAAAAAAAAAAAA";
-    assert_eq!(&rt;
-        fault(public_from_paserk::<V3, 49>(rt.alloc(), text)),
-        "The key was not in the correct format"
+    expect_fault(
+        &rt,
+        public_from_paserk::<V3, 49>(rt.alloc(), text),
+        "The key was not in the correct format",
     );
 }
 
@@ -107,19 +111,22 @@ fn only_compressed_points_are_keys(rt: HostRuntime) {
 #[test]
 fn short_private_keys_are_not_written(rt: HostRuntime) {
     let key = PasetoAsymmetricPrivateKey::<V4, Public>::from([0u8; 32].as_slice());
-    assert_eq!(&rt;
-        fault(secret_to_paserk(rt.alloc(), &key)),
-        "The key was not in the correct format"
+    expect_fault(
+        &rt,
+        secret_to_paserk(rt.alloc(), &key),
+        "The key was not in the correct format",
     );
-    assert_eq!(&rt;
-        fault(secret_id(rt.alloc(), &key)),
-        "The key was not in the correct format"
+    expect_fault(
+        &rt,
+        secret_id(rt.alloc(), &key),
+        "The key was not in the correct format",
     );
 }
 
 #[test]
 fn a_text_says_what_it_begins_as(rt: HostRuntime) {
     let found = header_of("k3.public.AAAA");
-    assert!(&rt; found == Some((PaserkVersion::V3, PaserkType::Public, "AAAA")));
-    assert!(&rt; header_of("k3.pid.AAAA").is_none());
+    let wanted = Some((PaserkVersion::V3, PaserkType::Public, "AAAA"));
+    expect_that(&rt, found == wanted, "a public key");
+    expect_that(&rt, header_of("k3.pid.AAAA").is_none(), "an id");
 }
