@@ -66,12 +66,13 @@ impl From<GenericParserError> for Refusal {
 }
 
 fn untimely_or_odd(source: PasetoClaimError) -> Refusal {
-    match source {
-        PasetoClaimError::Expired | PasetoClaimError::UseBeforeAvailable(_) => Refusal::Untimely(
-            source,
-        ),
-        odd => Refusal::Odd(GenericParserError::ClaimError { source: odd }),
+    if matches!(
+        &source,
+        PasetoClaimError::Expired | PasetoClaimError::UseBeforeAvailable(_)
+    ) {
+        return Refusal::Untimely(source);
     }
+    Refusal::Odd(GenericParserError::ClaimError { source })
 }
 
 /// The keys of the service, of which the newest seals.
