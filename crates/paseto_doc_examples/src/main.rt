@@ -2,8 +2,6 @@
 //! proved here, and most are run.
 #![tactic(auto)]
 
-#[cfg(test)]
-mod at_most;
 mod boxed_decrypting;
 mod boxed_tokens;
 mod causes;
@@ -33,8 +31,6 @@ mod ring_causes;
 mod rsa_public_key;
 mod rsa_signature;
 mod sections;
-#[cfg(test)]
-mod tests;
 mod toy_tokens;
 
 use anyhow::Result;

@@ -1,10 +1,12 @@
 //! Default builders and parsers of tokens.
 
+mod at_most;
 mod causes;
 mod claims;
 mod examples;
 mod key_rings;
 mod kinds;
+mod limited_seats;
 mod moments;
 mod primes;
 mod public_rings;
