@@ -1,5 +1,5 @@
 -- A key that has no id.
-use Rattle.std.proofs.Common.{◌≡◌, ◌⊎◌, ℕ, ◌==◌, List, ◌++◌, if◌then◌else◌, get_or, inl, inr, refl, sym, ap, subst, ◌∙◌}
+use Rattle.std.proofs.Common.{◌≡◌, ◌⊎◌, ℕ, ◌==◌, List, ◌++◌, if◌then◌else◌, get_or, inl, inr, refl, sym, ap, subst₂, ◌∙◌}
 use Rattle.rusty_paseto_parts.specs.Section.{base64url}
 use Rattle.rusty_paseto_paserk.specs.declared.header.PaserkVersion.{PaserkVersion}
 use Rattle.rusty_paseto_paserk.specs.declared.header.PaserkVersion.TheVariants.{V1, V2, V3, V4}
@@ -48,17 +48,21 @@ type_known V4 Local rest = refl
 type_known V4 Secret rest = refl
 type_known V4 Public rest = refl
 
+-- a line begins as a key of one version and one type
+pub same_header : (version other : PaserkVersion) (kind found : PaserkType) (line rest more : List ℕ)
+    → line ≡ header version kind ++ rest → line ≡ header other found ++ more → (version ≡ other) × (kind ≡ found)
+same_header version other kind found line rest more is also =
+    let headers : header version kind ++ rest ≡ header other found ++ more = sym is ∙ also in (
+      sym (version_known version kind rest) ∙ ap (λ (l : List ℕ). version_at (get_or l 1 0)) headers ∙ version_known other found more,
+      sym (type_known version kind rest) ∙ ap (λ (l : List ℕ). type_at (get_or l 3 0)) headers ∙ type_known other found more,
+    )
+
 -- a line with an id is the writing of a key of the version and the type that it begins with
 key_of_header : (version : PaserkVersion) (kind : PaserkType) (line rest id : List ℕ) → line ≡ header version kind ++ rest → (is : IsIdOf line id)
     → IsKeyOf kind version is.key × (line ≡ writing version kind is.key)
 key_of_header version kind line rest id begins is =
-    let headers : header is.version is.kind ++ base64url is.key ≡ header version kind ++ rest = sym is.is_writing ∙ begins in
-    let same_version : is.version ≡ version = sym (version_known is.version is.kind (base64url is.key))
-    ∙ ap (λ (l : List ℕ). version_at (get_or l 1 0)) headers ∙ version_known version kind rest in
-    let same_type : is.kind ≡ kind = sym (type_known is.version is.kind (base64url is.key))
-    ∙ ap (λ (l : List ℕ). type_at (get_or l 3 0)) headers ∙ type_known version kind rest in
-    subst (λ (k : PaserkType). IsKeyOf k version is.key × (line ≡ writing version k is.key)) same_type
-    (subst (λ (v : PaserkVersion). IsKeyOf is.kind v is.key × (line ≡ writing v is.kind is.key)) same_version (is.is_key, is.is_writing))
+    let same = same_header is.version version is.kind kind line (base64url is.key) rest is.is_writing begins in
+    subst₂ (λ (v : PaserkVersion) (k : PaserkType). IsKeyOf k v is.key × (line ≡ writing v k is.key)) same.0 same.1 (is.is_key, is.is_writing)
 
 -- what is the writing of no key of the version and the type that it begins with has no id
 pub nothing_identified : (version : PaserkVersion) (kind : PaserkType) (line rest : List ℕ) (error : ProgramError) → line ≡ header version kind ++ rest

@@ -11,3 +11,7 @@ pub mod Parsed
 pub mod Fronts
 pub mod Witnesses
 pub mod Ids
+pub mod Holders
+pub mod RingParsing
+pub mod Headers
+pub mod Words

@@ -1,33 +1,40 @@
 -- What is issued and parsed under the keys of lines.
-use Rattle.std.proofs.Common.{◌≡◌, ℕ, List, Bool, Option, None, Result, Ok, Err, IfOk, IsOkAnd, String, Global, string_bytes, is_some}
+use Rattle.std.proofs.Common.{◌≡◌, ◌⊎◌, ℕ, List, [], ◌++◌, Bool, true, false, Option, None, Some, option_map, Result, Ok, Err, IfOk, IfErr, IsErrAnd, IsOkAnd, MatchResult, String, Global, string_bytes, is_some, inl, inr, refl, sym, ap, subst₂, ◌∙◌}
+use Rattle.std.proofs.lemmas.Bool.{false≢true}
+use Rattle.std.proofs.lemmas.List.{append_cancel_left}
+use Rattle.base64.specs.GeneralPurpose.{IsBytes}
 use Rattle.serde_json.specs.Data.{Data, Members}
 use Rattle.serde_json.specs.View.{view}
 use Rattle.serde_json.specs.declared.value.Value.{Value}
+use Rattle.rusty_paseto_parts.proofs.SectionLemmas.{base64url-injective}
+use Rattle.rusty_paseto_parts.specs.Footer.{footer_text}
 use Rattle.rusty_paseto_parts.specs.declared.texts.footer.Footer.{Footer}
 use Rattle.rusty_paseto_parts.specs.declared.texts.implicit_assertion.ImplicitAssertion.{ImplicitAssertion}
-use Rattle.rusty_paseto_core.specs.Context.{assertion_of, binding_of}
+use Rattle.rusty_paseto_core.specs.Context.{Binding, binding_of}
 use Rattle.rusty_paseto_core.specs.Local.{Design}
-use Rattle.rusty_paseto_core.specs.Local.Opening.{opening}
-use Rattle.rusty_paseto_core.specs.Public.{PublicDesign}
-use Rattle.rusty_paseto_core.specs.Public.Scheme.{Refusal, Validity}
-use Rattle.rusty_paseto_core.specs.Public.Verifying.{verification}
+use Rattle.rusty_paseto_core.specs.Reading.{Reading}
 use Rattle.rusty_paseto_generic.specs.Builders.GenericBuilder.{IsSealed}
+use Rattle.rusty_paseto_generic.specs.Error.Parser.{IsMemory}
 use Rattle.rusty_paseto_generic.specs.Parsers.Parsing.{IsParsed, assertion_in}
 use Rattle.rusty_paseto_generic.specs.Parsers.Rules.{Rules}
 use Rattle.rusty_paseto_generic.specs.Validator.{Verdict}
-use Rattle.rusty_paseto.specs.KeyRing.{Keys, Readings, read_under}
-use Rattle.rusty_paseto.specs.KeyRing as ring
+use Rattle.rusty_paseto_generic.specs.declared.error.GenericParserError.{GenericParserError}
+use Rattle.rusty_paseto_paserk.specs.Error.{IsMemory as IsMemoryOfKey}
+use Rattle.rusty_paseto_paserk.specs.Header.{header}
+use Rattle.rusty_paseto_paserk.specs.Text.{writing}
+use Rattle.rusty_paseto_paserk.specs.declared.error.PaserkError.{PaserkError}
+use Rattle.rusty_paseto_paserk.specs.declared.error.PaserkError.TheVariants.{Memory as NoKeyMemory}
 use Rattle.rusty_paseto_paserk.specs.declared.header.PaserkVersion.{PaserkVersion}
 use Rattle.rusty_paseto_paserk.specs.declared.header.PaserkType.{PaserkType}
-use Rattle.rusty_paseto_paserk.specs.declared.header.PaserkType.TheVariants.{Public}
-use Rattle.paseto_commands.specs.declared.check.Demands.{Demands}
+use Rattle.paseto_commands.specs.declared.error.ProgramError.{ProgramError}
 use Rattle.paseto_commands.specs.declared.issue.Order.{Order}
-use Rattle.paseto_commands.specs.Check.{AreRules, OpensClaims, VerifiesClaims}
+use Rattle.paseto_commands.specs.Check.{Demanded, ParsesWith, bound_to, demanded_rules}
+use Rattle.paseto_commands.specs.Claims.{are_whole}
+use Rattle.paseto_commands.specs.Error.{IsOutside, Lacks, key_error_of}
 use Rattle.paseto_commands.specs.Footers.{IsFooterOf}
+use Rattle.paseto_commands.specs.Id.{IsKeyLine, IsKeyOf}
 use Rattle.paseto_commands.specs.Issue.{AreOrdered, IsLineOf, SealsClaims}
 use Rattle.paseto_commands.specs.Local.{IsLocalKey}
-use Rattle.paseto_commands.specs.Public.{IsHalf}
-use Rattle.paseto_commands.specs.Ring.{IsRingOf, ParsesIn, opened_in, verified_in}
 
 -- ---- issued
 
@@ -54,78 +61,61 @@ seals_line version design key order IsDrawn (Err e) built token key_bytes claims
 
 -- ---- parsed
 
-module _ {E F : Type 0} (key : List ℕ) (demands : Demands) (timed : Bool) (token : List ℕ)
-    (key_bytes : List ℕ) (rules : Rules Verdict) (footer : Option Footer) (assertion : Option ImplicitAssertion) where
-  pub opens_value : (version : PaserkVersion) (design : Design) (parsed : Result Value E) (answer : Result Value F)
-      → IsLocalKey version key key_bytes → AreRules demands timed rules → IsFooterOf demands.footer footer → assertion ≡ None
-      → IfOk parsed (λ value. answer ≡ Ok value)
-      → IfOk answer (λ value. IsParsed (opening design (binding_of key_bytes footer (assertion_in design.binds_assertion assertion))) rules token (view value))
-      → IfOk parsed (λ value. OpensClaims version design key demands timed token (view value))
-  opens_value version design (Ok value) answer is_key are_rules is_footer none is parsed = record {
-    key_bytes = key_bytes;
+-- a line writes one key
+pub same_key : (IsKey : List ℕ → Type 0) (kind : PaserkType) (version : PaserkVersion) (line one two : List ℕ)
+    → IsKeyLine IsKey kind version line one → IsKeyLine IsKey kind version line two → one ≡ two
+same_key IsKey kind version line one two a b =
+    base64url-injective one two a.bytes b.bytes (append_cancel_left (header version kind) _ _ (sym a.is_writing ∙ b.is_writing))
+
+-- what is read under the key of a line that is none
+pub not_key : (IsKey : List ℕ → Type 0) (kind : PaserkType) (version : PaserkVersion) (line : List ℕ) (P : Data → Type 0) (source : PaserkError)
+    → ((key : List ℕ) → IsBytes key → IsKey key → line ≡ writing version kind key → IsMemoryOfKey source)
+    → ((value : Data) → P value → (key : List ℕ) × IsKeyLine IsKey kind version line key) → Lacks P (key_error_of source)
+not_key IsKey kind version line P (NoKeyMemory refused) none into = inl tt
+not_key IsKey kind version line P source none into = inr (λ value is.
+    let key = into value is in none key.0 key.1.bytes key.1.is_key key.1.is_writing)
+
+-- what a token is bound to with a footer and no assertion
+plain : (key : List ℕ) (footer : Option Footer) (binds : Bool) → binding_of key footer (assertion_in binds None) ≡ bound_to key (option_map footer_text footer) []
+plain key None true = refl
+plain key None false = refl
+plain key (Some footer) true = refl
+plain key (Some footer) false = refl
+
+pub same_binding : (key : List ℕ) (footer : Option Footer) (assertion : Option ImplicitAssertion) (binds : Bool) (text : Option (List ℕ)) → assertion ≡ None
+    → option_map footer_text footer ≡ text → binding_of key footer (assertion_in binds assertion) ≡ bound_to key text []
+same_binding key footer assertion binds text none same =
+    ap (λ (a : Option ImplicitAssertion). binding_of key footer (assertion_in binds a)) none ∙ plain key footer binds ∙ ap (λ (t : Option (List ℕ)). bound_to key t []) same
+
+module _ (reading : Binding → Reading) (kind : PaserkType) (version : PaserkVersion) (line : List ℕ) (demands : Demanded) (timed : Bool) (token key : List ℕ)
+    (is_key : IsKeyLine (IsKeyOf kind version) kind version line key) (binding : Binding) (rules : Rules Verdict)
+    (bound : binding ≡ bound_to key demands.footer []) (ruled : rules ≡ demanded_rules demands timed) where
+  pub parses_found : {E F : Type 0} (parsed : Result Value E) (answer : Result Value F) → are_whole demands.claims ≡ true
+      → IfOk parsed (λ value. answer ≡ Ok value) → IfOk answer (λ value. IsParsed (reading binding) rules token (view value))
+      → IfOk parsed (λ value. ParsesWith kind version reading line demands timed token (view value))
+  parses_found (Ok value) answer whole is parsed = record {
+    key = key;
     is_key = is_key;
-    rules = rules;
-    are_rules = are_rules;
-    footer = footer;
-    is_footer = is_footer;
-    is_parsed = rw none at (rw is at parsed);
+    whole = whole;
+    is_parsed = subst₂ (λ (b : Binding) (r : Rules Verdict). IsParsed (reading b) r token (view value)) bound ruled (rw is at parsed);
   }
-  opens_value version design (Err e) answer is_key are_rules is_footer none is parsed = tt
+  parses_found (Err error) answer whole is parsed = tt
 
-  pub verifies_value : (version : PaserkVersion) (size : ℕ) (valid : Validity) (refused : Refusal) (design : PublicDesign) (P : Data → Type 0)
-      (parsed : Result Value E) (answer : Result Value F) (public : List ℕ)
-      → ((value : Data) → VerifiesClaims version size valid refused design key demands timed token value → P value)
-      → IsHalf version Public size key key_bytes → public ≡ key_bytes → AreRules demands timed rules → IsFooterOf demands.footer footer → assertion ≡ None
-      → IfOk parsed (λ value. answer ≡ Ok value)
-      → IfOk answer (λ value. IsParsed (verification valid refused design (binding_of public footer (assertion_in design.binds_assertion assertion))) rules token (view value))
-      → IfOk parsed (λ value. P (view value))
-  verifies_value version size valid refused design P (Ok value) answer public into is_key same are_rules is_footer none is parsed = into (view value) record {
-    key_bytes = key_bytes;
-    is_key = is_key;
-    rules = rules;
-    are_rules = are_rules;
-    footer = footer;
-    is_footer = is_footer;
-    is_parsed = rw same at (rw none at (rw is at parsed));
-  }
-  verifies_value version size valid refused design P (Err e) answer public into is_key same are_rules is_footer none is parsed = tt
+  parsed_so : (value : Data) → ParsesWith kind version reading line demands timed token value → IsParsed (reading binding) rules token value
+  parsed_so value is = subst₂ (λ (b : Binding) (r : Rules Verdict). IsParsed (reading b) r token value)
+      (ap (λ (k : List ℕ). bound_to k demands.footer []) (same_key (IsKeyOf kind version) kind version line is.key key is.is_key is_key) ∙ sym bound) (sym ruled) is.is_parsed
 
--- ---- parsed by a ring
+  pub parses_none : (parsed : Result Value ProgramError) (answer : Result Value GenericParserError)
+      → IfErr parsed (λ error. IsErrAnd answer (λ source. IsOutside error ⊎ (¬ IsMemory source)))
+      → ((value : Data) → IsParsed (reading binding) rules token value → MatchResult answer (λ found. view found ≡ value) IsMemory)
+      → IfErr parsed (Lacks (λ value. ParsesWith kind version reading line demands timed token value))
+  parses_none (Ok value) answer refused complete = tt
+  parses_none (Err error) (Ok value) refused complete = absurd refused
+  parses_none (Err error) (Err source) (inl outside) complete = inl outside
+  parses_none (Err error) (Err source) (inr none) complete = inr (λ value is. none (complete value (parsed_so value is)))
 
-module _ {E F : Type 0} (version : PaserkVersion) (kind : PaserkType) (lines : List (List ℕ)) (demands : Demands) (timed : Bool) (token : List ℕ)
-    (keys : Keys (List ℕ)) (rules : Rules Verdict) (footer : Option Footer) where
-  pub parses_value : (reading : Option Footer → Readings) (value : Result Value E) (answer : Result (String Global × Value) F)
-      → IsRingOf version kind lines keys → AreRules demands timed rules → IsFooterOf demands.footer footer
-      → IfOk value (λ v. IsOkAnd answer (λ found. found.1 ≡ v))
-      → IfOk answer (λ found. ring.IsParsed keys (reading footer) rules token (string_bytes found.0) (view found.1))
-      → IfOk value (λ v. ParsesIn version kind reading lines demands timed token (view v))
-  parses_value reading (Ok v) (Ok (id, other)) is_ring are_rules is_footer is parsed = record {
-    ring = keys;
-    is_ring = is_ring;
-    rules = rules;
-    are_rules = are_rules;
-    footer = footer;
-    is_footer = is_footer;
-    id = string_bytes id;
-    is_parsed = rw is at parsed;
-  }
-  parses_value reading (Ok v) (Err e) is_ring are_rules is_footer is parsed = absurd is
-  parses_value reading (Err e) answer is_ring are_rules is_footer is parsed = tt
-
-  pub opens_by_ring : (design : Design) (assertion : Option ImplicitAssertion) (value : Result Value E) (answer : Result (String Global × Value) F)
-      → IsRingOf version kind lines keys → AreRules demands timed rules → IsFooterOf demands.footer footer → assertion ≡ None
-      → IfOk value (λ v. IsOkAnd answer (λ found. found.1 ≡ v))
-      → IfOk answer (λ found. ring.IsParsed keys (λ key own. opening design (record { key = key; footer = read_under footer own; assertion = assertion_of (assertion_in design.binds_assertion assertion) }))
-      rules token (string_bytes found.0) (view found.1))
-      → IfOk value (λ v. ParsesIn version kind (opened_in design) lines demands timed token (view v))
-  opens_by_ring design assertion value answer is_ring are_rules is_footer none is parsed =
-      parses_value (opened_in design) value answer is_ring are_rules is_footer is (rw none at parsed)
-
-  pub verifies_by_ring : (valid : Validity) (refused : Refusal) (design : PublicDesign) (assertion : Option ImplicitAssertion) (value : Result Value E) (answer : Result (String Global × Value) F)
-      → IsRingOf version kind lines keys → AreRules demands timed rules → IsFooterOf demands.footer footer → assertion ≡ None
-      → IfOk value (λ v. IsOkAnd answer (λ found. found.1 ≡ v))
-      → IfOk answer (λ found. ring.IsParsed keys (λ key own. verification valid refused design (record { key = key; footer = read_under footer own; assertion = assertion_of (assertion_in design.binds_assertion assertion) }))
-      rules token (string_bytes found.0) (view found.1))
-      → IfOk value (λ v. ParsesIn version kind (verified_in valid refused design) lines demands timed token (view v))
-  verifies_by_ring valid refused design assertion value answer is_ring are_rules is_footer none is parsed =
-      parses_value (verified_in valid refused design) value answer is_ring are_rules is_footer is (rw none at parsed)
+-- what is demanded has a number that is not whole
+pub not_demanded : (kind : PaserkType) (version : PaserkVersion) (reading : Binding → Reading) (line : List ℕ) (demands : Demanded) (timed : Bool) (token : List ℕ) (error : ProgramError)
+    → IsOutside error ⊎ (are_whole demands.claims ≡ false) → Lacks (λ value. ParsesWith kind version reading line demands timed token value) error
+not_demanded kind version reading line demands timed token error (inl outside) = inl outside
+not_demanded kind version reading line demands timed token error (inr odd) = inr (λ value is. false≢true (sym odd ∙ is.whole))

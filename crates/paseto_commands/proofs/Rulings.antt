@@ -1,17 +1,27 @@
--- What a parser checks, with what its checks find.
-use Rattle.std.proofs.Common.{◌≡◌, ℕ, List, [], ◌∷◌, Bool, true, false, if◌then◌else◌, bytes_eq, codes, refl, ap, ◌∙◌}
-use Rattle.rusty_paseto_generic.specs.Parsers.Held.{default_date, checked, rules_of, verdict_of, verdicts_of}
-use Rattle.rusty_paseto_generic.specs.Parsers.Rules.{AreSame, Rule, Rules, edited, no_rule, with_both, with_stored}
+-- What a parser that checks demands finds.
+use Rattle.std.proofs.Common.{◌≡◌, ◌⊎◌, ◌&&◌, ℕ, List, [], ◌∷◌, Bool, true, false, if◌then◌else◌, Option, None, Some, MatchOption, is_some, Result, Ok, Err, IfErr, IsErrAnd, OnOk, bytes_eq, codes, ◌≤◌, ◌-◌, arith, drop, get_or, length, take, inl, inr, refl, sym, ap, ◌∙◌}
+use Rattle.std.proofs.lemmas.List.{take_rest}
+use Rattle.std.proofs.Math.Path.{fun_ext}
+use Rattle.std.proofs.lemmas.Bool.{false≢true}
+use Rattle.jiff.specs.Types.{Timestamp}
+use Rattle.serde_json.specs.Data.{Data}
+use Rattle.rusty_paseto_claims.specs.Claim.{Answer, gives, refuses}
+use Rattle.rusty_paseto_claims.specs.Error.{Fault, fault_of}
+use Rattle.rusty_paseto_claims.specs.Whole.{is_whole}
+use Rattle.rusty_paseto_generic.specs.Error.Parser.{IsMemory, IsRefusal}
+use Rattle.rusty_paseto_generic.specs.Parsers.Held.{checked, default_date, rules_of, verdict_of, verdicts_of}
+use Rattle.rusty_paseto_generic.specs.Parsers.Rules.{AreSame, IsStored, Rule, Rules, edited, fault_in, no_rule, whole_answer, with_both, with_stored}
 use Rattle.rusty_paseto_generic.specs.Parsers.Times.{not_before, times_at}
 use Rattle.rusty_paseto_generic.specs.Validator.{Verdict}
+use Rattle.rusty_paseto_generic.specs.declared.error.GenericParserError.{GenericParserError}
+use Rattle.rusty_paseto_generic.specs.declared.error.GenericParserError.TheVariants.{ClaimError, Memory}
 use Rattle.rusty_paseto_generic.specs.declared.parsers.checks.Checks.{Checks}
 use Rattle.rusty_paseto_generic.specs.declared.parsers.checks.Checker.{Checker}
 use Rattle.rusty_paseto_generic.specs.declared.parsers.checks.Checker.TheVariants.{Expiry, NotBefore}
-use Rattle.jiff.specs.Types.{Timestamp}
-use Rattle.paseto_commands.specs.declared.check.Demands.{Demands}
-use Rattle.paseto_commands.specs.declared.claims.NamedClaim.{NamedClaim}
-use Rattle.paseto_commands.specs.Check.{AreRules, begun_rules, first_rules}
-use Rattle.paseto_commands.specs.Claims.{AreStored}
+use Rattle.paseto_commands.specs.declared.error.ProgramError.{ProgramError}
+use Rattle.paseto_commands.specs.Check.{Demanded, begun_rules, demanded_rules, first_rules}
+use Rattle.paseto_commands.specs.Claims.{Named, all_demanded, are_whole, json_of}
+use Rattle.paseto_commands.specs.Error.{IsOutside}
 
 module _ {B : Type 0} (verdict : B → Verdict) (moment : Timestamp) where
   -- what the checkers of all keys find
@@ -23,17 +33,11 @@ module _ {B : Type 0} (verdict : B → Verdict) (moment : Timestamp) where
   one_stored true value rule = refl
   one_stored false value rule = refl
 
-  pub found_stored : (claims : List NamedClaim) (old new : Rules (Checker B)) → AreStored claims old new → AreStored claims (found old) (found new)
-  found_stored [] old new same = λ key. ap (checked verdict (times_at moment 0)) (same key)
-  found_stored (claim ∷ claims) old new stored = (
-    found stored.0,
-    record {
-      value = stored.1.value;
-      given = stored.1.given;
-      rules = λ key. ap (checked verdict (times_at moment 0)) (stored.1.rules key) ∙ one_stored (bytes_eq _ key) stored.1.value (old key);
-    },
-    found_stored claims stored.0 new stored.2,
-  )
+  pub found_demanded : (claims : List Named) (rules : Rules (Checker B)) → found (all_demanded claims rules) ≡ all_demanded claims (found rules)
+  found_demanded [] rules = refl
+  found_demanded (claim ∷ claims) rules =
+      found_demanded claims (edited claim.name (with_stored (json_of claim)) rules)
+      ∙ ap (λ (r : Rules Verdict). all_demanded claims r) (fun_ext (λ key. one_stored (bytes_eq claim.name key) (json_of claim) (rules key)))
 
   one_checked : (is : Bool) (checker : Checker B) (value : _) (rule : Rule (Checker B))
       → checked verdict (times_at moment 0) (if is then with_both checker value rule else rule)
@@ -41,26 +45,97 @@ module _ {B : Type 0} (verdict : B → Verdict) (moment : Timestamp) where
   one_checked true checker value rule = refl
   one_checked false checker value rule = refl
 
-  found_begun : (timed : Bool) → AreSame (found (begun_rules timed)) (first_rules timed moment)
+  pub found_begun : (timed : Bool) → AreSame (found (begun_rules timed)) (first_rules timed moment)
   found_begun false = λ key. refl
   found_begun true = λ key.
       one_checked (bytes_eq (codes "nbf") key) NotBefore (default_date (codes "nbf")) (edited (codes "exp") (with_both Expiry (default_date (codes "exp"))) (λ other. no_rule) key)
       ∙ ap (λ rule. if bytes_eq (codes "nbf") key then with_both (not_before (times_at moment 0)) (default_date (codes "nbf")) rule else rule)
       (one_checked (bytes_eq (codes "exp") key) Expiry (default_date (codes "exp")) no_rule)
 
-  -- what a parser with the checks that are demanded finds is what is demanded
-  pub are_rules : (demands : Demands) (timed : Bool) (begun : Rules (Checker B)) (checks : Checks B) → moment ≡ demands.at
-      → AreSame begun (begun_rules timed) → AreStored demands.claims.items begun (rules_of checks)
-      → AreRules demands timed (verdicts_of verdict (times_at moment 0) checks)
-  are_rules demands timed begun checks at is_begun stored = record {
-    begun = found begun;
-    is_begun = λ key. ap (checked verdict (times_at moment 0)) (is_begun key) ∙ found_begun timed key ∙ ap (λ t. first_rules timed t key) at;
-    are_stored = found_stored demands.claims.items begun (rules_of checks) stored;
-  }
+-- what a parser with the checks that are demanded finds is what is demanded
+pub are_demanded : {B : Type 0} (verdict : B → Verdict) (demands : Demanded) (timed : Bool) (begun : Rules (Checker B)) (checks : Checks B)
+    (moment : Timestamp) (leeway : ℕ) → moment ≡ demands.at → leeway ≡ 0 → AreSame begun (begun_rules timed)
+    → rules_of checks ≡ all_demanded demands.claims begun
+    → verdicts_of verdict (times_at moment leeway) checks ≡ demanded_rules demands timed
+are_demanded {B} verdict demands timed begun checks moment leeway at none is_begun stored =
+    ap (λ (l : ℕ). verdicts_of verdict (times_at moment l) checks) none
+    ∙ ap (λ (r : Rules (Checker B)). found verdict moment r) stored
+    ∙ found_demanded verdict moment demands.claims begun
+    ∙ ap (λ (r : Rules Verdict). all_demanded demands.claims r)
+    (ap (λ (r : Rules (Checker B)). found verdict moment r) (fun_ext is_begun) ∙ fun_ext (found_begun verdict moment timed))
+    ∙ ap (λ (t : Timestamp). all_demanded demands.claims (first_rules timed t)) at
 
--- the same of a parser's moment and leeway
-pub are_rules_at : {B : Type 0} (verdict : B → Verdict) (demands : Demands) (timed : Bool) (begun : Rules (Checker B)) (checks : Checks B) (moment : Timestamp) (leeway : ℕ)
-    → moment ≡ demands.at → leeway ≡ 0 → AreSame begun (begun_rules timed) → AreStored demands.claims.items begun (rules_of checks)
-    → AreRules demands timed (verdicts_of verdict (times_at moment leeway) checks)
-are_rules_at verdict demands timed begun checks moment leeway at none is_begun stored =
-    rw none (are_rules verdict moment demands timed begun checks at is_begun stored)
+-- ---- one claim after the other
+
+-- what an answer gives, or else this
+abbrev given : Data → Answer → Data
+given other (gives value) = value
+given other (refuses fault) = other
+
+abbrev is_given : Answer → Bool
+is_given (gives value) = true
+is_given (refuses fault) = false
+
+whole_given : (whole : Bool) (json value : Data) (fault : Fault) → (if whole then gives json else refuses fault) ≡ gives value
+    → (whole ≡ true) × (value ≡ json)
+whole_given true json value fault e = (refl, ap (λ (a : Answer). given json a) (sym e))
+whole_given false json value fault e = absurd (false≢true (ap (λ (a : Answer). is_given a) e))
+
+module _ {J : Type 0} (claim : Named) (claims : List Named) (old next new : Rules J) where
+  stored_first : IsStored claim.name (gives (json_of claim)) with_stored old next
+      → (is_whole (json_of claim) ≡ true) × (next ≡ edited claim.name (with_stored (json_of claim)) old)
+  stored_first is =
+      let whole = whole_given (is_whole (json_of claim)) (json_of claim) is.value _ is.given in
+      (whole.0, fun_ext is.rules ∙ ap (λ (v : Data). edited claim.name (with_stored v) old) whole.1)
+
+  -- a claim is demanded, and then others
+  pub rules_more : {T E : Type 0} (result : Result T E) → IsStored claim.name (gives (json_of claim)) with_stored old next
+      → OnOk result (new ≡ all_demanded claims next) → OnOk result (new ≡ all_demanded (claim ∷ claims) old)
+  rules_more (Ok value) is more = more ∙ ap (λ (r : Rules J). all_demanded claims r) (stored_first is).1
+  rules_more (Err error) is more = tt
+
+  pub whole_more : {T E : Type 0} (result : Result T E) → IsStored claim.name (gives (json_of claim)) with_stored old next
+      → OnOk result (are_whole claims ≡ true) → OnOk result (are_whole (claim ∷ claims) ≡ true)
+  whole_more (Ok value) is more = rw ((stored_first is).0, more) refl
+  whole_more (Err error) is more = tt
+
+-- a refusal for a number that is not whole, or from outside
+no_fault : (found : Option Fault) → MatchOption found ⊥ (λ fault. None ≡ Some fault) → ⊥
+no_fault None is = is
+no_fault (Some fault) is = absurd (false≢true (ap (λ (o : Option Fault). is_some o) is))
+
+not_given : (whole : Bool) (json : Data) (fault : Fault) (source : GenericParserError)
+    → IsRefusal (fault_in (if whole then gives json else refuses fault)) source → (¬ IsMemory source) → whole ≡ false
+not_given false json fault source is none = refl
+not_given true json fault (ClaimError error) is none = absurd (no_fault (fault_of error) is)
+not_given true json fault (Memory error) is none = absurd (none tt)
+not_given true json fault source is none = absurd is
+
+pub and_false : (first : Bool) → (first && false) ≡ false
+and_false true = refl
+and_false false = refl
+
+-- a claim that is not taken
+pub not_whole : (claim : Named) (claims : List Named) (source : GenericParserError) (error : ProgramError)
+    → IsRefusal (fault_in (whole_answer claim.name (gives (json_of claim)))) source → IsOutside error ⊎ (¬ IsMemory source)
+    → IsOutside error ⊎ (are_whole (claim ∷ claims) ≡ false)
+not_whole claim claims source error is (inl outside) = inl outside
+not_whole claim claims source error is (inr none) =
+    inr (ap (λ (b : Bool). b && are_whole claims) (not_given (is_whole (json_of claim)) (json_of claim) _ source is none))
+
+pub whole_refused : {T : Type 0} (claim : Named) (claims : List Named) (result : Result T GenericParserError) (error : ProgramError)
+    → IfErr result (IsRefusal (fault_in (whole_answer claim.name (gives (json_of claim)))))
+    → IsErrAnd result (λ source. IsOutside error ⊎ (¬ IsMemory source)) → IsOutside error ⊎ (are_whole (claim ∷ claims) ≡ false)
+whole_refused claim claims (Ok value) error is refused = absurd refused
+whole_refused claim claims (Err source) error is refused = not_whole claim claims source error is refused
+
+-- one of those behind it
+pub rest_not_whole : (claim : Named) (claims : List Named) (error : ProgramError)
+    → IsOutside error ⊎ (are_whole claims ≡ false) → IsOutside error ⊎ (are_whole (claim ∷ claims) ≡ false)
+rest_not_whole claim claims error (inl outside) = inl outside
+rest_not_whole claim claims error (inr odd) = inr (ap (λ (b : Bool). is_whole (json_of claim) && b) odd ∙ and_false (is_whole (json_of claim)))
+
+-- a list is its first element and the rest
+pub first_and_rest : {A : Type 0} (xs : List A) (x : A) → 1 ≤ length xs → x ≡ get_or xs 0 x → xs ≡ x ∷ take (length xs - 1) (drop 1 xs)
+first_and_rest [] x some is = absurd (omega (arith, some))
+first_and_rest (y ∷ xs) x some is = ap (λ (z : _). z ∷ xs) (sym is) ∙ ap (λ (rest : List _). x ∷ rest) (sym (take_rest (y ∷ xs) 1))

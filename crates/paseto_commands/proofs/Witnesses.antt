@@ -1,11 +1,13 @@
 -- What is printed of what was parsed from words and input.
-use Rattle.std.proofs.Common.{◌≡◌, ℕ, List, Option, None, Some, IfSome, Result, Ok, Err, IfOk, String, Global, string_bytes, sym, ◌∙◌}
+use Rattle.std.proofs.Common.{◌≡◌, ◌⊎◌, ℕ, List, Option, None, Some, IfSome, Result, Ok, Err, IfErr, IfOk, String, Global, string_bytes, IsUtf8, inl, inr, sym, subst₂, ◌∙◌}
 use Rattle.jiff.specs.Types.{Timestamp}
 use Rattle.paseto_commands.specs.declared.arguments.Options.{Options}
-use Rattle.paseto_commands.specs.declared.check.Demands.{Demands}
 use Rattle.paseto_commands.specs.declared.check.Keys.{Keys}
-use Rattle.paseto_commands.specs.Check.{AreDemands}
-use Rattle.paseto_commands.specs.Checked.{ChecksBy, ChecksFor}
+use Rattle.paseto_commands.specs.Check.{AreDemands, Demanded}
+use Rattle.paseto_commands.specs.Checked.{ChecksBy, ChecksFor, ChecksNothing}
+use Rattle.paseto_commands.specs.Error.{IsOutside, Lacks}
+use Rattle.paseto_commands.specs.declared.error.ProgramError.{ProgramError}
+use Rattle.paseto_commands.proofs.Words.{same_demands}
 use Rattle.paseto_commands.specs.Input.{line_of_input}
 
 -- what an answer is for one value, it is for some value
@@ -21,10 +23,28 @@ in_other_words (Err e) A B step a = tt
 
 -- a token that is checked is the line of the input
 pub checks_for : {E : Type 0} (known : Option (List ℕ)) (result : Result (String Global) E) (line text : List ℕ)
-    (claims : List (List ℕ)) (options : Options) (now : Timestamp) (keys : Keys) (demands : Demands)
-    → IfSome known (λ bytes. line_of_input bytes ≡ line) → text ≡ line → AreDemands claims options now demands
+    (claims : List (List ℕ)) (options : Options) (now : Timestamp) (keys : Keys) (demands : Demanded)
+    → IfSome known (λ bytes. line_of_input bytes ≡ line) → text ≡ line → IsUtf8 text → AreDemands claims options now demands
     → IfOk result (λ made. ChecksBy keys demands text (string_bytes made))
     → IfOk result (λ made. IfSome known (λ bytes. ChecksFor claims options now keys (line_of_input bytes) (string_bytes made)))
-checks_for known (Err error) line text claims options now keys demands is_line is are checks = tt
-checks_for None (Ok made) line text claims options now keys demands is_line is are checks = tt
-checks_for (Some bytes) (Ok made) line text claims options now keys demands is_line is are checks = (demands, are, rw (is ∙ sym is_line) at checks)
+checks_for known (Err error) line text claims options now keys demands is_line is utf8 are checks = tt
+checks_for None (Ok made) line text claims options now keys demands is_line is utf8 are checks = tt
+checks_for (Some bytes) (Ok made) line text claims options now keys demands is_line is utf8 are checks = record {
+  demands = demands;
+  are_demands = are;
+  utf8 = rw (is ∙ sym is_line) at utf8;
+  checks = rw (is ∙ sym is_line) at checks;
+}
+
+-- and one that is not
+pub checks_none : {T : Type 0} (known : Option (List ℕ)) (result : Result T ProgramError) (line text : List ℕ)
+    (claims : List (List ℕ)) (options : Options) (now : Timestamp) (keys : Keys) (demands : Demanded)
+    → IfSome known (λ bytes. line_of_input bytes ≡ line) → text ≡ line → AreDemands claims options now demands
+    → IfErr result (Lacks (λ made. ChecksBy keys demands text made))
+    → IfErr result (λ error. IfSome known (λ bytes. IsOutside error ⊎ ChecksNothing claims options now keys (line_of_input bytes)))
+checks_none known (Ok made) line text claims options now keys demands is_line is are none = tt
+checks_none None (Err error) line text claims options now keys demands is_line is are none = tt
+checks_none (Some bytes) (Err error) line text claims options now keys demands is_line is are (inl outside) = inl outside
+checks_none (Some bytes) (Err error) line text claims options now keys demands is_line is are (inr none) = inr (λ made checks.
+    let same = same_demands claims options now checks.demands demands checks.are_demands are in
+    none made (subst₂ (λ (d : Demanded) (t : List ℕ). ChecksBy keys d t made) same (is_line ∙ sym is) checks.checks))

@@ -1,5 +1,5 @@
 -- What the program says of an error, and the status that it ends with.
-use Rattle.std.specs.Prelude.{ℕ, ⊤, List, [], ◌∷◌, ◌++◌, alloc_error, codes, string_bytes}
+use Rattle.std.specs.Prelude.{◌⊎◌, ℕ, ⊤, List, [], ◌∷◌, ◌++◌, alloc_error, codes, string_bytes}
 use Rattle.std.specs.declared.io.ErrorKind.{ErrorKind}
 use Rattle.std.specs.declared.io.ErrorKind.TheVariants.{AlreadyExists, InvalidData, NotFound, OutOfMemory}
 use Rattle.rusty_paseto_parts.specs.Error.{error_text}
@@ -94,3 +94,7 @@ IsOutside Random = ⊤
 IsOutside InputOrOutput = ⊤
 IsOutside (Memory _) = ⊤
 IsOutside _ = ⊥
+
+-- the error came from outside, or there is nothing that is so
+abbrev pub Lacks : {X : Type 0} → (X → Type 0) → ProgramError → Type 0
+Lacks {X} P error = IsOutside error ⊎ ((x : X) → ¬ P x)

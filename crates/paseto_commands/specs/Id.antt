@@ -21,6 +21,12 @@ IsKeyOf Public V2 key = length key ≡ 32
 IsKeyOf Public V3 key = (length key ≡ 49) × IsTrue (is_compressed key)
 IsKeyOf Public V4 key = length key ≡ 32
 
+-- the line is the writing of these bytes, a key of a type and a version
+pub record IsKeyLine (IsKey : List ℕ → Type 0) (kind : PaserkType) (version : PaserkVersion) (line key : List ℕ) : Type 0 where
+  pub bytes : IsBytes key
+  pub is_key : IsKey key
+  pub is_writing : line ≡ writing version kind key
+
 -- the id is that of the key whose writing the line is
 pub record IsIdOf (line id : List ℕ) : Type 0 where
   pub version : PaserkVersion

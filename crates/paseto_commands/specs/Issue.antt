@@ -22,7 +22,7 @@ use Rattle.rusty_paseto_paserk.specs.declared.header.PaserkVersion.TheVariants.{
 use Rattle.rusty_paseto_paserk.specs.declared.header.PaserkType.TheVariants.{Secret}
 use Rattle.paseto_commands.specs.declared.arguments.Options.{Options}
 use Rattle.paseto_commands.specs.declared.issue.Order.{Order}
-use Rattle.paseto_commands.specs.Claims.{AreClaims, AreSet}
+use Rattle.paseto_commands.specs.Claims.{AreClaims, AreSet, all_named}
 use Rattle.paseto_commands.specs.Footers.{IsFooter, IsFooterOf}
 use Rattle.paseto_commands.specs.Local.{IsLocalKey}
 use Rattle.paseto_commands.specs.Public.{IsHalf}
@@ -31,7 +31,7 @@ use Rattle.paseto_commands.specs.Times.{IsTimeSet, SaysTime}
 -- what words order at a moment
 pub record IsOrder (claims : List (List ℕ)) (options : Options) (now : Timestamp) (order : Order) : Type 0 where
   pub moment : order.moment ≡ now
-  pub are_claims : AreClaims claims order.claims.items
+  pub are_claims : AreClaims claims (all_named order.claims.items)
   pub expires : SaysTime (option_map (λ word. word.now) options.expires) now order.expires
   pub not_before : SaysTime (option_map (λ word. word.now) options.not_before) now order.not_before
   pub footer : IsFooter options (option_map string_bytes order.footer)
@@ -42,7 +42,7 @@ pub record AreOrdered (order : Order) (claims : Members) : Type 0 where
   pub named : Members
   pub expiring : Members
   pub is_default : IsDefaultClaims order.moment begun
-  pub are_set : AreSet order.claims.items begun named
+  pub are_set : AreSet (all_named order.claims.items) begun named
   pub expires : IsTimeSet (codes "exp") order.expires named expiring
   pub not_before : IsTimeSet (codes "nbf") order.not_before expiring claims
 

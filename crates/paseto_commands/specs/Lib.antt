@@ -10,6 +10,7 @@ pub mod Public
 pub mod Keygen
 pub mod Inspect
 pub mod Id
+pub mod Readers
 pub mod Issue
 pub mod Check
 pub mod Ring

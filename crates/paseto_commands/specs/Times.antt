@@ -1,5 +1,5 @@
 -- Moments and lengths of time, as words say them.
-use Rattle.std.specs.Prelude.{◌≡◌, ◌⊎◌, ◌*◌, ◌+ℤ◌, ℕ, pos, List, ◌++◌, Option, None, Some, Ok, codes}
+use Rattle.std.specs.Prelude.{◌≡◌, ◌<◌, ◌*◌, ◌^◌, ◌==◌, ◌+ℤ◌, ℕ, pos, List, [], ◌∷◌, ◌++◌, if◌then◌else◌, Option, None, Some, MatchResult, codes}
 use Rattle.std.specs.Str.Parse.{IsNumeral, digits_value, without_leading_plus}
 use Rattle.jiff.specs.Names.{iso_datetime_text}
 use Rattle.jiff.specs.Types.{DateTime, Timestamp}
@@ -8,20 +8,47 @@ use Rattle.serde_json.specs.Data.{Members, string}
 use Rattle.rusty_paseto_claims.specs.Claim.{gives, one_member}
 use Rattle.rusty_paseto_generic.specs.Builders.Claims.{becomes, claim_set}
 
--- the word is a number in decimal digits, behind a plus or none, and a unit of so many seconds
-abbrev pub IsCount : List ℕ → List ℕ → ℕ → ℕ → Type 0
-IsCount word unit size seconds =
-    (number : List ℕ) × (word ≡ number ++ unit) × IsNumeral 10 (without_leading_plus number) × (seconds ≡ size * digits_value 10 (without_leading_plus number))
+-- the word is this number in decimal digits, behind a plus or none, and it is one of 32 bits
+pub record IsNumber (word : List ℕ) (number : ℕ) : Type 0 where
+  pub numeral : IsNumeral 10 (without_leading_plus word)
+  pub value : number ≡ digits_value 10 (without_leading_plus word)
+  pub small : number < 2 ^ 32
 
--- the word says a length of so many seconds
-abbrev pub IsLength : List ℕ → ℕ → Type 0
-IsLength word seconds = IsCount word (codes "s") 1 seconds ⊎ (IsCount word (codes "m") 60 seconds
-    ⊎ (IsCount word (codes "h") 3600 seconds ⊎ IsCount word (codes "d") 86400 seconds))
+-- the seconds of a second, a minute, an hour and a day, by the letters s, m, h and d
+abbrev pub unit_of : ℕ → Option ℕ
+unit_of letter =
+    if letter == 115 then Some 1
+    else if letter == 109 then Some 60
+    else if letter == 104 then Some 3600
+    else if letter == 100 then Some 86400
+    else None
 
--- the word says a moment: one of RFC 3339, or one so long after the present one
+-- the word ends in the letter of a unit of so many seconds, and this stands in front of it
+pub record HasUnit (word front : List ℕ) (unit : ℕ) : Type 0 where
+  pub letter : ℕ
+  pub spelled : word ≡ front ++ (letter ∷ [])
+  pub is_unit : unit_of letter ≡ Some unit
+
+-- the word says a length of so many seconds: a number and a unit
+pub record IsLength (word : List ℕ) (seconds : ℕ) : Type 0 where
+  pub front : List ℕ
+  pub unit : ℕ
+  pub number : ℕ
+  pub has_unit : HasUnit word front unit
+  pub is_number : IsNumber front number
+  pub seconds_are : seconds ≡ unit * number
+
+-- the moment is a length of time after the present one, and the word says that length
+abbrev pub IsAfter : List ℕ → Timestamp → Timestamp → Type 0
+IsAfter word now moment = (seconds : ℕ) × IsLength word seconds × (moment.nanosecond ≡ now.nanosecond +ℤ pos (seconds * 1_000_000_000))
+
+-- the word says a moment: one of RFC 3339, or else one so long after the present one
 abbrev pub SaysMoment : List ℕ → Timestamp → Timestamp → Type 0
-SaysMoment word now moment = (parse_timestamp word ≡ Ok moment.nanosecond)
-    ⊎ ((seconds : ℕ) × IsLength word seconds × (moment.nanosecond ≡ now.nanosecond +ℤ pos (seconds * 1_000_000_000)))
+SaysMoment word now moment = MatchResult (parse_timestamp word) (λ instant. moment.nanosecond ≡ instant) (λ _. IsAfter word now moment)
+
+-- the word says no moment
+abbrev pub SaysNone : List ℕ → Timestamp → Type 0
+SaysNone word now = (moment : Timestamp) → ¬ SaysMoment word now moment
 
 -- the moment that a word says, where there is a word
 abbrev pub SaysTime : Option (List ℕ) → Timestamp → Option Timestamp → Type 0

@@ -1,6 +1,12 @@
 //! What the program says of the errors of builders, parsers and rings.
 
-ghost use Rattle.std.specs.Prelude.{◌≡◌, Ok, IfOk, IsOk, IsOkAnd, OnOk};
+ghost use Rattle.std.specs.Prelude.{◌≡◌, ◌≢◌, ◌⊎◌, Ok, IfErr, IfOk, IsErrAnd, IsOk, IsOkAnd, OnOk};
+ghost use Rattle.rusty_paseto.specs.KeyRing.{IsMemory as IsMemoryOfRing, IsNoMemory};
+ghost use Rattle.rusty_paseto_core.specs.declared.PasetoError.TheVariants.{Cipher};
+ghost use Rattle.rusty_paseto_generic.specs.Error.{IsMemory as IsMemoryOfBuilder};
+ghost use Rattle.rusty_paseto_generic.specs.Error.Parser.{IsMemory};
+ghost use Rattle.rusty_paseto_generic.specs.declared.error.GenericBuilderError.TheVariants.{CipherError};
+ghost use Rattle.paseto_commands.specs.Error.{IsOutside};
 
 use crate::error::ProgramError;
 use crate::times::between;
@@ -18,7 +24,9 @@ pub fn built<T: Drop>(
     alloc: Global,
     answer: Result<T, GenericBuilderError>,
 ) -> Result<T, ProgramError>
-    ensures { IfOk result (λ value. answer ≡ Ok value) }
+    ensures value { IfOk result (λ value. answer ≡ Ok value) }
+    ensures refused { IfErr result (λ error. IsErrAnd answer (λ source. IsOutside error
+        ⊎ ((¬ IsMemoryOfBuilder source) × (source ≢ CipherError Cipher)))) }
 {
     match answer {
         Ok(value) => Ok(value),
@@ -33,7 +41,9 @@ pub fn parsed<T: Drop>(
     alloc: Global,
     answer: Result<T, GenericParserError>,
 ) -> Result<T, ProgramError>
-    ensures { IfOk result (λ value. answer ≡ Ok value) }
+    ensures value { IfOk result (λ value. answer ≡ Ok value) }
+    ensures refused { IfErr result (λ error. IsErrAnd answer
+        (λ source. IsOutside error ⊎ (¬ IsMemory source))) }
 {
     match answer {
         Ok(value) => Ok(value),
@@ -46,7 +56,9 @@ pub fn found(
     alloc: Global,
     answer: Result<(String, Value), KeyRingParserError>,
 ) -> Result<Value, ProgramError>
-    ensures { IfOk result (λ value. IsOkAnd answer (λ found. found.1 ≡ value)) }
+    ensures value { IfOk result (λ value. IsOkAnd answer (λ found. found.1 ≡ value)) }
+    ensures refused { IfErr result (λ error. IsErrAnd answer
+        (λ source. IsOutside error ⊎ (¬ IsNoMemory source))) }
 {
     match answer {
         Ok((_id, value)) => Ok(value),
@@ -58,7 +70,9 @@ pub fn found(
 
 /// The answer of a setter of a ring.
 pub fn put(alloc: Global, answer: Result<(), KeyRingError>) -> Result<(), ProgramError>
-    ensures { OnOk result (IsOk answer) }
+    ensures put { OnOk result (IsOk answer) }
+    ensures refused { IfErr result (λ error. IsErrAnd answer
+        (λ source. IsOutside error ⊎ (¬ IsMemoryOfRing source))) }
 {
     match answer {
         Ok(()) => Ok(()),
@@ -66,7 +80,9 @@ pub fn put(alloc: Global, answer: Result<(), KeyRingError>) -> Result<(), Progra
     }
 }
 
-fn by_parser(alloc: Global, source: GenericParserError) -> ProgramError {
+fn by_parser(alloc: Global, source: GenericParserError) -> ProgramError
+    ensures { IsOutside result ⊎ (¬ IsMemory source) }
+{
     match source {
         GenericParserError::Memory(source) => ProgramError::Memory(source),
         GenericParserError::CipherError {
@@ -94,7 +110,9 @@ fn other_text(alloc: Global, key: &str, found: &str, wanted: &str) -> ProgramErr
     }
 }
 
-fn by_ring(alloc: Global, source: KeyRingError) -> ProgramError {
+fn by_ring(alloc: Global, source: KeyRingError) -> ProgramError
+    ensures { IsOutside result ⊎ (¬ IsMemoryOfRing source) }
+{
     match source {
         KeyRingError::Memory(source) => ProgramError::Memory(source),
         KeyRingError::Untrusted(source) | KeyRingError::Token(source) => ProgramError::from(source),

@@ -1,21 +1,26 @@
 //! The command `check`: the claims of a token, by the default parser.
 
-ghost use Rattle.std.specs.Prelude.{◌≡◌, None, IfOk, OnOk, string_bytes, option_map};
-ghost use Rattle.serde_json.specs.Data.{Data};
+ghost use Rattle.std.specs.Prelude.{◌≡◌, ◌⊎◌, None, IfErr, IfOk, OnOk, false, option_map, string_bytes, true};
 ghost use Rattle.serde_json.specs.View.{view};
-ghost use Rattle.rusty_paseto_core.specs.Local.V1.{v1};
+ghost use Rattle.rusty_paseto_core.specs.Local.Boxed.{box_opening};
+ghost use Rattle.rusty_paseto_core.specs.Local.Opening.{opening};
 ghost use Rattle.rusty_paseto_core.specs.Public.{v2_public, v3_public, v4_public};
+ghost use Rattle.rusty_paseto_core.specs.Public.Verifying.{verification};
+ghost use Rattle.rusty_paseto_parts.specs.Footer.{footer_text};
 ghost use Rattle.paseto_ed25519.specs.Ed25519.{Ed25519Verifies, IsRefused};
 ghost use Rattle.paseto_p384.specs.P384.{P384Verifies, IsRefused as IsRefusedByP384};
+ghost use Rattle.paseto_xchacha20poly1305.specs.Sealing.{box_sealing};
 ghost use Rattle.rusty_paseto_paserk.specs.declared.header.PaserkVersion.TheVariants.{V2 as K2, V3 as K3, V4 as K4};
+ghost use Rattle.rusty_paseto_paserk.specs.declared.header.PaserkType.TheVariants.{Local as LocalKey, Public as PublicKey};
 ghost use Rattle.rusty_paseto_generic.specs.Parsers.Held.{rules_of, verdicts_of};
 ghost use Rattle.rusty_paseto_generic.specs.Parsers.Rules.{AreSame};
 ghost use Rattle.rusty_paseto_generic.specs.Parsers.Times.{times_at};
 ghost use Rattle.paseto_commands.specs.Arguments.{claim_words, words_of};
-ghost use Rattle.paseto_commands.specs.Check.{AreDemands, AreRules, begun_rules, IsCheckedAt, OpensClaims, ParsesByKey, UnboxesClaims, VerifiesAny, VerifiesClaims};
+ghost use Rattle.paseto_commands.specs.Check.{AreDemands, IsCheckedAt, ParsesByKey, ParsesWith, begun_rules, demanded, demanded_rules};
 ghost use Rattle.paseto_commands.specs.Checked.{ChecksBy, IsJsonLine, ParsesBy};
-ghost use Rattle.paseto_commands.specs.Claims.{AreStored};
-ghost use Rattle.paseto_commands.specs.Footers.{IsFooterOf};
+ghost use Rattle.paseto_commands.specs.Claims.{all_demanded, all_named, are_whole};
+ghost use Rattle.paseto_commands.specs.Error.{IsOutside, Lacks};
+ghost use Rattle.paseto_commands.specs.Readers.{reading_of};
 
 use crate::answers::{early, expired, parsed};
 use crate::arguments::Options;
@@ -62,8 +67,10 @@ impl Demands {
         options: &Options<'_>,
         now: Timestamp,
     ) -> Result<Demands, ProgramError>
-        ensures { IfOk result (λ demands. AreDemands
-            (claim_words (words_of words.now)) options.now now demands) }
+        ensures found { IfOk result (λ demands. AreDemands
+            (claim_words (words_of words.now)) options.now now (demanded demands)) }
+        ensures none { IfErr result (Lacks (λ demands. AreDemands
+            (claim_words (words_of words.now)) options.now now demands)) }
     {
         Ok(Demands {
             at: checked_at(options.at, now)?,
@@ -73,17 +80,20 @@ impl Demands {
     }
 
     /// The parser that demands it: with the times, or without.
-    #[tactic(auto, using(crate::proofs::Rulings::are_rules_at))]
     pub fn parser<'d, V: VersionTrait, P: PurposeTrait>(
         &'d self,
         alloc: Global,
         timed: bool,
     ) -> Result<PasetoParser<'d, V, P>, ProgramError>
-        ensures rules { IfOk result (λ made. AreRules self.now timed
-            (verdicts_of (λ b. verdict b) (times_at made.parser.moment made.parser.leeway)
-            made.parser.checks)) }
-        ensures footer { IfOk result (λ made. IsFooterOf self.now.footer made.parser.footer) }
+        ensures rules { IfOk result (λ made. verdicts_of (λ b. verdict b)
+            (times_at made.parser.moment made.parser.leeway) made.parser.checks
+            ≡ demanded_rules (demanded self.now) timed) }
+        ensures whole { OnOk result (are_whole (all_named self.now.claims.items) ≡ true) }
+        ensures footer { IfOk result (λ made. option_map footer_text made.parser.footer
+            ≡ option_map string_bytes self.now.footer) }
         ensures assertion { IfOk result (λ made. made.parser.implicit_assertion ≡ None) }
+        ensures refused { IfErr result (λ error. IsOutside error
+            ⊎ (are_whole (all_named self.now.claims.items) ≡ false)) }
     {
         let mut parser = first_parser(alloc, self.at, timed)?;
         if let Some(footer) = &self.footer {
@@ -105,6 +115,7 @@ fn first_parser<'d, V: VersionTrait, P: PurposeTrait>(
     ensures times { IfOk result (λ made. (made.parser.moment ≡ at) × (made.parser.leeway ≡ 0)) }
     ensures footer { IfOk result (λ made. made.parser.footer ≡ None) }
     ensures assertion { IfOk result (λ made. made.parser.implicit_assertion ≡ None) }
+    ensures memory { IfErr result IsOutside }
 {
     if timed {
         return parsed(alloc, PasetoParser::default(alloc, at));
@@ -116,7 +127,10 @@ fn first_parser<'d, V: VersionTrait, P: PurposeTrait>(
 
 /// The moment at which a token is checked.
 fn checked_at(word: Option<&str>, now: Timestamp) -> Result<Timestamp, ProgramError>
-    ensures { IfOk result (λ at. IsCheckedAt (option_map (λ text. text.now) word.entry) now at) }
+    ensures found { IfOk result (λ at. IsCheckedAt
+        (option_map (λ text. text.now) word.entry) now at) }
+    ensures none { IfErr result (Lacks (λ at. IsCheckedAt
+        (option_map (λ text. text.now) word.entry) now at)) }
 {
     let Some(word) = word else {
         return Ok(now);
@@ -132,8 +146,11 @@ fn put_checks<V: VersionTrait, P: PurposeTrait, B: Drop>(
     parser: &mut DefaultParser<'_, V, P, B>,
     claims: &[NamedClaim],
 ) -> Result<(), ProgramError>
-    ensures set { OnOk result (AreStored claims.now (rules_of parser.old.parser.checks)
-        (rules_of parser.new.parser.checks)) }
+    ensures set { OnOk result (rules_of parser.new.parser.checks
+        ≡ all_demanded (all_named claims.now) (rules_of parser.old.parser.checks)) }
+    ensures whole { OnOk result (are_whole (all_named claims.now) ≡ true) }
+    ensures refused { IfErr result (λ error. IsOutside error
+        ⊎ (are_whole (all_named claims.now) ≡ false)) }
     ensures times { (parser.new.parser.moment ≡ parser.old.parser.moment)
         × (parser.new.parser.leeway ≡ parser.old.parser.leeway) }
     ensures footer { parser.new.parser.footer ≡ parser.old.parser.footer }
@@ -143,8 +160,10 @@ fn put_checks<V: VersionTrait, P: PurposeTrait, B: Drop>(
     let [claim, rest @ ..] = claims else {
         return Ok(());
     };
-    parsed(alloc, parser.put_check(claim))?;
-    put_checks(alloc, parser, rest)
+    match parsed(alloc, parser.put_check(claim)) {
+        Ok(()) => put_checks(alloc, parser, rest),
+        Err(error) => Err(error),
+    }
 }
 
 /// The line of the claims of a token that is what is demanded.
@@ -154,7 +173,10 @@ pub fn check(
     demands: &Demands,
     token: &str,
 ) -> Result<String, ProgramError>
-    ensures { IfOk result (λ line. ChecksBy keys.now demands.now token.now (string_bytes line)) }
+    ensures found { IfOk result (λ line. ChecksBy keys.now (demanded demands.now) token.now
+        (string_bytes line)) }
+    ensures none { IfErr result (Lacks (λ line. ChecksBy keys.now (demanded demands.now) token.now
+        line)) }
 {
     match claims_by(alloc, keys, demands, true, token) {
         Ok(claims) => json_line(alloc, &claims),
@@ -171,7 +193,8 @@ pub fn check(
 
 /// The line of a value as JSON.
 fn json_line(alloc: Global, value: &Value) -> Result<String, ProgramError>
-    ensures { IfOk result (λ line. IsJsonLine (view value.now) (string_bytes line)) }
+    ensures line { IfOk result (λ line. IsJsonLine (view value.now) (string_bytes line)) }
+    ensures memory { IfErr result IsOutside }
 {
     let mut line = value.to_string(alloc)?;
     line.push('\n')?;
@@ -185,7 +208,10 @@ fn claims_by(
     timed: bool,
     token: &str,
 ) -> Result<Value, ProgramError>
-    ensures { IfOk result (λ value. ParsesBy keys.now demands.now timed token.now (view value)) }
+    ensures found { IfOk result (λ value. ParsesBy keys.now (demanded demands.now) timed token.now
+        (view value)) }
+    ensures none { IfErr result (Lacks (λ value. ParsesBy keys.now (demanded demands.now) timed
+        token.now value)) }
 {
     match keys {
         Keys::One(key) => claims_by_key(alloc, key, demands, timed, token),
@@ -201,22 +227,70 @@ fn claims_by_key(
     timed: bool,
     token: &str,
 ) -> Result<Value, ProgramError>
-    ensures { IfOk result (λ value. ParsesByKey key.now demands.now timed token.now (view value)) }
+    ensures found { IfOk result (λ value. ParsesByKey key.now (demanded demands.now) timed
+        token.now (view value)) }
+    ensures none { IfErr result (Lacks (λ value. ParsesByKey key.now (demanded demands.now) timed
+        token.now value)) }
 {
     match header_of(key) {
-        Some((PaserkVersion::V1, PaserkType::Local, _)) => opened::<V1>(
-            alloc, key, demands, timed, token,
+        Some((version, PaserkType::Local, _)) => by_local_key(
+            alloc, version, key, demands, timed, token,
         ),
-        Some((PaserkVersion::V3, PaserkType::Local, _)) => opened::<V3>(
-            alloc, key, demands, timed, token,
+        Some((version, PaserkType::Public, _)) => by_public_key(
+            alloc, version, key, demands, timed, token,
         ),
-        Some((PaserkVersion::V4, PaserkType::Local, _)) => opened::<V4>(
-            alloc, key, demands, timed, token,
-        ),
-        Some((PaserkVersion::V2, PaserkType::Local, _)) => unboxed(
-            alloc, key, demands, timed, token,
-        ),
-        _ => verified(alloc, key, demands, timed, token),
+        Some((version, PaserkType::Secret, _)) => Err(ProgramError::Key(no_reader(version))),
+        None => Err(ProgramError::Key(PaserkError::NoKey)),
+    }
+}
+
+/// Why a private key reads no token: it is of a version that has none here, or of another type.
+fn no_reader(version: PaserkVersion) -> PaserkError {
+    match version {
+        PaserkVersion::V1 => PaserkError::OtherVersion(version),
+        _ => PaserkError::OtherType(PaserkType::Secret),
+    }
+}
+
+fn by_local_key(
+    alloc: Global,
+    version: PaserkVersion,
+    key: &str,
+    demands: &Demands,
+    timed: bool,
+    token: &str,
+) -> Result<Value, ProgramError>
+    ensures found { IfOk result (λ value. ParsesWith LocalKey version (reading_of LocalKey version)
+        key.now (demanded demands.now) timed token.now (view value)) }
+    ensures none { IfErr result (Lacks (λ value. ParsesWith LocalKey version (reading_of LocalKey version)
+        key.now (demanded demands.now) timed token.now value)) }
+{
+    match version {
+        PaserkVersion::V1 => opened::<V1>(alloc, key, demands, timed, token),
+        PaserkVersion::V2 => unboxed(alloc, key, demands, timed, token),
+        PaserkVersion::V3 => opened::<V3>(alloc, key, demands, timed, token),
+        PaserkVersion::V4 => opened::<V4>(alloc, key, demands, timed, token),
+    }
+}
+
+fn by_public_key(
+    alloc: Global,
+    version: PaserkVersion,
+    key: &str,
+    demands: &Demands,
+    timed: bool,
+    token: &str,
+) -> Result<Value, ProgramError>
+    ensures found { IfOk result (λ value. ParsesWith PublicKey version (reading_of PublicKey version)
+        key.now (demanded demands.now) timed token.now (view value)) }
+    ensures none { IfErr result (Lacks (λ value. ParsesWith PublicKey version (reading_of PublicKey version)
+        key.now (demanded demands.now) timed token.now value)) }
+{
+    match version {
+        PaserkVersion::V1 => Err(ProgramError::Key(PaserkError::OtherVersion(version))),
+        PaserkVersion::V2 => verified_in_v2(alloc, key, demands, timed, token),
+        PaserkVersion::V3 => verified_in_v3(alloc, key, demands, timed, token),
+        PaserkVersion::V4 => verified_in_v4(alloc, key, demands, timed, token),
     }
 }
 
@@ -227,8 +301,10 @@ fn opened<V: DefaultLocalVersion + KeyVersion>(
     timed: bool,
     token: &str,
 ) -> Result<Value, ProgramError>
-    ensures { IfOk result (λ value. OpensClaims V.paserk V.design key.now demands.now timed
-        token.now (view value)) }
+    ensures found { IfOk result (λ value. ParsesWith LocalKey V.paserk (opening V.design) key.now
+        (demanded demands.now) timed token.now (view value)) }
+    ensures none { IfErr result (Lacks (λ value. ParsesWith LocalKey V.paserk (opening V.design) key.now
+        (demanded demands.now) timed token.now value)) }
 {
     let key = local_from_paserk::<V>(alloc, key)?;
     let parser = demands.parser::<V, Local>(alloc, timed)?;
@@ -242,31 +318,14 @@ fn unboxed(
     timed: bool,
     token: &str,
 ) -> Result<Value, ProgramError>
-    ensures { IfOk result (λ value. UnboxesClaims key.now demands.now timed token.now
-        (view value)) }
+    ensures found { IfOk result (λ value. ParsesWith LocalKey K2 (box_opening box_sealing) key.now
+        (demanded demands.now) timed token.now (view value)) }
+    ensures none { IfErr result (Lacks (λ value. ParsesWith LocalKey K2 (box_opening box_sealing) key.now
+        (demanded demands.now) timed token.now value)) }
 {
     let key = local_from_paserk::<V2>(alloc, key)?;
     let parser = demands.parser::<V2, Local>(alloc, timed)?;
     parsed(alloc, parser.parse(&XChaCha20Poly1305, token, &key))
-}
-
-/// The same by a public key.
-fn verified(
-    alloc: Global,
-    key: &str,
-    demands: &Demands,
-    timed: bool,
-    token: &str,
-) -> Result<Value, ProgramError>
-    ensures { IfOk result (λ value. VerifiesAny key.now demands.now timed token.now (view value)) }
-{
-    match header_of(key) {
-        Some((PaserkVersion::V2, _, _)) => verified_in_v2(alloc, key, demands, timed, token),
-        Some((PaserkVersion::V3, _, _)) => verified_in_v3(alloc, key, demands, timed, token),
-        Some((PaserkVersion::V4, _, _)) => verified_in_v4(alloc, key, demands, timed, token),
-        Some((version, _, _)) => Err(ProgramError::Key(PaserkError::OtherVersion(version))),
-        None => Err(ProgramError::Key(PaserkError::NoKey)),
-    }
 }
 
 fn verified_in_v2(
@@ -276,8 +335,10 @@ fn verified_in_v2(
     timed: bool,
     token: &str,
 ) -> Result<Value, ProgramError>
-    ensures { IfOk result (λ value. VerifiesClaims K2 32 Ed25519Verifies IsRefused v2_public key.now
-        demands.now timed token.now (view value)) }
+    ensures found { IfOk result (λ value. ParsesWith PublicKey K2 (verification Ed25519Verifies IsRefused v2_public) key.now
+        (demanded demands.now) timed token.now (view value)) }
+    ensures none { IfErr result (Lacks (λ value. ParsesWith PublicKey K2 (verification Ed25519Verifies IsRefused v2_public) key.now
+        (demanded demands.now) timed token.now value)) }
 {
     let key = public_from_paserk::<V2, 32>(alloc, key)?;
     let parser = demands.parser::<V2, Public>(alloc, timed)?;
@@ -292,8 +353,10 @@ fn verified_in_v3(
     timed: bool,
     token: &str,
 ) -> Result<Value, ProgramError>
-    ensures { IfOk result (λ value. VerifiesClaims K3 49 P384Verifies IsRefusedByP384 v3_public
-        key.now demands.now timed token.now (view value)) }
+    ensures found { IfOk result (λ value. ParsesWith PublicKey K3 (verification P384Verifies IsRefusedByP384 v3_public) key.now
+        (demanded demands.now) timed token.now (view value)) }
+    ensures none { IfErr result (Lacks (λ value. ParsesWith PublicKey K3 (verification P384Verifies IsRefusedByP384 v3_public) key.now
+        (demanded demands.now) timed token.now value)) }
 {
     let key = public_from_paserk::<V3, 49>(alloc, key)?;
     let parser = demands.parser::<V3, Public>(alloc, timed)?;
@@ -308,8 +371,10 @@ fn verified_in_v4(
     timed: bool,
     token: &str,
 ) -> Result<Value, ProgramError>
-    ensures { IfOk result (λ value. VerifiesClaims K4 32 Ed25519Verifies IsRefused v4_public key.now
-        demands.now timed token.now (view value)) }
+    ensures found { IfOk result (λ value. ParsesWith PublicKey K4 (verification Ed25519Verifies IsRefused v4_public) key.now
+        (demanded demands.now) timed token.now (view value)) }
+    ensures none { IfErr result (Lacks (λ value. ParsesWith PublicKey K4 (verification Ed25519Verifies IsRefused v4_public) key.now
+        (demanded demands.now) timed token.now value)) }
 {
     let key = public_from_paserk::<V4, 32>(alloc, key)?;
     let parser = demands.parser::<V4, Public>(alloc, timed)?;

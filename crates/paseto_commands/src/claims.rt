@@ -1,11 +1,12 @@
 //! Claims by name, as words say them.
 
-ghost use Rattle.std.specs.Prelude.{◌≡◌, ◌≢◌, ◌++◌, ℕ, List, IfOk, MatchOption, Some, codes, string_bytes};
+ghost use Rattle.std.specs.Prelude.{◌≡◌, ◌≢◌, ◌⊎◌, ◌++◌, [], ℕ, List, IfErr, IfOk, MatchOption, None, OnOk, Some, codes, false, string_bytes, true};
 ghost use Rattle.serde_json.specs.View.{view};
 ghost use Rattle.serde_json.specs.Read.{read};
 ghost use Rattle.rusty_paseto_claims.specs.Claim.{gives, one_member};
 ghost use Rattle.paseto_commands.specs.Arguments.{claim_words, words_of};
-ghost use Rattle.paseto_commands.specs.Claims.{AreClaims, IsClaimOf};
+ghost use Rattle.paseto_commands.specs.Claims.{AreClaims, IsClaimOf, IsFirstOf, all_named, is_time, named};
+ghost use Rattle.paseto_commands.specs.Error.{IsOutside, Lacks};
 
 use crate::arguments::{is_flag, is_name};
 use crate::error::ProgramError;
@@ -40,7 +41,8 @@ impl PasetoClaim for NamedClaim {
 impl NamedClaim {
     /// The claim of a word `NAME=TEXT` or `NAME:=JSON`.
     fn parse(alloc: Global, word: &str) -> Result<NamedClaim, ProgramError>
-        ensures { IfOk result (λ claim. IsClaimOf word.now claim) }
+        ensures found { IfOk result (λ claim. IsClaimOf word.now (named claim)) }
+        ensures none { IfErr result (Lacks (λ claim. IsClaimOf word.now claim)) }
     {
         let Some((front, text)) = word.split_once('=') else {
             return Err(ProgramError::Claim);
@@ -52,8 +54,11 @@ impl NamedClaim {
     }
 
     fn of(alloc: Global, name: &str, value: Value) -> Result<NamedClaim, ProgramError>
-        ensures { IfOk result (λ claim. (string_bytes claim.name ≡ name.now)
+        ensures made { IfOk result (λ claim. (string_bytes claim.name ≡ name.now)
             × (view claim.value ≡ view value)) }
+        ensures named { OnOk result ((name.now ≢ []) × (is_time name.now ≡ false)) }
+        ensures refused { IfErr result (λ error. IsOutside error
+            ⊎ ((name.now ≡ []) ⊎ (is_time name.now ≡ true))) }
     {
         if name.is_empty() {
             return Err(ProgramError::Claim);
@@ -76,7 +81,8 @@ fn without_colon(text: &str) -> Option<&str>
 
 /// The value that a text is as JSON.
 fn json_of(alloc: Global, text: &str) -> Result<Value, ProgramError>
-    ensures { IfOk result (λ value. read text.now ≡ Some (view value)) }
+    ensures read { IfOk result (λ value. read text.now ≡ Some (view value)) }
+    ensures refused { IfErr result (λ error. IsOutside error ⊎ (read text.now ≡ None)) }
 {
     match Value::from_str(alloc, text) {
         Ok(value) => Ok(value),
@@ -86,14 +92,19 @@ fn json_of(alloc: Global, text: &str) -> Result<Value, ProgramError>
 }
 
 /// Whether the name is that of a claim that is a time.
-fn is_time(name: &str) -> bool {
-    matches!(name, "exp" | "nbf" | "iat")
+fn is_time(name: &str) -> bool
+    ensures { result ≡ is_time name.now }
+{
+    name == "exp" || name == "nbf" || name == "iat"
 }
 
 /// The claims that words say by `--claim`, in their order. The words are those of a command.
 #[tactic(auto, using(crate::proofs::Readings::claims_cons))]
 pub fn claims_of(alloc: Global, words: &[String]) -> Result<Vec<NamedClaim>, ProgramError>
-    ensures { IfOk result (λ claims. AreClaims (claim_words (words_of words.now)) claims.items) }
+    ensures found { IfOk result (λ claims. AreClaims (claim_words (words_of words.now))
+        (all_named claims.items)) }
+    ensures none { IfErr result
+        (Lacks (λ claims. AreClaims (claim_words (words_of words.now)) claims)) }
 {
     let [word, rest @ ..] = words else {
         return Ok(Vec::new(alloc));
@@ -107,9 +118,25 @@ pub fn claims_of(alloc: Global, words: &[String]) -> Result<Vec<NamedClaim>, Pro
     let [value, rest @ ..] = rest else {
         return Ok(Vec::new(alloc));
     };
-    let mut claims = claims_of(alloc, rest)?;
-    if word.as_str() == "--claim" {
-        claims.insert(0, NamedClaim::parse(alloc, value)?)?;
+    if word.as_str() != "--claim" {
+        return claims_of(alloc, rest);
     }
+    match claims_of(alloc, rest) {
+        Ok(claims) => with_claim(alloc, value, claims),
+        Err(error) => Err(error),
+    }
+}
+
+/// The claim of a word, and others behind it.
+fn with_claim(
+    alloc: Global,
+    word: &str,
+    claims: Vec<NamedClaim>,
+) -> Result<Vec<NamedClaim>, ProgramError>
+    ensures found { IfOk result (λ found. IsFirstOf word.now claims.items found.items) }
+    ensures none { IfErr result (Lacks (λ claim. IsClaimOf word.now claim)) }
+{
+    let mut claims = claims;
+    claims.insert(0, NamedClaim::parse(alloc, word)?)?;
     Ok(claims)
 }

@@ -1,6 +1,7 @@
 //! The footer that words say.
 
-ghost use Rattle.std.specs.Prelude.{◌≡◌, IfOk, option_map, string_bytes};
+ghost use Rattle.std.specs.Prelude.{◌≡◌, IfErr, IfOk, option_map, string_bytes};
+ghost use Rattle.paseto_commands.specs.Error.{IsOutside};
 ghost use Rattle.paseto_commands.specs.Footers.{IsFooter, kid_footer};
 
 use crate::arguments::Options;
@@ -11,7 +12,9 @@ use std::alloc::{AllocError, Global};
 /// The text of the footer that is said by `--footer`, or by `--footer-kid`: then the JSON of an object with the id under
 /// `kid`, from which a ring knows the key.
 pub fn footer_of(alloc: Global, options: &Options<'_>) -> Result<Option<String>, ProgramError>
-    ensures { IfOk result (λ footer. IsFooter options.now (option_map string_bytes footer)) }
+    ensures footer { IfOk result (λ footer. IsFooter options.now
+        (option_map string_bytes footer)) }
+    ensures memory { IfErr result IsOutside }
 {
     if let Some(id) = options.kid {
         return Ok(Some(kid_of(alloc, id)?));

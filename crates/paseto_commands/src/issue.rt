@@ -4,7 +4,7 @@ ghost use Rattle.std.specs.Prelude.{◌≡◌, ◌++◌, ◌∷◌, [], None, If
 ghost use Rattle.rusty_paseto_generic.specs.Builders.Held.{held};
 ghost use Rattle.rusty_paseto_core.specs.Local.V1.{v1};
 ghost use Rattle.paseto_commands.specs.Arguments.{claim_words, words_of};
-ghost use Rattle.paseto_commands.specs.Claims.{AreSet};
+ghost use Rattle.paseto_commands.specs.Claims.{AreSet, all_named};
 ghost use Rattle.paseto_commands.specs.Error.{IsOutside};
 ghost use Rattle.paseto_commands.specs.Footers.{IsFooterOf};
 ghost use Rattle.paseto_commands.specs.Issue.{AreOrdered, BoxesClaims, IsLineOf, IsOrder, Issues, SealsClaims, SignsAny, SignsOrder};
@@ -208,7 +208,7 @@ fn set_claims<V: VersionTrait, P: PurposeTrait>(
     builder: &mut PasetoBuilder<'_, V, P>,
     claims: &[NamedClaim],
 ) -> Result<(), ProgramError>
-    ensures set { OnOk result (AreSet claims.now (held builder.old.builder.claims)
+    ensures set { OnOk result (AreSet (all_named claims.now) (held builder.old.builder.claims)
         (held builder.new.builder.claims)) }
     ensures rest { builder.new.builder.paseto ≡ builder.old.builder.paseto }
 {

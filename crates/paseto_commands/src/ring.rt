@@ -1,15 +1,23 @@
 //! Rings: the keys of lines, each by its id.
 
-ghost use Rattle.std.specs.Prelude.{◌≡◌, IfOk, OnOk};
+ghost use Rattle.std.specs.Prelude.{◌≡◌, ◌⊎◌, ℕ, List, IfErr, IfOk, IsTrue, OnOk, length};
 ghost use Rattle.serde_json.specs.View.{view};
+ghost use Rattle.rusty_paseto_core.specs.Local.Boxed.{box_opening};
+ghost use Rattle.rusty_paseto_core.specs.Local.Opening.{opening};
 ghost use Rattle.rusty_paseto_core.specs.Public.{v2_public, v3_public, v4_public};
+ghost use Rattle.rusty_paseto_core.specs.Public.Verifying.{verification};
 ghost use Rattle.paseto_ed25519.specs.Ed25519.{Ed25519Verifies, IsRefused};
 ghost use Rattle.paseto_p384.specs.P384.{P384Verifies, IsRefused as IsRefusedByP384};
+ghost use Rattle.paseto_xchacha20poly1305.specs.Sealing.{box_sealing};
 ghost use Rattle.rusty_paseto.specs.Held.{keys_of};
 ghost use Rattle.rusty_paseto_paserk.specs.declared.header.PaserkVersion.TheVariants.{V2 as K2, V3 as K3, V4 as K4};
 ghost use Rattle.rusty_paseto_paserk.specs.declared.header.PaserkType.TheVariants.{Local as LocalKey, Public as PublicKey};
 ghost use Rattle.paseto_commands.specs.Arguments.{words_of};
-ghost use Rattle.paseto_commands.specs.Ring.{AreKeysOf, HasKeys, IsAdded, IsInserted, IsPassedOver, IsRingOf, ParsesByRing, ParsesIn, opened_in, unboxed_in, verified_in};
+ghost use Rattle.paseto_commands.specs.Check.{demanded};
+ghost use Rattle.paseto_commands.specs.Error.{IsOutside, Lacks, key_error_of};
+ghost use Rattle.paseto_commands.specs.Id.{IsKeyOf};
+ghost use Rattle.paseto_commands.specs.Readers.{IsReader, reading_of, type_in, version_in};
+ghost use Rattle.paseto_commands.specs.Ring.{AreCompressed, AreKeysOf, IsAdded, IsInserted, IsNoLine, IsPassedOver, IsRingOf, ParsesByRing, ParsesIn, ring_of};
 
 use crate::answers::{found, put};
 use crate::check::Demands;
@@ -22,8 +30,8 @@ use rusty_paseto::prelude::{
     PublicKeyRing, UntrustedToken, V1, V2, V3, V4,
 };
 use rusty_paseto_paserk::{
-    KeyPairVersion, KeyVersion, PaserkError, local_from_paserk, local_id, public_from_paserk,
-    public_id,
+    KeyPairVersion, KeyVersion, PaserkError, PaserkType, PaserkVersion, local_from_paserk,
+    local_id, public_from_paserk, public_id,
 };
 use serde_json::Value;
 use std::alloc::Global;
@@ -37,19 +45,98 @@ pub fn claims_by_ring(
     timed: bool,
     token: &str,
 ) -> Result<Value, ProgramError>
-    ensures { IfOk result (λ value. ParsesByRing (words_of lines.now) demands.now timed token.now
-        (view value)) }
+    ensures found { IfOk result (λ value. ParsesByRing (words_of lines.now)
+        (demanded demands.now) timed token.now (view value)) }
+    ensures none { IfErr result (Lacks (λ value. ParsesByRing (words_of lines.now)
+        (demanded demands.now) timed token.now value)) }
 {
     let untrusted = UntrustedToken::try_parse(token)?;
-    match (untrusted.version(), untrusted.purpose()) {
-        ("v1", "local") => opened::<V1>(alloc, lines, demands, timed, token),
-        ("v2", "local") => unboxed(alloc, lines, demands, timed, token),
-        ("v3", "local") => opened::<V3>(alloc, lines, demands, timed, token),
-        ("v4", "local") => opened::<V4>(alloc, lines, demands, timed, token),
-        ("v2", "public") => verified_in_v2(alloc, lines, demands, timed, token),
-        ("v3", "public") => verified_in_v3(alloc, lines, demands, timed, token),
-        ("v4", "public") => verified_in_v4(alloc, lines, demands, timed, token),
-        _ => Err(ProgramError::Refused(PasetoError::WrongHeader)),
+    let Some(version) = version_of(untrusted.version()) else {
+        return Err(ProgramError::Refused(PasetoError::WrongHeader));
+    };
+    let Some(kind) = type_of(untrusted.purpose()) else {
+        return Err(ProgramError::Refused(PasetoError::WrongHeader));
+    };
+    match kind {
+        PaserkType::Local => by_local_keys(alloc, version, lines, demands, timed, token),
+        PaserkType::Public => by_public_keys(alloc, version, lines, demands, timed, token),
+        PaserkType::Secret => Err(ProgramError::Refused(PasetoError::WrongHeader)),
+    }
+}
+
+/// The version that a token's first section names.
+fn version_of(text: &str) -> Option<PaserkVersion>
+    ensures { result ≡ version_in text.now }
+{
+    if text == "v1" {
+        Some(PaserkVersion::V1)
+    } else if text == "v2" {
+        Some(PaserkVersion::V2)
+    } else if text == "v3" {
+        Some(PaserkVersion::V3)
+    } else if text == "v4" {
+        Some(PaserkVersion::V4)
+    } else {
+        None
+    }
+}
+
+/// The type of the keys that read the tokens of the purpose that the second section names.
+fn type_of(text: &str) -> Option<PaserkType>
+    ensures { result ≡ type_in text.now }
+{
+    if text == "local" {
+        Some(PaserkType::Local)
+    } else if text == "public" {
+        Some(PaserkType::Public)
+    } else {
+        None
+    }
+}
+
+fn by_local_keys(
+    alloc: Global,
+    version: PaserkVersion,
+    lines: &[String],
+    demands: &Demands,
+    timed: bool,
+    token: &str,
+) -> Result<Value, ProgramError>
+    ensures found { IfOk result (λ value. IsReader LocalKey version
+        × ParsesIn LocalKey version (reading_of LocalKey version) (words_of lines.now)
+        (demanded demands.now) timed token.now (view value)) }
+    ensures none { IfErr result (Lacks (λ value. IsReader LocalKey version
+        × ParsesIn LocalKey version (reading_of LocalKey version) (words_of lines.now)
+        (demanded demands.now) timed token.now value)) }
+{
+    match version {
+        PaserkVersion::V1 => opened::<V1>(alloc, lines, demands, timed, token),
+        PaserkVersion::V2 => unboxed(alloc, lines, demands, timed, token),
+        PaserkVersion::V3 => opened::<V3>(alloc, lines, demands, timed, token),
+        PaserkVersion::V4 => opened::<V4>(alloc, lines, demands, timed, token),
+    }
+}
+
+fn by_public_keys(
+    alloc: Global,
+    version: PaserkVersion,
+    lines: &[String],
+    demands: &Demands,
+    timed: bool,
+    token: &str,
+) -> Result<Value, ProgramError>
+    ensures found { IfOk result (λ value. IsReader PublicKey version
+        × ParsesIn PublicKey version (reading_of PublicKey version) (words_of lines.now)
+        (demanded demands.now) timed token.now (view value)) }
+    ensures none { IfErr result (Lacks (λ value. IsReader PublicKey version
+        × ParsesIn PublicKey version (reading_of PublicKey version) (words_of lines.now)
+        (demanded demands.now) timed token.now value)) }
+{
+    match version {
+        PaserkVersion::V1 => Err(ProgramError::Refused(PasetoError::WrongHeader)),
+        PaserkVersion::V2 => verified_in_v2(alloc, lines, demands, timed, token),
+        PaserkVersion::V3 => verified_in_v3(alloc, lines, demands, timed, token),
+        PaserkVersion::V4 => verified_in_v4(alloc, lines, demands, timed, token),
     }
 }
 
@@ -60,8 +147,10 @@ fn opened<V: DefaultLocalVersion + KeyVersion>(
     timed: bool,
     token: &str,
 ) -> Result<Value, ProgramError>
-    ensures { IfOk result (λ value. ParsesIn V.paserk LocalKey (opened_in V.design)
-        (words_of lines.now) demands.now timed token.now (view value)) }
+    ensures found { IfOk result (λ value. ParsesIn LocalKey V.paserk (opening V.design)
+        (words_of lines.now) (demanded demands.now) timed token.now (view value)) }
+    ensures none { IfErr result (Lacks (λ value. ParsesIn LocalKey V.paserk (opening V.design)
+        (words_of lines.now) (demanded demands.now) timed token.now value)) }
 {
     let ring = local_ring::<V>(alloc, lines)?;
     let parser = demands.parser::<V, Local>(alloc, timed)?;
@@ -75,8 +164,10 @@ fn unboxed(
     timed: bool,
     token: &str,
 ) -> Result<Value, ProgramError>
-    ensures { IfOk result (λ value. ParsesIn K2 LocalKey unboxed_in
-        (words_of lines.now) demands.now timed token.now (view value)) }
+    ensures found { IfOk result (λ value. ParsesIn LocalKey K2 (box_opening box_sealing)
+        (words_of lines.now) (demanded demands.now) timed token.now (view value)) }
+    ensures none { IfErr result (Lacks (λ value. ParsesIn LocalKey K2 (box_opening box_sealing)
+        (words_of lines.now) (demanded demands.now) timed token.now value)) }
 {
     let ring = local_ring::<V2>(alloc, lines)?;
     let parser = demands.parser::<V2, Local>(alloc, timed)?;
@@ -90,9 +181,10 @@ fn verified_in_v2(
     timed: bool,
     token: &str,
 ) -> Result<Value, ProgramError>
-    ensures { IfOk result (λ value. ParsesIn K2 PublicKey
-        (verified_in Ed25519Verifies IsRefused v2_public) (words_of lines.now) demands.now timed
-        token.now (view value)) }
+    ensures found { IfOk result (λ value. ParsesIn PublicKey K2 (verification Ed25519Verifies IsRefused v2_public)
+        (words_of lines.now) (demanded demands.now) timed token.now (view value)) }
+    ensures none { IfErr result (Lacks (λ value. ParsesIn PublicKey K2 (verification Ed25519Verifies IsRefused v2_public)
+        (words_of lines.now) (demanded demands.now) timed token.now value)) }
 {
     let keys = public_keys::<V2, 32>(alloc, lines)?;
     let ring = ring_of_v2(alloc, &keys)?;
@@ -107,9 +199,10 @@ fn verified_in_v3(
     timed: bool,
     token: &str,
 ) -> Result<Value, ProgramError>
-    ensures { IfOk result (λ value. ParsesIn K3 PublicKey
-        (verified_in P384Verifies IsRefusedByP384 v3_public) (words_of lines.now) demands.now timed
-        token.now (view value)) }
+    ensures found { IfOk result (λ value. ParsesIn PublicKey K3 (verification P384Verifies IsRefusedByP384 v3_public)
+        (words_of lines.now) (demanded demands.now) timed token.now (view value)) }
+    ensures none { IfErr result (Lacks (λ value. ParsesIn PublicKey K3 (verification P384Verifies IsRefusedByP384 v3_public)
+        (words_of lines.now) (demanded demands.now) timed token.now value)) }
 {
     let keys = public_keys::<V3, 49>(alloc, lines)?;
     let ring = ring_of_v3(alloc, &keys)?;
@@ -124,9 +217,10 @@ fn verified_in_v4(
     timed: bool,
     token: &str,
 ) -> Result<Value, ProgramError>
-    ensures { IfOk result (λ value. ParsesIn K4 PublicKey
-        (verified_in Ed25519Verifies IsRefused v4_public) (words_of lines.now) demands.now timed
-        token.now (view value)) }
+    ensures found { IfOk result (λ value. ParsesIn PublicKey K4 (verification Ed25519Verifies IsRefused v4_public)
+        (words_of lines.now) (demanded demands.now) timed token.now (view value)) }
+    ensures none { IfErr result (Lacks (λ value. ParsesIn PublicKey K4 (verification Ed25519Verifies IsRefused v4_public)
+        (words_of lines.now) (demanded demands.now) timed token.now value)) }
 {
     let keys = public_keys::<V4, 32>(alloc, lines)?;
     let ring = ring_of_v4(alloc, &keys)?;
@@ -136,7 +230,10 @@ fn verified_in_v4(
 
 /// The ring of the keys of local tokens of a version among the lines, each under its id.
 fn local_ring<V: KeyVersion>(alloc: Global, lines: &[String]) -> Result<KeyRing<V>, ProgramError>
-    ensures { IfOk result (λ ring. IsRingOf V.paserk LocalKey (words_of lines.now) (keys_of ring)) }
+    ensures found { IfOk result (λ ring. IsRingOf LocalKey V.paserk (words_of lines.now)
+        (keys_of ring)) }
+    ensures none { IfErr result (Lacks (λ keys. AreKeysOf (IsKeyOf LocalKey V.paserk) LocalKey
+        V.paserk (words_of lines.now) keys)) }
 {
     let [line, rest @ ..] = lines else {
         return Ok(KeyRing::new(alloc));
@@ -152,8 +249,10 @@ fn add_line<V: KeyVersion>(
     ring: &mut KeyRing<V>,
     line: &str,
 ) -> Result<(), ProgramError>
-    ensures { OnOk result (IsAdded V.paserk LocalKey line.now (keys_of ring.old)
+    ensures added { OnOk result (IsAdded LocalKey V.paserk line.now (keys_of ring.old)
         (keys_of ring.new)) }
+    ensures none { IfErr result (λ error. IsOutside error
+        ⊎ IsNoLine (IsKeyOf LocalKey V.paserk) LocalKey V.paserk line.now) }
 {
     match local_from_paserk::<V>(alloc, line) {
         Ok(key) => put(alloc, ring.add(local_id(alloc, &key)?.as_str(), key)),
@@ -163,7 +262,8 @@ fn add_line<V: KeyVersion>(
 
 /// The ring of public keys of version 2, each under its id.
 fn ring_of_v2<'k>(alloc: Global, keys: &'k [Key<32>]) -> Result<PublicKeyRing<'k, V2>, ProgramError>
-    ensures { IfOk result (λ ring. HasKeys K2 PublicKey (keys.now) (keys_of ring)) }
+    ensures ring { IfOk result (λ ring. keys_of ring ≡ ring_of PublicKey K2 keys.now) }
+    ensures memory { IfErr result IsOutside }
 {
     let [key, rest @ ..] = keys else {
         return Ok(PublicKeyRing::new(alloc));
@@ -176,7 +276,8 @@ fn ring_of_v2<'k>(alloc: Global, keys: &'k [Key<32>]) -> Result<PublicKeyRing<'k
 
 /// The ring of public keys of version 3, each under its id.
 fn ring_of_v3<'k>(alloc: Global, keys: &'k [Key<49>]) -> Result<PublicKeyRing<'k, V3>, ProgramError>
-    ensures { IfOk result (λ ring. HasKeys K3 PublicKey (keys.now) (keys_of ring)) }
+    ensures ring { IfOk result (λ ring. keys_of ring ≡ ring_of PublicKey K3 keys.now) }
+    ensures refused { AreCompressed keys.now → IfErr result IsOutside }
 {
     let [key, rest @ ..] = keys else {
         return Ok(PublicKeyRing::new(alloc));
@@ -189,7 +290,8 @@ fn ring_of_v3<'k>(alloc: Global, keys: &'k [Key<49>]) -> Result<PublicKeyRing<'k
 
 /// The ring of public keys of version 4, each under its id.
 fn ring_of_v4<'k>(alloc: Global, keys: &'k [Key<32>]) -> Result<PublicKeyRing<'k, V4>, ProgramError>
-    ensures { IfOk result (λ ring. HasKeys K4 PublicKey (keys.now) (keys_of ring)) }
+    ensures ring { IfOk result (λ ring. keys_of ring ≡ ring_of PublicKey K4 keys.now) }
+    ensures memory { IfErr result IsOutside }
 {
     let [key, rest @ ..] = keys else {
         return Ok(PublicKeyRing::new(alloc));
@@ -206,7 +308,12 @@ fn public_keys<V: KeyPairVersion, const N: usize>(
     lines: &[String],
 ) -> Result<Vec<Key<N>>, ProgramError>
     requires { N ≡ V.public_length }
-    ensures { IfOk result (λ keys. AreKeysOf V.paserk PublicKey (words_of lines.now) keys.items) }
+    ensures found { IfOk result (λ keys. AreKeysOf
+        (λ key. (length key ≡ N) × IsTrue (V.is_public_key key)) PublicKey V.paserk
+        (words_of lines.now) keys.items) }
+    ensures none { IfErr result (Lacks (λ keys. AreKeysOf
+        (λ key. (length key ≡ N) × IsTrue (V.is_public_key key)) PublicKey V.paserk
+        (words_of lines.now) keys)) }
 {
     let [line, rest @ ..] = lines else {
         return Ok(Vec::new(alloc));
@@ -223,7 +330,11 @@ fn insert_line<V: KeyPairVersion, const N: usize>(
     line: &str,
 ) -> Result<(), ProgramError>
     requires { N ≡ V.public_length }
-    ensures { OnOk result (IsInserted V.paserk PublicKey line.now keys.old.items keys.new.items) }
+    ensures inserted { OnOk result (IsInserted
+        (λ key. (length key ≡ N) × IsTrue (V.is_public_key key)) PublicKey V.paserk
+        line.now keys.old.items keys.new.items) }
+    ensures none { IfErr result (λ error. IsOutside error ⊎ IsNoLine
+        (λ key. (length key ≡ N) × IsTrue (V.is_public_key key)) PublicKey V.paserk line.now) }
 {
     match public_from_paserk::<V, N>(alloc, line) {
         Ok(key) => Ok(keys.insert(0, key)?),
@@ -233,7 +344,9 @@ fn insert_line<V: KeyPairVersion, const N: usize>(
 
 /// A key of another version or type is none of the ring, which is no fault.
 fn passed_over(error: PaserkError) -> Result<(), ProgramError>
-    ensures { OnOk result (IsPassedOver error) }
+    ensures passed { OnOk result (IsPassedOver error) }
+    ensures refused { IfErr result (λ refusal. (refusal ≡ key_error_of error)
+        × ¬ IsPassedOver error) }
 {
     match error {
         PaserkError::OtherVersion(_) | PaserkError::OtherType(_) => Ok(()),

@@ -4,7 +4,7 @@ ghost use Rattle.std.specs.Prelude.{◌≡◌, ◌≢◌, ◌≤◌, ◌==◌, �
 ghost use Rattle.std.specs.Io.{StartsWith};
 ghost use Rattle.std.specs.Io.KnownBytes.{Appends};
 ghost use Rattle.paseto_commands.specs.Arguments.{claim_words, words_of};
-ghost use Rattle.paseto_commands.specs.Checked.{ChecksFor};
+ghost use Rattle.paseto_commands.specs.Checked.{ChecksFor, ChecksNothing};
 ghost use Rattle.paseto_commands.specs.Id.{Identifies, IdentifiesNothing};
 ghost use Rattle.paseto_commands.specs.Issue.{IssuesFor};
 ghost use Rattle.paseto_commands.specs.declared.error.ProgramError.{ProgramError};
@@ -227,7 +227,10 @@ pub fn run_check<R: Read, W: Write, E: Write>(
         × IfSome (R.remaining input.old)
         (λ bytes. ChecksFor (claim_words (words_of words.now)) options.now now keys.now
         (line_of_input bytes) written) }
-    ensures refused { (result ≡ 1) ⊎ (result ≡ 2) → output.new ≡ output.old }
+    ensures refused { (result ≡ 1) ⊎ (result ≡ 2) → (output.new ≡ output.old)
+        × IfSome (R.remaining input.old)
+        (λ bytes. ChecksNothing (claim_words (words_of words.now)) options.now now keys.now
+        (line_of_input bytes)) }
     ensures quiet { result ≡ 0 → errors.new ≡ errors.old }
     ensures said { result ≢ 0 → (error : ProgramError) × (status_of error ≡ result)
         × ((said : List ℕ) × StartsWith (line_of error) said × Appends (E.contents errors.old)
@@ -246,9 +249,12 @@ fn claims_line<R: Read>(
     now: Timestamp,
     input: &mut R,
 ) -> Result<String, ProgramError>
-    ensures { IfOk result (λ line. IfSome (R.remaining input.old) (λ bytes.
+    ensures found { IfOk result (λ line. IfSome (R.remaining input.old) (λ bytes.
         ChecksFor (claim_words (words_of words.now)) options.now now keys.now
         (line_of_input bytes) (string_bytes line))) }
+    ensures none { IfErr result (λ error. IfSome (R.remaining input.old) (λ bytes.
+        IsOutside error ⊎ ChecksNothing (claim_words (words_of words.now)) options.now now keys.now
+        (line_of_input bytes))) }
 {
     let demands = Demands::parse(alloc, words, options, now)?;
     let token = read_line(alloc, input)?;

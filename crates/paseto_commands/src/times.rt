@@ -1,10 +1,9 @@
 //! Moments and lengths of time, as words say them.
 
-ghost use Rattle.std.specs.Prelude.{◌≡◌, ◌≢◌, ◌<◌, ◌^◌, ◌*◌, ◌++◌, ◌+ℤ◌, ℕ, List, pos, IfOk, IfSome, MatchOption, codes, string_bytes};
-ghost use Rattle.std.specs.Str.Parse.{IsNumeral, digits_value, without_leading_plus};
+ghost use Rattle.std.specs.Prelude.{◌≡◌, ◌≢◌, ◌≤◌, ◌*◌, ◌++◌, ◌+ℤ◌, ℕ, List, pos, IfOk, IfSome, MatchOption, codes, string_bytes};
 ghost use Rattle.jiff.specs.Names.{iso_datetime_text};
-ghost use Rattle.jiff.specs.Words.{civil_nanos};
-ghost use Rattle.paseto_commands.specs.Times.{IsLength, IsMomentText, SaysMoment};
+ghost use Rattle.jiff.specs.Words.{IsTimestampNanos, civil_nanos};
+ghost use Rattle.paseto_commands.specs.Times.{HasUnit, IsLength, IsMomentText, IsNumber, SaysMoment, SaysNone};
 
 use jiff::Timestamp;
 use jiff::civil::DateTime;
@@ -16,18 +15,23 @@ const SECOND: i128 = 1_000_000_000;
 
 /// The moment that a word says: a moment of RFC 3339, or a length of time after the present one.
 pub fn moment_of(word: &str, now: Timestamp) -> Option<Timestamp>
-    ensures { IfSome result (λ moment. SaysMoment word.now now moment) }
+    ensures { MatchOption result (SaysNone word.now now)
+        (λ moment. SaysMoment word.now now moment) }
 {
     match word.parse::<Timestamp>() {
         Ok(moment) => Some(moment),
-        Err(_) => moment_after(seconds_of(word)?, now),
+        Err(_) => match seconds_of(word) {
+            Some(seconds) => moment_after(seconds, now),
+            None => None,
+        },
     }
 }
 
 /// The moment so many seconds later.
 fn moment_after(seconds: u64, now: Timestamp) -> Option<Timestamp>
-    ensures { IfSome result (λ moment. moment.nanosecond
-        ≡ now.nanosecond +ℤ pos (seconds * 1_000_000_000)) }
+    ensures { MatchOption result
+        (¬ IsTimestampNanos (now.nanosecond +ℤ pos (seconds * 1_000_000_000)))
+        (λ moment. moment.nanosecond ≡ now.nanosecond +ℤ pos (seconds * 1_000_000_000)) }
 {
     match Timestamp::from_nanosecond(now.as_nanosecond() + seconds as i128 * SECOND) {
         Ok(moment) => Some(moment),
@@ -37,16 +41,33 @@ fn moment_after(seconds: u64, now: Timestamp) -> Option<Timestamp>
 
 /// How many seconds a word says: a number and `s`, `m`, `h` or `d`.
 fn seconds_of(word: &str) -> Option<u64>
-    ensures { IfSome result (λ seconds. IsLength word.now seconds) }
+    ensures { MatchOption result ((seconds : ℕ) → ¬ IsLength word.now seconds)
+        (λ seconds. IsLength word.now seconds) }
 {
-    if let Some(number) = before(word, "s") {
-        Some(1 * number_of(number)?)
-    } else if let Some(number) = before(word, "m") {
-        Some(60 * number_of(number)?)
-    } else if let Some(number) = before(word, "h") {
-        Some(3_600 * number_of(number)?)
-    } else if let Some(number) = before(word, "d") {
-        Some(86_400 * number_of(number)?)
+    let Some((front, unit)) = unit_of(word) else {
+        return None;
+    };
+    match number_of(front) {
+        Some(number) => Some(unit * number),
+        None => None,
+    }
+}
+
+/// What stands in front of the letter of a unit at the end of a word, and the seconds of that unit.
+fn unit_of(word: &str) -> Option<(&str, u64)>
+    ensures small { IfSome result (λ found. found.1 ≤ 86_400) }
+    ensures unit { MatchOption result
+        ((front : List ℕ) (unit : ℕ) → ¬ HasUnit word.now front unit)
+        (λ found. HasUnit word.now found.0.now found.1) }
+{
+    if let Some(front) = before(word, "s") {
+        Some((front, 1))
+    } else if let Some(front) = before(word, "m") {
+        Some((front, 60))
+    } else if let Some(front) = before(word, "h") {
+        Some((front, 3_600))
+    } else if let Some(front) = before(word, "d") {
+        Some((front, 86_400))
     } else {
         None
     }
@@ -62,10 +83,8 @@ fn before<'a>(text: &'a str, end: &str) -> Option<&'a str>
 
 /// The number that a word is.
 fn number_of(word: &str) -> Option<u64>
-    ensures small { IfSome result (λ number. number < 2 ^ 32) }
-    ensures numeral { IfSome result (λ number. IsNumeral 10 (without_leading_plus word.now)) }
-    ensures value { IfSome result (λ number. number
-        ≡ digits_value 10 (without_leading_plus word.now)) }
+    ensures { MatchOption result ((number : ℕ) → ¬ IsNumber word.now number)
+        (λ number. IsNumber word.now number) }
 {
     match word.parse::<u32>() {
         Ok(number) => Some(number as u64),

@@ -4,7 +4,7 @@ use Rattle.paseto_commands.proofs.Rings.{keys_more}
 use Rattle.paseto_commands.proofs.Fronts.{word_and_rest}
 use Rattle.paseto_commands.proofs.ring.+public_keys.Goals as goal
 
-pub returns : goal.returns
-returns g t c = rw (word_and_rest c.args.lines.now c.line-item.result c.in-len1-up.len_at_least c.line-item.is)
-    (keys_more g.V.KeyVersion.paserk Public (string_bytes c.line-item.result) _ c.in_ok-keys.keys.items c.insert_line.new.keys.items
-    c.in_ok-keys.ensures (rw (sym c.deref.ensures) c.in_ok-insert_line.ensures))
+pub returns-clause-found : goal.returns-clause-found
+returns-clause-found g t c = rw (word_and_rest c.args.lines.now c.line-item.result c.in-len1-up.len_at_least c.line-item.is)
+    (keys_more _ Public g.V.KeyVersion.paserk (string_bytes c.line-item.result) _ c.in_ok-keys.keys.items c.insert_line.new.keys.items
+    c.in_ok-keys.ensures.found (rw (sym c.deref.ensures) c.in_ok-insert_line.ensures.inserted))

@@ -1,7 +1,11 @@
 use Rattle.rusty_paseto_paserk.specs.declared.header.PaserkType.TheVariants.{Public}
-use Rattle.paseto_commands.proofs.Rings.{inserted_passed}
+use Rattle.paseto_commands.proofs.Rings.{inserted_passed, line_none}
 use Rattle.paseto_commands.proofs.ring.insert_line.Goals as goal
 
-pub returns-in-Err : goal.returns-in-Err
-returns-in-Err g c = inserted_passed g.V.KeyVersion.paserk Public c.args.line.now c.passed_over.result _ c.in-Err.error c.args.keys.now.items
-    c.passed_over.ensures c.in-Err.ensures.refused
+pub returns-in-Err-clause-inserted : goal.returns-in-Err-clause-inserted
+returns-in-Err-clause-inserted g c = inserted_passed _ Public g.V.KeyVersion.paserk c.args.line.now c.passed_over.result c.in-Err.error c.args.keys.now.items
+    c.passed_over.ensures.passed c.in-Err.ensures.refused
+
+pub returns-in-Err-clause-none : goal.returns-in-Err-clause-none
+returns-in-Err-clause-none g c = line_none _ Public g.V.KeyVersion.paserk c.args.line.now c.passed_over.result c.in-Err.error
+    c.passed_over.ensures.refused c.in-Err.ensures.refused

@@ -1,13 +1,26 @@
+use Rattle.std.proofs.Common.{None, false, refl}
 use Rattle.rusty_paseto.specs.Held.{keys_of}
+use Rattle.rusty_paseto_core.specs.Local.Boxed.{box_opening}
+use Rattle.paseto_xchacha20poly1305.specs.Sealing.{box_sealing}
 use Rattle.rusty_paseto_paserk.specs.declared.header.PaserkVersion.TheVariants.{V2}
 use Rattle.rusty_paseto_paserk.specs.declared.header.PaserkType.TheVariants.{Local}
-use Rattle.paseto_commands.specs.Ring.{unboxed_in}
-use Rattle.paseto_commands.proofs.Parsed.{parses_value}
+use Rattle.paseto_commands.specs.Arguments.{words_of}
+use Rattle.paseto_commands.specs.Check.{demanded}
+use Rattle.paseto_commands.proofs.RingParsing.{ring_lacks, ring_parses}
 use Rattle.paseto_commands.proofs.ring.unboxed.Goals as goal
 
-pub returns : goal.returns
-returns c =
+pub returns-clause-found : goal.returns-clause-found
+returns-clause-found c =
     let made = c.in_ok-parser.ensures in
-    parses_value V2 Local _ c.args.demands.now c.args.timed c.args.token.now (keys_of c.in_ok-ring.ring) _ c.in_ok-parser.parser.parser.footer
-    unboxed_in c.found.result c.parse.result
-    c.in_ok-ring.ensures made.rules made.footer c.found.ensures c.parse.ensures.parsed
+    let held = c.in_ok-parser.parser.parser in
+    ring_parses (box_opening box_sealing) Local V2 (words_of c.args.lines.now) (demanded c.args.demands.now) c.args.timed c.args.token.now
+    c.in_ok-ring.ensures.found.0 (keys_of c.in_ok-ring.ring) held.footer false None _ c.in_ok-ring.ensures.found.1 c.in_ok-ring.ensures.found.2 refl made.footer made.rules
+    c.found.result c.parse.result made.whole c.found.ensures.value c.parse.ensures.parsed
+
+pub returns-clause-none : goal.returns-clause-none
+returns-clause-none c =
+    let made = c.in_ok-parser.ensures in
+    let held = c.in_ok-parser.parser.parser in
+    ring_lacks (box_opening box_sealing) Local V2 (words_of c.args.lines.now) (demanded c.args.demands.now) c.args.timed c.args.token.now
+    c.in_ok-ring.ensures.found.0 (keys_of c.in_ok-ring.ring) held.footer false None _ c.in_ok-ring.ensures.found.1 c.in_ok-ring.ensures.found.2 refl made.footer made.rules
+    c.found.result c.parse.result c.found.ensures.refused c.parse.ensures.complete

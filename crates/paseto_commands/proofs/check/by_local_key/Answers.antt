@@ -1,0 +1,13 @@
+use Rattle.paseto_commands.proofs.check.by_local_key.Goals as goal
+
+pub returns-in-V1-clause-none : goal.returns-in-V1-clause-none
+returns-in-V1-clause-none c = rw c.in-V1.is c.opened.ensures.none
+
+pub returns-in-V2-clause-none : goal.returns-in-V2-clause-none
+returns-in-V2-clause-none c = rw c.in-V2.is c.unboxed.ensures.none
+
+pub returns-in-V3-clause-none : goal.returns-in-V3-clause-none
+returns-in-V3-clause-none c = rw c.in-V3.is c.opened-in-V3.ensures.none
+
+pub returns-in-V4-clause-none : goal.returns-in-V4-clause-none
+returns-in-V4-clause-none c = rw c.in-V4.is c.opened-in-V4.ensures.none
