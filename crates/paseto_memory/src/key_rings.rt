@@ -70,29 +70,19 @@ where
     if !run.asks_of(kind) {
         return Ok(());
     }
-    ask_adding::<V>(run, kind)?;
-    let alloc = run.alloc;
+    let (alloc, key) = (run.alloc, symmetric_key::<V>());
+    edits!(run, kind, "Ring::", ring = ring_of::<V>(alloc);
+        "add of {}, a new id" => ring.add("new", key.clone());
+        "add of {}, an id that is there" => ring.add("old", key.clone());
+    )?;
     let (ring, other) = (full_ring::<V>(alloc)?, ring_of::<V>(alloc)?);
     let token = seal::<V>(alloc, run.text, Footer::from(NEW))?;
-    let of_other = format!(in alloc; "{kind}, an id that is not there, refused")?;
-    calls!(run;
-        "Ring::open", kind => opened(&ring, token.as_str());
-        "Ring::open", of_other.as_str() => opened(&other, token.as_str());
-        "Ring::key_of", kind => ring.key_of(NEW).map(|key| *key.as_bytes());
+    calls!(run, kind;
+        "Ring::open of {}" => opened(&ring, token.as_str());
+        "Ring::open of {}, an id that is not there, refused" => opened(&other, token.as_str());
+        "Ring::key_of of {}" => ring.key_of(NEW).map(|key| *key.as_bytes());
     )?;
     ask_parsing::<V>(run, kind)
-}
-
-fn ask_adding<V: DefaultLocalVersion>(run: &mut Run<'_>, kind: &str) -> Result<()> {
-    let (alloc, key) = (run.alloc, symmetric_key::<V>());
-    let of_new = format!(in alloc; "{kind}, a new id")?;
-    let of_old = format!(in alloc; "{kind}, an id that is there")?;
-    edits!(run, "Ring::", ring_of::<V>(alloc);
-        "add", of_new.as_str() => |ring| ring.add("new", key.clone());
-    )?;
-    edits! { run, "Ring::", ring_of::<V>(alloc);
-        "add", of_old.as_str() => |ring| ring.add("old", key.clone());
-    }
 }
 
 fn ask_parsing<V: DefaultLocalVersion>(run: &mut Run<'_>, kind: &str) -> Result<()> {
@@ -100,9 +90,9 @@ fn ask_parsing<V: DefaultLocalVersion>(run: &mut Run<'_>, kind: &str) -> Result<
     let token = seal::<V>(alloc, good(alloc, run.text)?.as_str(), Footer::from(NEW))?;
     let parser = PasetoParser::<V, Local>::default(alloc, now()?)?;
     let generic = GenericParser::<V, Local>::new(alloc);
-    calls! { run;
-        "Ring::parse", kind => ring.parse(&parser, token.as_str());
-        "Ring::parse_by", kind => ring.parse_by(&generic, token.as_str());
+    calls! { run, kind;
+        "Ring::parse of {}" => ring.parse(&parser, token.as_str());
+        "Ring::parse_by of {}" => ring.parse_by(&generic, token.as_str());
     }
 }
 
@@ -113,9 +103,9 @@ fn ask_boxed(run: &mut Run<'_>) -> Result<()> {
     let parser = PasetoParser::<V2, Local>::default(alloc, now()?)?;
     let generic = GenericParser::<V2, Local>::new(alloc);
     calls! { run;
-        "Ring::open", "v2.local" => ring.open(&PlainBox, token.as_str());
-        "Ring::parse", "v2.local" => ring.parse(&PlainBox, &parser, token.as_str());
-        "Ring::parse_by", "v2.local" => ring.parse_by(&PlainBox, &generic, token.as_str());
+        "Ring::open of v2.local" => ring.open(&PlainBox, token.as_str());
+        "Ring::parse of v2.local" => ring.parse(&PlainBox, &parser, token.as_str());
+        "Ring::parse_by of v2.local" => ring.parse_by(&PlainBox, &generic, token.as_str());
     }
 }
 
@@ -135,13 +125,13 @@ fn signed<V: Signed>(run: &Run<'_>) -> Result<String> {
 fn ask_verifying(run: &mut Run<'_>) -> Result<()> {
     let (alloc, keys) = (run.alloc, Keys::of(&SECRET));
     let (ring, token) = (ring_of_public::<V1>(alloc, &keys)?, signed::<V1>(run)?);
-    calls!(run; "Ring::verify", V1::KIND => ring.verify(&Lenient, token.as_str());)?;
+    calls!(run, V1::KIND; "Ring::verify of {}" => ring.verify(&Lenient, token.as_str());)?;
     let (ring, token) = (ring_of_public::<V2>(alloc, &keys)?, signed::<V2>(run)?);
-    calls!(run; "Ring::verify", V2::KIND => ring.verify(&Lenient, token.as_str());)?;
+    calls!(run, V2::KIND; "Ring::verify of {}" => ring.verify(&Lenient, token.as_str());)?;
     let (ring, token) = (ring_of_public::<V3>(alloc, &keys)?, signed::<V3>(run)?);
-    calls!(run; "Ring::verify", V3::KIND => ring.verify(&Lenient, token.as_str(), None);)?;
+    calls!(run, V3::KIND; "Ring::verify of {}" => ring.verify(&Lenient, token.as_str(), None);)?;
     let (ring, token) = (ring_of_public::<V4>(alloc, &keys)?, signed::<V4>(run)?);
-    calls! { run; "Ring::verify", V4::KIND => ring.verify(&Lenient, token.as_str(), None); }
+    calls! { run, V4::KIND; "Ring::verify of {}" => ring.verify(&Lenient, token.as_str(), None); }
 }
 
 fn ask_public<V: Signed>(run: &mut Run<'_>, kind: &str) -> Result<()> {
@@ -149,8 +139,8 @@ fn ask_public<V: Signed>(run: &mut Run<'_>, kind: &str) -> Result<()> {
     let (ring, token) = (ring_of_public::<V>(alloc, &keys)?, signed::<V>(run)?);
     let parser = PasetoParser::<V, Public>::default(alloc, now()?)?;
     let generic = GenericParser::<V, Public>::new(alloc);
-    calls! { run;
-        "Ring::parse", kind => ring.parse(&Lenient, &parser, token.as_str());
-        "Ring::parse_by", kind => ring.parse_by(&Lenient, &generic, token.as_str());
+    calls! { run, kind;
+        "Ring::parse of {}" => ring.parse(&Lenient, &parser, token.as_str());
+        "Ring::parse_by of {}" => ring.parse_by(&Lenient, &generic, token.as_str());
     }
 }
