@@ -21,9 +21,7 @@ impl Snapshot for GenericBuilder<'_, V4, Local> {
 /// Asks them.
 pub fn ask(run: &mut Run<'_>) -> Result<()> {
     ask_claims(run)?;
-    let builder = builder_of::<V4, Local>(run.alloc, run.text)?;
-    calls!(run; "GenericBuilder::build_payload_from_claims of some claims"
-        => builder.build_payload_from_claims();)?;
+    ask_payload(run)?;
     local_kinds! { run, ask_local }
     ask_boxed(run)?;
     public_kinds! { run, ask_public }
@@ -77,6 +75,12 @@ fn ask_claims(run: &mut Run<'_>) -> Result<()> {
         "extend_claims of a map", map = map_of(alloc, SEVERAL)? => builder.extend_claims(map).map(drop);
         "put_claims of a map with a fraction, refused", map = map_of(alloc, ODD)? => builder.put_claims(map);
     }
+}
+
+fn ask_payload(run: &mut Run<'_>) -> Result<()> {
+    let builder = builder_of::<V4, Local>(run.alloc, run.text)?;
+    calls! { run; "GenericBuilder::build_payload_from_claims of some claims"
+        => builder.build_payload_from_claims(); }
 }
 
 fn ask_local<V: GenericLocalVersion>(run: &mut Run<'_>, kind: &str) -> Result<()> {

@@ -149,9 +149,9 @@ fn ask_validators(run: &mut Run<'_>) -> Result<()> {
 
 fn ask_local<V: DefaultLocalVersion>(run: &mut Run<'_>, kind: &str) -> Result<()> {
     let (alloc, key) = (run.alloc, symmetric_key());
+    let token = seal::<V>(alloc, good(alloc, run.text)?.as_str(), footer())?;
     let builder = builder_of::<V, Local>(alloc, run.text, 10)?;
     let parser = parser_of::<V, Local>(alloc)?;
-    let token = seal::<V>(alloc, good(alloc, run.text)?.as_str(), footer())?;
     calls! { run, kind;
         "PasetoBuilder::build of {}" => builder.build(&mut Zeros, &key);
         "DefaultParser::parse of {}" => parser.parse(token.as_str(), &key);
@@ -160,9 +160,9 @@ fn ask_local<V: DefaultLocalVersion>(run: &mut Run<'_>, kind: &str) -> Result<()
 
 fn ask_boxed(run: &mut Run<'_>) -> Result<()> {
     let (alloc, key) = (run.alloc, symmetric_key());
+    let token = seal_boxed(alloc, good(alloc, run.text)?.as_str(), footer())?;
     let builder = builder_of::<V2, Local>(alloc, run.text, 10)?;
     let parser = parser_of::<V2, Local>(alloc)?;
-    let token = seal_boxed(alloc, good(alloc, run.text)?.as_str(), footer())?;
     calls! { run;
         "PasetoBuilder::build of v2.local" => builder.build(&PlainBox, &mut Zeros, &key);
         "DefaultParser::parse of v2.local" => parser.parse(&PlainBox, token.as_str(), &key);
@@ -172,9 +172,9 @@ fn ask_boxed(run: &mut Run<'_>) -> Result<()> {
 fn ask_public<V: Signed>(run: &mut Run<'_>, kind: &str) -> Result<()> {
     let (alloc, keys) = (run.alloc, Keys::of(&SECRET));
     let (private, public) = (V::private_key(&keys), V::public_key(&keys)?);
+    let token = sign::<V>(alloc, good(alloc, run.text)?.as_str(), footer())?;
     let builder = builder_of::<V, Public>(alloc, run.text, 10)?;
     let parser = parser_of::<V, Public>(alloc)?;
-    let token = sign::<V>(alloc, good(alloc, run.text)?.as_str(), footer())?;
     calls! { run, kind;
         "PasetoBuilder::build of {}" => builder.build(&mut Lenient, &private);
         "DefaultParser::parse of {}" => parser.parse(&Lenient, token.as_str(), &public);

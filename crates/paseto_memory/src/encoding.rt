@@ -27,13 +27,12 @@ fn ask_sections(run: &mut Run<'_>) -> Result<()> {
     let (alloc, text) = (run.alloc, run.text);
     let (bytes, padded) = (text.as_bytes(), format!(in alloc; "{text}=")?);
     let section = to_section(alloc, bytes)?;
-    let more = b"behind a text, and so long that it has to grow";
     calls!(run;
         "to_section of a text" => to_section(alloc, bytes);
         "from_section of a section" => from_section(alloc, section.as_str());
     )?;
     edits!(run, "", out = Ok(String::from_str(alloc, "v4.")?);
-        "push_section of bytes" => push_section(more, out);
+        "push_section of bytes" => push_section(b"behind a text, and so long that it has to grow", out);
     )?;
     calls! { run; "from_section of padding, refused" => from_section(alloc, padded.as_str()); }
 }
@@ -41,12 +40,11 @@ fn ask_sections(run: &mut Run<'_>) -> Result<()> {
 fn ask_footers(run: &mut Run<'_>) -> Result<()> {
     let (alloc, section) = (run.alloc, to_section(run.alloc, run.text.as_bytes())?);
     let text = format!(in alloc; "v4.local.AAAA.{section}")?;
-    let text = text.as_str();
-    let token = UntrustedToken::try_parse(text)?;
+    let token = UntrustedToken::try_parse(text.as_str())?;
     let other = UntrustedToken::try_parse("v4.local.AAAA._w")?;
     // A token with three sections has no footer, which takes no memory to tell.
     calls! { run;
-        "Footer::try_from_token of a token" => Footer::try_from_token(alloc, text);
+        "Footer::try_from_token of a token" => Footer::try_from_token(alloc, text.as_str());
         "UntrustedToken::footer_decoded of a token" => token.footer_decoded(alloc);
         "UntrustedToken::footer_str of a token" => token.footer_str(alloc);
         "UntrustedToken::footer_str of bytes that are no text, refused" => other.footer_str(alloc);

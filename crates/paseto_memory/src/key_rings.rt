@@ -19,13 +19,16 @@ const OLD: &str = "{\"kid\":\"old\"}";
 /// A ring is known by what it answers for a token of each id.
 impl<V: DefaultLocalVersion> Snapshot for KeyRing<V> {
     fn snapshot(&self, alloc: Global) -> Result<String> {
-        let parser = GenericParser::<V, Local>::new(alloc);
-        let new = seal::<V>(alloc, "{}", Footer::from(NEW))?;
-        let old = seal::<V>(alloc, "{}", Footer::from(OLD))?;
-        let new = self.parse_by(&parser, new.as_str());
-        let old = self.parse_by(&parser, old.as_str());
-        Ok(format!(in alloc; "{new:?} {old:?}")?)
+        let (new, old) = (parsed(self, alloc, NEW)?, parsed(self, alloc, OLD)?);
+        Ok(format!(in alloc; "{new} {old}")?)
     }
+}
+
+// What a ring answers for a token whose footer names an id.
+fn parsed<V: DefaultLocalVersion>(ring: &KeyRing<V>, alloc: Global, id: &str) -> Result<String> {
+    let token = seal::<V>(alloc, "{}", Footer::from(id))?;
+    let parser = GenericParser::<V, Local>::new(alloc);
+    Ok(format!(in alloc; "{:?}", ring.parse_by(&parser, token.as_str()))?)
 }
 
 /// Asks them.
@@ -67,16 +70,13 @@ where
     F: Copy + FnOnce(&KeyRing<V>, &str) -> Result<(String, String), KeyRingError>,
     requires { F.IsAlwaysCallable opened }
 {
-    if !run.asks_of(kind) {
-        return Ok(());
-    }
     let (alloc, key) = (run.alloc, symmetric_key::<V>());
     edits!(run, kind, "Ring::", ring = ring_of::<V>(alloc);
         "add of {}, a new id" => ring.add("new", key.clone());
         "add of {}, an id that is there" => ring.add("old", key.clone());
     )?;
-    let (ring, other) = (full_ring::<V>(alloc)?, ring_of::<V>(alloc)?);
     let token = seal::<V>(alloc, run.text, Footer::from(NEW))?;
+    let (ring, other) = (full_ring::<V>(alloc)?, ring_of::<V>(alloc)?);
     calls!(run, kind;
         "Ring::open of {}" => opened(&ring, token.as_str());
         "Ring::open of {}, an id that is not there, refused" => opened(&other, token.as_str());
@@ -86,8 +86,9 @@ where
 }
 
 fn ask_parsing<V: DefaultLocalVersion>(run: &mut Run<'_>, kind: &str) -> Result<()> {
-    let (alloc, ring) = (run.alloc, full_ring::<V>(run.alloc)?);
+    let alloc = run.alloc;
     let token = seal::<V>(alloc, good(alloc, run.text)?.as_str(), Footer::from(NEW))?;
+    let ring = full_ring::<V>(alloc)?;
     let parser = PasetoParser::<V, Local>::default(alloc, now()?)?;
     let generic = GenericParser::<V, Local>::new(alloc);
     calls! { run, kind;
@@ -97,9 +98,10 @@ fn ask_parsing<V: DefaultLocalVersion>(run: &mut Run<'_>, kind: &str) -> Result<
 }
 
 fn ask_boxed(run: &mut Run<'_>) -> Result<()> {
-    let (alloc, mut ring) = (run.alloc, KeyRing::<V2>::new(run.alloc));
-    ring.add("new", symmetric_key())?;
+    let alloc = run.alloc;
     let token = seal_boxed(alloc, good(alloc, run.text)?.as_str(), Footer::from(NEW))?;
+    let mut ring = KeyRing::<V2>::new(alloc);
+    ring.add("new", symmetric_key())?;
     let parser = PasetoParser::<V2, Local>::default(alloc, now()?)?;
     let generic = GenericParser::<V2, Local>::new(alloc);
     calls! { run;
@@ -124,14 +126,18 @@ fn signed<V: Signed>(run: &Run<'_>) -> Result<String> {
 
 fn ask_verifying(run: &mut Run<'_>) -> Result<()> {
     let (alloc, keys) = (run.alloc, Keys::of(&SECRET));
-    let (ring, token) = (ring_of_public::<V1>(alloc, &keys)?, signed::<V1>(run)?);
-    calls!(run, V1::KIND; "Ring::verify of {}" => ring.verify(&Lenient, token.as_str());)?;
-    let (ring, token) = (ring_of_public::<V2>(alloc, &keys)?, signed::<V2>(run)?);
-    calls!(run, V2::KIND; "Ring::verify of {}" => ring.verify(&Lenient, token.as_str());)?;
-    let (ring, token) = (ring_of_public::<V3>(alloc, &keys)?, signed::<V3>(run)?);
-    calls!(run, V3::KIND; "Ring::verify of {}" => ring.verify(&Lenient, token.as_str(), None);)?;
-    let (ring, token) = (ring_of_public::<V4>(alloc, &keys)?, signed::<V4>(run)?);
-    calls! { run, V4::KIND; "Ring::verify of {}" => ring.verify(&Lenient, token.as_str(), None); }
+    let (first, second) = (signed::<V1>(run)?, signed::<V2>(run)?);
+    let (third, fourth) = (signed::<V3>(run)?, signed::<V4>(run)?);
+    let first_ring = ring_of_public::<V1>(alloc, &keys)?;
+    let second_ring = ring_of_public::<V2>(alloc, &keys)?;
+    let third_ring = ring_of_public::<V3>(alloc, &keys)?;
+    let fourth_ring = ring_of_public::<V4>(alloc, &keys)?;
+    calls! { run;
+        "Ring::verify of v1.public" => first_ring.verify(&Lenient, first.as_str());
+        "Ring::verify of v2.public" => second_ring.verify(&Lenient, second.as_str());
+        "Ring::verify of v3.public" => third_ring.verify(&Lenient, third.as_str(), None);
+        "Ring::verify of v4.public" => fourth_ring.verify(&Lenient, fourth.as_str(), None);
+    }
 }
 
 fn ask_public<V: Signed>(run: &mut Run<'_>, kind: &str) -> Result<()> {

@@ -35,7 +35,6 @@ fn always<T>(value: T) -> Result<T, PasetoError> {
 const DIGITS: &str = "77756262616c7562626164756264756277756262616c75626261647562647562";
 
 fn ask_keys(run: &mut Run<'_>) -> Result<()> {
-    let point = Key::<49>::from([2; 49]);
     calls! { run;
         "TryFrom::try_from of Key, with no memory" => Key::<32>::try_from(DIGITS).map(bytes_of);
         "TryFrom::try_from of Key of no digits, with no memory, refused"
@@ -43,7 +42,7 @@ fn ask_keys(run: &mut Run<'_>) -> Result<()> {
         "Key::try_new_random of a generator, with no memory"
             => Key::<32>::try_new_random(&mut Zeros).map(bytes_of);
         "TryFrom::try_from of PasetoAsymmetricPublicKey, with no memory"
-            => PasetoAsymmetricPublicKey::<V3, Public>::try_from(&point)
+            => PasetoAsymmetricPublicKey::<V3, Public>::try_from(&Key::<49>::from([2; 49]))
                 .map(|key| key.as_bytes().first_chunk::<49>().copied());
     }
 }

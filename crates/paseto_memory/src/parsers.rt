@@ -46,8 +46,7 @@ impl Snapshot for GenericParser<'_, V4, Local> {
 pub fn ask(run: &mut Run<'_>) -> Result<()> {
     ask_checks(run)?;
     ask_maps(run)?;
-    let (payload, parser) = (good(run.alloc, run.text)?, timed::<V4, Local>(run.alloc)?);
-    calls!(run; "TokenParser::value_of of a text" => parser.value_of(payload.as_str());)?;
+    ask_value(run)?;
     local_kinds! { run, ask_local }
     ask_boxed(run)?;
     public_kinds! { run, ask_public }
@@ -112,22 +111,27 @@ fn ask_maps(run: &mut Run<'_>) -> Result<()> {
     }
 }
 
+fn ask_value(run: &mut Run<'_>) -> Result<()> {
+    let (payload, parser) = (good(run.alloc, run.text)?, timed::<V4, Local>(run.alloc)?);
+    calls! { run; "TokenParser::value_of of a text" => parser.value_of(payload.as_str()); }
+}
+
 fn ask_local<V: GenericLocalVersion>(run: &mut Run<'_>, kind: &str) -> Result<()> {
-    let parser = timed::<V, Local>(run.alloc)?;
     let token = seal::<V>(run.alloc, good(run.alloc, run.text)?.as_str(), footer())?;
+    let parser = timed::<V, Local>(run.alloc)?;
     calls! { run, kind; "TokenParser::parse of {}" => parser.parse(token.as_str(), &symmetric_key()); }
 }
 
 fn ask_boxed(run: &mut Run<'_>) -> Result<()> {
-    let (parser, key) = (timed::<V2, Local>(run.alloc)?, symmetric_key());
     let token = seal_boxed(run.alloc, good(run.alloc, run.text)?.as_str(), footer())?;
+    let (parser, key) = (timed::<V2, Local>(run.alloc)?, symmetric_key());
     calls! { run; "TokenParser::parse of v2.local" => parser.parse(&PlainBox, token.as_str(), &key); }
 }
 
 fn ask_public<V: Signed>(run: &mut Run<'_>, kind: &str) -> Result<()> {
-    let (parser, keys) = (timed::<V, Public>(run.alloc)?, Keys::of(&SECRET));
-    let key = V::public_key(&keys)?;
     let token = sign::<V>(run.alloc, good(run.alloc, run.text)?.as_str(), footer())?;
+    let keys = Keys::of(&SECRET);
+    let (key, parser) = (V::public_key(&keys)?, timed::<V, Public>(run.alloc)?);
     calls! { run, kind; "TokenParser::parse of {}" => parser.parse(&Lenient, token.as_str(), &key); }
 }
 

@@ -15,10 +15,9 @@ use std::alloc::Global;
 pub fn ask(run: &mut Run<'_>) -> Result<()> {
     let (alloc, key) = (run.alloc, symmetric_key::<V4>());
     let text = local_to_paserk(alloc, &key)?;
-    let text = text.as_str();
     calls!(run;
         "local_to_paserk of v4.local" => local_to_paserk(alloc, &key);
-        "local_from_paserk of v4.local" => read_local(alloc, text);
+        "local_from_paserk of v4.local" => read_local(alloc, text.as_str());
         "local_from_paserk of another text, refused" => read_local(alloc, "k4.local.AAAA");
         "local_id of v4.local" => local_id(alloc, &key);
     )?;

@@ -179,12 +179,6 @@ pub struct Run<'a> {
 }
 
 impl Run<'_> {
-    /// Whether what the cases of this kind of tokens need has to be made: a run for one case makes nothing
-    /// for the others.
-    pub fn asks_of(&self, kind: &str) -> bool {
-        self.asked.unwrap_or(kind).contains(kind)
-    }
-
     /// Asks the lines of a table of calls.
     pub fn calls<F>(&mut self, cases: &str, of: &str, lines: F) -> Result<()>
     where
@@ -266,12 +260,8 @@ impl Run<'_> {
             true => "right",
             false => "wrong",
         };
-        let is_alike = is_memory(met) || met.after == right.after;
-        let then = if is_alike && then == right {
-            "right"
-        } else {
-            "wrong"
-        };
+        let is_right = then == right && (is_memory(met) || met.after == right.after);
+        let then = if is_right { "right" } else { "wrong" };
         writeln!(self.output, "{name}: {word}, then {then}")?;
         Ok(())
     }
