@@ -2,7 +2,7 @@
 
 use crate::claims::numbered;
 use crate::kinds::{Signed, footer, local_kinds, public_kinds, symmetric_key};
-use crate::run::{Run, Snapshot, calls, changes, edits};
+use crate::run::{Run, Snapshot, calls, edits};
 use anyhow::{Result, bail};
 use paseto_toys::generators::Zeros;
 use paseto_toys::keys::{Keys, SECRET};
@@ -21,20 +21,17 @@ impl Snapshot for GenericBuilder<'_, V4, Local> {
 /// Asks them.
 pub fn ask(run: &mut Run<'_>) -> Result<()> {
     ask_claims(run)?;
-    ask_maps(run)?;
-    let call = "GenericBuilder::build_payload_from_claims";
-    let builder = builder_of::<V4, Local>(run.alloc, run.text)?;
-    calls!(run; call, "some claims" => builder.build_payload_from_claims();)?;
+    ask_payload(run)?;
     local_kinds! { run, ask_local }
     ask_boxed(run)?;
     public_kinds! { run, ask_public }
     Ok(())
 }
 
-/// So many copies of an object of JSON as a case is given.
-pub fn three_maps(alloc: Global, json: &str) -> Result<[Map<String, Value>; 3]> {
+/// The members of an object of JSON.
+pub fn map_of(alloc: Global, json: &str) -> Result<Map<String, Value>> {
     match Value::from_str(alloc, json)? {
-        Value::Object(members) => Ok([members.clone()?, members.clone()?, members]),
+        Value::Object(members) => Ok(members),
         _ => bail!("{json} is no object"),
     }
 }
@@ -63,45 +60,45 @@ pub fn builder_of<V: VersionTrait, P: PurposeTrait>(
     Ok(builder)
 }
 
+const SEVERAL: &str = "{\"a\":[1,2],\"aud\":null,\"z\":{\"b\":\"c\"}}";
+
 fn ask_claims(run: &mut Run<'_>) -> Result<()> {
     let (alloc, text) = (run.alloc, run.text);
     let (other, odd) = (AudienceClaim::from("another one"), odd_claim(alloc)?);
     let claim = CustomClaim::try_from_str(alloc, "text", text)?;
-    edits! { run, "GenericBuilder::", builder_of::<V4, Local>(alloc, text);
-        "put_claim", "a claim" => |builder| builder.put_claim(&claim);
-        "set_claim", "a claim" => |builder| builder.set_claim(&claim).map(drop);
-        "put_claim", "a key that is there" => |builder| builder.put_claim(&other);
-        "put_claim", "a fraction, refused" => |builder| builder.put_claim(&odd);
+    edits! { run, "GenericBuilder::", builder = builder_of::<V4, Local>(alloc, text);
+        "put_claim of a claim" => builder.put_claim(&claim);
+        "set_claim of a claim" => builder.set_claim(&claim).map(drop);
+        "put_claim of a key that is there" => builder.put_claim(&other);
+        "put_claim of a fraction, refused" => builder.put_claim(&odd);
+        "put_claims of a map", map = map_of(alloc, SEVERAL)? => builder.put_claims(map);
+        "extend_claims of a map", map = map_of(alloc, SEVERAL)? => builder.extend_claims(map).map(drop);
+        "put_claims of a map with a fraction, refused", map = map_of(alloc, ODD)? => builder.put_claims(map);
     }
 }
 
-const SEVERAL: &str = "{\"a\":[1,2],\"aud\":null,\"z\":{\"b\":\"c\"}}";
-
-fn ask_maps(run: &mut Run<'_>) -> Result<()> {
-    let (alloc, text) = (run.alloc, run.text);
-    changes! { run, "GenericBuilder::", builder_of::<V4, Local>(alloc, text);
-        "put_claims", "a map" => three_maps(alloc, SEVERAL)? => |builder, map| builder.put_claims(map);
-        "extend_claims", "a map" => three_maps(alloc, SEVERAL)?
-            => |builder, map| builder.extend_claims(map).map(drop);
-        "put_claims", "a map with a fraction, refused" => three_maps(alloc, ODD)?
-            => |builder, map| builder.put_claims(map);
-    }
+fn ask_payload(run: &mut Run<'_>) -> Result<()> {
+    let builder = builder_of::<V4, Local>(run.alloc, run.text)?;
+    calls! { run; "GenericBuilder::build_payload_from_claims of some claims"
+        => builder.build_payload_from_claims(); }
 }
 
 fn ask_local<V: GenericLocalVersion>(run: &mut Run<'_>, kind: &str) -> Result<()> {
     let builder = builder_of::<V, Local>(run.alloc, run.text)?;
-    calls! { run; "GenericBuilder::try_encrypt", kind => builder.try_encrypt(&mut Zeros, &symmetric_key()); }
+    let key = symmetric_key();
+    calls! { run, kind; "GenericBuilder::try_encrypt of {}" => builder.try_encrypt(&mut Zeros, &key); }
 }
 
 fn ask_boxed(run: &mut Run<'_>) -> Result<()> {
-    let (call, key) = ("GenericBuilder::try_encrypt", symmetric_key());
+    let key = symmetric_key();
     let builder = builder_of::<V2, Local>(run.alloc, run.text)?;
-    calls! { run; call, "v2.local" => builder.try_encrypt(&PlainBox, &mut Zeros, &key); }
+    calls! { run; "GenericBuilder::try_encrypt of v2.local"
+        => builder.try_encrypt(&PlainBox, &mut Zeros, &key); }
 }
 
 fn ask_public<V: Signed>(run: &mut Run<'_>, kind: &str) -> Result<()> {
     let builder = builder_of::<V, Public>(run.alloc, run.text)?;
     let keys = Keys::of(&SECRET);
     let key = V::private_key(&keys);
-    calls! { run; "GenericBuilder::try_sign", kind => builder.try_sign(&mut Lenient, &key); }
+    calls! { run, kind; "GenericBuilder::try_sign of {}" => builder.try_sign(&mut Lenient, &key); }
 }

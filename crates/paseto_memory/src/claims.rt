@@ -25,26 +25,29 @@ impl Snapshot for CustomClaim<&str> {
 pub fn ask(run: &mut Run<'_>) -> Result<()> {
     ask_made(run)?;
     let (alloc, text) = (run.alloc, run.text);
-    ask_value(run, "&str", &text)?;
-    ask_value(run, "String", &String::from_str(alloc, text)?)?;
-    ask_value(run, "Value", &tree(alloc, text)?)?;
+    let (string, value) = (String::from_str(alloc, text)?, tree(alloc, text)?);
+    calls!(run;
+        "ClaimValue::to_value of &str" => text.to_value(alloc);
+        "ClaimValue::to_value of String" => string.to_value(alloc);
+        "ClaimValue::to_value of Value" => value.to_value(alloc);
+    )?;
     ask_json(run)
 }
 
 fn ask_made(run: &mut Run<'_>) -> Result<()> {
     let (alloc, text) = (run.alloc, run.text);
     let claim = ExpirationClaim::try_from_str(alloc, DATE)?;
-    edits!(run, "DateClaim::", Ok(None);
-        "try_from_str", "a date" => |slot| put(slot, ExpirationClaim::try_from_str(alloc, DATE));
-        "try_from_str", "no date, refused" => |slot| put(slot, ExpirationClaim::try_from_str(alloc, text));
-        "default", "its date" => |slot| put(slot, ExpirationClaim::default(alloc));
-        "try_clone", "a claim" => |slot| put(slot, claim.try_clone(alloc));
+    edits!(run, "DateClaim::", slot = Ok(None);
+        "try_from_str of a date" => put(slot, ExpirationClaim::try_from_str(alloc, DATE));
+        "try_from_str of no date, refused" => put(slot, ExpirationClaim::try_from_str(alloc, text));
+        "default of its date" => put(slot, ExpirationClaim::default(alloc));
+        "try_clone of a claim" => put(slot, claim.try_clone(alloc));
     )?;
     calls! { run;
-        "CustomClaim::try_from_str", "a key and a text" => CustomClaim::try_from_str(alloc, text, text);
-        "CustomClaim::try_from_key", "a key" => CustomClaim::<&str>::try_from_key(alloc, text);
-        "CustomClaim::try_from_str", "iss, refused" => CustomClaim::try_from_str(alloc, "iss", "a");
-        "CustomClaim::try_from_key", "jti, refused" => CustomClaim::<&str>::try_from_key(alloc, "jti");
+        "CustomClaim::try_from_str of a key and a text" => CustomClaim::try_from_str(alloc, text, text);
+        "CustomClaim::try_from_key of a key" => CustomClaim::<&str>::try_from_key(alloc, text);
+        "CustomClaim::try_from_str of iss, refused" => CustomClaim::try_from_str(alloc, "iss", "a");
+        "CustomClaim::try_from_key of jti, refused" => CustomClaim::<&str>::try_from_key(alloc, "jti");
     }
 }
 
@@ -60,23 +63,17 @@ pub fn tree(alloc: Global, text: &str) -> Result<Value> {
     Ok(Value::from_str(alloc, json.as_str())?)
 }
 
-/// Asks for the JSON of a value.
-pub fn ask_value<T: ClaimValue>(run: &mut Run<'_>, of: &str, value: &T) -> Result<()> {
-    let alloc = run.alloc;
-    calls! { run; "ClaimValue::to_value", of => value.to_value(alloc); }
-}
-
 fn ask_json(run: &mut Run<'_>) -> Result<()> {
-    let (alloc, text, call) = (run.alloc, run.text, "PasetoClaim::to_json");
+    let (alloc, text) = (run.alloc, run.text);
     let date = ExpirationClaim::try_from_str(alloc, DATE)?;
     let of_text = CustomClaim::try_from_str(alloc, "a", text)?;
     let of_number = CustomClaim::try_from_str(alloc, "a", 4u64)?;
     let of_tree = CustomClaim::try_from_str(alloc, "a", tree(alloc, text)?)?;
     calls! { run;
-        call, "TextClaim" => AudienceClaim::from(text).to_json(alloc);
-        call, "DateClaim" => date.to_json(alloc);
-        call, "CustomClaim, a text" => of_text.to_json(alloc);
-        call, "CustomClaim, a number" => of_number.to_json(alloc);
-        call, "CustomClaim, JSON" => of_tree.to_json(alloc);
+        "PasetoClaim::to_json of TextClaim" => AudienceClaim::from(text).to_json(alloc);
+        "PasetoClaim::to_json of DateClaim" => date.to_json(alloc);
+        "PasetoClaim::to_json of CustomClaim, a text" => of_text.to_json(alloc);
+        "PasetoClaim::to_json of CustomClaim, a number" => of_number.to_json(alloc);
+        "PasetoClaim::to_json of CustomClaim, JSON" => of_tree.to_json(alloc);
     }
 }

@@ -19,13 +19,16 @@ const OLD: &str = "{\"kid\":\"old\"}";
 /// A ring is known by what it answers for a token of each id.
 impl<V: DefaultLocalVersion> Snapshot for KeyRing<V> {
     fn snapshot(&self, alloc: Global) -> Result<String> {
-        let parser = GenericParser::<V, Local>::new(alloc);
-        let new = seal::<V>(alloc, "{}", Footer::from(NEW))?;
-        let old = seal::<V>(alloc, "{}", Footer::from(OLD))?;
-        let new = self.parse_by(&parser, new.as_str());
-        let old = self.parse_by(&parser, old.as_str());
-        Ok(format!(in alloc; "{new:?} {old:?}")?)
+        let (new, old) = (parsed(self, alloc, NEW)?, parsed(self, alloc, OLD)?);
+        Ok(format!(in alloc; "{new} {old}")?)
     }
+}
+
+// What a ring answers for a token whose footer names an id.
+fn parsed<V: DefaultLocalVersion>(ring: &KeyRing<V>, alloc: Global, id: &str) -> Result<String> {
+    let token = seal::<V>(alloc, "{}", Footer::from(id))?;
+    let parser = GenericParser::<V, Local>::new(alloc);
+    Ok(format!(in alloc; "{:?}", ring.parse_by(&parser, token.as_str()))?)
 }
 
 /// Asks them.
@@ -67,55 +70,44 @@ where
     F: Copy + FnOnce(&KeyRing<V>, &str) -> Result<(String, String), KeyRingError>,
     requires { F.IsAlwaysCallable opened }
 {
-    if !run.asks_of(kind) {
-        return Ok(());
-    }
-    ask_adding::<V>(run, kind)?;
-    let alloc = run.alloc;
-    let (ring, other) = (full_ring::<V>(alloc)?, ring_of::<V>(alloc)?);
+    let (alloc, key) = (run.alloc, symmetric_key::<V>());
+    edits!(run, kind, "Ring::", ring = ring_of::<V>(alloc);
+        "add of {}, a new id" => ring.add("new", key.clone());
+        "add of {}, an id that is there" => ring.add("old", key.clone());
+    )?;
     let token = seal::<V>(alloc, run.text, Footer::from(NEW))?;
-    let of_other = format!(in alloc; "{kind}, an id that is not there, refused")?;
-    calls!(run;
-        "Ring::open", kind => opened(&ring, token.as_str());
-        "Ring::open", of_other.as_str() => opened(&other, token.as_str());
-        "Ring::key_of", kind => ring.key_of(NEW).map(|key| *key.as_bytes());
+    let (ring, other) = (full_ring::<V>(alloc)?, ring_of::<V>(alloc)?);
+    calls!(run, kind;
+        "Ring::open of {}" => opened(&ring, token.as_str());
+        "Ring::open of {}, an id that is not there, refused" => opened(&other, token.as_str());
+        "Ring::key_of of {}" => ring.key_of(NEW).map(|key| *key.as_bytes());
     )?;
     ask_parsing::<V>(run, kind)
 }
 
-fn ask_adding<V: DefaultLocalVersion>(run: &mut Run<'_>, kind: &str) -> Result<()> {
-    let (alloc, key) = (run.alloc, symmetric_key::<V>());
-    let of_new = format!(in alloc; "{kind}, a new id")?;
-    let of_old = format!(in alloc; "{kind}, an id that is there")?;
-    edits!(run, "Ring::", ring_of::<V>(alloc);
-        "add", of_new.as_str() => |ring| ring.add("new", key.clone());
-    )?;
-    edits! { run, "Ring::", ring_of::<V>(alloc);
-        "add", of_old.as_str() => |ring| ring.add("old", key.clone());
-    }
-}
-
 fn ask_parsing<V: DefaultLocalVersion>(run: &mut Run<'_>, kind: &str) -> Result<()> {
-    let (alloc, ring) = (run.alloc, full_ring::<V>(run.alloc)?);
+    let alloc = run.alloc;
     let token = seal::<V>(alloc, good(alloc, run.text)?.as_str(), Footer::from(NEW))?;
+    let ring = full_ring::<V>(alloc)?;
     let parser = PasetoParser::<V, Local>::default(alloc, now()?)?;
     let generic = GenericParser::<V, Local>::new(alloc);
-    calls! { run;
-        "Ring::parse", kind => ring.parse(&parser, token.as_str());
-        "Ring::parse_by", kind => ring.parse_by(&generic, token.as_str());
+    calls! { run, kind;
+        "Ring::parse of {}" => ring.parse(&parser, token.as_str());
+        "Ring::parse_by of {}" => ring.parse_by(&generic, token.as_str());
     }
 }
 
 fn ask_boxed(run: &mut Run<'_>) -> Result<()> {
-    let (alloc, mut ring) = (run.alloc, KeyRing::<V2>::new(run.alloc));
-    ring.add("new", symmetric_key())?;
+    let alloc = run.alloc;
     let token = seal_boxed(alloc, good(alloc, run.text)?.as_str(), Footer::from(NEW))?;
+    let mut ring = KeyRing::<V2>::new(alloc);
+    ring.add("new", symmetric_key())?;
     let parser = PasetoParser::<V2, Local>::default(alloc, now()?)?;
     let generic = GenericParser::<V2, Local>::new(alloc);
     calls! { run;
-        "Ring::open", "v2.local" => ring.open(&PlainBox, token.as_str());
-        "Ring::parse", "v2.local" => ring.parse(&PlainBox, &parser, token.as_str());
-        "Ring::parse_by", "v2.local" => ring.parse_by(&PlainBox, &generic, token.as_str());
+        "Ring::open of v2.local" => ring.open(&PlainBox, token.as_str());
+        "Ring::parse of v2.local" => ring.parse(&PlainBox, &parser, token.as_str());
+        "Ring::parse_by of v2.local" => ring.parse_by(&PlainBox, &generic, token.as_str());
     }
 }
 
@@ -134,14 +126,18 @@ fn signed<V: Signed>(run: &Run<'_>) -> Result<String> {
 
 fn ask_verifying(run: &mut Run<'_>) -> Result<()> {
     let (alloc, keys) = (run.alloc, Keys::of(&SECRET));
-    let (ring, token) = (ring_of_public::<V1>(alloc, &keys)?, signed::<V1>(run)?);
-    calls!(run; "Ring::verify", V1::KIND => ring.verify(&Lenient, token.as_str());)?;
-    let (ring, token) = (ring_of_public::<V2>(alloc, &keys)?, signed::<V2>(run)?);
-    calls!(run; "Ring::verify", V2::KIND => ring.verify(&Lenient, token.as_str());)?;
-    let (ring, token) = (ring_of_public::<V3>(alloc, &keys)?, signed::<V3>(run)?);
-    calls!(run; "Ring::verify", V3::KIND => ring.verify(&Lenient, token.as_str(), None);)?;
-    let (ring, token) = (ring_of_public::<V4>(alloc, &keys)?, signed::<V4>(run)?);
-    calls! { run; "Ring::verify", V4::KIND => ring.verify(&Lenient, token.as_str(), None); }
+    let (first, second) = (signed::<V1>(run)?, signed::<V2>(run)?);
+    let (third, fourth) = (signed::<V3>(run)?, signed::<V4>(run)?);
+    let first_ring = ring_of_public::<V1>(alloc, &keys)?;
+    let second_ring = ring_of_public::<V2>(alloc, &keys)?;
+    let third_ring = ring_of_public::<V3>(alloc, &keys)?;
+    let fourth_ring = ring_of_public::<V4>(alloc, &keys)?;
+    calls! { run;
+        "Ring::verify of v1.public" => first_ring.verify(&Lenient, first.as_str());
+        "Ring::verify of v2.public" => second_ring.verify(&Lenient, second.as_str());
+        "Ring::verify of v3.public" => third_ring.verify(&Lenient, third.as_str(), None);
+        "Ring::verify of v4.public" => fourth_ring.verify(&Lenient, fourth.as_str(), None);
+    }
 }
 
 fn ask_public<V: Signed>(run: &mut Run<'_>, kind: &str) -> Result<()> {
@@ -149,8 +145,8 @@ fn ask_public<V: Signed>(run: &mut Run<'_>, kind: &str) -> Result<()> {
     let (ring, token) = (ring_of_public::<V>(alloc, &keys)?, signed::<V>(run)?);
     let parser = PasetoParser::<V, Public>::default(alloc, now()?)?;
     let generic = GenericParser::<V, Public>::new(alloc);
-    calls! { run;
-        "Ring::parse", kind => ring.parse(&Lenient, &parser, token.as_str());
-        "Ring::parse_by", kind => ring.parse_by(&Lenient, &generic, token.as_str());
+    calls! { run, kind;
+        "Ring::parse of {}" => ring.parse(&Lenient, &parser, token.as_str());
+        "Ring::parse_by of {}" => ring.parse_by(&Lenient, &generic, token.as_str());
     }
 }

@@ -4,12 +4,10 @@ use paseto_toys::Lenient;
 use paseto_toys::keys::{SECRET, ToyVersion};
 use rusty_paseto::prelude::*;
 
-/// Asks the cases of each kind of tokens, where one of them may be asked.
+/// Asks the cases of each kind of tokens.
 macro_rules! kinds {
     ($run:expr, $ask:ident; $($version:ident $kind:literal)*) => {
-        $(if $run.asks_of($kind) {
-            $ask::<rusty_paseto::prelude::$version>($run, $kind)?;
-        })*
+        $($ask::<rusty_paseto::prelude::$version>($run, $kind)?;)*
     };
 }
 

@@ -32,9 +32,9 @@ const LONGEST: usize = 1_000_000;
 fn main(rt: HostRuntime) -> Result<()> {
     let alloc = rt.alloc();
     let words: Vec<String> = env::args(&rt)?.skip(1).collect(alloc)?;
-    let asked = match words.first() {
-        Some(name) if name.as_str() != "all" => Some(name.as_str()),
-        _ => None,
+    let (asked, marks) = match words.first() {
+        Some(name) if name.as_str() != "all" => (Some(name.as_str()), Some(rt.stdout())),
+        _ => (None, None),
     };
     let length = match words.get(1) {
         Some(length) => length.as_str().parse::<usize>()?,
@@ -47,6 +47,7 @@ fn main(rt: HostRuntime) -> Result<()> {
         text: text.as_str(),
         output: rt.stdout(),
         asked,
+        marks,
         found: false,
     };
     ask(&mut run)?;

@@ -1,10 +1,10 @@
 //! The calls that take no memory. `tests/memory.sh` counts that they make no request for any: the name of
 //! each case ends in `with no memory`.
 
-use crate::claims::{DATE, ask_value, tree};
+use crate::claims::{DATE, tree};
 use crate::kinds::bytes_of;
 use crate::parsers::now;
-use crate::run::{Run, calls, changes, edits, put, three};
+use crate::run::{Run, calls, edits, put};
 use crate::{builders, defaults, parsers, primitives};
 use anyhow::Result;
 use paseto_toys::generators::Zeros;
@@ -20,11 +20,10 @@ pub fn ask(run: &mut Run<'_>) -> Result<()> {
     ask_values(run)?;
     ask_claims(run)?;
     ask_objects(run)?;
-    ask_setters(run)?;
     let (now, text) = (now()?, run.text.as_bytes());
     calls! { run;
-        "fits_default", "a moment, with no memory" => always(fits_default(now));
-        "the primitives", "a text, with no memory" => always(primitives::digest(text));
+        "fits_default of a moment, with no memory" => always(fits_default(now));
+        "the primitives of a text, with no memory" => always(primitives::digest(text));
     }
 }
 
@@ -36,30 +35,31 @@ fn always<T>(value: T) -> Result<T, PasetoError> {
 const DIGITS: &str = "77756262616c7562626164756264756277756262616c75626261647562647562";
 
 fn ask_keys(run: &mut Run<'_>) -> Result<()> {
-    let (call, point) = ("TryFrom::try_from", Key::<49>::from([2; 49]));
     calls! { run;
-        call, "Key, with no memory" => Key::<32>::try_from(DIGITS).map(bytes_of);
-        call, "Key of no digits, with no memory, refused" => Key::<32>::try_from("no digits").map(bytes_of);
-        "Key::try_new_random", "a generator, with no memory"
+        "TryFrom::try_from of Key, with no memory" => Key::<32>::try_from(DIGITS).map(bytes_of);
+        "TryFrom::try_from of Key of no digits, with no memory, refused"
+            => Key::<32>::try_from("no digits").map(bytes_of);
+        "Key::try_new_random of a generator, with no memory"
             => Key::<32>::try_new_random(&mut Zeros).map(bytes_of);
-        call, "PasetoAsymmetricPublicKey, with no memory"
-            => PasetoAsymmetricPublicKey::<V3, Public>::try_from(&point)
+        "TryFrom::try_from of PasetoAsymmetricPublicKey, with no memory"
+            => PasetoAsymmetricPublicKey::<V3, Public>::try_from(&Key::<49>::from([2; 49]))
                 .map(|key| key.as_bytes().first_chunk::<49>().copied());
     }
 }
 
 fn ask_texts(run: &mut Run<'_>) -> Result<()> {
-    let (text, call) = (run.text, "UntrustedToken::try_parse");
+    let text = run.text;
     let token = format!(in run.alloc; "v4.local.{text}.a2V5LTE")?;
     let token = token.as_str();
     calls! { run;
-        call, "a token, with no memory" => UntrustedToken::try_parse(token);
-        call, "two sections, with no memory, refused" => UntrustedToken::try_parse("v4.local");
-        "the parts of a token", "its text, with no memory" => UntrustedToken::try_parse(token).map(|parts| (
+        "UntrustedToken::try_parse of a token, with no memory" => UntrustedToken::try_parse(token);
+        "UntrustedToken::try_parse of two sections, with no memory, refused"
+            => UntrustedToken::try_parse("v4.local");
+        "the parts of a token of its text, with no memory" => UntrustedToken::try_parse(token).map(|parts| (
             (parts.version(), parts.purpose(), parts.footer_base64()), split_token(token),
             is_section_of(parts.footer_base64().unwrap_or(""), b"key-1"),
         ));
-        "texts, keys and Paseto", "a text, with no memory" => texts_of(text);
+        "texts, keys and Paseto of a text, with no memory" => texts_of(text);
     }
 }
 
@@ -85,18 +85,18 @@ fn texts_of(text: &str) -> Result<[usize; 8], PasetoError> {
 }
 
 fn ask_values(run: &mut Run<'_>) -> Result<()> {
-    ask_value(run, "bool, with no memory", &true)?;
-    ask_value(run, "i8, with no memory", &-8i8)?;
-    ask_value(run, "i16, with no memory", &-16i16)?;
-    ask_value(run, "i32, with no memory", &-32i32)?;
-    ask_value(run, "i64, with no memory", &-64i64)?;
-    ask_value(run, "u8, with no memory", &8u8)?;
-    ask_value(run, "u16, with no memory", &16u16)?;
-    ask_value(run, "u32, with no memory", &32u32)?;
-    ask_value(run, "u64, with no memory", &64u64)?;
-    let value = &tree(run.alloc, run.text)?;
+    let (alloc, value) = (run.alloc, &tree(run.alloc, run.text)?);
     calls! { run;
-        "is_whole, odd_key and same_value", "JSON, with no memory"
+        "ClaimValue::to_value of bool, with no memory" => true.to_value(alloc);
+        "ClaimValue::to_value of i8, with no memory" => (-8i8).to_value(alloc);
+        "ClaimValue::to_value of i16, with no memory" => (-16i16).to_value(alloc);
+        "ClaimValue::to_value of i32, with no memory" => (-32i32).to_value(alloc);
+        "ClaimValue::to_value of i64, with no memory" => (-64i64).to_value(alloc);
+        "ClaimValue::to_value of u8, with no memory" => 8u8.to_value(alloc);
+        "ClaimValue::to_value of u16, with no memory" => 16u16.to_value(alloc);
+        "ClaimValue::to_value of u32, with no memory" => 32u32.to_value(alloc);
+        "ClaimValue::to_value of u64, with no memory" => 64u64.to_value(alloc);
+        "is_whole, odd_key and same_value of JSON, with no memory"
             => always((same_value(value, value), is_whole(value), odd_key(value).is_some()));
     }
 }
@@ -105,32 +105,19 @@ fn ask_claims(run: &mut Run<'_>) -> Result<()> {
     let (alloc, text) = (run.alloc, run.text);
     let claim = CustomClaim::try_from_str(alloc, "a", "b")?;
     calls!(run;
-        "get_key and as_pair", "claims, with no memory" => always((
+        "get_key and as_pair of claims, with no memory" => always((
             (claim.get_key().len(), claim.as_pair().0.len()),
             (AudienceClaim::from(text).as_pair().1.len(), AudienceClaim::default().get_key().len()),
         ));
     )?;
     // Claims that are made of a text that is given, and so not copied.
-    changes!(run, "CustomClaim::", Ok(None);
-        "try_from_string", "a key, with no memory" => three!(String::from_str(alloc, text)?)
-            => |slot, key| put(slot, CustomClaim::try_from_string(key, "a"));
+    edits!(run, "CustomClaim::", slot = Ok(None);
+        "try_from_string of a key, with no memory", key = String::from_str(alloc, text)?
+            => put(slot, CustomClaim::try_from_string(key, "a"));
     )?;
-    changes! { run, "DateClaim::", Ok(None);
-        "try_from_string", "a date, with no memory" => three!(String::from_str(alloc, DATE)?)
-            => |slot, text| put(slot, ExpirationClaim::try_from_string(alloc, text));
-    }
-}
-
-fn ask_objects(run: &mut Run<'_>) -> Result<()> {
-    let (alloc, of) = (run.alloc, "nothing, with no memory");
-    edits!(run, "GenericBuilder::", Ok(None);
-        "new", of => |slot| put(slot, always(GenericBuilder::<V4, Local>::new(alloc)));
-    )?;
-    edits!(run, "TokenParser::", Ok(None);
-        "new", of => |slot| put(slot, always(GenericParser::<V4, Local>::new(alloc)));
-    )?;
-    edits! { run, "DefaultParser::", Ok(None);
-        "new", of => |slot| put(slot, always(PasetoParser::<V4, Local>::new(alloc)));
+    edits! { run, "DateClaim::", slot = Ok(None);
+        "try_from_string of a date, with no memory", text = String::from_str(alloc, DATE)?
+            => put(slot, ExpirationClaim::try_from_string(alloc, text));
     }
 }
 
@@ -143,23 +130,31 @@ macro_rules! bind {
     }};
 }
 
-fn ask_setters(run: &mut Run<'_>) -> Result<()> {
-    let (alloc, now, of) = (run.alloc, now()?, "a builder, with no memory");
-    edits!(run, "GenericBuilder::", builders::builder_of::<V4, Local>(alloc, "a");
-        "remove_claim and others", of => |builder| bind!(builder.remove_claim("aud"));
+fn ask_objects(run: &mut Run<'_>) -> Result<()> {
+    let (alloc, now) = (run.alloc, now()?);
+    edits!(run, "GenericBuilder::", slot = Ok(None);
+        "new of nothing, with no memory" => put(slot, always(GenericBuilder::<V4, Local>::new(alloc)));
     )?;
-    edits!(run, "PasetoBuilder::", defaults::builder_of::<V4, Local>(alloc, "a", 0);
-        "set_footer and others", of => |builder| bind!(builder);
+    edits!(run, "TokenParser::", slot = Ok(None);
+        "new of nothing, with no memory" => put(slot, always(GenericParser::<V4, Local>::new(alloc)));
     )?;
-    let of = "a parser, with no memory";
-    edits!(run, "TokenParser::", parsers::parser_of::<V4, Local>(alloc);
-        "set_footer and others", of => |parser| {
+    edits!(run, "DefaultParser::", slot = Ok(None);
+        "new of nothing, with no memory" => put(slot, always(PasetoParser::<V4, Local>::new(alloc)));
+    )?;
+    edits!(run, "GenericBuilder::", builder = builders::builder_of::<V4, Local>(alloc, "a");
+        "remove_claim and others of a builder, with no memory" => bind!(builder.remove_claim("aud"));
+    )?;
+    edits!(run, "PasetoBuilder::", builder = defaults::builder_of::<V4, Local>(alloc, "a", 0);
+        "set_footer and others of a builder, with no memory" => bind!(builder);
+    )?;
+    edits!(run, "TokenParser::", parser = parsers::parser_of::<V4, Local>(alloc);
+        "set_footer and others of a parser, with no memory" => {
             let is_empty = parser.get_footer().as_str().is_empty();
             parser.set_now(now).set_footer(Footer::from(if is_empty { "" } else { "another" }));
             always(())
         };
     )?;
-    edits! { run, "DefaultParser::", defaults::parser_of::<V4, Local>(alloc);
-        "set_footer and others", of => |parser| bind!(parser.set_now(now));
+    edits! { run, "DefaultParser::", parser = defaults::parser_of::<V4, Local>(alloc);
+        "set_footer and others of a parser, with no memory" => bind!(parser.set_now(now));
     }
 }

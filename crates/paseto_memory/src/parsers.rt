@@ -1,11 +1,11 @@
 //! The calls of generic parsers.
 
-use crate::builders::{ODD, odd_claim, three_maps};
+use crate::builders::{ODD, map_of, odd_claim};
 use crate::claims::numbered;
 use crate::kinds::{Signed, footer, local_kinds, public_kinds, symmetric_key};
-use crate::run::{Run, Snapshot, calls, changes, edits, three};
+use crate::run::{Run, Snapshot, calls, edits};
 use crate::tokens::{seal, seal_boxed, sign};
-use crate::validators::{refusing, validators};
+use crate::validators::{Refuses, validators};
 use anyhow::Result;
 use jiff::Timestamp;
 use paseto_toys::keys::{Keys, SECRET};
@@ -45,11 +45,8 @@ impl Snapshot for GenericParser<'_, V4, Local> {
 /// Asks them.
 pub fn ask(run: &mut Run<'_>) -> Result<()> {
     ask_checks(run)?;
-    ask_validators(run)?;
     ask_maps(run)?;
-    ask_times(run)?;
-    let (payload, parser) = (good(run.alloc, run.text)?, timed::<V4, Local>(run.alloc)?);
-    calls!(run; "TokenParser::value_of", "a text" => parser.value_of(payload.as_str());)?;
+    ask_value(run)?;
     local_kinds! { run, ask_local }
     ask_boxed(run)?;
     public_kinds! { run, ask_public }
@@ -77,27 +74,21 @@ fn timed<V: VersionTrait, P: PurposeTrait>(alloc: Global) -> Result<GenericParse
 }
 
 fn ask_checks(run: &mut Run<'_>) -> Result<()> {
-    let (alloc, claim) = (run.alloc, AudienceClaim::from("others"));
+    let (alloc, own) = (run.alloc, AudienceClaim::from("customers"));
+    let claim = AudienceClaim::from("others");
     let seats = CustomClaim::try_from_str(alloc, "seats", 5u64)?;
     let odd = odd_claim(alloc)?;
-    edits! { run, "TokenParser::", parser_of::<V4, Local>(alloc);
-        "put_check", "a claim" => |parser| parser.put_check(&claim);
-        "check_claim", "a claim" => |parser| parser.check_claim(&claim).map(drop);
-        "put_check", "a key that is there" => |parser| parser.put_check(&seats);
-        "put_check", "a fraction, refused" => |parser| parser.put_check(&odd);
-    }
-}
-
-fn ask_validators(run: &mut Run<'_>) -> Result<()> {
-    let (alloc, claim) = (run.alloc, AudienceClaim::from("customers"));
-    let (odd, of) = (odd_claim(alloc)?, "a fraction, refused");
-    changes! { run, "TokenParser::", parser_of::<V4, Local>(alloc);
-        "put_validator", of => refusing!(alloc) => |parser, given| parser.put_validator(&odd, given);
-        "put_checks", "a map with a fraction, refused" => three_maps(alloc, ODD)?
-            => |parser, map| parser.put_checks(map);
-        "put_validator", "a claim" => refusing!(alloc) => |parser, given| parser.put_validator(&claim, given);
-        "validate_claim", "a claim" => refusing!(alloc)
-            => |parser, given| parser.validate_claim(&claim, given).map(drop);
+    edits! { run, "TokenParser::", parser = parser_of::<V4, Local>(alloc);
+        "put_check of a claim" => parser.put_check(&claim);
+        "check_claim of a claim" => parser.check_claim(&claim).map(drop);
+        "put_check of a key that is there" => parser.put_check(&seats);
+        "put_check of a fraction, refused" => parser.put_check(&odd);
+        "put_validator of a fraction, refused", given = Box::new(alloc, Refuses)?
+            => parser.put_validator(&odd, given);
+        "put_checks of a map with a fraction, refused", map = map_of(alloc, ODD)? => parser.put_checks(map);
+        "put_validator of a claim", given = Box::new(alloc, Refuses)? => parser.put_validator(&own, given);
+        "validate_claim of a claim", given = Box::new(alloc, Refuses)?
+            => parser.validate_claim(&own, given).map(drop);
     }
 }
 
@@ -105,45 +96,43 @@ fn ask_validators(run: &mut Run<'_>) -> Result<()> {
 pub const SEVERAL: &str = "{\"a\":{\"a\":1},\"aud\":{\"aud\":\"others\"},\"seats\":5}";
 
 fn ask_maps(run: &mut Run<'_>) -> Result<()> {
-    let alloc = run.alloc;
-    changes! { run, "TokenParser::", parser_of::<V4, Local>(alloc);
-        "put_checks", "a map" => three_maps(alloc, SEVERAL)? => |parser, map| parser.put_checks(map);
-        "extend_check_claims", "a map" => three_maps(alloc, SEVERAL)?
-            => |parser, map| parser.extend_check_claims(map).map(drop);
-        "put_validators", "a map" => three!(validators(alloc, refusing!(alloc))?)
-            => |parser, map| parser.put_validators(map);
-        "extend_validation_claims", "a map" => three!(validators(alloc, refusing!(alloc))?)
-            => |parser, map| parser.extend_validation_claims(map).map(drop);
+    let (alloc, now) = (run.alloc, now()?);
+    edits! { run, "TokenParser::", parser = parser_of::<V4, Local>(alloc);
+        "put_checks of a map", map = map_of(alloc, SEVERAL)? => parser.put_checks(map);
+        "extend_check_claims of a map", map = map_of(alloc, SEVERAL)?
+            => parser.extend_check_claims(map).map(drop);
+        "put_validators of a map", map = validators!(alloc) => parser.put_validators(map);
+        "extend_validation_claims of a map", map = validators!(alloc)
+            => parser.extend_validation_claims(map).map(drop);
+        "put_required of a claim" => parser.put_required("sub");
+        "require_claim of a claim" => parser.require_claim("sub").map(drop);
+        "put_times of a moment" => parser.put_times(now);
+        "check_times of a moment" => parser.check_times(now).map(drop);
     }
 }
 
-fn ask_times(run: &mut Run<'_>) -> Result<()> {
-    let (alloc, now) = (run.alloc, now()?);
-    edits! { run, "TokenParser::", parser_of::<V4, Local>(alloc);
-        "put_required", "a claim" => |parser| parser.put_required("sub");
-        "require_claim", "a claim" => |parser| parser.require_claim("sub").map(drop);
-        "put_times", "a moment" => |parser| parser.put_times(now);
-        "check_times", "a moment" => |parser| parser.check_times(now).map(drop);
-    }
+fn ask_value(run: &mut Run<'_>) -> Result<()> {
+    let (payload, parser) = (good(run.alloc, run.text)?, timed::<V4, Local>(run.alloc)?);
+    calls! { run; "TokenParser::value_of of a text" => parser.value_of(payload.as_str()); }
 }
 
 fn ask_local<V: GenericLocalVersion>(run: &mut Run<'_>, kind: &str) -> Result<()> {
-    let parser = timed::<V, Local>(run.alloc)?;
     let token = seal::<V>(run.alloc, good(run.alloc, run.text)?.as_str(), footer())?;
-    calls! { run; "TokenParser::parse", kind => parser.parse(token.as_str(), &symmetric_key()); }
+    let parser = timed::<V, Local>(run.alloc)?;
+    calls! { run, kind; "TokenParser::parse of {}" => parser.parse(token.as_str(), &symmetric_key()); }
 }
 
 fn ask_boxed(run: &mut Run<'_>) -> Result<()> {
-    let (parser, key) = (timed::<V2, Local>(run.alloc)?, symmetric_key());
     let token = seal_boxed(run.alloc, good(run.alloc, run.text)?.as_str(), footer())?;
-    calls! { run; "TokenParser::parse", "v2.local" => parser.parse(&PlainBox, token.as_str(), &key); }
+    let (parser, key) = (timed::<V2, Local>(run.alloc)?, symmetric_key());
+    calls! { run; "TokenParser::parse of v2.local" => parser.parse(&PlainBox, token.as_str(), &key); }
 }
 
 fn ask_public<V: Signed>(run: &mut Run<'_>, kind: &str) -> Result<()> {
-    let (parser, keys) = (timed::<V, Public>(run.alloc)?, Keys::of(&SECRET));
-    let key = V::public_key(&keys)?;
     let token = sign::<V>(run.alloc, good(run.alloc, run.text)?.as_str(), footer())?;
-    calls! { run; "TokenParser::parse", kind => parser.parse(&Lenient, token.as_str(), &key); }
+    let keys = Keys::of(&SECRET);
+    let (key, parser) = (V::public_key(&keys)?, timed::<V, Public>(run.alloc)?);
+    calls! { run, kind; "TokenParser::parse of {}" => parser.parse(&Lenient, token.as_str(), &key); }
 }
 
 // Payloads that are no JSON, or fail a check, and so are refused.
@@ -169,7 +158,7 @@ fn ask_failed_checks(run: &mut Run<'_>) -> Result<()> {
     }
     ask_refused(run, "an expired token, refused", payload, &parser)?;
     let mut parser = parser_of(alloc)?;
-    parser.put_validators(validators(alloc, refusing!(alloc))?)?;
+    parser.put_validators(validators!(alloc))?;
     ask_refused(run, "what a validator refuses, refused", payload, &parser)
 }
 
@@ -177,5 +166,5 @@ type Refusing<'a> = &'a GenericParser<'static, V4, Local>;
 
 fn ask_refused(run: &mut Run<'_>, of: &str, payload: &str, parser: Refusing<'_>) -> Result<()> {
     let token = seal::<V4>(run.alloc, payload, footer())?;
-    calls! { run; "TokenParser::parse", of => parser.parse(token.as_str(), &symmetric_key()); }
+    calls! { run, of; "TokenParser::parse of {}" => parser.parse(token.as_str(), &symmetric_key()); }
 }

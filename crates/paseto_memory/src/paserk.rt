@@ -15,12 +15,11 @@ use std::alloc::Global;
 pub fn ask(run: &mut Run<'_>) -> Result<()> {
     let (alloc, key) = (run.alloc, symmetric_key::<V4>());
     let text = local_to_paserk(alloc, &key)?;
-    let text = text.as_str();
     calls!(run;
-        "local_to_paserk", "v4.local" => local_to_paserk(alloc, &key);
-        "local_from_paserk", "v4.local" => read_local(alloc, text);
-        "local_from_paserk", "another text, refused" => read_local(alloc, "k4.local.AAAA");
-        "local_id", "v4.local" => local_id(alloc, &key);
+        "local_to_paserk of v4.local" => local_to_paserk(alloc, &key);
+        "local_from_paserk of v4.local" => read_local(alloc, text.as_str());
+        "local_from_paserk of another text, refused" => read_local(alloc, "k4.local.AAAA");
+        "local_id of v4.local" => local_id(alloc, &key);
     )?;
     ask_pairs(run)
 }
@@ -37,11 +36,11 @@ fn ask_pairs(run: &mut Run<'_>) -> Result<()> {
     let text = public_to_paserk(alloc, &public)?;
     let (secret, text) = (secret.as_str(), text.as_str());
     calls! { run;
-        "secret_to_paserk", "v4.public" => secret_to_paserk(alloc, &private);
-        "secret_from_paserk", "v4.public" => secret_from_paserk::<V4, 64>(alloc, secret).map(bytes_of);
-        "secret_id", "v4.public" => secret_id(alloc, &private);
-        "public_to_paserk", "v4.public" => public_to_paserk(alloc, &public);
-        "public_from_paserk", "v4.public" => public_from_paserk::<V4, 32>(alloc, text).map(bytes_of);
-        "public_id", "v4.public" => public_id(alloc, &public);
+        "secret_to_paserk of v4.public" => secret_to_paserk(alloc, &private);
+        "secret_from_paserk of v4.public" => secret_from_paserk::<V4, 64>(alloc, secret).map(bytes_of);
+        "secret_id of v4.public" => secret_id(alloc, &private);
+        "public_to_paserk of v4.public" => public_to_paserk(alloc, &public);
+        "public_from_paserk of v4.public" => public_from_paserk::<V4, 32>(alloc, text).map(bytes_of);
+        "public_id of v4.public" => public_id(alloc, &public);
     }
 }

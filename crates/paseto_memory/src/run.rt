@@ -1,55 +1,56 @@
 //! A run over the cases.
 
-use anyhow::{Result, ensure};
+use anyhow::{Context, Error, Result, ensure};
 use std::alloc::Global;
 use std::fmt::Debug;
 use std::io::{Stdout, Write};
 
-/// A line for each case of a call that changes nothing: what is called, of what, and the call.
+/// A table of calls that change nothing. A line is a case: its name, and the call. `{}` in a name stands for
+/// the text that is given after the run.
 macro_rules! calls {
-    ($run:expr; $($call:expr, $of:expr => $asked:expr;)*) => {{
-        $($run.call($call, $of, || $asked)?;)*
-        Ok::<(), anyhow::Error>(())
-    }};
-}
-
-/// A line for each case of a method that edits an object and is given nothing: what is called, of what, and
-/// the edit. Before them stand the path of the type, and how an object is made.
-macro_rules! edits {
-    ($run:expr, $path:expr, $object:expr; $($call:expr, $of:expr => |$name:ident| $edit:expr;)*) => {{
-        let make = || $object;
-        $($run.edit([$path, $call, $of], make, [(), (), ()], |$name, _| $edit)?;)*
-        Ok::<(), anyhow::Error>(())
-    }};
-}
-
-/// The same for methods that are given a value, of which three are made.
-macro_rules! changes {
-    (
-        $run:expr, $path:expr, $object:expr;
-        $($call:expr, $of:expr => $given:expr => |$name:ident, $value:ident| $edit:expr;)*
-    ) => {{
-        let make = || $object;
-        $($run.edit([$path, $call, $of], make, $given, |$name, $value| $edit)?;)*
-        Ok::<(), anyhow::Error>(())
-    }};
-}
-
-/// So many values as a case is given.
-macro_rules! three {
-    ($value:expr) => {
-        [$value, $value, $value]
+    ($run:expr; $($lines:tt)*) => { $crate::run::calls! { $run, ""; $($lines)* } };
+    ($run:expr, $of:expr; $($case:literal => $asked:expr;)*) => {
+        $run.calls(concat!($($case, "\n"),*), $of, |round, _| {
+            $(if round.begins() {
+                round.ends($asked);
+            })*
+            Ok(())
+        })
     };
 }
 
+/// A table of methods that edit an object: the path of its type, its name in the lines, and how one is made.
+/// What a method is given is made before the edit.
+macro_rules! edits {
+    (
+        $run:expr, $of:expr, $path:literal, $object:ident = $made:expr;
+        $($case:literal $(, $value:ident = $given:expr)? => $edit:expr;)*
+    ) => {
+        $run.table(concat!($($path, $case, "\n"),*), $of, || $made, true, |round, $object| {
+            $(if round.is_next() {
+                $(let $value = $given;)?
+                round.begin();
+                round.ends($edit);
+            })*
+            Ok(())
+        })
+    };
+    ($run:expr, $($table:tt)*) => { $crate::run::edits! { $run, "", $($table)* } };
+}
+
 pub(crate) use calls;
-pub(crate) use changes;
 pub(crate) use edits;
-pub(crate) use three;
 
 /// What has a snapshot: a text that is the same for two objects that answer alike.
 pub trait Snapshot: Drop {
     fn snapshot(&self, alloc: Global) -> Result<String>;
+}
+
+/// What is called of nothing, and so changes nothing.
+impl Snapshot for () {
+    fn snapshot(&self, alloc: Global) -> Result<String> {
+        Ok(String::new(alloc))
+    }
 }
 
 impl Snapshot for String {
@@ -74,15 +75,66 @@ pub fn put<T: Drop, E>(slot: &mut Option<T>, made: Result<T, E>) -> Result<(), E
     Ok(())
 }
 
+/// A time that one line of a table is asked.
+#[derive(Drop)]
+pub struct Round {
+    alloc: Global,
+    /// How many lines come before the one that is asked.
+    before: usize,
+    /// Where `memory: begin` and `memory: end` are written around the call, each in one piece. Memory may be
+    /// refused between the two.
+    marks: Option<Stdout>,
+    /// What the call answered, as `Debug` shows it, unless something else failed.
+    answer: Result<Option<String>>,
+}
+
+impl Round {
+    /// Whether the next line is the one that is asked.
+    pub fn is_next(&mut self) -> bool {
+        let is_next = self.before == 0;
+        self.before = self.before.wrapping_sub(1);
+        is_next
+    }
+
+    /// Marks that the call begins.
+    pub fn begin(&mut self) {
+        if let Err(error) = self.mark("memory: begin\n") {
+            self.answer = Err(error);
+        }
+    }
+
+    /// Whether the next line is the one that is asked, whose call then begins.
+    pub fn begins(&mut self) -> bool {
+        let is_next = self.is_next();
+        if is_next {
+            self.begin();
+        }
+        is_next
+    }
+
+    /// Takes what the call answered.
+    pub fn ends<T: Debug + Drop, E: Debug + Drop>(&mut self, answer: Result<T, E>) {
+        if self.answer.is_ok() {
+            self.answer = self.told(&answer);
+        }
+    }
+
+    fn told<T: Debug, E: Debug>(&mut self, answer: &Result<T, E>) -> Result<Option<String>> {
+        self.mark("memory: end\n")?;
+        Ok(Some(format!(in self.alloc; "{answer:?}")?))
+    }
+
+    fn mark(&mut self, mark: &str) -> Result<()> {
+        if let Some(output) = &mut self.marks {
+            output.write_all(mark.as_bytes())?;
+        }
+        Ok(())
+    }
+}
+
 /// The answers, as `Debug` shows them, by which calls tell that memory was refused: an error of the variant
 /// `Memory`, in which no other error stands, or one that has no variants.
 const MEMORY: &[&str] = &["Err(Memory(AllocError))", "Err(AllocError)"];
-
-/// Whether an answer is what a case of this name is about: a refusal for another cause than memory where its
-/// name says so, and else a value.
-fn is_as_named(answer: &str, of: &str) -> bool {
-    answer.starts_with("Err(") == of.ends_with(", refused") && !MEMORY.contains(&answer)
-}
 
 /// An object before an edit, what the edit answered, and the object then.
 #[derive(Drop, PartialEq, Eq)]
@@ -92,23 +144,24 @@ struct Change {
     after: String,
 }
 
-fn edited<O: Snapshot, A, E, F>(alloc: Global, object: O, given: A, edit: F) -> Result<Change>
-where
-    A: Drop,
-    E: Debug + Drop,
-    F: FnOnce(&mut O, A) -> Result<(), E>,
-    requires { F.IsAlwaysCallable edit }
-{
-    let mut object = object;
-    Ok(Change {
-        before: object.snapshot(alloc)?,
-        answer: format!(in alloc; "{:?}", edit(&mut object, given))?,
-        after: object.snapshot(alloc)?,
-    })
+fn is_memory(change: &Change) -> bool {
+    MEMORY.contains(&change.answer.as_str())
 }
 
-/// A run over all cases, or over one of them with marks around the call: `memory: begin` and `memory: end`,
-/// each written in one piece. Memory may be refused between the two.
+/// Fails unless what is right is what a name tells of: a refusal for another cause than memory, or a value.
+/// An edit that does not refuse changes something, and nothing else does.
+fn check_name(name: &str, right: &Change, is_edit: bool) -> Result<()> {
+    let is_refused = right.answer.as_str().starts_with("Err(");
+    let is_kept = is_refused || !is_edit;
+    let is_named = is_refused == name.ends_with(", refused") && !is_memory(right);
+    ensure!(
+        is_named && is_kept == (right.before == right.after),
+        "{name}: its name tells of another answer"
+    );
+    Ok(())
+}
+
+/// A run over all cases, or over one of them with marks around the call.
 #[derive(Drop)]
 pub struct Run<'a> {
     /// The allocator of all calls.
@@ -119,105 +172,96 @@ pub struct Run<'a> {
     pub output: Stdout,
     /// The name of the one case.
     pub asked: Option<&'a str>,
+    /// Where its marks are written.
+    pub marks: Option<Stdout>,
     /// Whether a case had the name that was asked for.
     pub found: bool,
 }
 
 impl Run<'_> {
-    /// Whether what the cases of this kind of tokens need has to be made: a run for one case makes nothing
-    /// for the others.
-    pub fn asks_of(&self, kind: &str) -> bool {
-        self.asked.unwrap_or(kind).contains(kind)
-    }
-
-    /// Asks a call of something between the marks, and then again. What is right is what it answers before.
-    pub fn call<T, E, F>(&mut self, call: &str, of: &str, asked: F) -> Result<()>
+    /// Asks the lines of a table of calls.
+    pub fn calls<F>(&mut self, cases: &str, of: &str, lines: F) -> Result<()>
     where
-        T: Debug + Drop,
-        E: Debug + Drop,
-        F: Copy + FnOnce() -> Result<T, E>,
-        requires { F.IsAlwaysCallable asked }
+        F: Copy + FnOnce(&mut Round, &mut ()) -> Result<()>,
+        requires { F.IsAlwaysCallable lines }
     {
-        let name = format!(in self.alloc; "{call} of {of}")?;
-        if !self.is_asked(name.as_str()) {
-            return Ok(());
-        }
-        let right = format!(in self.alloc; "{:?}", asked())?;
-        let is_named = is_as_named(right.as_str(), of);
-        ensure!(is_named, "{name}: its name tells of another answer");
-        self.mark("memory: begin\n")?;
-        let met = asked();
-        self.mark("memory: end\n")?;
-        let met = format!(in self.alloc; "{met:?}")?;
-        let then = format!(in self.alloc; "{:?}", asked())?;
-        self.report(name.as_str(), met.as_str(), right.as_str(), then == right)
+        self.table(cases, of, || Ok(()), false, lines)
     }
 
-    /// Makes two alike objects, and edits the second between the marks, by the second of the given values.
-    /// What is right is what the first answers before the same edit and after it. What refuses changes
-    /// nothing, and what does not refuse changes something. A case is the type's path, the call, and of what.
+    /// Makes two alike objects for each line of a table, and asks the second between the marks. What is right
+    /// is what the first answers before the same edit and after it. What refuses changes nothing, and an edit
+    /// that does not refuse changes something.
     ///
-    /// Where memory was refused, the second is to answer as before the edit, and is then edited again. Else
-    /// it is to answer as the first, and a third is made and edited.
-    pub fn edit<O: Snapshot, A: Drop, E: Debug + Drop, M, F>(
+    /// Where memory was refused, the second is to answer as before, and is then asked again. Else it is to
+    /// answer as the first, and a third is made and asked.
+    pub fn table<O: Snapshot, M, F>(
         &mut self,
-        case: [&str; 3],
+        cases: &str,
+        of: &str,
         make: M,
-        given: [A; 3],
-        edit: F,
+        is_edit: bool,
+        lines: F,
     ) -> Result<()>
     where
         M: Copy + FnOnce() -> Result<O>,
-        F: Copy + FnOnce(&mut O, A) -> Result<(), E>,
+        F: Copy + FnOnce(&mut Round, &mut O) -> Result<()>,
         requires made { M.IsAlwaysCallable make }
-        requires edited { F.IsAlwaysCallable edit }
+        requires asked { F.IsAlwaysCallable lines }
     {
-        let [path, call, of] = case;
-        let name = format!(in self.alloc; "{path}{call} of {of}")?;
-        if !self.is_asked(name.as_str()) {
-            return Ok(());
-        }
-        let [first, second, third] = given;
-        let right = edited(self.alloc, make()?, first, edit)?;
-        let (answer, is_kept) = (right.answer.as_str(), right.before == right.after);
-        let is_named = is_as_named(answer, of) && is_kept == of.ends_with(", refused");
-        ensure!(is_named, "{name}: its name tells of another answer");
-        let mut object = make()?;
-        self.mark("memory: begin\n")?;
-        let met = edit(&mut object, second);
-        self.mark("memory: end\n")?;
-        let met = format!(in self.alloc; "{met:?}")?;
-        let then = if MEMORY.contains(&met.as_str()) {
-            edited(self.alloc, object, third, edit)? == right
-        } else {
-            let is_alike = object.snapshot(self.alloc)? == right.after;
-            is_alike && edited(self.alloc, make()?, third, edit)? == right
-        };
-        self.report(name.as_str(), met.as_str(), answer, then)
-    }
-
-    fn is_asked(&mut self, name: &str) -> bool {
-        let is_asked = self.asked.unwrap_or(name) == name;
-        self.found = self.found || is_asked;
-        is_asked
-    }
-
-    // A run over all cases has no marks.
-    fn mark(&mut self, mark: &str) -> Result<()> {
-        if self.asked.is_some() {
-            self.output.write_all(mark.as_bytes())?;
+        'cases: for (line, case) in cases.lines().enumerate() {
+            let name = case.replace(self.alloc, "{}", of)?;
+            if self.asked.unwrap_or(name.as_str()) == name.as_str() {
+                self.found = true;
+                let right = self.change(line, None, &mut make()?, lines)?;
+                check_name(name.as_str(), &right, is_edit)?;
+                let mut object = make()?;
+                let met = self.change(line, self.marks, &mut object, lines)?;
+                if !is_memory(&met) {
+                    object = make()?;
+                }
+                let then = self.change(line, None, &mut object, lines)?;
+                self.report(name.as_str(), &right, &met, &then)?;
+            }
         }
         Ok(())
     }
 
-    // Tells what was met where this is right, and whether it was right then.
-    fn report(&mut self, name: &str, met: &str, right: &str, then: bool) -> Result<()> {
-        let word = match met {
-            _ if MEMORY.contains(&met) => "memory",
-            _ if met == right => "right",
-            _ => "wrong",
+    // Asks a line of an object, with marks or without.
+    fn change<O: Snapshot, F>(
+        &self,
+        line: usize,
+        marks: Option<Stdout>,
+        object: &mut O,
+        lines: F,
+    ) -> Result<Change>
+    where
+        F: Copy + FnOnce(&mut Round, &mut O) -> Result<()>,
+        requires { F.IsAlwaysCallable lines }
+    {
+        let before = object.snapshot(self.alloc)?;
+        let mut round = Round {
+            alloc: self.alloc,
+            before: line,
+            marks,
+            answer: Ok(None),
         };
-        let then = if then { "right" } else { "wrong" };
+        lines(&mut round, object)?;
+        Ok(Change {
+            before,
+            answer: round.answer?.context("no line was asked")?,
+            after: object.snapshot(self.alloc)?,
+        })
+    }
+
+    // Tells what was met, and whether it was right then.
+    fn report(&mut self, name: &str, right: &Change, met: &Change, then: &Change) -> Result<()> {
+        let word = match met.answer == right.answer {
+            _ if is_memory(met) => "memory",
+            true => "right",
+            false => "wrong",
+        };
+        let is_right = then == right && (is_memory(met) || met.after == right.after);
+        let then = if is_right { "right" } else { "wrong" };
         writeln!(self.output, "{name}: {word}, then {then}")?;
         Ok(())
     }

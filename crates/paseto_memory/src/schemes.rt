@@ -24,14 +24,15 @@ pub fn ask(run: &mut Run<'_>) -> Result<()> {
 }
 
 fn ask_box(run: &mut Run<'_>) -> Result<()> {
-    let (alloc, text, of) = (run.alloc, run.text.as_bytes(), "XChaCha20Poly1305");
+    let (alloc, text) = (run.alloc, run.text.as_bytes());
     let (key, nonce) = ([7u8; 32], [1u8; 24]);
     let Some(boxed) = XChaCha20Poly1305.seal(alloc, &key, &nonce, b"data", text)? else {
         bail!("there is no box");
     };
     calls! { run;
-        "SealedBox::seal", of => XChaCha20Poly1305.seal(alloc, &key, &nonce, b"data", text);
-        "SealedBox::open", of => XChaCha20Poly1305.open(alloc, &key, &nonce, b"data", &boxed);
+        "SealedBox::seal of XChaCha20Poly1305" => XChaCha20Poly1305.seal(alloc, &key, &nonce, b"data", text);
+        "SealedBox::open of XChaCha20Poly1305"
+            => XChaCha20Poly1305.open(alloc, &key, &nonce, b"data", &boxed);
     }
 }
 
@@ -41,53 +42,55 @@ fn private_half<const N: usize, const M: usize>(pair: (Key<N>, Key<M>)) -> [u8; 
 }
 
 fn ask_ed25519(run: &mut Run<'_>) -> Result<()> {
-    let (alloc, text, of) = (run.alloc, run.text.as_bytes(), "Ed25519, with no memory");
+    let (alloc, text) = (run.alloc, run.text.as_bytes());
     let (private, public) = Ed25519::key_pair(&mut Zeros)?;
     let signature = Ed25519.sign(alloc, private.as_bytes(), text)?;
     calls! { run;
-        "Ed25519::key_pair", "a generator, with no memory" => Ed25519::key_pair(&mut Zeros).map(private_half);
-        "SignatureScheme::sign", of => Ed25519.sign(alloc, private.as_bytes(), text);
-        "SignatureScheme::verify", of => Ed25519.verify(alloc, public.as_bytes(), text, &signature);
+        "Ed25519::key_pair of a generator, with no memory" => Ed25519::key_pair(&mut Zeros).map(private_half);
+        "SignatureScheme::sign of Ed25519, with no memory" => Ed25519.sign(alloc, private.as_bytes(), text);
+        "SignatureScheme::verify of Ed25519, with no memory"
+            => Ed25519.verify(alloc, public.as_bytes(), text, &signature);
     }
 }
 
 fn ask_p384(run: &mut Run<'_>) -> Result<()> {
-    let (alloc, text, of) = (run.alloc, run.text.as_bytes(), "P384, with no memory");
+    let (alloc, text) = (run.alloc, run.text.as_bytes());
     let private = [7u8; 48];
     let public = P384.public_key(alloc, &private)?;
     let signature = P384.sign(alloc, &private, text)?;
     calls! { run;
-        "P384::key_pair", "a generator, with no memory"
+        "P384::key_pair of a generator, with no memory"
             => P384::key_pair(&mut Counting::new()).map(private_half);
-        "CompressedKey::public_key", of => P384.public_key(alloc, &private);
-        "SignatureScheme::sign", of => P384.sign(alloc, &private, text);
-        "SignatureScheme::verify", of => P384.verify(alloc, &public, text, &signature);
+        "CompressedKey::public_key of P384, with no memory" => P384.public_key(alloc, &private);
+        "SignatureScheme::sign of P384, with no memory" => P384.sign(alloc, &private, text);
+        "SignatureScheme::verify of P384, with no memory" => P384.verify(alloc, &public, text, &signature);
     }
 }
 
 fn ask_rsa(run: &mut Run<'_>) -> Result<()> {
-    let (alloc, text, of) = (run.alloc, run.text.as_bytes(), "RsaPss, with no memory");
+    let (alloc, text) = (run.alloc, run.text.as_bytes());
     let (private, public) = (from_section(alloc, PRIVATE)?, from_section(alloc, PUBLIC)?);
     let signature = RsaPss::new(Zeros).sign(alloc, &private, text)?;
     calls! { run;
-        "SignatureScheme::sign", of => RsaPss::new(Zeros).sign(alloc, &private, text);
-        "SignatureScheme::verify", of => RsaPss::new(Zeros).verify(alloc, &public, text, &signature);
+        "SignatureScheme::sign of RsaPss, with no memory" => RsaPss::new(Zeros).sign(alloc, &private, text);
+        "SignatureScheme::verify of RsaPss, with no memory"
+            => RsaPss::new(Zeros).verify(alloc, &public, text, &signature);
     }
 }
 
 fn ask_validators(run: &mut Run<'_>) -> Result<()> {
-    let (alloc, text) = (run.alloc, String::from_str(run.alloc, run.text)?);
-    ask_validator(run, "Present, refused", &Present)?;
-    ask_validator(run, "AtMost, refused", &AtMost(8))?;
-    ask_validator(run, "AtLeast, refused", &AtLeast(8))?;
-    ask_validator(run, "Within, refused", &Within { least: 0, most: 8 })?;
-    ask_validator(run, "OneOf, refused", &OneOf::new(alloc, &["a", "b"])?)?;
-    ask_validator(run, "AtMostCharacters, refused", &AtMostCharacters(8))?;
-    ask_validator(run, "BeginsWith, refused", &BeginsWith(text.clone()?))?;
-    ask_validator(run, "Holding, refused", &Holding(text))
-}
-
-fn ask_validator<T: Validator>(run: &mut Run<'_>, of: &str, validator: &T) -> Result<()> {
-    let alloc = run.alloc;
-    calls! { run; "Validator::validate", of => validator.validate(alloc, "seats", &Value::Null); }
+    let (alloc, key, value) = (run.alloc, "seats", &Value::Null);
+    let one_of = OneOf::new(alloc, &["a", "b"])?;
+    let begins_with = BeginsWith(String::from_str(alloc, run.text)?);
+    let holding = Holding(String::from_str(alloc, run.text)?);
+    calls! { run;
+        "Validator::validate of Present, refused" => Present.validate(alloc, key, value);
+        "Validator::validate of AtMost, refused" => AtMost(8).validate(alloc, key, value);
+        "Validator::validate of AtLeast, refused" => AtLeast(8).validate(alloc, key, value);
+        "Validator::validate of Within, refused" => Within { least: 0, most: 8 }.validate(alloc, key, value);
+        "Validator::validate of OneOf, refused" => one_of.validate(alloc, key, value);
+        "Validator::validate of AtMostCharacters, refused" => AtMostCharacters(8).validate(alloc, key, value);
+        "Validator::validate of BeginsWith, refused" => begins_with.validate(alloc, key, value);
+        "Validator::validate of Holding, refused" => holding.validate(alloc, key, value);
+    }
 }

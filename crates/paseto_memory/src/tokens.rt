@@ -56,19 +56,19 @@ fn ask_local<V: LocalVersion>(run: &mut Run<'_>, kind: &str) -> Result<()> {
     let (alloc, text, key) = (run.alloc, run.text, symmetric_key::<V>());
     let bytes = Key::<32>::from([0; 32]);
     let (paseto, nonce) = (token_of::<V, Local>(text), PasetoNonce::from(&bytes));
-    calls!(run;
-        "LocalVersion::seal", kind => seal::<V>(alloc, text, footer());
-        "Paseto::try_encrypt", kind => paseto.try_encrypt(alloc, &key, &nonce);
+    calls!(run, kind;
+        "LocalVersion::seal of {}" => seal::<V>(alloc, text, footer());
+        "Paseto::try_encrypt of {}" => paseto.try_encrypt(alloc, &key, &nonce);
     )?;
     let other = PasetoSymmetricKey::<V, Local>::from(Key::<32>::from([8; 32]));
-    let of_other = format!(in alloc; "{kind} under another key, refused")?;
     let token = seal::<V>(alloc, text, footer())?;
     let second = seal::<V>(alloc, "another text", footer())?;
     let (token, second) = (token.as_str(), second.as_str());
-    calls! { run;
-        "LocalVersion::open", kind => V::open(alloc, token, &key, Some(footer()), None);
-        "LocalVersion::open", of_other.as_str() => V::open(alloc, token, &other, Some(footer()), None);
-        "Paseto::tag_collision", kind => collision(alloc, &key, token, second);
+    calls! { run, kind;
+        "LocalVersion::open of {}" => V::open(alloc, token, &key, Some(footer()), None);
+        "LocalVersion::open of {} under another key, refused"
+            => V::open(alloc, token, &other, Some(footer()), None);
+        "Paseto::tag_collision of {}" => collision(alloc, &key, token, second);
     }
 }
 
@@ -95,14 +95,16 @@ fn ask_decrypting(run: &mut Run<'_>) -> Result<()> {
     let third = seal::<V3>(alloc, text, footer())?;
     let fourth = seal::<V4>(alloc, text, footer())?;
     let boxed = seal_boxed(alloc, text, footer())?;
-    let (first, third, fourth) = (first.as_str(), third.as_str(), fourth.as_str());
-    let (call, own) = ("Paseto::try_decrypt", Some(footer()));
+    let own = Some(footer());
     calls! { run;
-        call, "v1.local" => Paseto::<V1, Local>::try_decrypt(alloc, first, &symmetric_key(), own);
-        call, "v3.local" => Paseto::<V3, Local>::try_decrypt(alloc, third, &symmetric_key(), own, None);
-        call, "v4.local" => Paseto::<V4, Local>::try_decrypt(alloc, fourth, &symmetric_key(), own, None);
-        "Paseto::try_encrypt", "v2.local" => seal_boxed(alloc, text, footer());
-        call, "v2.local"
+        "Paseto::try_decrypt of v1.local"
+            => Paseto::<V1, Local>::try_decrypt(alloc, first.as_str(), &symmetric_key(), own);
+        "Paseto::try_decrypt of v3.local"
+            => Paseto::<V3, Local>::try_decrypt(alloc, third.as_str(), &symmetric_key(), own, None);
+        "Paseto::try_decrypt of v4.local"
+            => Paseto::<V4, Local>::try_decrypt(alloc, fourth.as_str(), &symmetric_key(), own, None);
+        "Paseto::try_encrypt of v2.local" => seal_boxed(alloc, text, footer());
+        "Paseto::try_decrypt of v2.local"
             => Paseto::<V2, Local>::try_decrypt(alloc, &PlainBox, boxed.as_str(), &symmetric_key(), own);
     }
 }
@@ -111,27 +113,27 @@ fn ask_public<V: Signed>(run: &mut Run<'_>, kind: &str) -> Result<()> {
     let (alloc, text, keys) = (run.alloc, run.text, Keys::of(&SECRET));
     let (paseto, key) = (token_of::<V, Public>(text), V::private_key(&keys));
     let (token, public) = (sign::<V>(alloc, text, footer())?, V::public_key(&keys)?);
-    calls! { run;
-        "Signs::sign", kind => V::sign(alloc, &mut Lenient, &key, Payload::from(text), Some(footer()), None);
-        "Paseto::try_sign", kind => paseto.try_sign(alloc, &mut Lenient, &key);
-        "Verifies::verify", kind => V::verify(alloc, &Lenient, token.as_str(), &public, Some(footer()), None);
+    calls! { run, kind;
+        "Signs::sign of {}" => V::sign(alloc, &mut Lenient, &key, Payload::from(text), Some(footer()), None);
+        "Paseto::try_sign of {}" => paseto.try_sign(alloc, &mut Lenient, &key);
+        "Verifies::verify of {}" => V::verify(alloc, &Lenient, token.as_str(), &public, Some(footer()), None);
     }
 }
 
-/// Asks for the verifying of a version, to which `None` is given where it has an implicit assertion.
-macro_rules! verifying {
-    ($run:expr, $version:ident $(, $none:expr)?) => {{
-        let (alloc, keys, own) = ($run.alloc, Keys::of(&SECRET), Some(footer()));
-        let (token, key) = (sign::<$version>(alloc, $run.text, footer())?, $version::public_key(&keys)?);
-        let token = token.as_str();
-        calls!($run; "Paseto::try_verify", $version::KIND
-            => Paseto::<$version, Public>::try_verify(alloc, &Lenient, token, &key, own $(, $none)?);)
-    }};
-}
-
 fn ask_verifying(run: &mut Run<'_>) -> Result<()> {
-    verifying!(run, V1)?;
-    verifying!(run, V2)?;
-    verifying!(run, V3, None)?;
-    verifying!(run, V4, None)
+    let (alloc, text, keys, own) = (run.alloc, run.text, Keys::of(&SECRET), Some(footer()));
+    let (first, first_key) = (sign::<V1>(alloc, text, footer())?, V1::public_key(&keys)?);
+    let (second, second_key) = (sign::<V2>(alloc, text, footer())?, V2::public_key(&keys)?);
+    let (third, third_key) = (sign::<V3>(alloc, text, footer())?, V3::public_key(&keys)?);
+    let (fourth, fourth_key) = (sign::<V4>(alloc, text, footer())?, V4::public_key(&keys)?);
+    calls! { run;
+        "Paseto::try_verify of v1.public"
+            => Paseto::<V1, Public>::try_verify(alloc, &Lenient, first.as_str(), &first_key, own);
+        "Paseto::try_verify of v2.public"
+            => Paseto::<V2, Public>::try_verify(alloc, &Lenient, second.as_str(), &second_key, own);
+        "Paseto::try_verify of v3.public"
+            => Paseto::<V3, Public>::try_verify(alloc, &Lenient, third.as_str(), &third_key, own, None);
+        "Paseto::try_verify of v4.public"
+            => Paseto::<V4, Public>::try_verify(alloc, &Lenient, fourth.as_str(), &fourth_key, own, None);
+    }
 }

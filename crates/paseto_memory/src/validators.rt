@@ -22,19 +22,20 @@ impl Validator for Refuses {
     }
 }
 
-/// So many boxes with such a validator as a case is given.
-macro_rules! refusing {
-    ($alloc:expr) => {{
-        let boxes: [rusty_paseto::prelude::ValidatorFn; 3] =
-            $crate::run::three!(Box::new($alloc, $crate::validators::Refuses)?);
-        boxes
-    }};
+/// Such validators of three keys, the last of which a parser of the cases checks already.
+macro_rules! validators {
+    ($alloc:expr) => {
+        $crate::validators::validators_of(
+            $alloc,
+            [Box::new($alloc, Refuses)?, Box::new($alloc, Refuses)?, Box::new($alloc, Refuses)?],
+        )?
+    };
 }
 
-pub(crate) use refusing;
+pub(crate) use validators;
 
-/// Validators of three keys, the last of which a parser of the cases checks already.
-pub fn validators(alloc: Global, boxes: [ValidatorFn; 3]) -> Result<ValidatorMap> {
+/// Validators of three keys.
+pub fn validators_of(alloc: Global, boxes: [ValidatorFn; 3]) -> Result<ValidatorMap> {
     let mut map = BTreeMap::new(alloc);
     let [first, second, third] = boxes;
     drop(map.insert(String::from_str(alloc, "a")?, first)?);
