@@ -1,4 +1,5 @@
-//! Sealed boxes: XChaCha20-Poly1305, against values of standards and of another implementation, and the toy by itself.
+//! Sealed boxes: XChaCha20-Poly1305, against values of standards and of another implementation, and
+//! the toy by itself.
 
 mod cuts;
 mod refusals;

@@ -4,7 +4,7 @@ mod custom;
 mod dates;
 mod errors;
 mod generated_keys;
-mod json;
+pub(crate) mod json;
 mod long_texts;
 mod same;
 mod texts;

@@ -1,18 +1,13 @@
 //! The texts of errors.
 
-use crate::expect::expect_same;
+use crate::expect::expect_shown;
 use base64::DecodeError;
 use rusty_paseto_core::PasetoError;
 use std::alloc::{AllocError, Global};
 use std::process::Abort;
 
 fn check(rt: &impl Abort, alloc: Global, error: PasetoError, text: &str) {
-    expect_same(
-        rt,
-        format!(in alloc; "{error}").expect(rt, "memory").as_str(),
-        &text,
-        "the answer",
-    );
+    expect_shown(rt, alloc, &error, text);
 }
 
 #[test]

@@ -35,6 +35,16 @@ pub(crate) fn expect_digits(rt: &impl Abort, alloc: Global, found: &[u8], digits
     expect_bytes(rt, found, wanted.as_slice());
 }
 
+/// What a value shows.
+pub(crate) fn shown<D: Display>(rt: &impl Abort, alloc: Global, value: &D) -> String {
+    value.to_string(alloc).expect(rt, "memory")
+}
+
+/// What a value shows is the wanted text.
+pub(crate) fn expect_shown<D: Display>(rt: &impl Abort, alloc: Global, value: &D, wanted: &str) {
+    expect_text(rt, shown(rt, alloc, value).as_str(), wanted);
+}
+
 /// The text of the error that a call answered.
 pub(crate) fn refusal_of<T: Drop, E: Display + Drop>(
     rt: &impl Abort,
@@ -43,7 +53,7 @@ pub(crate) fn refusal_of<T: Drop, E: Display + Drop>(
 ) -> String {
     match answer {
         Ok(_) => panic!(rt; "nothing was refused"),
-        Err(error) => error.to_string(alloc).expect(rt, "memory"),
+        Err(error) => shown(rt, alloc, &error),
     }
 }
 

@@ -1,5 +1,6 @@
 //! The eight kinds of tokens, each made and read by one call, under the keys that a secret tells.
 
+use crate::expect::{expect_same, expect_that};
 use paseto_toys::ToyBox;
 use paseto_toys::counting::{Calls, Counting};
 pub(crate) use paseto_toys::keys::{SECRET, symmetric_key};
@@ -9,6 +10,7 @@ use rusty_paseto_core::{
     Signs, V1, V2, V3, V4, Verifies,
 };
 use std::alloc::Global;
+use std::process::Abort;
 
 /// Another secret.
 pub(crate) const OTHER_SECRET: [u8; 64] = [8; 64];
@@ -87,11 +89,17 @@ impl<'a> Binding<'a> {
     }
 
     fn footer(self) -> Option<Footer<'a>> {
-        self.footer.map(|text| Footer::from(text))
+        match self.footer {
+            Some(text) => Some(Footer::from(text)),
+            None => None,
+        }
     }
 
-    fn assertion(self) -> Option<ImplicitAssertion<'a>> {
-        self.assertion.map(|text| ImplicitAssertion::from(text))
+    pub(crate) fn assertion(self) -> Option<ImplicitAssertion<'a>> {
+        match self.assertion {
+            Some(text) => Some(ImplicitAssertion::from(text)),
+            None => None,
+        }
     }
 }
 
@@ -184,6 +192,42 @@ impl Kind {
     ) -> Result<String, PasetoError> {
         let (answer, _) = self.read_counted(alloc, &SECRET, token, binding);
         answer
+    }
+
+    /// The token of a text that has one.
+    pub(crate) fn token(
+        self,
+        rt: &impl Abort,
+        alloc: Global,
+        text: &str,
+        binding: Binding<'_>,
+    ) -> String {
+        self.make(alloc, text, binding).expect(rt, "a token")
+    }
+
+    /// A token is read as the text.
+    pub(crate) fn check_text(
+        self,
+        rt: &impl Abort,
+        alloc: Global,
+        token: &str,
+        binding: Binding<'_>,
+        text: &str,
+    ) {
+        let found = self.read(alloc, token, binding).expect(rt, "a text");
+        expect_same(rt, found.as_str(), text, &self);
+    }
+
+    /// A token is refused as one that was not made under the keys and for the binding.
+    pub(crate) fn check_refused(
+        self,
+        rt: &impl Abort,
+        alloc: Global,
+        token: &str,
+        binding: Binding<'_>,
+    ) {
+        let answer = self.read(alloc, token, binding);
+        expect_that(rt, self.is_refused(&answer), &self);
     }
 }
 

@@ -1,8 +1,8 @@
 //! Known answers: published vectors and worked examples, and the calls that have to give them. They
 //! test what no proof can see: that the definitions are the standards', and that calls succeed.
 //!
-//! What a caller brings to tokens, as a sealed box or a signature scheme, are the toys of `paseto_toys`. The box and the
-//! schemes of the versions have tests of their own, in `boxes` and in `schemes`.
+//! What a caller brings to tokens, as a sealed box or a signature scheme, are the toys of
+//! `paseto_toys`. The box and the schemes of the versions are tested in `boxes` and `schemes`.
 #![tactic(auto)]
 
 #[cfg(test)]

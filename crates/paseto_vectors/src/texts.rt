@@ -1,6 +1,6 @@
 //! The texts of versions, purposes and headers, and those that a token carries.
 
-use crate::expect::{expect_bytes, expect_text, expect_that};
+use crate::expect::{expect_bytes, expect_shown, expect_text, expect_that};
 use rusty_paseto_core::{
     Footer, Header, ImplicitAssertion, Local, Payload, Public, PurposeTrait, V1, V2, V3, V4,
     VersionTrait,
@@ -17,18 +17,23 @@ fn shown(rt: HostRuntime) {
     expect_text(&rt, purpose.as_str(), "local");
     expect_text(&rt, header.as_str(), "v4.local.");
     expect_bytes(&rt, same.as_bytes(), b"v4.local.");
-    let told = format!(in alloc; "{version} {purpose} {header}").expect(&rt, "memory");
-    expect_text(&rt, told.as_str(), "v4 local v4.local.");
-    let signed = Header::<V2, Public>::default();
-    let told = format!(in alloc; "{} {} {signed}", V2::default(), Public::default()).expect(
-        &rt, "memory",
-    );
-    expect_text(&rt, told.as_str(), "v2 public v2.public.");
+    expect_shown(&rt, alloc, &version, "v4");
+    expect_shown(&rt, alloc, &purpose, "local");
+    expect_shown(&rt, alloc, &header, "v4.local.");
+    expect_shown(&rt, alloc, &V2::default(), "v2");
+    expect_shown(&rt, alloc, &Public::default(), "public");
+    expect_shown(&rt, alloc, &Header::<V2, Public>::default(), "v2.public.");
+}
+
+#[test]
+fn kept(rt: HostRuntime) {
+    let alloc = rt.alloc();
     let payload = Payload::from("pay");
     let footer = Footer::from("foot");
     let assertion = ImplicitAssertion::from("said");
-    let told = format!(in alloc; "{payload} {footer} {assertion}").expect(&rt, "memory");
-    expect_text(&rt, told.as_str(), "pay foot said");
+    expect_shown(&rt, alloc, &payload, "pay");
+    expect_shown(&rt, alloc, &footer, "foot");
+    expect_shown(&rt, alloc, &assertion, "said");
     expect_text(&rt, payload.as_str(), "pay");
     expect_text(&rt, footer.as_str(), "foot");
     expect_text(&rt, assertion.as_str(), "said");

@@ -1,6 +1,6 @@
 //! The texts of builders' errors.
 
-use crate::expect::{expect_same, expect_that};
+use crate::expect::{expect_shown, expect_that};
 use rusty_paseto_claims::PasetoClaimError;
 use rusty_paseto_core::PasetoError;
 use rusty_paseto_generic::GenericBuilderError;
@@ -9,12 +9,12 @@ use std::alloc::{AllocError, Global};
 use std::process::Abort;
 
 fn check(rt: &impl Abort, alloc: Global, error: GenericBuilderError, text: &str) {
-    expect_same(
-        rt,
-        format!(in alloc; "{error}").expect(rt, "memory").as_str(),
-        &text,
-        "the answer",
-    );
+    expect_shown(rt, alloc, &error, text);
+}
+
+// Whether the error is that of memory.
+fn is_of_memory(error: GenericBuilderError) -> bool {
+    matches!(&error, GenericBuilderError::Memory(_))
 }
 
 #[test]
@@ -53,16 +53,8 @@ fn of_memory(rt: HostRuntime) {
     let alloc = rt.alloc();
     let text = "No memory was found";
     check(&rt, alloc, GenericBuilderError::from(AllocError), text);
-    let error = GenericBuilderError::from(PasetoClaimError::Memory(AllocError));
-    expect_that(
-        &rt,
-        matches!(&error, GenericBuilderError::Memory(_)),
-        "the answer",
-    );
-    let error = GenericBuilderError::from(PasetoError::Memory(AllocError));
-    expect_that(
-        &rt,
-        matches!(&error, GenericBuilderError::Memory(_)),
-        "the answer",
-    );
+    let of_claims = GenericBuilderError::from(PasetoClaimError::Memory(AllocError));
+    expect_that(&rt, is_of_memory(of_claims), "of claims");
+    let of_tokens = GenericBuilderError::from(PasetoError::Memory(AllocError));
+    expect_that(&rt, is_of_memory(of_tokens), "of tokens");
 }

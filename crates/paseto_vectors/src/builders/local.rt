@@ -2,13 +2,14 @@
 
 use crate::builders::payloads::put;
 use crate::expect::{expect_text, expect_that};
+use crate::kinds::{Binding, Kind, SECRET, symmetric_key};
 use crate::long::text_of;
 use paseto_toys::ToyBox;
 use paseto_toys::generators::{Counting, Failing, Zeros};
 use rusty_paseto_claims::{AudienceClaim, CustomClaim};
 use rusty_paseto_core::{
-    Footer, Key, Local, LocalVersion, Paseto, PasetoError, PasetoNonce, PasetoSymmetricKey,
-    Payload, V1, V2, V3, V4, VersionTrait,
+    Footer, Key, Local, Paseto, PasetoError, PasetoNonce, PasetoSymmetricKey, Payload, V1, V2, V3,
+    V4, VersionTrait,
 };
 use rusty_paseto_generic::{GenericBuilder, GenericBuilderError, GenericLocalVersion};
 use std::alloc::Global;
@@ -167,15 +168,10 @@ fn a_payload_that_the_box_does_not_seal(rt: HostRuntime) {
 
 #[test]
 fn of_no_claims(rt: HostRuntime) {
-    let alloc = rt.alloc();
-    let key = PasetoSymmetricKey::<V4, Local>::from(Key::from(KEY));
-    let builder = GenericBuilder::<V4, Local>::default(alloc);
-    let token = builder.try_encrypt(&mut Zeros, &key).expect(&rt, "a token");
+    let builder = GenericBuilder::<V4, Local>::default(rt.alloc());
+    let answer = builder.try_encrypt(&mut Zeros, &symmetric_key(&SECRET));
+    let token = answer.expect(&rt, "a token");
     expect_that(&rt, token.len() == 97, "the answer");
-    let zeros = Key::<32>::from([0u8; 32]);
-    let nonce = PasetoNonce::from(&zeros);
-    let wanted = V4::seal(alloc, &key, &nonce, Payload::from("{}"), None, None).expect(
-        &rt, "a token",
-    );
+    let wanted = Kind::V4Local.token(&rt, rt.alloc(), "{}", Binding::NONE);
     expect_text(&rt, token.as_str(), wanted.as_str());
 }

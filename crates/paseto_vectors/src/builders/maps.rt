@@ -1,5 +1,6 @@
 //! Many maps, which are read back as they were stored.
 
+use crate::claims::json;
 use crate::expect::expect_that;
 use rusty_paseto_core::{Local, V4};
 use rusty_paseto_generic::{ClaimSetter, GenericBuilder};
@@ -84,7 +85,7 @@ fn read_back(rt: HostRuntime) {
         let mut builder = GenericBuilder::<V4, Local>::new(alloc);
         builder.put_claims(more).expect(&rt, "claims");
         let text = builder.build_payload_from_claims().expect(&rt, "a payload");
-        let found = Value::from_str(alloc, text.as_str()).expect(&rt, "JSON");
+        let found = json::value_of(&rt, alloc, text.as_str());
         expect_that(
             &rt,
             rusty_paseto_claims::same_value(&found, &wanted),

@@ -1,11 +1,11 @@
 //! The payloads of builders.
 
+use crate::claims::json::value_of;
 use crate::expect::expect_text;
 use crate::parsers::steps::values_of;
 use rusty_paseto_claims::{AudienceClaim, ClaimValue, CustomClaim, PasetoClaim};
 use rusty_paseto_core::{Local, PurposeTrait, V4, VersionTrait};
 use rusty_paseto_generic::{ClaimSetter, GenericBuilder};
-use serde_json::Value;
 use std::alloc::Global;
 use std::process::Abort;
 
@@ -24,6 +24,20 @@ pub(crate) fn put<V: VersionTrait, P: PurposeTrait, C: PasetoClaim + Drop>(
     claim: C,
 ) {
     builder.put_claim(&claim).expect(rt, "a claim");
+}
+
+// Sets two claims, by calls that lend the builder back.
+fn set_both<C: PasetoClaim, D: PasetoClaim>(
+    rt: &impl Abort,
+    builder: &mut Builder<'_>,
+    first: &C,
+    second: &D,
+) {
+    builder
+        .set_claim(first)
+        .expect(rt, "a claim")
+        .set_claim(second)
+        .expect(rt, "a claim");
 }
 
 // The payload of one claim of a caller's own.
@@ -56,18 +70,10 @@ fn keys_are_in_byte_order(rt: HostRuntime) {
     let payload = "{\"aud\":\"customers\",\"seats\":4}";
     let mut builder = Builder::new(alloc);
     check(&rt, &builder, "{}");
-    builder
-        .set_claim(&audience)
-        .expect(&rt, "a claim")
-        .set_claim(&seats)
-        .expect(&rt, "a claim");
+    set_both(&rt, &mut builder, &audience, &seats);
     check(&rt, &builder, payload);
     let mut builder = Builder::default(alloc);
-    builder
-        .set_claim(&seats)
-        .expect(&rt, "a claim")
-        .set_claim(&audience)
-        .expect(&rt, "a claim");
+    set_both(&rt, &mut builder, &seats, &audience);
     check(&rt, &builder, payload);
     builder.remove_claim("seat");
     check(&rt, &builder, payload);
@@ -91,7 +97,7 @@ fn a_key_that_is_there_gets_the_new_value(rt: HostRuntime) {
 #[test]
 fn unwrapped_once(rt: HostRuntime) {
     let alloc = rt.alloc();
-    let value = Value::from_str(alloc, "{\"a\":{\"a\":1}}").expect(&rt, "JSON");
+    let value = value_of(&rt, alloc, "{\"a\":{\"a\":1}}");
     check_custom(&rt, alloc, "a", value, "{\"a\":{\"a\":{\"a\":1}}}");
     check_entry(&rt, alloc, "a", "{\"a\":1}", "{\"a\":{\"a\":1}}");
 }
@@ -100,7 +106,7 @@ fn unwrapped_once(rt: HostRuntime) {
 fn the_empty_key(rt: HostRuntime) {
     let alloc = rt.alloc();
     check_custom(&rt, alloc, "", 1u64, "{}");
-    let fraction = Value::from_str(alloc, "3.5").expect(&rt, "JSON");
+    let fraction = value_of(&rt, alloc, "3.5");
     check_custom(&rt, alloc, "", fraction, "{}");
     let mut builder = Builder::new(alloc);
     let more = values_of(&rt, alloc, &[("", "1")]);

@@ -1,6 +1,6 @@
 //! The texts of claims' errors. Those of checks that fail are among the rows of parsers.
 
-use crate::expect::expect_text;
+use crate::expect::expect_shown;
 use rusty_paseto_claims::PasetoClaimError;
 use std::alloc::{AllocError, Global};
 use std::process::Abort;
@@ -10,8 +10,7 @@ fn owned(rt: &impl Abort, alloc: Global, text: &str) -> String {
 }
 
 fn check(rt: &impl Abort, alloc: Global, error: PasetoClaimError, text: &str) {
-    let found = error.to_string(alloc).expect(rt, "memory");
-    expect_text(rt, found.as_str(), text);
+    expect_shown(rt, alloc, &error, text);
 }
 
 #[test]

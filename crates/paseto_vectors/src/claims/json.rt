@@ -1,7 +1,8 @@
-//! What a claim answers when it is asked for its key and for JSON.
+//! What a claim answers when it is asked for its key and for JSON, and values by their JSON.
 
-use crate::expect::expect_text;
+use crate::expect::{expect_shown, expect_text};
 use rusty_paseto_claims::PasetoClaim;
+use serde_json::Value;
 use std::alloc::Global;
 use std::process::Abort;
 
@@ -15,6 +16,10 @@ pub(crate) fn check<C: PasetoClaim>(
 ) {
     expect_text(rt, claim.get_key(), key);
     let value = claim.to_json(alloc).expect(rt, "JSON");
-    let text = value.to_string(alloc).expect(rt, "memory");
-    expect_text(rt, text.as_str(), json);
+    expect_shown(rt, alloc, &value, json);
+}
+
+/// The value that a text of JSON spells.
+pub(crate) fn value_of(rt: &impl Abort, alloc: Global, json: &str) -> Value {
+    Value::from_str(alloc, json).expect(rt, "JSON")
 }

@@ -1,7 +1,7 @@
 //! Claims of long keys and texts.
 
 use crate::claims::dates::is_no_date;
-use crate::expect::{expect_same, expect_that};
+use crate::expect::{expect_same, expect_that, shown};
 use crate::long::{LENGTHS, text_of};
 use rusty_paseto_claims::{
     AudienceClaim, ClaimValue, CustomClaim, ExpirationClaim, PasetoClaim, same_value,
@@ -11,7 +11,7 @@ use std::alloc::Global;
 use std::process::Abort;
 
 fn length_of(rt: &impl Abort, alloc: Global, json: &Value) -> usize {
-    json.to_string(alloc).expect(rt, "memory").len()
+    shown(rt, alloc, json).len()
 }
 
 #[test]

@@ -1,8 +1,8 @@
 //! Which values are the same.
 
+use crate::claims::json::value_of;
 use crate::expect::expect_same;
 use rusty_paseto_claims::same_value;
-use serde_json::Value;
 
 // Two values as JSON, and whether they are the same.
 const ROWS: &[(&str, &str, bool)] = &[
@@ -49,8 +49,8 @@ const ROWS: &[(&str, &str, bool)] = &[
 fn values(rt: HostRuntime) {
     let alloc = rt.alloc();
     'rows: for &(left, right, same) in ROWS {
-        let first = Value::from_str(alloc, left).expect(&rt, "JSON");
-        let second = Value::from_str(alloc, right).expect(&rt, "JSON");
+        let first = value_of(&rt, alloc, left);
+        let second = value_of(&rt, alloc, right);
         expect_same(&rt, &same_value(&first, &second), &same, &(left, right));
         expect_same(&rt, &same_value(&second, &first), &same, &(right, left));
     }

@@ -1,14 +1,14 @@
 //! Each kind of value that a claim of a caller's own may have.
 
-use crate::expect::expect_text;
+use crate::claims::json::value_of;
+use crate::expect::expect_shown;
 use rusty_paseto_claims::{ClaimValue, PasetoClaimError};
 use serde_json::Value;
 use std::alloc::Global;
 use std::process::Abort;
 
 fn check(rt: &impl Abort, alloc: Global, answer: Result<Value, PasetoClaimError>, json: &str) {
-    let text = answer.expect(rt, "memory").to_string(alloc);
-    expect_text(rt, text.expect(rt, "memory").as_str(), json);
+    expect_shown(rt, alloc, &answer.expect(rt, "memory"), json);
 }
 
 #[test]
@@ -40,7 +40,7 @@ fn numbers(rt: HostRuntime) {
 fn json_values(rt: HostRuntime) {
     let alloc = rt.alloc();
     'texts: for text in ["{\"a\":[1,{\"b\":null}],\"c\":\"d\"}", "3.5"] {
-        let value = Value::from_str(alloc, text).expect(&rt, "JSON");
+        let value = value_of(&rt, alloc, text);
         check(&rt, alloc, value.to_value(alloc), text);
     }
 }

@@ -1,8 +1,8 @@
 //! Which values have whole numbers of 64 bits alone.
 
+use crate::claims::json::value_of;
 use crate::expect::expect_same;
 use rusty_paseto_claims::{is_whole, odd_key};
-use serde_json::Value;
 
 // A value as JSON, and the key of its first part that has another number, where there is one.
 const ROWS: &[(&str, Option<&str>)] = &[
@@ -35,7 +35,7 @@ const ROWS: &[(&str, Option<&str>)] = &[
 #[test]
 fn values(rt: HostRuntime) {
     'rows: for &(text, key) in ROWS {
-        let value = Value::from_str(rt.alloc(), text).expect(&rt, "JSON");
+        let value = value_of(&rt, rt.alloc(), text);
         expect_same(&rt, &is_whole(&value), &key.is_none(), &text);
         expect_same(&rt, &odd_key(&value), &key, &text);
     }

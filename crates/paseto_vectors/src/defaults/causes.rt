@@ -1,6 +1,6 @@
 //! Why a token was refused, behind the errors of builders, parsers and rings.
 
-use crate::expect::{expect_text, expect_that};
+use crate::expect::{expect_shown, expect_that};
 use rusty_paseto::prelude::{
     GenericBuilderError, GenericParserError, KeyRingError, KeyRingParserError, PasetoClaimError,
     PasetoError,
@@ -16,13 +16,11 @@ fn of_builders(rt: HostRuntime) {
         matches!(error.cause(), Some(PasetoError::ChaChaCipherError)),
         "the answer",
     );
-    let text = error.explained().to_string(alloc).expect(&rt, "memory");
     let expected = "A paseto cipher error occurred: An unspecified cipher error occurred";
-    expect_text(&rt, text.as_str(), expected);
+    expect_shown(&rt, alloc, &error.explained(), expected);
     let error = GenericBuilderError::from(PasetoClaimError::Expired);
     expect_that(&rt, error.cause().is_none(), "the answer");
-    let text = error.explained().to_string(alloc).expect(&rt, "memory");
-    expect_text(&rt, text.as_str(), "This token is expired");
+    expect_shown(&rt, alloc, &error.explained(), "This token is expired");
 }
 
 #[test]
@@ -34,13 +32,11 @@ fn of_parsers(rt: HostRuntime) {
         matches!(error.cause(), Some(PasetoError::FooterInvalid)),
         "the answer",
     );
-    let text = error.explained().to_string(alloc).expect(&rt, "memory");
     let expected = "A paseto cipher error occurred: The provided footer is invalid";
-    expect_text(&rt, text.as_str(), expected);
+    expect_shown(&rt, alloc, &error.explained(), expected);
     let error = GenericParserError::from(AllocError);
     expect_that(&rt, error.cause().is_none(), "the answer");
-    let text = error.explained().to_string(alloc).expect(&rt, "memory");
-    expect_text(&rt, text.as_str(), "No memory was found");
+    expect_shown(&rt, alloc, &error.explained(), "No memory was found");
 }
 
 #[test]

@@ -1,12 +1,11 @@
 //! The examples of the Rust crate's documentation, each under its title.
 
 use crate::defaults::claims::Claim;
-use crate::defaults::kinds::{default_builder, moment_after};
+use crate::defaults::kinds::{default_builder, default_parser, moment_after, sealed};
 use crate::defaults::primes::Primes;
 use crate::defaults::rows::{NONE, Row, USUAL, check_rows, told};
 use crate::expect::expect_text;
 use crate::kinds::{Binding, Kind, SECRET, symmetric_key};
-use paseto_toys::generators::Zeros;
 use rusty_paseto::CountingSetter;
 use rusty_paseto::prelude::{
     CustomClaim, ExpirationClaim, Footer, ImplicitAssertion, Local, PasetoBuilder, PasetoParser,
@@ -136,46 +135,36 @@ fn tokens_and_their_values(rt: HostRuntime) {
 
 type Parser<'a> = PasetoParser<'a, V4, Local>;
 
-// The JSON of what the parser answers, or the error's text.
-fn read(rt: &impl Abort, alloc: Global, parser: &Parser<'_>, token: &str) -> String {
-    told(rt, alloc, parser.parse(token, &symmetric_key(&SECRET)))
+// The JSON of what the parser answers, or the error's text, is the wanted one.
+fn expect_read(rt: &impl Abort, alloc: Global, parser: &Parser<'_>, token: &str, wanted: &str) {
+    let answer = parser.parse(token, &symmetric_key(&SECRET));
+    expect_text(rt, told(rt, alloc, answer).as_str(), wanted);
 }
 
 // A default parser at the moment when tokens are built.
-fn default_parser<'a>(rt: &impl Abort, alloc: Global) -> Parser<'a> {
-    Parser::default(alloc, moment_after(rt, 0)).expect(rt, "a default parser")
+fn first_parser<'a>(rt: &impl Abort, alloc: Global) -> Parser<'a> {
+    default_parser(rt, alloc, moment_after(rt, 0))
 }
 
 fn token_of(rt: &impl Abort, alloc: Global, claims: &[Claim<'_>]) -> String {
-    Kind::V4Local
-        .build_default(rt, alloc, moment_after(rt, 0), claims, Binding::NONE)
-        .expect(rt, "a token")
+    Kind::V4Local.default_token(rt, alloc, moment_after(rt, 0), claims, Binding::NONE)
 }
 
 #[test]
 fn a_default_parser(rt: HostRuntime) {
     let alloc = rt.alloc();
     let token = token_of(&rt, alloc, NONE);
-    let mut parser = default_parser(&rt, alloc);
-    expect_text(
-        &rt,
-        read(&rt, alloc, &parser, token.as_str()).as_str(),
-        EARLY,
-    );
+    let mut parser = first_parser(&rt, alloc);
+    expect_read(&rt, alloc, &parser, token.as_str(), EARLY);
     parser.set_now(moment_after(&rt, SECOND));
-    expect_text(
-        &rt,
-        read(&rt, alloc, &parser, token.as_str()).as_str(),
-        USUAL,
-    );
+    expect_read(&rt, alloc, &parser, token.as_str(), USUAL);
 }
 
 #[test]
 fn a_parser_that_checks_nothing(rt: HostRuntime) {
     let alloc = rt.alloc();
     let token = token_of(&rt, alloc, NONE);
-    let found = read(&rt, alloc, &Parser::new(alloc), token.as_str());
-    expect_text(&rt, found.as_str(), USUAL);
+    expect_read(&rt, alloc, &Parser::new(alloc), token.as_str(), USUAL);
 }
 
 // A token with a footer and an implicit assertion that never expires.
@@ -189,9 +178,7 @@ fn asserted_token(rt: &impl Abort, alloc: Global) -> String {
         .expect(rt, "memory")
         .set_footer(Footer::from(FOOTER))
         .set_implicit_assertion(ImplicitAssertion::from(ASSERTION));
-    builder
-        .build(&mut Zeros, &symmetric_key(&SECRET))
-        .expect(rt, "a token")
+    sealed(builder).expect(rt, "a token")
 }
 
 // Tokens that never expire.
@@ -199,28 +186,20 @@ fn asserted_token(rt: &impl Abort, alloc: Global) -> String {
 fn a_token_with_an_implicit_assertion(rt: HostRuntime) {
     let alloc = rt.alloc();
     let token = asserted_token(&rt, alloc);
-    let mut parser = default_parser(&rt, alloc);
+    let mut parser = first_parser(&rt, alloc);
     parser
         .set_now(moment_after(&rt, SECOND))
         .set_footer(Footer::from(FOOTER));
     let refusal = "A paseto cipher error occurred";
-    expect_text(
-        &rt,
-        read(&rt, alloc, &parser, token.as_str()).as_str(),
-        refusal,
-    );
+    expect_read(&rt, alloc, &parser, token.as_str(), refusal);
     parser.set_implicit_assertion(ImplicitAssertion::from(ASSERTION));
     let wanted = "{\"iat\":\"2024-01-01T00:00:00Z\",\"nbf\":\"2024-01-01T00:00:00Z\"}";
-    expect_text(
-        &rt,
-        read(&rt, alloc, &parser, token.as_str()).as_str(),
-        wanted,
-    );
+    expect_read(&rt, alloc, &parser, token.as_str(), wanted);
 }
 
 // A parser of contestants from a universe whose number is a prime.
 fn parser_of_primes<'a>(rt: &impl Abort, alloc: Global) -> Parser<'a> {
-    let mut parser = default_parser(rt, alloc);
+    let mut parser = first_parser(rt, alloc);
     let universe = CustomClaim::try_from_key(alloc, "Universe").expect(rt, "a claim");
     parser
         .set_now(moment_after(rt, SECOND))
@@ -241,10 +220,6 @@ fn custom_validation(rt: HostRuntime) {
     ] {
         let claims = [SCHWIFTY, FROM_EARTH, Claim::Custom("Universe", universe)];
         let token = token_of(&rt, alloc, &claims);
-        expect_text(
-            &rt,
-            read(&rt, alloc, &parser, token.as_str()).as_str(),
-            answer,
-        );
+        expect_read(&rt, alloc, &parser, token.as_str(), answer);
     }
 }

@@ -3,8 +3,8 @@
 use crate::expect::{expect_refusal, expect_text, expect_that};
 use crate::kinds::{Binding, Kind, SECRET, symmetric_key};
 use rusty_paseto::prelude::{
-    DefaultAssertionVersion, DefaultLocalVersion, ImplicitAssertion, KeyRing, KeyRingError,
-    PasetoError, V1, V3, V4,
+    DefaultAssertionVersion, DefaultLocalVersion, KeyRing, KeyRingError, PasetoError, Ring, V1, V3,
+    V4,
 };
 use std::alloc::Global;
 use std::process::Abort;
@@ -32,50 +32,59 @@ impl<'a> Question<'a> {
     }
 }
 
+/// Puts a key into a ring.
+pub(crate) fn put_key<K: Drop>(rt: &impl Abort, ring: &mut Ring<K>, id: &str, key: K) {
+    ring.add(id, key).expect(rt, "memory");
+}
+
 // A ring with the secret's key as `k1`, and a key of zeros as `k2`.
 fn ring_for<V: DefaultLocalVersion>(
+    rt: &impl Abort,
     alloc: Global,
     question: Question<'_>,
-) -> Result<KeyRing<V>, KeyRingError> {
+) -> KeyRing<V> {
     let mut ring = KeyRing::<V>::new(alloc);
-    ring.add("k1", symmetric_key(&SECRET))?;
-    ring.add("k2", symmetric_key(&[0; 64]))?;
+    put_key(rt, &mut ring, "k1", symmetric_key(&SECRET));
+    put_key(rt, &mut ring, "k2", symmetric_key(&[0; 64]));
     if question.is_second_changed {
-        ring.add("k2", symmetric_key(&SECRET))?;
+        put_key(rt, &mut ring, "k2", symmetric_key(&SECRET));
     }
-    Ok(ring)
+    ring
 }
 
-fn ask_version_1(alloc: Global, question: Question<'_>) -> Answer {
-    ring_for::<V1>(alloc, question)?.open(question.token)
+fn ask_version_1(rt: &impl Abort, alloc: Global, question: Question<'_>) -> Answer {
+    ring_for::<V1>(rt, alloc, question).open(question.token)
 }
 
-fn ask_version<V: DefaultAssertionVersion>(alloc: Global, question: Question<'_>) -> Answer {
-    let assertion = question.assertion.map(|text| ImplicitAssertion::from(text));
-    ring_for::<V>(alloc, question)?.open(question.token, assertion)
+fn ask_version<V: DefaultAssertionVersion>(
+    rt: &impl Abort,
+    alloc: Global,
+    question: Question<'_>,
+) -> Answer {
+    let assertion = Binding::of_assertion(question.assertion).assertion();
+    ring_for::<V>(rt, alloc, question).open(question.token, assertion)
 }
 
 // What a ring of the kind's version answers.
 fn ask(rt: &impl Abort, alloc: Global, kind: Kind, question: Question<'_>) -> Answer {
     match kind {
-        Kind::V1Local => ask_version_1(alloc, question),
-        Kind::V3Local => ask_version::<V3>(alloc, question),
-        Kind::V4Local => ask_version::<V4>(alloc, question),
+        Kind::V1Local => ask_version_1(rt, alloc, question),
+        Kind::V3Local => ask_version::<V3>(rt, alloc, question),
+        Kind::V4Local => ask_version::<V4>(rt, alloc, question),
         _ => panic!(rt; "no ring opens the kind"),
     }
 }
 
 // The token of `hi` under the secret's key, with the footer.
 fn sealed(rt: &impl Abort, alloc: Global, kind: Kind, footer: Option<&str>) -> String {
-    kind.make(alloc, "hi", Binding::of_footer(footer))
-        .expect(rt, "a token")
+    kind.token(rt, alloc, "hi", Binding::of_footer(footer))
 }
 
 // The answer is `hi`, under this id.
 fn check_opened(rt: &impl Abort, kind: Kind, answer: Answer, id: &str) {
-    let (found, text) = answer.expect(rt, "a text");
-    expect_text(rt, found.as_str(), id);
-    expect_that(rt, text.as_str() == "hi", &kind);
+    let opened = answer.expect(rt, "a text");
+    expect_text(rt, opened.0.as_str(), id);
+    expect_that(rt, opened.1.as_str() == "hi", &kind);
 }
 
 // The answer is a refusal of this text, for the token in each version.
@@ -177,7 +186,7 @@ fn an_assertion_that_is_not_passed(rt: HostRuntime) {
             footer: Some("{\"kid\":\"k1\"}"),
             assertion: Some("a"),
         };
-        let token = kind.make(rt.alloc(), "hi", binding).expect(&rt, "a token");
+        let token = kind.token(&rt, rt.alloc(), "hi", binding);
         let question = Question::of(token.as_str());
         let answer = ask(&rt, rt.alloc(), kind, question);
         let is_refused = matches!(answer, Err(KeyRingError::Token(PasetoError::Cryption)));

@@ -73,7 +73,8 @@ fn asserting_builder_of<'a, V: ImplicitAssertionCapable, P: PurposeTrait>(
     builder
 }
 
-fn sealed<V: DefaultLocalVersion>(builder: PasetoBuilder<'_, V, Local>) -> Token {
+/// What a default builder builds under the secret's key and a nonce of zeros.
+pub(crate) fn sealed<V: DefaultLocalVersion>(builder: PasetoBuilder<'_, V, Local>) -> Token {
     builder.build(&mut Zeros, &symmetric_key(&SECRET))
 }
 
@@ -86,6 +87,15 @@ fn signed<V: ToyVersion + Signs<V::Toy>>(builder: PasetoBuilder<'_, V, Public>) 
     builder.build(&mut V::toy(), &V::private_key(&keys))
 }
 
+/// A default parser at the moment.
+pub(crate) fn default_parser<'a, V: VersionTrait, P: PurposeTrait>(
+    rt: &impl Abort,
+    alloc: Global,
+    now: Timestamp,
+) -> PasetoParser<'a, V, P> {
+    PasetoParser::default(alloc, now).expect(rt, "a default parser")
+}
+
 fn parser_of<'a, V: VersionTrait, P: PurposeTrait>(
     rt: &impl Abort,
     alloc: Global,
@@ -93,7 +103,7 @@ fn parser_of<'a, V: VersionTrait, P: PurposeTrait>(
     claims: &[Claim<'_>],
     binding: Binding<'a>,
 ) -> PasetoParser<'a, V, P> {
-    let mut parser = PasetoParser::<V, P>::default(alloc, now).expect(rt, "a default parser");
+    let mut parser = default_parser::<V, P>(rt, alloc, now);
     'claims: for claim in claims {
         check(rt, &mut parser, alloc, *claim);
     }
@@ -126,11 +136,12 @@ fn unboxed(parser: PasetoParser<'_, V2, Local>, token: &str) -> Answer {
 }
 
 fn verified<V: ToyVersion + Verifies<V::Toy>>(
+    rt: &impl Abort,
     parser: PasetoParser<'_, V, Public>,
     token: &str,
 ) -> Answer {
     let keys = Keys::of(&SECRET);
-    let key = V::public_key(&keys)?;
+    let key = V::public_key(&keys).expect(rt, "a key");
     parser.parse(&V::toy(), token, &key)
 }
 
@@ -157,6 +168,19 @@ impl Kind {
         }
     }
 
+    /// The token that such a builder builds.
+    pub(crate) fn default_token(
+        self,
+        rt: &impl Abort,
+        alloc: Global,
+        now: Timestamp,
+        claims: &[Claim<'_>],
+        binding: Binding<'_>,
+    ) -> String {
+        self.build_default(rt, alloc, now, claims, binding)
+            .expect(rt, "a token")
+    }
+
     /// What a default parser at the moment, which checks the claims, answers for a token under the secret's keys.
     pub(crate) fn parse_default(
         self,
@@ -178,13 +202,15 @@ impl Kind {
                 asserting_parser_of(rt, alloc, now, claims, binding),
                 token,
             ),
-            Kind::V1Public => verified::<V1>(parser_of(rt, alloc, now, claims, binding), token),
-            Kind::V2Public => verified::<V2>(parser_of(rt, alloc, now, claims, binding), token),
+            Kind::V1Public => verified::<V1>(rt, parser_of(rt, alloc, now, claims, binding), token),
+            Kind::V2Public => verified::<V2>(rt, parser_of(rt, alloc, now, claims, binding), token),
             Kind::V3Public => verified::<V3>(
+                rt,
                 asserting_parser_of(rt, alloc, now, claims, binding),
                 token,
             ),
             Kind::V4Public => verified::<V4>(
+                rt,
                 asserting_parser_of(rt, alloc, now, claims, binding),
                 token,
             ),

@@ -1,6 +1,7 @@
 //! The moments at which default builders begin, and their texts.
 
 use crate::builders::maps::Numbers;
+use crate::claims::json::value_of;
 use crate::defaults::kinds::moment_after;
 use crate::defaults::rows::NONE;
 use crate::expect::{expect_text, expect_that};
@@ -39,15 +40,16 @@ fn moments_that_fit(rt: HostRuntime) {
     }
 }
 
-// The text under `iat` of a default token that is built at the moment.
+// The claims of a default token that is built at the moment.
+fn claims_at(rt: &impl Abort, alloc: Global, now: Timestamp) -> Value {
+    let token = Kind::V4Local.default_token(rt, alloc, now, NONE, Binding::NONE);
+    let text = Kind::V4Local.read(alloc, token.as_str(), Binding::NONE);
+    value_of(rt, alloc, text.expect(rt, "a payload").as_str())
+}
+
+// The text under `iat` there.
 fn text_at(rt: &impl Abort, alloc: Global, now: Timestamp) -> String {
-    let token = Kind::V4Local
-        .build_default(rt, alloc, now, NONE, Binding::NONE)
-        .expect(rt, "a token");
-    let text = Kind::V4Local
-        .read(alloc, token.as_str(), Binding::NONE)
-        .expect(rt, "a payload");
-    let claims = Value::from_str(alloc, text.as_str()).expect(rt, "JSON");
+    let claims = claims_at(rt, alloc, now);
     let found = claims.get("iat").expect(rt, "a moment of issue");
     let moment = found.as_str().expect(rt, "a text");
     String::from_str(alloc, moment).expect(rt, "memory")

@@ -1,5 +1,6 @@
 //! Rings of public keys, and rings of version 2.
 
+use crate::defaults::key_rings::put_key;
 use crate::defaults::ring_parsing::{
     CLAIMS, FOOTER, PARSED, ROWS, expect_told, parser_of, token_of,
 };
@@ -8,8 +9,8 @@ use crate::kinds::{Binding, Kind, OTHER_SECRET, SECRET, symmetric_key};
 use paseto_toys::ToyBox;
 use paseto_toys::keys::{Keys, ToyVersion};
 use rusty_paseto::prelude::{
-    DefaultAssertionVersion, GenericParser, ImplicitAssertion, KeyRing, KeyRingError, Local,
-    PasetoError, Public, PublicKeyRing, V1, V2, V3, V4, Verifies,
+    DefaultAssertionVersion, GenericParser, KeyRing, KeyRingError, Local, PasetoError, Public,
+    PublicKeyRing, V1, V2, V3, V4, Verifies,
 };
 use std::alloc::Global;
 use std::process::Abort;
@@ -24,10 +25,18 @@ fn ring_of<'a, V: ToyVersion>(
     second: &'a Keys,
 ) -> PublicKeyRing<'a, V> {
     let mut ring = PublicKeyRing::<V>::new(alloc);
-    let first = V::public_key(first).expect(rt, "a key");
-    let second = V::public_key(second).expect(rt, "a key");
-    let is_made = ring.add("k1", first).is_ok() && ring.add("k2", second).is_ok();
-    expect_that(rt, is_made, "the answer");
+    put_key(
+        rt,
+        &mut ring,
+        "k1",
+        V::public_key(first).expect(rt, "a key"),
+    );
+    put_key(
+        rt,
+        &mut ring,
+        "k2",
+        V::public_key(second).expect(rt, "a key"),
+    );
     ring
 }
 
@@ -74,16 +83,15 @@ fn ask_asserting<V: ToyVersion + DefaultAssertionVersion + Verifies<V::Toy>>(
 ) -> Opened {
     let (first, second) = (Keys::of(&SECRET), Keys::of(&OTHER_SECRET));
     let ring = ring_of::<V>(rt, alloc, &first, &second);
-    let assertion = assertion.map(|text| ImplicitAssertion::from(text));
+    let assertion = Binding::of_assertion(assertion).assertion();
     ring.verify(&V::toy(), token, assertion)
 }
 
 // A ring of version 2 with the first secret's key as `k1`, and the second's as `k2`.
 fn boxed_ring(rt: &impl Abort, alloc: Global) -> KeyRing<V2> {
     let mut ring = KeyRing::<V2>::new(alloc);
-    let is_made = ring.add("k1", symmetric_key(&SECRET)).is_ok()
-        && ring.add("k2", symmetric_key(&OTHER_SECRET)).is_ok();
-    expect_that(rt, is_made, "the answer");
+    put_key(rt, &mut ring, "k1", symmetric_key(&SECRET));
+    put_key(rt, &mut ring, "k2", symmetric_key(&OTHER_SECRET));
     ring
 }
 
@@ -111,7 +119,7 @@ fn the_footer_picks_the_key(rt: HostRuntime) {
     let alloc = rt.alloc();
     'kinds: for &kind in KINDS {
         let binding = Binding::of_footer(Some(FOOTER));
-        let token = kind.make(alloc, CLAIMS, binding).expect(&rt, "a token");
+        let token = kind.token(&rt, alloc, CLAIMS, binding);
         let (id, text) = ask(&rt, alloc, kind, token.as_str()).expect(&rt, "a text");
         expect_text(&rt, id.as_str(), "k1");
         expect_text(&rt, text.as_str(), CLAIMS);
@@ -123,7 +131,7 @@ fn no_other_key_is_tried(rt: HostRuntime) {
     let alloc = rt.alloc();
     'kinds: for &kind in KINDS {
         let binding = Binding::of_footer(Some("{\"kid\":\"k2\"}"));
-        let token = kind.make(alloc, CLAIMS, binding).expect(&rt, "a token");
+        let token = kind.token(&rt, alloc, CLAIMS, binding);
         let refused = ask(&rt, alloc, kind, token.as_str());
         let is_refused = matches!(
             &refused,
@@ -139,7 +147,7 @@ fn a_footer_that_names_no_key(rt: HostRuntime) {
     'kinds: for &kind in KINDS {
         'faults: for &(footer, expected) in FAULTS {
             let binding = Binding::of_footer(footer);
-            let token = kind.make(alloc, CLAIMS, binding).expect(&rt, "a token");
+            let token = kind.token(&rt, alloc, CLAIMS, binding);
             expect_refusal(&rt, alloc, ask(&rt, alloc, kind, token.as_str()), expected);
         }
     }
@@ -152,9 +160,7 @@ fn the_assertion_of_a_public_token(rt: HostRuntime) {
         footer: Some(FOOTER),
         assertion: Some("a"),
     };
-    let token = Kind::V4Public
-        .make(alloc, CLAIMS, binding)
-        .expect(&rt, "a token");
+    let token = Kind::V4Public.token(&rt, alloc, CLAIMS, binding);
     let (id, _text) = ask_asserting::<V4>(&rt, alloc, token.as_str(), Some("a")).expect(
         &rt, "a text",
     );

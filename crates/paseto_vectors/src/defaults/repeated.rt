@@ -1,19 +1,19 @@
 //! Keys that are set again, claims that are refused, and builders that are used again.
 
-use crate::defaults::claims::Claim;
+use crate::defaults::claims::{Claim, set};
 use crate::defaults::kinds::{Token, default_builder, moment_after};
 use crate::defaults::rows::{NONE, USUAL};
-use crate::expect::{expect_same, expect_text, expect_that};
+use crate::expect::{expect_same, expect_text, expect_that, shown};
 use crate::kinds::{Binding, KINDS, Kind, SECRET, symmetric_key};
 use crate::parsers::steps::custom;
 use paseto_toys::ToyV4;
 use paseto_toys::counting::{Calls, Counting};
 use paseto_toys::generators::{Failing, Zeros};
 use paseto_toys::keys::{Keys, ToyVersion};
+use rand_core::TryRng;
 use rusty_paseto::CountingSetter;
 use rusty_paseto::prelude::{
-    AudienceClaim, GenericBuilderError, Local, PasetoBuilder, PasetoError, Public, PurposeTrait,
-    V4, VersionTrait,
+    GenericBuilderError, Local, PasetoBuilder, PasetoError, Public, PurposeTrait, V4, VersionTrait,
 };
 use std::alloc::Global;
 use std::process::Abort;
@@ -53,13 +53,16 @@ const ROWS: &[(&[Claim<'static>], &str)] = &[
     (&[Claim::NoExpiration, Claim::NoExpiration], ENDLESS),
 ];
 
+fn payload_of(rt: &impl Abort, alloc: Global, kind: Kind, token: &str) -> String {
+    kind.read(alloc, token, Binding::NONE)
+        .expect(rt, "a payload")
+}
+
 // The payload of a token that was built, or the error's text.
 fn written(rt: &impl Abort, alloc: Global, kind: Kind, built: Token) -> String {
     match built {
-        Ok(token) => kind
-            .read(alloc, token.as_str(), Binding::NONE)
-            .expect(rt, "a payload"),
-        Err(error) => error.to_string(alloc).expect(rt, "memory"),
+        Ok(token) => payload_of(rt, alloc, kind, token.as_str()),
+        Err(error) => shown(rt, alloc, &error),
     }
 }
 
@@ -81,9 +84,12 @@ fn keys_that_are_set_again(rt: HostRuntime) {
 
 type LocalBuilder<'a> = PasetoBuilder<'a, V4, Local>;
 
+fn build<R: TryRng>(builder: &LocalBuilder<'_>, generator: &mut R) -> Token {
+    builder.build(generator, &symmetric_key(&SECRET))
+}
+
 fn check_local(rt: &impl Abort, alloc: Global, builder: &LocalBuilder<'_>, payload: &str) {
-    let built = builder.build(&mut Zeros, &symmetric_key(&SECRET));
-    let found = written(rt, alloc, Kind::V4Local, built);
+    let found = written(rt, alloc, Kind::V4Local, build(builder, &mut Zeros));
     expect_text(rt, found.as_str(), payload);
 }
 
@@ -106,18 +112,21 @@ fn a_claim_that_is_refused(rt: HostRuntime) {
     check_local(&rt, alloc, &builder, SEATS);
 }
 
+fn is_cipher_fault(answer: Token) -> bool {
+    matches!(
+        &answer,
+        Err(GenericBuilderError::CipherError {
+            source: PasetoError::Cipher
+        })
+    )
+}
+
 #[test]
 fn built_again(rt: HostRuntime) {
     let alloc = rt.alloc();
     let builder: LocalBuilder<'_> = default_builder(&rt, alloc, moment_after(&rt, 0));
-    let answer = builder.build(&mut Failing { asked: 0 }, &symmetric_key(&SECRET));
-    let is_cipher_fault = matches!(
-        answer,
-        Err(GenericBuilderError::CipherError {
-            source: PasetoError::Cipher
-        })
-    );
-    expect_that(&rt, is_cipher_fault, "the answer");
+    let answer = build(&builder, &mut Failing { asked: 0 });
+    expect_that(&rt, is_cipher_fault(answer), "the answer");
     'times: for _ in 0..2u8 {
         check_local(&rt, alloc, &builder, USUAL);
     }
@@ -130,9 +139,7 @@ fn refused_builder<'a, V: VersionTrait, P: PurposeTrait>(
 ) -> PasetoBuilder<'a, V, P> {
     let mut builder = default_builder(rt, alloc, moment_after(rt, 0));
     'times: for _ in 0..2u8 {
-        builder
-            .put_claim(&AudienceClaim::from("customers"))
-            .expect(rt, "a claim");
+        set(rt, &mut builder, alloc, AUDIENCE);
     }
     builder
 }
@@ -141,13 +148,8 @@ fn refused_builder<'a, V: VersionTrait, P: PurposeTrait>(
 fn no_nonce_is_asked_for_a_key_that_was_set_again(rt: HostRuntime) {
     let builder: LocalBuilder<'_> = refused_builder(&rt, rt.alloc());
     let mut failing = Failing { asked: 0 };
-    expect_that(
-        &rt,
-        builder
-            .build(&mut failing, &symmetric_key(&SECRET))
-            .is_err(),
-        "the answer",
-    );
+    let answer = build(&builder, &mut failing);
+    expect_that(&rt, answer.is_err(), "the answer");
     expect_that(&rt, failing.asked == 0, "the answer");
 }
 

@@ -1,36 +1,34 @@
 //! Claims that a parser requires, and clocks that differ.
 
-use crate::expect::{expect_refusal, expect_text, expect_that};
+use crate::defaults::kinds::{default_parser, moment_after};
+use crate::defaults::rows::told;
+use crate::expect::{expect_refusal, expect_text};
 use crate::kinds::{Binding, Kind, SECRET, symmetric_key};
-use jiff::Timestamp;
-use rusty_paseto::prelude::{
-    AudienceClaim, CheckSetter, GenericParser, GenericParserError, Local, PasetoParser, V4,
-};
-use serde_json::Value;
+use rusty_paseto::prelude::{AudienceClaim, CheckSetter, GenericParser, Local, V4};
 use std::alloc::Global;
 use std::process::Abort;
-
-// So many seconds after the first of 2024.
-fn moment_after(rt: &impl Abort, seconds: i64) -> Timestamp {
-    let second = 1_704_067_200_i64.wrapping_add(seconds);
-    Timestamp::from_second(second).expect(rt, "a moment")
-}
 
 // A parser that checks the times at so many seconds after the first of 2024.
 fn parser_after<'a>(rt: &impl Abort, alloc: Global, seconds: i64) -> GenericParser<'a, V4, Local> {
     let mut parser = GenericParser::new(alloc);
-    let is_set = parser.put_times(moment_after(rt, seconds)).is_ok();
-    expect_that(rt, is_set, "the answer");
+    let now = moment_after(rt, i128::from(seconds) * 1_000_000_000);
+    parser.put_times(now).expect(rt, "the times");
     parser
 }
 
-// The text of what was answered.
-fn text_of(rt: &impl Abort, alloc: Global, answer: Result<Value, GenericParserError>) -> String {
-    let text = match answer {
-        Ok(value) => value.to_string(alloc),
-        Err(error) => error.to_string(alloc),
-    };
-    text.expect(rt, "memory")
+// What the parser answers for the claims: the JSON of their values, or the error's text.
+fn expect_value(
+    rt: &impl Abort,
+    alloc: Global,
+    parser: &GenericParser<'_, V4, Local>,
+    claims: &str,
+    wanted: &str,
+) {
+    expect_text(
+        rt,
+        told(rt, alloc, parser.value_of(claims)).as_str(),
+        wanted,
+    );
 }
 
 const EXP: &str = "{\"exp\":\"2024-01-01T00:00:00Z\"}";
@@ -40,6 +38,12 @@ const NBF: &str = "{\"nbf\":\"2024-01-01T00:00:00Z\"}";
 const EXPIRED: &str = "This token is expired";
 
 const EARLY: &str = "The token cannot be used before 2024-01-01T00:00:00Z";
+
+// The audience `customers` is checked.
+fn put_audience(rt: &impl Abort, parser: &mut GenericParser<'_, V4, Local>) {
+    let audience = AudienceClaim::from("customers");
+    parser.put_check(&audience).expect(rt, "a check");
+}
 
 // The moment, the leeway, the claims, and what is answered.
 const LEEWAYS: &[(i64, u32, &str, &str)] = &[
@@ -65,8 +69,7 @@ fn a_leeway_moves_both_moments_apart(rt: HostRuntime) {
     'rows: for &(seconds, leeway, claims, expected) in LEEWAYS {
         let mut parser = parser_after(&rt, alloc, seconds);
         parser.set_leeway(leeway);
-        let text = text_of(&rt, alloc, parser.value_of(claims));
-        expect_text(&rt, text.as_str(), expected);
+        expect_value(&rt, alloc, &parser, claims, expected);
     }
 }
 
@@ -98,14 +101,11 @@ fn a_required_claim_is_there_and_not_null(rt: HostRuntime) {
     let alloc = rt.alloc();
     'rows: for &(claims, expected) in REQUIRED {
         let mut parser = parser_after(&rt, alloc, 0);
-        let is_set = parser.put_required("exp").is_ok();
-        expect_that(&rt, is_set, "the answer");
+        parser.put_required("exp").expect(&rt, "a requirement");
         if claims.contains("aud") {
-            let is_set = parser.put_check(&AudienceClaim::from("customers")).is_ok();
-            expect_that(&rt, is_set, "the answer");
+            put_audience(&rt, &mut parser);
         }
-        let text = text_of(&rt, alloc, parser.value_of(claims));
-        expect_text(&rt, text.as_str(), expected);
+        expect_value(&rt, alloc, &parser, claims, expected);
     }
 }
 
@@ -114,28 +114,22 @@ fn a_required_claim_is_there_and_not_null(rt: HostRuntime) {
 fn a_requirement_keeps_the_check(rt: HostRuntime) {
     let alloc = rt.alloc();
     let mut parser = GenericParser::<V4, Local>::new(alloc);
-    let is_set = parser.put_check(&AudienceClaim::from("customers")).is_ok()
-        && parser.put_required("aud").is_ok();
-    expect_that(&rt, is_set, "the answer");
-    let text = text_of(&rt, alloc, parser.value_of("{\"aud\":\"others\"}"));
+    put_audience(&rt, &mut parser);
+    parser.put_required("aud").expect(&rt, "a requirement");
     let invalid = "The claim 'aud' failed validation.  Expected 'others' but received 'customers'";
-    expect_text(&rt, text.as_str(), invalid);
-    let text = text_of(&rt, alloc, parser.value_of("{\"aud\":null}"));
+    expect_value(&rt, alloc, &parser, "{\"aud\":\"others\"}", invalid);
     let missing = "The expected claim 'aud' was not found in the payload";
-    expect_text(&rt, text.as_str(), missing);
+    expect_value(&rt, alloc, &parser, "{\"aud\":null}", missing);
 }
 
 #[test]
 fn a_default_parser_requires_and_allows_the_same(rt: HostRuntime) {
     let alloc = rt.alloc();
     let key = symmetric_key(&SECRET);
-    let token = Kind::V4Local
-        .make(alloc, EXP, Binding::NONE)
-        .expect(&rt, "a token");
-    let now = moment_after(&rt, 1);
-    let mut parser = PasetoParser::<V4, Local>::default(alloc, now).expect(&rt, "memory");
-    let is_set = parser.put_required("sub").is_ok();
-    expect_that(&rt, is_set, "the answer");
+    let token = Kind::V4Local.token(&rt, alloc, EXP, Binding::NONE);
+    let now = moment_after(&rt, 1_000_000_000);
+    let mut parser = default_parser::<V4, Local>(&rt, alloc, now);
+    parser.put_required("sub").expect(&rt, "a requirement");
     expect_refusal(&rt, alloc, parser.parse(token.as_str(), &key), EXPIRED);
     parser.set_leeway(2);
     let missing = "The expected claim 'sub' was not found in the payload";

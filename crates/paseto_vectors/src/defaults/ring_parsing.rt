@@ -1,10 +1,13 @@
 //! Rings that check claims, and what a ring is operated with.
 
-use crate::expect::{expect_same, expect_text, expect_that};
+use crate::defaults::claims::{Claim, check};
+use crate::defaults::key_rings::put_key;
+use crate::defaults::kinds::default_parser;
+use crate::expect::{expect_bytes, expect_same, expect_shown, expect_text, expect_that};
 use crate::kinds::{Binding, Kind, SECRET, symmetric_key};
 use jiff::Timestamp;
 use rusty_paseto::prelude::{
-    AudienceClaim, CheckSetter, DefaultLocalVersion, Footer, GenericParser, KeyRing, KeyRingError,
+    DefaultLocalVersion, Footer, GenericParser, ImplicitAssertion, KeyRing, KeyRingError,
     KeyRingParserError, Local, PasetoError, PasetoParser, PurposeTrait, V1, V3, V4, VersionTrait,
 };
 use serde_json::Value;
@@ -88,10 +91,9 @@ pub(crate) fn parser_of<'a, V: VersionTrait, P: PurposeTrait>(
     row: Row,
 ) -> PasetoParser<'a, V, P> {
     let now = Timestamp::from_second(row.second).expect(rt, "a moment");
-    let mut parser = PasetoParser::<V, P>::default(alloc, now).expect(rt, "memory");
+    let mut parser = default_parser::<V, P>(rt, alloc, now);
     if let Some(audience) = row.audience {
-        let checked = parser.put_check(&AudienceClaim::from(audience));
-        checked.expect(rt, "a check");
+        check(rt, &mut parser, alloc, Claim::Audience(audience));
     }
     if let Some(footer) = row.footer {
         parser.set_footer(Footer::from(footer));
@@ -107,19 +109,20 @@ pub(crate) fn token_of(rt: &impl Abort, alloc: Global, kind: Kind, payload: &str
 
 /// The answer tells this: the id and the claims, or the text of the error.
 pub(crate) fn expect_told(rt: &impl Abort, alloc: Global, answer: Answer, wanted: &str) {
-    let told = match answer {
-        Ok((id, value)) => format!(in alloc; "{id} {value}"),
-        Err(error) => error.to_string(alloc),
-    };
-    expect_text(rt, told.expect(rt, "memory").as_str(), wanted);
+    match &answer {
+        Ok((id, value)) => {
+            let told = format!(in alloc; "{id} {value}").expect(rt, "memory");
+            expect_text(rt, told.as_str(), wanted);
+        }
+        Err(error) => expect_shown(rt, alloc, error, wanted),
+    }
 }
 
 // A ring with the secret's key as `k1`, and a key of zeros as `k2`.
 fn ring_of<V: DefaultLocalVersion>(rt: &impl Abort, alloc: Global) -> KeyRing<V> {
     let mut ring = KeyRing::<V>::new(alloc);
-    let second = ring.add("k2", symmetric_key(&[0; 64]));
-    let first = ring.add("k1", symmetric_key(&SECRET));
-    expect_that(rt, first.is_ok() && second.is_ok(), "two keys");
+    put_key(rt, &mut ring, "k2", symmetric_key(&[0; 64]));
+    put_key(rt, &mut ring, "k1", symmetric_key(&SECRET));
     ring
 }
 
@@ -139,6 +142,18 @@ fn claims_are_checked(rt: HostRuntime) {
     check_version::<V4>(&rt, rt.alloc(), Kind::V4Local);
 }
 
+fn parsed_by(ring: &KeyRing<V4>, parser: &GenericParser<'_, V4, Local>, token: &str) -> Answer {
+    ring.parse_by(parser, token)
+}
+
+// Whether the token is not one of the key that its footer names.
+fn is_refused(answer: Answer) -> bool {
+    matches!(
+        &answer,
+        Err(KeyRingParserError::Ring(KeyRingError::Token(PasetoError::Cryption)))
+    )
+}
+
 // The parser's own footer and assertion, and a generic parser, which checks no times.
 #[test]
 fn the_parsers_binding(rt: HostRuntime) {
@@ -147,20 +162,15 @@ fn the_parsers_binding(rt: HostRuntime) {
         footer: Some(FOOTER),
         assertion: Some("a"),
     };
-    let token = Kind::V4Local
-        .make(alloc, CLAIMS, binding)
-        .expect(&rt, "a token");
+    let token = Kind::V4Local.token(&rt, alloc, CLAIMS, binding);
     let ring = ring_of::<V4>(&rt, alloc);
     let mut parser = GenericParser::<V4, Local>::new(alloc);
     parser.set_footer(Footer::from(FOOTER));
-    let refused = ring.parse_by(&parser, token.as_str());
-    let is_refused = matches!(
-        &refused,
-        Err(KeyRingParserError::Ring(KeyRingError::Token(PasetoError::Cryption)))
-    );
-    expect_that(&rt, is_refused, "the answer");
-    parser.set_implicit_assertion(rusty_paseto::prelude::ImplicitAssertion::from("a"));
-    expect_told(&rt, alloc, ring.parse_by(&parser, token.as_str()), PARSED);
+    let answer = parsed_by(&ring, &parser, token.as_str());
+    expect_that(&rt, is_refused(answer), "the answer");
+    parser.set_implicit_assertion(ImplicitAssertion::from("a"));
+    let answer = parsed_by(&ring, &parser, token.as_str());
+    expect_told(&rt, alloc, answer, PARSED);
 }
 
 // The ids in their order, and how many there are.
@@ -173,25 +183,25 @@ fn check_ids<V: DefaultLocalVersion>(rt: &impl Abort, ring: &KeyRing<V>, expecte
     }
 }
 
+// Whether the ring has a key of the id `k2`, or none where it answers otherwise.
+fn has_second(ring: &KeyRing<V4>) -> Option<bool> {
+    match ring.key_of("{\"kid\":\"k2\"}") {
+        Ok(_) => Some(true),
+        Err(KeyRingError::UnknownKey(_)) => Some(false),
+        Err(_) => None,
+    }
+}
+
 #[test]
 fn keys_come_and_go(rt: HostRuntime) {
     let alloc = rt.alloc();
     let mut ring = ring_of::<V4>(&rt, alloc);
     check_ids(&rt, &ring, &["k1", "k2"]);
     let first = ring.key("k1").expect(&rt, "a key");
-    expect_that(
-        &rt,
-        first.as_bytes().as_slice() == &SECRET[..32],
-        "the answer",
-    );
+    expect_bytes(&rt, first.as_bytes().as_slice(), &SECRET[..32]);
     expect_that(&rt, ring.key("k3").is_none(), "the answer");
-    expect_that(&rt, ring.key_of("{\"kid\":\"k2\"}").is_ok(), "the answer");
+    expect_that(&rt, has_second(&ring) == Some(true), "the answer");
     expect_that(&rt, ring.remove("k2") && !ring.remove("k2"), "the answer");
     check_ids(&rt, &ring, &["k1"]);
-    let refused = ring.key_of("{\"kid\":\"k2\"}");
-    expect_that(
-        &rt,
-        matches!(&refused, Err(KeyRingError::UnknownKey(_))),
-        "the answer",
-    );
+    expect_that(&rt, has_second(&ring) == Some(false), "the answer");
 }

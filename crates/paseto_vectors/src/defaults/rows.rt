@@ -2,7 +2,7 @@
 
 use crate::defaults::claims::Claim;
 use crate::defaults::kinds::{Answer, moment_after};
-use crate::expect::{expect_same, expect_text, expect_that};
+use crate::expect::{expect_same, expect_text, expect_that, shown};
 use crate::kinds::{ASSERTED_KINDS, Binding, KINDS, Kind};
 use rusty_paseto::prelude::{GenericParserError, PasetoError};
 use std::alloc::Global;
@@ -36,18 +36,16 @@ fn token_of(rt: &impl Abort, alloc: Global, kind: Kind, row: Row) -> String {
     let (footer, _) = row.footers;
     let binding = Binding::of_footer(footer);
     match row.payload {
-        Some(text) => kind.make(alloc, text, binding).expect(rt, "a token"),
-        None => kind
-            .build_default(rt, alloc, moment_after(rt, 0), row.claims, binding)
-            .expect(rt, "a token"),
+        Some(text) => kind.token(rt, alloc, text, binding),
+        None => kind.default_token(rt, alloc, moment_after(rt, 0), row.claims, binding),
     }
 }
 
 /// The JSON of the value that was answered, or the error's text.
 pub(crate) fn told(rt: &impl Abort, alloc: Global, answer: Answer) -> String {
-    match answer {
-        Ok(value) => value.to_string(alloc).expect(rt, "memory"),
-        Err(error) => error.to_string(alloc).expect(rt, "memory"),
+    match &answer {
+        Ok(value) => shown(rt, alloc, value),
+        Err(error) => shown(rt, alloc, error),
     }
 }
 
@@ -95,9 +93,7 @@ fn nine_claims(rt: HostRuntime) {
         assertion: Some("some assertion"),
     };
     'kinds: for &kind in KINDS {
-        let token = kind
-            .build_default(&rt, alloc, now, NINE_CLAIMS, binding)
-            .expect(&rt, "a token");
+        let token = kind.default_token(&rt, alloc, now, NINE_CLAIMS, binding);
         let answer = kind.parse_default(&rt, alloc, token.as_str(), now, NINE_CLAIMS, binding);
         expect_text(&rt, told(&rt, alloc, answer).as_str(), NINE_ENTRIES);
     }
@@ -108,9 +104,7 @@ fn an_assertion_that_the_parser_lacks(rt: HostRuntime) {
     let (alloc, now) = (rt.alloc(), moment_after(&rt, 0));
     let asserted = Binding::of_assertion(Some("some assertion"));
     'kinds: for &kind in ASSERTED_KINDS {
-        let token = kind
-            .build_default(&rt, alloc, now, NONE, asserted)
-            .expect(&rt, "a token");
+        let token = kind.default_token(&rt, alloc, now, NONE, asserted);
         let answer = kind.parse_default(&rt, alloc, token.as_str(), now, NONE, Binding::NONE);
         let is_named = matches!(
             answer,

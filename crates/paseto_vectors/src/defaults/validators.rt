@@ -1,6 +1,6 @@
 //! The validators that stand ready.
 
-use crate::expect::{expect_text, expect_that};
+use crate::expect::{expect_shown, expect_text};
 use rusty_paseto::prelude::{CheckSetter, CustomClaim, GenericParser, Local, V4, ValidatorFn};
 use rusty_paseto::validators::{
     AtLeast, AtMost, AtMostCharacters, BeginsWith, Holding, OneOf, Present, Within,
@@ -8,19 +8,25 @@ use rusty_paseto::validators::{
 use std::alloc::Global;
 use std::process::Abort;
 
+type Parser<'a> = GenericParser<'a, V4, Local>;
+
 // What a parser answers for a text as `a`, which the validator checks.
 fn check_rows(rt: &impl Abort, alloc: Global, validator: ValidatorFn, rows: &[(&str, &str)]) {
-    let mut parser = GenericParser::<V4, Local>::new(alloc);
+    let mut parser = Parser::new(alloc);
     let claim = CustomClaim::try_from_str(alloc, "a", 0u64).expect(rt, "a claim");
-    let is_set = parser.put_validator(&claim, validator).is_ok();
-    expect_that(rt, is_set, "the answer");
+    parser
+        .put_validator(&claim, validator)
+        .expect(rt, "a validator");
     'rows: for &(value, expected) in rows {
-        let text = format!(in alloc; "{{\"a\":{value}}}").expect(rt, "memory");
-        let answer = match parser.value_of(text.as_str()) {
-            Ok(_) => String::from_str(alloc, "ok").expect(rt, "memory"),
-            Err(error) => error.to_string(alloc).expect(rt, "memory"),
-        };
-        expect_text(rt, answer.as_str(), expected);
+        check_value(rt, alloc, &parser, value, expected);
+    }
+}
+
+fn check_value(rt: &impl Abort, alloc: Global, parser: &Parser<'_>, value: &str, expected: &str) {
+    let text = format!(in alloc; "{{\"a\":{value}}}").expect(rt, "memory");
+    match &parser.value_of(text.as_str()) {
+        Ok(_) => expect_text(rt, "ok", expected),
+        Err(error) => expect_shown(rt, alloc, error, expected),
     }
 }
 

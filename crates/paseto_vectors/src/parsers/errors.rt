@@ -1,6 +1,6 @@
 //! The texts of parsers' errors.
 
-use crate::expect::{expect_text, expect_that};
+use crate::expect::{expect_shown, expect_that};
 use rusty_paseto_claims::PasetoClaimError;
 use rusty_paseto_core::PasetoError;
 use rusty_paseto_generic::GenericParserError;
@@ -9,8 +9,7 @@ use std::alloc::{AllocError, Global};
 use std::process::Abort;
 
 fn check(rt: &impl Abort, alloc: Global, error: GenericParserError, text: &str) {
-    let found = error.to_string(alloc).expect(rt, "memory");
-    expect_text(rt, found.as_str(), text);
+    expect_shown(rt, alloc, &error, text);
 }
 
 #[test]

@@ -1,6 +1,7 @@
 //! Many payloads, which come back as the values that they are.
 
 use crate::builders::maps::Numbers;
+use crate::expect::shown;
 use crate::kinds::{Binding, KINDS};
 use crate::parsers::kinds::Expected;
 use std::alloc::Global;
@@ -70,8 +71,8 @@ fn object_of(rt: &impl Abort, alloc: Global, leaf: (&str, &str), inner: &Spelled
 // numbers are different.
 fn payload_of(rt: &impl Abort, alloc: Global, number: u64, numbers: &mut Numbers) -> Spelled {
     let mut payload = Spelled {
-        text: number.to_string(alloc).expect(rt, "memory"),
-        written: number.to_string(alloc).expect(rt, "memory"),
+        text: shown(rt, alloc, &number),
+        written: shown(rt, alloc, &number),
     };
     'levels: for _ in 0..numbers.next() % 6 {
         let leaf = LEAVES[(numbers.next() % 29) as usize];

@@ -1,6 +1,6 @@
 //! What parsers of every kind of token answer.
 
-use crate::expect::expect_same;
+use crate::expect::{expect_same, shown};
 use crate::kinds::{Binding, Kind, SECRET, symmetric_key};
 use crate::parsers::steps::{Step, add};
 use paseto_toys::ToyBox;
@@ -74,12 +74,11 @@ fn asserting_of<'a, V: ImplicitAssertionCapable, P: PurposeTrait>(
 /// What an answer tells: the value as JSON, or the text of the error, the core's own where the core refused the
 /// token.
 pub(crate) fn told(rt: &impl Abort, alloc: Global, answer: &Answer) -> String {
-    let text = match answer {
-        Ok(value) => value.to_string(alloc),
-        Err(GenericParserError::CipherError { source }) => source.to_string(alloc),
-        Err(error) => error.to_string(alloc),
-    };
-    text.expect(rt, "memory")
+    match answer {
+        Ok(value) => shown(rt, alloc, value),
+        Err(GenericParserError::CipherError { source }) => shown(rt, alloc, source),
+        Err(error) => shown(rt, alloc, error),
+    }
 }
 
 fn opened<V: GenericLocalVersion>(parser: GenericParser<'_, V, Local>, token: &str) -> Answer {
@@ -91,11 +90,12 @@ fn unboxed(parser: GenericParser<'_, V2, Local>, token: &str) -> Answer {
 }
 
 fn verified<V: ToyVersion + Verifies<V::Toy>>(
+    rt: &impl Abort,
     parser: GenericParser<'_, V, Public>,
     token: &str,
 ) -> Answer {
     let keys = Keys::of(&SECRET);
-    let key = V::public_key(&keys)?;
+    let key = V::public_key(&keys).expect(rt, "a key");
     parser.parse(&V::toy(), token, &key)
 }
 
@@ -113,10 +113,10 @@ impl Kind {
             Kind::V2Local => unboxed(parser_of(rt, alloc, expected), token),
             Kind::V3Local => opened::<V3>(asserting_of(rt, alloc, expected), token),
             Kind::V4Local => opened::<V4>(asserting_of(rt, alloc, expected), token),
-            Kind::V1Public => verified::<V1>(parser_of(rt, alloc, expected), token),
-            Kind::V2Public => verified::<V2>(parser_of(rt, alloc, expected), token),
-            Kind::V3Public => verified::<V3>(asserting_of(rt, alloc, expected), token),
-            Kind::V4Public => verified::<V4>(asserting_of(rt, alloc, expected), token),
+            Kind::V1Public => verified::<V1>(rt, parser_of(rt, alloc, expected), token),
+            Kind::V2Public => verified::<V2>(rt, parser_of(rt, alloc, expected), token),
+            Kind::V3Public => verified::<V3>(rt, asserting_of(rt, alloc, expected), token),
+            Kind::V4Public => verified::<V4>(rt, asserting_of(rt, alloc, expected), token),
         }
     }
 

@@ -1,6 +1,6 @@
 //! How deep a payload may be nested.
 
-use crate::expect::expect_text;
+use crate::expect::{expect_shown, expect_text};
 use crate::kinds::{Binding, KINDS, SECRET, symmetric_key};
 use crate::parsers::kinds::{Answer, Expected, told};
 use crate::parsers::steps::custom;
@@ -56,8 +56,7 @@ fn a_claim_at_most_126_deep(rt: HostRuntime) {
     let deep = nested(&rt, alloc, 126);
     let read = built(&rt, alloc, deep.as_str()).expect(&rt, "a value");
     let found = read.get("a").expect(&rt, "a claim");
-    let text = found.to_string(alloc).expect(&rt, "memory");
-    expect_text(&rt, text.as_str(), deep.as_str());
+    expect_shown(&rt, alloc, found, deep.as_str());
     let answer = built(&rt, alloc, nested(&rt, alloc, 127).as_str());
     expect_text(&rt, told(&rt, alloc, &answer).as_str(), UNREAD);
 }

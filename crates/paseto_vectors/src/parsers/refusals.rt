@@ -1,5 +1,6 @@
 //! What parsers refuse to store, and that they are then unchanged.
 
+use crate::claims::json::value_of;
 use crate::expect::expect_that;
 use crate::kinds::{Binding, Kind, SECRET, symmetric_key};
 use crate::parsers::steps::{Rule, custom, map_of, values_of};
@@ -32,11 +33,11 @@ fn parsed(
     parser: &Parser<'_>,
     payload: &str,
 ) -> Result<(), GenericParserError> {
-    let token = Kind::V4Local.make(alloc, payload, Binding::NONE);
-    let token = token.expect(rt, "a token");
-    parser
-        .parse(token.as_str(), &symmetric_key(&SECRET))
-        .map(drop)
+    let token = Kind::V4Local.token(rt, alloc, payload, Binding::NONE);
+    match parser.parse(token.as_str(), &symmetric_key(&SECRET)) {
+        Ok(_) => Ok(()),
+        Err(error) => Err(error),
+    }
 }
 
 #[test]
@@ -76,24 +77,40 @@ fn all_values_or_none(rt: HostRuntime) {
     parsed(&rt, alloc, &parser, "{}").expect(&rt, "no check");
 }
 
+fn chain_of_claims<'p, 'a>(
+    rt: &impl Abort,
+    alloc: Global,
+    parser: &'p mut Parser<'a>,
+) -> &'p mut Parser<'a> {
+    let accepts = Rule::Accepts.boxed(rt, alloc);
+    parser
+        .check_claim(&custom(rt, alloc, "a", "1"))
+        .expect(rt, "a check")
+        .validate_claim(&custom(rt, alloc, "b", "2"), accepts)
+        .expect(rt, "a validator")
+}
+
+fn chain_of_maps<'p, 'a>(
+    rt: &impl Abort,
+    alloc: Global,
+    parser: &'p mut Parser<'a>,
+) -> &'p mut Parser<'a> {
+    let four = map_of(rt, alloc, "d", value_of(rt, alloc, "{\"d\":4}"));
+    let checked = map_of(rt, alloc, "a", Rule::Accepts.boxed(rt, alloc));
+    parser
+        .extend_check_claims(four)
+        .expect(rt, "checks")
+        .extend_validation_claims(checked)
+        .expect(rt, "validators")
+}
+
 // The calls that lend the parser back make the same edits.
 #[test]
 fn chains_of_calls(rt: HostRuntime) {
     let alloc = rt.alloc();
     let mut parser = Parser::new(alloc);
-    let value = Value::from_str(alloc, "{\"d\":4}").expect(&rt, "JSON");
-    let four = map_of(&rt, alloc, "d", value);
-    let checked = map_of(&rt, alloc, "a", Rule::Accepts.boxed(&rt, alloc));
-    let accepts = Rule::Accepts.boxed(&rt, alloc);
-    let parser = parser
-        .check_claim(&custom(&rt, alloc, "a", "1"))
-        .expect(&rt, "a check")
-        .validate_claim(&custom(&rt, alloc, "b", "2"), accepts)
-        .expect(&rt, "a validator")
-        .extend_check_claims(four)
-        .expect(&rt, "checks")
-        .extend_validation_claims(checked)
-        .expect(&rt, "validators");
+    let lent = chain_of_claims(&rt, alloc, &mut parser);
+    let parser = chain_of_maps(&rt, alloc, lent);
     let payload = "{\"a\":0,\"b\":0,\"d\":4}";
     parsed(&rt, alloc, parser, payload).expect(&rt, "the check of d");
     let answer = parsed(&rt, alloc, parser, "{\"d\":5}");

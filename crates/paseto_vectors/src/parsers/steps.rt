@@ -1,5 +1,6 @@
 //! What parsers are told to check.
 
+use crate::claims::json::value_of;
 use crate::parsers::validators::{Accepts, RefusesNull, Tells};
 use rusty_paseto_claims::{AudienceClaim, CustomClaim, PasetoClaim};
 use rusty_paseto_core::{PurposeTrait, VersionTrait};
@@ -10,7 +11,7 @@ use std::collections::BTreeMap;
 use std::process::Abort;
 
 /// Which validator checks.
-#[derive(Clone, Copy, Debug)]
+#[derive(Clone, Copy)]
 pub(crate) enum Rule {
     Accepts,
     RefusesNull,
@@ -29,7 +30,7 @@ impl Rule {
 }
 
 /// A call that adds to the checks. JSON is given by its text.
-#[derive(Clone, Copy, Debug)]
+#[derive(Clone, Copy)]
 pub(crate) enum Step<'a> {
     /// The audience is checked by its claim.
     Audience(&'a str),
@@ -45,7 +46,7 @@ pub(crate) enum Step<'a> {
 
 /// A claim of a caller's own.
 pub(crate) fn custom(rt: &impl Abort, alloc: Global, key: &str, json: &str) -> CustomClaim<Value> {
-    let value = Value::from_str(alloc, json).expect(rt, "JSON");
+    let value = value_of(rt, alloc, json);
     CustomClaim::try_from_str(alloc, key, value).expect(rt, "a claim")
 }
 
@@ -72,7 +73,7 @@ pub(crate) fn values_of(
     let mut map = BTreeMap::new(alloc);
     'rows: for (key, json) in rows {
         let key = String::from_str(alloc, *key).expect(rt, "memory");
-        let value = Value::from_str(alloc, *json).expect(rt, "JSON");
+        let value = value_of(rt, alloc, *json);
         let old: Result<_, _> = map.insert(key, value);
         drop(old.expect(rt, "memory"));
     }
@@ -105,7 +106,7 @@ pub(crate) fn add<V: VersionTrait, P: PurposeTrait>(
         Step::Audience(text) => put_check(parser, AudienceClaim::from(text)),
         Step::Check(key, json) => put_check(parser, custom(rt, alloc, key, json)),
         Step::Store(key, json) => {
-            let value = Value::from_str(alloc, json).expect(rt, "JSON");
+            let value = value_of(rt, alloc, json);
             parser.put_checks(map_of(rt, alloc, key, value))
         }
         Step::Checker(key, json, rule) => {

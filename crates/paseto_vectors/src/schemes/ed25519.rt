@@ -68,7 +68,8 @@ fn expect_vector(rt: &impl Abort, alloc: Global, private: &str, message: &[u8], 
     );
 }
 
-// A private key, a message in hexadecimal digits and its signature. The last message is SHA-512 of "abc".
+// A private key, a message in hexadecimal digits and its signature. The last message is SHA-512 of
+// "abc".
 const VECTORS: &[(&str, &str, &str)] = &[
     (
         concat!(

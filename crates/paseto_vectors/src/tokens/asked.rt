@@ -178,9 +178,7 @@ fn signatures_of_zeros(rt: HostRuntime) {
 #[test]
 fn refused(rt: HostRuntime) {
     'kinds: for &kind in ASKING_KINDS {
-        let token = kind
-            .make(rt.alloc(), "hello", FOOTER)
-            .expect(&rt, "a token");
+        let token = kind.token(&rt, rt.alloc(), "hello", FOOTER);
         let (answer, calls) = kind.read_counted(rt.alloc(), &OTHER_SECRET, token.as_str(), FOOTER);
         expect_that(&rt, kind.is_refused(&answer), &kind);
         expect_same(&rt, &calls, &asked_to_read(kind), &kind);

@@ -1,35 +1,33 @@
 //! Tokens put together from their parts, as the standard tells them, are read.
 
 use super::parts::{payload_of, signed_payload, token_of_payload};
-use crate::expect::{expect_same, expect_that};
+use crate::expect::expect_that;
 use crate::kinds::{ASSERTED_KINDS, Binding, KINDS, Kind};
 use rusty_paseto_core::PasetoError;
+use std::alloc::Global;
+use std::process::Abort;
+
+// A token of `hello` and the footer `footer`, put together, is read.
+fn check_bound(rt: &impl Abort, alloc: Global, kind: Kind, binding: Binding<'_>) {
+    let payload = payload_of(rt, alloc, kind, b"hello", binding);
+    let bare = token_of_payload(rt, alloc, kind, &payload);
+    let token = format!(in alloc; "{bare}.Zm9vdGVy").expect(rt, "memory");
+    kind.check_text(rt, alloc, token.as_str(), binding, "hello");
+}
 
 // The pieces that are bound, in their order, the implicit assertion the last one.
 #[test]
 fn the_bound_pieces(rt: HostRuntime) {
     let binding = Binding::of_footer(Some("footer"));
     'kinds: for &kind in KINDS {
-        let payload = payload_of(&rt, rt.alloc(), kind, b"hello", binding);
-        let bare = token_of_payload(&rt, rt.alloc(), kind, &payload);
-        let token = format!(in rt.alloc(); "{bare}.Zm9vdGVy").expect(&rt, "memory");
-        let text = kind
-            .read(rt.alloc(), token.as_str(), binding)
-            .expect(&rt, "a text");
-        expect_same(&rt, text.as_str(), "hello", &kind);
+        check_bound(&rt, rt.alloc(), kind, binding);
     }
     let binding = Binding {
         footer: Some("footer"),
         assertion: Some("more"),
     };
     'asserted: for &kind in ASSERTED_KINDS {
-        let payload = payload_of(&rt, rt.alloc(), kind, b"hello", binding);
-        let bare = token_of_payload(&rt, rt.alloc(), kind, &payload);
-        let token = format!(in rt.alloc(); "{bare}.Zm9vdGVy").expect(&rt, "memory");
-        let text = kind
-            .read(rt.alloc(), token.as_str(), binding)
-            .expect(&rt, "a text");
-        expect_same(&rt, text.as_str(), "hello", &kind);
+        check_bound(&rt, rt.alloc(), kind, binding);
     }
 }
 
@@ -70,7 +68,6 @@ fn bytes_that_are_no_text(rt: HostRuntime) {
             *last ^= 1;
         }
         let token = token_of_payload(&rt, rt.alloc(), kind, &payload);
-        let answer = kind.read(rt.alloc(), token.as_str(), Binding::NONE);
-        expect_that(&rt, kind.is_refused(&answer), &kind);
+        kind.check_refused(&rt, rt.alloc(), token.as_str(), Binding::NONE);
     }
 }

@@ -15,11 +15,7 @@ fn tokens_of(rt: &impl Abort, alloc: Global, count: u32) -> Vec<String> {
     'tokens: for number in 0..count {
         let text = format!(in alloc; "{number}").expect(rt, "memory");
         tokens
-            .push(
-                Kind::V4Local
-                    .make(alloc, text.as_str(), Binding::NONE)
-                    .expect(rt, "a token"),
-            )
+            .push(Kind::V4Local.token(rt, alloc, text.as_str(), Binding::NONE))
             .expect(rt, "memory");
     }
     tokens

@@ -1,11 +1,13 @@
 //! Tokens that share a nonce and a tag.
 
+use crate::expect::expect_that;
 use crate::kinds::{Binding, Kind, SECRET, symmetric_key};
 use rusty_paseto_core::{
     ImplicitAssertion, Local, LocalVersion, Opening, Paseto, PasetoError, PasetoSymmetricKey, V1,
     V3, V4,
 };
 use std::alloc::Global;
+use std::process::Abort;
 
 // A token that is to be opened with no footer and no implicit assertion.
 fn opening_of<'a, V: LocalVersion>(
@@ -20,100 +22,73 @@ fn opening_of<'a, V: LocalVersion>(
     }
 }
 
-// Whether these tokens open, and no two of them share a nonce and a tag for two contents.
-fn is_none<'a, V: LocalVersion>(
+// The openings open, and no two of them share a nonce and a tag for two contents.
+fn expect_none<V: LocalVersion>(rt: &impl Abort, alloc: Global, openings: &[Opening<'_, V>]) {
+    let found = Paseto::<V, Local>::tag_collision(alloc, openings);
+    expect_that(rt, found.expect(rt, "an answer").is_none(), "the answer");
+}
+
+// The same of the tokens.
+fn expect_none_of<'a, V: LocalVersion>(
+    rt: &impl Abort,
     alloc: Global,
     key: &'a PasetoSymmetricKey<V, Local>,
     first: &'a str,
     second: &'a str,
     third: &'a str,
-) -> Result<bool, PasetoError> {
+) {
     let openings = [
         opening_of(key, first),
         opening_of(key, second),
         opening_of(key, third),
     ];
-    Ok(Paseto::<V, Local>::tag_collision(alloc, &openings)?.is_none())
+    expect_none(rt, alloc, &openings);
 }
 
 #[test]
 fn none_of_no_tokens(rt: HostRuntime) {
-    let alloc = rt.alloc();
-    assert!(rt;
-        Paseto::<V1, Local>::tag_collision(alloc, &[])
-            .expect(&rt, "an answer")
-            .is_none()
-    );
-    assert!(rt;
-        Paseto::<V3, Local>::tag_collision(alloc, &[])
-            .expect(&rt, "an answer")
-            .is_none()
-    );
-    assert!(rt;
-        Paseto::<V4, Local>::tag_collision(alloc, &[])
-            .expect(&rt, "an answer")
-            .is_none()
-    );
+    expect_none::<V1>(&rt, rt.alloc(), &[]);
+    expect_none::<V3>(&rt, rt.alloc(), &[]);
+    expect_none::<V4>(&rt, rt.alloc(), &[]);
 }
 
 // The two forms of one text share a nonce and a tag, and one content.
+fn check_forms<V: LocalVersion>(rt: &impl Abort, alloc: Global, kind: Kind) {
+    let bare = kind.token(rt, alloc, "", Binding::NONE);
+    let section = kind.token(rt, alloc, "", Binding::of_footer(Some("")));
+    let other = kind.token(rt, alloc, "a", Binding::NONE);
+    let key = symmetric_key::<V>(&SECRET);
+    expect_none_of(
+        rt,
+        alloc,
+        &key,
+        bare.as_str(),
+        section.as_str(),
+        other.as_str(),
+    );
+}
+
 #[test]
 fn none_of_two_forms_and_another_text(rt: HostRuntime) {
-    let alloc = rt.alloc();
-    'kinds: for kind in [Kind::V1Local, Kind::V3Local, Kind::V4Local] {
-        let bare = kind.make(alloc, "", Binding::NONE).expect(&rt, "a token");
-        let with_section = kind
-            .make(alloc, "", Binding::of_footer(Some("")))
-            .expect(&rt, "a token");
-        let other = kind.make(alloc, "a", Binding::NONE).expect(&rt, "a token");
-        let (bare, section, other) = (bare.as_str(), with_section.as_str(), other.as_str());
-        let none = match kind {
-            Kind::V1Local => is_none::<V1>(
-                alloc,
-                &symmetric_key(&SECRET),
-                bare,
-                section,
-                other,
-            ).expect(&rt, "an answer"),
-            Kind::V3Local => is_none::<V3>(
-                alloc,
-                &symmetric_key(&SECRET),
-                bare,
-                section,
-                other,
-            ).expect(&rt, "an answer"),
-            _ => is_none::<V4>(alloc, &symmetric_key(&SECRET), bare, section, other).expect(
-                &rt,
-                "an answer",
-            ),
-        };
-        assert!(rt; none, "{kind:?}");
-    }
+    check_forms::<V1>(&rt, rt.alloc(), Kind::V1Local);
+    check_forms::<V3>(&rt, rt.alloc(), Kind::V3Local);
+    check_forms::<V4>(&rt, rt.alloc(), Kind::V4Local);
 }
 
 #[test]
 fn version_1_has_no_assertion(rt: HostRuntime) {
     let alloc = rt.alloc();
-    let token = Kind::V1Local
-        .make(alloc, "hello", Binding::NONE)
-        .expect(&rt, "a token");
+    let token = Kind::V1Local.token(&rt, alloc, "hello", Binding::NONE);
     let key = symmetric_key::<V1>(&SECRET);
     let mut asserting = opening_of(&key, token.as_str());
     asserting.assertion = Some(ImplicitAssertion::from("x"));
-    let openings = [asserting, opening_of(&key, token.as_str())];
-    assert!(rt;
-        Paseto::<V1, Local>::tag_collision(alloc, &openings)
-            .expect(&rt, "an answer")
-            .is_none()
-    );
+    expect_none(&rt, alloc, &[asserting, opening_of(&key, token.as_str())]);
 }
 
 #[test]
 fn the_first_that_does_not_open(rt: HostRuntime) {
     let alloc = rt.alloc();
-    let token = Kind::V4Local
-        .make(alloc, "hello", Binding::NONE)
-        .expect(&rt, "a token");
+    let token = Kind::V4Local.token(&rt, alloc, "hello", Binding::NONE);
     let key = symmetric_key::<V4>(&SECRET);
     let openings = [
         opening_of(&key, token.as_str()),
@@ -121,7 +96,8 @@ fn the_first_that_does_not_open(rt: HostRuntime) {
         opening_of(&key, "v4.local"),
     ];
     let answer = Paseto::<V4, Local>::tag_collision(alloc, &openings);
-    assert!(rt; matches!(&answer, Err(PasetoError::WrongHeader)));
+    let is_named = matches!(&answer, Err(PasetoError::WrongHeader));
+    expect_that(&rt, is_named, "the answer");
 }
 
 // Openings of one token share a nonce and a tag, and one content.
@@ -129,15 +105,12 @@ fn the_first_that_does_not_open(rt: HostRuntime) {
 fn none_of_seventy_thousand(rt: HostRuntime) {
     let alloc = rt.alloc();
     let key = symmetric_key::<V4>(&SECRET);
-    let token = Kind::V4Local
-        .make(alloc, "hello", Binding::NONE)
-        .expect(&rt, "a token");
+    let token = Kind::V4Local.token(&rt, alloc, "hello", Binding::NONE);
     let mut openings = Vec::new(alloc);
     'openings: for _ in 0..70_000u32 {
         openings
             .push(opening_of::<V4>(&key, token.as_str()))
             .expect(&rt, "memory");
     }
-    let found = Paseto::<V4, Local>::tag_collision(alloc, &openings).expect(&rt, "an answer");
-    assert!(rt; found.is_none());
+    expect_none(&rt, alloc, &openings);
 }

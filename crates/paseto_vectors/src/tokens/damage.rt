@@ -49,9 +49,7 @@ fn none_is_read(rt: HostRuntime) {
         let footer = if index % 2 == 0 { None } else { Some("key-1") };
         let binding = Binding::of_footer(footer);
         'kinds: for &kind in KINDS {
-            let token = kind
-                .make(alloc, text.as_str(), binding)
-                .expect(&rt, "a token");
+            let token = kind.token(&rt, alloc, text.as_str(), binding);
             let token = damaged(&rt, alloc, token.as_str(), &mut numbers);
             let answer = kind.read(alloc, token.as_str(), binding);
             expect_that(&rt, answer.is_err(), &(kind, token));

@@ -39,13 +39,9 @@ fn check_either(rt: &impl Abort, alloc: Global, kind: Kind, token: &str) {
 #[test]
 fn no_footer_and_an_empty_one(rt: HostRuntime) {
     'kinds: for &(kind, len) in LENGTHS {
-        let short = kind
-            .make(rt.alloc(), "", Binding::NONE)
-            .expect(&rt, "a token");
+        let short = kind.token(&rt, rt.alloc(), "", Binding::NONE);
         expect_same(&rt, &short.len(), &len, &kind);
-        let long = kind
-            .make(rt.alloc(), "", Binding::of_footer(Some("")))
-            .expect(&rt, "a token");
+        let long = kind.token(&rt, rt.alloc(), "", Binding::of_footer(Some("")));
         let stripped = long.as_str().strip_suffix('.');
         expect_same(&rt, &stripped, &Some(short.as_str()), &kind);
         check_either(&rt, rt.alloc(), kind, short.as_str());
@@ -58,11 +54,8 @@ fn no_footer_and_an_empty_one(rt: HostRuntime) {
 #[test]
 fn a_stripped_footer(rt: HostRuntime) {
     'kinds: for &(kind, _) in LENGTHS {
-        let token = kind.make(rt.alloc(), "", FOOTER).expect(&rt, "a token");
-        let text = kind
-            .read(rt.alloc(), token.as_str(), FOOTER)
-            .expect(&rt, "a text");
-        expect_same(&rt, text.as_str(), "", &kind);
+        let token = kind.token(&rt, rt.alloc(), "", FOOTER);
+        kind.check_text(&rt, rt.alloc(), token.as_str(), FOOTER, "");
         let stripped = token
             .as_str()
             .strip_suffix(".Zm9vdGVy")
@@ -74,8 +67,7 @@ fn a_stripped_footer(rt: HostRuntime) {
             &kind,
         );
         expect_that(&rt, calls == Calls::NONE, &kind);
-        let answer = kind.read(rt.alloc(), stripped, Binding::NONE);
-        expect_that(&rt, kind.is_refused(&answer), &kind);
+        kind.check_refused(&rt, rt.alloc(), stripped, Binding::NONE);
     }
 }
 
@@ -113,9 +105,7 @@ fn signature_length(kind: Kind) -> usize {
 #[test]
 fn a_text_can_be_read(rt: HostRuntime) {
     'kinds: for &kind in PUBLIC_KINDS {
-        let token = kind
-            .make(rt.alloc(), "hello", FOOTER)
-            .expect(&rt, "a token");
+        let token = kind.token(&rt, rt.alloc(), "hello", FOOTER);
         let section = token
             .as_str()
             .strip_prefix(kind.header())

@@ -1,7 +1,7 @@
 //! Texts that are put in the place of tokens, under a known key.
 
 use super::parts::{payload_under, token_of_payload};
-use crate::expect::{expect_same, expect_that};
+use crate::expect::{expect_refusal, expect_same, expect_that};
 use crate::kinds::{Binding, KINDS, Kind};
 use rusty_paseto_core::PasetoError;
 use std::alloc::Global;
@@ -68,13 +68,7 @@ const TEXTS: &[(&str, &str)] = &[
 // What is answered in version 4 for a text that is no token.
 fn check(rt: &impl Abort, alloc: Global, text: &str, refusal: &str) {
     let (answer, _) = Kind::V4Local.read_counted(alloc, &KNOWN, text, Binding::NONE);
-    let error = answer.err().expect(rt, "a refusal");
-    expect_same(
-        rt,
-        format!(in alloc; "{error}").expect(rt, "memory").as_str(),
-        &refusal,
-        &text,
-    );
+    expect_refusal(rt, alloc, answer, refusal);
 }
 
 #[test]
@@ -118,9 +112,6 @@ fn a_nonce_whose_counter_wraps(rt: HostRuntime) {
             Binding::NONE,
         );
         let token = token_of_payload(&rt, rt.alloc(), kind, &payload);
-        let opened = kind
-            .read(rt.alloc(), token.as_str(), Binding::NONE)
-            .expect(&rt, "a text");
-        expect_same(&rt, opened.as_str(), &text, &kind);
+        kind.check_text(&rt, rt.alloc(), token.as_str(), Binding::NONE, &text);
     }
 }

@@ -1,6 +1,6 @@
 //! Long texts and long footers, and texts of odd letters, which become tokens and come back.
 
-use crate::expect::{expect_same, expect_that};
+use crate::expect::expect_that;
 use crate::kinds::{Binding, KINDS, Kind, SECRET, symmetric_key};
 use crate::long::{LENGTHS, text_of};
 use paseto_toys::PlainBox;
@@ -11,9 +11,7 @@ use std::process::Abort;
 // A text of so many letters comes back.
 fn check_text(rt: &impl Abort, alloc: Global, kind: Kind, letters: usize) {
     let text = text_of(alloc, letters).expect(rt, "memory");
-    let token = kind
-        .make(alloc, text.as_str(), Binding::NONE)
-        .expect(rt, "a token");
+    let token = kind.token(rt, alloc, text.as_str(), Binding::NONE);
     let same = kind
         .read(alloc, token.as_str(), Binding::NONE)
         .expect(rt, "a text");
@@ -66,13 +64,8 @@ fn long_footers(rt: HostRuntime) {
     let footer = text_of(rt.alloc(), 100_000).expect(&rt, "memory");
     let binding = Binding::of_footer(Some(footer.as_str()));
     'kinds: for &kind in KINDS {
-        let token = kind
-            .make(rt.alloc(), "hello", binding)
-            .expect(&rt, "a token");
-        let text = kind
-            .read(rt.alloc(), token.as_str(), binding)
-            .expect(&rt, "a text");
-        expect_same(&rt, text.as_str(), "hello", &kind);
+        let token = kind.token(&rt, rt.alloc(), "hello", binding);
+        kind.check_text(&rt, rt.alloc(), token.as_str(), binding, "hello");
     }
 }
 
@@ -98,7 +91,7 @@ fn odd_letters(rt: HostRuntime) {
         assertion: Some(text),
     };
     'kinds: for &kind in KINDS {
-        let token = kind.make(rt.alloc(), text, binding).expect(&rt, "a token");
+        let token = kind.token(&rt, rt.alloc(), text, binding);
         let same = kind
             .read(rt.alloc(), token.as_str(), binding)
             .expect(&rt, "a text");

@@ -8,9 +8,7 @@ use rusty_paseto_core::{Key, Paseto, PasetoAsymmetricPublicKey, PasetoError, Pub
 // A point that begins with 3 is a key of version 3, but none of the toy's.
 #[test]
 fn a_key_that_begins_with_3(rt: HostRuntime) {
-    let token = Kind::V3Public
-        .make(rt.alloc(), "hello", Binding::NONE)
-        .expect(&rt, "a token");
+    let token = Kind::V3Public.token(&rt, rt.alloc(), "hello", Binding::NONE);
     let mut point = toy_partner_v3(&SECRET[..48]);
     point[0] = 3;
     let point = Key::from(point);

@@ -45,9 +45,7 @@ fn with_changes(
 #[test]
 fn other_payloads(rt: HostRuntime) {
     'kinds: for &kind in KINDS {
-        let token = kind
-            .make(rt.alloc(), "hello", Binding::NONE)
-            .expect(&rt, "a token");
+        let token = kind.token(&rt, rt.alloc(), "hello", Binding::NONE);
         let kept = with_changes(&rt, rt.alloc(), kind, token.as_str(), 0, 0);
         expect_same(&rt, kept.as_str(), token.as_str(), &kind);
         'changes: for (first, last) in [(1, 0), (0, 1), (0, 128)] {
