@@ -1,5 +1,5 @@
 -- A word in front of others.
-use Rattle.std.proofs.Common.{◌≡◌, ◌≤◌, ◌-◌, List, ℕ, [], ◌∷◌, length, take, drop, get_or, true, false, Option, Some, option_map, option_and_then, codes, nat_eq, String, Global, string_bytes, refl, ap, sym, ◌∙◌, arith}
+use Rattle.std.proofs.Common.{◌≡◌, ◌<◌, ◌≤◌, ◌-◌, List, ℕ, [], ◌∷◌, length, take, drop, get_or, true, false, Option, Some, option_map, option_and_then, codes, nat_eq, String, Global, string_bytes, refl, ap, sym, ◌∙◌, arith}
 use Rattle.std.proofs.lemmas.List.{take_rest}
 use Rattle.std.specs.Cmp.Lexicographic.{pointwise}
 use Rattle.paseto_commands.specs.Arguments.{Settings, is_flag, is_name, settings_of, with_flag, with_word, words_of}
@@ -10,6 +10,11 @@ first_of : (words : List (String Global)) (word : String Global) → 1 ≤ lengt
     → words_of words ≡ string_bytes word ∷ words_of (drop 1 words)
 first_of [] word some is = absurd (omega (arith, some))
 first_of (other ∷ words) word some is = ap (λ (w : String Global). string_bytes w ∷ words_of words) (sym is)
+
+-- there are no words in an empty list
+pub no_words : (words : List (String Global)) → length words < 1 → words_of words ≡ []
+no_words [] none = refl
+no_words (word ∷ words) none = absurd (omega (arith, none))
 
 pub word_and_rest : (words : List (String Global)) (word : String Global) → 1 ≤ length words → word ≡ get_or words 0 word
     → words_of words ≡ string_bytes word ∷ words_of (take (length words - 1) (drop 1 words))

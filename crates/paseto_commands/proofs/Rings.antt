@@ -4,7 +4,8 @@ use Rattle.std.proofs.Math.Path.{fun_ext}
 use Rattle.std.proofs.lemmas.Bool.{false≢true}
 use Rattle.base64.specs.GeneralPurpose.{IsBytes}
 use Rattle.rusty_paseto_parts.specs.Section.{base64url}
-use Rattle.rusty_paseto.specs.KeyRing.{AreSame, Keys, with_key}
+use Rattle.rusty_paseto.specs.KeyRing.{AreSame, IsMemory, Keys, with_key}
+use Rattle.rusty_paseto.specs.declared.error.KeyRingError.{KeyRingError}
 use Rattle.rusty_paseto_paserk.specs.declared.header.PaserkVersion.{PaserkVersion}
 use Rattle.rusty_paseto_paserk.specs.declared.header.PaserkVersion.TheVariants.{V3}
 use Rattle.rusty_paseto_paserk.specs.declared.header.PaserkType.{PaserkType}
@@ -130,6 +131,15 @@ module _ (kind : PaserkType) (version : PaserkVersion) (line : List ℕ) where
     inr (added.0, ring.0, refl, added.1, ring.1),
     added.2 ∙ ap (λ (r : Keys (List ℕ)). with_key (id_of version kind added.0) added.0 r) ring.2,
   )
+
+-- a ring refuses a key for want of memory alone
+pub put_none : {T U : Type 0} (result : Result T ProgramError) (answer : Result U KeyRingError) (X : Type 0)
+    → IfErr result (λ error. IsErrAnd answer (λ source. IsOutside error ⊎ (¬ IsMemory source))) → IfErr answer IsMemory
+    → IfErr result (λ error. IsOutside error ⊎ X)
+put_none (Ok value) answer X refused memory = tt
+put_none (Err error) (Ok value) X refused memory = absurd refused
+put_none (Err error) (Err source) X (inl outside) memory = inl outside
+put_none (Err error) (Err source) X (inr none) memory = absurd (none memory)
 
 -- a key is put before others in a ring
 pub key_more : (kind : PaserkType) (version : PaserkVersion) (keys : List (List ℕ)) (key id : List ℕ) (old new : Keys (List ℕ))

@@ -85,19 +85,29 @@ fn by_parser(alloc: Global, source: GenericParserError) -> ProgramError
 {
     match source {
         GenericParserError::Memory(source) => ProgramError::Memory(source),
-        GenericParserError::CipherError {
-            source: PasetoError::FooterInvalid,
-        } => ProgramError::OtherFooter,
-        GenericParserError::CipherError { source } => ProgramError::from(source),
-        GenericParserError::ClaimError {
-            source: PasetoClaimError::Expired,
-        } => ProgramError::Expired,
-        GenericParserError::ClaimError {
-            source: PasetoClaimError::UseBeforeAvailable(text),
-        } => ProgramError::Early(text),
-        GenericParserError::ClaimError {
-            source: PasetoClaimError::Invalid(key, found, wanted),
-        } => other_text(alloc, key.as_str(), found.as_str(), wanted.as_str()),
+        GenericParserError::CipherError { source } => by_token(source),
+        GenericParserError::ClaimError { source } => by_claim(alloc, source),
+        source => unfit(alloc, &source),
+    }
+}
+
+fn by_token(source: PasetoError) -> ProgramError {
+    match source {
+        PasetoError::FooterInvalid => ProgramError::OtherFooter,
+        source => ProgramError::from(source),
+    }
+}
+
+fn by_claim(alloc: Global, source: PasetoClaimError) -> ProgramError {
+    match source {
+        PasetoClaimError::Expired => ProgramError::Expired,
+        PasetoClaimError::UseBeforeAvailable(text) => ProgramError::Early(text),
+        PasetoClaimError::Invalid(key, found, wanted) => other_text(
+            alloc,
+            key.as_str(),
+            found.as_str(),
+            wanted.as_str(),
+        ),
         source => unfit(alloc, &source),
     }
 }

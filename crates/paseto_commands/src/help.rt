@@ -77,7 +77,7 @@ clock fail. What is refused prints nothing.
 const GAP: &str = "\n";
 
 /// All commands, in pieces that follow each other.
-const ALL: [&str; 19] = [
+const ALL: &[&str] = &[
     ABOUT, KEYGEN, GAP, ID, GAP, ISSUE, GAP, CHECK, GAP, ENCRYPT, GAP, DECRYPT, GAP, SIGN, GAP,
     VERIFY, GAP, INSPECT, STATUSES,
 ];
@@ -94,6 +94,6 @@ pub fn help_of(command: Option<&str>) -> &'static [&'static str] {
         Some("sign") => &[SIGN],
         Some("verify") => &[VERIFY],
         Some("inspect") => &[INSPECT],
-        _ => &ALL,
+        _ => ALL,
     }
 }

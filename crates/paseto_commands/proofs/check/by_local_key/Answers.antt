@@ -11,3 +11,15 @@ returns-in-V3-clause-none c = rw c.in-V3.is c.opened-in-V3.ensures.none
 
 pub returns-in-V4-clause-none : goal.returns-in-V4-clause-none
 returns-in-V4-clause-none c = rw c.in-V4.is c.opened-in-V4.ensures.none
+
+pub returns-in-V1-clause-found : goal.returns-in-V1-clause-found
+returns-in-V1-clause-found c = rw c.in-V1.is c.opened.ensures.found
+
+pub returns-in-V2-clause-found : goal.returns-in-V2-clause-found
+returns-in-V2-clause-found c = rw c.in-V2.is c.unboxed.ensures.found
+
+pub returns-in-V3-clause-found : goal.returns-in-V3-clause-found
+returns-in-V3-clause-found c = rw c.in-V3.is c.opened-in-V3.ensures.found
+
+pub returns-in-V4-clause-found : goal.returns-in-V4-clause-found
+returns-in-V4-clause-found c = rw c.in-V4.is c.opened-in-V4.ensures.found

@@ -8,3 +8,12 @@ returns-in-V3-clause-none c = rw c.in-V3.is c.verified_in_v3.ensures.none
 
 pub returns-in-V4-clause-none : goal.returns-in-V4-clause-none
 returns-in-V4-clause-none c = rw c.in-V4.is c.verified_in_v4.ensures.none
+
+pub returns-in-V2-clause-found : goal.returns-in-V2-clause-found
+returns-in-V2-clause-found c = rw c.in-V2.is c.verified_in_v2.ensures.found
+
+pub returns-in-V3-clause-found : goal.returns-in-V3-clause-found
+returns-in-V3-clause-found c = rw c.in-V3.is c.verified_in_v3.ensures.found
+
+pub returns-in-V4-clause-found : goal.returns-in-V4-clause-found
+returns-in-V4-clause-found c = rw c.in-V4.is c.verified_in_v4.ensures.found
