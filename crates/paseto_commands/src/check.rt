@@ -47,7 +47,9 @@ use std::alloc::Global;
 /// The keys under which a token may be: that of a line, or those of a ring's lines.
 #[derive(Clone, Copy)]
 pub enum Keys<'k> {
+    /// The line of a key file.
     One(&'k str),
+    /// The lines of a folder's key files.
     Ring(&'k [String]),
 }
 
