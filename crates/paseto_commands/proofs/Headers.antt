@@ -1,5 +1,5 @@
 -- The header of a token that is read under the keys of a ring.
-use Rattle.std.proofs.Common.{◌≡◌, ℕ, List, [], ◌∷◌, ◌++◌, Bool, true, Option, Some, None, Result, Ok, Err, IfErr, IfOk, is_some, codes, append_assoc, inl, inr, refl, sym, ap, subst, subst₂, ◌∙◌}
+use Rattle.std.proofs.Common.{◌≡◌, ℕ, List, [], ◌∷◌, ◌++◌, Bool, true, Option, Some, None, Result, Ok, Err, IfErr, IfOk, is_some, append_assoc, inl, inr, refl, sym, ap, subst₂, ◌∙◌}
 use Rattle.std.proofs.lemmas.Bool.{false≢true}
 use Rattle.std.specs.List.{slice_get}
 use Rattle.std.specs.Option.{unwrap_or}
@@ -15,7 +15,7 @@ use Rattle.rusty_paseto_core.specs.Local.V1.{v1}
 use Rattle.rusty_paseto_core.specs.Local.V3.{v3}
 use Rattle.rusty_paseto_core.specs.Local.V4.{v4}
 use Rattle.rusty_paseto_core.specs.Framing.{footer_part, framing}
-use Rattle.rusty_paseto_core.specs.Reading.{IsRead, Reading, header_of}
+use Rattle.rusty_paseto_core.specs.Reading.{IsRead, Reading}
 use Rattle.rusty_paseto_paserk.specs.declared.header.PaserkVersion.{PaserkVersion}
 use Rattle.rusty_paseto_paserk.specs.declared.header.PaserkVersion.TheVariants.{V1, V2, V3, V4}
 use Rattle.rusty_paseto_paserk.specs.declared.header.PaserkType.{PaserkType}
@@ -107,11 +107,6 @@ module _ (lines : List (List ℕ)) (demands : Demanded) (timed : Bool) (token fi
 
   pub no_type : type_in second ≡ None → (value : Data) → ¬ ParsesByRing lines demands timed token value
   no_type none value is = false≢true (ap (λ (o : Option PaserkType). is_some o) (sym none ∙ (named value is).1))
-
-  -- private keys read no token
-  pub no_secret : type_in second ≡ Some Secret → (value : Data) → ¬ ParsesByRing lines demands timed token value
-  no_secret secret value is =
-      subst (λ (k : PaserkType). IsReader k is.version) (some_same is.kind Secret (sym (named value is).1 ∙ secret)) is.is_reader
 
 -- where something is known beside
 pub beside : {T : Type 0} (result : Result T ProgramError) (R : Type 0) (P : Data → Type 0) → IfErr result (Lacks P) → IfErr result (Lacks (λ value. R × P value))

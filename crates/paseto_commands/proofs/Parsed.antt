@@ -1,8 +1,6 @@
 -- What is issued and parsed under the keys of lines.
-use Rattle.std.proofs.Common.{◌≡◌, ◌⊎◌, ℕ, List, [], ◌++◌, Bool, true, false, Option, None, Some, option_map, Result, Ok, Err, IfOk, IfErr, IsErrAnd, IsOkAnd, MatchResult, String, Global, string_bytes, is_some, inl, inr, refl, sym, ap, subst₂, ◌∙◌}
-use Rattle.std.proofs.lemmas.Bool.{false≢true}
+use Rattle.std.proofs.Common.{◌≡◌, ◌⊎◌, ℕ, List, [], Bool, true, false, Option, None, Some, option_map, Result, Ok, Err, IfOk, IfErr, IsErrAnd, MatchResult, String, Global, string_bytes, is_some, inl, inr, refl, sym, ap, subst₂, ◌∙◌}
 use Rattle.std.proofs.lemmas.List.{append_cancel_left}
-use Rattle.base64.specs.GeneralPurpose.{IsBytes}
 use Rattle.serde_json.specs.Data.{Data, Members}
 use Rattle.serde_json.specs.View.{view}
 use Rattle.serde_json.specs.declared.value.Value.{Value}
@@ -19,18 +17,14 @@ use Rattle.rusty_paseto_generic.specs.Parsers.Parsing.{IsParsed, assertion_in}
 use Rattle.rusty_paseto_generic.specs.Parsers.Rules.{Rules}
 use Rattle.rusty_paseto_generic.specs.Validator.{Verdict}
 use Rattle.rusty_paseto_generic.specs.declared.error.GenericParserError.{GenericParserError}
-use Rattle.rusty_paseto_paserk.specs.Error.{IsMemory as IsMemoryOfKey}
 use Rattle.rusty_paseto_paserk.specs.Header.{header}
-use Rattle.rusty_paseto_paserk.specs.Text.{writing}
-use Rattle.rusty_paseto_paserk.specs.declared.error.PaserkError.{PaserkError}
-use Rattle.rusty_paseto_paserk.specs.declared.error.PaserkError.TheVariants.{Memory as NoKeyMemory}
 use Rattle.rusty_paseto_paserk.specs.declared.header.PaserkVersion.{PaserkVersion}
 use Rattle.rusty_paseto_paserk.specs.declared.header.PaserkType.{PaserkType}
 use Rattle.paseto_commands.specs.declared.error.ProgramError.{ProgramError}
 use Rattle.paseto_commands.specs.declared.issue.Order.{Order}
 use Rattle.paseto_commands.specs.Check.{Demanded, ParsesWith, bound_to, demanded_rules}
 use Rattle.paseto_commands.specs.Claims.{are_whole}
-use Rattle.paseto_commands.specs.Error.{IsOutside, Lacks, key_error_of}
+use Rattle.paseto_commands.specs.Error.{IsOutside, Lacks}
 use Rattle.paseto_commands.specs.Footers.{IsFooterOf}
 use Rattle.paseto_commands.specs.Id.{IsKeyLine, IsKeyOf}
 use Rattle.paseto_commands.specs.Issue.{AreOrdered, IsLineOf, SealsClaims}
@@ -66,14 +60,6 @@ pub same_key : (IsKey : List ℕ → Type 0) (kind : PaserkType) (version : Pase
     → IsKeyLine IsKey kind version line one → IsKeyLine IsKey kind version line two → one ≡ two
 same_key IsKey kind version line one two a b =
     base64url-injective one two a.bytes b.bytes (append_cancel_left (header version kind) _ _ (sym a.is_writing ∙ b.is_writing))
-
--- what is read under the key of a line that is none
-pub not_key : (IsKey : List ℕ → Type 0) (kind : PaserkType) (version : PaserkVersion) (line : List ℕ) (P : Data → Type 0) (source : PaserkError)
-    → ((key : List ℕ) → IsBytes key → IsKey key → line ≡ writing version kind key → IsMemoryOfKey source)
-    → ((value : Data) → P value → (key : List ℕ) × IsKeyLine IsKey kind version line key) → Lacks P (key_error_of source)
-not_key IsKey kind version line P (NoKeyMemory refused) none into = inl tt
-not_key IsKey kind version line P source none into = inr (λ value is.
-    let key = into value is in none key.0 key.1.bytes key.1.is_key key.1.is_writing)
 
 -- what a token is bound to with a footer and no assertion
 plain : (key : List ℕ) (footer : Option Footer) (binds : Bool) → binding_of key footer (assertion_in binds None) ≡ bound_to key (option_map footer_text footer) []
@@ -113,9 +99,3 @@ module _ (reading : Binding → Reading) (kind : PaserkType) (version : PaserkVe
   parses_none (Err error) (Ok value) refused complete = absurd refused
   parses_none (Err error) (Err source) (inl outside) complete = inl outside
   parses_none (Err error) (Err source) (inr none) complete = inr (λ value is. none (complete value (parsed_so value is)))
-
--- what is demanded has a number that is not whole
-pub not_demanded : (kind : PaserkType) (version : PaserkVersion) (reading : Binding → Reading) (line : List ℕ) (demands : Demanded) (timed : Bool) (token : List ℕ) (error : ProgramError)
-    → IsOutside error ⊎ (are_whole demands.claims ≡ false) → Lacks (λ value. ParsesWith kind version reading line demands timed token value) error
-not_demanded kind version reading line demands timed token error (inl outside) = inl outside
-not_demanded kind version reading line demands timed token error (inr odd) = inr (λ value is. false≢true (sym odd ∙ is.whole))

@@ -1,8 +1,7 @@
 -- The lines of a ring, one after the other.
-use Rattle.std.proofs.Common.{◌≡◌, ◌⊎◌, ℕ, List, [], ◌∷◌, length, IsTrue, Result, Ok, Err, IfErr, IfOk, OnOk, OnErr, IsOk, IsErrAnd, inl, inr, refl, sym, ap, ap₂, ◌∙◌}
+use Rattle.std.proofs.Common.{◌≡◌, ◌⊎◌, ℕ, List, [], ◌∷◌, Result, Ok, Err, IfErr, OnOk, IsOk, IsErrAnd, inl, inr, refl, sym, ap, ap₂, ◌∙◌}
 use Rattle.std.proofs.Math.Path.{fun_ext}
 use Rattle.std.proofs.lemmas.Bool.{false≢true}
-use Rattle.base64.specs.GeneralPurpose.{IsBytes}
 use Rattle.rusty_paseto_parts.specs.Section.{base64url}
 use Rattle.rusty_paseto.specs.KeyRing.{AreSame, IsMemory, Keys, with_key}
 use Rattle.rusty_paseto.specs.declared.error.KeyRingError.{KeyRingError}
@@ -12,13 +11,12 @@ use Rattle.rusty_paseto_paserk.specs.declared.header.PaserkType.{PaserkType}
 use Rattle.rusty_paseto_paserk.specs.declared.header.PaserkType.TheVariants.{Public}
 use Rattle.rusty_paseto_paserk.specs.declared.error.PaserkError.{PaserkError}
 use Rattle.rusty_paseto_paserk.specs.declared.error.PaserkError.TheVariants.{NoKey, OtherVersion, OtherType, InvalidKey, Memory}
-use Rattle.rusty_paseto_paserk.specs.Header.{header}
 use Rattle.rusty_paseto_paserk.specs.Id.{id_of}
-use Rattle.rusty_paseto_paserk.specs.Text.{IsKeyFault, IsNoWriting}
+use Rattle.rusty_paseto_paserk.specs.Text.{IsKeyFault}
 use Rattle.paseto_commands.specs.declared.error.ProgramError.{ProgramError}
 use Rattle.paseto_commands.specs.Error.{IsOutside, Lacks, key_error_of}
 use Rattle.paseto_commands.specs.Id.{IsKeyLine, IsKeyOf}
-use Rattle.paseto_commands.specs.Ring.{AreCompressed, AreKeysOf, IsAdded, IsInserted, IsNoLine, IsOther, IsPassedOver, IsRingOf, ring_of}
+use Rattle.paseto_commands.specs.Ring.{AreCompressed, AreKeysOf, IsAdded, IsInserted, IsNoLine, IsOther, IsPassedOver, IsRingOf}
 use Rattle.paseto_commands.proofs.Ids.{same_header}
 use Rattle.paseto_commands.proofs.Parsed.{same_key}
 
@@ -109,11 +107,6 @@ are_compressed (line ∷ lines) keys (inr a) = rw a.2 (a.3.is_key.1, are_compres
 -- ---- rings
 
 module _ (kind : PaserkType) (version : PaserkVersion) (line : List ℕ) where
-  pub added_passed : {T E : Type 0} (result : Result T E) (error : PaserkError) (ring : Keys (List ℕ))
-      → OnOk result (IsPassedOver error) → IsKeyFault version kind (IsKeyOf kind version) line error → OnOk result (IsAdded kind version line ring ring)
-  added_passed (Ok value) error ring passed fault = inl (is_other (IsKeyOf kind version) kind version line error passed fault, refl)
-  added_passed (Err other) error ring passed fault = tt
-
   -- a key is put under its id where the ring takes it
   pub added_key : {T E F : Type 0} (result : Result T E) (answer : Result T F) (key id : List ℕ) (old new : Keys (List ℕ))
       → OnOk result (IsOk answer) → OnOk answer (AreSame new (with_key id key old)) → id ≡ id_of version kind key
@@ -140,9 +133,3 @@ put_none (Ok value) answer X refused memory = tt
 put_none (Err error) (Ok value) X refused memory = absurd refused
 put_none (Err error) (Err source) X (inl outside) memory = inl outside
 put_none (Err error) (Err source) X (inr none) memory = absurd (none memory)
-
--- a key is put before others in a ring
-pub key_more : (kind : PaserkType) (version : PaserkVersion) (keys : List (List ℕ)) (key id : List ℕ) (old new : Keys (List ℕ))
-    → old ≡ ring_of kind version keys → AreSame new (with_key id key old) → id ≡ id_of version kind key → new ≡ ring_of kind version (key ∷ keys)
-key_more kind version keys key id old new ring put named =
-    fun_ext put ∙ ap₂ (λ (i : List ℕ) (r : Keys (List ℕ)). with_key i key r) named ring

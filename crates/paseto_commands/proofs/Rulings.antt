@@ -94,11 +94,6 @@ module _ {J : Type 0} (claim : Named) (claims : List Named) (old next new : Rule
   rules_more (Ok value) is more = more ∙ ap (λ (r : Rules J). all_demanded claims r) (stored_first is).1
   rules_more (Err error) is more = tt
 
-  pub whole_more : {T E : Type 0} (result : Result T E) → IsStored claim.name (gives (json_of claim)) with_stored old next
-      → OnOk result (are_whole claims ≡ true) → OnOk result (are_whole (claim ∷ claims) ≡ true)
-  whole_more (Ok value) is more = rw ((stored_first is).0, more) refl
-  whole_more (Err error) is more = tt
-
 -- a refusal for a number that is not whole, or from outside
 no_fault : (found : Option Fault) → MatchOption found ⊥ (λ fault. None ≡ Some fault) → ⊥
 no_fault None is = is
@@ -110,10 +105,6 @@ not_given false json fault source is none = refl
 not_given true json fault (ClaimError error) is none = absurd (no_fault (fault_of error) is)
 not_given true json fault (Memory error) is none = absurd (none tt)
 not_given true json fault source is none = absurd is
-
-pub and_false : (first : Bool) → (first && false) ≡ false
-and_false true = refl
-and_false false = refl
 
 -- a claim that is not taken
 pub not_whole : (claim : Named) (claims : List Named) (source : GenericParserError) (error : ProgramError)
@@ -128,12 +119,6 @@ pub whole_refused : {T : Type 0} (claim : Named) (claims : List Named) (result :
     → IsErrAnd result (λ source. IsOutside error ⊎ (¬ IsMemory source)) → IsOutside error ⊎ (are_whole (claim ∷ claims) ≡ false)
 whole_refused claim claims (Ok value) error is refused = absurd refused
 whole_refused claim claims (Err source) error is refused = not_whole claim claims source error is refused
-
--- one of those behind it
-pub rest_not_whole : (claim : Named) (claims : List Named) (error : ProgramError)
-    → IsOutside error ⊎ (are_whole claims ≡ false) → IsOutside error ⊎ (are_whole (claim ∷ claims) ≡ false)
-rest_not_whole claim claims error (inl outside) = inl outside
-rest_not_whole claim claims error (inr odd) = inr (ap (λ (b : Bool). is_whole (json_of claim) && b) odd ∙ and_false (is_whole (json_of claim)))
 
 -- a list is its first element and the rest
 pub first_and_rest : {A : Type 0} (xs : List A) (x : A) → 1 ≤ length xs → x ≡ get_or xs 0 x → xs ≡ x ∷ take (length xs - 1) (drop 1 xs)

@@ -10,12 +10,6 @@ use Rattle.paseto_commands.specs.declared.error.ProgramError.{ProgramError}
 use Rattle.paseto_commands.proofs.Words.{same_demands}
 use Rattle.paseto_commands.specs.Input.{line_of_input}
 
--- what an answer is for one value, it is for some value
-pub for_some : {X T E : Type 0} (result : Result T E) (x : X) (A : X → Type 0) (B : X → T → Type 0) → A x → IfOk result (B x)
-    → IfOk result (λ r. (y : X) × A y × B y r)
-for_some (Ok r) x A B a b = (x, a, b)
-for_some (Err e) x A B a b = tt
-
 -- what each value that is answered is, it is in other words
 pub in_other_words : {T E : Type 0} (result : Result T E) (A B : T → Type 0) → ((t : T) → A t → B t) → IfOk result A → IfOk result B
 in_other_words (Ok t) A B step a = step t a

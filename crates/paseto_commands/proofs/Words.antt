@@ -1,5 +1,5 @@
 -- What words say is one thing.
-use Rattle.std.proofs.Common.{◌≡◌, ◌≢◌, ◌⊎◌, ℕ, ℤ, pos, ◌*◌, ◌<◌, ◌+ℤ◌, ◌≤ℤ◌, List, [], ◌∷◌, ◌++◌, length, length-append, drop, get_or, Option, None, Some, Result, Ok, Err, IfErr, IfOk, MatchOption, MatchResult, Vec, Global, codes, inl, inr, refl, sym, ap, ap₂, subst, ◌∙◌, arith}
+use Rattle.std.proofs.Common.{◌≡◌, ℕ, ℤ, pos, ◌*◌, ◌+ℤ◌, ◌≤ℤ◌, List, [], ◌∷◌, ◌++◌, length, length-append, drop, get_or, Option, None, Some, Result, Ok, Err, MatchOption, MatchResult, codes, inl, inr, refl, sym, ap, ap₂, subst, ◌∙◌, arith}
 use Rattle.std.proofs.Math.Dec.{T_prop}
 use Rattle.std.specs.Option.{unwrap_or}
 use Rattle.std.proofs.lemmas.List.{append_cancel_right}
@@ -9,11 +9,8 @@ use Rattle.jiff.specs.Words.{Error, IsTimestampNanos, parse_timestamp}
 use Rattle.serde_json.specs.Data.{Data}
 use Rattle.paseto_commands.specs.declared.arguments.Options.{Options}
 use Rattle.paseto_commands.specs.Check.{AreDemands, Demanded, IsCheckedAt}
-use Rattle.paseto_commands.specs.Claims.{AreClaims, IsClaimOf, IsFirstOf, IsNamed, Named, all_named, front}
-use Rattle.paseto_commands.specs.Error.{IsOutside, Lacks}
-use Rattle.paseto_commands.specs.declared.claims.NamedClaim.{NamedClaim}
-use Rattle.paseto_commands.specs.declared.error.ProgramError.{ProgramError}
-use Rattle.paseto_commands.specs.Times.{HasUnit, IsAfter, IsLength, IsNumber, SaysMoment, SaysNone, SaysTime, unit_of}
+use Rattle.paseto_commands.specs.Claims.{AreClaims, IsClaimOf, IsNamed, Named, front}
+use Rattle.paseto_commands.specs.Times.{HasUnit, IsAfter, IsLength, IsNumber, SaysMoment, SaysNone, unit_of}
 
 -- ---- moments
 
@@ -86,12 +83,6 @@ same_timestamp one two e = λ i. record {
 pub same_moment : (word : List ℕ) (now one two : Timestamp) → SaysMoment word now one → SaysMoment word now two → one ≡ two
 same_moment word now one two a b = same_timestamp one two (same_instant word now one two (parse_timestamp word) a b)
 
-pub same_time : (word : Option (List ℕ)) (now : Timestamp) (one two : Option Timestamp) → SaysTime word now one → SaysTime word now two → one ≡ two
-same_time None now one two a b = a ∙ sym b
-same_time (Some word) now None two a b = absurd a
-same_time (Some word) now (Some one) None a b = absurd b
-same_time (Some word) now (Some one) (Some two) a b = ap (λ (t : Timestamp). Some t) (same_moment word now one two a b)
-
 same_checked : (word : Option (List ℕ)) (now one two : Timestamp) → IsCheckedAt word now one → IsCheckedAt word now two → one ≡ two
 same_checked None now one two a b = a ∙ sym b
 same_checked (Some word) now one two a b = same_moment word now one two a b
@@ -118,32 +109,6 @@ same_claims (word ∷ words) [] second a b = absurd a
 same_claims (word ∷ words) (one ∷ first) [] a b = absurd b
 same_claims (word ∷ words) (one ∷ first) (two ∷ second) a b =
     ap₂ (λ (h : Named) (t : List Named). h ∷ t) (same_claim word one two a.0 b.0) (same_claims words first second a.1 b.1)
-
--- claims in front of others
-pub first_claims : {E : Type 0} (word : List ℕ) (words : List (List ℕ)) (claims : List NamedClaim) (made : Result (Vec NamedClaim Global) E)
-    → AreClaims words (all_named claims) → IfOk made (λ found. IsFirstOf word claims found.items)
-    → IfOk made (λ found. AreClaims (word ∷ words) (all_named found.items))
-first_claims word words claims (Ok made) are is = rw is.2 (is.1, are)
-first_claims word words claims (Err error) are is = tt
-
-not_behind : (word : List ℕ) (words : List (List ℕ)) → ((claims : List Named) → AreClaims words claims → ⊥) → (claims : List Named) → AreClaims (word ∷ words) claims → ⊥
-not_behind word words none [] are = are
-not_behind word words none (claim ∷ claims) are = none claims are.1
-
-not_first : (word : List ℕ) (words : List (List ℕ)) → ((claim : Named) → IsClaimOf word claim → ⊥) → (claims : List Named) → AreClaims (word ∷ words) claims → ⊥
-not_first word words none [] are = are
-not_first word words none (claim ∷ claims) are = none claim are.0
-
-pub none_said : (word : List ℕ) (words : List (List ℕ)) (error : ProgramError) → Lacks (λ claims. AreClaims words claims) error
-    → Lacks (λ claims. AreClaims (word ∷ words) claims) error
-none_said word words error (inl outside) = inl outside
-none_said word words error (inr none) = inr (λ claims are. not_behind word words none claims are)
-
-pub none_first : {T : Type 0} (word : List ℕ) (words : List (List ℕ)) (made : Result T ProgramError) → IfErr made (Lacks (λ claim. IsClaimOf word claim))
-    → IfErr made (Lacks (λ claims. AreClaims (word ∷ words) claims))
-none_first word words (Ok made) none = tt
-none_first word words (Err error) (inl outside) = inl outside
-none_first word words (Err error) (inr none) = inr (λ claims are. not_first word words none claims are)
 
 -- ---- demands
 

@@ -16,7 +16,7 @@ use Rattle.paseto_xchacha20poly1305.specs.Sealing.{box_sealing}
 use Rattle.rusty_paseto_paserk.specs.declared.header.PaserkVersion.{PaserkVersion}
 use Rattle.rusty_paseto_paserk.specs.declared.header.PaserkVersion.TheVariants.{V1, V2, V3, V4}
 use Rattle.rusty_paseto_paserk.specs.declared.header.PaserkType.{PaserkType}
-use Rattle.rusty_paseto_paserk.specs.declared.header.PaserkType.TheVariants.{Local, Secret, Public}
+use Rattle.rusty_paseto_paserk.specs.declared.header.PaserkType.TheVariants.{Local, Public}
 
 -- the keys that read tokens: those of local tokens, and the public ones of the versions 2, 3 and 4
 abbrev pub IsReader : PaserkType → PaserkVersion → Type 0
@@ -26,7 +26,8 @@ IsReader Public V3 = ⊤
 IsReader Public V4 = ⊤
 IsReader _ _ = ⊥
 
--- how a reader's tokens are read: opened, or verified. What is no reader has no use of its own here
+-- how a reader's tokens are read: opened, or verified. The last line is that of local keys of version 1; what is no reader
+-- falls to it too, and `IsReader` keeps that out
 abbrev pub reading_of : PaserkType → PaserkVersion → Binding → Reading
 reading_of Local V2 = box_opening box_sealing
 reading_of Local V3 = opening v3

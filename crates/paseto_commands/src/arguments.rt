@@ -10,12 +10,19 @@ use rusty_paseto_core::{Footer, ImplicitAssertion};
 /// The kinds of keys that the program makes.
 #[derive(Clone, Copy)]
 pub enum Kind {
+    /// `v1.local`
     V1Local,
+    /// `v2.local`
     V2Local,
+    /// `v2.public`
     V2Public,
+    /// `v3.local`
     V3Local,
+    /// `v3.public`
     V3Public,
+    /// `v4.local`
     V4Local,
+    /// `v4.public`
     V4Public,
 }
 
@@ -57,9 +64,13 @@ impl Kind {
 /// What is to be done with a key and a text.
 #[derive(Clone, Copy)]
 pub enum Task {
+    /// `encrypt`
     Encrypt,
+    /// `decrypt`
     Decrypt,
+    /// `sign`
     Sign,
+    /// `verify`
     Verify,
 }
 
@@ -188,9 +199,11 @@ pub struct Options<'a> {
     pub not_before: Option<&'a str>,
     /// `--at TIME`
     pub at: Option<&'a str>,
-    /// The words that are no options: a command, and a kind or an input.
+    /// The first of the words that are no options: a command.
     pub first: Option<&'a str>,
+    /// The second: a kind, or an input.
     pub second: Option<&'a str>,
+    /// A third, which no command has.
     pub third: Option<&'a str>,
 }
 
@@ -440,7 +453,9 @@ pub fn is_flag(word: &str) -> bool
 /// What the words ask for.
 #[derive(Clone, Copy)]
 pub struct Command<'a> {
+    /// What is to be done.
     pub action: Action,
+    /// What the words say of it.
     pub options: Options<'a>,
 }
 

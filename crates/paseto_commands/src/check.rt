@@ -2,14 +2,8 @@
 
 ghost use Rattle.std.specs.Prelude.{◌≡◌, ◌⊎◌, None, IfErr, IfOk, OnOk, false, option_map, string_bytes, true};
 ghost use Rattle.serde_json.specs.View.{view};
-ghost use Rattle.rusty_paseto_core.specs.Local.Boxed.{box_opening};
 ghost use Rattle.rusty_paseto_core.specs.Local.Opening.{opening};
-ghost use Rattle.rusty_paseto_core.specs.Public.{v2_public, v3_public, v4_public};
-ghost use Rattle.rusty_paseto_core.specs.Public.Verifying.{verification};
 ghost use Rattle.rusty_paseto_parts.specs.Footer.{footer_text};
-ghost use Rattle.paseto_ed25519.specs.Ed25519.{Ed25519Verifies, IsRefused};
-ghost use Rattle.paseto_p384.specs.P384.{P384Verifies, IsRefused as IsRefusedByP384};
-ghost use Rattle.paseto_xchacha20poly1305.specs.Sealing.{box_sealing};
 ghost use Rattle.rusty_paseto_paserk.specs.declared.header.PaserkVersion.TheVariants.{V2 as K2, V3 as K3, V4 as K4};
 ghost use Rattle.rusty_paseto_paserk.specs.declared.header.PaserkType.TheVariants.{Local as LocalKey, Public as PublicKey};
 ghost use Rattle.rusty_paseto_generic.specs.Parsers.Held.{rules_of, verdicts_of};
@@ -47,7 +41,9 @@ use std::alloc::Global;
 /// The keys under which a token may be: that of a line, or those of a ring's lines.
 #[derive(Clone, Copy)]
 pub enum Keys<'k> {
+    /// The line of a key file.
     One(&'k str),
+    /// The lines of a folder's key files.
     Ring(&'k [String]),
 }
 
@@ -260,9 +256,11 @@ fn by_local_key(
     timed: bool,
     token: &str,
 ) -> Result<Value, ProgramError>
-    ensures found { IfOk result (λ value. ParsesWith LocalKey version (reading_of LocalKey version)
+    ensures found { IfOk result (λ value.
+        ParsesWith LocalKey version (reading_of LocalKey version)
         key.now (demanded demands.now) timed token.now (view value)) }
-    ensures none { IfErr result (Lacks (λ value. ParsesWith LocalKey version (reading_of LocalKey version)
+    ensures none { IfErr result (Lacks (λ value.
+        ParsesWith LocalKey version (reading_of LocalKey version)
         key.now (demanded demands.now) timed token.now value)) }
 {
     match version {
@@ -281,9 +279,11 @@ fn by_public_key(
     timed: bool,
     token: &str,
 ) -> Result<Value, ProgramError>
-    ensures found { IfOk result (λ value. ParsesWith PublicKey version (reading_of PublicKey version)
+    ensures found { IfOk result (λ value.
+        ParsesWith PublicKey version (reading_of PublicKey version)
         key.now (demanded demands.now) timed token.now (view value)) }
-    ensures none { IfErr result (Lacks (λ value. ParsesWith PublicKey version (reading_of PublicKey version)
+    ensures none { IfErr result (Lacks (λ value.
+        ParsesWith PublicKey version (reading_of PublicKey version)
         key.now (demanded demands.now) timed token.now value)) }
 {
     match version {
@@ -301,9 +301,11 @@ fn opened<V: DefaultLocalVersion + KeyVersion>(
     timed: bool,
     token: &str,
 ) -> Result<Value, ProgramError>
-    ensures found { IfOk result (λ value. ParsesWith LocalKey V.paserk (opening V.design) key.now
+    ensures found { IfOk result (λ value.
+        ParsesWith LocalKey V.paserk (opening V.design) key.now
         (demanded demands.now) timed token.now (view value)) }
-    ensures none { IfErr result (Lacks (λ value. ParsesWith LocalKey V.paserk (opening V.design) key.now
+    ensures none { IfErr result (Lacks (λ value.
+        ParsesWith LocalKey V.paserk (opening V.design) key.now
         (demanded demands.now) timed token.now value)) }
 {
     let key = local_from_paserk::<V>(alloc, key)?;
@@ -318,9 +320,11 @@ fn unboxed(
     timed: bool,
     token: &str,
 ) -> Result<Value, ProgramError>
-    ensures found { IfOk result (λ value. ParsesWith LocalKey K2 (box_opening box_sealing) key.now
+    ensures found { IfOk result (λ value.
+        ParsesWith LocalKey K2 (reading_of LocalKey K2) key.now
         (demanded demands.now) timed token.now (view value)) }
-    ensures none { IfErr result (Lacks (λ value. ParsesWith LocalKey K2 (box_opening box_sealing) key.now
+    ensures none { IfErr result (Lacks (λ value.
+        ParsesWith LocalKey K2 (reading_of LocalKey K2) key.now
         (demanded demands.now) timed token.now value)) }
 {
     let key = local_from_paserk::<V2>(alloc, key)?;
@@ -335,9 +339,11 @@ fn verified_in_v2(
     timed: bool,
     token: &str,
 ) -> Result<Value, ProgramError>
-    ensures found { IfOk result (λ value. ParsesWith PublicKey K2 (verification Ed25519Verifies IsRefused v2_public) key.now
+    ensures found { IfOk result (λ value.
+        ParsesWith PublicKey K2 (reading_of PublicKey K2) key.now
         (demanded demands.now) timed token.now (view value)) }
-    ensures none { IfErr result (Lacks (λ value. ParsesWith PublicKey K2 (verification Ed25519Verifies IsRefused v2_public) key.now
+    ensures none { IfErr result (Lacks (λ value.
+        ParsesWith PublicKey K2 (reading_of PublicKey K2) key.now
         (demanded demands.now) timed token.now value)) }
 {
     let key = public_from_paserk::<V2, 32>(alloc, key)?;
@@ -353,9 +359,11 @@ fn verified_in_v3(
     timed: bool,
     token: &str,
 ) -> Result<Value, ProgramError>
-    ensures found { IfOk result (λ value. ParsesWith PublicKey K3 (verification P384Verifies IsRefusedByP384 v3_public) key.now
+    ensures found { IfOk result (λ value.
+        ParsesWith PublicKey K3 (reading_of PublicKey K3) key.now
         (demanded demands.now) timed token.now (view value)) }
-    ensures none { IfErr result (Lacks (λ value. ParsesWith PublicKey K3 (verification P384Verifies IsRefusedByP384 v3_public) key.now
+    ensures none { IfErr result (Lacks (λ value.
+        ParsesWith PublicKey K3 (reading_of PublicKey K3) key.now
         (demanded demands.now) timed token.now value)) }
 {
     let key = public_from_paserk::<V3, 49>(alloc, key)?;
@@ -371,9 +379,11 @@ fn verified_in_v4(
     timed: bool,
     token: &str,
 ) -> Result<Value, ProgramError>
-    ensures found { IfOk result (λ value. ParsesWith PublicKey K4 (verification Ed25519Verifies IsRefused v4_public) key.now
+    ensures found { IfOk result (λ value.
+        ParsesWith PublicKey K4 (reading_of PublicKey K4) key.now
         (demanded demands.now) timed token.now (view value)) }
-    ensures none { IfErr result (Lacks (λ value. ParsesWith PublicKey K4 (verification Ed25519Verifies IsRefused v4_public) key.now
+    ensures none { IfErr result (Lacks (λ value.
+        ParsesWith PublicKey K4 (reading_of PublicKey K4) key.now
         (demanded demands.now) timed token.now value)) }
 {
     let key = public_from_paserk::<V4, 32>(alloc, key)?;

@@ -1,5 +1,6 @@
 //! What `--help` and `--version` print.
 
+/// What `--version` prints.
 pub const VERSION: &str = "paseto 0.2.0\n";
 
 const ABOUT: &str = "\

@@ -2,13 +2,7 @@
 
 ghost use Rattle.std.specs.Prelude.{◌≡◌, ◌⊎◌, ℕ, List, IfErr, IfOk, IsTrue, OnOk, length};
 ghost use Rattle.serde_json.specs.View.{view};
-ghost use Rattle.rusty_paseto_core.specs.Local.Boxed.{box_opening};
 ghost use Rattle.rusty_paseto_core.specs.Local.Opening.{opening};
-ghost use Rattle.rusty_paseto_core.specs.Public.{v2_public, v3_public, v4_public};
-ghost use Rattle.rusty_paseto_core.specs.Public.Verifying.{verification};
-ghost use Rattle.paseto_ed25519.specs.Ed25519.{Ed25519Verifies, IsRefused};
-ghost use Rattle.paseto_p384.specs.P384.{P384Verifies, IsRefused as IsRefusedByP384};
-ghost use Rattle.paseto_xchacha20poly1305.specs.Sealing.{box_sealing};
 ghost use Rattle.rusty_paseto.specs.Held.{keys_of};
 ghost use Rattle.rusty_paseto_paserk.specs.declared.header.PaserkVersion.TheVariants.{V2 as K2, V3 as K3, V4 as K4};
 ghost use Rattle.rusty_paseto_paserk.specs.declared.header.PaserkType.TheVariants.{Local as LocalKey, Public as PublicKey};
@@ -147,9 +141,11 @@ fn opened<V: DefaultLocalVersion + KeyVersion>(
     timed: bool,
     token: &str,
 ) -> Result<Value, ProgramError>
-    ensures found { IfOk result (λ value. ParsesIn LocalKey V.paserk (opening V.design)
+    ensures found { IfOk result (λ value.
+        ParsesIn LocalKey V.paserk (opening V.design)
         (words_of lines.now) (demanded demands.now) timed token.now (view value)) }
-    ensures none { IfErr result (Lacks (λ value. ParsesIn LocalKey V.paserk (opening V.design)
+    ensures none { IfErr result (Lacks (λ value.
+        ParsesIn LocalKey V.paserk (opening V.design)
         (words_of lines.now) (demanded demands.now) timed token.now value)) }
 {
     let ring = local_ring::<V>(alloc, lines)?;
@@ -164,9 +160,11 @@ fn unboxed(
     timed: bool,
     token: &str,
 ) -> Result<Value, ProgramError>
-    ensures found { IfOk result (λ value. ParsesIn LocalKey K2 (box_opening box_sealing)
+    ensures found { IfOk result (λ value.
+        ParsesIn LocalKey K2 (reading_of LocalKey K2)
         (words_of lines.now) (demanded demands.now) timed token.now (view value)) }
-    ensures none { IfErr result (Lacks (λ value. ParsesIn LocalKey K2 (box_opening box_sealing)
+    ensures none { IfErr result (Lacks (λ value.
+        ParsesIn LocalKey K2 (reading_of LocalKey K2)
         (words_of lines.now) (demanded demands.now) timed token.now value)) }
 {
     let ring = local_ring::<V2>(alloc, lines)?;
@@ -181,9 +179,11 @@ fn verified_in_v2(
     timed: bool,
     token: &str,
 ) -> Result<Value, ProgramError>
-    ensures found { IfOk result (λ value. ParsesIn PublicKey K2 (verification Ed25519Verifies IsRefused v2_public)
+    ensures found { IfOk result (λ value.
+        ParsesIn PublicKey K2 (reading_of PublicKey K2)
         (words_of lines.now) (demanded demands.now) timed token.now (view value)) }
-    ensures none { IfErr result (Lacks (λ value. ParsesIn PublicKey K2 (verification Ed25519Verifies IsRefused v2_public)
+    ensures none { IfErr result (Lacks (λ value.
+        ParsesIn PublicKey K2 (reading_of PublicKey K2)
         (words_of lines.now) (demanded demands.now) timed token.now value)) }
 {
     let keys = public_keys::<V2, 32>(alloc, lines)?;
@@ -199,9 +199,11 @@ fn verified_in_v3(
     timed: bool,
     token: &str,
 ) -> Result<Value, ProgramError>
-    ensures found { IfOk result (λ value. ParsesIn PublicKey K3 (verification P384Verifies IsRefusedByP384 v3_public)
+    ensures found { IfOk result (λ value.
+        ParsesIn PublicKey K3 (reading_of PublicKey K3)
         (words_of lines.now) (demanded demands.now) timed token.now (view value)) }
-    ensures none { IfErr result (Lacks (λ value. ParsesIn PublicKey K3 (verification P384Verifies IsRefusedByP384 v3_public)
+    ensures none { IfErr result (Lacks (λ value.
+        ParsesIn PublicKey K3 (reading_of PublicKey K3)
         (words_of lines.now) (demanded demands.now) timed token.now value)) }
 {
     let keys = public_keys::<V3, 49>(alloc, lines)?;
@@ -217,9 +219,11 @@ fn verified_in_v4(
     timed: bool,
     token: &str,
 ) -> Result<Value, ProgramError>
-    ensures found { IfOk result (λ value. ParsesIn PublicKey K4 (verification Ed25519Verifies IsRefused v4_public)
+    ensures found { IfOk result (λ value.
+        ParsesIn PublicKey K4 (reading_of PublicKey K4)
         (words_of lines.now) (demanded demands.now) timed token.now (view value)) }
-    ensures none { IfErr result (Lacks (λ value. ParsesIn PublicKey K4 (verification Ed25519Verifies IsRefused v4_public)
+    ensures none { IfErr result (Lacks (λ value.
+        ParsesIn PublicKey K4 (reading_of PublicKey K4)
         (words_of lines.now) (demanded demands.now) timed token.now value)) }
 {
     let keys = public_keys::<V4, 32>(alloc, lines)?;

@@ -1,4 +1,4 @@
-use Rattle.std.proofs.Common.{◌≡◌, ◌∙◌, ℕ, List, Some, inr, sym, ap}
+use Rattle.std.proofs.Common.{◌∙◌, ℕ, List, Some, inr, sym, ap}
 use Rattle.rusty_paseto_paserk.specs.declared.header.PaserkType.TheVariants.{Local, Public}
 use Rattle.paseto_commands.specs.Arguments.{words_of}
 use Rattle.paseto_commands.specs.Check.{demanded}

@@ -1,4 +1,4 @@
-use Rattle.std.proofs.Common.{inl, refl}
+use Rattle.std.proofs.Common.{inl}
 use Rattle.std.proofs.lemmas.Result.{err_from_is_err_and}
 use Rattle.paseto_p384.specs.P384.{IsRefused, P384Verifies}
 use Rattle.rusty_paseto.specs.Held.{keys_of}
