@@ -1,5 +1,6 @@
 -- What is issued under the keys of lines, and why nothing is.
 use Rattle.std.proofs.Common.{◌≡◌, ◌≢◌, ◌⊎◌, ℕ, List, [], ◌++◌, Bool, true, false, if◌then◌else◌, nat_le, length, Option, None, Some, option_map, is_some, Result, Ok, Err, IfErr, IfOk, IsErrAnd, OnOk, String, Global, string_bytes, inl, inr, refl, sym, ap, subst, ◌∙◌}
+use Rattle.std.specs.Bool.{⊤}
 use Rattle.std.proofs.lemmas.Bool.{false≢true}
 use Rattle.base64.specs.GeneralPurpose.{IsBytes}
 use Rattle.serde_json.specs.Data.{Members}
@@ -157,12 +158,12 @@ module _ (order : Ordered) (claims : Members) (keys : Counting) (footer : Option
   by_generator (Err source) Failure (inl memory) = inl memory
   by_generator (Err source) Failure (inr failed) = inr (inl failed.0)
 
-  pub seals_none : {T : Type 0} (version : PaserkVersion) (design : Design) (key : List ℕ) (IsDrawn : List ℕ → Type 0)
+  pub seals_none : {T : Type 0} (version : PaserkVersion) (design : Design) (key : List ℕ)
       (answer : Result T GenericBuilderError) (error : ProgramError) (Failure : Type 0)
       → IsErrAnd answer (λ source. IsOutside error ⊎ ((¬ IsMemory source) × (source ≢ CipherError Cipher)))
       → (keys.repeated ≡ None → IfErr answer (λ source. IsMemory source ⊎ IsOfGenerator Failure source))
-      → Lacks (λ line. SealsClaims version design key order IsDrawn line) error
-  seals_none version design key IsDrawn answer error Failure built reason =
+      → Lacks (λ line. SealsClaims version design key order (λ nonce. ⊤) line) error
+  seals_none version design key answer error Failure built reason =
       elim (not_built answer error (λ source. ⊥) built (λ once. by_generator answer Failure (reason once))) [
         | inl outside ↦ inl outside
         | inr none ↦ inr (λ line is. (none is.once).1)
@@ -180,13 +181,13 @@ module _ (order : Ordered) (claims : Members) (keys : Counting) (footer : Option
       → IsErrAnd answer (λ source. IsOutside error ⊎ ((¬ IsMemory source) × (source ≢ CipherError Cipher)))
       → (keys.repeated ≡ None → IfErr answer (λ source. IsMemory source ⊎ (IsOfGenerator Failure source
       ⊎ (IsOfBox source × IsBoxAnswer box_sealing binding (is_some footer) claims IsDrawn None))))
-      → Lacks (λ line. BoxesClaims key order IsDrawn line) error
+      → Lacks (λ line. BoxesClaims key order (λ nonce. ⊤) line) error
   boxes_none key IsDrawn answer error Failure binding built reason =
       let Unboxed = IsBoxAnswer box_sealing binding (is_some footer) claims IsDrawn None in
       elim (not_built answer error (λ source. Unboxed) built (λ once. by_box answer Failure Unboxed (reason once))) [
         | inl outside ↦ inl outside
         | inr none ↦ inr (λ line is. box_apart _ _ _ _ claims _ _ is.token (none is.once).1
-            (subst (λ (c : Members). IsBoxAnswer box_sealing (bound_to is.key_bytes order.footer []) (is_some order.footer) c IsDrawn (Some is.token))
+            (subst (λ (c : Members). IsBoxAnswer box_sealing (bound_to is.key_bytes order.footer []) (is_some order.footer) c (λ nonce. ⊤) (Some is.token))
             (same_ordered order is.claims claims is.are_ordered are) is.is_sealed))
       ]
 
@@ -218,15 +219,15 @@ module _ (order : Ordered) (claims : Members) (keys : Counting) (footer : Option
 -- ---- what is ordered makes no claims
 
 module _ (order : Ordered) where
-  pub seals_never : (version : PaserkVersion) (design : Design) (key : List ℕ) (IsDrawn : List ℕ → Type 0) (error : ProgramError)
-      → IsOutside error ⊎ AreNever order → Lacks (λ line. SealsClaims version design key order IsDrawn line) error
-  seals_never version design key IsDrawn error (inl outside) = inl outside
-  seals_never version design key IsDrawn error (inr never) = inr (λ line is. never is.claims is.are_ordered)
+  pub seals_never : (version : PaserkVersion) (design : Design) (key : List ℕ) (error : ProgramError)
+      → IsOutside error ⊎ AreNever order → Lacks (λ line. SealsClaims version design key order (λ nonce. ⊤) line) error
+  seals_never version design key error (inl outside) = inl outside
+  seals_never version design key error (inr never) = inr (λ line is. never is.claims is.are_ordered)
 
-  pub boxes_never : (key : List ℕ) (IsDrawn : List ℕ → Type 0) (error : ProgramError)
-      → IsOutside error ⊎ AreNever order → Lacks (λ line. BoxesClaims key order IsDrawn line) error
-  boxes_never key IsDrawn error (inl outside) = inl outside
-  boxes_never key IsDrawn error (inr never) = inr (λ line is. never is.claims is.are_ordered)
+  pub boxes_never : (key : List ℕ) (error : ProgramError)
+      → IsOutside error ⊎ AreNever order → Lacks (λ line. BoxesClaims key order (λ nonce. ⊤) line) error
+  boxes_never key error (inl outside) = inl outside
+  boxes_never key error (inr never) = inr (λ line is. never is.claims is.are_ordered)
 
   pub signs_never : (valid : Validity) (design : PublicDesign) (public : List ℕ) (error : ProgramError) (X : Type 0)
       → IsOutside error ⊎ AreNever order → IsOutside error ⊎ (((line : List ℕ) → ¬ SignsOrder valid design public order line) ⊎ X)
@@ -280,9 +281,9 @@ secret_public same = false≢true (ap (λ (k : PaserkType). is_public k) same)
 
 -- ---- the lines of keys
 
-module _ (key : List ℕ) (order : Ordered) (IsDrawn : List ℕ → Type 0) where
+module _ (key : List ℕ) (order : Ordered) where
   -- a key that seals or signs begins as one
-  seals_begins : (version : PaserkVersion) (line : List ℕ) → SealsIn version key order IsDrawn line → (rest : List ℕ) × (key ≡ header version Local ++ rest)
+  seals_begins : (version : PaserkVersion) (line : List ℕ) → SealsIn version key order (λ nonce. ⊤) line → (rest : List ℕ) × (key ≡ header version Local ++ rest)
   seals_begins V1 line is = (base64url is.key_bytes, is.is_key.is_writing)
   seals_begins V2 line is = (base64url is.key_bytes, is.is_key.is_writing)
   seals_begins V3 line is = (base64url is.key_bytes, is.is_key.is_writing)
@@ -295,7 +296,7 @@ module _ (key : List ℕ) (order : Ordered) (IsDrawn : List ℕ → Type 0) wher
   signs_begins V4 line is = (base64url is.key_bytes, is.is_key.is_writing)
 
   -- a line that begins as no key
-  pub no_header_issues : HasNoHeader key → IssuesNone key order IsDrawn
+  pub no_header_issues : HasNoHeader key → IssuesNone key order
   no_header_issues none = inl (λ line both. elim both [
     | inl seals ↦ none seals.0 Local (seals_begins seals.0 line seals.1)
     | inr signs ↦ none signs.0 Secret (signs_begins signs.0 line signs.1)
@@ -303,21 +304,21 @@ module _ (key : List ℕ) (order : Ordered) (IsDrawn : List ℕ → Type 0) wher
 
   module _ (version : PaserkVersion) (rest : List ℕ) where
     pub local_none : {T : Type 0} (result : Result T ProgramError) → key ≡ header version Local ++ rest
-        → IfErr result (Lacks (λ line. SealsIn version key order IsDrawn line)) → IfErr result (λ error. IsOutside error ⊎ IssuesNone key order IsDrawn)
+        → IfErr result (Lacks (λ line. SealsIn version key order (λ nonce. ⊤) line)) → IfErr result (λ error. IsOutside error ⊎ IssuesNone key order)
     local_none (Ok value) begins none = tt
     local_none (Err error) begins (inl outside) = inl outside
     local_none (Err error) begins (inr none) = inr (inl (λ line both. elim both [
       | inl seals ↦
           let begun = seals_begins seals.0 line seals.1 in
           let same = same_header seals.0 version Local Local key begun.0 rest begun.1 begins in
-          none line (subst (λ (v : PaserkVersion). SealsIn v key order IsDrawn line) same.0 seals.1)
+          none line (subst (λ (v : PaserkVersion). SealsIn v key order (λ nonce. ⊤) line) same.0 seals.1)
       | inr signs ↦
           let begun = signs_begins signs.0 line signs.1 in
           secret_apart (same_header signs.0 version Secret Local key begun.0 rest begun.1 begins).1
     ]))
 
     pub private_none : {T : Type 0} (result : Result T ProgramError) → key ≡ header version Secret ++ rest
-        → IfErr result (λ error. IsOutside error ⊎ SignsNone version key order) → IfErr result (λ error. IsOutside error ⊎ IssuesNone key order IsDrawn)
+        → IfErr result (λ error. IsOutside error ⊎ SignsNone version key order) → IfErr result (λ error. IsOutside error ⊎ IssuesNone key order)
     private_none (Ok value) begins none = tt
     private_none (Err error) begins (inl outside) = inl outside
     private_none (Err error) begins (inr (inr declined)) = inr (inr (version, declined))
@@ -332,7 +333,7 @@ module _ (key : List ℕ) (order : Ordered) (IsDrawn : List ℕ → Type 0) wher
     ]))
 
     -- a public key
-    pub public_none : key ≡ header version Public ++ rest → IssuesNone key order IsDrawn
+    pub public_none : key ≡ header version Public ++ rest → IssuesNone key order
     public_none begins = inl (λ line both. elim both [
       | inl seals ↦
           let begun = seals_begins seals.0 line seals.1 in

@@ -1,5 +1,5 @@
 -- The command `issue`.
-use Rattle.std.specs.Prelude.{◌≡◌, ◌⊎◌, ℕ, List, [], ◌∷◌, ◌++◌, Option, None, Some, codes, is_some, option_map, string_bytes}
+use Rattle.std.specs.Prelude.{◌≡◌, ◌⊎◌, ⊤, ℕ, List, [], ◌∷◌, ◌++◌, Option, None, Some, codes, is_some, option_map, string_bytes}
 use Rattle.jiff.specs.Types.{Timestamp}
 use Rattle.serde_json.specs.Data.{Members}
 use Rattle.rusty_paseto_parts.specs.declared.error.PasetoError.{PasetoError}
@@ -153,10 +153,10 @@ DeclinesIn V4 = DeclinesKey V4 64 IsDeclined
 abbrev pub IsDeclinedKey : List ℕ → Type 0
 IsDeclinedKey key = (version : PaserkVersion) × DeclinesIn version key
 
--- no token is made: what the words order at a moment has none under the key of the line, or the scheme declines the key,
--- as one whose halves do not belong together
-abbrev pub IssuesNothing : List (List ℕ) → Options → Timestamp → List ℕ → (List ℕ → Type 0) → Type 0
-IssuesNothing claims options now key IsDrawn = ((line : List ℕ) → ¬ IssuesFor claims options now key IsDrawn line) ⊎ IsDeclinedKey key
+-- no token is made, whatever bytes are drawn: what the words order at a moment has none under the key of the line, or the
+-- scheme declines the key, as one whose halves do not belong together
+abbrev pub IssuesNothing : List (List ℕ) → Options → Timestamp → List ℕ → Type 0
+IssuesNothing claims options now key = ((line : List ℕ) → ¬ IssuesFor claims options now key (λ nonce. ⊤) line) ⊎ IsDeclinedKey key
 
 -- ---- for private clauses
 
@@ -165,8 +165,8 @@ abbrev pub AreNever : Ordered → Type 0
 AreNever order = (claims : Members) → ¬ AreOrdered order claims
 
 -- what is ordered has no token under the key, or the key is declined
-abbrev pub IssuesNone : List ℕ → Ordered → (List ℕ → Type 0) → Type 0
-IssuesNone key order IsDrawn = ((line : List ℕ) → ¬ Issues key order IsDrawn line) ⊎ IsDeclinedKey key
+abbrev pub IssuesNone : List ℕ → Ordered → Type 0
+IssuesNone key order = ((line : List ℕ) → ¬ Issues key order (λ nonce. ⊤) line) ⊎ IsDeclinedKey key
 
 abbrev pub SignsNone : PaserkVersion → List ℕ → Ordered → Type 0
 SignsNone version key order = ((line : List ℕ) → ¬ SignsIn version key order line) ⊎ DeclinesIn version key

@@ -1,6 +1,6 @@
 //! The command `issue`: a token of claims, by the default builder.
 
-ghost use Rattle.std.specs.Prelude.{◌≡◌, ◌⊎◌, ◌++◌, ◌∷◌, ℕ, List, [], None, IfErr, IfOk, OnOk, codes, option_map, string_bytes};
+ghost use Rattle.std.specs.Prelude.{◌≡◌, ◌⊎◌, ⊤, ◌++◌, ◌∷◌, ℕ, List, [], None, IfErr, IfOk, OnOk, codes, option_map, string_bytes};
 ghost use Rattle.rusty_paseto_generic.specs.Builders.Held.{held};
 ghost use Rattle.rusty_paseto_parts.specs.Footer.{footer_text};
 ghost use Rattle.rusty_paseto_core.specs.Public.{HasPrivateLength};
@@ -94,8 +94,8 @@ pub fn issue<G: TryRng>(
 ) -> Result<String, ProgramError>
     ensures found { IfOk result (λ line. Issues key.now (ordered order.now)
         (λ nonce. G.may_fill generator.old nonce generator.new) (string_bytes line)) }
-    ensures none { IfErr result (λ error. IsOutside error ⊎ IssuesNone key.now (ordered order.now)
-        (λ nonce. G.may_fill generator.old nonce generator.new)) }
+    ensures none { IfErr result (λ error. IsOutside error
+        ⊎ IssuesNone key.now (ordered order.now)) }
 {
     match header_of(key) {
         Some((version, PaserkType::Local, _)) => by_local_key(
@@ -125,7 +125,7 @@ fn by_local_key<G: TryRng>(
     ensures found { IfOk result (λ line. SealsIn version key.now (ordered order.now)
         (λ nonce. G.may_fill generator.old nonce generator.new) (string_bytes line)) }
     ensures none { IfErr result (Lacks (λ line. SealsIn version key.now (ordered order.now)
-        (λ nonce. G.may_fill generator.old nonce generator.new) line)) }
+        (λ nonce. ⊤) line)) }
 {
     match version {
         PaserkVersion::V1 => sealed::<V1, G>(alloc, key, order, generator),
@@ -163,8 +163,7 @@ fn sealed<V: DefaultLocalVersion + KeyVersion, G: TryRng>(
     ensures found { IfOk result (λ line. SealsClaims V.paserk V.design key.now (ordered order.now)
         (λ nonce. G.may_fill generator.old nonce generator.new) (string_bytes line)) }
     ensures none { IfErr result (Lacks (λ line.
-        SealsClaims V.paserk V.design key.now (ordered order.now)
-        (λ nonce. G.may_fill generator.old nonce generator.new) line)) }
+        SealsClaims V.paserk V.design key.now (ordered order.now) (λ nonce. ⊤) line)) }
 {
     let key = local_from_paserk::<V>(alloc, key)?;
     let builder = builder_of::<V, Local>(alloc, order)?;
@@ -180,7 +179,7 @@ fn boxed<G: TryRng>(
     ensures found { IfOk result (λ line. BoxesClaims key.now (ordered order.now)
         (λ nonce. G.may_fill generator.old nonce generator.new) (string_bytes line)) }
     ensures none { IfErr result (Lacks (λ line. BoxesClaims key.now (ordered order.now)
-        (λ nonce. G.may_fill generator.old nonce generator.new) line)) }
+        (λ nonce. ⊤) line)) }
 {
     let key = local_from_paserk::<V2>(alloc, key)?;
     let builder = builder_of::<V2, Local>(alloc, order)?;

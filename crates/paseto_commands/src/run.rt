@@ -184,8 +184,7 @@ pub fn run_issue<G: TryRng, W: Write, E: Write>(
         × IssuesFor (claim_words (words_of words.now)) options.now now key.now
         (λ nonce. G.may_fill generator.old nonce generator.new) written }
     ensures refused { (result ≡ 1) ⊎ (result ≡ 2) → (output.new ≡ output.old)
-        × IssuesNothing (claim_words (words_of words.now)) options.now now key.now
-        (λ nonce. G.may_fill generator.old nonce generator.new) }
+        × IssuesNothing (claim_words (words_of words.now)) options.now now key.now }
     ensures quiet { result ≡ 0 → errors.new ≡ errors.old }
     ensures said { result ≢ 0 → (error : ProgramError) × (status_of error ≡ result)
         × ((said : List ℕ) × StartsWith (line_of error) said × Appends (E.contents errors.old)
@@ -208,8 +207,7 @@ fn token_of<G: TryRng>(
         (claim_words (words_of words.now)) options.now now key.now
         (λ nonce. G.may_fill generator.old nonce generator.new) (string_bytes line)) }
     ensures none { IfErr result (λ error. IsOutside error
-        ⊎ IssuesNothing (claim_words (words_of words.now)) options.now now key.now
-        (λ nonce. G.may_fill generator.old nonce generator.new)) }
+        ⊎ IssuesNothing (claim_words (words_of words.now)) options.now now key.now) }
 {
     let order = Order::parse(alloc, words, options, now)?;
     issue(alloc, key, &order, generator)

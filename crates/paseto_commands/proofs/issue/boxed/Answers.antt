@@ -18,7 +18,7 @@ returns-clause-found g c =
 pub returns-in_err-builder-clause-none : goal.returns-in_err-builder-clause-none
 returns-in_err-builder-clause-none g c =
     let p = err_from_is_err_and c.from_residual-in_err-builder.result c.from_residual-in_err-builder.ensures.1 in
-    rw (p.1, p.2) (boxes_never (ordered c.args.order.now) c.args.key.now _ c.in_err-builder.field-0.0 c.in_err-builder.ensures.never)
+    rw (p.1, p.2) (boxes_never (ordered c.args.order.now) c.args.key.now c.in_err-builder.field-0.0 c.in_err-builder.ensures.never)
 
 pub returns-in_err-built-clause-none : goal.returns-in_err-built-clause-none
 returns-in_err-built-clause-none g c =

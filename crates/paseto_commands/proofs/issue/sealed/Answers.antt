@@ -18,7 +18,7 @@ returns-clause-found g c =
 pub returns-in_err-builder-clause-none : goal.returns-in_err-builder-clause-none
 returns-in_err-builder-clause-none g c =
     let p = err_from_is_err_and c.from_residual-in_err-builder.result c.from_residual-in_err-builder.ensures.1 in
-    rw (p.1, p.2) (seals_never (ordered c.args.order.now) g.V.KeyVersion.paserk g.V.LocalSuite.design c.args.key.now _ c.in_err-builder.field-0.0 c.in_err-builder.ensures.never)
+    rw (p.1, p.2) (seals_never (ordered c.args.order.now) g.V.KeyVersion.paserk g.V.LocalSuite.design c.args.key.now c.in_err-builder.field-0.0 c.in_err-builder.ensures.never)
 
 pub returns-in_err-built-clause-none : goal.returns-in_err-built-clause-none
 returns-in_err-built-clause-none g c =
@@ -26,5 +26,5 @@ returns-in_err-built-clause-none g c =
     let builder = c.in_ok-builder.builder in
     let made = c.in_ok-builder.ensures in
     rw (p.1, p.2) (seals_none (ordered c.args.order.now) (held builder.builder.claims) (counting builder.keys) builder.builder.paseto.footer builder.builder.paseto.implicit_assertion
-    made.claims made.keys made.footer made.assertion g.V.KeyVersion.paserk g.V.LocalSuite.design c.args.key.now _ c.build.result c.in_err-built.field-0.0 _
+    made.claims made.keys made.footer made.assertion g.V.KeyVersion.paserk g.V.LocalSuite.design c.args.key.now c.build.result c.in_err-built.field-0.0 _
     c.in_err-built.ensures.refused c.build.ensures.err)

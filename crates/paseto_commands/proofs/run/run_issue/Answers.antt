@@ -7,6 +7,6 @@ pub returns-clause-refused : goal.returns-clause-refused
 returns-clause-refused g c = λ some.
     let finished = c.finish.ensures.refused some in (
       finished.0,
-      refused_as c.token_of-made.result c.finish.result (IssuesNothing (claim_words (words_of c.args.words.now)) c.args.options.now c.args.now c.args.key.now _) some finished.1
+      refused_as c.token_of-made.result c.finish.result (IssuesNothing (claim_words (words_of c.args.words.now)) c.args.options.now c.args.now c.args.key.now) some finished.1
           c.token_of-made.ensures.none,
     )

@@ -11,9 +11,9 @@ returns-clause-found g c =
 pub returns-in_err-order-clause-none : goal.returns-in_err-order-clause-none
 returns-in_err-order-clause-none g c =
     let p = err_from_is_err_and c.from_residual.result c.from_residual.ensures.1 in
-    rw (p.1, p.2) (orders_none (claim_words (words_of c.args.words.now)) c.args.options.now c.args.now c.args.key.now _ c.in_err-order.field-0.0 c.in_err-order.ensures.none)
+    rw (p.1, p.2) (orders_none (claim_words (words_of c.args.words.now)) c.args.options.now c.args.now c.args.key.now c.in_err-order.field-0.0 c.in_err-order.ensures.none)
 
 pub returns-clause-none : goal.returns-clause-none
 returns-clause-none g c =
-    issues_none (claim_words (words_of c.args.words.now)) c.args.options.now c.args.now c.args.key.now _ c.issue.result (ordered c.in_ok-order.order)
+    issues_none (claim_words (words_of c.args.words.now)) c.args.options.now c.args.now c.args.key.now c.issue.result (ordered c.in_ok-order.order)
     c.in_ok-order.ensures.found c.issue.ensures.none
