@@ -31,9 +31,9 @@ use Rattle.rusty_paseto_paserk.specs.Text.{writing}
 use Rattle.paseto_commands.specs.declared.error.ProgramError.{ProgramError}
 use Rattle.paseto_commands.specs.Check.{bound_to}
 use Rattle.paseto_commands.specs.Error.{IsOutside, Lacks}
-use Rattle.paseto_commands.specs.Issue.{AreNever, AreOrdered, BoxesClaims, DeclinesKey, IsLineOf, IsOnce, IssuesNone, Ordered, SealsClaims, SealsIn, SignsClaims, SignsIn, SignsNone, SignsOrder, keys_set}
+use Rattle.paseto_commands.specs.Issue.{AreNever, AreOrdered, BoxesClaims, IsLineOf, IsOnce, IssuesNone, Ordered, SealsClaims, SealsIn, SignsClaims, SignsIn, SignsNone, SignsOrder, keys_set}
 use Rattle.paseto_commands.specs.Local.{IsLocalKey}
-use Rattle.paseto_commands.specs.Public.{IsHalf}
+use Rattle.paseto_commands.specs.Public.{DeclinesKey, IsHalf}
 use Rattle.paseto_commands.proofs.Ids.{same_header}
 use Rattle.paseto_commands.proofs.Orders.{same_ordered}
 use Rattle.paseto_commands.proofs.Parsed.{same_binding}

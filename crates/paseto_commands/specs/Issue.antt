@@ -2,16 +2,15 @@
 use Rattle.std.specs.Prelude.{◌≡◌, ◌⊎◌, ⊤, ℕ, List, [], ◌∷◌, ◌++◌, Option, None, Some, codes, is_some, option_map, string_bytes}
 use Rattle.jiff.specs.Types.{Timestamp}
 use Rattle.serde_json.specs.Data.{Members}
-use Rattle.rusty_paseto_parts.specs.declared.error.PasetoError.{PasetoError}
 use Rattle.rusty_paseto_core.specs.Local.{Design}
 use Rattle.rusty_paseto_core.specs.Local.V1.{v1}
 use Rattle.rusty_paseto_core.specs.Local.V3.{v3}
 use Rattle.rusty_paseto_core.specs.Local.V4.{v4}
 use Rattle.rusty_paseto_core.specs.Public.{PublicDesign, v2_public, v3_public, v4_public}
-use Rattle.rusty_paseto_core.specs.Public.Scheme.{Declining, Validity}
+use Rattle.rusty_paseto_core.specs.Public.Scheme.{Validity}
 use Rattle.rusty_paseto_core.specs.Public.Signing.{IsSigning}
 use Rattle.paseto_ed25519.specs.Ed25519.{Ed25519Verifies, IsDeclined, partner}
-use Rattle.paseto_p384.specs.P384.{P384Verifies, IsDeclined as IsDeclinedByP384, p384_public}
+use Rattle.paseto_p384.specs.P384.{P384Verifies, p384_public}
 use Rattle.paseto_xchacha20poly1305.specs.Sealing.{box_sealing}
 use Rattle.rusty_paseto_generic.specs.Builders.Claims.{payload}
 use Rattle.rusty_paseto_generic.specs.Builders.GenericBuilder.{IsBoxAnswer, IsSealed}
@@ -25,7 +24,7 @@ use Rattle.paseto_commands.specs.Check.{bound_to}
 use Rattle.paseto_commands.specs.Claims.{AreClaims, AreSet, Named, all_counted, all_named}
 use Rattle.paseto_commands.specs.Footers.{IsFooter}
 use Rattle.paseto_commands.specs.Local.{IsLocalKey}
-use Rattle.paseto_commands.specs.Public.{IsHalf}
+use Rattle.paseto_commands.specs.Public.{DeclinesKey, IsDeclinedInV3, IsDeclinedInV4, IsHalf}
 use Rattle.paseto_commands.specs.Times.{IsTimeSet, SaysTime, time_counted}
 
 -- what is ordered: a moment, claims, when the token expires and when it may first be used, and its footer or none
@@ -137,18 +136,12 @@ Issues key order IsDrawn line =
 abbrev pub IssuesFor : List (List ℕ) → Options → Timestamp → List ℕ → (List ℕ → Type 0) → List ℕ → Type 0
 IssuesFor claims options now key IsDrawn line = (order : Ordered) × IsOrder claims options now order × Issues key order IsDrawn line
 
--- the line is the writing of a private key of a version, and its scheme declines the key
-pub record DeclinesKey (version : PaserkVersion) (size : ℕ) (Declined : Declining) (key : List ℕ) : Type 0 where
-  pub key_bytes : List ℕ
-  pub error : PasetoError
-  pub is_key : IsHalf version Secret size key key_bytes
-  pub declined : Declined key_bytes error
-
+-- the line is the writing of a private key of a version that its scheme declines
 abbrev pub DeclinesIn : PaserkVersion → List ℕ → Type 0
 DeclinesIn V1 = λ key. ⊥
 DeclinesIn V2 = DeclinesKey V2 64 IsDeclined
-DeclinesIn V3 = DeclinesKey V3 48 IsDeclinedByP384
-DeclinesIn V4 = DeclinesKey V4 64 IsDeclined
+DeclinesIn V3 = IsDeclinedInV3
+DeclinesIn V4 = IsDeclinedInV4
 
 abbrev pub IsDeclinedKey : List ℕ → Type 0
 IsDeclinedKey key = (version : PaserkVersion) × DeclinesIn version key
