@@ -6,6 +6,7 @@ pub mod Refusals
 pub mod Readings
 pub mod Rulings
 pub mod Orders
+pub mod Issued
 pub mod Rings
 pub mod Parsed
 pub mod Fronts

@@ -1,7 +1,7 @@
--- What is issued and parsed under the keys of lines.
-use Rattle.std.proofs.Common.{◌≡◌, ◌⊎◌, ℕ, List, [], Bool, true, false, Option, None, Some, option_map, Result, Ok, Err, IfOk, IfErr, IsErrAnd, MatchResult, String, Global, string_bytes, is_some, inl, inr, refl, sym, ap, subst₂, ◌∙◌}
+-- What is parsed under the keys of lines.
+use Rattle.std.proofs.Common.{◌≡◌, ◌⊎◌, ℕ, List, [], Bool, true, false, Option, None, Some, option_map, Result, Ok, Err, IfOk, IfErr, IsErrAnd, MatchResult, inl, inr, refl, sym, ap, subst₂, ◌∙◌}
 use Rattle.std.proofs.lemmas.List.{append_cancel_left}
-use Rattle.serde_json.specs.Data.{Data, Members}
+use Rattle.serde_json.specs.Data.{Data}
 use Rattle.serde_json.specs.View.{view}
 use Rattle.serde_json.specs.declared.value.Value.{Value}
 use Rattle.rusty_paseto_parts.proofs.SectionLemmas.{base64url-injective}
@@ -9,9 +9,7 @@ use Rattle.rusty_paseto_parts.specs.Footer.{footer_text}
 use Rattle.rusty_paseto_parts.specs.declared.texts.footer.Footer.{Footer}
 use Rattle.rusty_paseto_parts.specs.declared.texts.implicit_assertion.ImplicitAssertion.{ImplicitAssertion}
 use Rattle.rusty_paseto_core.specs.Context.{Binding, binding_of}
-use Rattle.rusty_paseto_core.specs.Local.{Design}
 use Rattle.rusty_paseto_core.specs.Reading.{Reading}
-use Rattle.rusty_paseto_generic.specs.Builders.GenericBuilder.{IsSealed}
 use Rattle.rusty_paseto_generic.specs.Error.Parser.{IsMemory}
 use Rattle.rusty_paseto_generic.specs.Parsers.Parsing.{IsParsed, assertion_in}
 use Rattle.rusty_paseto_generic.specs.Parsers.Rules.{Rules}
@@ -21,37 +19,10 @@ use Rattle.rusty_paseto_paserk.specs.Header.{header}
 use Rattle.rusty_paseto_paserk.specs.declared.header.PaserkVersion.{PaserkVersion}
 use Rattle.rusty_paseto_paserk.specs.declared.header.PaserkType.{PaserkType}
 use Rattle.paseto_commands.specs.declared.error.ProgramError.{ProgramError}
-use Rattle.paseto_commands.specs.declared.issue.Order.{Order}
 use Rattle.paseto_commands.specs.Check.{Demanded, ParsesWith, bound_to, demanded_rules}
 use Rattle.paseto_commands.specs.Claims.{are_whole}
 use Rattle.paseto_commands.specs.Error.{IsOutside, Lacks}
-use Rattle.paseto_commands.specs.Footers.{IsFooterOf}
 use Rattle.paseto_commands.specs.Id.{IsKeyLine, IsKeyOf}
-use Rattle.paseto_commands.specs.Issue.{AreOrdered, IsLineOf, SealsClaims}
-use Rattle.paseto_commands.specs.Local.{IsLocalKey}
-
--- ---- issued
-
-pub seals_line : {E F : Type 0} (version : PaserkVersion) (design : Design) (key : List ℕ) (order : Order) (IsDrawn : List ℕ → Type 0)
-    (line : Result (String Global) E) (built : Result (String Global) F) (token : String Global)
-    (key_bytes : List ℕ) (claims : Members) (footer : Option Footer) (assertion : Option ImplicitAssertion)
-    → IsLocalKey version key key_bytes → AreOrdered order claims → IsFooterOf order.footer footer → assertion ≡ None
-    → built ≡ Ok token
-    → IfOk built (λ t. IsSealed design (binding_of key_bytes footer assertion) (is_some footer) claims IsDrawn (string_bytes t))
-    → IfOk line (λ l. IsLineOf (string_bytes token) (string_bytes l))
-    → IfOk line (λ l. SealsClaims version design key order IsDrawn (string_bytes l))
-seals_line version design key order IsDrawn (Ok l) built token key_bytes claims footer assertion is_key ordered is_footer none is sealed line_is = record {
-  key_bytes = key_bytes;
-  is_key = is_key;
-  claims = claims;
-  are_ordered = ordered;
-  footer = footer;
-  is_footer = is_footer;
-  token = string_bytes token;
-  is_sealed = rw none at (rw is at sealed);
-  line_is = line_is;
-}
-seals_line version design key order IsDrawn (Err e) built token key_bytes claims footer assertion is_key ordered is_footer none is sealed line_is = tt
 
 -- ---- parsed
 

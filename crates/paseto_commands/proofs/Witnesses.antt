@@ -1,5 +1,6 @@
--- What is printed of what was parsed from words and input.
-use Rattle.std.proofs.Common.{◌≡◌, ◌⊎◌, ℕ, List, Option, None, Some, IfSome, Result, Ok, Err, IfErr, IfOk, String, Global, string_bytes, IsUtf8, inl, inr, sym, subst₂, ◌∙◌}
+-- What is printed of what was parsed from words and input, or issued of words.
+use Rattle.std.proofs.Common.{◌≡◌, ◌⊎◌, ℕ, List, Option, None, Some, IfSome, Result, Ok, Err, IfErr, IfOk, String, Global, string_bytes, IsUtf8, inl, inr, sym, subst, subst₂, ◌∙◌}
+use Rattle.std.specs.Bool.{⊤}
 use Rattle.jiff.specs.Types.{Timestamp}
 use Rattle.paseto_commands.specs.declared.arguments.Options.{Options}
 use Rattle.paseto_commands.specs.declared.check.Keys.{Keys}
@@ -7,7 +8,8 @@ use Rattle.paseto_commands.specs.Check.{AreDemands, Demanded}
 use Rattle.paseto_commands.specs.Checked.{ChecksBy, ChecksFor, ChecksNothing}
 use Rattle.paseto_commands.specs.Error.{IsOutside, Lacks}
 use Rattle.paseto_commands.specs.declared.error.ProgramError.{ProgramError}
-use Rattle.paseto_commands.proofs.Words.{same_demands}
+use Rattle.paseto_commands.specs.Issue.{IsOrder, Issues, IssuesNone, IssuesNothing, Ordered}
+use Rattle.paseto_commands.proofs.Words.{same_demands, same_order}
 use Rattle.paseto_commands.specs.Input.{line_of_input}
 
 -- what each value that is answered is, it is in other words
@@ -42,3 +44,20 @@ checks_none (Some bytes) (Err error) line text claims options now keys demands i
 checks_none (Some bytes) (Err error) line text claims options now keys demands is_line is are (inr none) = inr (λ made checks.
     let same = same_demands claims options now checks.demands demands checks.are_demands are in
     none made (subst₂ (λ (d : Demanded) (t : List ℕ). ChecksBy keys d t made) same (is_line ∙ sym is) checks.checks))
+
+-- no token is issued where words order nothing
+pub orders_none : (claims : List (List ℕ)) (options : Options) (now : Timestamp) (key : List ℕ) (error : ProgramError)
+    → Lacks (λ order. IsOrder claims options now order) error → IsOutside error ⊎ IssuesNothing claims options now key
+orders_none claims options now key error (inl outside) = inl outside
+orders_none claims options now key error (inr none) = inr (inl (λ line issues. none issues.0 issues.1))
+
+-- and where what they order has none
+pub issues_none : {T : Type 0} (claims : List (List ℕ)) (options : Options) (now : Timestamp) (key : List ℕ)
+    (result : Result T ProgramError) (order : Ordered) → IsOrder claims options now order
+    → IfErr result (λ error. IsOutside error ⊎ IssuesNone key order)
+    → IfErr result (λ error. IsOutside error ⊎ IssuesNothing claims options now key)
+issues_none claims options now key (Ok made) order is none = tt
+issues_none claims options now key (Err error) order is (inl outside) = inl outside
+issues_none claims options now key (Err error) order is (inr (inr declined)) = inr (inr declined)
+issues_none claims options now key (Err error) order is (inr (inl none)) = inr (inl (λ line issues.
+    none line (subst (λ (o : Ordered). Issues key o (λ nonce. ⊤) line) (same_order claims options now issues.0 order issues.1 is) issues.2)))

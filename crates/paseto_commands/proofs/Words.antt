@@ -10,7 +10,8 @@ use Rattle.serde_json.specs.Data.{Data}
 use Rattle.paseto_commands.specs.declared.arguments.Options.{Options}
 use Rattle.paseto_commands.specs.Check.{AreDemands, Demanded, IsCheckedAt}
 use Rattle.paseto_commands.specs.Claims.{AreClaims, IsClaimOf, IsNamed, Named, front}
-use Rattle.paseto_commands.specs.Times.{HasUnit, IsAfter, IsLength, IsNumber, SaysMoment, SaysNone, unit_of}
+use Rattle.paseto_commands.specs.Issue.{IsOrder, Ordered}
+use Rattle.paseto_commands.specs.Times.{HasUnit, IsAfter, IsLength, IsNumber, SaysMoment, SaysNone, SaysTime, unit_of}
 
 -- ---- moments
 
@@ -119,3 +120,21 @@ same_demands claims options now first second a b =
     let named = same_claims claims first.claims second.claims a.are_claims b.are_claims in
     let footer = a.footer ∙ sym b.footer in
     λ i. record { at = at i; claims = named i; footer = footer i }
+
+-- ---- orders
+
+same_time : (word : Option (List ℕ)) (now : Timestamp) (one two : Option Timestamp) → SaysTime word now one → SaysTime word now two → one ≡ two
+same_time None now one two a b = a ∙ sym b
+same_time (Some word) now None two a b = absurd a
+same_time (Some word) now (Some one) None a b = absurd b
+same_time (Some word) now (Some one) (Some two) a b = ap (λ (t : Timestamp). Some t) (same_moment word now one two a b)
+
+pub same_order : (claims : List (List ℕ)) (options : Options) (now : Timestamp) (first second : Ordered)
+    → IsOrder claims options now first → IsOrder claims options now second → first ≡ second
+same_order claims options now first second a b =
+    let at = a.moment ∙ sym b.moment in
+    let named = same_claims claims first.claims second.claims a.are_claims b.are_claims in
+    let expiry = same_time _ now first.expires second.expires a.expires b.expires in
+    let begin = same_time _ now first.not_before second.not_before a.not_before b.not_before in
+    let footer = a.footer ∙ sym b.footer in
+    λ i. record { moment = at i; claims = named i; expires = expiry i; not_before = begin i; footer = footer i }

@@ -9,6 +9,7 @@ use Rattle.rusty_paseto_claims.specs.Claim.{gives, one_member}
 use Rattle.rusty_paseto_claims.specs.Whole.{is_whole}
 use Rattle.rusty_paseto_generic.specs.Builders.Claims.{becomes, claim_set}
 use Rattle.rusty_paseto_generic.specs.Parsers.Rules.{Rules, edited, with_stored}
+use Rattle.rusty_paseto.specs.PasetoBuilder.{Counting, counted}
 use Rattle.paseto_commands.specs.declared.claims.NamedClaim.{NamedClaim}
 
 -- a claim's name and its value
@@ -68,6 +69,15 @@ are_whole (claim ∷ claims) = is_whole (json_of claim) && are_whole claims
 abbrev pub AreSet : List Named → Members → Members → Type 0
 AreSet [] old new = new ≡ old
 AreSet (claim ∷ claims) old new = (next : Members) × (claim_set claim.name (gives (json_of claim)) old ≡ becomes next) × AreSet claims next new
+
+-- the claims cannot be set, whatever a builder holds
+abbrev pub AreNeverSet : List Named → Type 0
+AreNeverSet claims = (old new : Members) → ¬ AreSet claims old new
+
+-- the keys that a builder counts, when these are set
+abbrev pub all_counted : List Named → Counting → Counting
+all_counted [] old = old
+all_counted (claim ∷ claims) old = all_counted claims (counted claim.name old)
 
 -- what a parser checks, when these are demanded, in their order
 abbrev pub all_demanded : {J : Type 0} → List Named → Rules J → Rules J

@@ -4,7 +4,7 @@ use Rattle.base64.specs.GeneralPurpose.{IsBytes}
 use Rattle.rusty_paseto_parts.specs.PublicKey.{is_compressed}
 use Rattle.rusty_paseto_core.specs.Context.{binding_of}
 use Rattle.rusty_paseto_core.specs.Public.{PublicDesign, v3_public, v4_public}
-use Rattle.rusty_paseto_core.specs.Public.Scheme.{Refusal, Validity}
+use Rattle.rusty_paseto_core.specs.Public.Scheme.{Declining, Refusal, Validity}
 use Rattle.rusty_paseto_core.specs.Public.Signing.{IsSigning}
 use Rattle.rusty_paseto_core.specs.Public.Verifying.{verification}
 use Rattle.rusty_paseto_core.specs.Reading.{IsRead}
@@ -70,18 +70,18 @@ abbrev pub VerifiesBy : List ℕ → Options → List ℕ → List ℕ → Type 
 VerifiesBy key options input text =
     VerifiesInV3 key options (line_of_input input) text ⊎ VerifiesInV4 key options (line_of_input input) text
 
--- the line is the writing of a private key that its scheme declines
-pub record IsDeclinedInV3 (key : List ℕ) : Type 0 where
+-- the line is the writing of a private key of a version, and its scheme declines the key
+pub record DeclinesKey (version : PaserkVersion) (size : ℕ) (Declined : Declining) (key : List ℕ) : Type 0 where
   pub key_bytes : List ℕ
   pub error : PasetoError
-  pub is_key : IsHalf V3 Secret 48 key key_bytes
-  pub declined : IsDeclinedByP384 key_bytes error
+  pub is_key : IsHalf version Secret size key key_bytes
+  pub declined : Declined key_bytes error
 
-pub record IsDeclinedInV4 (key : List ℕ) : Type 0 where
-  pub key_bytes : List ℕ
-  pub error : PasetoError
-  pub is_key : IsHalf V4 Secret 64 key key_bytes
-  pub declined : IsDeclined key_bytes error
+abbrev pub IsDeclinedInV3 : List ℕ → Type 0
+IsDeclinedInV3 = DeclinesKey V3 48 IsDeclinedByP384
+
+abbrev pub IsDeclinedInV4 : List ℕ → Type 0
+IsDeclinedInV4 = DeclinesKey V4 64 IsDeclined
 
 -- no line is printed for the key and the text: there is no private key of version 3 or 4, or no text, or the scheme
 -- declines the key, as one whose halves do not belong together

@@ -6,7 +6,9 @@ use Rattle.jiff.specs.Types.{DateTime, Timestamp}
 use Rattle.jiff.specs.Words.{civil_nanos, parse_timestamp}
 use Rattle.serde_json.specs.Data.{Members, string}
 use Rattle.rusty_paseto_claims.specs.Claim.{gives, one_member}
+use Rattle.rusty_paseto_claims.specs.DateClaim.{IsDate}
 use Rattle.rusty_paseto_generic.specs.Builders.Claims.{becomes, claim_set}
+use Rattle.rusty_paseto.specs.PasetoBuilder.{Counting, counted}
 
 -- the word is this number in decimal digits, behind a plus or none, and it is one of 32 bits
 pub record IsNumber (word : List ℕ) (number : ℕ) : Type 0 where
@@ -60,7 +62,17 @@ SaysTime (Some word) now (Some moment) = SaysMoment word now moment
 abbrev pub IsMomentText : Timestamp → List ℕ → Type 0
 IsMomentText moment text = (civil : DateTime) × (civil_nanos civil ≡ moment.nanosecond) × (text ≡ iso_datetime_text civil ++ codes "Z")
 
--- the claims of a builder, when the claim of a moment is set, where there is one
+-- the claims of a builder, when the claim of a moment is set, where there is one: its text is read as a moment again
 abbrev pub IsTimeSet : List ℕ → Option Timestamp → Members → Members → Type 0
 IsTimeSet key None old new = new ≡ old
-IsTimeSet key (Some moment) old new = (text : List ℕ) × IsMomentText moment text × (claim_set key (gives (one_member key (string text))) old ≡ becomes new)
+IsTimeSet key (Some moment) old new = (text : List ℕ) × IsMomentText moment text × IsDate text
+    × (claim_set key (gives (one_member key (string text))) old ≡ becomes new)
+
+-- the claim cannot be set, whatever a builder holds
+abbrev pub IsNeverSet : List ℕ → Option Timestamp → Type 0
+IsNeverSet key moment = (old new : Members) → ¬ IsTimeSet key moment old new
+
+-- the keys that a builder counts, when the claim of a moment is set, where there is one
+abbrev pub time_counted : List ℕ → Option Timestamp → Counting → Counting
+time_counted key None old = old
+time_counted key (Some moment) old = counted key old

@@ -1,14 +1,18 @@
 //! The command `issue`: a token of claims, by the default builder.
 
-ghost use Rattle.std.specs.Prelude.{◌≡◌, ◌++◌, ◌∷◌, [], None, IfErr, IfOk, OnOk, codes, option_map, string_bytes};
+ghost use Rattle.std.specs.Prelude.{◌≡◌, ◌⊎◌, ⊤, ◌++◌, ◌∷◌, ℕ, List, [], None, IfErr, IfOk, OnOk, codes, option_map, string_bytes};
 ghost use Rattle.rusty_paseto_generic.specs.Builders.Held.{held};
-ghost use Rattle.rusty_paseto_core.specs.Local.V1.{v1};
+ghost use Rattle.rusty_paseto_parts.specs.Footer.{footer_text};
+ghost use Rattle.rusty_paseto_core.specs.Public.{HasPrivateLength};
+ghost use Rattle.rusty_paseto_core.specs.declared.PasetoError.{PasetoError as TokenError};
+ghost use Rattle.rusty_paseto.specs.Held.{counting};
+ghost use Rattle.rusty_paseto.specs.PasetoBuilder.{IsSame};
+ghost use Rattle.rusty_paseto_paserk.specs.declared.header.PaserkVersion.TheVariants.{V2 as K2, V3 as K3, V4 as K4};
 ghost use Rattle.paseto_commands.specs.Arguments.{claim_words, words_of};
-ghost use Rattle.paseto_commands.specs.Claims.{AreSet, all_named};
-ghost use Rattle.paseto_commands.specs.Error.{IsOutside};
-ghost use Rattle.paseto_commands.specs.Footers.{IsFooterOf};
-ghost use Rattle.paseto_commands.specs.Issue.{AreOrdered, BoxesClaims, IsLineOf, IsOrder, Issues, SealsClaims, SignsAny, SignsOrder};
-ghost use Rattle.paseto_commands.specs.Times.{IsTimeSet, SaysTime};
+ghost use Rattle.paseto_commands.specs.Claims.{AreNeverSet, AreSet, all_counted, all_named};
+ghost use Rattle.paseto_commands.specs.Error.{IsOutside, Lacks};
+ghost use Rattle.paseto_commands.specs.Issue.{AreNever, AreOrdered, BoxesClaims, IsLineOf, IsOrder, Issues, IssuesNone, SealsClaims, SealsIn, SignsIn, SignsNone, SignsOrder, keys_set, ordered};
+ghost use Rattle.paseto_commands.specs.Times.{IsNeverSet, IsTimeSet, SaysTime, time_counted};
 
 use crate::answers::built;
 use crate::arguments::Options;
@@ -50,8 +54,10 @@ impl Order {
         options: &Options<'_>,
         now: Timestamp,
     ) -> Result<Order, ProgramError>
-        ensures { IfOk result (λ order. IsOrder (claim_words (words_of words.now)) options.now now
-            order) }
+        ensures found { IfOk result (λ order. IsOrder
+            (claim_words (words_of words.now)) options.now now (ordered order)) }
+        ensures none { IfErr result (Lacks (λ order. IsOrder
+            (claim_words (words_of words.now)) options.now now order)) }
     {
         Ok(Order {
             moment: now,
@@ -65,8 +71,10 @@ impl Order {
 
 /// The moment that a word says, where there is one.
 fn time_of(word: Option<&str>, now: Timestamp) -> Result<Option<Timestamp>, ProgramError>
-    ensures { IfOk result (λ moment. SaysTime
+    ensures found { IfOk result (λ moment. SaysTime
         (option_map (λ text. text.now) word.entry) now moment) }
+    ensures none { IfErr result (Lacks (λ moment. SaysTime
+        (option_map (λ text. text.now) word.entry) now moment)) }
 {
     let Some(word) = word else {
         return Ok(None);
@@ -84,21 +92,65 @@ pub fn issue<G: TryRng>(
     order: &Order,
     generator: &mut G,
 ) -> Result<String, ProgramError>
-    ensures { IfOk result (λ line. Issues key.now order.now
+    ensures found { IfOk result (λ line. Issues key.now (ordered order.now)
         (λ nonce. G.may_fill generator.old nonce generator.new) (string_bytes line)) }
+    ensures none { IfErr result (λ error. IsOutside error
+        ⊎ IssuesNone key.now (ordered order.now)) }
 {
     match header_of(key) {
-        Some((PaserkVersion::V1, PaserkType::Local, _)) => sealed::<V1, G>(
-            alloc, key, order, generator,
+        Some((version, PaserkType::Local, _)) => by_local_key(
+            alloc, version, key, order, generator,
         ),
-        Some((PaserkVersion::V3, PaserkType::Local, _)) => sealed::<V3, G>(
-            alloc, key, order, generator,
-        ),
-        Some((PaserkVersion::V4, PaserkType::Local, _)) => sealed::<V4, G>(
-            alloc, key, order, generator,
-        ),
-        Some((PaserkVersion::V2, PaserkType::Local, _)) => boxed(alloc, key, order, generator),
-        _ => signed(alloc, key, order),
+        Some((version, PaserkType::Secret, _)) => by_private_key(alloc, version, key, order),
+        Some((version, PaserkType::Public, _)) => Err(ProgramError::Key(no_issuer(version))),
+        None => Err(ProgramError::Key(PaserkError::NoKey)),
+    }
+}
+
+/// Why a public key issues no token: it is of a version that has none here, or of another type.
+fn no_issuer(version: PaserkVersion) -> PaserkError {
+    match version {
+        PaserkVersion::V1 => PaserkError::OtherVersion(version),
+        _ => PaserkError::OtherType(PaserkType::Public),
+    }
+}
+
+fn by_local_key<G: TryRng>(
+    alloc: Global,
+    version: PaserkVersion,
+    key: &str,
+    order: &Order,
+    generator: &mut G,
+) -> Result<String, ProgramError>
+    ensures found { IfOk result (λ line. SealsIn version key.now (ordered order.now)
+        (λ nonce. G.may_fill generator.old nonce generator.new) (string_bytes line)) }
+    ensures none { IfErr result (Lacks (λ line. SealsIn version key.now (ordered order.now)
+        (λ nonce. ⊤) line)) }
+{
+    match version {
+        PaserkVersion::V1 => sealed::<V1, G>(alloc, key, order, generator),
+        PaserkVersion::V2 => boxed(alloc, key, order, generator),
+        PaserkVersion::V3 => sealed::<V3, G>(alloc, key, order, generator),
+        PaserkVersion::V4 => sealed::<V4, G>(alloc, key, order, generator),
+    }
+}
+
+fn by_private_key(
+    alloc: Global,
+    version: PaserkVersion,
+    key: &str,
+    order: &Order,
+) -> Result<String, ProgramError>
+    ensures found { IfOk result (λ line. SignsIn version key.now (ordered order.now)
+        (string_bytes line)) }
+    ensures none { IfErr result (λ error. IsOutside error
+        ⊎ SignsNone version key.now (ordered order.now)) }
+{
+    match version {
+        PaserkVersion::V1 => Err(ProgramError::Key(PaserkError::OtherVersion(version))),
+        PaserkVersion::V2 => signed_in_v2(alloc, key, order),
+        PaserkVersion::V3 => signed_in_v3(alloc, key, order),
+        PaserkVersion::V4 => signed_in_v4(alloc, key, order),
     }
 }
 
@@ -108,11 +160,13 @@ fn sealed<V: DefaultLocalVersion + KeyVersion, G: TryRng>(
     order: &Order,
     generator: &mut G,
 ) -> Result<String, ProgramError>
-    ensures { IfOk result (λ line. SealsClaims V.paserk V.design key.now order.now
+    ensures found { IfOk result (λ line. SealsClaims V.paserk V.design key.now (ordered order.now)
         (λ nonce. G.may_fill generator.old nonce generator.new) (string_bytes line)) }
+    ensures none { IfErr result (Lacks (λ line.
+        SealsClaims V.paserk V.design key.now (ordered order.now) (λ nonce. ⊤) line)) }
 {
     let key = local_from_paserk::<V>(alloc, key)?;
-    let builder = ordered::<V, Local>(alloc, order)?;
+    let builder = builder_of::<V, Local>(alloc, order)?;
     with_line_feed(built(alloc, builder.build(generator, &key))?)
 }
 
@@ -122,73 +176,82 @@ fn boxed<G: TryRng>(
     order: &Order,
     generator: &mut G,
 ) -> Result<String, ProgramError>
-    ensures { IfOk result (λ line. BoxesClaims key.now order.now
+    ensures found { IfOk result (λ line. BoxesClaims key.now (ordered order.now)
         (λ nonce. G.may_fill generator.old nonce generator.new) (string_bytes line)) }
+    ensures none { IfErr result (Lacks (λ line. BoxesClaims key.now (ordered order.now)
+        (λ nonce. ⊤) line)) }
 {
     let key = local_from_paserk::<V2>(alloc, key)?;
-    let builder = ordered::<V2, Local>(alloc, order)?;
+    let builder = builder_of::<V2, Local>(alloc, order)?;
     let token = builder.build(&XChaCha20Poly1305, generator, &key);
     with_line_feed(built(alloc, token)?)
 }
 
-/// The same by a private key.
-fn signed(alloc: Global, key: &str, order: &Order) -> Result<String, ProgramError>
-    ensures { IfOk result (λ line. SignsAny key.now order.now (string_bytes line)) }
+fn signed_in_v2(alloc: Global, key: &str, order: &Order) -> Result<String, ProgramError>
+    ensures found { IfOk result (λ line. SignsIn K2 key.now (ordered order.now)
+        (string_bytes line)) }
+    ensures none { IfErr result (λ error. IsOutside error
+        ⊎ SignsNone K2 key.now (ordered order.now)) }
 {
-    match header_of(key) {
-        Some((PaserkVersion::V2, _, _)) => {
-            let key = secret_from_paserk::<V2, 64>(alloc, key)?;
-            signed_by::<V2, Ed25519>(
-                alloc,
-                &mut Ed25519,
-                &PasetoAsymmetricPrivateKey::from(&key),
-                order,
-            )
-        }
-        Some((PaserkVersion::V3, _, _)) => {
-            let key = secret_from_paserk::<V3, 48>(alloc, key)?;
-            signed_by::<V3, P384>(
-                alloc,
-                &mut P384,
-                &PasetoAsymmetricPrivateKey::from(&key),
-                order,
-            )
-        }
-        Some((PaserkVersion::V4, _, _)) => {
-            let key = secret_from_paserk::<V4, 64>(alloc, key)?;
-            signed_by::<V4, Ed25519>(
-                alloc,
-                &mut Ed25519,
-                &PasetoAsymmetricPrivateKey::from(&key),
-                order,
-            )
-        }
-        Some((version, _, _)) => Err(ProgramError::Key(PaserkError::OtherVersion(version))),
-        None => Err(ProgramError::Key(PaserkError::NoKey)),
-    }
+    let key = secret_from_paserk::<V2, 64>(alloc, key)?;
+    let private = PasetoAsymmetricPrivateKey::<V2, Public>::from(&key);
+    signed(alloc, &mut Ed25519, &private, order)
 }
 
-fn signed_by<V: Signs<S>, S>(
+fn signed_in_v3(alloc: Global, key: &str, order: &Order) -> Result<String, ProgramError>
+    ensures found { IfOk result (λ line. SignsIn K3 key.now (ordered order.now)
+        (string_bytes line)) }
+    ensures none { IfErr result (λ error. IsOutside error
+        ⊎ SignsNone K3 key.now (ordered order.now)) }
+{
+    let key = secret_from_paserk::<V3, 48>(alloc, key)?;
+    let private = PasetoAsymmetricPrivateKey::<V3, Public>::from(&key);
+    signed(alloc, &mut P384, &private, order)
+}
+
+fn signed_in_v4(alloc: Global, key: &str, order: &Order) -> Result<String, ProgramError>
+    ensures found { IfOk result (λ line. SignsIn K4 key.now (ordered order.now)
+        (string_bytes line)) }
+    ensures none { IfErr result (λ error. IsOutside error
+        ⊎ SignsNone K4 key.now (ordered order.now)) }
+{
+    let key = secret_from_paserk::<V4, 64>(alloc, key)?;
+    let private = PasetoAsymmetricPrivateKey::<V4, Public>::from(&key);
+    signed(alloc, &mut Ed25519, &private, order)
+}
+
+fn signed<V: Signs<S>, S>(
     alloc: Global,
     scheme: &mut S,
     key: &PasetoAsymmetricPrivateKey<'_, V, Public>,
     order: &Order,
 ) -> Result<String, ProgramError>
-    ensures { IfOk result (λ line. SignsOrder V.valid V.public_design (V.partner key.now) order.now
+    ensures found { IfOk result (λ line.
+        SignsOrder V.valid V.public_design (V.partner key.now) (ordered order.now)
         (string_bytes line)) }
+    ensures none { HasPrivateLength V.public_design key.now
+        → IfErr result (λ error. IsOutside error
+        ⊎ (((line : List ℕ)
+        → ¬ SignsOrder V.valid V.public_design (V.partner key.now) (ordered order.now) line)
+        ⊎ ((source : TokenError) × V.declined key.now source))) }
 {
-    let builder = ordered::<V, Public>(alloc, order)?;
+    let builder = builder_of::<V, Public>(alloc, order)?;
     with_line_feed(built(alloc, builder.build(scheme, key))?)
 }
 
 /// A default builder with what is ordered.
-fn ordered<'o, V: VersionTrait, P: PurposeTrait>(
+fn builder_of<'o, V: VersionTrait, P: PurposeTrait>(
     alloc: Global,
     order: &'o Order,
 ) -> Result<PasetoBuilder<'o, V, P>, ProgramError>
-    ensures claims { IfOk result (λ made. AreOrdered order.now (held made.builder.claims)) }
-    ensures footer { IfOk result (λ made. IsFooterOf order.now.footer made.builder.paseto.footer) }
+    ensures claims { IfOk result (λ made. AreOrdered (ordered order.now)
+        (held made.builder.claims)) }
+    ensures keys { IfOk result (λ made. IsSame (keys_set (ordered order.now))
+        (counting made.keys)) }
+    ensures footer { IfOk result (λ made. option_map footer_text made.builder.paseto.footer
+        ≡ option_map string_bytes order.now.footer) }
     ensures assertion { IfOk result (λ made. made.builder.paseto.implicit_assertion ≡ None) }
+    ensures never { IfErr result (λ error. IsOutside error ⊎ AreNever (ordered order.now)) }
 {
     if !fits_default(order.moment) {
         return Err(ProgramError::Clock);
@@ -210,7 +273,11 @@ fn set_claims<V: VersionTrait, P: PurposeTrait>(
 ) -> Result<(), ProgramError>
     ensures set { OnOk result (AreSet (all_named claims.now) (held builder.old.builder.claims)
         (held builder.new.builder.claims)) }
+    ensures keys { OnOk result (IsSame
+        (all_counted (all_named claims.now) (counting builder.old.keys))
+        (counting builder.new.keys)) }
     ensures rest { builder.new.builder.paseto ≡ builder.old.builder.paseto }
+    ensures never { IfErr result (λ error. IsOutside error ⊎ AreNeverSet (all_named claims.now)) }
 {
     let [claim, rest @ ..] = claims else {
         return Ok(());
@@ -226,7 +293,11 @@ fn set_expiry<V: VersionTrait, P: PurposeTrait>(
 ) -> Result<(), ProgramError>
     ensures set { OnOk result (IsTimeSet (codes "exp") moment (held builder.old.builder.claims)
         (held builder.new.builder.claims)) }
+    ensures keys { OnOk result (IsSame
+        (time_counted (codes "exp") moment (counting builder.old.keys))
+        (counting builder.new.keys)) }
     ensures rest { builder.new.builder.paseto ≡ builder.old.builder.paseto }
+    ensures never { IfErr result (λ error. IsOutside error ⊎ IsNeverSet (codes "exp") moment) }
 {
     let Some(moment) = moment else {
         return Ok(());
@@ -242,7 +313,11 @@ fn set_begin<V: VersionTrait, P: PurposeTrait>(
 ) -> Result<(), ProgramError>
     ensures set { OnOk result (IsTimeSet (codes "nbf") moment (held builder.old.builder.claims)
         (held builder.new.builder.claims)) }
+    ensures keys { OnOk result (IsSame
+        (time_counted (codes "nbf") moment (counting builder.old.keys))
+        (counting builder.new.keys)) }
     ensures rest { builder.new.builder.paseto ≡ builder.old.builder.paseto }
+    ensures never { IfErr result (λ error. IsOutside error ⊎ IsNeverSet (codes "nbf") moment) }
 {
     let Some(moment) = moment else {
         return Ok(());

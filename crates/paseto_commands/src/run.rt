@@ -6,7 +6,7 @@ ghost use Rattle.std.specs.Io.KnownBytes.{Appends};
 ghost use Rattle.paseto_commands.specs.Arguments.{claim_words, words_of};
 ghost use Rattle.paseto_commands.specs.Checked.{ChecksFor, ChecksNothing};
 ghost use Rattle.paseto_commands.specs.Id.{Identifies, IdentifiesNothing};
-ghost use Rattle.paseto_commands.specs.Issue.{IssuesFor};
+ghost use Rattle.paseto_commands.specs.Issue.{IssuesFor, IssuesNothing};
 ghost use Rattle.paseto_commands.specs.declared.error.ProgramError.{ProgramError};
 ghost use Rattle.paseto_commands.specs.Error.{IsOutside, line_of, status_of};
 ghost use Rattle.paseto_commands.specs.Input.{line_of_input};
@@ -183,7 +183,8 @@ pub fn run_issue<G: TryRng, W: Write, E: Write>(
         × Appends (W.contents output.old) (W.contents output.new) written
         × IssuesFor (claim_words (words_of words.now)) options.now now key.now
         (λ nonce. G.may_fill generator.old nonce generator.new) written }
-    ensures refused { (result ≡ 1) ⊎ (result ≡ 2) → output.new ≡ output.old }
+    ensures refused { (result ≡ 1) ⊎ (result ≡ 2) → (output.new ≡ output.old)
+        × IssuesNothing (claim_words (words_of words.now)) options.now now key.now }
     ensures quiet { result ≡ 0 → errors.new ≡ errors.old }
     ensures said { result ≢ 0 → (error : ProgramError) × (status_of error ≡ result)
         × ((said : List ℕ) × StartsWith (line_of error) said × Appends (E.contents errors.old)
@@ -202,9 +203,11 @@ fn token_of<G: TryRng>(
     now: Timestamp,
     generator: &mut G,
 ) -> Result<String, ProgramError>
-    ensures { IfOk result (λ line. IssuesFor
+    ensures found { IfOk result (λ line. IssuesFor
         (claim_words (words_of words.now)) options.now now key.now
         (λ nonce. G.may_fill generator.old nonce generator.new) (string_bytes line)) }
+    ensures none { IfErr result (λ error. IsOutside error
+        ⊎ IssuesNothing (claim_words (words_of words.now)) options.now now key.now) }
 {
     let order = Order::parse(alloc, words, options, now)?;
     issue(alloc, key, &order, generator)

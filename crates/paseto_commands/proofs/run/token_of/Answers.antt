@@ -1,5 +1,19 @@
-use Rattle.paseto_commands.proofs.Witnesses.{in_other_words}
+use Rattle.std.proofs.lemmas.Result.{err_from_is_err_and}
+use Rattle.paseto_commands.specs.Arguments.{claim_words, words_of}
+use Rattle.paseto_commands.specs.Issue.{ordered}
+use Rattle.paseto_commands.proofs.Witnesses.{in_other_words, issues_none, orders_none}
 use Rattle.paseto_commands.proofs.run.token_of.Goals as goal
 
-pub returns : goal.returns
-returns g c = in_other_words c.issue.result _ _ (λ line is. (c.in_ok-order.order, c.in_ok-order.ensures, is)) c.issue.ensures
+pub returns-clause-found : goal.returns-clause-found
+returns-clause-found g c =
+    in_other_words c.issue.result _ _ (λ line is. (ordered c.in_ok-order.order, c.in_ok-order.ensures.found, is)) c.issue.ensures.found
+
+pub returns-in_err-order-clause-none : goal.returns-in_err-order-clause-none
+returns-in_err-order-clause-none g c =
+    let p = err_from_is_err_and c.from_residual.result c.from_residual.ensures.1 in
+    rw (p.1, p.2) (orders_none (claim_words (words_of c.args.words.now)) c.args.options.now c.args.now c.args.key.now c.in_err-order.field-0.0 c.in_err-order.ensures.none)
+
+pub returns-clause-none : goal.returns-clause-none
+returns-clause-none g c =
+    issues_none (claim_words (words_of c.args.words.now)) c.args.options.now c.args.now c.args.key.now c.issue.result (ordered c.in_ok-order.order)
+    c.in_ok-order.ensures.found c.issue.ensures.none
