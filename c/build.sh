@@ -2,19 +2,21 @@
 # Builds the library for C and installs it: PREFIX/lib/libpaseto.a and libpaseto.so, PREFIX/include/paseto.h and
 # PREFIX/lib/pkgconfig/paseto.pc.
 #
-#   c/build.sh PREFIX [--cpu NAME]
+#   c/build.sh PREFIX [--cpu NAME | --built]
 #
 # --cpu builds for another processor than the default, as x86-64-v3. The library is proved first, which takes some
-# minutes where no check has kept its work.
+# minutes where no check has kept its work. --built takes crates/paseto_c/out/libpaseto_c.a as it stands.
 set -euo pipefail
 
-if [ $# -lt 1 ] || { [ $# -ne 1 ] && { [ $# -ne 3 ] || [ "$2" != --cpu ]; }; }; then
-    echo 'usage: c/build.sh PREFIX [--cpu NAME]' >&2
-    exit 2
-fi
+case "$# ${2-}" in
+    '1 ' | '2 --built' | '3 --cpu') ;;
+    *)
+        echo 'usage: c/build.sh PREFIX [--cpu NAME | --built]' >&2
+        exit 2 ;;
+esac
 mkdir -p "$1"
 prefix=$(cd "$1" && pwd)
-cpu=("${@:2}")
+options=("${@:2}")
 here=$(cd "$(dirname "$0")" && pwd)
 crate=$here/../crates/paseto_c
 
@@ -27,7 +29,7 @@ done
 
 work=$(mktemp -d)
 trap 'rm -rf "$work"' EXIT
-if ! (cd "$crate" && rt lib "${cpu[@]}") >"$work/log" 2>&1; then
+if [ "${2-}" != --built ] && ! (cd "$crate" && rt lib "${options[@]}") >"$work/log" 2>&1; then
     tail -5 "$work/log" >&2
     exit 1
 fi

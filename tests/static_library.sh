@@ -1,0 +1,54 @@
+#!/usr/bin/env bash
+# Builds a static library, crates/CRATE/out/libCRATE.a, over the libraries that `rt ci` has just proved and left in the
+# crates' out/. `rt lib` makes the same, but it proves every library below once more, since it takes none that another
+# command built.
+#
+#   tests/static_library.sh CRATE
+#
+# It is for the gate, right after `rt ci`. The crate itself is proved here, as the toolchain builds no other. Where a
+# library below is a session's own (it has a stamp), or is not there, `rt lib` does it all.
+set -euo pipefail
+
+crate=${1:?usage: tests/static_library.sh CRATE}
+cd "$(dirname "$0")/.."
+root=$PWD
+kit=$(dirname "$(rt doc)")
+
+# The names that a crate's line in crates.txt has behind the colon.
+named() {
+    sed -nE "s/^$1( staticlib)?: *//p" crates.txt
+}
+
+declare -A below=()
+
+# Adds the crate's libraries of this repository to `below`, and theirs.
+add_below() {
+    local name
+    for name in $(named "$1"); do
+        if [ -d "crates/$name" ] && [ -z "${below[$name]-}" ]; then
+            below[$name]=1
+            add_below "$name"
+        fi
+    done
+}
+
+add_below "$crate"
+words=(--crate-name "$crate" src/lib.rt --extern "std=$kit/rlibs/std.rlib" -L "dependency=$kit/rlibs")
+for name in "${!below[@]}"; do
+    rlib=$root/crates/$name/out/rlib
+    if [ ! -d "$rlib/$name.rlib" ] || [ -e "$rlib/stamp" ]; then
+        cd "crates/$crate"
+        exec rt lib
+    fi
+    words+=(-L "dependency=$rlib")
+done
+for name in $(named "$crate"); do
+    rlib=$kit/rlibs/$name.rlib
+    [ -z "${below[$name]-}" ] || rlib=$root/crates/$name/out/rlib/$name.rlib
+    words+=(--extern "$name=$rlib")
+done
+mkdir -p "crates/$crate/out"
+cd "crates/$crate"
+exec "$kit/bin/rattle" build "${words[@]}" --crate-type staticlib --links "$crate=" --jobs 1 --backend llvm \
+    --antt-project "$kit/rattle/logic/antt-project.json" --logic-built "$kit/logic_built" \
+    --toolchain "$kit/toolchain" -o "out/lib$crate.a"
