@@ -4,11 +4,13 @@
 ghost use Rattle.std.specs.Prelude.{◌≡◌, drop};
 
 use jiff::Timestamp;
-use paseto_commands::keygen::keygen;
-use paseto_commands::run::{run, run_check, run_id, run_inspect, run_issue};
-use paseto_commands::{
-    Action, Command, Keys, Kind, Options, ProgramError, Task, VERSION, help_of, key_lines, opened,
-    read_key_line, write_whole,
+use paseto_commands::run::{run_check, run_issue};
+use paseto_commands::{Keys, key_lines, opened};
+use paseto_tasks::keygen::keygen;
+use paseto_tasks::run::{run, run_id, run_inspect};
+use paseto_tasks::{
+    Action, Command, Kind, Options, ProgramError, Task, VERSION, help_of, read_key_line,
+    write_whole,
 };
 use rand::rngs::SysRng;
 use std::fs::File;
@@ -128,7 +130,7 @@ fn tell_id(rt: &HostRuntime, options: &Options<'_>) -> Result<u8, ProgramError> 
 /// Issues a token at the present second.
 fn issue_by(rt: &HostRuntime, words: &[String], options: &Options<'_>) -> Result<u8, ProgramError> {
     let line = key_line(rt, options)?;
-    let now = Timestamp::from_second(clock(rt)?.as_second())?;
+    let now = second_of(clock(rt)?)?;
     Ok(run_issue(
         rt.alloc(),
         words,
@@ -139,6 +141,14 @@ fn issue_by(rt: &HostRuntime, words: &[String], options: &Options<'_>) -> Result
         &mut rt.stdout(),
         &mut rt.stderr(),
     ))
+}
+
+/// The second in which a moment lies.
+fn second_of(moment: Timestamp) -> Result<Timestamp, ProgramError> {
+    match Timestamp::from_second(moment.as_second()) {
+        Ok(second) => Ok(second),
+        Err(_) => Err(ProgramError::Clock),
+    }
 }
 
 /// Checks a token at the present moment.

@@ -20,9 +20,9 @@ use Rattle.rusty_paseto_paserk.specs.declared.header.PaserkVersion.{PaserkVersio
 use Rattle.rusty_paseto_paserk.specs.declared.header.PaserkVersion.TheVariants.{V1, V2, V3, V4}
 use Rattle.rusty_paseto_paserk.specs.declared.header.PaserkType.{PaserkType}
 use Rattle.rusty_paseto_paserk.specs.declared.header.PaserkType.TheVariants.{Local, Secret, Public}
-use Rattle.paseto_commands.specs.declared.error.ProgramError.{ProgramError}
+use Rattle.paseto_tasks.specs.declared.error.ProgramError.{ProgramError}
 use Rattle.paseto_commands.specs.Check.{Demanded, bound_to}
-use Rattle.paseto_commands.specs.Error.{Lacks}
+use Rattle.paseto_tasks.specs.Error.{Lacks}
 use Rattle.paseto_commands.specs.Readers.{IsReader, reading_of, type_in, version_in}
 use Rattle.paseto_commands.specs.Ring.{ParsesByRing, ParsesIn}
 

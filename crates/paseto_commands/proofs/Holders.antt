@@ -5,11 +5,11 @@ use Rattle.serde_json.specs.Data.{Data}
 use Rattle.rusty_paseto_paserk.specs.declared.header.PaserkVersion.{PaserkVersion}
 use Rattle.rusty_paseto_paserk.specs.declared.header.PaserkType.{PaserkType}
 use Rattle.rusty_paseto_paserk.specs.Header.{HasNoHeader, header}
-use Rattle.paseto_commands.specs.declared.error.ProgramError.{ProgramError}
+use Rattle.paseto_tasks.specs.declared.error.ProgramError.{ProgramError}
 use Rattle.paseto_commands.specs.Check.{Demanded, ParsesByKey, ParsesWith}
-use Rattle.paseto_commands.specs.Error.{Lacks}
+use Rattle.paseto_tasks.specs.Error.{Lacks}
 use Rattle.paseto_commands.specs.Readers.{IsReader, reading_of}
-use Rattle.paseto_commands.proofs.Ids.{same_header}
+use Rattle.paseto_tasks.proofs.Ids.{same_header}
 
 module _ (kind : PaserkType) (version : PaserkVersion) (line rest : List ℕ) (demands : Demanded) (timed : Bool) (token : List ℕ)
     (begins : line ≡ header version kind ++ rest) where

@@ -28,13 +28,14 @@ use Rattle.rusty_paseto_paserk.specs.declared.header.PaserkType.{PaserkType}
 use Rattle.rusty_paseto_paserk.specs.declared.header.PaserkType.TheVariants.{Local, Secret, Public}
 use Rattle.rusty_paseto_paserk.specs.Header.{HasNoHeader, header}
 use Rattle.rusty_paseto_paserk.specs.Text.{writing}
-use Rattle.paseto_commands.specs.declared.error.ProgramError.{ProgramError}
+use Rattle.paseto_tasks.specs.declared.error.ProgramError.{ProgramError}
 use Rattle.paseto_commands.specs.Check.{bound_to}
-use Rattle.paseto_commands.specs.Error.{IsOutside, Lacks}
-use Rattle.paseto_commands.specs.Issue.{AreNever, AreOrdered, BoxesClaims, IsLineOf, IsOnce, IssuesNone, Ordered, SealsClaims, SealsIn, SignsClaims, SignsIn, SignsNone, SignsOrder, keys_set}
-use Rattle.paseto_commands.specs.Local.{IsLocalKey}
-use Rattle.paseto_commands.specs.Public.{DeclinesKey, IsHalf}
-use Rattle.paseto_commands.proofs.Ids.{same_header}
+use Rattle.paseto_tasks.specs.Error.{IsOutside, Lacks}
+use Rattle.paseto_commands.specs.Issue.{AreNever, AreOrdered, BoxesClaims, IsOnce, IssuesNone, Ordered, SealsClaims, SealsIn, SignsClaims, SignsIn, SignsNone, SignsOrder, keys_set}
+use Rattle.paseto_tasks.specs.Local.{IsLocalKey}
+use Rattle.paseto_tasks.specs.Output.{IsLineOf}
+use Rattle.paseto_tasks.specs.Public.{DeclinesKey, IsHalf}
+use Rattle.paseto_tasks.proofs.Ids.{same_header}
 use Rattle.paseto_commands.proofs.Orders.{same_ordered}
 use Rattle.paseto_commands.proofs.Parsed.{same_binding}
 

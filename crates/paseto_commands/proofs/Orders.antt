@@ -16,9 +16,9 @@ use Rattle.rusty_paseto_generic.specs.declared.error.GenericBuilderError.{Generi
 use Rattle.rusty_paseto_generic.specs.declared.error.GenericBuilderError.TheVariants.{CipherError, ClaimError, Memory}
 use Rattle.rusty_paseto.specs.Moment as moments
 use Rattle.rusty_paseto.specs.PasetoBuilder.{Counting, IsDefaultClaims, IsSame, counted, nothing_counted}
-use Rattle.paseto_commands.specs.declared.error.ProgramError.{ProgramError}
+use Rattle.paseto_tasks.specs.declared.error.ProgramError.{ProgramError}
 use Rattle.paseto_commands.specs.Claims.{AreNeverSet, AreSet, Named, all_counted, json_of}
-use Rattle.paseto_commands.specs.Error.{IsOutside}
+use Rattle.paseto_tasks.specs.Error.{IsOutside}
 use Rattle.paseto_commands.specs.Issue.{AreOrdered, Ordered, keys_set}
 use Rattle.paseto_commands.specs.Times.{IsMomentText, IsNeverSet, IsTimeSet, time_counted}
 

@@ -18,11 +18,11 @@ use Rattle.rusty_paseto_generic.specs.declared.error.GenericParserError.{Generic
 use Rattle.rusty_paseto_paserk.specs.Header.{header}
 use Rattle.rusty_paseto_paserk.specs.declared.header.PaserkVersion.{PaserkVersion}
 use Rattle.rusty_paseto_paserk.specs.declared.header.PaserkType.{PaserkType}
-use Rattle.paseto_commands.specs.declared.error.ProgramError.{ProgramError}
+use Rattle.paseto_tasks.specs.declared.error.ProgramError.{ProgramError}
 use Rattle.paseto_commands.specs.Check.{Demanded, ParsesWith, bound_to, demanded_rules}
 use Rattle.paseto_commands.specs.Claims.{are_whole}
-use Rattle.paseto_commands.specs.Error.{IsOutside, Lacks}
-use Rattle.paseto_commands.specs.Id.{IsKeyLine, IsKeyOf}
+use Rattle.paseto_tasks.specs.Error.{IsOutside, Lacks}
+use Rattle.paseto_tasks.specs.Id.{IsKeyLine, IsKeyOf}
 
 -- ---- parsed
 

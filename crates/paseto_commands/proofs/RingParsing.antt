@@ -15,11 +15,11 @@ use Rattle.rusty_paseto.specs.KeyRing.{IsIdAndValue, IsNoMemory, IsParsed, Keys,
 use Rattle.rusty_paseto.specs.declared.error.KeyRingParserError.{KeyRingParserError}
 use Rattle.rusty_paseto_paserk.specs.declared.header.PaserkVersion.{PaserkVersion}
 use Rattle.rusty_paseto_paserk.specs.declared.header.PaserkType.{PaserkType}
-use Rattle.paseto_commands.specs.declared.error.ProgramError.{ProgramError}
+use Rattle.paseto_tasks.specs.declared.error.ProgramError.{ProgramError}
 use Rattle.paseto_commands.specs.Check.{Demanded, bound_to, demanded_rules}
 use Rattle.paseto_commands.specs.Claims.{are_whole}
-use Rattle.paseto_commands.specs.Error.{IsOutside, Lacks}
-use Rattle.paseto_commands.specs.Id.{IsKeyOf}
+use Rattle.paseto_tasks.specs.Error.{IsOutside, Lacks}
+use Rattle.paseto_tasks.specs.Id.{IsKeyOf}
 use Rattle.paseto_commands.specs.Ring.{AreKeysOf, ParsesIn, ring_of}
 use Rattle.paseto_commands.proofs.Rings.{in_words, same_keys}
 

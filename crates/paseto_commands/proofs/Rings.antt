@@ -13,11 +13,11 @@ use Rattle.rusty_paseto_paserk.specs.declared.error.PaserkError.{PaserkError}
 use Rattle.rusty_paseto_paserk.specs.declared.error.PaserkError.TheVariants.{NoKey, OtherVersion, OtherType, InvalidKey, Memory}
 use Rattle.rusty_paseto_paserk.specs.Id.{id_of}
 use Rattle.rusty_paseto_paserk.specs.Text.{IsKeyFault}
-use Rattle.paseto_commands.specs.declared.error.ProgramError.{ProgramError}
-use Rattle.paseto_commands.specs.Error.{IsOutside, Lacks, key_error_of}
-use Rattle.paseto_commands.specs.Id.{IsKeyLine, IsKeyOf}
+use Rattle.paseto_tasks.specs.declared.error.ProgramError.{ProgramError}
+use Rattle.paseto_tasks.specs.Error.{IsOutside, Lacks, key_error_of}
+use Rattle.paseto_tasks.specs.Id.{IsKeyLine, IsKeyOf}
 use Rattle.paseto_commands.specs.Ring.{AreCompressed, AreKeysOf, IsAdded, IsInserted, IsNoLine, IsOther, IsPassedOver, IsRingOf}
-use Rattle.paseto_commands.proofs.Ids.{same_header}
+use Rattle.paseto_tasks.proofs.Ids.{same_header}
 use Rattle.paseto_commands.proofs.Parsed.{same_key}
 
 module _ (IsKey : List ℕ → Type 0) (kind : PaserkType) (version : PaserkVersion) (line : List ℕ) where

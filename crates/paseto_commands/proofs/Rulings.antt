@@ -18,10 +18,10 @@ use Rattle.rusty_paseto_generic.specs.declared.error.GenericParserError.TheVaria
 use Rattle.rusty_paseto_generic.specs.declared.parsers.checks.Checks.{Checks}
 use Rattle.rusty_paseto_generic.specs.declared.parsers.checks.Checker.{Checker}
 use Rattle.rusty_paseto_generic.specs.declared.parsers.checks.Checker.TheVariants.{Expiry, NotBefore}
-use Rattle.paseto_commands.specs.declared.error.ProgramError.{ProgramError}
+use Rattle.paseto_tasks.specs.declared.error.ProgramError.{ProgramError}
 use Rattle.paseto_commands.specs.Check.{Demanded, begun_rules, demanded_rules, first_rules}
 use Rattle.paseto_commands.specs.Claims.{Named, all_demanded, are_whole, json_of}
-use Rattle.paseto_commands.specs.Error.{IsOutside}
+use Rattle.paseto_tasks.specs.Error.{IsOutside}
 
 module _ {B : Type 0} (verdict : B → Verdict) (moment : Timestamp) where
   -- what the checkers of all keys find

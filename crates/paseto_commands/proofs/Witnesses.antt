@@ -2,15 +2,15 @@
 use Rattle.std.proofs.Common.{◌≡◌, ◌⊎◌, ℕ, List, Option, None, Some, IfSome, Result, Ok, Err, IfErr, IfOk, String, Global, string_bytes, IsUtf8, inl, inr, sym, subst, subst₂, ◌∙◌}
 use Rattle.std.specs.Bool.{⊤}
 use Rattle.jiff.specs.Types.{Timestamp}
-use Rattle.paseto_commands.specs.declared.arguments.Options.{Options}
+use Rattle.paseto_tasks.specs.declared.arguments.Options.{Options}
 use Rattle.paseto_commands.specs.declared.check.Keys.{Keys}
 use Rattle.paseto_commands.specs.Check.{AreDemands, Demanded}
 use Rattle.paseto_commands.specs.Checked.{ChecksBy, ChecksFor, ChecksNothing}
-use Rattle.paseto_commands.specs.Error.{IsOutside, Lacks}
-use Rattle.paseto_commands.specs.declared.error.ProgramError.{ProgramError}
+use Rattle.paseto_tasks.specs.Error.{IsOutside, Lacks}
+use Rattle.paseto_tasks.specs.declared.error.ProgramError.{ProgramError}
 use Rattle.paseto_commands.specs.Issue.{IsOrder, Issues, IssuesNone, IssuesNothing, Ordered}
 use Rattle.paseto_commands.proofs.Words.{same_demands, same_order}
-use Rattle.paseto_commands.specs.Input.{line_of_input}
+use Rattle.paseto_tasks.specs.Input.{line_of_input}
 
 -- what each value that is answered is, it is in other words
 pub in_other_words : {T E : Type 0} (result : Result T E) (A B : T → Type 0) → ((t : T) → A t → B t) → IfOk result A → IfOk result B

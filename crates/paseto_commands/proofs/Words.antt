@@ -7,7 +7,7 @@ use Rattle.std.specs.Str.Parse.{digits_value, without_leading_plus}
 use Rattle.jiff.specs.Types.{Timestamp}
 use Rattle.jiff.specs.Words.{Error, IsTimestampNanos, parse_timestamp}
 use Rattle.serde_json.specs.Data.{Data}
-use Rattle.paseto_commands.specs.declared.arguments.Options.{Options}
+use Rattle.paseto_tasks.specs.declared.arguments.Options.{Options}
 use Rattle.paseto_commands.specs.Check.{AreDemands, Demanded, IsCheckedAt}
 use Rattle.paseto_commands.specs.Claims.{AreClaims, IsClaimOf, IsNamed, Named, front}
 use Rattle.paseto_commands.specs.Issue.{IsOrder, Ordered}

@@ -12,11 +12,11 @@ use Rattle.rusty_paseto_generic.specs.Parsers.Times.{expiry, not_before, times_a
 use Rattle.rusty_paseto_generic.specs.Validator.{Verdict}
 use Rattle.rusty_paseto_paserk.specs.declared.header.PaserkVersion.{PaserkVersion}
 use Rattle.rusty_paseto_paserk.specs.declared.header.PaserkType.{PaserkType}
-use Rattle.paseto_commands.specs.declared.arguments.Options.{Options}
+use Rattle.paseto_tasks.specs.declared.arguments.Options.{Options}
 use Rattle.paseto_commands.specs.declared.check.Demands.{Demands}
 use Rattle.paseto_commands.specs.Claims.{AreClaims, Named, all_demanded, all_named, are_whole}
 use Rattle.paseto_commands.specs.Footers.{IsFooter}
-use Rattle.paseto_commands.specs.Id.{IsKeyLine, IsKeyOf}
+use Rattle.paseto_tasks.specs.Id.{IsKeyLine, IsKeyOf}
 use Rattle.paseto_commands.specs.Readers.{IsReader, reading_of}
 use Rattle.paseto_commands.specs.Times.{SaysMoment}
 

@@ -3,10 +3,10 @@ use Rattle.std.specs.Prelude.{◌≡◌, ℕ, List, [], ◌∷◌, ◌++◌, Boo
 use Rattle.jiff.specs.Types.{Timestamp}
 use Rattle.serde_json.specs.Data.{Data}
 use Rattle.serde_json.specs.Written.{compact_text, has_float}
-use Rattle.paseto_commands.specs.declared.arguments.Options.{Options}
+use Rattle.paseto_tasks.specs.declared.arguments.Options.{Options}
 use Rattle.paseto_commands.specs.declared.check.Keys.{Keys}
 use Rattle.paseto_commands.specs.declared.check.Keys.TheVariants.{One, Ring}
-use Rattle.paseto_commands.specs.Arguments.{words_of}
+use Rattle.paseto_tasks.specs.Arguments.{words_of}
 use Rattle.paseto_commands.specs.Check.{AreDemands, Demanded, ParsesByKey}
 use Rattle.paseto_commands.specs.Ring.{ParsesByRing}
 

@@ -5,7 +5,7 @@ use Rattle.serde_json.specs.Data.{member, no_members, object, string}
 use Rattle.serde_json.specs.Written.{compact_text}
 use Rattle.rusty_paseto_parts.specs.Footer.{footer_text}
 use Rattle.rusty_paseto_parts.specs.declared.texts.footer.Footer.{Footer}
-use Rattle.paseto_commands.specs.declared.arguments.Options.{Options}
+use Rattle.paseto_tasks.specs.declared.arguments.Options.{Options}
 
 -- the footer that names a key: the JSON of an object with the id under `kid`
 abbrev pub kid_footer : List ℕ → List ℕ

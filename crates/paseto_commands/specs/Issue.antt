@@ -1,5 +1,5 @@
 -- The command `issue`.
-use Rattle.std.specs.Prelude.{◌≡◌, ◌⊎◌, ⊤, ℕ, List, [], ◌∷◌, ◌++◌, Option, None, Some, codes, is_some, option_map, string_bytes}
+use Rattle.std.specs.Prelude.{◌≡◌, ◌⊎◌, ⊤, ℕ, List, [], Option, None, Some, codes, is_some, option_map, string_bytes}
 use Rattle.jiff.specs.Types.{Timestamp}
 use Rattle.serde_json.specs.Data.{Members}
 use Rattle.rusty_paseto_core.specs.Local.{Design}
@@ -18,13 +18,14 @@ use Rattle.rusty_paseto.specs.PasetoBuilder.{Counting, IsDefaultClaims, nothing_
 use Rattle.rusty_paseto_paserk.specs.declared.header.PaserkVersion.{PaserkVersion}
 use Rattle.rusty_paseto_paserk.specs.declared.header.PaserkVersion.TheVariants.{V1, V2, V3, V4}
 use Rattle.rusty_paseto_paserk.specs.declared.header.PaserkType.TheVariants.{Secret}
-use Rattle.paseto_commands.specs.declared.arguments.Options.{Options}
+use Rattle.paseto_tasks.specs.declared.arguments.Options.{Options}
 use Rattle.paseto_commands.specs.declared.issue.Order.{Order}
 use Rattle.paseto_commands.specs.Check.{bound_to}
 use Rattle.paseto_commands.specs.Claims.{AreClaims, AreSet, Named, all_counted, all_named}
 use Rattle.paseto_commands.specs.Footers.{IsFooter}
-use Rattle.paseto_commands.specs.Local.{IsLocalKey}
-use Rattle.paseto_commands.specs.Public.{DeclinesKey, IsDeclinedInV3, IsDeclinedInV4, IsHalf}
+use Rattle.paseto_tasks.specs.Local.{IsLocalKey}
+use Rattle.paseto_tasks.specs.Output.{IsLineOf}
+use Rattle.paseto_tasks.specs.Public.{DeclinesKey, IsDeclinedInV3, IsDeclinedInV4, IsHalf}
 use Rattle.paseto_commands.specs.Times.{IsTimeSet, SaysTime, time_counted}
 
 -- what is ordered: a moment, claims, when the token expires and when it may first be used, and its footer or none
@@ -70,10 +71,6 @@ keys_set order =
 -- no key is set twice
 abbrev pub IsOnce : Ordered → Type 0
 IsOnce order = (keys_set order).repeated ≡ None
-
--- the line is that of a token
-abbrev pub IsLineOf : List ℕ → List ℕ → Type 0
-IsLineOf token line = line ≡ token ++ (10 ∷ [])
 
 -- in a version: the token of the claims is their sealing under the key of the line
 pub record SealsClaims (version : PaserkVersion) (design : Design) (key : List ℕ) (order : Ordered) (IsDrawn : List ℕ → Type 0) (line : List ℕ) : Type 0 where

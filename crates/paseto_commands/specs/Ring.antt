@@ -13,7 +13,7 @@ use Rattle.rusty_paseto_paserk.specs.Header.{HasHeader}
 use Rattle.rusty_paseto_paserk.specs.Id.{id_of}
 use Rattle.paseto_commands.specs.Check.{Demanded, bound_to, demanded_rules}
 use Rattle.paseto_commands.specs.Claims.{are_whole}
-use Rattle.paseto_commands.specs.Id.{IsKeyLine, IsKeyOf}
+use Rattle.paseto_tasks.specs.Id.{IsKeyLine, IsKeyOf}
 use Rattle.paseto_commands.specs.Readers.{IsReader, reading_of}
 
 -- the line begins as a key of another version or type

@@ -7,8 +7,12 @@ use Rattle.jiff.specs.Words.{civil_nanos, parse_timestamp}
 use Rattle.serde_json.specs.Data.{Members, string}
 use Rattle.rusty_paseto_claims.specs.Claim.{gives, one_member}
 use Rattle.rusty_paseto_claims.specs.DateClaim.{IsDate}
+use Rattle.rusty_paseto_claims.specs.declared.error.PasetoClaimError.{PasetoClaimError}
+use Rattle.rusty_paseto_claims.specs.declared.error.PasetoClaimError.TheVariants.{Memory as NoClaimMemory}
 use Rattle.rusty_paseto_generic.specs.Builders.Claims.{becomes, claim_set}
 use Rattle.rusty_paseto.specs.PasetoBuilder.{Counting, counted}
+use Rattle.paseto_tasks.specs.declared.error.ProgramError.{ProgramError}
+use Rattle.paseto_tasks.specs.declared.error.ProgramError.TheVariants.{Memory, Time}
 
 -- the word is this number in decimal digits, behind a plus or none, and it is one of 32 bits
 pub record IsNumber (word : List ℕ) (number : ℕ) : Type 0 where
@@ -76,3 +80,8 @@ IsNeverSet key moment = (old new : Members) → ¬ IsTimeSet key moment old new
 abbrev pub time_counted : List ℕ → Option Timestamp → Counting → Counting
 time_counted key None old = old
 time_counted key (Some moment) old = counted key old
+
+-- why a text of a moment makes no claim: memory was refused, or the text is no date
+abbrev pub claim_error_of : PasetoClaimError → ProgramError
+claim_error_of (NoClaimMemory source) = Memory source
+claim_error_of _ = Time

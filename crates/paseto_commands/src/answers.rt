@@ -6,11 +6,12 @@ ghost use Rattle.rusty_paseto_core.specs.declared.PasetoError.TheVariants.{Ciphe
 ghost use Rattle.rusty_paseto_generic.specs.Error.{IsMemory as IsMemoryOfBuilder};
 ghost use Rattle.rusty_paseto_generic.specs.Error.Parser.{IsMemory};
 ghost use Rattle.rusty_paseto_generic.specs.declared.error.GenericBuilderError.TheVariants.{CipherError};
-ghost use Rattle.paseto_commands.specs.Error.{IsOutside};
+ghost use Rattle.paseto_tasks.specs.Error.{IsOutside};
+ghost use Rattle.paseto_commands.specs.Times.{claim_error_of};
 
-use crate::error::ProgramError;
 use crate::times::between;
 use jiff::Timestamp;
+use paseto_tasks::ProgramError;
 use rusty_paseto::prelude::{
     GenericBuilderError, GenericParserError, KeyRingError, KeyRingParserError, PasetoClaimError,
     PasetoError,
@@ -33,6 +34,16 @@ pub fn built<T: Drop>(
         Err(GenericBuilderError::Memory(source)) => Err(ProgramError::Memory(source)),
         Err(GenericBuilderError::CipherError { source }) => Err(ProgramError::from(source)),
         Err(source) => Err(unfit(alloc, &source)),
+    }
+}
+
+/// Why a text of a moment makes no claim.
+pub fn dated(source: PasetoClaimError) -> ProgramError
+    ensures { result ≡ claim_error_of source }
+{
+    match source {
+        PasetoClaimError::Memory(source) => ProgramError::Memory(source),
+        _ => ProgramError::Time,
     }
 }
 

@@ -9,23 +9,22 @@ ghost use Rattle.rusty_paseto_paserk.specs.declared.header.PaserkType.TheVariant
 ghost use Rattle.rusty_paseto_generic.specs.Parsers.Held.{rules_of, verdicts_of};
 ghost use Rattle.rusty_paseto_generic.specs.Parsers.Rules.{AreSame};
 ghost use Rattle.rusty_paseto_generic.specs.Parsers.Times.{times_at};
-ghost use Rattle.paseto_commands.specs.Arguments.{claim_words, words_of};
+ghost use Rattle.paseto_tasks.specs.Arguments.{claim_words, words_of};
 ghost use Rattle.paseto_commands.specs.Check.{AreDemands, IsCheckedAt, ParsesByKey, ParsesWith, begun_rules, demanded, demanded_rules};
 ghost use Rattle.paseto_commands.specs.Checked.{ChecksBy, IsJsonLine, ParsesBy};
 ghost use Rattle.paseto_commands.specs.Claims.{all_demanded, all_named, are_whole};
-ghost use Rattle.paseto_commands.specs.Error.{IsOutside, Lacks};
+ghost use Rattle.paseto_tasks.specs.Error.{IsOutside, Lacks};
 ghost use Rattle.paseto_commands.specs.Readers.{reading_of};
 
 use crate::answers::{early, expired, parsed};
-use crate::arguments::Options;
 use crate::claims::{NamedClaim, claims_of};
-use crate::error::ProgramError;
 use crate::footer::footer_of;
 use crate::ring::claims_by_ring;
 use crate::times::moment_of;
 use jiff::Timestamp;
 use paseto_ed25519::Ed25519;
 use paseto_p384::P384;
+use paseto_tasks::{Options, ProgramError};
 use paseto_xchacha20poly1305::XChaCha20Poly1305;
 use rusty_paseto::prelude::{
     CheckSetter, DefaultLocalVersion, DefaultParser, Footer, Local, PasetoAsymmetricPublicKey,

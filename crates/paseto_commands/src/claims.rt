@@ -4,12 +4,11 @@ ghost use Rattle.std.specs.Prelude.{◌≡◌, ◌≢◌, ◌⊎◌, ◌++◌, [
 ghost use Rattle.serde_json.specs.View.{view};
 ghost use Rattle.serde_json.specs.Read.{read};
 ghost use Rattle.rusty_paseto_claims.specs.Claim.{gives, one_member};
-ghost use Rattle.paseto_commands.specs.Arguments.{claim_words, words_of};
+ghost use Rattle.paseto_tasks.specs.Arguments.{claim_words, words_of};
 ghost use Rattle.paseto_commands.specs.Claims.{AreClaims, IsClaimOf, IsFirstOf, all_named, is_time, named};
-ghost use Rattle.paseto_commands.specs.Error.{IsOutside, Lacks};
+ghost use Rattle.paseto_tasks.specs.Error.{IsOutside, Lacks};
 
-use crate::arguments::{is_flag, is_name};
-use crate::error::ProgramError;
+use paseto_tasks::{ProgramError, is_flag, is_name};
 use rusty_paseto::prelude::{PasetoClaim, PasetoClaimError};
 use serde_json::{Map, Value};
 use std::alloc::{AllocError, Global};
@@ -99,7 +98,7 @@ fn is_time(name: &str) -> bool
 }
 
 /// The claims that words say by `--claim`, in their order. The words are those of a command.
-#[tactic(auto, using(crate::proofs::Readings::claims_cons))]
+#[tactic(auto, using(crate::proofs::Claimed::claims_cons))]
 pub fn claims_of(alloc: Global, words: &[String]) -> Result<Vec<NamedClaim>, ProgramError>
     ensures found { IfOk result (λ claims. AreClaims (claim_words (words_of words.now))
         (all_named claims.items)) }

@@ -1,8 +1,7 @@
 //! The key files of a folder, and files that are opened.
 
 use crate::answers::unfit;
-use crate::error::ProgramError;
-use crate::input::read_key_line;
+use paseto_tasks::{ProgramError, read_key_line};
 use rusty_paseto_paserk::header_of;
 use std::alloc::Global;
 use std::fs::{self, File};

@@ -1,11 +1,10 @@
 //! The footer that words say.
 
 ghost use Rattle.std.specs.Prelude.{◌≡◌, IfErr, IfOk, option_map, string_bytes};
-ghost use Rattle.paseto_commands.specs.Error.{IsOutside};
+ghost use Rattle.paseto_tasks.specs.Error.{IsOutside};
 ghost use Rattle.paseto_commands.specs.Footers.{IsFooter, kid_footer};
 
-use crate::arguments::Options;
-use crate::error::ProgramError;
+use paseto_tasks::{Options, ProgramError};
 use serde_json::{Map, Value};
 use std::alloc::{AllocError, Global};
 

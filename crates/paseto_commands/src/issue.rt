@@ -8,21 +8,20 @@ ghost use Rattle.rusty_paseto_core.specs.declared.PasetoError.{PasetoError as To
 ghost use Rattle.rusty_paseto.specs.Held.{counting};
 ghost use Rattle.rusty_paseto.specs.PasetoBuilder.{IsSame};
 ghost use Rattle.rusty_paseto_paserk.specs.declared.header.PaserkVersion.TheVariants.{V2 as K2, V3 as K3, V4 as K4};
-ghost use Rattle.paseto_commands.specs.Arguments.{claim_words, words_of};
+ghost use Rattle.paseto_tasks.specs.Arguments.{claim_words, words_of};
 ghost use Rattle.paseto_commands.specs.Claims.{AreNeverSet, AreSet, all_counted, all_named};
-ghost use Rattle.paseto_commands.specs.Error.{IsOutside, Lacks};
-ghost use Rattle.paseto_commands.specs.Issue.{AreNever, AreOrdered, BoxesClaims, IsLineOf, IsOrder, Issues, IssuesNone, SealsClaims, SealsIn, SignsIn, SignsNone, SignsOrder, keys_set, ordered};
+ghost use Rattle.paseto_tasks.specs.Error.{IsOutside, Lacks};
+ghost use Rattle.paseto_commands.specs.Issue.{AreNever, AreOrdered, BoxesClaims, IsOrder, Issues, IssuesNone, SealsClaims, SealsIn, SignsIn, SignsNone, SignsOrder, keys_set, ordered};
 ghost use Rattle.paseto_commands.specs.Times.{IsNeverSet, IsTimeSet, SaysTime, time_counted};
 
-use crate::answers::built;
-use crate::arguments::Options;
+use crate::answers::{built, dated};
 use crate::claims::{NamedClaim, claims_of};
-use crate::error::ProgramError;
 use crate::footer::footer_of;
 use crate::times::{moment_of, text_of};
 use jiff::Timestamp;
 use paseto_ed25519::Ed25519;
 use paseto_p384::P384;
+use paseto_tasks::{Options, ProgramError, with_line_feed};
 use paseto_xchacha20poly1305::XChaCha20Poly1305;
 use rand_core::TryRng;
 use rusty_paseto::prelude::{
@@ -302,8 +301,10 @@ fn set_expiry<V: VersionTrait, P: PurposeTrait>(
     let Some(moment) = moment else {
         return Ok(());
     };
-    let claim = ExpirationClaim::try_from_string(alloc, text_of(alloc, moment)?);
-    built(alloc, builder.put_claim(&claim?))
+    match ExpirationClaim::try_from_string(alloc, text_of(alloc, moment)?) {
+        Ok(claim) => built(alloc, builder.put_claim(&claim)),
+        Err(source) => Err(dated(source)),
+    }
 }
 
 fn set_begin<V: VersionTrait, P: PurposeTrait>(
@@ -322,16 +323,8 @@ fn set_begin<V: VersionTrait, P: PurposeTrait>(
     let Some(moment) = moment else {
         return Ok(());
     };
-    let claim = NotBeforeClaim::try_from_string(alloc, text_of(alloc, moment)?);
-    built(alloc, builder.put_claim(&claim?))
-}
-
-/// A text and a line feed.
-pub fn with_line_feed(text: String) -> Result<String, ProgramError>
-    ensures line { IfOk result (λ line. IsLineOf (string_bytes text) (string_bytes line)) }
-    ensures memory { IfErr result IsOutside }
-{
-    let mut line = text;
-    line.push('\n')?;
-    Ok(line)
+    match NotBeforeClaim::try_from_string(alloc, text_of(alloc, moment)?) {
+        Ok(claim) => built(alloc, builder.put_claim(&claim)),
+        Err(source) => Err(dated(source)),
+    }
 }

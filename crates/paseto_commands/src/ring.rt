@@ -4,24 +4,26 @@ ghost use Rattle.std.specs.Prelude.{◌≡◌, ◌⊎◌, ℕ, List, IfErr, IfOk
 ghost use Rattle.serde_json.specs.View.{view};
 ghost use Rattle.rusty_paseto_core.specs.Local.Opening.{opening};
 ghost use Rattle.rusty_paseto.specs.Held.{keys_of};
+ghost use Rattle.rusty_paseto.specs.KeyRing.{with_key};
+ghost use Rattle.rusty_paseto_paserk.specs.Id.{id_of};
 ghost use Rattle.rusty_paseto_paserk.specs.declared.header.PaserkVersion.TheVariants.{V2 as K2, V3 as K3, V4 as K4};
 ghost use Rattle.rusty_paseto_paserk.specs.declared.header.PaserkType.TheVariants.{Local as LocalKey, Public as PublicKey};
-ghost use Rattle.paseto_commands.specs.Arguments.{words_of};
+ghost use Rattle.paseto_tasks.specs.Arguments.{words_of};
 ghost use Rattle.paseto_commands.specs.Check.{demanded};
-ghost use Rattle.paseto_commands.specs.Error.{IsOutside, Lacks, key_error_of};
-ghost use Rattle.paseto_commands.specs.Id.{IsKeyOf};
+ghost use Rattle.paseto_tasks.specs.Error.{IsOutside, Lacks, key_error_of};
+ghost use Rattle.paseto_tasks.specs.Id.{IsKeyOf};
 ghost use Rattle.paseto_commands.specs.Readers.{IsReader, reading_of, type_in, version_in};
 ghost use Rattle.paseto_commands.specs.Ring.{AreCompressed, AreKeysOf, IsAdded, IsInserted, IsNoLine, IsPassedOver, IsRingOf, ParsesByRing, ParsesIn, ring_of};
 
 use crate::answers::{found, put};
 use crate::check::Demands;
-use crate::error::ProgramError;
 use paseto_ed25519::Ed25519;
 use paseto_p384::P384;
+use paseto_tasks::ProgramError;
 use paseto_xchacha20poly1305::XChaCha20Poly1305;
 use rusty_paseto::prelude::{
     DefaultLocalVersion, Key, KeyRing, Local, PasetoAsymmetricPublicKey, PasetoError, Public,
-    PublicKeyRing, UntrustedToken, V1, V2, V3, V4,
+    PublicKeyRing, UntrustedToken, V1, V2, V2orV4, V3, V4,
 };
 use rusty_paseto_paserk::{
     KeyPairVersion, KeyVersion, PaserkError, PaserkType, PaserkVersion, local_from_paserk,
@@ -187,7 +189,7 @@ fn verified_in_v2(
         (words_of lines.now) (demanded demands.now) timed token.now value)) }
 {
     let keys = public_keys::<V2, 32>(alloc, lines)?;
-    let ring = ring_of_v2(alloc, &keys)?;
+    let ring = ring_of_v2_or_v4::<V2>(alloc, &keys)?;
     let parser = demands.parser::<V2, Public>(alloc, timed)?;
     found(alloc, ring.parse(&Ed25519, &parser, token))
 }
@@ -227,7 +229,7 @@ fn verified_in_v4(
         (words_of lines.now) (demanded demands.now) timed token.now value)) }
 {
     let keys = public_keys::<V4, 32>(alloc, lines)?;
-    let ring = ring_of_v4(alloc, &keys)?;
+    let ring = ring_of_v2_or_v4::<V4>(alloc, &keys)?;
     let parser = demands.parser::<V4, Public>(alloc, timed)?;
     found(alloc, ring.parse(&Ed25519, &parser, token))
 }
@@ -264,17 +266,19 @@ fn add_line<V: KeyVersion>(
     }
 }
 
-/// The ring of public keys of version 2, each under its id.
-fn ring_of_v2<'k>(alloc: Global, keys: &'k [Key<32>]) -> Result<PublicKeyRing<'k, V2>, ProgramError>
-    ensures ring { IfOk result (λ ring. keys_of ring ≡ ring_of PublicKey K2 keys.now) }
+/// The ring of public keys of the versions 2 and 4, each under its id.
+fn ring_of_v2_or_v4<'k, V: V2orV4 + KeyPairVersion>(
+    alloc: Global,
+    keys: &'k [Key<32>],
+) -> Result<PublicKeyRing<'k, V>, ProgramError>
+    ensures ring { IfOk result (λ ring. keys_of ring ≡ ring_of PublicKey V.paserk keys.now) }
     ensures memory { IfErr result IsOutside }
 {
     let [key, rest @ ..] = keys else {
         return Ok(PublicKeyRing::new(alloc));
     };
-    let mut ring = ring_of_v2(alloc, rest)?;
-    let public = PasetoAsymmetricPublicKey::from(key);
-    put(alloc, ring.add(public_id(alloc, &public)?.as_str(), public))?;
+    let mut ring = ring_of_v2_or_v4::<V>(alloc, rest)?;
+    add_public(alloc, &mut ring, PasetoAsymmetricPublicKey::from(key))?;
     Ok(ring)
 }
 
@@ -287,23 +291,21 @@ fn ring_of_v3<'k>(alloc: Global, keys: &'k [Key<49>]) -> Result<PublicKeyRing<'k
         return Ok(PublicKeyRing::new(alloc));
     };
     let mut ring = ring_of_v3(alloc, rest)?;
-    let public = PasetoAsymmetricPublicKey::try_from(key)?;
-    put(alloc, ring.add(public_id(alloc, &public)?.as_str(), public))?;
+    add_public(alloc, &mut ring, PasetoAsymmetricPublicKey::try_from(key)?)?;
     Ok(ring)
 }
 
-/// The ring of public keys of version 4, each under its id.
-fn ring_of_v4<'k>(alloc: Global, keys: &'k [Key<32>]) -> Result<PublicKeyRing<'k, V4>, ProgramError>
-    ensures ring { IfOk result (λ ring. keys_of ring ≡ ring_of PublicKey K4 keys.now) }
+/// Puts a public key into a ring, under its id.
+fn add_public<'k, V: KeyPairVersion>(
+    alloc: Global,
+    ring: &mut PublicKeyRing<'k, V>,
+    key: PasetoAsymmetricPublicKey<'k, V, Public>,
+) -> Result<(), ProgramError>
+    ensures added { OnOk result (keys_of ring.new
+        ≡ with_key (id_of V.paserk PublicKey key.entry) key.entry (keys_of ring.old)) }
     ensures memory { IfErr result IsOutside }
 {
-    let [key, rest @ ..] = keys else {
-        return Ok(PublicKeyRing::new(alloc));
-    };
-    let mut ring = ring_of_v4(alloc, rest)?;
-    let public = PasetoAsymmetricPublicKey::from(key);
-    put(alloc, ring.add(public_id(alloc, &public)?.as_str(), public))?;
-    Ok(ring)
+    put(alloc, ring.add(public_id(alloc, &key)?.as_str(), key))
 }
 
 /// The public keys of a version among the lines.

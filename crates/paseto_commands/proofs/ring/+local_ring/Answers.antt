@@ -1,11 +1,11 @@
 use Rattle.std.proofs.Math.Path.{fun_ext}
 use Rattle.std.proofs.lemmas.Result.{err_from_is_err_and}
-use Rattle.paseto_commands.specs.Id.{IsKeyOf}
+use Rattle.paseto_tasks.specs.Id.{IsKeyOf}
 use Rattle.std.proofs.Common.{[], refl, string_bytes, sym}
 use Rattle.rusty_paseto.specs.Held.{keys_of}
 use Rattle.rusty_paseto_paserk.specs.declared.header.PaserkType.TheVariants.{Local}
 use Rattle.paseto_commands.proofs.Rings.{none_behind, none_before, ring_more}
-use Rattle.paseto_commands.proofs.Fronts.{no_words, word_and_rest}
+use Rattle.paseto_tasks.proofs.Fronts.{no_words, word_and_rest}
 use Rattle.paseto_commands.proofs.ring.+local_ring.Goals as goal
 
 pub returns-clause-found : goal.returns-clause-found

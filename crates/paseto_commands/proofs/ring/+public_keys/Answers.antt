@@ -1,7 +1,7 @@
 use Rattle.std.proofs.Common.{string_bytes, sym}
 use Rattle.rusty_paseto_paserk.specs.declared.header.PaserkType.TheVariants.{Public}
 use Rattle.paseto_commands.proofs.Rings.{keys_more}
-use Rattle.paseto_commands.proofs.Fronts.{word_and_rest}
+use Rattle.paseto_tasks.proofs.Fronts.{word_and_rest}
 use Rattle.paseto_commands.proofs.ring.+public_keys.Goals as goal
 
 pub returns-clause-found : goal.returns-clause-found

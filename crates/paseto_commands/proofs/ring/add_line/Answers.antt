@@ -1,7 +1,7 @@
 use Rattle.std.proofs.Common.{◌∙◌}
 use Rattle.rusty_paseto.specs.Held.{keys_of}
 use Rattle.rusty_paseto_paserk.specs.declared.header.PaserkType.TheVariants.{Local}
-use Rattle.paseto_commands.specs.Id.{IsKeyOf}
+use Rattle.paseto_tasks.specs.Id.{IsKeyOf}
 use Rattle.paseto_commands.proofs.Rings.{added_key, line_none, put_none}
 use Rattle.paseto_commands.proofs.ring.add_line.Goals as goal
 

@@ -1,6 +1,6 @@
 use Rattle.std.proofs.Common.{◌∙◌, ℕ, List, Some, inr, sym, ap}
 use Rattle.rusty_paseto_paserk.specs.declared.header.PaserkType.TheVariants.{Local, Public}
-use Rattle.paseto_commands.specs.Arguments.{words_of}
+use Rattle.paseto_tasks.specs.Arguments.{words_of}
 use Rattle.paseto_commands.specs.Check.{demanded}
 use Rattle.paseto_commands.proofs.Headers.{no_type, no_version, ring_none}
 use Rattle.paseto_commands.proofs.ring.claims_by_ring.Goals as goal

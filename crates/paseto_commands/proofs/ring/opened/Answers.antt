@@ -2,9 +2,9 @@ use Rattle.std.proofs.lemmas.Result.{err_from_is_err_and}
 use Rattle.rusty_paseto.specs.Held.{keys_of}
 use Rattle.rusty_paseto_core.specs.Local.Opening.{opening}
 use Rattle.rusty_paseto_paserk.specs.declared.header.PaserkType.TheVariants.{Local}
-use Rattle.paseto_commands.specs.Arguments.{words_of}
+use Rattle.paseto_tasks.specs.Arguments.{words_of}
 use Rattle.paseto_commands.specs.Check.{demanded}
-use Rattle.paseto_commands.specs.Id.{IsKeyOf}
+use Rattle.paseto_tasks.specs.Id.{IsKeyOf}
 use Rattle.paseto_commands.proofs.RingParsing.{no_keys, ring_lacks, ring_parses}
 use Rattle.paseto_commands.proofs.ring.opened.Goals as goal
 

@@ -4,7 +4,7 @@ use Rattle.rusty_paseto_core.specs.Local.Boxed.{box_opening}
 use Rattle.paseto_xchacha20poly1305.specs.Sealing.{box_sealing}
 use Rattle.rusty_paseto_paserk.specs.declared.header.PaserkVersion.TheVariants.{V2}
 use Rattle.rusty_paseto_paserk.specs.declared.header.PaserkType.TheVariants.{Local}
-use Rattle.paseto_commands.specs.Arguments.{words_of}
+use Rattle.paseto_tasks.specs.Arguments.{words_of}
 use Rattle.paseto_commands.specs.Check.{demanded}
 use Rattle.paseto_commands.proofs.RingParsing.{ring_lacks, ring_parses}
 use Rattle.paseto_commands.proofs.ring.unboxed.Goals as goal

@@ -6,9 +6,9 @@ use Rattle.rusty_paseto_core.specs.Public.{v3_public}
 use Rattle.rusty_paseto_core.specs.Public.Verifying.{verification}
 use Rattle.rusty_paseto_paserk.specs.declared.header.PaserkVersion.TheVariants.{V3}
 use Rattle.rusty_paseto_paserk.specs.declared.header.PaserkType.TheVariants.{Public}
-use Rattle.paseto_commands.specs.Arguments.{words_of}
+use Rattle.paseto_tasks.specs.Arguments.{words_of}
 use Rattle.paseto_commands.specs.Check.{demanded}
-use Rattle.paseto_commands.specs.Id.{IsKeyOf}
+use Rattle.paseto_tasks.specs.Id.{IsKeyOf}
 use Rattle.paseto_commands.proofs.RingParsing.{no_keys, ring_lacks, ring_parses}
 use Rattle.paseto_commands.proofs.Rings.{are_compressed, in_words}
 use Rattle.paseto_commands.proofs.ring.verified_in_v3.Goals as goal

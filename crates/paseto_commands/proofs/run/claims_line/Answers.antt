@@ -1,5 +1,5 @@
 use Rattle.std.proofs.Common.{string_bytes}
-use Rattle.paseto_commands.specs.Arguments.{claim_words, words_of}
+use Rattle.paseto_tasks.specs.Arguments.{claim_words, words_of}
 use Rattle.paseto_commands.specs.Check.{demanded}
 use Rattle.paseto_commands.proofs.Witnesses.{checks_for, checks_none}
 use Rattle.paseto_commands.proofs.run.claims_line.Goals as goal

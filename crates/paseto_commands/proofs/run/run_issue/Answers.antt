@@ -1,6 +1,6 @@
-use Rattle.paseto_commands.specs.Arguments.{claim_words, words_of}
+use Rattle.paseto_tasks.specs.Arguments.{claim_words, words_of}
 use Rattle.paseto_commands.specs.Issue.{IssuesNothing}
-use Rattle.paseto_commands.proofs.Refusals.{refused_as}
+use Rattle.paseto_tasks.proofs.Refusals.{refused_as}
 use Rattle.paseto_commands.proofs.run.run_issue.Goals as goal
 
 pub returns-clause-refused : goal.returns-clause-refused

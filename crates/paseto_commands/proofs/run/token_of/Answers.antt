@@ -1,5 +1,5 @@
 use Rattle.std.proofs.lemmas.Result.{err_from_is_err_and}
-use Rattle.paseto_commands.specs.Arguments.{claim_words, words_of}
+use Rattle.paseto_tasks.specs.Arguments.{claim_words, words_of}
 use Rattle.paseto_commands.specs.Issue.{ordered}
 use Rattle.paseto_commands.proofs.Witnesses.{in_other_words, issues_none, orders_none}
 use Rattle.paseto_commands.proofs.run.token_of.Goals as goal

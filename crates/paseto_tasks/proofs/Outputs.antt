@@ -1,0 +1,82 @@
+-- What is written of an output.
+use Rattle.std.proofs.Common.{◌≡◌, ℕ, ◌<◌, ◌==◌, List, [], ◌∷◌, ◌++◌, length, length-append, Bool, false, Option, None, Some, IfSome, Result, Ok, Err, OnOk, OnErr, is_ok, inl, inr, refl, ap, arith}
+use Rattle.std.specs.Io.{StartsWith}
+use Rattle.std.specs.Io.KnownBytes.{Appends, Keeps}
+use Rattle.std.proofs.KnownBytes.{Appends-kept, Appends-nil}
+use Rattle.rusty_paseto_paserk.specs.declared.error.PaserkError.TheVariants.{NoKey, OtherVersion, OtherType, InvalidKey, Memory as NoKeyMemory}
+use Rattle.paseto_tasks.specs.declared.arguments.Options.{Options}
+use Rattle.paseto_tasks.specs.declared.arguments.Task.{Task}
+use Rattle.paseto_tasks.specs.declared.error.ProgramError.{ProgramError}
+use Rattle.paseto_tasks.specs.declared.error.ProgramError.TheVariants.{Usage, Claim, TimeClaim, Time, Key, TooLong, Refused, OtherFooter, Expired, Early, Unfit, NoFile, FileExists, Clock, Random, InputOrOutput, Memory}
+use Rattle.paseto_tasks.specs.Error.{status_of}
+use Rattle.paseto_tasks.specs.Output.{IsCutShort}
+use Rattle.paseto_tasks.specs.Run.{Prints, Writes}
+
+front_of_all : (front rest : List ℕ) → StartsWith (front ++ rest) front
+front_of_all [] rest = refl
+front_of_all (b ∷ front) rest = ap (λ (bytes : List ℕ). b ∷ bytes) (front_of_all front rest)
+
+-- what was written before a write that took nothing
+pub cut_short : {T E : Type 0} (result : Result T E) (bytes written rest : List ℕ) (a b c : Option (List ℕ)) → Appends a b written
+    → bytes ≡ written ++ rest → 0 < length rest → Keeps b c → OnErr result ((x : List ℕ) × IsCutShort bytes x × Appends a c x)
+cut_short (Ok value) bytes written rest a b c whole same more kept = tt
+cut_short (Err error) bytes written rest a b c whole same more kept =
+    (written, record { beginning = rw same (front_of_all written rest); shorter = rw (same, length-append) (omega arith) }, Appends-kept a b c written whole kept)
+
+-- what holds of every value holds of the one that is known
+pub IfSome-all : {X : Type 0} (known : Option X) (P : X → Type 0) → ((x : X) → P x) → IfSome known P
+IfSome-all None P h = tt
+IfSome-all (Some x) P h = h x
+
+-- no error ends the program with the status of success
+pub status_of-some : (error : ProgramError) → (status_of error == 0) ≡ false
+status_of-some Usage = refl
+status_of-some Claim = refl
+status_of-some TimeClaim = refl
+status_of-some Time = refl
+status_of-some (Key NoKey) = refl
+status_of-some (Key (OtherVersion version)) = refl
+status_of-some (Key (OtherType kind)) = refl
+status_of-some (Key InvalidKey) = refl
+status_of-some (Key (NoKeyMemory source)) = refl
+status_of-some TooLong = refl
+status_of-some (Refused error) = refl
+status_of-some OtherFooter = refl
+status_of-some Expired = refl
+status_of-some (Early text) = refl
+status_of-some (Unfit line) = refl
+status_of-some NoFile = refl
+status_of-some FileExists = refl
+status_of-some Clock = refl
+status_of-some Random = refl
+status_of-some InputOrOutput = refl
+status_of-some (Memory source) = refl
+
+module _ (task : Task) (options : Options) (IsDrawn : List ℕ → Type 0) (file_known known : Option (List ℕ)) where
+  -- what the known bytes of the key file and of the input say of what is written
+  abbrev pub Says : Bool → List ℕ → Type 0
+  Says done written = IfSome file_known (λ file. IfSome known (λ bytes. Writes task options IsDrawn file bytes done written))
+
+  nothing_said : (file_known2 known2 : Option (List ℕ)) → IfSome file_known2 (λ file. IfSome known2 (λ bytes. Writes task options IsDrawn file bytes false []))
+  nothing_said None known2 = tt
+  nothing_said (Some file) None = tt
+  nothing_said (Some file) (Some bytes) = inl refl
+
+  -- nothing is written
+  pub nothing_written : (a : Option (List ℕ)) → (written : List ℕ) × Appends a a written × Says false written
+  nothing_written a = ([], Appends-nil a, nothing_said file_known known)
+
+  prints_cut : (file_known2 known2 : Option (List ℕ)) (made cut : List ℕ) → IsCutShort made cut
+      → IfSome file_known2 (λ file. IfSome known2 (λ bytes. Prints task options IsDrawn file bytes made))
+      → IfSome file_known2 (λ file. IfSome known2 (λ bytes. Writes task options IsDrawn file bytes false cut))
+  prints_cut None known2 made cut short prints = tt
+  prints_cut (Some file) None made cut short prints = tt
+  prints_cut (Some file) (Some bytes) made cut short prints = inr (made, prints, short)
+
+  -- what was written of an output is the whole where no write failed, and is else cut short
+  pub written_made : {T E : Type 0} (result : Result T E) (before after : Option (List ℕ)) (made : List ℕ)
+      → OnOk result (Appends before after made) → OnErr result ((cut : List ℕ) × IsCutShort made cut × Appends before after cut)
+      → IfSome file_known (λ file. IfSome known (λ bytes. Prints task options IsDrawn file bytes made))
+      → (written : List ℕ) × Appends before after written × Says (is_ok result) written
+  written_made (Ok x) before after made ok err prints = (made, ok, prints)
+  written_made (Err e) before after made ok err prints = (err.0, err.2, prints_cut file_known known made err.0 err.1 prints)

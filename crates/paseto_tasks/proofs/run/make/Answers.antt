@@ -1,0 +1,15 @@
+use Rattle.paseto_tasks.specs.declared.arguments.Task.TheVariants.{Encrypt, Decrypt, Sign, Verify}
+use Rattle.paseto_tasks.proofs.Refusals.{make_refused}
+use Rattle.paseto_tasks.proofs.run.make.Goals as goal
+
+pub returns-in-Encrypt-clause-refused : goal.returns-in-Encrypt-clause-refused
+returns-in-Encrypt-clause-refused g c = rw c.in-Encrypt.is (make_refused Encrypt c.args.options.now _ c.encrypt.result _ _ _ _ c.as_str-key.ensures.value c.in_ok-key.ensures.line c.encrypt.ensures.refused)
+
+pub returns-in-Decrypt-clause-refused : goal.returns-in-Decrypt-clause-refused
+returns-in-Decrypt-clause-refused g c = rw c.in-Decrypt.is (make_refused Decrypt c.args.options.now (λ drawn. Unit {0}) c.decrypt.result _ _ _ _ c.as_str-key.ensures.value c.in_ok-key.ensures.line c.decrypt.ensures.refused)
+
+pub returns-in-Sign-clause-refused : goal.returns-in-Sign-clause-refused
+returns-in-Sign-clause-refused g c = rw c.in-Sign.is (make_refused Sign c.args.options.now (λ drawn. Unit {0}) c.sign.result _ _ _ _ c.as_str-key.ensures.value c.in_ok-key.ensures.line c.sign.ensures.refused)
+
+pub returns-clause-refused : goal.returns-clause-refused
+returns-clause-refused g c = rw c.in-Verify.is (make_refused Verify c.args.options.now (λ drawn. Unit {0}) c.verify.result _ _ _ _ c.as_str-key.ensures.value c.in_ok-key.ensures.line c.verify.ensures.refused)

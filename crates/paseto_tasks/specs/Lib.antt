@@ -1,0 +1,10 @@
+pub mod Error
+pub mod Input
+pub mod Output
+pub mod Arguments
+pub mod Local
+pub mod Public
+pub mod Keygen
+pub mod Inspect
+pub mod Id
+pub mod Run

@@ -1,0 +1,12 @@
+-- The line that is printed, and what a write that fails leaves of it.
+use Rattle.std.specs.Prelude.{◌≡◌, ℕ, ◌<◌, List, [], ◌∷◌, ◌++◌, length}
+use Rattle.std.specs.Io.{StartsWith}
+
+-- the line is that of a text
+abbrev pub IsLineOf : List ℕ → List ℕ → Type 0
+IsLineOf text line = line ≡ text ++ (10 ∷ [])
+
+-- a beginning of the output, and not all of it
+pub record IsCutShort (output written : List ℕ) : Type 0 where
+  pub beginning : StartsWith output written
+  pub shorter : length written < length output

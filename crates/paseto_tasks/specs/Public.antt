@@ -1,0 +1,93 @@
+-- The commands `sign` and `verify`.
+use Rattle.std.specs.Prelude.{◌≡◌, ◌⊎◌, ℕ, List, [], ◌∷◌, ◌++◌, length, is_some, IsTrue, IsUtf8}
+use Rattle.base64.specs.GeneralPurpose.{IsBytes}
+use Rattle.rusty_paseto_parts.specs.PublicKey.{is_compressed}
+use Rattle.rusty_paseto_core.specs.Context.{binding_of}
+use Rattle.rusty_paseto_core.specs.Public.{PublicDesign, v3_public, v4_public}
+use Rattle.rusty_paseto_core.specs.Public.Scheme.{Declining, Refusal, Validity}
+use Rattle.rusty_paseto_core.specs.Public.Signing.{IsSigning}
+use Rattle.rusty_paseto_core.specs.Public.Verifying.{verification}
+use Rattle.rusty_paseto_core.specs.Reading.{IsRead}
+use Rattle.paseto_ed25519.specs.Ed25519.{Ed25519Verifies, IsDeclined, IsRefused, partner}
+use Rattle.paseto_p384.specs.P384.{P384Verifies, IsDeclined as IsDeclinedByP384, IsRefused as IsRefusedByP384, p384_public}
+use Rattle.rusty_paseto_parts.specs.declared.error.PasetoError.{PasetoError}
+use Rattle.rusty_paseto_paserk.specs.declared.header.PaserkVersion.{PaserkVersion}
+use Rattle.rusty_paseto_paserk.specs.declared.header.PaserkVersion.TheVariants.{V3, V4}
+use Rattle.rusty_paseto_paserk.specs.declared.header.PaserkType.{PaserkType}
+use Rattle.rusty_paseto_paserk.specs.declared.header.PaserkType.TheVariants.{Secret, Public}
+use Rattle.rusty_paseto_paserk.specs.Text.{writing}
+use Rattle.paseto_tasks.specs.declared.arguments.Options.{Options}
+use Rattle.paseto_tasks.specs.Input.{line_of_input}
+
+-- the line is the writing of these bytes, which are so many
+pub record IsHalf (version : PaserkVersion) (kind : PaserkType) (size : ℕ) (line key : List ℕ) : Type 0 where
+  pub has_size : length key ≡ size
+  pub bytes : IsBytes key
+  pub is_writing : line ≡ writing version kind key
+
+-- the line that is printed is a token of the text with a signature that is valid for the public half of the key, and a
+-- line feed
+pub record IsSigned (valid : Validity) (design : PublicDesign) (public : List ℕ) (options : Options) (text line : List ℕ) : Type 0 where
+  pub utf8 : IsUtf8 text
+  pub token : List ℕ
+  pub signing : IsSigning valid design (binding_of public options.footer options.assertion) (is_some options.footer) text token
+  pub line_is : line ≡ token ++ (10 ∷ [])
+
+pub record SignsInV3 (key : List ℕ) (options : Options) (text line : List ℕ) : Type 0 where
+  pub key_bytes : List ℕ
+  pub is_key : IsHalf V3 Secret 48 key key_bytes
+  pub signed : IsSigned P384Verifies v3_public (p384_public key_bytes) options text line
+
+pub record SignsInV4 (key : List ℕ) (options : Options) (text line : List ℕ) : Type 0 where
+  pub key_bytes : List ℕ
+  pub is_key : IsHalf V4 Secret 64 key key_bytes
+  pub signed : IsSigned Ed25519Verifies v4_public (partner key_bytes) options text line
+
+-- the line is printed for a private key of version 3 or of version 4
+abbrev pub SignsBy : List ℕ → Options → List ℕ → List ℕ → Type 0
+SignsBy key options text line = SignsInV3 key options text line ⊎ SignsInV4 key options text line
+
+-- the text is the one as which the token is verified
+abbrev pub IsVerified : Validity → Refusal → PublicDesign → List ℕ → Options → List ℕ → List ℕ → Type 0
+IsVerified valid refused design public options token text =
+    IsRead (verification valid refused design (binding_of public options.footer options.assertion)) token text
+
+pub record VerifiesInV3 (key : List ℕ) (options : Options) (token text : List ℕ) : Type 0 where
+  pub key_bytes : List ℕ
+  pub is_key : IsHalf V3 Public 49 key key_bytes
+  pub compressed : IsTrue (is_compressed key_bytes)
+  pub utf8 : IsUtf8 token
+  pub verified : IsVerified P384Verifies IsRefusedByP384 v3_public key_bytes options token text
+
+pub record VerifiesInV4 (key : List ℕ) (options : Options) (token text : List ℕ) : Type 0 where
+  pub key_bytes : List ℕ
+  pub is_key : IsHalf V4 Public 32 key key_bytes
+  pub utf8 : IsUtf8 token
+  pub verified : IsVerified Ed25519Verifies IsRefused v4_public key_bytes options token text
+
+-- the text is printed for a public key of version 3 or of version 4, and the token that the input is
+abbrev pub VerifiesBy : List ℕ → Options → List ℕ → List ℕ → Type 0
+VerifiesBy key options input text =
+    VerifiesInV3 key options (line_of_input input) text ⊎ VerifiesInV4 key options (line_of_input input) text
+
+-- the line is the writing of a private key of a version, and its scheme declines the key
+pub record DeclinesKey (version : PaserkVersion) (size : ℕ) (Declined : Declining) (key : List ℕ) : Type 0 where
+  pub key_bytes : List ℕ
+  pub error : PasetoError
+  pub is_key : IsHalf version Secret size key key_bytes
+  pub declined : Declined key_bytes error
+
+abbrev pub IsDeclinedInV3 : List ℕ → Type 0
+IsDeclinedInV3 = DeclinesKey V3 48 IsDeclinedByP384
+
+abbrev pub IsDeclinedInV4 : List ℕ → Type 0
+IsDeclinedInV4 = DeclinesKey V4 64 IsDeclined
+
+-- no line is printed for the key and the text: there is no private key of version 3 or 4, or no text, or the scheme
+-- declines the key, as one whose halves do not belong together
+abbrev pub SignsNothing : List ℕ → Options → List ℕ → Type 0
+SignsNothing key options text = ((line : List ℕ) → ¬ SignsBy key options text line) ⊎ (IsDeclinedInV3 key ⊎ IsDeclinedInV4 key)
+
+-- no text is printed for the key and the input: the token is verified as none
+abbrev pub VerifiesNothing : List ℕ → Options → List ℕ → Type 0
+VerifiesNothing key options input = (text : List ℕ) → ¬ VerifiesBy key options input text

@@ -1,0 +1,93 @@
+//! The command `id`: the id of the key that a line is.
+
+ghost use Rattle.std.specs.Prelude.{◌⊎◌, IfErr, IfOk, string_bytes};
+ghost use Rattle.rusty_paseto_paserk.specs.declared.header.PaserkType.TheVariants.{Local as LocalKey, Public as PublicKey, Secret};
+ghost use Rattle.paseto_tasks.specs.Error.{IsOutside};
+ghost use Rattle.paseto_tasks.specs.Id.{Identifies, IdentifiesNothing, IsIdOf, IsNoKeyOf};
+
+use crate::error::ProgramError;
+use crate::output::with_line_feed;
+use rusty_paseto_core::{
+    Local, PasetoAsymmetricPrivateKey, PasetoAsymmetricPublicKey, PasetoSymmetricKey, Public, V1,
+    V2, V3, V4,
+};
+use rusty_paseto_paserk::{
+    KeyVersion, PaserkError, PaserkType, PaserkVersion, header_of, local_from_paserk, local_id,
+    public_from_paserk, public_id, secret_from_paserk, secret_id,
+};
+use std::alloc::Global;
+
+/// The line of the id of the key of a line.
+pub fn id(alloc: Global, key: &str) -> Result<String, ProgramError>
+    ensures printed { IfOk result (λ line. Identifies key.now (string_bytes line)) }
+    ensures refused { IfErr result (λ error. IsOutside error ⊎ IdentifiesNothing key.now) }
+{
+    let id = match header_of(key) {
+        Some((version, PaserkType::Local, _)) => id_of_local(alloc, version, key)?,
+        Some((version, PaserkType::Secret, _)) => id_of_secret(alloc, version, key)?,
+        Some((version, PaserkType::Public, _)) => id_of_public(alloc, version, key)?,
+        None => return Err(ProgramError::Key(PaserkError::NoKey)),
+    };
+    with_line_feed(id)
+}
+
+fn id_of_local(alloc: Global, version: PaserkVersion, key: &str) -> Result<String, ProgramError>
+    ensures printed { IfOk result (λ id. IsIdOf key.now (string_bytes id)) }
+    ensures refused { IfErr result (λ error. IsOutside error ⊎ IsNoKeyOf version LocalKey key.now) }
+{
+    match version {
+        PaserkVersion::V1 => Ok(local_id(alloc, &local_from_paserk::<V1>(alloc, key)?)?),
+        PaserkVersion::V2 => Ok(local_id(alloc, &local_from_paserk::<V2>(alloc, key)?)?),
+        PaserkVersion::V3 => Ok(local_id(alloc, &local_from_paserk::<V3>(alloc, key)?)?),
+        PaserkVersion::V4 => Ok(local_id(alloc, &local_from_paserk::<V4>(alloc, key)?)?),
+    }
+}
+
+fn id_of_secret(alloc: Global, version: PaserkVersion, key: &str) -> Result<String, ProgramError>
+    ensures printed { IfOk result (λ id. IsIdOf key.now (string_bytes id)) }
+    ensures refused { IfErr result (λ error. IsOutside error ⊎ IsNoKeyOf version Secret key.now) }
+{
+    match version {
+        PaserkVersion::V1 => Err(ProgramError::Key(PaserkError::OtherVersion(version))),
+        PaserkVersion::V2 => {
+            let key = secret_from_paserk::<V2, 64>(alloc, key)?;
+            let private = PasetoAsymmetricPrivateKey::<V2, Public>::from(&key);
+            Ok(secret_id(alloc, &private)?)
+        }
+        PaserkVersion::V3 => {
+            let key = secret_from_paserk::<V3, 48>(alloc, key)?;
+            let private = PasetoAsymmetricPrivateKey::<V3, Public>::from(&key);
+            Ok(secret_id(alloc, &private)?)
+        }
+        PaserkVersion::V4 => {
+            let key = secret_from_paserk::<V4, 64>(alloc, key)?;
+            let private = PasetoAsymmetricPrivateKey::<V4, Public>::from(&key);
+            Ok(secret_id(alloc, &private)?)
+        }
+    }
+}
+
+fn id_of_public(alloc: Global, version: PaserkVersion, key: &str) -> Result<String, ProgramError>
+    ensures printed { IfOk result (λ id. IsIdOf key.now (string_bytes id)) }
+    ensures refused { IfErr result (λ error. IsOutside error
+        ⊎ IsNoKeyOf version PublicKey key.now) }
+{
+    match version {
+        PaserkVersion::V1 => Err(ProgramError::Key(PaserkError::OtherVersion(version))),
+        PaserkVersion::V2 => {
+            let key = public_from_paserk::<V2, 32>(alloc, key)?;
+            let public = PasetoAsymmetricPublicKey::<V2, Public>::from(&key);
+            Ok(public_id(alloc, &public)?)
+        }
+        PaserkVersion::V3 => {
+            let key = public_from_paserk::<V3, 49>(alloc, key)?;
+            let public = PasetoAsymmetricPublicKey::<V3, Public>::try_from(&key)?;
+            Ok(public_id(alloc, &public)?)
+        }
+        PaserkVersion::V4 => {
+            let key = public_from_paserk::<V4, 32>(alloc, key)?;
+            let public = PasetoAsymmetricPublicKey::<V4, Public>::from(&key);
+            Ok(public_id(alloc, &public)?)
+        }
+    }
+}

@@ -1,0 +1,121 @@
+//! The command `inspect`.
+
+ghost use Rattle.std.specs.Prelude.{◌≡◌, ◌⊎◌, ◌++◌, ℕ, List, IfErr, IfOk, OnOk, Some, codes, nat_eq, option_map, string_bytes};
+ghost use Rattle.std.specs.List.{slice_get};
+ghost use Rattle.std.specs.Cmp.Lexicographic.{pointwise};
+ghost use Rattle.rusty_paseto_parts.specs.Section.{HasCount, sections};
+ghost use Rattle.paseto_tasks.specs.Error.{IsOutside};
+ghost use Rattle.paseto_tasks.specs.Inspect.{Inspects, InspectsNothing, IsTextLine, SaysText, footer_line, line, signature_length};
+
+use crate::error::ProgramError;
+use rusty_paseto_core::{PasetoError, UntrustedToken, from_section, split_token};
+use std::alloc::{AllocError, Global};
+use std::str;
+
+/// The lines of what a token says of itself, none of which is to be trusted.
+pub fn inspect(alloc: Global, token: &str) -> Result<String, ProgramError>
+    ensures printed { IfOk result (λ lines. Inspects token.now (string_bytes lines)) }
+    ensures refused { IfErr result (λ error. IsOutside error ⊎ InspectsNothing token.now) }
+{
+    let untrusted = UntrustedToken::try_parse(token)?;
+    let (version, purpose) = (untrusted.version(), untrusted.purpose());
+    let payload = payload_of(token)?;
+    let footer = untrusted.footer_str(alloc)?;
+    let mut lines = String::new(alloc);
+    push_line(&mut lines, "version: ", version)?;
+    push_line(&mut lines, "purpose: ", purpose)?;
+    push_footer(&mut lines, &footer)?;
+    push_text_line(alloc, &mut lines, version, purpose, payload)?;
+    Ok(lines)
+}
+
+/// The third section of a token.
+fn payload_of(token: &str) -> Result<&str, PasetoError>
+    ensures third { IfOk result (λ payload. slice_get (sections token.now) 2 ≡ Some payload.now) }
+    ensures count { IfErr result (λ error. ¬ HasCount (sections token.now)) }
+{
+    let Some(parts) = split_token(token) else {
+        return Err(PasetoError::IncorrectSize);
+    };
+    let required = parts.0;
+    Ok(required[2])
+}
+
+/// Appends a line of a name and what stands there.
+fn push_line(lines: &mut String, name: &str, value: &str) -> Result<(), AllocError>
+    ensures { OnOk result (string_bytes lines.new ≡ string_bytes lines.old
+        ++ line name.now value.now) }
+{
+    lines.push_str(name)?;
+    lines.push_str(value)?;
+    lines.push('\n')
+}
+
+/// Appends the line of a footer.
+fn push_footer(lines: &mut String, footer: &Option<String>) -> Result<(), AllocError>
+    ensures { OnOk result (string_bytes lines.new ≡ string_bytes lines.old
+        ++ footer_line (option_map string_bytes footer.now)) }
+{
+    match footer {
+        Some(text) => push_line(lines, "footer: ", text.as_str()),
+        None => lines.push_str("no footer\n"),
+    }
+}
+
+/// Appends the line of the text of a token.
+fn push_text_line(
+    alloc: Global,
+    lines: &mut String,
+    version: &str,
+    purpose: &str,
+    section: &str,
+) -> Result<(), ProgramError>
+    ensures appended { OnOk result ((added : List ℕ)
+        × IsTextLine (pointwise nat_eq purpose.now (codes "public")) version.now section.now added
+        × (string_bytes lines.new ≡ string_bytes lines.old ++ added)) }
+    ensures refused { IfErr result (λ error. IsOutside error ⊎ ((added : List ℕ)
+        → ¬ IsTextLine (pointwise nat_eq purpose.now (codes "public")) version.now section.now
+        added)) }
+{
+    if purpose == "public" {
+        push_text(alloc, lines, version, section)
+    } else {
+        lines.push_str("text: encrypted\n")?;
+        Ok(())
+    }
+}
+
+/// Appends the line of the text of a public token, which stands in front of the signature.
+fn push_text(
+    alloc: Global,
+    lines: &mut String,
+    version: &str,
+    section: &str,
+) -> Result<(), ProgramError>
+    ensures appended { OnOk result ((added : List ℕ) × SaysText version.now section.now added
+        × (string_bytes lines.new ≡ string_bytes lines.old ++ added)) }
+    ensures refused { IfErr result (λ error. IsOutside error
+        ⊎ ((added : List ℕ) → ¬ SaysText version.now section.now added)) }
+{
+    let payload = from_section(alloc, section)?;
+    let length = signature_length(version);
+    if payload.len() < length {
+        return Err(ProgramError::Refused(PasetoError::IncorrectSize));
+    }
+    let text = str::from_utf8(&payload[..payload.len() - length])?;
+    push_line(lines, "text, not verified: ", text)?;
+    Ok(())
+}
+
+/// How many bytes the signature of a public token of a version has.
+fn signature_length(version: &str) -> usize
+    ensures { result ≡ signature_length version.now }
+{
+    if version == "v1" {
+        256
+    } else if version == "v3" {
+        96
+    } else {
+        64
+    }
+}

@@ -1,0 +1,39 @@
+//! The output: its line, and writing the whole of it.
+
+ghost use Rattle.std.specs.Prelude.{◌≡◌, ℕ, List, IfErr, IfOk, OnErr, OnOk, string_bytes};
+ghost use Rattle.std.specs.Io.KnownBytes.{Appends};
+ghost use Rattle.paseto_tasks.specs.Error.{IsOutside};
+ghost use Rattle.paseto_tasks.specs.Output.{IsCutShort, IsLineOf};
+
+use crate::error::ProgramError;
+use std::io::Write;
+
+/// Writes all the bytes. A write that fails or takes none is `InputOrOutput`, and the writer then
+/// has a beginning of them, and not all.
+pub fn write_whole<W: Write>(output: &mut W, bytes: &[u8]) -> Result<(), ProgramError>
+    ensures whole { OnOk result (Appends (W.contents output.old)
+        (W.contents output.new) bytes.now) }
+    ensures beginning { OnErr result ((written : List ℕ) × IsCutShort bytes.now written
+        × Appends (W.contents output.old) (W.contents output.new) written) }
+    ensures failed { IfErr result (λ error. error ≡ ProgramError.InputOrOutput) }
+{
+    let mut rest = bytes;
+    'writes: while !rest.is_empty() {
+        let count = output.write(rest)?;
+        if count == 0 {
+            return Err(ProgramError::InputOrOutput);
+        }
+        rest = &rest[count..];
+    }
+    Ok(())
+}
+
+/// A text and a line feed.
+pub fn with_line_feed(text: String) -> Result<String, ProgramError>
+    ensures line { IfOk result (λ line. IsLineOf (string_bytes text) (string_bytes line)) }
+    ensures memory { IfErr result IsOutside }
+{
+    let mut line = text;
+    line.push('\n')?;
+    Ok(line)
+}

@@ -1,0 +1,213 @@
+//! The program, over any key file, generator, input and outputs.
+
+ghost use Rattle.std.specs.Prelude.{◌≡◌, ◌≢◌, ◌≤◌, ◌==◌, ◌⊎◌, ℕ, List, IfOk, IfErr, IfSome, IsErrAnd, IsOkAnd, OnOk, is_ok, string_bytes};
+ghost use Rattle.std.specs.Io.{StartsWith};
+ghost use Rattle.std.specs.Io.KnownBytes.{Appends};
+ghost use Rattle.paseto_tasks.specs.Id.{Identifies, IdentifiesNothing};
+ghost use Rattle.paseto_tasks.specs.declared.error.ProgramError.{ProgramError};
+ghost use Rattle.paseto_tasks.specs.Error.{IsOutside, line_of, status_of};
+ghost use Rattle.paseto_tasks.specs.Input.{line_of_input};
+ghost use Rattle.paseto_tasks.specs.Inspect.{Inspects, InspectsNothing};
+ghost use Rattle.paseto_tasks.specs.Run.{IsRefused, Prints, Writes};
+
+use crate::arguments::{Options, Task};
+use crate::error::ProgramError;
+use crate::id::id;
+use crate::input::{read_key_line, read_line};
+use crate::inspect::inspect;
+use crate::local::{decrypt, encrypt};
+use crate::output::write_whole;
+use crate::public::{sign, verify};
+use rand_core::TryRng;
+use std::alloc::Global;
+use std::io::{Read, Write};
+
+/// Does a task with the key of a key file, and returns the status.
+///
+/// It is 0 where the whole output was written, 1 where the key, the text or the token was refused, and 3 where memory
+/// or random bytes were, or a read or a write failed; then the error's text and a line feed go to `errors`, or a
+/// beginning of them where a write fails there, which changes no status. What is refused writes nothing to `output`,
+/// and a write that fails leaves a beginning of the output there.
+pub fn run<K: Read, G: TryRng, R: Read, W: Write, E: Write>(
+    alloc: Global,
+    task: Task,
+    options: &Options<'_>,
+    key_file: &mut K,
+    generator: &mut G,
+    input: &mut R,
+    output: &mut W,
+    errors: &mut E,
+) -> u8
+    ensures status { result ≤ 3 }
+    ensures written { (written : List ℕ)
+        × Appends (W.contents output.old) (W.contents output.new) written
+        × IfSome (K.remaining key_file.old) (λ file. IfSome (R.remaining input.old) (λ bytes.
+        Writes task options.now (λ drawn. G.may_fill generator.old drawn generator.new) file bytes
+        (result == 0) written)) }
+    ensures untouched { (result ≡ 1) ⊎ (result ≡ 2) → output.new ≡ output.old }
+    ensures refused { (result ≡ 1) ⊎ (result ≡ 2)
+        → IfSome (K.remaining key_file.old) (λ file. IfSome (R.remaining input.old) (λ bytes.
+        IsRefused task options.now (λ drawn. G.may_fill generator.old drawn generator.new) file
+        bytes)) }
+    ensures quiet { result ≡ 0 → errors.new ≡ errors.old }
+    ensures said { result ≢ 0 → (error : ProgramError) × (status_of error ≡ result)
+        × ((said : List ℕ) × StartsWith (line_of error) said × Appends (E.contents errors.old)
+        (E.contents errors.new) said) }
+{
+    match print(alloc, task, options, key_file, generator, input, output) {
+        Ok(()) => 0,
+        Err(error) => {
+            error.say(errors);
+            error.status()
+        }
+    }
+}
+
+/// Writes the output, which is made whole before its first byte is written.
+fn print<K: Read, G: TryRng, R: Read, W: Write>(
+    alloc: Global,
+    task: Task,
+    options: &Options<'_>,
+    key_file: &mut K,
+    generator: &mut G,
+    input: &mut R,
+    output: &mut W,
+) -> Result<(), ProgramError>
+    ensures written { (written : List ℕ)
+        × Appends (W.contents output.old) (W.contents output.new) written
+        × IfSome (K.remaining key_file.old) (λ file. IfSome (R.remaining input.old) (λ bytes.
+        Writes task options.now (λ drawn. G.may_fill generator.old drawn generator.new) file bytes
+        (is_ok result) written)) }
+    ensures untouched { IfErr result (λ error. (status_of error ≡ 3) ⊎ (output.new ≡ output.old)) }
+    ensures refused { IfErr result (λ error. IfSome (K.remaining key_file.old)
+        (λ file. IfSome (R.remaining input.old) (λ bytes.
+        IsOutside error ⊎ IsRefused task options.now
+        (λ drawn. G.may_fill generator.old drawn generator.new) file bytes))) }
+{
+    let made = make(alloc, task, options, key_file, generator, input)?;
+    write_whole(output, made.as_str().as_bytes())
+}
+
+/// Tells what a token says of itself, and returns the status, as `run` does.
+pub fn run_inspect<R: Read, W: Write, E: Write>(
+    alloc: Global,
+    input: &mut R,
+    output: &mut W,
+    errors: &mut E,
+) -> u8
+    ensures status { result ≤ 3 }
+    ensures written { result ≡ 0 → (written : List ℕ)
+        × Appends (W.contents output.old) (W.contents output.new) written
+        × IfSome (R.remaining input.old) (λ bytes. Inspects (line_of_input bytes) written) }
+    ensures refused { (result ≡ 1) ⊎ (result ≡ 2) → (output.new ≡ output.old)
+        × IfSome (R.remaining input.old) (λ bytes. InspectsNothing (line_of_input bytes)) }
+    ensures quiet { result ≡ 0 → errors.new ≡ errors.old }
+    ensures said { result ≢ 0 → (error : ProgramError) × (status_of error ≡ result)
+        × ((said : List ℕ) × StartsWith (line_of error) said × Appends (E.contents errors.old)
+        (E.contents errors.new) said) }
+{
+    match print_inspection(alloc, input, output) {
+        Ok(()) => 0,
+        Err(error) => {
+            error.say(errors);
+            error.status()
+        }
+    }
+}
+
+/// Writes what a token says of itself.
+fn print_inspection<R: Read, W: Write>(
+    alloc: Global,
+    input: &mut R,
+    output: &mut W,
+) -> Result<(), ProgramError>
+    ensures written { OnOk result ((written : List ℕ)
+        × Appends (W.contents output.old) (W.contents output.new) written
+        × IfSome (R.remaining input.old) (λ bytes. Inspects (line_of_input bytes) written)) }
+    ensures refused { IfErr result (λ error. (status_of error ≡ 3) ⊎ (output.new ≡ output.old)) }
+    ensures nothing { IfErr result (λ error. IfSome (R.remaining input.old)
+        (λ bytes. IsOutside error ⊎ InspectsNothing (line_of_input bytes))) }
+{
+    let token = read_line(alloc, input)?;
+    let made = inspect(alloc, token.as_str())?;
+    write_whole(output, made.as_str().as_bytes())
+}
+
+/// The output of a task.
+fn make<K: Read, G: TryRng, R: Read>(
+    alloc: Global,
+    task: Task,
+    options: &Options<'_>,
+    key_file: &mut K,
+    generator: &mut G,
+    input: &mut R,
+) -> Result<String, ProgramError>
+    ensures printed { IfOk result (λ made. IfSome (K.remaining key_file.old)
+        (λ file. IfSome (R.remaining input.old) (λ bytes.
+        Prints task options.now (λ drawn. G.may_fill generator.old drawn generator.new) file bytes
+        (string_bytes made)))) }
+    ensures refused { IfErr result (λ error. IfSome (K.remaining key_file.old)
+        (λ file. IfSome (R.remaining input.old) (λ bytes.
+        IsOutside error ⊎ IsRefused task options.now
+        (λ drawn. G.may_fill generator.old drawn generator.new) file bytes))) }
+{
+    let key = read_key_line(alloc, key_file)?;
+    let key = key.as_str();
+    match task {
+        Task::Encrypt => encrypt(alloc, key, options, generator, input),
+        Task::Decrypt => decrypt(alloc, key, options, input),
+        Task::Sign => sign(alloc, key, options, input),
+        Task::Verify => verify(alloc, key, options, input),
+    }
+}
+
+/// Prints the id of a key, and returns the status, as `run` does.
+pub fn run_id<W: Write, E: Write>(alloc: Global, key: &str, output: &mut W, errors: &mut E) -> u8
+    ensures status { result ≤ 3 }
+    ensures written { result ≡ 0 → (written : List ℕ)
+        × Appends (W.contents output.old) (W.contents output.new) written
+        × Identifies key.now written }
+    ensures refused { (result ≡ 1) ⊎ (result ≡ 2)
+        → (output.new ≡ output.old) × IdentifiesNothing key.now }
+    ensures quiet { result ≡ 0 → errors.new ≡ errors.old }
+    ensures said { result ≢ 0 → (error : ProgramError) × (status_of error ≡ result)
+        × ((said : List ℕ) × StartsWith (line_of error) said × Appends (E.contents errors.old)
+        (E.contents errors.new) said) }
+{
+    finish(id(alloc, key), output, errors)
+}
+
+/// Writes what was made, or says why nothing was, and returns the status, as `run` does.
+pub fn finish<W: Write, E: Write>(
+    made: Result<String, ProgramError>,
+    output: &mut W,
+    errors: &mut E,
+) -> u8
+    ensures status { result ≤ 3 }
+    ensures written { result ≡ 0 → IsOkAnd made
+        (λ text. Appends (W.contents output.old) (W.contents output.new) (string_bytes text)) }
+    ensures refused { (result ≡ 1) ⊎ (result ≡ 2) → (output.new ≡ output.old)
+        × IsErrAnd made (λ error. status_of error ≡ result) }
+    ensures quiet { result ≡ 0 → errors.new ≡ errors.old }
+    ensures said { result ≢ 0 → (error : ProgramError) × (status_of error ≡ result)
+        × ((said : List ℕ) × StartsWith (line_of error) said × Appends (E.contents errors.old)
+        (E.contents errors.new) said) }
+{
+    match written(made, output) {
+        Ok(()) => 0,
+        Err(error) => {
+            error.say(errors);
+            error.status()
+        }
+    }
+}
+
+/// Writes what was made.
+fn written<W: Write>(made: Result<String, ProgramError>, output: &mut W) -> Result<(), ProgramError>
+    ensures written { OnOk result (IsOkAnd made
+        (λ text. Appends (W.contents output.old) (W.contents output.new) (string_bytes text))) }
+    ensures refused { IfErr result (λ error. (status_of error ≡ 3)
+        ⊎ ((output.new ≡ output.old) × IsErrAnd made (λ cause. cause ≡ error))) }
+{
+    write_whole(output, made?.as_str().as_bytes())
+}
