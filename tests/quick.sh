@@ -1,13 +1,14 @@
 #!/usr/bin/env bash
-# Says within minutes whether a change is sound, while one works on it: the formats, the checks of the crates
-# that changed and of those above them, over the work that earlier checks kept, their tests, run with no
-# proof, and the programs from outside.
+# Says within minutes whether a change is sound, while one works on it: the formats, the checks of all crates over the
+# work that earlier checks kept, so that only what changed and what stands above it costs time, the tests of these
+# crates, run with no proof, and the programs from outside.
 #
 #   tests/quick.sh [REVISION]
 #
-# What changed is what differs from REVISION, which is `main` where none is given, files that git does not know
-# yet among them. It tries no must-fail edit, proves no test, refuses no memory, and begins with kept work: it
-# is no gate. Before the last line stands 'N passed, M failed', and the status is 0 where none failed.
+# What changed is what differs from REVISION, which is `main` where none is given, files that git does not know yet
+# among them. It tries no must-fail edit, proves no test, refuses no memory, and begins with kept work: it is no gate.
+# A test that ends only once it is compiled, as one of a hundred thousand tokens, is told and counts for nothing. Before
+# the last line stands 'N passed, M failed', and the status is 0 where none failed.
 set -u
 export LC_ALL=C
 
@@ -22,17 +23,16 @@ rattle=$(dirname "$(rt doc)")/bin/rattle
 
 work=$(mktemp -d)
 trap 'rm -rf "$work"' EXIT
-passed=0
-failed=0
+# shellcheck source=tests/counts.sh
+source "$root/tests/counts.sh"
 
 # settle NAME STATUS LOG: counts, and shows the end of a log that tells of a failure.
 settle() {
     if [ "$2" -eq 0 ]; then
-        passed=$((passed + 1))
+        pass
         echo "ok: $1"
     else
-        failed=$((failed + 1))
-        echo "FAILED: $1"
+        fail "$1"
         tail -n 25 "$3"
     fi
 }
@@ -58,38 +58,55 @@ check_format() {
     settle "format of $1" $? "$work/log"
 }
 
-check_crate() {
-    (cd "crates/$1" && rt check) >"$work/log" 2>&1
-    settle "check of $1: $(tail -n 1 "$work/log" | cut -c 1-100)" $? "$work/log"
+# One line for each crate that `rt all check` tells of.
+settle_checks() {
+    local crate said
+    sed -n '/^== summary/,$p' "$work/checks" | sed -nE 's/^([a-z0-9_]+): (.*)$/\1 \2/p' >"$work/summary"
+    [ -s "$work/summary" ] || settle 'the checks' 1 "$work/checks"
+    while read -r crate said; do
+        [ "$said" = ok ]
+        settle "check of $crate: $said" $? <(sed -n "/^== $crate\$/,/^== /p" "$work/checks")
+    done <"$work/summary"
 }
 
-try_tests() {
-    (cd "crates/$1" && rt try --test) >"$work/log" 2>&1
-    settle "tests of $1, with no proof" $? "$work/log"
+# The tests of a crate that were run with no proof. One that did not end within its seconds is told.
+settle_tests() {
+    local log=$work/tests.$1 right
+    right=$(grep -cE '^test .* \.\.\. ok$' "$log")
+    grep -B1 -E '^ +checked: no-answer: the program did not end' "$log" \
+        | sed -nE 's/^test (.*) \.\.\. FAILED$/not answered with no proof: \1/p'
+    [ "$right" -gt 0 ] && ! grep -A1 -E '^test .* \.\.\. FAILED$' "$log" \
+        | grep -E '^ ' | grep -vqE 'checked: no-answer: the program did not end'
+    settle "tests of $1 with no proof: $right" $? "$log"
 }
 
 changed | sort -u >"$work/changed"
 echo "changed against $base: $(tr '\n' ' ' <"$work/changed")"
 mapfile -t crates < <(with_those_above <"$work/changed")
+tested=()
 for crate in "${crates[@]}"; do
     check_format "$crate"
-done
-for crate in "${crates[@]}"; do
-    check_crate "$crate"
     if grep -rqF '#[test]' "crates/$crate/src"; then
-        try_tests "$crate"
+        tested+=("$crate")
+        (cd "crates/$crate" && rt try --test --seconds 10) >"$work/tests.$crate" 2>&1 </dev/null &
     fi
 done
+rt all check --jobs "$(nproc)" >"$work/checks" 2>&1
+settle_checks
 
 # `rt run` builds the program anew where something below it changed.
 (cd crates/paseto_tool && rt run -- inspect v4.local.payload) >"$work/log" 2>&1 </dev/null
-settle 'the program is built' $? "$work/log"
+settle 'paseto_tool is built' $? "$work/log"
 bash tests/program.sh >"$work/log" 2>&1
 settle "tests/program.sh: $(tail -n 1 "$work/log")" $? "$work/log"
 (cd crates/paseto && rt run -- --version) >"$work/log" 2>&1 </dev/null
 settle 'paseto is built' $? "$work/log"
 bash tests/paseto.sh >"$work/log" 2>&1
 settle "tests/paseto.sh: $(tail -n 1 "$work/log")" $? "$work/log"
+wait
+for crate in "${tested[@]}"; do
+    settle_tests "$crate"
+done
 
 echo "$passed passed, $failed failed"
 echo "tests/quick.sh is no gate: 'bash .ci/run' proves everything from nothing, the tests too, and tries the edits"
