@@ -64,8 +64,9 @@ settle_checks() {
     sed -n '/^== summary/,$p' "$work/checks" | sed -nE 's/^([a-z0-9_]+): (.*)$/\1 \2/p' >"$work/summary"
     [ -s "$work/summary" ] || settle 'the checks' 1 "$work/checks"
     while read -r crate said; do
+        sed -n "/^== $crate\$/,/^== /p" "$work/checks" >"$work/log"
         [ "$said" = ok ]
-        settle "check of $crate: $said" $? <(sed -n "/^== $crate\$/,/^== /p" "$work/checks")
+        settle "check of $crate" $? "$work/log"
     done <"$work/summary"
 }
 
@@ -78,6 +79,18 @@ settle_tests() {
     [ "$right" -gt 0 ] && ! grep -A1 -E '^test .* \.\.\. FAILED$' "$log" \
         | grep -E '^ ' | grep -vqE 'checked: no-answer: the program did not end'
     settle "tests of $1 with no proof: $right" $? "$log"
+}
+
+# settle_program NAME SCRIPT WORD..: builds a program by `rt run`, which runs it with the words, and asks it by its
+# script.
+settle_program() {
+    local name=$1 script=$2 status
+    shift 2
+    (cd "crates/$name" && rt run -- "$@") >"$work/log" 2>&1 </dev/null
+    settle "$name is built" $? "$work/log"
+    bash "tests/$script" >"$work/log" 2>&1
+    status=$?
+    settle "tests/$script: $(tail -n 1 "$work/log")" "$status" "$work/log"
 }
 
 changed | sort -u >"$work/changed"
@@ -94,15 +107,8 @@ done
 rt all check --jobs "$(nproc)" >"$work/checks" 2>&1
 settle_checks
 
-# `rt run` builds the program anew where something below it changed.
-(cd crates/paseto_tool && rt run -- inspect v4.local.payload) >"$work/log" 2>&1 </dev/null
-settle 'paseto_tool is built' $? "$work/log"
-bash tests/program.sh >"$work/log" 2>&1
-settle "tests/program.sh: $(tail -n 1 "$work/log")" $? "$work/log"
-(cd crates/paseto && rt run -- --version) >"$work/log" 2>&1 </dev/null
-settle 'paseto is built' $? "$work/log"
-bash tests/paseto.sh >"$work/log" 2>&1
-settle "tests/paseto.sh: $(tail -n 1 "$work/log")" $? "$work/log"
+settle_program paseto_tool program.sh inspect v4.local.payload
+settle_program paseto paseto.sh --version
 wait
 for crate in "${tested[@]}"; do
     settle_tests "$crate"
