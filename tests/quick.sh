@@ -7,8 +7,8 @@
 #
 # What changed is what differs from REVISION, which is `main` where none is given, files that git does not know yet
 # among them. It tries no must-fail edit, proves no test, refuses no memory, and begins with kept work: it is no gate.
-# A test that does not end in ten seconds with no proof is told, and counts for nothing: the gate runs it compiled. Before
-# the last line stands 'N passed, M failed', and the status is 0 where none failed.
+# A test that does not end in ten seconds with no proof is told, and counts for nothing: the gate runs it compiled.
+# Before the last line stands 'N passed, M failed', and the status is 0 where none failed.
 set -u
 export LC_ALL=C
 
