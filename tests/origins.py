@@ -14,6 +14,7 @@ import sys
 ROOT = pathlib.Path(__file__).resolve().parent.parent
 TESTING = {
     "paseto_bench",
+    "paseto_cases",
     "paseto_doc_examples",
     "paseto_example",
     "paseto_memory",

@@ -1,7 +1,8 @@
 //! Toys for the crates that test: what a caller of the library brings, as small as it can be, and its keys.
 //!
 //! A toy sealed box stands in for the one that a caller brings to tokens of version 2, toy signature schemes
-//! for those that a caller brings to public tokens, and generators of known bytes for a random one.
+//! for those that a caller brings to public tokens, and generators of known bytes for a random one. `long` has texts
+//! that are longer than those that a call may be expected to take.
 //!
 //! ```rust
 //! use paseto_toys::ToyV4;
@@ -28,6 +29,7 @@ pub mod counting;
 pub mod generators;
 pub mod keys;
 mod lenient;
+pub mod long;
 mod plain_box;
 mod refusing;
 mod toy_box;

@@ -2,7 +2,7 @@
 
 use crate::expect::{expect_same, expect_that};
 use crate::hexadecimal::bytes_of;
-use crate::long::text_of;
+use paseto_toys::long::text_of;
 use rusty_paseto_core::PreAuthenticationEncoding;
 use std::alloc::Global;
 use std::process::Abort;

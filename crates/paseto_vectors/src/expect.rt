@@ -44,25 +44,3 @@ pub(crate) fn shown<D: Display>(rt: &impl Abort, alloc: Global, value: &D) -> St
 pub(crate) fn expect_shown<D: Display>(rt: &impl Abort, alloc: Global, value: &D, wanted: &str) {
     expect_text(rt, shown(rt, alloc, value).as_str(), wanted);
 }
-
-/// The text of the error that a call answered.
-pub(crate) fn refusal_of<T: Drop, E: Display + Drop>(
-    rt: &impl Abort,
-    alloc: Global,
-    answer: Result<T, E>,
-) -> String {
-    match answer {
-        Ok(_) => panic!(rt; "nothing was refused"),
-        Err(error) => shown(rt, alloc, &error),
-    }
-}
-
-/// A call refused, by an error of this text.
-pub(crate) fn expect_refusal<T: Drop, E: Display + Drop>(
-    rt: &impl Abort,
-    alloc: Global,
-    answer: Result<T, E>,
-    wanted: &str,
-) {
-    expect_text(rt, refusal_of(rt, alloc, answer).as_str(), wanted);
-}

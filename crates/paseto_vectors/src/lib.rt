@@ -8,13 +8,7 @@
 #[cfg(test)]
 mod boxes;
 #[cfg(test)]
-mod builders;
-#[cfg(test)]
-mod claims;
-#[cfg(test)]
 mod counted;
-#[cfg(test)]
-mod defaults;
 #[cfg(test)]
 mod encoding;
 #[cfg(test)]
@@ -26,13 +20,7 @@ mod hexadecimal;
 #[cfg(test)]
 mod keys;
 #[cfg(test)]
-mod kinds;
-#[cfg(test)]
-mod long;
-#[cfg(test)]
 mod montgomery;
-#[cfg(test)]
-mod parsers;
 #[cfg(test)]
 mod paserk;
 #[cfg(test)]
@@ -43,7 +31,5 @@ mod schemes;
 mod sections;
 #[cfg(test)]
 mod texts;
-#[cfg(test)]
-mod tokens;
 #[cfg(test)]
 mod untrusted;

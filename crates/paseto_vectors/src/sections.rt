@@ -2,7 +2,7 @@
 
 use crate::expect::{expect_bytes, expect_same, expect_text, expect_that};
 use crate::hexadecimal::array_of;
-use crate::long::text_of;
+use paseto_toys::long::text_of;
 use rusty_paseto_parts::{
     PasetoError, from_section, is_section_of, laws, push_section, split_token, to_section,
 };

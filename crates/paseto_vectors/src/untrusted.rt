@@ -2,8 +2,8 @@
 
 use crate::expect::{expect_bytes, expect_text, expect_that};
 use crate::hexadecimal::array_of;
-use crate::long::{LENGTHS, text_of};
 use crate::sections::{CHARACTERS, NUMBERS};
+use paseto_toys::long::{LENGTHS, text_of};
 use rusty_paseto_core::{Footer, PasetoError, UntrustedToken, to_section};
 use std::alloc::Global;
 use std::process::Abort;

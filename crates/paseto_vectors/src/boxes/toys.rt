@@ -1,8 +1,8 @@
 //! The toy box by itself.
 
 use crate::expect::{expect_same, expect_that};
-use crate::long::text_of;
 use paseto_toys::ToyBox;
+use paseto_toys::long::text_of;
 use rusty_paseto_core::SealedBox;
 use std::alloc::{AllocError, Global};
 use std::process::Abort;

@@ -16,7 +16,7 @@ use std::alloc::{AllocError, Global};
 /// messages, such as those too long for it, and what it does not open is `None` too; `try_encrypt` and
 /// `try_decrypt` answer `ChaChaCipherError` for both. An implementer gives `sealing`, and proves by `lawful`
 /// that different messages have different sealings. Nothing here makes a box keep a secret. docs/SCHEMES.md
-/// says more, and `ToyBox` of `paseto_vectors` is a lawful box without secrecy.
+/// says more, and `ToyBox` of `paseto_toys` is a lawful box without secrecy.
 ///
 /// Source: PASETO specification, "Version 2"; draft-irtf-cfrg-xchacha, section 2.
 pub trait SealedBox {

@@ -23,7 +23,7 @@ use std::alloc::Global;
 /// come out of `try_sign` and `try_verify` as they are: `InvalidSignature` for a signature that is not valid,
 /// `InvalidKey` or `KeyRejected` for a key. An implementer gives the four ghost fields, and proves each method
 /// by them; nothing here makes a scheme secure, which is what `valid` says. docs/SCHEMES.md has a whole
-/// example, and `paseto_vectors` a toy for each version.
+/// example, and `paseto_toys` a toy for each version.
 ///
 /// Source: PASETO specification, "Version 1" to "Version 4".
 pub trait SignatureScheme<const SIG: usize> {

@@ -1,4 +1,4 @@
-use Rattle.std.proofs.Common.{◌⊎◌, ℕ, List, string_bytes}
+use Rattle.std.proofs.Common.{rules, ◌⊎◌, ℕ, List, string_bytes}
 use Rattle.std.proofs.lemmas.Result.{err_from_is_err_and}
 use Rattle.paseto_tasks.specs.Error.{IsOutside, program_error_of}
 use Rattle.paseto_tasks.specs.Local.{Opens}
@@ -15,3 +15,6 @@ returns-in_err-text-clause-refused g c =
     c.in_ok-token.ensures.line c.as_str.ensures.value
     (not_opened paserk design c.args.key.now c.args.options.now c.in_ok-key.key c.as_str.result.now c.in_err-text.field-0.0
     (λ other bytes size is. c.in_ok-key.ensures.read other bytes size is) c.in_err-text.ensures.complete))
+
+pub returns-clause-printed : goal.returns-clause-printed
+returns-clause-printed g c = search rules

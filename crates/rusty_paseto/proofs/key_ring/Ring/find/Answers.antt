@@ -1,4 +1,4 @@
-use Rattle.std.proofs.Common.{◌≡◌, Some, string_bytes, sym}
+use Rattle.std.proofs.Common.{rules, ◌≡◌, Some, string_bytes, sym}
 use Rattle.rusty_paseto.specs.Held.{keys_of}
 use Rattle.rusty_paseto.proofs.KeyRingLemmas.{same_found}
 use Rattle.rusty_paseto.proofs.key_ring.Ring.find.Goals as goal
@@ -12,3 +12,6 @@ returns-in-Some-clause-complete g c = λ other named key is.
     (string_bytes c.in_ok-id.id) (rw said at c.in_ok-id.ensures.read) other named key is in
     let found : c.in-Some.key.now ≡ key = cc (held, same.2) in
     (same.0, same.1, found)
+
+pub returns-in-Some-clause-ok : goal.returns-in-Some-clause-ok
+returns-in-Some-clause-ok g c = search rules

@@ -1,4 +1,4 @@
-use Rattle.std.proofs.Common.{◌≡◌, ◌++◌, ℕ, length, take, drop, ◌-◌, ◌∙◌, refl, arith, sym, ap, Vec, Global}
+use Rattle.std.proofs.Common.{rules, ◌≡◌, ◌++◌, ℕ, length, take, drop, ◌-◌, ◌∙◌, refl, arith, sym, ap, Vec, Global}
 use Rattle.std.proofs.lemmas.List.{take_at}
 use Rattle.std.proofs.lemmas.Str.{IsUtf8-string_bytes}
 use Rattle.std.specs.String.{string_bytes}
@@ -28,3 +28,6 @@ returns-in-Ok-clause-holds g c =
     rw (c.deref_mut.ensures.value, c.keep_ciphertext.ensures, len, width_again) refl in
     holds_text design binding payload width own room c.args.key.now c.nonce_of-nonce.result c.deref_mut.result.now (string_bytes c.in-Ok.text)
     tagged refl nonce ciphertext (text ∙ c.apply_keystream.ensures _ _ c.split-keys.ensures) (IsUtf8-string_bytes c.in-Ok.text)
+
+pub returns-then-len-tag_length-clause-fault : goal.returns-then-len-tag_length-clause-fault
+returns-then-len-tag_length-clause-fault g c = search rules

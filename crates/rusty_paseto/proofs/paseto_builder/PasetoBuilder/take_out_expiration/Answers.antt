@@ -1,0 +1,8 @@
+use Rattle.std.proofs.Common.{rules}
+use Rattle.rusty_paseto.proofs.paseto_builder.PasetoBuilder.take_out_expiration.Goals as goal
+
+pub returns-clause-claims : goal.returns-clause-claims
+returns-clause-claims g c = search rules
+
+pub returns-clause-gone : goal.returns-clause-gone
+returns-clause-gone g c = search rules

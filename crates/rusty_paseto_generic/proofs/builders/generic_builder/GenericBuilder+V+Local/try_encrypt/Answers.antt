@@ -1,0 +1,5 @@
+use Rattle.std.proofs.Common.{rules}
+use Rattle.rusty_paseto_generic.proofs.builders.generic_builder.GenericBuilder+V+Local.try_encrypt.Goals as goal
+
+pub returns-clause-ok : goal.returns-clause-ok
+returns-clause-ok g c = search rules
