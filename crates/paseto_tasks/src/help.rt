@@ -83,18 +83,25 @@ const ALL: &[&str] = &[
     VERIFY, GAP, INSPECT, STATUSES,
 ];
 
+/// What is told of each command: its name, and its pieces.
+const COMMANDS: &[(&str, &[&str])] = &[
+    ("keygen", &[KEYGEN]),
+    ("id", &[ID]),
+    ("issue", &[ISSUE]),
+    ("check", &[CHECK]),
+    ("encrypt", &[ENCRYPT]),
+    ("decrypt", &[DECRYPT]),
+    ("sign", &[SIGN]),
+    ("verify", &[VERIFY]),
+    ("inspect", &[INSPECT]),
+];
+
 /// What is told of a command, or of all where none is named, in pieces that follow each other.
 pub fn help_of(command: Option<&str>) -> &'static [&'static str] {
-    match command {
-        Some("keygen") => &[KEYGEN],
-        Some("id") => &[ID],
-        Some("issue") => &[ISSUE],
-        Some("check") => &[CHECK],
-        Some("encrypt") => &[ENCRYPT],
-        Some("decrypt") => &[DECRYPT],
-        Some("sign") => &[SIGN],
-        Some("verify") => &[VERIFY],
-        Some("inspect") => &[INSPECT],
-        _ => ALL,
+    'commands: for &(name, pieces) in COMMANDS {
+        if command == Some(name) {
+            return pieces;
+        }
     }
+    ALL
 }
