@@ -31,22 +31,15 @@ impl Kind {
     fn parse(word: &str) -> Option<Kind>
         ensures { result ≡ kind_of word.now }
     {
-        if word == "v1.local" {
-            Some(Kind::V1Local)
-        } else if word == "v2.local" {
-            Some(Kind::V2Local)
-        } else if word == "v2.public" {
-            Some(Kind::V2Public)
-        } else if word == "v3.local" {
-            Some(Kind::V3Local)
-        } else if word == "v3.public" {
-            Some(Kind::V3Public)
-        } else if word == "v4.local" {
-            Some(Kind::V4Local)
-        } else if word == "v4.public" {
-            Some(Kind::V4Public)
-        } else {
-            None
+        match word {
+            "v1.local" => Some(Kind::V1Local),
+            "v2.local" => Some(Kind::V2Local),
+            "v2.public" => Some(Kind::V2Public),
+            "v3.local" => Some(Kind::V3Local),
+            "v3.public" => Some(Kind::V3Public),
+            "v4.local" => Some(Kind::V4Local),
+            "v4.public" => Some(Kind::V4Public),
+            _ => None,
         }
     }
 
@@ -79,16 +72,12 @@ impl Task {
     fn parse(word: &str) -> Option<Task>
         ensures { result ≡ task_of word.now }
     {
-        if word == "encrypt" {
-            Some(Task::Encrypt)
-        } else if word == "decrypt" {
-            Some(Task::Decrypt)
-        } else if word == "sign" {
-            Some(Task::Sign)
-        } else if word == "verify" {
-            Some(Task::Verify)
-        } else {
-            None
+        match word {
+            "encrypt" => Some(Task::Encrypt),
+            "decrypt" => Some(Task::Decrypt),
+            "sign" => Some(Task::Sign),
+            "verify" => Some(Task::Verify),
+            _ => None,
         }
     }
 }
@@ -119,18 +108,13 @@ impl Action {
     fn parse(command: &str, kind: Option<&str>) -> Option<Action>
         ensures { result ≡ action_of command.now (option_map (λ word. word.now) kind.entry) }
     {
-        if command == "keygen" {
-            Some(Action::Keygen(Kind::parse(kind?)?))
-        } else if command == "id" {
-            Some(Action::Id)
-        } else if command == "issue" {
-            Some(Action::Issue)
-        } else if command == "check" {
-            Some(Action::Check)
-        } else if command == "inspect" {
-            Some(Action::Inspect)
-        } else {
-            Some(Action::Keyed(Task::parse(command)?))
+        match command {
+            "keygen" => Some(Action::Keygen(Kind::parse(kind?)?)),
+            "id" => Some(Action::Id),
+            "issue" => Some(Action::Issue),
+            "check" => Some(Action::Check),
+            "inspect" => Some(Action::Inspect),
+            _ => Some(Action::Keyed(Task::parse(command)?)),
         }
     }
 
@@ -388,59 +372,47 @@ impl<'a> Options<'a> {
     }
 
     /// The same and a further option, unless its name is none or it is there already.
-    fn with(self, name: &str, value: &'a str) -> Option<Options<'a>>
+    fn with(mut self, name: &str, value: &'a str) -> Option<Options<'a>>
         ensures { option_map settings result ≡ with_setting
             (settings self.entry) name.now value.now }
     {
-        let mut options = self;
-        if name == "--key" && self.key.is_none() {
-            options.key = Some(value);
-        } else if name == "--ring" && self.ring.is_none() {
-            options.ring = Some(value);
-        } else if name == "--footer" && self.footer.is_none() {
-            options.footer = Some(Footer::from(value));
-        } else if name == "--footer-kid" && self.kid.is_none() {
-            options.kid = Some(value);
-        } else if name == "--assertion" && self.assertion.is_none() {
-            options.assertion = Some(ImplicitAssertion::from(value));
-        } else {
-            return self.with_other(name, value);
+        match name {
+            "--key" if self.key.is_none() => self.key = Some(value),
+            "--ring" if self.ring.is_none() => self.ring = Some(value),
+            "--footer" if self.footer.is_none() => self.footer = Some(Footer::from(value)),
+            "--footer-kid" if self.kid.is_none() => self.kid = Some(value),
+            "--assertion" if self.assertion.is_none() => self.assertion = Some(
+                ImplicitAssertion::from(value),
+            ),
+            _ => return self.with_other(name, value),
         }
-        Some(options)
+        Some(self)
     }
 
     /// The same and a further option of claims, times or files, unless its name is none or it is there already.
-    fn with_other(self, name: &str, value: &'a str) -> Option<Options<'a>>
+    fn with_other(mut self, name: &str, value: &'a str) -> Option<Options<'a>>
         ensures { option_map settings result ≡ with_other (settings self.entry) name.now value.now }
     {
-        let mut options = self;
-        if name == "--out" && self.out.is_none() {
-            options.out = Some(value);
-        } else if name == "--public" && self.public.is_none() {
-            options.public = Some(value);
-        } else if name == "--claim" {
-            options.claim = Some(value);
-        } else {
-            return self.with_time(name, value);
+        match name {
+            "--out" if self.out.is_none() => self.out = Some(value),
+            "--public" if self.public.is_none() => self.public = Some(value),
+            "--claim" => self.claim = Some(value),
+            _ => return self.with_time(name, value),
         }
-        Some(options)
+        Some(self)
     }
 
     /// The same and a further option of times, unless its name is none or it is there already.
-    fn with_time(self, name: &str, value: &'a str) -> Option<Options<'a>>
+    fn with_time(mut self, name: &str, value: &'a str) -> Option<Options<'a>>
         ensures { option_map settings result ≡ with_time (settings self.entry) name.now value.now }
     {
-        let mut options = self;
-        if name == "--expires" && self.expires.is_none() {
-            options.expires = Some(value);
-        } else if name == "--not-before" && self.not_before.is_none() {
-            options.not_before = Some(value);
-        } else if name == "--at" && self.at.is_none() {
-            options.at = Some(value);
-        } else {
-            return None;
+        match name {
+            "--expires" if self.expires.is_none() => self.expires = Some(value),
+            "--not-before" if self.not_before.is_none() => self.not_before = Some(value),
+            "--at" if self.at.is_none() => self.at = Some(value),
+            _ => return None,
         }
-        Some(options)
+        Some(self)
     }
 }
 
