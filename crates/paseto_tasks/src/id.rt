@@ -36,11 +36,20 @@ fn id_of_local(alloc: Global, version: PaserkVersion, key: &str) -> Result<Strin
     ensures refused { IfErr result (λ error. IsOutside error ⊎ IsNoKeyOf version LocalKey key.now) }
 {
     match version {
-        PaserkVersion::V1 => Ok(local_id(alloc, &local_from_paserk::<V1>(alloc, key)?)?),
-        PaserkVersion::V2 => Ok(local_id(alloc, &local_from_paserk::<V2>(alloc, key)?)?),
-        PaserkVersion::V3 => Ok(local_id(alloc, &local_from_paserk::<V3>(alloc, key)?)?),
-        PaserkVersion::V4 => Ok(local_id(alloc, &local_from_paserk::<V4>(alloc, key)?)?),
+        PaserkVersion::V1 => id_of_symmetric::<V1>(alloc, key),
+        PaserkVersion::V2 => id_of_symmetric::<V2>(alloc, key),
+        PaserkVersion::V3 => id_of_symmetric::<V3>(alloc, key),
+        PaserkVersion::V4 => id_of_symmetric::<V4>(alloc, key),
     }
+}
+
+/// The id of a key for local tokens, in one version.
+fn id_of_symmetric<V: KeyVersion>(alloc: Global, key: &str) -> Result<String, ProgramError>
+    ensures printed { IfOk result (λ id. IsIdOf key.now (string_bytes id)) }
+    ensures refused { IfErr result (λ error. IsOutside error ⊎ IsNoKeyOf V.paserk LocalKey key.now) }
+{
+    let symmetric = local_from_paserk::<V>(alloc, key)?;
+    Ok(local_id(alloc, &symmetric)?)
 }
 
 fn id_of_secret(alloc: Global, version: PaserkVersion, key: &str) -> Result<String, ProgramError>
