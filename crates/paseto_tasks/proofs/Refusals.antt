@@ -10,6 +10,9 @@ use Rattle.rusty_paseto_core.specs.Context.{binding_of}
 use Rattle.rusty_paseto_core.specs.Local.{Design}
 use Rattle.rusty_paseto_core.specs.Local.Opening.{opening}
 use Rattle.rusty_paseto_core.specs.Reading.{IsRead, Reading}
+use Rattle.rusty_paseto_paserk.specs.Error.{IsMemory as IsKeyMemory}
+use Rattle.rusty_paseto_paserk.specs.declared.error.PaserkError.{PaserkError}
+use Rattle.rusty_paseto_paserk.specs.declared.error.PaserkError.TheVariants.{Memory as NoKeyMemory}
 use Rattle.rusty_paseto_paserk.specs.declared.header.PaserkVersion.{PaserkVersion}
 use Rattle.rusty_paseto_paserk.specs.declared.header.PaserkVersion.TheVariants.{V3, V4}
 use Rattle.rusty_paseto_paserk.specs.declared.header.PaserkType.{PaserkType}
@@ -20,7 +23,7 @@ use Rattle.paseto_tasks.specs.declared.arguments.Options.{Options}
 use Rattle.paseto_tasks.specs.declared.arguments.Task.{Task}
 use Rattle.paseto_tasks.specs.declared.error.ProgramError.{ProgramError}
 use Rattle.paseto_tasks.specs.declared.error.ProgramError.TheVariants.{Clock, Random, InputOrOutput, Memory}
-use Rattle.paseto_tasks.specs.Error.{IsOutside, program_error_of, status_of}
+use Rattle.paseto_tasks.specs.Error.{IsOutside, key_error_of, program_error_of, status_of}
 use Rattle.paseto_tasks.specs.Input.{line_of_input}
 use Rattle.paseto_tasks.specs.Local.{Opens}
 use Rattle.paseto_tasks.specs.Run.{IsRefused, PrintsNothing}
@@ -129,6 +132,20 @@ not_of_line error None line token V A is same step h = tt
 not_of_line error (Some bytes) line token V A is same step (inl outside) = inl outside
 not_of_line error (Some bytes) line token V A is same step (inr none) =
     inr (λ text v. none text (step text (subst (λ (l : List ℕ). V l text) (is ∙ sym same) v)))
+
+-- what needs a key, where the line was read as none
+pub no_key : (known : Option (List ℕ)) (error : PaserkError) (N : List ℕ → List ℕ → Type 0) → ((bytes text : List ℕ) → N bytes text → IsKeyMemory error)
+    → IfSome known (λ bytes. IsOutside (key_error_of error) ⊎ ((text : List ℕ) → ¬ N bytes text))
+no_key None error N h = tt
+no_key (Some bytes) (NoKeyMemory source) N h = inl tt
+no_key (Some bytes) error N h = inr (λ text is. h bytes text is)
+
+-- what needs an input that is so, where it is not
+pub no_input : (known : Option (List ℕ)) (error : ProgramError) (P : List ℕ → Type 0) (N : List ℕ → List ℕ → Type 0) → ((bytes text : List ℕ) → N bytes text → P bytes)
+    → IfSome known (λ bytes. IsOutside error ⊎ (¬ P bytes)) → IfSome known (λ bytes. IsOutside error ⊎ ((text : List ℕ) → ¬ N bytes text))
+no_input None error P N needs h = tt
+no_input (Some bytes) error P N needs (inl outside) = inl outside
+no_input (Some bytes) error P N needs (inr none) = inr (λ text is. none (needs bytes text is))
 
 -- a token that is verified as no text, where the line that was read is that of the known input
 pub not_verified : {T : Type 0} (result : Result T ProgramError) (known : Option (List ℕ)) (line token : List ℕ) (V : List ℕ → List ℕ → Type 0) (A : List ℕ → Type 0)
