@@ -38,22 +38,35 @@ fn main(rt: HostRuntime) -> Result<()> {
 /// Whether all rows of a file agree. Those that do are counted, and the others are printed by their
 /// lines.
 fn check_file<R: Files + AllocGlobal + Print>(rt: &R, folder: &str, rows: Rows) -> Result<bool> {
-    let alloc = rt.alloc();
-    let file = rows.file();
-    let path = format!(in alloc; "{folder}/{file}")?;
-    let text = fs::read_to_string(rt, path.as_str()).context(format_args!("reading {file}"))?;
-    let mut tally = Tally::new(alloc);
+    let text = read_file(rt, folder, rows.file())?;
+    let mut tally = Tally::new(rt.alloc());
+    let all_agree = check_lines(rt, rows, text.as_str(), &mut tally)?;
+    print_tally(rt, &tally, rows.agreement())?;
+    Ok(all_agree)
+}
+
+fn read_file<R: Files + AllocGlobal>(rt: &R, folder: &str, file: &str) -> Result<String> {
+    let path = format!(in rt.alloc(); "{folder}/{file}")?;
+    fs::read_to_string(rt, path.as_str()).context(format_args!("reading {file}"))
+}
+
+/// Whether the rows of all lines agree. A line that begins with `#` is no row.
+fn check_lines<'a, R: AllocGlobal + Print>(
+    rt: &R,
+    rows: Rows,
+    text: &'a str,
+    tally: &mut Tally<'a>,
+) -> Result<bool> {
     let mut all_agree = true;
-    'lines: for (index, line) in text.as_str().lines().enumerate() {
+    'lines: for (index, line) in text.lines().enumerate() {
         if line.starts_with('#') {
             continue;
         }
-        if let Err(error) = rows.check(alloc, line, &mut tally) {
+        if let Err(error) = rows.check(rt.alloc(), line, tally) {
             all_agree = false;
-            println!(rt; "{file}, line {}: {error}", index + 1)?;
+            println!(rt; "{}, line {}: {error}", rows.file(), index + 1)?;
         }
     }
-    print_tally(rt, &tally, rows.agreement())?;
     Ok(all_agree)
 }
 

@@ -56,15 +56,20 @@ impl Rows {
         let [name, fields @ ..] = words.as_slice() else {
             return Err(RowError::Form);
         };
-        match self {
-            Rows::Primitives => primitives::check(alloc, name, fields)?,
-            Rows::LocalTokens => tokens::check(alloc, name, fields)?,
-            Rows::Schemes => schemes::check(alloc, name, fields)?,
-            Rows::P384 => p384::check(alloc, name, fields)?,
-            Rows::Rsa => rsa::check(alloc, name, fields)?,
-            Rows::Published => published::check(alloc, name, fields)?,
-        }
+        self.check_fields(alloc, name, fields)?;
         tally.count(name)?;
         Ok(())
+    }
+
+    /// Checks a row by its name and its fields.
+    fn check_fields(self, alloc: Global, name: &str, fields: &[&str]) -> Result<(), RowError> {
+        match self {
+            Rows::Primitives => primitives::check(alloc, name, fields),
+            Rows::LocalTokens => tokens::check(alloc, name, fields),
+            Rows::Schemes => schemes::check(alloc, name, fields),
+            Rows::P384 => p384::check(alloc, name, fields),
+            Rows::Rsa => rsa::check(alloc, name, fields),
+            Rows::Published => published::check(alloc, name, fields),
+        }
     }
 }
