@@ -94,7 +94,7 @@ fn json_of(alloc: Global, text: &str) -> Result<Value, ProgramError>
 fn is_time(name: &str) -> bool
     ensures { result ≡ is_time name.now }
 {
-    name == "exp" || name == "nbf" || name == "iat"
+    matches!(name, "exp" | "nbf" | "iat")
 }
 
 /// The claims that words say by `--claim`, in their order. The words are those of a command.

@@ -64,16 +64,12 @@ pub fn claims_by_ring(
 fn version_of(text: &str) -> Option<PaserkVersion>
     ensures { result ≡ version_in text.now }
 {
-    if text == "v1" {
-        Some(PaserkVersion::V1)
-    } else if text == "v2" {
-        Some(PaserkVersion::V2)
-    } else if text == "v3" {
-        Some(PaserkVersion::V3)
-    } else if text == "v4" {
-        Some(PaserkVersion::V4)
-    } else {
-        None
+    match text {
+        "v1" => Some(PaserkVersion::V1),
+        "v2" => Some(PaserkVersion::V2),
+        "v3" => Some(PaserkVersion::V3),
+        "v4" => Some(PaserkVersion::V4),
+        _ => None,
     }
 }
 
@@ -81,12 +77,10 @@ fn version_of(text: &str) -> Option<PaserkVersion>
 fn type_of(text: &str) -> Option<PaserkType>
     ensures { result ≡ type_in text.now }
 {
-    if text == "local" {
-        Some(PaserkType::Local)
-    } else if text == "public" {
-        Some(PaserkType::Public)
-    } else {
-        None
+    match text {
+        "local" => Some(PaserkType::Local),
+        "public" => Some(PaserkType::Public),
+        _ => None,
     }
 }
 
