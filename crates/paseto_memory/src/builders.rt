@@ -2,7 +2,7 @@
 
 use crate::claims::numbered;
 use crate::kinds::{Signed, footer, local_kinds, public_kinds, symmetric_key};
-use crate::run::{Run, Snapshot, calls, edits};
+use crate::run::{Run, Snapshot, calls, edits, shown};
 use anyhow::{Result, bail};
 use paseto_toys::generators::Zeros;
 use paseto_toys::keys::{Keys, SECRET};
@@ -14,7 +14,7 @@ use std::alloc::Global;
 /// A builder is known by its token.
 impl Snapshot for GenericBuilder<'_, V4, Local> {
     fn snapshot(&self, alloc: Global) -> Result<String> {
-        Ok(format!(in alloc; "{:?}", self.try_encrypt(&mut Zeros, &symmetric_key()))?)
+        shown(alloc, self.try_encrypt(&mut Zeros, &symmetric_key()))
     }
 }
 

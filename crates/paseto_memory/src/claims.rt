@@ -1,6 +1,6 @@
 //! The calls on claims.
 
-use crate::run::{Run, Snapshot, calls, edits, put};
+use crate::run::{Run, Snapshot, calls, edits, put, shown};
 use anyhow::Result;
 use rusty_paseto::prelude::*;
 use serde_json::Value;
@@ -11,13 +11,13 @@ pub const DATE: &str = "2024-01-01T00:00:00Z";
 
 impl<K: ReservedKey> Snapshot for DateClaim<K> {
     fn snapshot(&self, alloc: Global) -> Result<String> {
-        Ok(format!(in alloc; "{:?}", self.to_json(alloc)?)?)
+        shown(alloc, self.to_json(alloc)?)
     }
 }
 
 impl Snapshot for CustomClaim<&str> {
     fn snapshot(&self, alloc: Global) -> Result<String> {
-        Ok(format!(in alloc; "{:?}", self.to_json(alloc)?)?)
+        shown(alloc, self.to_json(alloc)?)
     }
 }
 

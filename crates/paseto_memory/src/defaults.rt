@@ -3,8 +3,8 @@
 use crate::builders::map_of;
 use crate::claims::numbered;
 use crate::kinds::{Signed, footer, local_kinds, public_kinds, symmetric_key};
-use crate::parsers::{SEVERAL, good, now};
-use crate::run::{Run, Snapshot, calls, edits, put};
+use crate::parsers::{SEVERAL, good, now, put_checks};
+use crate::run::{Run, Snapshot, calls, edits, put, shown};
 use crate::tokens::{seal, seal_boxed, sign};
 use crate::validators::{Refuses, validators};
 use anyhow::{Result, ensure};
@@ -18,7 +18,7 @@ use std::alloc::Global;
 /// A builder is known by its token.
 impl Snapshot for PasetoBuilder<'_, V4, Local> {
     fn snapshot(&self, alloc: Global) -> Result<String> {
-        Ok(format!(in alloc; "{:?}", self.build(&mut Zeros, &symmetric_key()))?)
+        shown(alloc, self.build(&mut Zeros, &symmetric_key()))
     }
 }
 
@@ -26,7 +26,7 @@ impl Snapshot for PasetoBuilder<'_, V4, Local> {
 impl Snapshot for PasetoParser<'_, V4, Local> {
     fn snapshot(&self, alloc: Global) -> Result<String> {
         let token = seal::<V4>(alloc, good(alloc, "customers")?.as_str(), footer())?;
-        Ok(format!(in alloc; "{:?}", self.parse(token.as_str(), &symmetric_key()))?)
+        shown(alloc, self.parse(token.as_str(), &symmetric_key()))
     }
 }
 
@@ -66,10 +66,7 @@ pub fn parser_of<V: VersionTrait, P: PurposeTrait>(
     alloc: Global,
 ) -> Result<PasetoParser<'static, V, P>> {
     let mut parser = PasetoParser::default(alloc, now()?)?;
-    parser.put_check(&CustomClaim::try_from_str(alloc, "seats", 4u64)?)?;
-    'numbers: for number in 0..12u64 {
-        parser.put_check(&numbered(alloc, number)?)?;
-    }
+    put_checks(&mut parser, alloc, 12)?;
     parser.set_footer(footer());
     Ok(parser)
 }

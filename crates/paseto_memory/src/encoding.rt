@@ -1,6 +1,6 @@
 //! The calls on encodings, sections and tokens that were not opened.
 
-use crate::run::{Run, Snapshot, calls, edits, put};
+use crate::run::{Run, Snapshot, calls, edits, put, shown};
 use anyhow::Result;
 use rusty_paseto::prelude::*;
 use rusty_paseto_parts::push_section;
@@ -8,7 +8,7 @@ use std::alloc::Global;
 
 impl Snapshot for PreAuthenticationEncoding {
     fn snapshot(&self, alloc: Global) -> Result<String> {
-        Ok(format!(in alloc; "{:?}", self.as_bytes())?)
+        shown(alloc, self.as_bytes())
     }
 }
 

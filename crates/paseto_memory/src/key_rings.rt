@@ -2,7 +2,7 @@
 
 use crate::kinds::{Signed, public_kinds, symmetric_key};
 use crate::parsers::{good, now};
-use crate::run::{Run, Snapshot, calls, edits};
+use crate::run::{Run, Snapshot, calls, edits, shown};
 use crate::tokens::{seal, seal_boxed, sign};
 use anyhow::Result;
 use paseto_toys::keys::{Keys, SECRET, ToyVersion};
@@ -28,7 +28,7 @@ impl<V: DefaultLocalVersion> Snapshot for KeyRing<V> {
 fn parsed<V: DefaultLocalVersion>(ring: &KeyRing<V>, alloc: Global, id: &str) -> Result<String> {
     let token = seal::<V>(alloc, "{}", Footer::from(id))?;
     let parser = GenericParser::<V, Local>::new(alloc);
-    Ok(format!(in alloc; "{:?}", ring.parse_by(&parser, token.as_str()))?)
+    shown(alloc, ring.parse_by(&parser, token.as_str()))
 }
 
 /// Asks them.

@@ -3,7 +3,7 @@
 use crate::builders::{ODD, map_of, odd_claim};
 use crate::claims::numbered;
 use crate::kinds::{Signed, footer, local_kinds, public_kinds, symmetric_key};
-use crate::run::{Run, Snapshot, calls, edits};
+use crate::run::{Run, Snapshot, calls, edits, shown};
 use crate::tokens::{seal, seal_boxed, sign};
 use crate::validators::{Refuses, validators};
 use anyhow::Result;
@@ -38,7 +38,7 @@ pub fn now() -> Result<Timestamp> {
 impl Snapshot for GenericParser<'_, V4, Local> {
     fn snapshot(&self, alloc: Global) -> Result<String> {
         let token = seal::<V4>(alloc, expired(alloc)?.as_str(), footer())?;
-        Ok(format!(in alloc; "{:?}", self.parse(token.as_str(), &symmetric_key()))?)
+        shown(alloc, self.parse(token.as_str(), &symmetric_key()))
     }
 }
 
@@ -58,12 +58,18 @@ pub fn parser_of<V: VersionTrait, P: PurposeTrait>(
     alloc: Global,
 ) -> Result<GenericParser<'static, V, P>> {
     let mut parser = GenericParser::new(alloc);
-    parser.put_check(&CustomClaim::try_from_str(alloc, "seats", 4u64)?)?;
-    'numbers: for number in 0..14u64 {
-        parser.put_check(&numbered(alloc, number)?)?;
-    }
+    put_checks(&mut parser, alloc, 14)?;
     parser.set_footer(footer());
     Ok(parser)
+}
+
+/// Puts checks of entries of good payloads.
+pub fn put_checks<B, P: CheckSetter<B>>(parser: &mut P, alloc: Global, more: u64) -> Result<()> {
+    parser.put_check(&CustomClaim::try_from_str(alloc, "seats", 4u64)?)?;
+    'numbers: for number in 0..more {
+        parser.put_check(&numbered(alloc, number)?)?;
+    }
+    Ok(())
 }
 
 // A parser that checks the times too.

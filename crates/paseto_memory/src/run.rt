@@ -13,7 +13,7 @@ macro_rules! calls {
         $run.calls(concat!($($case, "\n"),*), $of, |round, _| {
             $(if round.begins() {
                 round.ends($asked);
-            })*
+            } else)* {}
             Ok(())
         })
     };
@@ -31,7 +31,7 @@ macro_rules! edits {
                 $(let $value = $given;)?
                 round.begin();
                 round.ends($edit);
-            })*
+            } else)* {}
             Ok(())
         })
     };
@@ -44,6 +44,11 @@ pub(crate) use edits;
 /// What has a snapshot: a text that is the same for two objects that answer alike.
 pub trait Snapshot: Drop {
     fn snapshot(&self, alloc: Global) -> Result<String>;
+}
+
+/// What a call answered, as `Debug` shows it.
+pub fn shown<A: Debug + Drop>(alloc: Global, answer: A) -> Result<String> {
+    Ok(format!(in alloc; "{answer:?}")?)
 }
 
 /// What is called of nothing, and so changes nothing.
@@ -115,13 +120,13 @@ impl Round {
     /// Takes what the call answered.
     pub fn ends<T: Debug + Drop, E: Debug + Drop>(&mut self, answer: Result<T, E>) {
         if self.answer.is_ok() {
-            self.answer = self.told(&answer);
+            self.answer = self.told(answer);
         }
     }
 
-    fn told<T: Debug, E: Debug>(&mut self, answer: &Result<T, E>) -> Result<Option<String>> {
+    fn told<A: Debug + Drop>(&mut self, answer: A) -> Result<Option<String>> {
         self.mark("memory: end\n")?;
-        Ok(Some(format!(in self.alloc; "{answer:?}")?))
+        Ok(Some(shown(self.alloc, answer)?))
     }
 
     fn mark(&mut self, mark: &str) -> Result<()> {
@@ -189,11 +194,9 @@ impl Run<'_> {
     }
 
     /// Makes two alike objects for each line of a table, and asks the second between the marks. What is right
-    /// is what the first answers before the same edit and after it. What refuses changes nothing, and an edit
-    /// that does not refuse changes something.
-    ///
-    /// Where memory was refused, the second is to answer as before, and is then asked again. Else it is to
-    /// answer as the first, and a third is made and asked.
+    /// is what the first answers before the same edit and after it. Where memory was refused, the second is to
+    /// answer as before, and is then asked again. Else it is to answer as the first, and a third is made and
+    /// asked.
     pub fn table<O: Snapshot, M, F>(
         &mut self,
         cases: &str,

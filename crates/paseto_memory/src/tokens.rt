@@ -29,14 +29,10 @@ pub fn seal<V: LocalVersion>(alloc: Global, text: &str, footer: Footer<'_>) -> A
 /// The same of version 2, over a box.
 pub fn seal_boxed(alloc: Global, text: &str, footer: Footer<'_>) -> Answer {
     let nonce = Key::<32>::from([0; 32]);
+    let (key, nonce) = (symmetric_key(), PasetoNonce::from(&nonce));
     let mut paseto = token_of::<V2, Local>(text);
     paseto.set_footer(footer);
-    paseto.try_encrypt(
-        alloc,
-        &PlainBox,
-        &symmetric_key(),
-        &PasetoNonce::from(&nonce),
-    )
+    paseto.try_encrypt(alloc, &PlainBox, &key, &nonce)
 }
 
 /// The public token of a text.
