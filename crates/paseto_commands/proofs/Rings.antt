@@ -107,6 +107,12 @@ are_compressed (line ∷ lines) keys (inr a) = rw a.2 (a.3.is_key.1, are_compres
 -- ---- rings
 
 module _ (kind : PaserkType) (version : PaserkVersion) (line : List ℕ) where
+  -- a line that is passed over leaves the ring as it was
+  pub added_passed : {T E : Type 0} (result : Result T E) (error : PaserkError) (keys : Keys (List ℕ))
+      → OnOk result (IsPassedOver error) → IsKeyFault version kind (IsKeyOf kind version) line error → OnOk result (IsAdded kind version line keys keys)
+  added_passed (Ok value) error keys passed fault = inl (is_other (IsKeyOf kind version) kind version line error passed fault, refl)
+  added_passed (Err other) error keys passed fault = tt
+
   -- a key is put under its id where the ring takes it
   pub added_key : {T E F : Type 0} (result : Result T E) (answer : Result T F) (key id : List ℕ) (old new : Keys (List ℕ))
       → OnOk result (IsOk answer) → OnOk answer (AreSame new (with_key id key old)) → id ≡ id_of version kind key

@@ -1,9 +1,10 @@
 //! The text of a key, of any version and type: the header, and the base64url encoding of the key's bytes.
 
-ghost use Rattle.std.specs.Prelude.{◌≡◌, ◌++◌, IfOk, IfErr, OnOk, string_bytes};
+ghost use Rattle.std.specs.Prelude.{◌≡◌, ◌++◌, ⊤, IfOk, IfErr, IsErr, OnOk, string_bytes};
 ghost use Rattle.rusty_paseto_parts.specs.Section.{base64url};
 ghost use Rattle.rusty_paseto_paserk.specs.Error.{IsMemory};
-ghost use Rattle.rusty_paseto_paserk.specs.Text.{ReadsBytes, writing};
+ghost use Rattle.rusty_paseto_paserk.specs.Header.{HasHeader, header};
+ghost use Rattle.rusty_paseto_paserk.specs.Text.{IsKeyFault, ReadsBytes, writing};
 
 use crate::error::PaserkError;
 use crate::header::{PaserkType, PaserkVersion, header_of};
@@ -36,6 +37,20 @@ pub(crate) fn read_bytes(
 ) -> Result<Vec<u8>, PaserkError>
     ensures { ReadsBytes version kind text.now result }
 {
+    let payload = payload_of(version, kind, text)?;
+    match from_section(alloc, payload) {
+        Ok(bytes) => Ok(bytes),
+        Err(PasetoError::Memory(source)) => Err(PaserkError::Memory(source)),
+        Err(_) => Err(PaserkError::InvalidKey),
+    }
+}
+
+/// What stands behind the header of a key of this version and type.
+fn payload_of(version: PaserkVersion, kind: PaserkType, text: &str) -> Result<&str, PaserkError>
+    ensures found { IfOk result (λ payload. text.now ≡ header version kind ++ payload.now) }
+    ensures none { IsErr result → ¬ HasHeader version kind text.now }
+    ensures refused { IfErr result (IsKeyFault version kind (λ _. ⊤) text.now) }
+{
     let Some((found, found_kind, payload)) = header_of(text) else {
         return Err(PaserkError::NoKey);
     };
@@ -45,11 +60,7 @@ pub(crate) fn read_bytes(
     if found_kind != kind {
         return Err(PaserkError::OtherType(found_kind));
     }
-    match from_section(alloc, payload) {
-        Ok(bytes) => Ok(bytes),
-        Err(PasetoError::Memory(source)) => Err(PaserkError::Memory(source)),
-        Err(_) => Err(PaserkError::InvalidKey),
-    }
+    Ok(payload)
 }
 
 /// Appends the base64url encoding of bytes to a text. It fails only by `Memory`.

@@ -2,7 +2,7 @@ use Rattle.std.proofs.Common.{◌∙◌}
 use Rattle.rusty_paseto.specs.Held.{keys_of}
 use Rattle.rusty_paseto_paserk.specs.declared.header.PaserkType.TheVariants.{Local}
 use Rattle.paseto_tasks.specs.Id.{IsKeyOf}
-use Rattle.paseto_commands.proofs.Rings.{added_key, line_none, put_none}
+use Rattle.paseto_commands.proofs.Rings.{added_key, added_passed, line_none, put_none}
 use Rattle.paseto_commands.proofs.ring.add_line.Goals as goal
 
 pub returns-in_ok-local_id-in-Ok-clause-added : goal.returns-in_ok-local_id-in-Ok-clause-added
@@ -14,6 +14,11 @@ returns-in_ok-local_id-in-Ok-clause-added g c =
 
 pub returns-in_ok-local_id-in-Ok-clause-none : goal.returns-in_ok-local_id-in-Ok-clause-none
 returns-in_ok-local_id-in-Ok-clause-none g c = put_none c.put.result c.add.result _ c.put.ensures.refused c.add.ensures.fault
+
+pub returns-in-Err-clause-added : goal.returns-in-Err-clause-added
+returns-in-Err-clause-added g c =
+    added_passed Local g.V.KeyVersion.paserk c.args.line.now c.passed_over.result c.in-Err.error (keys_of c.args.ring.now)
+    c.passed_over.ensures.passed c.in-Err.ensures.refused
 
 pub returns-in-Err-clause-none : goal.returns-in-Err-clause-none
 returns-in-Err-clause-none g c =
