@@ -33,7 +33,7 @@ zero=0000000000000000000000000000000000000000000000000000000000000000
 ones=ffffffffffffffffffffffffffffffffffffffffffffffffffffffffffffffff
 
 # Tokens under the key and the nonce of zeros, made by Python's hashlib and hmac, libsodium and OpenSSL:
-# of the empty text, and of the twelve bytes `hello, world`.
+# of the empty text, of the letter `a`, and of the twelve bytes `hello, world`.
 v4_empty=v4.local.AAAAAAAAAAAAAAAAAAAAAAAAAAAAAAAAAAAAAAAAAAAbOgN0OVjqz2vTDD02NopmW7deH56O2K4vACTMJ5F11A
 v4_footer=v4.local.AAAAAAAAAAAAAAAAAAAAAAAAAAAAAAAAAAAAAAAAAACr89_zXPNiFDVeypK3tg0GXB5cZHG752dbZ4qV47Xkng.Zm9vdGVy
 v4_both=v4.local.AAAAAAAAAAAAAAAAAAAAAAAAAAAAAAAAAAAAAAAAAAB-FRxKX3uaUvnGeCbRSNoU9jpkI6DiwGmIC0xZNxBpaQ.Zm9vdGVy
@@ -42,6 +42,13 @@ v3_empty=v3.local.AAAAAAAAAAAAAAAAAAAAAAAAAAAAAAAAAAAAAAAAAAC9IQiIqc1479XV9cyloD
 v3_both=v3.local.AAAAAAAAAAAAAAAAAAAAAAAAAAAAAAAAAAAAAAAAAAAXCulCjMfGzOfExvlnas17MAluMcrdximdcOqBKau6UkfhT5Z19sOFgAsltfej5gc.
 v1_empty=v1.local.bB8u6Tj60uJL2RKYR0OCyiGMdds9g-EUs9Q2d3bRTTXq9Y401eI4FS7qbW7qvc5PGhe6_U4ftOqJig3AvYOFnA7a51CqRo5LIBv-tV-XJWA
 v1_footer=v1.local.bB8u6Tj60uJL2RKYR0OCyiGMdds9g-EUs9Q2d3bRTTVE0LdPCPLdyAIb2OKk4RKC-70JjDBskyDOVJJKrUgcHBd-YlZVQgY9Fd4p8IHbByw.Zm9vdGVy
+v4_empty_asserted=v4.local.AAAAAAAAAAAAAAAAAAAAAAAAAAAAAAAAAAAAAAAAAACCFSST9aMcS0D8VsRV2UMF7g9nBE9tBfhlLYqN4Ui1yQ
+v4_a=v4.local.AAAAAAAAAAAAAAAAAAAAAAAAAAAAAAAAAAAAAAAAAADIhkPqrPPbiL9vRJYCPdoY41ZuM8kZrYlIV9d6tL_npow
+v4_a_footer=v4.local.AAAAAAAAAAAAAAAAAAAAAAAAAAAAAAAAAAAAAAAAAADIxerjdEEPnnVreBtrbfiEKHXnweVj4sLrj0g1CWYOMVE.Zm9vdGVy
+v4_a_both=v4.local.AAAAAAAAAAAAAAAAAAAAAAAAAAAAAAAAAAAAAAAAAADIQWEk6PIIil-8RadblwXfRbOBiSpqx68T35bH8naoAV4.eyJraWQiOiJrMSJ9
+v3_a_footer=v3.local.AAAAAAAAAAAAAAAAAAAAAAAAAAAAAAAAAAAAAAAAAAB9GeADnt7MXSuLVKtzL4M10J-EjfeTzzQ2aysngNs5iDfpczfB5AQa7RCLbEldIIIJ.Zm9vdGVy
+v3_a_both=v3.local.AAAAAAAAAAAAAAAAAAAAAAAAAAAAAAAAAAAAAAAAAAB9ej6JYJUkr2x0GxaeafU4_0ybgzRNZNub4loMx6GfpXzD7CEsmKRHR_M36aSX-nEb.eyJraWQiOiJrMSJ9
+v1_a_footer=v1.local.CLSf5t9Bj9fhey6p8PnxikxYyYOjVOUVw38VewEQWVQkK1alyAMb1IRMc__nS7ztM2hRK5Hniyq_R21wq1_hO9TyaFILsOUl_DsIgwoR2aH_.Zm9vdGVy
 declare -A hello=(
     [v1]=v1.local.JC83hO35dYCAexa8LevOYX2ytWxJfrjdAuUXdBDC5JuZLQqLCmn5qvxbqLLua5WNMQKJLfBrNiYKR3vc-GZiFdroqlyV3KcFZ5IrMyNAKRuT4Wq5xP-TA77ZH5o
     [v3]=v3.local.AAAAAAAAAAAAAAAAAAAAAAAAAAAAAAAAAAAAAAAAAAB0w7Vbo2fqWQ_Ikeycp0UZv2SVGN8BndFHNPq01Ft9II80KL5AkJq4lm05AUpptxzIWJJR9TpzrpCLI6g
@@ -149,6 +156,11 @@ gives 'inspect without a footer' '' "version: v4${line}purpose: local${line}foot
 gives 'inspect of an empty footer' '' "version: v4${line}purpose: local${line}footer: ${line}footer text: ${line}" \
     inspect v4.local.payload.
 gives 'inspect takes sections as they are' '' "version: ${line}purpose: b${line}footer: none${line}" inspect .b.
+gives 'inspect of another version' '' \
+    "version: v1${line}purpose: public${line}footer: Zm9vdGVy${line}footer text: footer${line}" inspect 'v1.public.!.Zm9vdGVy'
+gives 'inspect of two dots' '' "version: ${line}purpose: ${line}footer: none${line}" inspect ..
+refuses 'inspect of five sections' '' "$bad_count" inspect v4.local.payload.Zm9vdGVy.
+refuses 'inspect of a footer with padding' '' "$bad_base64" inspect v4.local.payload.Zm9vdGVy=
 refuses 'inspect of a footer that is no text' '' "$not_utf8" inspect v4.local.payload._w
 refuses 'inspect of a footer that is no base64' '' "$bad_base64" inspect 'v4.local.payload.!!!invalid!!!'
 refuses 'inspect of two sections' '' "$bad_count" inspect v4.local
@@ -172,6 +184,32 @@ for version in v1 v3 v4; do
     refuses "open $version under another key" "${hello[$version]}" "$bad_tag" open $version "$other_key"
     refuses "open $version with an unknown footer" "${hello[$version]}.Zm9v" "$bad_footer" open $version "$key"
 done
+# both_ways TOKEN VERSION [FOOTER [ASSERTION]]: the letter `a` is sealed to the token, and the token is opened.
+both_ways() {
+    local token=$1 version=$2
+    shift 2
+    gives "seal $version of a letter, $#" a "$token$line" seal "$version" "$key" "$zero" "$@"
+    gives "open $version of a letter, $#" "$token" a open "$version" "$key" "$@"
+    gives "open $version of a letter before a line feed, $#" "$token$line" a open "$version" "$key" "$@"
+}
+
+kid='{"kid":"k1"}'
+both_ways "$v1_a_footer" v1 footer
+both_ways "$v3_a_footer" v3 footer
+both_ways "$v3_a_both" v3 "$kid" 'some assertion'
+both_ways "$v4_a" v4
+both_ways "$v4_a_footer" v4 footer
+both_ways "$v4_a_both" v4 "$kid" 'some assertion'
+upper_key=${key^^}
+gives 'seal v4 under a key in capitals' a "$v4_a$line" seal v4 "$upper_key" "$zero"
+gives 'open v4 under a key in capitals' "$v4_a" a open v4 "$upper_key"
+gives 'seal v4 with an empty footer and an assertion' '' "$v4_empty_asserted.$line" seal v4 "$key" "$zero" '' x
+gives 'open v4 with an empty footer and an assertion' "$v4_empty_asserted" '' open v4 "$key" '' x
+gives 'open v4, footer and assertion passed as empty' "$v4_a" a open v4 "$key" '' ''
+refuses 'open v4 with another footer' "$v4_a_footer" "$bad_footer" open v4 "$key" other
+refuses 'open v4 with an assertion that is not there' "$v4_a_footer" "$bad_tag" open v4 "$key" footer x
+refuses 'open v4 with an empty footer, without the assertion' "$v4_empty_asserted" "$bad_tag" open v4 "$key"
+
 gives 'open v4 of the empty text' "$v4_empty$line" '' open v4 "$key"
 gives 'open v4, footer passed as empty' "$v4_empty" '' open v4 "$key" ''
 gives 'open v4, empty footer section' "$v4_empty." '' open v4 "$key"
@@ -248,7 +286,7 @@ call open v4 "$key" <"$work/in" >&- 2>"$work/err"
 verdict 'open v4 of the empty text, output closed' $?
 
 # A file that may grow to 1,024 bytes takes so many bytes more.
-for room in 0 1 24 95 96; do
+for room in {0..96}; do
     printf '' >"$work/in"
     head -c $((1024 - room)) /dev/zero >"$work/grows"
     (trap '' XFSZ; ulimit -f 1; call seal v4 "$key" "$zero" <"$work/in" >>"$work/grows" 2>"$work/err")
@@ -306,6 +344,24 @@ fails_to_read() {
 
 fails_to_read 'seal v4' seal v4 "$key" "$zero"
 fails_to_read 'open v4' open v4 "$key"
+
+# The first bytes of a token, and then no end.
+for length in 0 1 40; do
+    want_status=1 want_out= want_err=$bad_stream$line
+    printf %s "${v4_a:0:length}" >"$work/in"
+    python3 "$root/tests/broken_input.py" "$work/in" "$program" open v4 "$key" >"$work/out" 2>"$work/err"
+    verdict "open v4 of an input that fails after $length bytes" $?
+done
+
+# Of 10,000 bytes: 4,096, then the rest, and then the end.
+head -c 10000 /dev/zero | tr '\0' a >"$work/in"
+strace -qq -e trace=read -o "$work/reads" "$program" seal v4 "$key" "$zero" <"$work/in" >/dev/null 2>"$work/err"
+reads=$(grep -c '^read(0,' "$work/reads")
+if [ "$reads" -eq 3 ] && [ ! -s "$work/err" ]; then
+    pass
+else
+    fail "10,000 bytes are read by $reads calls in place of 3"
+fi
 
 want_status=0 want_out="version: v4${line}purpose: local${line}footer: none${line}" want_err=
 call inspect v4.local.payload <&- >"$work/out" 2>"$work/err"

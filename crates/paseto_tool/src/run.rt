@@ -14,9 +14,6 @@ use crate::output::write_whole;
 use std::alloc::Global;
 use std::io::{Read, Write};
 
-#[cfg(test)]
-mod tests;
-
 /// Does what the words after the program's name ask for, and returns the status.
 ///
 /// It is 0 where the whole output was written, 2 where the words ask for nothing that the program
