@@ -1,5 +1,5 @@
 -- The claims that a word and those behind it say.
-use Rattle.std.proofs.Common.{◌≡◌, List, ℕ, [], ◌∷◌, Bool, true, false, ◌||◌, not, if◌then◌else◌, codes, nat_eq, refl}
+use Rattle.std.proofs.Common.{◌≡◌, List, ℕ, [], ◌∷◌, Bool, true, false, ◌||◌, not, if◌then◌else◌, codes, nat_eq, refl, ◌∙◌}
 use Rattle.std.specs.Cmp.Lexicographic.{pointwise}
 use Rattle.paseto_tasks.specs.Arguments.{claim_words, is_flag, is_name}
 
@@ -19,3 +19,8 @@ pub claims_cons : (word : List ℕ) (rest : List (List ℕ)) → claim_words (wo
     else claimed word rest)
 claims_cons word [] = none_claimed [] (pointwise nat_eq word (codes "--")) (not (is_name word) || is_flag word)
 claims_cons word (value ∷ rest) = refl
+
+-- a word that has no value behind it says no claim
+pub alone_cons : (word : List ℕ) (rest : List (List ℕ)) → pointwise nat_eq word (codes "--") ≡ false
+    → (not (is_name word) || is_flag word) ≡ true → claim_words (word ∷ rest) ≡ claim_words rest
+alone_cons word rest other alone = claims_cons word rest ∙ rw other (rw alone refl)

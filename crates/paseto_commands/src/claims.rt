@@ -1,10 +1,11 @@
 //! Claims by name, as words say them.
 
-ghost use Rattle.std.specs.Prelude.{◌≡◌, ◌≢◌, ◌⊎◌, ◌++◌, [], ℕ, List, IfErr, IfOk, MatchOption, None, OnOk, Some, codes, false, string_bytes, true};
+ghost use Rattle.std.specs.Prelude.{◌≡◌, ◌≢◌, ◌⊎◌, ◌++◌, ◌<◌, ◌∷◌, ◌||◌, [], ℕ, List, IfErr, IfOk, IfSome, MatchOption, None, OnOk, Some, codes, false, length, not, string_bytes, true};
+ghost use Rattle.std.specs.Option.{option_map_or};
 ghost use Rattle.serde_json.specs.View.{view};
 ghost use Rattle.serde_json.specs.Read.{read};
 ghost use Rattle.rusty_paseto_claims.specs.Claim.{gives, one_member};
-ghost use Rattle.paseto_tasks.specs.Arguments.{claim_words, words_of};
+ghost use Rattle.paseto_tasks.specs.Arguments.{claim_words, is_flag, is_name, words_of};
 ghost use Rattle.paseto_commands.specs.Claims.{AreClaims, IsClaimOf, IsFirstOf, all_named, is_time, named};
 ghost use Rattle.paseto_tasks.specs.Error.{IsOutside, Lacks};
 
@@ -98,32 +99,51 @@ fn is_time(name: &str) -> bool
 }
 
 /// The claims that words say by `--claim`, in their order. The words are those of a command.
-#[tactic(auto, using(crate::proofs::Claimed::claims_cons))]
 pub fn claims_of(alloc: Global, words: &[String]) -> Result<Vec<NamedClaim>, ProgramError>
     ensures found { IfOk result (λ claims. AreClaims (claim_words (words_of words.now))
         (all_named claims.items)) }
     ensures none { IfErr result
         (Lacks (λ claims. AreClaims (claim_words (words_of words.now)) claims)) }
 {
-    let [word, rest @ ..] = words else {
+    let Some((word, rest)) = next_claim(words) else {
         return Ok(Vec::new(alloc));
     };
-    if word.as_str() == "--" {
-        return Ok(Vec::new(alloc));
-    }
-    if !is_name(word) || is_flag(word) {
-        return claims_of(alloc, rest);
-    }
-    let [value, rest @ ..] = rest else {
-        return Ok(Vec::new(alloc));
-    };
-    if word.as_str() != "--claim" {
-        return claims_of(alloc, rest);
-    }
     match claims_of(alloc, rest) {
-        Ok(claims) => with_claim(alloc, value, claims),
+        Ok(claims) => with_claim(alloc, word, claims),
         Err(error) => Err(error),
     }
+}
+
+/// The value of the first `--claim` among words, and the words behind it.
+#[tactic(auto, using(crate::proofs::Claimed::claims_cons))]
+fn next_claim(words: &[String]) -> Option<(&str, &[String])>
+    ensures claims { claim_words (words_of words.now) ≡ option_map_or
+        (λ found. found.0.now ∷ claim_words (words_of found.1.now)) result [] }
+    ensures fewer { IfSome result (λ found. length found.1.now < length words.now) }
+{
+    let [word, rest @ ..] = words else {
+        return None;
+    };
+    if word.as_str() == "--" {
+        return None;
+    }
+    if stands_alone(word) {
+        return next_claim(rest);
+    }
+    let [value, rest @ ..] = rest else {
+        return None;
+    };
+    if word.as_str() != "--claim" {
+        return next_claim(rest);
+    }
+    Some((value.as_str(), rest))
+}
+
+/// Whether a word has no value behind it: it is no option, or one without a value.
+fn stands_alone(word: &str) -> bool
+    ensures { result ≡ (not (is_name word.now) || is_flag word.now) }
+{
+    !is_name(word) || is_flag(word)
 }
 
 /// The claim of a word, and others behind it.
