@@ -1,4 +1,4 @@
-use Rattle.std.proofs.Common.{[], Bor, List, ℕ, inr}
+use Rattle.std.proofs.Common.{rules, [], Bor, List, ℕ, inr}
 use Rattle.rusty_paseto_core.proofs.Unframed.{if_err, split_fault, split_header, three_texts}
 use Rattle.rusty_paseto_core.proofs.reading.unframe.Goals as goal
 
@@ -18,3 +18,9 @@ returns-clause-fault g c =
     if_err c.from_section.result _ _
     (λ error fault. split_fault _ _ c.args.footer.now c.args.token.now _ _ _ parts.1 split (c.is_expected.ensures.0 c.if-not-is_expected.false) error header fault)
     c.from_section.ensures.err
+
+pub returns-in_default-clause-fault : goal.returns-in_default-clause-fault
+returns-in_default-clause-fault g c = search rules
+
+pub returns-in_default-clause-count : goal.returns-in_default-clause-count
+returns-in_default-clause-count g c = search rules
