@@ -1,11 +1,11 @@
 //! The calls of generic builders.
 
 use crate::claims::numbered;
-use crate::kinds::{Signed, footer, local_kinds, public_kinds, symmetric_key};
+use crate::kinds::{Cases, Signed, ask_kinds, footer, symmetric_key};
 use crate::run::{Run, Snapshot, calls, edits, shown};
 use anyhow::{Result, bail};
 use paseto_toys::generators::Zeros;
-use paseto_toys::keys::{Keys, SECRET};
+use paseto_toys::keys::Keys;
 use paseto_toys::{Lenient, PlainBox};
 use rusty_paseto::prelude::*;
 use serde_json::{Map, Value};
@@ -22,10 +22,7 @@ impl Snapshot for GenericBuilder<'_, V4, Local> {
 pub fn ask(run: &mut Run<'_>) -> Result<()> {
     ask_claims(run)?;
     ask_payload(run)?;
-    local_kinds! { run, ask_local }
-    ask_boxed(run)?;
-    public_kinds! { run, ask_public }
-    Ok(())
+    ask_kinds::<Kinds>(run)
 }
 
 /// The members of an object of JSON.
@@ -83,22 +80,25 @@ fn ask_payload(run: &mut Run<'_>) -> Result<()> {
         => builder.build_payload_from_claims(); }
 }
 
-fn ask_local<V: GenericLocalVersion>(run: &mut Run<'_>, kind: &str) -> Result<()> {
-    let builder = builder_of::<V, Local>(run.alloc, run.text)?;
-    let key = symmetric_key();
-    calls! { run, kind; "GenericBuilder::try_encrypt of {}" => builder.try_encrypt(&mut Zeros, &key); }
-}
+struct Kinds;
 
-fn ask_boxed(run: &mut Run<'_>) -> Result<()> {
-    let key = symmetric_key();
-    let builder = builder_of::<V2, Local>(run.alloc, run.text)?;
-    calls! { run; "GenericBuilder::try_encrypt of v2.local"
-        => builder.try_encrypt(&PlainBox, &mut Zeros, &key); }
-}
+impl Cases for Kinds {
+    fn ask_local<V: DefaultLocalVersion>(run: &mut Run<'_>, kind: &str) -> Result<()> {
+        let builder = builder_of::<V, Local>(run.alloc, run.text)?;
+        let key = symmetric_key();
+        calls! { run, kind; "GenericBuilder::try_encrypt of {}" => builder.try_encrypt(&mut Zeros, &key); }
+    }
 
-fn ask_public<V: Signed>(run: &mut Run<'_>, kind: &str) -> Result<()> {
-    let builder = builder_of::<V, Public>(run.alloc, run.text)?;
-    let keys = Keys::of(&SECRET);
-    let key = V::private_key(&keys);
-    calls! { run, kind; "GenericBuilder::try_sign of {}" => builder.try_sign(&mut Lenient, &key); }
+    fn ask_boxed(run: &mut Run<'_>) -> Result<()> {
+        let key = symmetric_key();
+        let builder = builder_of::<V2, Local>(run.alloc, run.text)?;
+        calls! { run; "GenericBuilder::try_encrypt of v2.local"
+            => builder.try_encrypt(&PlainBox, &mut Zeros, &key); }
+    }
+
+    fn ask_public<V: Signed>(run: &mut Run<'_>, kind: &str, keys: &Keys) -> Result<()> {
+        let builder = builder_of::<V, Public>(run.alloc, run.text)?;
+        let key = V::private_key(keys);
+        calls! { run, kind; "GenericBuilder::try_sign of {}" => builder.try_sign(&mut Lenient, &key); }
+    }
 }

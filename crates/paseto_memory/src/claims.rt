@@ -53,8 +53,7 @@ fn ask_made(run: &mut Run<'_>) -> Result<()> {
 
 /// A claim `k0`, `k1` and so on. With them a map is filled so far that its next key takes new nodes.
 pub fn numbered(alloc: Global, number: u64) -> Result<CustomClaim<u64>> {
-    let key = format!(in alloc; "k{number}")?;
-    Ok(CustomClaim::try_from_string(key, number)?)
+    Ok(CustomClaim::try_from_string(format!(in alloc; "k{number}")?, number)?)
 }
 
 /// JSON that holds each form of values, and the text.

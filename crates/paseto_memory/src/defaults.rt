@@ -2,7 +2,7 @@
 
 use crate::builders::map_of;
 use crate::claims::numbered;
-use crate::kinds::{Signed, footer, local_kinds, public_kinds, symmetric_key};
+use crate::kinds::{Cases, Signed, ask_kinds, footer, symmetric_key};
 use crate::parsers::{SEVERAL, good, now, put_checks};
 use crate::run::{Run, Snapshot, calls, edits, put, shown};
 use crate::tokens::{seal, seal_boxed, sign};
@@ -10,7 +10,7 @@ use crate::validators::{Refuses, validators};
 use anyhow::{Result, ensure};
 use jiff::Timestamp;
 use paseto_toys::generators::Zeros;
-use paseto_toys::keys::{Keys, SECRET};
+use paseto_toys::keys::Keys;
 use paseto_toys::{Lenient, PlainBox};
 use rusty_paseto::prelude::*;
 use std::alloc::Global;
@@ -37,10 +37,7 @@ pub fn ask(run: &mut Run<'_>) -> Result<()> {
     ask_repeated_claims(run)?;
     ask_checks(run)?;
     ask_validators(run)?;
-    local_kinds! { run, ask_local }
-    ask_boxed(run)?;
-    public_kinds! { run, ask_public }
-    Ok(())
+    ask_kinds::<Kinds>(run)
 }
 
 /// A builder of five claims and so many more, one of them with the text, and a footer.
@@ -144,36 +141,39 @@ fn ask_validators(run: &mut Run<'_>) -> Result<()> {
     }
 }
 
-fn ask_local<V: DefaultLocalVersion>(run: &mut Run<'_>, kind: &str) -> Result<()> {
-    let (alloc, key) = (run.alloc, symmetric_key());
-    let token = seal::<V>(alloc, good(alloc, run.text)?.as_str(), footer())?;
-    let builder = builder_of::<V, Local>(alloc, run.text, 10)?;
-    let parser = parser_of::<V, Local>(alloc)?;
-    calls! { run, kind;
-        "PasetoBuilder::build of {}" => builder.build(&mut Zeros, &key);
-        "DefaultParser::parse of {}" => parser.parse(token.as_str(), &key);
-    }
-}
+struct Kinds;
 
-fn ask_boxed(run: &mut Run<'_>) -> Result<()> {
-    let (alloc, key) = (run.alloc, symmetric_key());
-    let token = seal_boxed(alloc, good(alloc, run.text)?.as_str(), footer())?;
-    let builder = builder_of::<V2, Local>(alloc, run.text, 10)?;
-    let parser = parser_of::<V2, Local>(alloc)?;
-    calls! { run;
-        "PasetoBuilder::build of v2.local" => builder.build(&PlainBox, &mut Zeros, &key);
-        "DefaultParser::parse of v2.local" => parser.parse(&PlainBox, token.as_str(), &key);
+impl Cases for Kinds {
+    fn ask_local<V: DefaultLocalVersion>(run: &mut Run<'_>, kind: &str) -> Result<()> {
+        let (alloc, key) = (run.alloc, symmetric_key());
+        let token = seal::<V>(alloc, good(alloc, run.text)?.as_str(), footer())?;
+        let builder = builder_of::<V, Local>(alloc, run.text, 10)?;
+        let parser = parser_of::<V, Local>(alloc)?;
+        calls! { run, kind;
+            "PasetoBuilder::build of {}" => builder.build(&mut Zeros, &key);
+            "DefaultParser::parse of {}" => parser.parse(token.as_str(), &key);
+        }
     }
-}
 
-fn ask_public<V: Signed>(run: &mut Run<'_>, kind: &str) -> Result<()> {
-    let (alloc, keys) = (run.alloc, Keys::of(&SECRET));
-    let (private, public) = (V::private_key(&keys), V::public_key(&keys)?);
-    let token = sign::<V>(alloc, good(alloc, run.text)?.as_str(), footer())?;
-    let builder = builder_of::<V, Public>(alloc, run.text, 10)?;
-    let parser = parser_of::<V, Public>(alloc)?;
-    calls! { run, kind;
-        "PasetoBuilder::build of {}" => builder.build(&mut Lenient, &private);
-        "DefaultParser::parse of {}" => parser.parse(&Lenient, token.as_str(), &public);
+    fn ask_boxed(run: &mut Run<'_>) -> Result<()> {
+        let (alloc, key) = (run.alloc, symmetric_key());
+        let token = seal_boxed(alloc, good(alloc, run.text)?.as_str(), footer())?;
+        let builder = builder_of::<V2, Local>(alloc, run.text, 10)?;
+        let parser = parser_of::<V2, Local>(alloc)?;
+        calls! { run;
+            "PasetoBuilder::build of v2.local" => builder.build(&PlainBox, &mut Zeros, &key);
+            "DefaultParser::parse of v2.local" => parser.parse(&PlainBox, token.as_str(), &key);
+        }
+    }
+
+    fn ask_public<V: Signed>(run: &mut Run<'_>, kind: &str, keys: &Keys) -> Result<()> {
+        let (alloc, private, public) = (run.alloc, V::private_key(keys), V::public_key(keys)?);
+        let token = sign::<V>(alloc, good(alloc, run.text)?.as_str(), footer())?;
+        let builder = builder_of::<V, Public>(alloc, run.text, 10)?;
+        let parser = parser_of::<V, Public>(alloc)?;
+        calls! { run, kind;
+            "PasetoBuilder::build of {}" => builder.build(&mut Lenient, &private);
+            "DefaultParser::parse of {}" => parser.parse(&Lenient, token.as_str(), &public);
+        }
     }
 }

@@ -1,6 +1,6 @@
 //! The calls of key rings.
 
-use crate::kinds::{Signed, public_kinds, symmetric_key};
+use crate::kinds::{Signed, symmetric_key};
 use crate::parsers::{good, now};
 use crate::run::{Run, Snapshot, calls, edits, shown};
 use crate::tokens::{seal, seal_boxed, sign};
@@ -37,9 +37,17 @@ pub fn ask(run: &mut Run<'_>) -> Result<()> {
     ask_local::<V3, _>(run, "v3.local", |ring, token| ring.open(token, None))?;
     ask_local::<V4, _>(run, "v4.local", |ring, token| ring.open(token, None))?;
     ask_boxed(run)?;
-    ask_verifying(run)?;
-    public_kinds! { run, ask_public }
-    Ok(())
+    ask_publics(run)
+}
+
+fn ask_publics(run: &mut Run<'_>) -> Result<()> {
+    let keys = Keys::of(&SECRET);
+    ask_verifying(run, &keys)?;
+    ask_bound(run, &keys)?;
+    ask_public::<V1>(run, "v1.public", &keys)?;
+    ask_public::<V2>(run, "v2.public", &keys)?;
+    ask_public::<V3>(run, "v3.public", &keys)?;
+    ask_public::<V4>(run, "v4.public", &keys)
 }
 
 // A ring of twelve keys, none of which is the one that tokens are sealed under.
@@ -124,27 +132,28 @@ fn signed<V: Signed>(run: &Run<'_>) -> Result<String> {
     Ok(sign::<V>(run.alloc, payload.as_str(), Footer::from(NEW))?)
 }
 
-fn ask_verifying(run: &mut Run<'_>) -> Result<()> {
-    let (alloc, keys) = (run.alloc, Keys::of(&SECRET));
-    let (first, second) = (signed::<V1>(run)?, signed::<V2>(run)?);
-    let (third, fourth) = (signed::<V3>(run)?, signed::<V4>(run)?);
-    let first_ring = ring_of_public::<V1>(alloc, &keys)?;
-    let second_ring = ring_of_public::<V2>(alloc, &keys)?;
-    let third_ring = ring_of_public::<V3>(alloc, &keys)?;
-    let fourth_ring = ring_of_public::<V4>(alloc, &keys)?;
+fn ask_verifying(run: &mut Run<'_>, keys: &Keys) -> Result<()> {
+    let (first, first_ring) = (signed::<V1>(run)?, ring_of_public::<V1>(run.alloc, keys)?);
+    let (second, second_ring) = (signed::<V2>(run)?, ring_of_public::<V2>(run.alloc, keys)?);
     calls! { run;
         "Ring::verify of v1.public" => first_ring.verify(&Lenient, first.as_str());
         "Ring::verify of v2.public" => second_ring.verify(&Lenient, second.as_str());
+    }
+}
+
+fn ask_bound(run: &mut Run<'_>, keys: &Keys) -> Result<()> {
+    let (third, third_ring) = (signed::<V3>(run)?, ring_of_public::<V3>(run.alloc, keys)?);
+    let (fourth, fourth_ring) = (signed::<V4>(run)?, ring_of_public::<V4>(run.alloc, keys)?);
+    calls! { run;
         "Ring::verify of v3.public" => third_ring.verify(&Lenient, third.as_str(), None);
         "Ring::verify of v4.public" => fourth_ring.verify(&Lenient, fourth.as_str(), None);
     }
 }
 
-fn ask_public<V: Signed>(run: &mut Run<'_>, kind: &str) -> Result<()> {
-    let (alloc, keys) = (run.alloc, Keys::of(&SECRET));
-    let (ring, token) = (ring_of_public::<V>(alloc, &keys)?, signed::<V>(run)?);
-    let parser = PasetoParser::<V, Public>::default(alloc, now()?)?;
-    let generic = GenericParser::<V, Public>::new(alloc);
+fn ask_public<V: Signed>(run: &mut Run<'_>, kind: &str, keys: &Keys) -> Result<()> {
+    let (ring, token) = (ring_of_public::<V>(run.alloc, keys)?, signed::<V>(run)?);
+    let parser = PasetoParser::<V, Public>::default(run.alloc, now()?)?;
+    let generic = GenericParser::<V, Public>::new(run.alloc);
     calls! { run, kind;
         "Ring::parse of {}" => ring.parse(&Lenient, &parser, token.as_str());
         "Ring::parse_by of {}" => ring.parse_by(&Lenient, &generic, token.as_str());

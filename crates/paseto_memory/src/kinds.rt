@@ -1,33 +1,32 @@
 //! The kinds of tokens, and what all tokens of the cases share.
 
+use crate::run::Run;
+use anyhow::Result;
 use paseto_toys::Lenient;
-use paseto_toys::keys::{SECRET, ToyVersion};
+use paseto_toys::keys::{Keys, SECRET, ToyVersion};
 use rusty_paseto::prelude::*;
 
-/// Asks the cases of each kind of tokens.
-macro_rules! kinds {
-    ($run:expr, $ask:ident; $($version:ident $kind:literal)*) => {
-        $($ask::<rusty_paseto::prelude::$version>($run, $kind)?;)*
-    };
+/// The cases of each kind of tokens. Those of local tokens need no box.
+pub trait Cases {
+    fn ask_local<V: DefaultLocalVersion>(run: &mut Run<'_>, kind: &str) -> Result<()>;
+
+    fn ask_boxed(run: &mut Run<'_>) -> Result<()>;
+
+    fn ask_public<V: Signed>(run: &mut Run<'_>, kind: &str, keys: &Keys) -> Result<()>;
 }
 
-/// Asks the cases of each kind of local tokens that needs no box.
-macro_rules! local_kinds {
-    ($run:expr, $ask:ident) => {
-        $crate::kinds::kinds! { $run, $ask; V1 "v1.local" V3 "v3.local" V4 "v4.local" }
-    };
+/// Asks them.
+pub fn ask_kinds<C: Cases>(run: &mut Run<'_>) -> Result<()> {
+    C::ask_local::<V1>(run, "v1.local")?;
+    C::ask_local::<V3>(run, "v3.local")?;
+    C::ask_local::<V4>(run, "v4.local")?;
+    C::ask_boxed(run)?;
+    let keys = Keys::of(&SECRET);
+    C::ask_public::<V1>(run, "v1.public", &keys)?;
+    C::ask_public::<V2>(run, "v2.public", &keys)?;
+    C::ask_public::<V3>(run, "v3.public", &keys)?;
+    C::ask_public::<V4>(run, "v4.public", &keys)
 }
-
-/// Asks the cases of each kind of public tokens.
-macro_rules! public_kinds {
-    ($run:expr, $ask:ident) => {
-        $crate::kinds::kinds! { $run, $ask; V1 "v1.public" V2 "v2.public" V3 "v3.public" V4 "v4.public" }
-    };
-}
-
-pub(crate) use kinds;
-pub(crate) use local_kinds;
-pub(crate) use public_kinds;
 
 /// A version whose tokens are signed and verified by the lenient scheme.
 pub trait Signed: ToyVersion + Signs<Lenient> + Verifies<Lenient> {}

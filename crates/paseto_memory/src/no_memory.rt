@@ -68,10 +68,9 @@ fn texts_of(text: &str) -> Result<[usize; 8], PasetoError> {
     let (key, keys) = (Key::<32>::from_slice(&[7; 32]).clone(), Keys::of(&SECRET));
     let secret = PasetoSymmetricKey::<V4, Local>::from(Key::default());
     let mut paseto = Paseto::<V4, Local>::builder();
-    paseto
-        .set_payload(Payload::from(text))
-        .set_footer(Footer::default())
-        .set_implicit_assertion(ImplicitAssertion::default());
+    paseto.set_payload(Payload::from(text));
+    paseto.set_footer(Footer::default());
+    paseto.set_implicit_assertion(ImplicitAssertion::default());
     Ok([
         Header::<V4, Local>::default().as_str().len(),
         Payload::from(text).as_str().len(),

@@ -2,13 +2,13 @@
 
 use crate::builders::{ODD, map_of, odd_claim};
 use crate::claims::numbered;
-use crate::kinds::{Signed, footer, local_kinds, public_kinds, symmetric_key};
+use crate::kinds::{Cases, Signed, ask_kinds, footer, symmetric_key};
 use crate::run::{Run, Snapshot, calls, edits, shown};
 use crate::tokens::{seal, seal_boxed, sign};
 use crate::validators::{Refuses, validators};
 use anyhow::Result;
 use jiff::Timestamp;
-use paseto_toys::keys::{Keys, SECRET};
+use paseto_toys::keys::Keys;
 use paseto_toys::{Lenient, PlainBox};
 use rusty_paseto::prelude::*;
 use std::alloc::Global;
@@ -47,16 +47,14 @@ pub fn ask(run: &mut Run<'_>) -> Result<()> {
     ask_checks(run)?;
     ask_maps(run)?;
     ask_value(run)?;
-    local_kinds! { run, ask_local }
-    ask_boxed(run)?;
-    public_kinds! { run, ask_public }
+    ask_kinds::<Kinds>(run)?;
     ask_failed_checks(run)
 }
 
+pub type Parser<V, P> = GenericParser<'static, V, P>;
+
 /// A parser that checks fifteen claims, and expects the footer.
-pub fn parser_of<V: VersionTrait, P: PurposeTrait>(
-    alloc: Global,
-) -> Result<GenericParser<'static, V, P>> {
+pub fn parser_of<V: VersionTrait, P: PurposeTrait>(alloc: Global) -> Result<Parser<V, P>> {
     let mut parser = GenericParser::new(alloc);
     put_checks(&mut parser, alloc, 14)?;
     parser.set_footer(footer());
@@ -73,7 +71,7 @@ pub fn put_checks<B, P: CheckSetter<B>>(parser: &mut P, alloc: Global, more: u64
 }
 
 // A parser that checks the times too.
-fn timed<V: VersionTrait, P: PurposeTrait>(alloc: Global) -> Result<GenericParser<'static, V, P>> {
+fn timed<V: VersionTrait, P: PurposeTrait>(alloc: Global) -> Result<Parser<V, P>> {
     let mut parser = parser_of(alloc)?;
     parser.put_times(now()?)?;
     Ok(parser)
@@ -122,23 +120,26 @@ fn ask_value(run: &mut Run<'_>) -> Result<()> {
     calls! { run; "TokenParser::value_of of a text" => parser.value_of(payload.as_str()); }
 }
 
-fn ask_local<V: GenericLocalVersion>(run: &mut Run<'_>, kind: &str) -> Result<()> {
-    let token = seal::<V>(run.alloc, good(run.alloc, run.text)?.as_str(), footer())?;
-    let parser = timed::<V, Local>(run.alloc)?;
-    calls! { run, kind; "TokenParser::parse of {}" => parser.parse(token.as_str(), &symmetric_key()); }
-}
+struct Kinds;
 
-fn ask_boxed(run: &mut Run<'_>) -> Result<()> {
-    let token = seal_boxed(run.alloc, good(run.alloc, run.text)?.as_str(), footer())?;
-    let (parser, key) = (timed::<V2, Local>(run.alloc)?, symmetric_key());
-    calls! { run; "TokenParser::parse of v2.local" => parser.parse(&PlainBox, token.as_str(), &key); }
-}
+impl Cases for Kinds {
+    fn ask_local<V: DefaultLocalVersion>(run: &mut Run<'_>, kind: &str) -> Result<()> {
+        let token = seal::<V>(run.alloc, good(run.alloc, run.text)?.as_str(), footer())?;
+        let parser = timed::<V, Local>(run.alloc)?;
+        calls! { run, kind; "TokenParser::parse of {}" => parser.parse(token.as_str(), &symmetric_key()); }
+    }
 
-fn ask_public<V: Signed>(run: &mut Run<'_>, kind: &str) -> Result<()> {
-    let token = sign::<V>(run.alloc, good(run.alloc, run.text)?.as_str(), footer())?;
-    let keys = Keys::of(&SECRET);
-    let (key, parser) = (V::public_key(&keys)?, timed::<V, Public>(run.alloc)?);
-    calls! { run, kind; "TokenParser::parse of {}" => parser.parse(&Lenient, token.as_str(), &key); }
+    fn ask_boxed(run: &mut Run<'_>) -> Result<()> {
+        let token = seal_boxed(run.alloc, good(run.alloc, run.text)?.as_str(), footer())?;
+        let (parser, key) = (timed::<V2, Local>(run.alloc)?, symmetric_key());
+        calls! { run; "TokenParser::parse of v2.local" => parser.parse(&PlainBox, token.as_str(), &key); }
+    }
+
+    fn ask_public<V: Signed>(run: &mut Run<'_>, kind: &str, keys: &Keys) -> Result<()> {
+        let token = sign::<V>(run.alloc, good(run.alloc, run.text)?.as_str(), footer())?;
+        let (key, parser) = (V::public_key(keys)?, timed::<V, Public>(run.alloc)?);
+        calls! { run, kind; "TokenParser::parse of {}" => parser.parse(&Lenient, token.as_str(), &key); }
+    }
 }
 
 // Payloads that are no JSON, or fail a check, and so are refused.
@@ -168,9 +169,7 @@ fn ask_failed_checks(run: &mut Run<'_>) -> Result<()> {
     ask_refused(run, "what a validator refuses, refused", payload, &parser)
 }
 
-type Refusing<'a> = &'a GenericParser<'static, V4, Local>;
-
-fn ask_refused(run: &mut Run<'_>, of: &str, payload: &str, parser: Refusing<'_>) -> Result<()> {
-    let token = seal::<V4>(run.alloc, payload, footer())?;
+fn ask_refused(run: &mut Run<'_>, of: &str, json: &str, parser: &Parser<V4, Local>) -> Result<()> {
+    let token = seal::<V4>(run.alloc, json, footer())?;
     calls! { run, of; "TokenParser::parse of {}" => parser.parse(token.as_str(), &symmetric_key()); }
 }

@@ -5,10 +5,7 @@ use crate::run::{Run, calls};
 use anyhow::Result;
 use paseto_toys::keys::{Keys, SECRET, ToyVersion};
 use rusty_paseto::prelude::*;
-use rusty_paseto_paserk::{
-    PaserkError, local_from_paserk, local_id, local_to_paserk, public_from_paserk, public_id,
-    public_to_paserk, secret_from_paserk, secret_id, secret_to_paserk,
-};
+use rusty_paseto_paserk::*;
 use std::alloc::Global;
 
 /// Asks them.
@@ -34,13 +31,12 @@ fn ask_pairs(run: &mut Run<'_>) -> Result<()> {
     let (private, public) = (V4::private_key(&keys), V4::public_key(&keys)?);
     let secret = secret_to_paserk(alloc, &private)?;
     let text = public_to_paserk(alloc, &public)?;
-    let (secret, text) = (secret.as_str(), text.as_str());
     calls! { run;
         "secret_to_paserk of v4.public" => secret_to_paserk(alloc, &private);
-        "secret_from_paserk of v4.public" => secret_from_paserk::<V4, 64>(alloc, secret).map(bytes_of);
+        "secret_from_paserk of v4.public" => secret_from_paserk::<V4, 64>(alloc, secret.as_str()).map(bytes_of);
         "secret_id of v4.public" => secret_id(alloc, &private);
         "public_to_paserk of v4.public" => public_to_paserk(alloc, &public);
-        "public_from_paserk of v4.public" => public_from_paserk::<V4, 32>(alloc, text).map(bytes_of);
+        "public_from_paserk of v4.public" => public_from_paserk::<V4, 32>(alloc, text.as_str()).map(bytes_of);
         "public_id of v4.public" => public_id(alloc, &public);
     }
 }

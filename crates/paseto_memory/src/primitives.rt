@@ -3,11 +3,7 @@
 ghost use Rattle.std.specs.Prelude.{◌≡◌};
 ghost use Rattle.rusty_paseto_primitives.specs.Blake2.Hasher.{output_length};
 
-use rusty_paseto_primitives::{
-    Aes256, Blake2b, HmacSha384, aes256_ctr_apply, blake2b_keyed, blake2b_keyed_pair,
-    chacha20_block, hchacha20, hkdf_sha384_expand, hkdf_sha384_extract, hmac_sha384, quarter_round,
-    xchacha20_apply,
-};
+use rusty_paseto_primitives::*;
 
 /// A digest of what each of them makes of a text.
 pub fn digest(text: &[u8]) -> [u8; 64] {

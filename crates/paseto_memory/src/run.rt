@@ -5,8 +5,7 @@ use std::alloc::Global;
 use std::fmt::Debug;
 use std::io::{Stdout, Write};
 
-/// A table of calls that change nothing. A line is a case: its name, and the call. `{}` in a name stands for
-/// the text that is given after the run.
+/// A table of calls that change nothing: each case's name, in which `{}` is the text behind the run, and call.
 macro_rules! calls {
     ($run:expr; $($lines:tt)*) => { $crate::run::calls! { $run, ""; $($lines)* } };
     ($run:expr, $of:expr; $($case:literal => $asked:expr;)*) => {
@@ -137,8 +136,7 @@ impl Round {
     }
 }
 
-/// The answers, as `Debug` shows them, by which calls tell that memory was refused: an error of the variant
-/// `Memory`, in which no other error stands, or one that has no variants.
+/// The answers that tell of refused memory: an error `Memory` with no other error in it, or one with no variants.
 const MEMORY: &[&str] = &["Err(Memory(AllocError))", "Err(AllocError)"];
 
 /// An object before an edit, what the edit answered, and the object then.
@@ -157,12 +155,9 @@ fn is_memory(change: &Change) -> bool {
 /// An edit that does not refuse changes something, and nothing else does.
 fn check_name(name: &str, right: &Change, is_edit: bool) -> Result<()> {
     let is_refused = right.answer.as_str().starts_with("Err(");
-    let is_kept = is_refused || !is_edit;
     let is_named = is_refused == name.ends_with(", refused") && !is_memory(right);
-    ensure!(
-        is_named && is_kept == (right.before == right.after),
-        "{name}: its name tells of another answer"
-    );
+    let is_right = is_named && (is_refused || !is_edit) == (right.before == right.after);
+    ensure!(is_right, "{name}: its name tells of another answer");
     Ok(())
 }
 
@@ -193,10 +188,9 @@ impl Run<'_> {
         self.table(cases, of, || Ok(()), false, lines)
     }
 
-    /// Makes two alike objects for each line of a table, and asks the second between the marks. What is right
-    /// is what the first answers before the same edit and after it. Where memory was refused, the second is to
-    /// answer as before, and is then asked again. Else it is to answer as the first, and a third is made and
-    /// asked.
+    /// Makes two alike objects for each line of a table, and asks the second between the marks. What is right is
+    /// what the first answers before the edit and after it. Where memory was refused, the second is to answer as
+    /// before, and is asked again. Else it is to answer as the first, and a third is made and asked.
     pub fn table<O: Snapshot, M, F>(
         &mut self,
         cases: &str,

@@ -2,16 +2,14 @@
 
 use crate::rsa_key::{PRIVATE, PUBLIC};
 use crate::run::{Run, calls};
-use anyhow::{Result, bail};
+use anyhow::{Context, Result};
 use paseto_ed25519::Ed25519;
 use paseto_p384::P384;
 use paseto_rsa::RsaPss;
 use paseto_toys::generators::{Counting, Zeros};
 use paseto_xchacha20poly1305::XChaCha20Poly1305;
 use rusty_paseto::prelude::*;
-use rusty_paseto::validators::{
-    AtLeast, AtMost, AtMostCharacters, BeginsWith, Holding, OneOf, Present, Within,
-};
+use rusty_paseto::validators::*;
 use serde_json::Value;
 
 /// Asks them.
@@ -26,9 +24,8 @@ pub fn ask(run: &mut Run<'_>) -> Result<()> {
 fn ask_box(run: &mut Run<'_>) -> Result<()> {
     let (alloc, text) = (run.alloc, run.text.as_bytes());
     let (key, nonce) = ([7u8; 32], [1u8; 24]);
-    let Some(boxed) = XChaCha20Poly1305.seal(alloc, &key, &nonce, b"data", text)? else {
-        bail!("there is no box");
-    };
+    let boxed = XChaCha20Poly1305.seal(alloc, &key, &nonce, b"data", text)?;
+    let boxed = boxed.context("there is no box")?;
     calls! { run;
         "SealedBox::seal of XChaCha20Poly1305" => XChaCha20Poly1305.seal(alloc, &key, &nonce, b"data", text);
         "SealedBox::open of XChaCha20Poly1305"

@@ -1,6 +1,6 @@
 //! The calls of local and of public tokens.
 
-use crate::kinds::{Signed, footer, local_kinds, public_kinds, symmetric_key};
+use crate::kinds::{Cases, Signed, ask_kinds, footer, symmetric_key};
 use crate::run::{Run, calls};
 use anyhow::Result;
 use paseto_toys::keys::{Keys, SECRET, ToyVersion};
@@ -13,10 +13,9 @@ type Answer = Result<String, PasetoError>;
 
 /// Asks them.
 pub fn ask(run: &mut Run<'_>) -> Result<()> {
-    local_kinds! { run, ask_local }
-    ask_decrypting(run)?;
-    public_kinds! { run, ask_public }
-    ask_verifying(run)
+    ask_kinds::<Kinds>(run)?;
+    ask_verifying(run)?;
+    ask_bound(run)
 }
 
 /// The local token of a text.
@@ -48,22 +47,60 @@ fn token_of<V: VersionTrait, P: PurposeTrait>(text: &str) -> Paseto<'_, V, P> {
     paseto
 }
 
-fn ask_local<V: LocalVersion>(run: &mut Run<'_>, kind: &str) -> Result<()> {
-    let (alloc, text, key) = (run.alloc, run.text, symmetric_key::<V>());
-    let bytes = Key::<32>::from([0; 32]);
-    let (paseto, nonce) = (token_of::<V, Local>(text), PasetoNonce::from(&bytes));
-    calls!(run, kind;
-        "LocalVersion::seal of {}" => seal::<V>(alloc, text, footer());
-        "Paseto::try_encrypt of {}" => paseto.try_encrypt(alloc, &key, &nonce);
-    )?;
+struct Kinds;
+
+impl Cases for Kinds {
+    fn ask_local<V: DefaultLocalVersion>(run: &mut Run<'_>, kind: &str) -> Result<()> {
+        let (alloc, text, key) = (run.alloc, run.text, symmetric_key::<V>());
+        let bytes = Key::<32>::from([0; 32]);
+        let (paseto, nonce) = (token_of::<V, Local>(text), PasetoNonce::from(&bytes));
+        calls!(run, kind;
+            "LocalVersion::seal of {}" => seal::<V>(alloc, text, footer());
+            "Paseto::try_encrypt of {}" => paseto.try_encrypt(alloc, &key, &nonce);
+        )?;
+        ask_opening::<V>(run, kind)
+    }
+
+    fn ask_boxed(run: &mut Run<'_>) -> Result<()> {
+        let (alloc, text, own) = (run.alloc, run.text, Some(footer()));
+        let first = seal::<V1>(alloc, text, footer())?;
+        let third = seal::<V3>(alloc, text, footer())?;
+        let fourth = seal::<V4>(alloc, text, footer())?;
+        let boxed = seal_boxed(alloc, text, footer())?;
+        calls! { run;
+            "Paseto::try_decrypt of v1.local"
+                => Paseto::<V1, Local>::try_decrypt(alloc, first.as_str(), &symmetric_key(), own);
+            "Paseto::try_decrypt of v3.local"
+                => Paseto::<V3, Local>::try_decrypt(alloc, third.as_str(), &symmetric_key(), own, None);
+            "Paseto::try_decrypt of v4.local"
+                => Paseto::<V4, Local>::try_decrypt(alloc, fourth.as_str(), &symmetric_key(), own, None);
+            "Paseto::try_encrypt of v2.local" => seal_boxed(alloc, text, footer());
+            "Paseto::try_decrypt of v2.local"
+                => Paseto::<V2, Local>::try_decrypt(alloc, &PlainBox, boxed.as_str(), &symmetric_key(), own);
+        }
+    }
+
+    fn ask_public<V: Signed>(run: &mut Run<'_>, kind: &str, keys: &Keys) -> Result<()> {
+        let (alloc, text) = (run.alloc, run.text);
+        let (paseto, key) = (token_of::<V, Public>(text), V::private_key(keys));
+        let (token, public) = (sign::<V>(alloc, text, footer())?, V::public_key(keys)?);
+        calls! { run, kind;
+            "Signs::sign of {}" => V::sign(alloc, &mut Lenient, &key, Payload::from(text), Some(footer()), None);
+            "Paseto::try_sign of {}" => paseto.try_sign(alloc, &mut Lenient, &key);
+            "Verifies::verify of {}" => V::verify(alloc, &Lenient, token.as_str(), &public, Some(footer()), None);
+        }
+    }
+}
+
+fn ask_opening<V: LocalVersion>(run: &mut Run<'_>, kind: &str) -> Result<()> {
+    let (alloc, key, own) = (run.alloc, symmetric_key(), Some(footer()));
     let other = PasetoSymmetricKey::<V, Local>::from(Key::<32>::from([8; 32]));
-    let token = seal::<V>(alloc, text, footer())?;
+    let token = seal::<V>(alloc, run.text, footer())?;
     let second = seal::<V>(alloc, "another text", footer())?;
     let (token, second) = (token.as_str(), second.as_str());
     calls! { run, kind;
-        "LocalVersion::open of {}" => V::open(alloc, token, &key, Some(footer()), None);
-        "LocalVersion::open of {} under another key, refused"
-            => V::open(alloc, token, &other, Some(footer()), None);
+        "LocalVersion::open of {}" => V::open(alloc, token, &key, own, None);
+        "LocalVersion::open of {} under another key, refused" => V::open(alloc, token, &other, own, None);
         "Paseto::tag_collision of {}" => collision(alloc, &key, token, second);
     }
 }
@@ -85,48 +122,23 @@ fn collision<'a, V: LocalVersion>(
     Ok(found.map(|collision| collision.tag))
 }
 
-fn ask_decrypting(run: &mut Run<'_>) -> Result<()> {
-    let (alloc, text) = (run.alloc, run.text);
-    let first = seal::<V1>(alloc, text, footer())?;
-    let third = seal::<V3>(alloc, text, footer())?;
-    let fourth = seal::<V4>(alloc, text, footer())?;
-    let boxed = seal_boxed(alloc, text, footer())?;
-    let own = Some(footer());
-    calls! { run;
-        "Paseto::try_decrypt of v1.local"
-            => Paseto::<V1, Local>::try_decrypt(alloc, first.as_str(), &symmetric_key(), own);
-        "Paseto::try_decrypt of v3.local"
-            => Paseto::<V3, Local>::try_decrypt(alloc, third.as_str(), &symmetric_key(), own, None);
-        "Paseto::try_decrypt of v4.local"
-            => Paseto::<V4, Local>::try_decrypt(alloc, fourth.as_str(), &symmetric_key(), own, None);
-        "Paseto::try_encrypt of v2.local" => seal_boxed(alloc, text, footer());
-        "Paseto::try_decrypt of v2.local"
-            => Paseto::<V2, Local>::try_decrypt(alloc, &PlainBox, boxed.as_str(), &symmetric_key(), own);
-    }
-}
-
-fn ask_public<V: Signed>(run: &mut Run<'_>, kind: &str) -> Result<()> {
-    let (alloc, text, keys) = (run.alloc, run.text, Keys::of(&SECRET));
-    let (paseto, key) = (token_of::<V, Public>(text), V::private_key(&keys));
-    let (token, public) = (sign::<V>(alloc, text, footer())?, V::public_key(&keys)?);
-    calls! { run, kind;
-        "Signs::sign of {}" => V::sign(alloc, &mut Lenient, &key, Payload::from(text), Some(footer()), None);
-        "Paseto::try_sign of {}" => paseto.try_sign(alloc, &mut Lenient, &key);
-        "Verifies::verify of {}" => V::verify(alloc, &Lenient, token.as_str(), &public, Some(footer()), None);
-    }
-}
-
 fn ask_verifying(run: &mut Run<'_>) -> Result<()> {
     let (alloc, text, keys, own) = (run.alloc, run.text, Keys::of(&SECRET), Some(footer()));
     let (first, first_key) = (sign::<V1>(alloc, text, footer())?, V1::public_key(&keys)?);
     let (second, second_key) = (sign::<V2>(alloc, text, footer())?, V2::public_key(&keys)?);
-    let (third, third_key) = (sign::<V3>(alloc, text, footer())?, V3::public_key(&keys)?);
-    let (fourth, fourth_key) = (sign::<V4>(alloc, text, footer())?, V4::public_key(&keys)?);
     calls! { run;
         "Paseto::try_verify of v1.public"
             => Paseto::<V1, Public>::try_verify(alloc, &Lenient, first.as_str(), &first_key, own);
         "Paseto::try_verify of v2.public"
             => Paseto::<V2, Public>::try_verify(alloc, &Lenient, second.as_str(), &second_key, own);
+    }
+}
+
+fn ask_bound(run: &mut Run<'_>) -> Result<()> {
+    let (alloc, text, keys, own) = (run.alloc, run.text, Keys::of(&SECRET), Some(footer()));
+    let (third, third_key) = (sign::<V3>(alloc, text, footer())?, V3::public_key(&keys)?);
+    let (fourth, fourth_key) = (sign::<V4>(alloc, text, footer())?, V4::public_key(&keys)?);
+    calls! { run;
         "Paseto::try_verify of v3.public"
             => Paseto::<V3, Public>::try_verify(alloc, &Lenient, third.as_str(), &third_key, own, None);
         "Paseto::try_verify of v4.public"

@@ -24,20 +24,23 @@ impl Validator for Refuses {
 
 /// Such validators of three keys, the last of which a parser of the cases checks already.
 macro_rules! validators {
-    ($alloc:expr) => {
-        $crate::validators::validators_of(
-            $alloc,
-            [Box::new($alloc, Refuses)?, Box::new($alloc, Refuses)?, Box::new($alloc, Refuses)?],
-        )?
-    };
+    ($alloc:expr) => {{
+        let [first, second, third] = $crate::validators::boxes_of($alloc)?;
+        $crate::validators::validators_of($alloc, [first, second, third])?
+    }};
 }
 
 pub(crate) use validators;
 
-/// Validators of three keys.
+/// The validators of three keys, for `validators!`.
+pub fn boxes_of(alloc: Global) -> Result<[Box<Refuses>; 3]> {
+    let (first, second) = (Box::new(alloc, Refuses)?, Box::new(alloc, Refuses)?);
+    Ok([first, second, Box::new(alloc, Refuses)?])
+}
+
+/// The same by their keys.
 pub fn validators_of(alloc: Global, boxes: [ValidatorFn; 3]) -> Result<ValidatorMap> {
-    let mut map = BTreeMap::new(alloc);
-    let [first, second, third] = boxes;
+    let (mut map, [first, second, third]) = (BTreeMap::new(alloc), boxes);
     drop(map.insert(String::from_str(alloc, "a")?, first)?);
     drop(map.insert(String::from_str(alloc, "aud")?, second)?);
     drop(map.insert(String::from_str(alloc, "seats")?, third)?);
