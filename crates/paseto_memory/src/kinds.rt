@@ -6,7 +6,7 @@ use paseto_toys::Lenient;
 use paseto_toys::keys::{Keys, SECRET, ToyVersion};
 use rusty_paseto::prelude::*;
 
-/// The cases of each kind of tokens. Those of local tokens need no box.
+/// The cases of each kind: local tokens with no box, version 2 with its box and what is asked beside it, public ones.
 pub trait Cases {
     fn ask_local<V: DefaultLocalVersion>(run: &mut Run<'_>, kind: &str) -> Result<()>;
 
