@@ -3,8 +3,8 @@
     python3 tests/program_edits.py                      whether each can still be made: its old texts stand just once
     python3 tests/program_edits.py --prove [CRATE ..]   whether the prover refuses each, over what is proved already
 
-The gate asks the first, and sees the programs from outside; the second takes some twenty minutes. The last line is
-'N passed, M failed', and the status is 0 where none failed.
+The gate asks the first, and sees the programs from outside; the second takes half an hour of a processor. The last
+line is 'N passed, M failed', and the status is 0 where none failed.
 """
 
 import pathlib
