@@ -17,4 +17,5 @@ mod public_keys;
 mod readings;
 mod refusals;
 mod sealing_use;
+mod shared_tags;
 mod signing_use;

@@ -1,8 +1,8 @@
 //! Toys for the crates that test: what a caller of the library brings, as small as it can be, and its keys.
 //!
 //! A toy sealed box stands in for the one that a caller brings to tokens of version 2, toy signature schemes
-//! for those that a caller brings to public tokens, and generators of known bytes for a random one. `long` has texts
-//! that are longer than those that a call may be expected to take.
+//! for those that a caller brings to public tokens, and generators of known bytes for a random one. `OneTag` is a
+//! version whose tokens share a tag. `long` has texts that are longer than those that a call may be expected to take.
 //!
 //! ```rust
 //! use paseto_toys::ToyV4;
@@ -30,6 +30,7 @@ pub mod generators;
 pub mod keys;
 mod lenient;
 pub mod long;
+mod one_tag;
 mod plain_box;
 mod refusing;
 mod toy_box;
@@ -37,6 +38,7 @@ mod toy_schemes;
 mod toy_signature;
 
 pub use lenient::Lenient;
+pub use one_tag::OneTag;
 pub use plain_box::PlainBox;
 pub use refusing::Refusing;
 pub use toy_box::ToyBox;

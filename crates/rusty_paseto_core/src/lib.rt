@@ -33,6 +33,8 @@ mod public;
 mod reading;
 mod tag;
 
+#[doc(hidden)]
+pub use local::LocalSuite;
 pub use local::LocalVersion;
 pub use local::sealed_box::SealedBox;
 pub use local::tag_collision::{Opening, TagCollision};

@@ -33,7 +33,7 @@ const AUTHENTICATION: &[u8; 24] = b"paseto-auth-key-for-aead";
 /// The header, the key split, the cipher and the tag of a version's local tokens.
 ///
 /// Sealing and opening are written and proved once, over this trait.
-pub(crate) trait LocalSuite: VersionTrait {
+pub trait LocalSuite: VersionTrait {
     /// The keys that one token is encrypted and authenticated with.
     type Keys: Copy;
 

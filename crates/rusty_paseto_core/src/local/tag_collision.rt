@@ -19,9 +19,6 @@ use rusty_paseto_parts::{
 use std::alloc::{AllocError, Global};
 use std::collections::BTreeMap;
 
-#[cfg(test)]
-mod tests;
-
 /// A token, and the key, the footer and the implicit assertion under which it is to be opened.
 #[derive_where(Clone, Copy)]
 pub struct Opening<'a, V> {
