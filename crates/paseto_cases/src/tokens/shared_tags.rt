@@ -96,13 +96,22 @@ fn all_sealed<'a>(rt: &impl Abort, alloc: Global, all: &[Made<'a>]) -> Vec<Seale
     sealed
 }
 
+fn openings_of<'a>(
+    rt: &impl Abort,
+    alloc: Global,
+    tokens: &'a [Sealed<'_>],
+) -> Vec<Opening<'a, OneTag>> {
+    let mut openings = Vec::new(alloc);
+    'tokens: for sealed in tokens {
+        openings.push(sealed.opening()).expect(rt, "memory");
+    }
+    openings
+}
+
 // The collision of tokens that are made so.
 fn find(rt: &impl Abort, alloc: Global, all: &[Made<'_>]) -> Option<TagCollision> {
     let tokens = all_sealed(rt, alloc, all);
-    let mut openings = Vec::new(alloc);
-    'tokens: for sealed in &tokens {
-        openings.push(sealed.opening()).expect(rt, "memory");
-    }
+    let openings = openings_of(rt, alloc, &tokens);
     Paseto::<OneTag, Local>::tag_collision(alloc, &openings).expect(rt, "an answer")
 }
 
