@@ -32,7 +32,8 @@ const AUTHENTICATION: &[u8; 24] = b"paseto-auth-key-for-aead";
 
 /// The header, the key split, the cipher and the tag of a version's local tokens.
 ///
-/// Sealing and opening are written and proved once, over this trait.
+/// Sealing and opening are written and proved once, over this trait. It is public for versions of tests alone, and
+/// hidden in the documentation: whoever implements it owes its laws.
 pub trait LocalSuite: VersionTrait {
     /// The keys that one token is encrypted and authenticated with.
     type Keys: Copy;

@@ -2,11 +2,10 @@
 //! they are tokens of a toy version, whose tags are all the same.
 
 use crate::expect::{expect_bytes, expect_same, expect_that};
-use crate::kinds::Binding;
 use paseto_toys::OneTag;
 use rusty_paseto_core::{
-    Footer, Key, Local, LocalVersion, Opening, Paseto, PasetoNonce, PasetoSymmetricKey, Payload,
-    PreAuthenticationEncoding, TagCollision,
+    Footer, ImplicitAssertion, Key, Local, LocalVersion, Opening, Paseto, PasetoNonce,
+    PasetoSymmetricKey, Payload, PreAuthenticationEncoding, TagCollision,
 };
 use std::alloc::Global;
 use std::process::Abort;
@@ -39,14 +38,13 @@ impl<'a> Made<'a> {
 
     fn sealed(self, rt: &impl Abort, alloc: Global) -> Sealed<'a> {
         let (key, nonce) = (self.key(), Key::from([self.nonce; 32]));
-        let binding = Binding::of_assertion(Some(self.assertion));
         let token = OneTag::seal(
             alloc,
             &key,
             &PasetoNonce::from(&nonce),
             Payload::from(self.text),
             Some(Footer::from(self.footer)),
-            binding.assertion(),
+            Some(ImplicitAssertion::from(self.assertion)),
         );
         Sealed {
             made: self,
@@ -83,7 +81,7 @@ impl Sealed<'_> {
             key: &self.key,
             token: self.token.as_str(),
             footer: Some(Footer::from(self.made.footer)),
-            assertion: Binding::of_assertion(Some(self.made.assertion)).assertion(),
+            assertion: Some(ImplicitAssertion::from(self.made.assertion)),
         }
     }
 }
