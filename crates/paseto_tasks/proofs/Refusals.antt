@@ -188,12 +188,12 @@ inside error status is (inl one) outside = let three : 1 ≡ 3 = sym one ∙ is 
 inside error status is (inr two) outside = let three : 2 ≡ 3 = sym two ∙ is ∙ outside_status error outside in absurd (false≢true (sym (ap (eqb 2) three)))
 
 pub status_refused : (error : ProgramError) (status : ℕ) (file_known known : Option (List ℕ)) (X : List ℕ → List ℕ → Type 0) → status ≡ status_of error
-    → (status ≡ 1) ⊎ (status ≡ 2) → IfSome file_known (λ file. IfSome known (λ bytes. IsOutside error ⊎ X file bytes))
+    → status ≡ 1 → IfSome file_known (λ file. IfSome known (λ bytes. IsOutside error ⊎ X file bytes))
     → IfSome file_known (λ file. IfSome known (λ bytes. X file bytes))
-status_refused error status None known X is some h = tt
-status_refused error status (Some file) None X is some h = tt
-status_refused error status (Some file) (Some bytes) X is some (inl outside) = absurd (inside error status is some outside)
-status_refused error status (Some file) (Some bytes) X is some (inr refused) = refused
+status_refused error status None known X is one h = tt
+status_refused error status (Some file) None X is one h = tt
+status_refused error status (Some file) (Some bytes) X is one (inl outside) = absurd (inside error status is (inl one) outside)
+status_refused error status (Some file) (Some bytes) X is one (inr refused) = refused
 
 -- what is not done, where its error is no one from outside
 pub refused_as : {T : Type 0} (made : Result T ProgramError) (status : ℕ) (X : Type 0) → (status ≡ 1) ⊎ (status ≡ 2)
@@ -202,19 +202,14 @@ refused_as (Ok value) status X some is h = absurd is
 refused_as (Err error) status X some is (inl outside) = absurd (inside error status (sym is) some outside)
 refused_as (Err error) status X some is (inr x) = x
 
-not_three : (status : ℕ) → (status ≡ 1) ⊎ (status ≡ 2) → status ≡ 3 → ⊥
-not_three status (inl one) three = let other : 1 ≡ 3 = sym one ∙ three in false≢true (sym (ap (eqb 1) other))
-not_three status (inr two) three = let other : 2 ≡ 3 = sym two ∙ three in false≢true (sym (ap (eqb 2) other))
-
 -- what is refused and is no failure of the output leaves it
-pub unless_three : (error : ProgramError) (status : ℕ) (X : Type 0) → status ≡ status_of error → (status ≡ 1) ⊎ (status ≡ 2)
-    → (status_of error ≡ 3) ⊎ X → X
-unless_three error status X is some (inl three) = absurd (not_three status some (is ∙ three))
-unless_three error status X is some (inr x) = x
+pub unless_three : (error : ProgramError) (status : ℕ) (X : Type 0) → status ≡ status_of error → status ≡ 1 → (status_of error ≡ 3) ⊎ X → X
+unless_three error status X is one (inl three) = let other : 1 ≡ 3 = sym one ∙ is ∙ three in absurd (false≢true (sym (ap (eqb 1) other)))
+unless_three error status X is one (inr x) = x
 
 -- what is refused of a known input
 pub input_refused : (error : ProgramError) (status : ℕ) (known : Option (List ℕ)) (X : List ℕ → Type 0) → status ≡ status_of error
-    → (status ≡ 1) ⊎ (status ≡ 2) → IfSome known (λ bytes. IsOutside error ⊎ X bytes) → IfSome known X
-input_refused error status None X is some h = tt
-input_refused error status (Some bytes) X is some (inl outside) = absurd (inside error status is some outside)
-input_refused error status (Some bytes) X is some (inr refused) = refused
+    → status ≡ 1 → IfSome known (λ bytes. IsOutside error ⊎ X bytes) → IfSome known X
+input_refused error status None X is one h = tt
+input_refused error status (Some bytes) X is one (inl outside) = absurd (inside error status is (inl one) outside)
+input_refused error status (Some bytes) X is one (inr refused) = refused

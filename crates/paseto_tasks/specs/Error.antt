@@ -88,6 +88,14 @@ IsOutside InputOrOutput = ⊤
 IsOutside (Memory _) = ⊤
 IsOutside _ = ⊥
 
+-- an error that says nothing of the words, so that the program does not end with status 2
+abbrev pub IsNoUsage : ProgramError → Type 0
+IsNoUsage Usage = ⊥
+IsNoUsage Claim = ⊥
+IsNoUsage TimeClaim = ⊥
+IsNoUsage Time = ⊥
+IsNoUsage _ = ⊤
+
 -- the error came from outside, or there is nothing that is so
 abbrev pub Lacks : {X : Type 0} → (X → Type 0) → ProgramError → Type 0
 Lacks {X} P error = IsOutside error ⊎ ((x : X) → ¬ P x)

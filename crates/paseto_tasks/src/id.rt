@@ -2,7 +2,7 @@
 
 ghost use Rattle.std.specs.Prelude.{◌⊎◌, IfErr, IfOk, string_bytes};
 ghost use Rattle.rusty_paseto_paserk.specs.declared.header.PaserkType.TheVariants.{Local as LocalKey, Public as PublicKey, Secret};
-ghost use Rattle.paseto_tasks.specs.Error.{IsOutside};
+ghost use Rattle.paseto_tasks.specs.Error.{IsNoUsage, IsOutside};
 ghost use Rattle.paseto_tasks.specs.Id.{Identifies, IdentifiesNothing, IsIdOf, IsNoKeyOf};
 
 use crate::error::ProgramError;
@@ -21,6 +21,7 @@ use std::alloc::Global;
 pub fn id(alloc: Global, key: &str) -> Result<String, ProgramError>
     ensures printed { IfOk result (λ line. Identifies key.now (string_bytes line)) }
     ensures refused { IfErr result (λ error. IsOutside error ⊎ IdentifiesNothing key.now) }
+    ensures no_usage { IfErr result IsNoUsage }
 {
     let id = match header_of(key) {
         Some((version, PaserkType::Local, _)) => id_of_local(alloc, version, key)?,
@@ -34,6 +35,7 @@ pub fn id(alloc: Global, key: &str) -> Result<String, ProgramError>
 fn id_of_local(alloc: Global, version: PaserkVersion, key: &str) -> Result<String, ProgramError>
     ensures printed { IfOk result (λ id. IsIdOf key.now (string_bytes id)) }
     ensures refused { IfErr result (λ error. IsOutside error ⊎ IsNoKeyOf version LocalKey key.now) }
+    ensures no_usage { IfErr result IsNoUsage }
 {
     match version {
         PaserkVersion::V1 => id_of_symmetric::<V1>(alloc, key),
@@ -47,6 +49,7 @@ fn id_of_local(alloc: Global, version: PaserkVersion, key: &str) -> Result<Strin
 fn id_of_symmetric<V: KeyVersion>(alloc: Global, key: &str) -> Result<String, ProgramError>
     ensures printed { IfOk result (λ id. IsIdOf key.now (string_bytes id)) }
     ensures refused { IfErr result (λ error. IsOutside error ⊎ IsNoKeyOf V.paserk LocalKey key.now) }
+    ensures no_usage { IfErr result IsNoUsage }
 {
     let symmetric = local_from_paserk::<V>(alloc, key)?;
     Ok(local_id(alloc, &symmetric)?)
@@ -55,6 +58,7 @@ fn id_of_symmetric<V: KeyVersion>(alloc: Global, key: &str) -> Result<String, Pr
 fn id_of_secret(alloc: Global, version: PaserkVersion, key: &str) -> Result<String, ProgramError>
     ensures printed { IfOk result (λ id. IsIdOf key.now (string_bytes id)) }
     ensures refused { IfErr result (λ error. IsOutside error ⊎ IsNoKeyOf version Secret key.now) }
+    ensures no_usage { IfErr result IsNoUsage }
 {
     match version {
         PaserkVersion::V1 => Err(ProgramError::Key(PaserkError::OtherVersion(version))),
@@ -80,6 +84,7 @@ fn id_of_public(alloc: Global, version: PaserkVersion, key: &str) -> Result<Stri
     ensures printed { IfOk result (λ id. IsIdOf key.now (string_bytes id)) }
     ensures refused { IfErr result (λ error. IsOutside error
         ⊎ IsNoKeyOf version PublicKey key.now) }
+    ensures no_usage { IfErr result IsNoUsage }
 {
     match version {
         PaserkVersion::V1 => Err(ProgramError::Key(PaserkError::OtherVersion(version))),

@@ -3,7 +3,7 @@
 ghost use Rattle.std.specs.Prelude.{◌⊎◌, ℕ, List, IfErr, IfOk, IfSome, string_bytes};
 ghost use Rattle.rusty_paseto_parts.specs.declared.error.PasetoError.{PasetoError};
 ghost use Rattle.rusty_paseto_core.specs.Public.{HasPrivateLength};
-ghost use Rattle.paseto_tasks.specs.Error.{IsOutside};
+ghost use Rattle.paseto_tasks.specs.Error.{IsNoUsage, IsOutside};
 ghost use Rattle.paseto_tasks.specs.Public.{IsDeclinedInV3, IsDeclinedInV4, IsSigned, IsVerified, SignsBy, SignsInV3, SignsInV4, SignsNothing, VerifiesBy, VerifiesInV3, VerifiesInV4, VerifiesNothing};
 ghost use Rattle.paseto_tasks.specs.Input.{line_of_input};
 
@@ -32,6 +32,7 @@ pub fn sign<R: Read>(
         SignsBy key.now options.now text (string_bytes line))) }
     ensures refused { IfErr result (λ error. IfSome (R.remaining input.old) (λ text.
         IsOutside error ⊎ SignsNothing key.now options.now text)) }
+    ensures no_usage { IfErr result IsNoUsage }
 {
     if is_of_version_3(key) {
         sign_in_v3(alloc, key, options, input)
@@ -51,6 +52,7 @@ fn sign_in_v3<R: Read>(
     ensures refused { IfErr result (λ error. IfSome (R.remaining input.old) (λ text. IsOutside error
         ⊎ (((line : List ℕ) → ¬ SignsInV3 key.now options.now text line)
         ⊎ IsDeclinedInV3 key.now))) }
+    ensures no_usage { IfErr result IsNoUsage }
 {
     let key = secret_from_paserk::<V3, 48>(alloc, key)?;
     let text = read_text(alloc, input)?;
@@ -69,6 +71,7 @@ fn sign_in_v4<R: Read>(
     ensures refused { IfErr result (λ error. IfSome (R.remaining input.old) (λ text. IsOutside error
         ⊎ (((line : List ℕ) → ¬ SignsInV4 key.now options.now text line)
         ⊎ IsDeclinedInV4 key.now))) }
+    ensures no_usage { IfErr result IsNoUsage }
 {
     let key = secret_from_paserk::<V4, 64>(alloc, key)?;
     let text = read_text(alloc, input)?;
@@ -89,6 +92,7 @@ fn signed<V: AssertionVersion + Signs<S>, S>(
     ensures refused { HasPrivateLength V.public_design key.now
         → IfErr result (λ error. IsOutside error
         ⊎ ((source : PasetoError) × V.declined key.now source)) }
+    ensures no_usage { IfErr result IsNoUsage }
 {
     let assertion = V::signed_assertion(options.assertion);
     let payload = Payload::from(text);
@@ -108,6 +112,7 @@ pub fn verify<R: Read>(
         VerifiesBy key.now options.now bytes (string_bytes text))) }
     ensures refused { IfErr result (λ error. IfSome (R.remaining input.old) (λ bytes.
         IsOutside error ⊎ VerifiesNothing key.now options.now bytes)) }
+    ensures no_usage { IfErr result IsNoUsage }
 {
     if is_of_version_3(key) {
         verify_in_v3(alloc, key, options, input)
@@ -127,6 +132,7 @@ fn verify_in_v3<R: Read>(
     ensures refused { IfErr result (λ error. IfSome (R.remaining input.old)
         (λ bytes. IsOutside error
         ⊎ ((text : List ℕ) → ¬ VerifiesInV3 key.now options.now (line_of_input bytes) text))) }
+    ensures no_usage { IfErr result IsNoUsage }
 {
     let key = public_from_paserk::<V3, 49>(alloc, key)?;
     let token = read_line(alloc, input)?;
@@ -145,6 +151,7 @@ fn verify_in_v4<R: Read>(
     ensures refused { IfErr result (λ error. IfSome (R.remaining input.old)
         (λ bytes. IsOutside error
         ⊎ ((text : List ℕ) → ¬ VerifiesInV4 key.now options.now (line_of_input bytes) text))) }
+    ensures no_usage { IfErr result IsNoUsage }
 {
     let key = public_from_paserk::<V4, 32>(alloc, key)?;
     let token = read_line(alloc, input)?;
@@ -164,6 +171,7 @@ fn verified<V: AssertionVersion + Verifies<S>, S>(
         (string_bytes text)) }
     ensures refused { IfErr result (λ error. IsOutside error ⊎ ((text : List ℕ)
         → ¬ IsVerified V.valid V.refused V.public_design key.now options.now token.now text)) }
+    ensures no_usage { IfErr result IsNoUsage }
 {
     let (footer, assertion) = (options.footer, options.assertion);
     let text = Paseto::<V, Public>::try_verify(alloc, scheme, token, key, footer, assertion)?;

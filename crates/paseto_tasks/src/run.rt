@@ -5,7 +5,7 @@ ghost use Rattle.std.specs.Io.{StartsWith};
 ghost use Rattle.std.specs.Io.KnownBytes.{Appends};
 ghost use Rattle.paseto_tasks.specs.Id.{Identifies, IdentifiesNothing};
 ghost use Rattle.paseto_tasks.specs.declared.error.ProgramError.{ProgramError};
-ghost use Rattle.paseto_tasks.specs.Error.{IsOutside, line_of, status_of};
+ghost use Rattle.paseto_tasks.specs.Error.{IsNoUsage, IsOutside, line_of, status_of};
 ghost use Rattle.paseto_tasks.specs.Input.{line_of_input};
 ghost use Rattle.paseto_tasks.specs.Inspect.{Inspects, InspectsNothing};
 ghost use Rattle.paseto_tasks.specs.Run.{IsRefused, Prints, Writes};
@@ -39,14 +39,14 @@ pub fn run<K: Read, G: TryRng, R: Read, W: Write, E: Write>(
     errors: &mut E,
 ) -> u8
     ensures status { result ≤ 3 }
+    ensures no_usage { result ≢ 2 }
     ensures written { (written : List ℕ)
         × Appends (W.contents output.old) (W.contents output.new) written
         × IfSome (K.remaining key_file.old) (λ file. IfSome (R.remaining input.old) (λ bytes.
         Writes task options.now (λ drawn. G.may_fill generator.old drawn generator.new) file bytes
         (result == 0) written)) }
-    ensures untouched { (result ≡ 1) ⊎ (result ≡ 2) → output.new ≡ output.old }
-    ensures refused { (result ≡ 1) ⊎ (result ≡ 2)
-        → IfSome (K.remaining key_file.old) (λ file. IfSome (R.remaining input.old) (λ bytes.
+    ensures untouched { result ≡ 1 → output.new ≡ output.old }
+    ensures refused { result ≡ 1 → IfSome (K.remaining key_file.old) (λ file. IfSome (R.remaining input.old) (λ bytes.
         IsRefused task options.now (λ drawn. G.may_fill generator.old drawn generator.new) file
         bytes)) }
     ensures quiet { result ≡ 0 → errors.new ≡ errors.old }
@@ -78,6 +78,7 @@ fn print<K: Read, G: TryRng, R: Read, W: Write>(
         × IfSome (K.remaining key_file.old) (λ file. IfSome (R.remaining input.old) (λ bytes.
         Writes task options.now (λ drawn. G.may_fill generator.old drawn generator.new) file bytes
         (is_ok result) written)) }
+    ensures no_usage { IfErr result IsNoUsage }
     ensures untouched { IfErr result (λ error. (status_of error ≡ 3) ⊎ (output.new ≡ output.old)) }
     ensures refused { IfErr result (λ error. IfSome (K.remaining key_file.old)
         (λ file. IfSome (R.remaining input.old) (λ bytes.
@@ -96,10 +97,11 @@ pub fn run_inspect<R: Read, W: Write, E: Write>(
     errors: &mut E,
 ) -> u8
     ensures status { result ≤ 3 }
+    ensures no_usage { result ≢ 2 }
     ensures written { result ≡ 0 → (written : List ℕ)
         × Appends (W.contents output.old) (W.contents output.new) written
         × IfSome (R.remaining input.old) (λ bytes. Inspects (line_of_input bytes) written) }
-    ensures refused { (result ≡ 1) ⊎ (result ≡ 2) → (output.new ≡ output.old)
+    ensures refused { result ≡ 1 → (output.new ≡ output.old)
         × IfSome (R.remaining input.old) (λ bytes. InspectsNothing (line_of_input bytes)) }
     ensures quiet { result ≡ 0 → errors.new ≡ errors.old }
     ensures said { result ≢ 0 → (error : ProgramError) × (status_of error ≡ result)
@@ -127,6 +129,7 @@ fn print_inspection<R: Read, W: Write>(
     ensures refused { IfErr result (λ error. (status_of error ≡ 3) ⊎ (output.new ≡ output.old)) }
     ensures nothing { IfErr result (λ error. IfSome (R.remaining input.old)
         (λ bytes. IsOutside error ⊎ InspectsNothing (line_of_input bytes))) }
+    ensures no_usage { IfErr result IsNoUsage }
 {
     let token = read_line(alloc, input)?;
     let made = inspect(alloc, token.as_str())?;
@@ -146,6 +149,7 @@ fn make<K: Read, G: TryRng, R: Read>(
         (λ file. IfSome (R.remaining input.old) (λ bytes.
         Prints task options.now (λ drawn. G.may_fill generator.old drawn generator.new) file bytes
         (string_bytes made)))) }
+    ensures no_usage { IfErr result IsNoUsage }
     ensures refused { IfErr result (λ error. IfSome (K.remaining key_file.old)
         (λ file. IfSome (R.remaining input.old) (λ bytes.
         IsOutside error ⊎ IsRefused task options.now
@@ -164,11 +168,11 @@ fn make<K: Read, G: TryRng, R: Read>(
 /// Prints the id of a key, and returns the status, as `run` does.
 pub fn run_id<W: Write, E: Write>(alloc: Global, key: &str, output: &mut W, errors: &mut E) -> u8
     ensures status { result ≤ 3 }
+    ensures no_usage { result ≢ 2 }
     ensures written { result ≡ 0 → (written : List ℕ)
         × Appends (W.contents output.old) (W.contents output.new) written
         × Identifies key.now written }
-    ensures refused { (result ≡ 1) ⊎ (result ≡ 2)
-        → (output.new ≡ output.old) × IdentifiesNothing key.now }
+    ensures refused { result ≡ 1 → (output.new ≡ output.old) × IdentifiesNothing key.now }
     ensures quiet { result ≡ 0 → errors.new ≡ errors.old }
     ensures said { result ≢ 0 → (error : ProgramError) × (status_of error ≡ result)
         × ((said : List ℕ) × StartsWith (line_of error) said × Appends (E.contents errors.old)
