@@ -19,7 +19,7 @@ use Rattle.rusty_paseto.specs.PasetoBuilder.{Counting, IsDefaultClaims, IsSame, 
 use Rattle.paseto_tasks.specs.declared.error.ProgramError.{ProgramError}
 use Rattle.paseto_commands.specs.Claims.{AreNeverSet, AreSet, Named, all_counted, json_of}
 use Rattle.paseto_tasks.specs.Error.{IsOutside}
-use Rattle.paseto_commands.specs.Issue.{AreOrdered, Ordered, keys_set}
+use Rattle.paseto_commands.specs.Issue.{AreNever, AreOrdered, Ordered, keys_set}
 use Rattle.paseto_commands.specs.Times.{IsMomentText, IsNeverSet, IsTimeSet, time_counted}
 
 -- ---- times
@@ -58,11 +58,6 @@ only_memory : (outcome : Outcome) (made : Members) (error : GenericBuilderError)
 only_memory outcome made (Memory source) is refusal = tt
 only_memory outcome made (ClaimError error) is refusal = absurd (no_fault (fault_of error) made (rw is at refusal))
 only_memory outcome made error is refusal = absurd refusal
-
--- what is known wherever it is refused
-pub refused_for : {T : Type 0} (result : Result T ProgramError) (X : Type 0) → X → IfErr result (λ error. IsOutside error ⊎ X)
-refused_for (Ok value) X x = tt
-refused_for (Err error) X x = inr x
 
 -- a text is set under a key of its own
 exp_set : (text : List ℕ) (old : Members) → claim_set (codes "exp") (gives (one_member (codes "exp") (string text))) old ≡ becomes (put (codes "exp") (string text) old)
@@ -123,6 +118,20 @@ pub claim_refused : {T : Type 0} (claim : Named) (claims : List Named) (held : M
 claim_refused claim claims held (Ok value) error is built = absurd built
 claim_refused claim claims held (Err source) error is (inl outside) = inl outside
 claim_refused claim claims held (Err source) error is (inr none) = inr (claim_never claim claims held source is none.0)
+
+-- what is ordered is never the claims of a builder, where a part of it is never set
+module _ (order : Ordered) (error : ProgramError) where
+  pub claims_never : IsOutside error ⊎ AreNeverSet order.claims → IsOutside error ⊎ AreNever order
+  claims_never (inl outside) = inl outside
+  claims_never (inr never) = inr (λ claims are. never are.begun are.named are.are_set)
+
+  pub expiry_never : IsOutside error ⊎ IsNeverSet (codes "exp") order.expires → IsOutside error ⊎ AreNever order
+  expiry_never (inl outside) = inl outside
+  expiry_never (inr never) = inr (λ claims are. never are.named are.expiring are.expires)
+
+  pub begin_never : IsOutside error ⊎ IsNeverSet (codes "nbf") order.not_before → IsOutside error ⊎ AreNever order
+  begin_never (inl outside) = inl outside
+  begin_never (inr never) = inr (λ claims are. never are.expiring claims are.not_before)
 
 -- ---- the keys that it counts
 

@@ -6,9 +6,9 @@ use Rattle.paseto_tasks.specs.declared.arguments.Options.{Options}
 use Rattle.paseto_commands.specs.declared.check.Keys.{Keys}
 use Rattle.paseto_commands.specs.Check.{AreDemands, Demanded}
 use Rattle.paseto_commands.specs.Checked.{ChecksBy, ChecksFor, ChecksNothing}
-use Rattle.paseto_tasks.specs.Error.{IsOutside, Lacks}
+use Rattle.paseto_tasks.specs.Error.{IsNoUsage, IsOutside, Lacks}
 use Rattle.paseto_tasks.specs.declared.error.ProgramError.{ProgramError}
-use Rattle.paseto_commands.specs.Issue.{IsOrder, Issues, IssuesNone, IssuesNothing, Ordered}
+use Rattle.paseto_commands.specs.Issue.{AreNever, IsOrder, Issues, IssuesNone, IssuesNothing, Ordered, OrdersNothing}
 use Rattle.paseto_commands.proofs.Words.{same_demands, same_order}
 use Rattle.paseto_tasks.specs.Input.{line_of_input}
 
@@ -16,6 +16,11 @@ use Rattle.paseto_tasks.specs.Input.{line_of_input}
 pub in_other_words : {T E : Type 0} (result : Result T E) (A B : T → Type 0) → ((t : T) → A t → B t) → IfOk result A → IfOk result B
 in_other_words (Ok t) A B step a = step t a
 in_other_words (Err e) A B step a = tt
+
+-- what is known wherever it is refused
+pub known_for : {T : Type 0} (result : Result T ProgramError) (P : ProgramError → Type 0) (X : Type 0) → X → IfErr result (λ error. P error ⊎ X)
+known_for (Ok value) P X x = tt
+known_for (Err error) P X x = inr x
 
 -- a token that is checked is the line of the input
 pub checks_for : {E : Type 0} (known : Option (List ℕ)) (result : Result (String Global) E) (line text : List ℕ)
@@ -51,7 +56,16 @@ pub orders_none : (claims : List (List ℕ)) (options : Options) (now : Timestam
 orders_none claims options now key error (inl outside) = inl outside
 orders_none claims options now key error (inr none) = inr (inl (λ line issues. none issues.0 issues.1))
 
--- and where what they order has none
+-- words order nothing that claims are where this is so of what they order
+pub usage_of_order : {T : Type 0} (claims : List (List ℕ)) (options : Options) (now : Timestamp) (result : Result T ProgramError) (order : Ordered)
+    → IsOrder claims options now order → IfErr result (λ error. IsNoUsage error ⊎ AreNever order)
+    → IfErr result (λ error. IsNoUsage error ⊎ OrdersNothing claims options now)
+usage_of_order claims options now (Ok made) order is none = tt
+usage_of_order claims options now (Err error) order is (inl no_usage) = inl no_usage
+usage_of_order claims options now (Err error) order is (inr never) = inr (λ other other_is.
+    subst AreNever (same_order claims options now order other is other_is) never)
+
+-- and no token is issued where what they order has none
 pub issues_none : {T : Type 0} (claims : List (List ℕ)) (options : Options) (now : Timestamp) (key : List ℕ)
     (result : Result T ProgramError) (order : Ordered) → IsOrder claims options now order
     → IfErr result (λ error. IsOutside error ⊎ IssuesNone key order)

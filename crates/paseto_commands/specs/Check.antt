@@ -44,6 +44,10 @@ pub record AreDemands (claims : List (List ℕ)) (options : Options) (now : Time
   pub are_claims : AreClaims claims demands.claims
   pub footer : IsFooter options demands.footer
 
+-- the words demand nothing
+abbrev pub DemandsNothing : List (List ℕ) → Options → Timestamp → Type 0
+DemandsNothing claims options now = (demands : Demanded) → ¬ AreDemands claims options now demands
+
 -- what is checked before the claims that are demanded: `exp` and `nbf` at a moment, or nothing
 abbrev pub first_rules : Bool → Timestamp → Rules Verdict
 first_rules true moment =

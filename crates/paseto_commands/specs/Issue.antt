@@ -63,6 +63,14 @@ pub record AreOrdered (order : Ordered) (claims : Members) : Type 0 where
   pub expires : IsTimeSet (codes "exp") order.expires named expiring
   pub not_before : IsTimeSet (codes "nbf") order.not_before expiring claims
 
+-- no claims are those of what is ordered
+abbrev pub AreNever : Ordered → Type 0
+AreNever order = (claims : Members) → ¬ AreOrdered order claims
+
+-- the words order nothing, or what no claims are
+abbrev pub OrdersNothing : List (List ℕ) → Options → Timestamp → Type 0
+OrdersNothing claims options now = (order : Ordered) → IsOrder claims options now order → AreNever order
+
 -- the keys that are set then, and the last of them that is set again
 abbrev pub keys_set : Ordered → Counting
 keys_set order =
@@ -149,10 +157,6 @@ abbrev pub IssuesNothing : List (List ℕ) → Options → Timestamp → List �
 IssuesNothing claims options now key = ((line : List ℕ) → ¬ IssuesFor claims options now key (λ nonce. ⊤) line) ⊎ IsDeclinedKey key
 
 -- ---- for private clauses
-
--- no claims are those of what is ordered
-abbrev pub AreNever : Ordered → Type 0
-AreNever order = (claims : Members) → ¬ AreOrdered order claims
 
 -- what is ordered has no token under the key, or the key is declined
 abbrev pub IssuesNone : List ℕ → Ordered → Type 0

@@ -6,7 +6,7 @@ ghost use Rattle.rusty_paseto_core.specs.declared.PasetoError.TheVariants.{Ciphe
 ghost use Rattle.rusty_paseto_generic.specs.Error.{IsMemory as IsMemoryOfBuilder};
 ghost use Rattle.rusty_paseto_generic.specs.Error.Parser.{IsMemory};
 ghost use Rattle.rusty_paseto_generic.specs.declared.error.GenericBuilderError.TheVariants.{CipherError};
-ghost use Rattle.paseto_tasks.specs.Error.{IsOutside};
+ghost use Rattle.paseto_tasks.specs.Error.{IsNoUsage, IsOutside};
 ghost use Rattle.paseto_commands.specs.Times.{claim_error_of};
 
 use crate::times::between;
@@ -28,6 +28,7 @@ pub fn built<T: Drop>(
     ensures value { IfOk result (λ value. answer ≡ Ok value) }
     ensures refused { IfErr result (λ error. IsErrAnd answer (λ source. IsOutside error
         ⊎ ((¬ IsMemoryOfBuilder source) × (source ≢ CipherError Cipher)))) }
+    ensures no_usage { IfErr result IsNoUsage }
 {
     match answer {
         Ok(value) => Ok(value),
@@ -55,6 +56,7 @@ pub fn parsed<T: Drop>(
     ensures value { IfOk result (λ value. answer ≡ Ok value) }
     ensures refused { IfErr result (λ error. IsErrAnd answer
         (λ source. IsOutside error ⊎ (¬ IsMemory source))) }
+    ensures no_usage { IfErr result IsNoUsage }
 {
     match answer {
         Ok(value) => Ok(value),
@@ -70,6 +72,7 @@ pub fn found(
     ensures value { IfOk result (λ value. IsOkAnd answer (λ found. found.1 ≡ value)) }
     ensures refused { IfErr result (λ error. IsErrAnd answer
         (λ source. IsOutside error ⊎ (¬ IsNoMemory source))) }
+    ensures no_usage { IfErr result IsNoUsage }
 {
     match answer {
         Ok((_id, value)) => Ok(value),
@@ -84,6 +87,7 @@ pub fn put(alloc: Global, answer: Result<(), KeyRingError>) -> Result<(), Progra
     ensures put { OnOk result (IsOk answer) }
     ensures refused { IfErr result (λ error. IsErrAnd answer
         (λ source. IsOutside error ⊎ (¬ IsMemoryOfRing source))) }
+    ensures no_usage { IfErr result IsNoUsage }
 {
     match answer {
         Ok(()) => Ok(()),
@@ -92,7 +96,8 @@ pub fn put(alloc: Global, answer: Result<(), KeyRingError>) -> Result<(), Progra
 }
 
 fn by_parser(alloc: Global, source: GenericParserError) -> ProgramError
-    ensures { IsOutside result ⊎ (¬ IsMemory source) }
+    ensures memory { IsOutside result ⊎ (¬ IsMemory source) }
+    ensures no_usage { IsNoUsage result }
 {
     match source {
         GenericParserError::Memory(source) => ProgramError::Memory(source),
@@ -102,14 +107,18 @@ fn by_parser(alloc: Global, source: GenericParserError) -> ProgramError
     }
 }
 
-fn by_token(source: PasetoError) -> ProgramError {
+fn by_token(source: PasetoError) -> ProgramError
+    ensures { IsNoUsage result }
+{
     match source {
         PasetoError::FooterInvalid => ProgramError::OtherFooter,
         source => ProgramError::from(source),
     }
 }
 
-fn by_claim(alloc: Global, source: PasetoClaimError) -> ProgramError {
+fn by_claim(alloc: Global, source: PasetoClaimError) -> ProgramError
+    ensures { IsNoUsage result }
+{
     match source {
         PasetoClaimError::Expired => ProgramError::Expired,
         PasetoClaimError::UseBeforeAvailable(text) => ProgramError::Early(text),
@@ -124,7 +133,9 @@ fn by_claim(alloc: Global, source: PasetoClaimError) -> ProgramError {
 }
 
 /// A text stands under a key that is another one than the one that is demanded.
-fn other_text(alloc: Global, key: &str, found: &str, wanted: &str) -> ProgramError {
+fn other_text(alloc: Global, key: &str, found: &str, wanted: &str) -> ProgramError
+    ensures { IsNoUsage result }
+{
     match format!(in alloc; "The claim '{key}' is '{found}', and not '{wanted}'") {
         Ok(text) => unfit(alloc, &text),
         Err(source) => ProgramError::Memory(source),
@@ -132,7 +143,8 @@ fn other_text(alloc: Global, key: &str, found: &str, wanted: &str) -> ProgramErr
 }
 
 fn by_ring(alloc: Global, source: KeyRingError) -> ProgramError
-    ensures { IsOutside result ⊎ (¬ IsMemoryOfRing source) }
+    ensures memory { IsOutside result ⊎ (¬ IsMemoryOfRing source) }
+    ensures no_usage { IsNoUsage result }
 {
     match source {
         KeyRingError::Memory(source) => ProgramError::Memory(source),
@@ -142,7 +154,9 @@ fn by_ring(alloc: Global, source: KeyRingError) -> ProgramError
 }
 
 /// A refusal that is told by one line.
-pub fn unfit(alloc: Global, source: &impl Display) -> ProgramError {
+pub fn unfit(alloc: Global, source: &impl Display) -> ProgramError
+    ensures { IsNoUsage result }
+{
     match one_line(alloc, source) {
         Ok(line) => ProgramError::Unfit(line),
         Err(source) => ProgramError::Memory(source),

@@ -13,7 +13,7 @@ ghost use Rattle.paseto_tasks.specs.Arguments.{claim_words, words_of};
 ghost use Rattle.paseto_commands.specs.Check.{AreDemands, IsCheckedAt, ParsesByKey, ParsesWith, begun_rules, demanded, demanded_rules};
 ghost use Rattle.paseto_commands.specs.Checked.{ChecksBy, IsJsonLine, ParsesBy};
 ghost use Rattle.paseto_commands.specs.Claims.{all_demanded, all_named, are_whole};
-ghost use Rattle.paseto_tasks.specs.Error.{IsOutside, Lacks};
+ghost use Rattle.paseto_tasks.specs.Error.{IsNoRefusal, IsNoUsage, IsOutside, Lacks};
 ghost use Rattle.paseto_commands.specs.Readers.{reading_of};
 
 use crate::answers::{early, expired, parsed};
@@ -66,6 +66,7 @@ impl Demands {
             (claim_words (words_of words.now)) options.now now (demanded demands)) }
         ensures none { IfErr result (Lacks (λ demands. AreDemands
             (claim_words (words_of words.now)) options.now now demands)) }
+        ensures no_refusal { IfErr result IsNoRefusal }
     {
         Ok(Demands {
             at: checked_at(options.at, now)?,
@@ -89,6 +90,7 @@ impl Demands {
         ensures assertion { IfOk result (λ made. made.parser.implicit_assertion ≡ None) }
         ensures refused { IfErr result (λ error. IsOutside error
             ⊎ (are_whole (all_named self.now.claims.items) ≡ false)) }
+        ensures no_usage { IfErr result IsNoUsage }
     {
         let mut parser = first_parser(alloc, self.at, timed)?;
         if let Some(footer) = &self.footer {
@@ -126,6 +128,7 @@ fn checked_at(word: Option<&str>, now: Timestamp) -> Result<Timestamp, ProgramEr
         (option_map (λ text. text.now) word.entry) now at) }
     ensures none { IfErr result (Lacks (λ at. IsCheckedAt
         (option_map (λ text. text.now) word.entry) now at)) }
+    ensures no_refusal { IfErr result IsNoRefusal }
 {
     let Some(word) = word else {
         return Ok(now);
@@ -151,6 +154,7 @@ fn put_checks<V: VersionTrait, P: PurposeTrait, B: Drop>(
     ensures footer { parser.new.parser.footer ≡ parser.old.parser.footer }
     ensures assertion { parser.new.parser.implicit_assertion
         ≡ parser.old.parser.implicit_assertion }
+    ensures no_usage { IfErr result IsNoUsage }
 {
     let [claim, rest @ ..] = claims else {
         return Ok(());
@@ -172,6 +176,7 @@ pub fn check(
         (string_bytes line)) }
     ensures none { IfErr result (Lacks (λ line. ChecksBy keys.now (demanded demands.now) token.now
         line)) }
+    ensures no_usage { IfErr result IsNoUsage }
 {
     match claims_by(alloc, keys, demands, true, token) {
         Ok(claims) => json_line(alloc, &claims),
@@ -207,6 +212,7 @@ fn claims_by(
         (view value)) }
     ensures none { IfErr result (Lacks (λ value. ParsesBy keys.now (demanded demands.now) timed
         token.now value)) }
+    ensures no_usage { IfErr result IsNoUsage }
 {
     match keys {
         Keys::One(key) => claims_by_key(alloc, key, demands, timed, token),
@@ -226,6 +232,7 @@ fn claims_by_key(
         token.now (view value)) }
     ensures none { IfErr result (Lacks (λ value. ParsesByKey key.now (demanded demands.now) timed
         token.now value)) }
+    ensures no_usage { IfErr result IsNoUsage }
 {
     match header_of(key) {
         Some((version, PaserkType::Local, _)) => by_local_key(
@@ -261,6 +268,7 @@ fn by_local_key(
     ensures none { IfErr result (Lacks (λ value.
         ParsesWith LocalKey version (reading_of LocalKey version)
         key.now (demanded demands.now) timed token.now value)) }
+    ensures no_usage { IfErr result IsNoUsage }
 {
     match version {
         PaserkVersion::V1 => opened::<V1>(alloc, key, demands, timed, token),
@@ -284,6 +292,7 @@ fn by_public_key(
     ensures none { IfErr result (Lacks (λ value.
         ParsesWith PublicKey version (reading_of PublicKey version)
         key.now (demanded demands.now) timed token.now value)) }
+    ensures no_usage { IfErr result IsNoUsage }
 {
     match version {
         PaserkVersion::V1 => Err(ProgramError::Key(PaserkError::OtherVersion(version))),
@@ -306,6 +315,7 @@ fn opened<V: DefaultLocalVersion + KeyVersion>(
     ensures none { IfErr result (Lacks (λ value.
         ParsesWith LocalKey V.paserk (opening V.design) key.now
         (demanded demands.now) timed token.now value)) }
+    ensures no_usage { IfErr result IsNoUsage }
 {
     let key = local_from_paserk::<V>(alloc, key)?;
     let parser = demands.parser::<V, Local>(alloc, timed)?;
@@ -325,6 +335,7 @@ fn unboxed(
     ensures none { IfErr result (Lacks (λ value.
         ParsesWith LocalKey K2 (reading_of LocalKey K2) key.now
         (demanded demands.now) timed token.now value)) }
+    ensures no_usage { IfErr result IsNoUsage }
 {
     let key = local_from_paserk::<V2>(alloc, key)?;
     let parser = demands.parser::<V2, Local>(alloc, timed)?;
@@ -344,6 +355,7 @@ fn verified_in_v2(
     ensures none { IfErr result (Lacks (λ value.
         ParsesWith PublicKey K2 (reading_of PublicKey K2) key.now
         (demanded demands.now) timed token.now value)) }
+    ensures no_usage { IfErr result IsNoUsage }
 {
     let key = public_from_paserk::<V2, 32>(alloc, key)?;
     let parser = demands.parser::<V2, Public>(alloc, timed)?;
@@ -364,6 +376,7 @@ fn verified_in_v3(
     ensures none { IfErr result (Lacks (λ value.
         ParsesWith PublicKey K3 (reading_of PublicKey K3) key.now
         (demanded demands.now) timed token.now value)) }
+    ensures no_usage { IfErr result IsNoUsage }
 {
     let key = public_from_paserk::<V3, 49>(alloc, key)?;
     let parser = demands.parser::<V3, Public>(alloc, timed)?;
@@ -384,6 +397,7 @@ fn verified_in_v4(
     ensures none { IfErr result (Lacks (λ value.
         ParsesWith PublicKey K4 (reading_of PublicKey K4) key.now
         (demanded demands.now) timed token.now value)) }
+    ensures no_usage { IfErr result IsNoUsage }
 {
     let key = public_from_paserk::<V4, 32>(alloc, key)?;
     let parser = demands.parser::<V4, Public>(alloc, timed)?;

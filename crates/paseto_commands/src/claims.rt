@@ -7,7 +7,7 @@ ghost use Rattle.serde_json.specs.Read.{read};
 ghost use Rattle.rusty_paseto_claims.specs.Claim.{gives, one_member};
 ghost use Rattle.paseto_tasks.specs.Arguments.{claim_words, is_flag, is_name, words_of};
 ghost use Rattle.paseto_commands.specs.Claims.{AreClaims, IsClaimOf, IsFirstOf, all_named, is_time, named};
-ghost use Rattle.paseto_tasks.specs.Error.{IsOutside, Lacks};
+ghost use Rattle.paseto_tasks.specs.Error.{IsNoRefusal, IsOutside, Lacks};
 
 use paseto_tasks::{ProgramError, is_flag, is_name};
 use rusty_paseto::prelude::{PasetoClaim, PasetoClaimError};
@@ -43,6 +43,7 @@ impl NamedClaim {
     fn parse(alloc: Global, word: &str) -> Result<NamedClaim, ProgramError>
         ensures found { IfOk result (λ claim. IsClaimOf word.now (named claim)) }
         ensures none { IfErr result (Lacks (λ claim. IsClaimOf word.now claim)) }
+        ensures no_refusal { IfErr result IsNoRefusal }
     {
         let Some((front, text)) = word.split_once('=') else {
             return Err(ProgramError::Claim);
@@ -59,6 +60,7 @@ impl NamedClaim {
         ensures named { OnOk result ((name.now ≢ []) × (is_time name.now ≡ false)) }
         ensures refused { IfErr result (λ error. IsOutside error
             ⊎ ((name.now ≡ []) ⊎ (is_time name.now ≡ true))) }
+        ensures no_refusal { IfErr result IsNoRefusal }
     {
         if name.is_empty() {
             return Err(ProgramError::Claim);
@@ -83,6 +85,7 @@ fn without_colon(text: &str) -> Option<&str>
 fn json_of(alloc: Global, text: &str) -> Result<Value, ProgramError>
     ensures read { IfOk result (λ value. read text.now ≡ Some (view value)) }
     ensures refused { IfErr result (λ error. IsOutside error ⊎ (read text.now ≡ None)) }
+    ensures no_refusal { IfErr result IsNoRefusal }
 {
     match Value::from_str(alloc, text) {
         Ok(value) => Ok(value),
@@ -104,6 +107,7 @@ pub fn claims_of(alloc: Global, words: &[String]) -> Result<Vec<NamedClaim>, Pro
         (all_named claims.items)) }
     ensures none { IfErr result
         (Lacks (λ claims. AreClaims (claim_words (words_of words.now)) claims)) }
+    ensures no_refusal { IfErr result IsNoRefusal }
 {
     let Some((word, rest)) = next_claim(words) else {
         return Ok(Vec::new(alloc));
@@ -154,6 +158,7 @@ fn with_claim(
 ) -> Result<Vec<NamedClaim>, ProgramError>
     ensures found { IfOk result (λ found. IsFirstOf word.now claims.items found.items) }
     ensures none { IfErr result (Lacks (λ claim. IsClaimOf word.now claim)) }
+    ensures no_refusal { IfErr result IsNoRefusal }
 {
     let mut claims = claims;
     claims.insert(0, NamedClaim::parse(alloc, word)?)?;

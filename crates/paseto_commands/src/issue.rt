@@ -10,7 +10,7 @@ ghost use Rattle.rusty_paseto.specs.PasetoBuilder.{IsSame};
 ghost use Rattle.rusty_paseto_paserk.specs.declared.header.PaserkVersion.TheVariants.{V2 as K2, V3 as K3, V4 as K4};
 ghost use Rattle.paseto_tasks.specs.Arguments.{claim_words, words_of};
 ghost use Rattle.paseto_commands.specs.Claims.{AreNeverSet, AreSet, all_counted, all_named};
-ghost use Rattle.paseto_tasks.specs.Error.{IsOutside, Lacks};
+ghost use Rattle.paseto_tasks.specs.Error.{IsNoRefusal, IsNoUsage, IsOutside, Lacks};
 ghost use Rattle.paseto_commands.specs.Issue.{AreNever, AreOrdered, BoxesClaims, IsOrder, Issues, IssuesNone, SealsClaims, SealsIn, SignsIn, SignsNone, SignsOrder, keys_set, ordered};
 ghost use Rattle.paseto_commands.specs.Times.{IsNeverSet, IsTimeSet, SaysTime, time_counted};
 
@@ -57,6 +57,7 @@ impl Order {
             (claim_words (words_of words.now)) options.now now (ordered order)) }
         ensures none { IfErr result (Lacks (λ order. IsOrder
             (claim_words (words_of words.now)) options.now now order)) }
+        ensures no_refusal { IfErr result IsNoRefusal }
     {
         Ok(Order {
             moment: now,
@@ -74,6 +75,7 @@ fn time_of(word: Option<&str>, now: Timestamp) -> Result<Option<Timestamp>, Prog
         (option_map (λ text. text.now) word.entry) now moment) }
     ensures none { IfErr result (Lacks (λ moment. SaysTime
         (option_map (λ text. text.now) word.entry) now moment)) }
+    ensures no_refusal { IfErr result IsNoRefusal }
 {
     let Some(word) = word else {
         return Ok(None);
@@ -95,6 +97,7 @@ pub fn issue<G: TryRng>(
         (λ nonce. G.may_fill generator.old nonce generator.new) (string_bytes line)) }
     ensures none { IfErr result (λ error. IsOutside error
         ⊎ IssuesNone key.now (ordered order.now)) }
+    ensures usage { IfErr result (λ error. IsNoUsage error ⊎ AreNever (ordered order.now)) }
 {
     match header_of(key) {
         Some((version, PaserkType::Local, _)) => by_local_key(
@@ -125,6 +128,7 @@ fn by_local_key<G: TryRng>(
         (λ nonce. G.may_fill generator.old nonce generator.new) (string_bytes line)) }
     ensures none { IfErr result (Lacks (λ line. SealsIn version key.now (ordered order.now)
         (λ nonce. ⊤) line)) }
+    ensures usage { IfErr result (λ error. IsNoUsage error ⊎ AreNever (ordered order.now)) }
 {
     match version {
         PaserkVersion::V1 => sealed::<V1, G>(alloc, key, order, generator),
@@ -144,6 +148,7 @@ fn by_private_key(
         (string_bytes line)) }
     ensures none { IfErr result (λ error. IsOutside error
         ⊎ SignsNone version key.now (ordered order.now)) }
+    ensures usage { IfErr result (λ error. IsNoUsage error ⊎ AreNever (ordered order.now)) }
 {
     match version {
         PaserkVersion::V1 => Err(ProgramError::Key(PaserkError::OtherVersion(version))),
@@ -163,6 +168,7 @@ fn sealed<V: DefaultLocalVersion + KeyVersion, G: TryRng>(
         (λ nonce. G.may_fill generator.old nonce generator.new) (string_bytes line)) }
     ensures none { IfErr result (Lacks (λ line.
         SealsClaims V.paserk V.design key.now (ordered order.now) (λ nonce. ⊤) line)) }
+    ensures usage { IfErr result (λ error. IsNoUsage error ⊎ AreNever (ordered order.now)) }
 {
     let key = local_from_paserk::<V>(alloc, key)?;
     let builder = builder_of::<V, Local>(alloc, order)?;
@@ -179,6 +185,7 @@ fn boxed<G: TryRng>(
         (λ nonce. G.may_fill generator.old nonce generator.new) (string_bytes line)) }
     ensures none { IfErr result (Lacks (λ line. BoxesClaims key.now (ordered order.now)
         (λ nonce. ⊤) line)) }
+    ensures usage { IfErr result (λ error. IsNoUsage error ⊎ AreNever (ordered order.now)) }
 {
     let key = local_from_paserk::<V2>(alloc, key)?;
     let builder = builder_of::<V2, Local>(alloc, order)?;
@@ -191,6 +198,7 @@ fn signed_in_v2(alloc: Global, key: &str, order: &Order) -> Result<String, Progr
         (string_bytes line)) }
     ensures none { IfErr result (λ error. IsOutside error
         ⊎ SignsNone K2 key.now (ordered order.now)) }
+    ensures usage { IfErr result (λ error. IsNoUsage error ⊎ AreNever (ordered order.now)) }
 {
     let key = secret_from_paserk::<V2, 64>(alloc, key)?;
     let private = PasetoAsymmetricPrivateKey::<V2, Public>::from(&key);
@@ -202,6 +210,7 @@ fn signed_in_v3(alloc: Global, key: &str, order: &Order) -> Result<String, Progr
         (string_bytes line)) }
     ensures none { IfErr result (λ error. IsOutside error
         ⊎ SignsNone K3 key.now (ordered order.now)) }
+    ensures usage { IfErr result (λ error. IsNoUsage error ⊎ AreNever (ordered order.now)) }
 {
     let key = secret_from_paserk::<V3, 48>(alloc, key)?;
     let private = PasetoAsymmetricPrivateKey::<V3, Public>::from(&key);
@@ -213,6 +222,7 @@ fn signed_in_v4(alloc: Global, key: &str, order: &Order) -> Result<String, Progr
         (string_bytes line)) }
     ensures none { IfErr result (λ error. IsOutside error
         ⊎ SignsNone K4 key.now (ordered order.now)) }
+    ensures usage { IfErr result (λ error. IsNoUsage error ⊎ AreNever (ordered order.now)) }
 {
     let key = secret_from_paserk::<V4, 64>(alloc, key)?;
     let private = PasetoAsymmetricPrivateKey::<V4, Public>::from(&key);
@@ -233,6 +243,7 @@ fn signed<V: Signs<S>, S>(
         ⊎ (((line : List ℕ)
         → ¬ SignsOrder V.valid V.public_design (V.partner key.now) (ordered order.now) line)
         ⊎ ((source : TokenError) × V.declined key.now source))) }
+    ensures usage { IfErr result (λ error. IsNoUsage error ⊎ AreNever (ordered order.now)) }
 {
     let builder = builder_of::<V, Public>(alloc, order)?;
     with_line_feed(built(alloc, builder.build(scheme, key))?)
@@ -251,6 +262,7 @@ fn builder_of<'o, V: VersionTrait, P: PurposeTrait>(
         ≡ option_map string_bytes order.now.footer) }
     ensures assertion { IfOk result (λ made. made.builder.paseto.implicit_assertion ≡ None) }
     ensures never { IfErr result (λ error. IsOutside error ⊎ AreNever (ordered order.now)) }
+    ensures usage { IfErr result (λ error. IsNoUsage error ⊎ AreNever (ordered order.now)) }
 {
     if !fits_default(order.moment) {
         return Err(ProgramError::Clock);

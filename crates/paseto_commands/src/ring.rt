@@ -10,7 +10,7 @@ ghost use Rattle.rusty_paseto_paserk.specs.declared.header.PaserkVersion.TheVari
 ghost use Rattle.rusty_paseto_paserk.specs.declared.header.PaserkType.TheVariants.{Local as LocalKey, Public as PublicKey};
 ghost use Rattle.paseto_tasks.specs.Arguments.{words_of};
 ghost use Rattle.paseto_commands.specs.Check.{demanded};
-ghost use Rattle.paseto_tasks.specs.Error.{IsOutside, Lacks, key_error_of};
+ghost use Rattle.paseto_tasks.specs.Error.{IsNoUsage, IsOutside, Lacks, key_error_of};
 ghost use Rattle.paseto_tasks.specs.Id.{IsKeyOf};
 ghost use Rattle.paseto_commands.specs.Readers.{IsReader, reading_of, type_in, version_in};
 ghost use Rattle.paseto_commands.specs.Ring.{AreCompressed, AreKeysOf, IsAdded, IsInserted, IsNoLine, IsPassedOver, IsRingOf, ParsesByRing, ParsesIn, ring_of};
@@ -45,6 +45,7 @@ pub fn claims_by_ring(
         (demanded demands.now) timed token.now (view value)) }
     ensures none { IfErr result (Lacks (λ value. ParsesByRing (words_of lines.now)
         (demanded demands.now) timed token.now value)) }
+    ensures no_usage { IfErr result IsNoUsage }
 {
     let untrusted = UntrustedToken::try_parse(token)?;
     let Some(version) = version_of(untrusted.version()) else {
@@ -98,6 +99,7 @@ fn by_local_keys(
     ensures none { IfErr result (Lacks (λ value. IsReader LocalKey version
         × ParsesIn LocalKey version (reading_of LocalKey version) (words_of lines.now)
         (demanded demands.now) timed token.now value)) }
+    ensures no_usage { IfErr result IsNoUsage }
 {
     match version {
         PaserkVersion::V1 => opened::<V1>(alloc, lines, demands, timed, token),
@@ -121,6 +123,7 @@ fn by_public_keys(
     ensures none { IfErr result (Lacks (λ value. IsReader PublicKey version
         × ParsesIn PublicKey version (reading_of PublicKey version) (words_of lines.now)
         (demanded demands.now) timed token.now value)) }
+    ensures no_usage { IfErr result IsNoUsage }
 {
     match version {
         PaserkVersion::V1 => Err(ProgramError::Refused(PasetoError::WrongHeader)),
@@ -143,6 +146,7 @@ fn opened<V: DefaultLocalVersion + KeyVersion>(
     ensures none { IfErr result (Lacks (λ value.
         ParsesIn LocalKey V.paserk (opening V.design)
         (words_of lines.now) (demanded demands.now) timed token.now value)) }
+    ensures no_usage { IfErr result IsNoUsage }
 {
     let ring = local_ring::<V>(alloc, lines)?;
     let parser = demands.parser::<V, Local>(alloc, timed)?;
@@ -162,6 +166,7 @@ fn unboxed(
     ensures none { IfErr result (Lacks (λ value.
         ParsesIn LocalKey K2 (reading_of LocalKey K2)
         (words_of lines.now) (demanded demands.now) timed token.now value)) }
+    ensures no_usage { IfErr result IsNoUsage }
 {
     let ring = local_ring::<V2>(alloc, lines)?;
     let parser = demands.parser::<V2, Local>(alloc, timed)?;
@@ -181,6 +186,7 @@ fn verified_in_v2(
     ensures none { IfErr result (Lacks (λ value.
         ParsesIn PublicKey K2 (reading_of PublicKey K2)
         (words_of lines.now) (demanded demands.now) timed token.now value)) }
+    ensures no_usage { IfErr result IsNoUsage }
 {
     let keys = public_keys::<V2, 32>(alloc, lines)?;
     let ring = ring_of_v2_or_v4::<V2>(alloc, &keys)?;
@@ -201,6 +207,7 @@ fn verified_in_v3(
     ensures none { IfErr result (Lacks (λ value.
         ParsesIn PublicKey K3 (reading_of PublicKey K3)
         (words_of lines.now) (demanded demands.now) timed token.now value)) }
+    ensures no_usage { IfErr result IsNoUsage }
 {
     let keys = public_keys::<V3, 49>(alloc, lines)?;
     let ring = ring_of_v3(alloc, &keys)?;
@@ -221,6 +228,7 @@ fn verified_in_v4(
     ensures none { IfErr result (Lacks (λ value.
         ParsesIn PublicKey K4 (reading_of PublicKey K4)
         (words_of lines.now) (demanded demands.now) timed token.now value)) }
+    ensures no_usage { IfErr result IsNoUsage }
 {
     let keys = public_keys::<V4, 32>(alloc, lines)?;
     let ring = ring_of_v2_or_v4::<V4>(alloc, &keys)?;
@@ -234,6 +242,7 @@ fn local_ring<V: KeyVersion>(alloc: Global, lines: &[String]) -> Result<KeyRing<
         (keys_of ring)) }
     ensures none { IfErr result (Lacks (λ keys. AreKeysOf (IsKeyOf LocalKey V.paserk) LocalKey
         V.paserk (words_of lines.now) keys)) }
+    ensures no_usage { IfErr result IsNoUsage }
 {
     let [line, rest @ ..] = lines else {
         return Ok(KeyRing::new(alloc));
@@ -253,6 +262,7 @@ fn add_line<V: KeyVersion>(
         (keys_of ring.new)) }
     ensures none { IfErr result (λ error. IsOutside error
         ⊎ IsNoLine (IsKeyOf LocalKey V.paserk) LocalKey V.paserk line.now) }
+    ensures no_usage { IfErr result IsNoUsage }
 {
     match local_from_paserk::<V>(alloc, line) {
         Ok(key) => put(alloc, ring.add(local_id(alloc, &key)?.as_str(), key)),
@@ -280,6 +290,7 @@ fn ring_of_v2_or_v4<'k, V: V2orV4 + KeyPairVersion>(
 fn ring_of_v3<'k>(alloc: Global, keys: &'k [Key<49>]) -> Result<PublicKeyRing<'k, V3>, ProgramError>
     ensures ring { IfOk result (λ ring. keys_of ring ≡ ring_of PublicKey K3 keys.now) }
     ensures refused { AreCompressed keys.now → IfErr result IsOutside }
+    ensures no_usage { IfErr result IsNoUsage }
 {
     let [key, rest @ ..] = keys else {
         return Ok(PublicKeyRing::new(alloc));
@@ -314,6 +325,7 @@ fn public_keys<V: KeyPairVersion, const N: usize>(
     ensures none { IfErr result (Lacks (λ keys. AreKeysOf
         (λ key. (length key ≡ N) × IsTrue (V.is_public_key key)) PublicKey V.paserk
         (words_of lines.now) keys)) }
+    ensures no_usage { IfErr result IsNoUsage }
 {
     let [line, rest @ ..] = lines else {
         return Ok(Vec::new(alloc));
@@ -335,6 +347,7 @@ fn insert_line<V: KeyPairVersion, const N: usize>(
         line.now keys.old.items keys.new.items) }
     ensures none { IfErr result (λ error. IsOutside error ⊎ IsNoLine
         (λ key. (length key ≡ N) × IsTrue (V.is_public_key key)) PublicKey V.paserk line.now) }
+    ensures no_usage { IfErr result IsNoUsage }
 {
     match public_from_paserk::<V, N>(alloc, line) {
         Ok(key) => Ok(keys.insert(0, key)?),
@@ -347,6 +360,7 @@ fn passed_over(error: PaserkError) -> Result<(), ProgramError>
     ensures passed { OnOk result (IsPassedOver error) }
     ensures refused { IfErr result (λ refusal. (refusal ≡ key_error_of error)
         × ¬ IsPassedOver error) }
+    ensures no_usage { IfErr result IsNoUsage }
 {
     match error {
         PaserkError::OtherVersion(_) | PaserkError::OtherType(_) => Ok(()),

@@ -4,10 +4,11 @@ ghost use Rattle.std.specs.Prelude.{◌≡◌, ◌≢◌, ◌≤◌, ◌⊎◌, 
 ghost use Rattle.std.specs.Io.{StartsWith};
 ghost use Rattle.std.specs.Io.KnownBytes.{Appends};
 ghost use Rattle.paseto_tasks.specs.Arguments.{claim_words, words_of};
+ghost use Rattle.paseto_commands.specs.Check.{AreDemands, Demanded, DemandsNothing};
 ghost use Rattle.paseto_commands.specs.Checked.{ChecksFor, ChecksNothing};
-ghost use Rattle.paseto_commands.specs.Issue.{IssuesFor, IssuesNothing};
+ghost use Rattle.paseto_commands.specs.Issue.{IsOrder, IssuesFor, IssuesNothing, Ordered, OrdersNothing};
 ghost use Rattle.paseto_tasks.specs.declared.error.ProgramError.{ProgramError};
-ghost use Rattle.paseto_tasks.specs.Error.{IsOutside, line_of, status_of};
+ghost use Rattle.paseto_tasks.specs.Error.{IsNoRefusal, IsNoUsage, IsOutside, line_of, status_of};
 ghost use Rattle.paseto_tasks.specs.Input.{line_of_input};
 
 use crate::check::{Demands, Keys, check};
@@ -37,6 +38,10 @@ pub fn run_issue<G: TryRng, W: Write, E: Write>(
         (λ nonce. G.may_fill generator.old nonce generator.new) written }
     ensures refused { (result ≡ 1) ⊎ (result ≡ 2) → (output.new ≡ output.old)
         × IssuesNothing (claim_words (words_of words.now)) options.now now key.now }
+    ensures usage { result ≡ 2 → OrdersNothing
+        (claim_words (words_of words.now)) options.now now }
+    ensures ordered { result ≡ 1 → (order : Ordered)
+        × IsOrder (claim_words (words_of words.now)) options.now now order }
     ensures quiet { result ≡ 0 → errors.new ≡ errors.old }
     ensures said { result ≢ 0 → (error : ProgramError) × (status_of error ≡ result)
         × ((said : List ℕ) × StartsWith (line_of error) said × Appends (E.contents errors.old)
@@ -60,6 +65,10 @@ fn token_of<G: TryRng>(
         (λ nonce. G.may_fill generator.old nonce generator.new) (string_bytes line)) }
     ensures none { IfErr result (λ error. IsOutside error
         ⊎ IssuesNothing (claim_words (words_of words.now)) options.now now key.now) }
+    ensures usage { IfErr result (λ error. IsNoUsage error
+        ⊎ OrdersNothing (claim_words (words_of words.now)) options.now now) }
+    ensures ordered { IfErr result (λ error. IsNoRefusal error ⊎ ((order : Ordered)
+        × IsOrder (claim_words (words_of words.now)) options.now now order)) }
 {
     let order = Order::parse(alloc, words, options, now)?;
     issue(alloc, key, &order, generator)
@@ -86,6 +95,10 @@ pub fn run_check<R: Read, W: Write, E: Write>(
         × IfSome (R.remaining input.old)
         (λ bytes. ChecksNothing (claim_words (words_of words.now)) options.now now keys.now
         (line_of_input bytes)) }
+    ensures usage { result ≡ 2 → DemandsNothing
+        (claim_words (words_of words.now)) options.now now }
+    ensures demanded { result ≡ 1 → (demands : Demanded)
+        × AreDemands (claim_words (words_of words.now)) options.now now demands }
     ensures quiet { result ≡ 0 → errors.new ≡ errors.old }
     ensures said { result ≢ 0 → (error : ProgramError) × (status_of error ≡ result)
         × ((said : List ℕ) × StartsWith (line_of error) said × Appends (E.contents errors.old)
@@ -110,6 +123,10 @@ fn claims_line<R: Read>(
     ensures none { IfErr result (λ error. IfSome (R.remaining input.old) (λ bytes.
         IsOutside error ⊎ ChecksNothing (claim_words (words_of words.now)) options.now now keys.now
         (line_of_input bytes))) }
+    ensures usage { IfErr result (λ error. IsNoUsage error
+        ⊎ DemandsNothing (claim_words (words_of words.now)) options.now now) }
+    ensures demanded { IfErr result (λ error. IsNoRefusal error ⊎ ((demands : Demanded)
+        × AreDemands (claim_words (words_of words.now)) options.now now demands)) }
 {
     let demands = Demands::parse(alloc, words, options, now)?;
     let token = read_line(alloc, input)?;

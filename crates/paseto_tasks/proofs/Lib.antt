@@ -3,7 +3,7 @@ pub mod Lines
 pub mod Outputs
 pub mod Inspections
 pub mod Refusals
-pub mod Usage
+pub mod Statuses
 pub mod Readings
 pub mod Fronts
 pub mod Ids

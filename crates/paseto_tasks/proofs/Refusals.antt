@@ -202,6 +202,15 @@ refused_as (Ok value) status X some is h = absurd is
 refused_as (Err error) status X some is (inl outside) = absurd (inside error status (sym is) some outside)
 refused_as (Err error) status X some is (inr x) = x
 
+-- the same of a known input
+pub known_refused_as : {T : Type 0} (made : Result T ProgramError) (status : ℕ) (known : Option (List ℕ)) (X : List ℕ → Type 0)
+    → (status ≡ 1) ⊎ (status ≡ 2) → IsErrAnd made (λ error. status_of error ≡ status)
+    → IfErr made (λ error. IfSome known (λ bytes. IsOutside error ⊎ X bytes)) → IfSome known X
+known_refused_as (Ok value) status known X some is h = absurd is
+known_refused_as (Err error) status None X some is h = tt
+known_refused_as (Err error) status (Some bytes) X some is (inl outside) = absurd (inside error status (sym is) some outside)
+known_refused_as (Err error) status (Some bytes) X some is (inr x) = x
+
 -- what is refused and is no failure of the output leaves it
 pub unless_three : (error : ProgramError) (status : ℕ) (X : Type 0) → status ≡ status_of error → status ≡ 1 → (status_of error ≡ 3) ⊎ X → X
 unless_three error status X is one (inl three) = let other : 1 ≡ 3 = sym one ∙ is ∙ three in absurd (false≢true (sym (ap (eqb 1) other)))

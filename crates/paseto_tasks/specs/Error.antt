@@ -96,6 +96,18 @@ IsNoUsage TimeClaim = ⊥
 IsNoUsage Time = ⊥
 IsNoUsage _ = ⊤
 
+-- an error of the words or from outside, which refuses no key, text or token, so that the program does not end with status 1
+abbrev pub IsNoRefusal : ProgramError → Type 0
+IsNoRefusal Usage = ⊤
+IsNoRefusal Claim = ⊤
+IsNoRefusal TimeClaim = ⊤
+IsNoRefusal Time = ⊤
+IsNoRefusal Clock = ⊤
+IsNoRefusal Random = ⊤
+IsNoRefusal InputOrOutput = ⊤
+IsNoRefusal (Memory _) = ⊤
+IsNoRefusal _ = ⊥
+
 -- the error came from outside, or there is nothing that is so
 abbrev pub Lacks : {X : Type 0} → (X → Type 0) → ProgramError → Type 0
 Lacks {X} P error = IsOutside error ⊎ ((x : X) → ¬ P x)

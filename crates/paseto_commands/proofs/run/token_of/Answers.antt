@@ -1,7 +1,8 @@
 use Rattle.std.proofs.lemmas.Result.{err_from_is_err_and}
+use Rattle.paseto_tasks.specs.Error.{IsNoRefusal}
 use Rattle.paseto_tasks.specs.Arguments.{claim_words, words_of}
-use Rattle.paseto_commands.specs.Issue.{ordered}
-use Rattle.paseto_commands.proofs.Witnesses.{in_other_words, issues_none, orders_none}
+use Rattle.paseto_commands.specs.Issue.{IsOrder, Ordered, ordered}
+use Rattle.paseto_commands.proofs.Witnesses.{in_other_words, issues_none, known_for, orders_none, usage_of_order}
 use Rattle.paseto_commands.proofs.run.token_of.Goals as goal
 
 pub returns-clause-found : goal.returns-clause-found
@@ -17,3 +18,13 @@ pub returns-clause-none : goal.returns-clause-none
 returns-clause-none g c =
     issues_none (claim_words (words_of c.args.words.now)) c.args.options.now c.args.now c.args.key.now c.issue.result (ordered c.in_ok-order.order)
     c.in_ok-order.ensures.found c.issue.ensures.none
+
+pub returns-clause-usage : goal.returns-clause-usage
+returns-clause-usage g c =
+    usage_of_order (claim_words (words_of c.args.words.now)) c.args.options.now c.args.now c.issue.result (ordered c.in_ok-order.order)
+    c.in_ok-order.ensures.found c.issue.ensures.usage
+
+pub returns-clause-ordered : goal.returns-clause-ordered
+returns-clause-ordered g c =
+    known_for c.issue.result IsNoRefusal ((order : Ordered) × IsOrder (claim_words (words_of c.args.words.now)) c.args.options.now c.args.now order)
+    (ordered c.in_ok-order.order, c.in_ok-order.ensures.found)

@@ -1,6 +1,6 @@
 use Rattle.paseto_tasks.proofs.Outputs.{status_of-some}
 use Rattle.paseto_tasks.proofs.Refusals.{status_refused}
-use Rattle.paseto_tasks.proofs.Usage.{not_2}
+use Rattle.paseto_tasks.proofs.Statuses.{not_2}
 use Rattle.paseto_tasks.proofs.run.run.Goals as goal
 
 pub returns-in-Err-clause-written : goal.returns-in-Err-clause-written

@@ -1,7 +1,7 @@
 use Rattle.std.proofs.Common.{inl, inr}
 use Rattle.paseto_tasks.specs.Id.{IdentifiesNothing}
 use Rattle.paseto_tasks.proofs.Refusals.{refused_as}
-use Rattle.paseto_tasks.proofs.Usage.{not_2_made}
+use Rattle.paseto_tasks.proofs.Statuses.{not_2_made}
 use Rattle.paseto_tasks.proofs.run.run_id.Goals as goal
 
 pub returns-clause-refused : goal.returns-clause-refused

@@ -1,7 +1,7 @@
 use Rattle.paseto_tasks.specs.Input.{line_of_input}
 use Rattle.paseto_tasks.specs.Inspect.{InspectsNothing}
 use Rattle.paseto_tasks.proofs.Refusals.{input_refused, unless_three}
-use Rattle.paseto_tasks.proofs.Usage.{not_2}
+use Rattle.paseto_tasks.proofs.Statuses.{not_2}
 use Rattle.paseto_tasks.proofs.run.run_inspect.Goals as goal
 
 pub returns-in-Err-clause-refused : goal.returns-in-Err-clause-refused

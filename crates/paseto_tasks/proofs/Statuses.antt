@@ -1,0 +1,66 @@
+-- Which errors end the program with which status.
+use Rattle.std.proofs.Common.{◌≡◌, ◌≢◌, ◌⊎◌, ℕ, ◌==◌, false, Result, Ok, Err, IfErr, IsErrAnd, inl, inr, refl, sym, ap, ◌∙◌}
+use Rattle.std.proofs.lemmas.Bool.{false≢true}
+use Rattle.rusty_paseto_paserk.specs.declared.error.PaserkError.TheVariants.{Memory as NoKeyMemory}
+use Rattle.paseto_tasks.specs.declared.error.ProgramError.{ProgramError}
+use Rattle.paseto_tasks.specs.declared.error.ProgramError.TheVariants.{Usage, Claim, TimeClaim, Time, Key, Clock, Random, InputOrOutput, Memory}
+use Rattle.paseto_tasks.specs.Error.{IsNoRefusal, IsNoUsage, IsOutside, status_of}
+
+-- ---- 2
+
+no_2 : (error : ProgramError) → IsNoUsage error → (status_of error == 2) ≡ false
+no_2 Usage none = absurd none
+no_2 Claim none = absurd none
+no_2 TimeClaim none = absurd none
+no_2 Time none = absurd none
+no_2 (Key (NoKeyMemory source)) none = refl
+no_2 (Key error) none = refl
+no_2 error none = refl
+
+pub not_2 : (error : ProgramError) (status : ℕ) → status ≡ status_of error → IsNoUsage error → status ≢ 2
+not_2 error status is none two = false≢true (sym (no_2 error none) ∙ ap (λ n. n == 2) (sym is ∙ two))
+
+-- the same of the status of what was made
+pub not_2_made : {T : Type 0} (made : Result T ProgramError) (status : ℕ) → IsErrAnd made (λ error. status_of error ≡ status) → IfErr made IsNoUsage
+    → status ≢ 2
+not_2_made (Ok value) status is none = absurd is
+not_2_made (Err error) status is none = not_2 error status (sym is) none
+
+-- what is so unless the error says nothing of the words
+pub usage_says : {T : Type 0} (made : Result T ProgramError) (status : ℕ) (X : Type 0) → IsErrAnd made (λ error. status_of error ≡ status)
+    → status ≡ 2 → IfErr made (λ error. IsNoUsage error ⊎ X) → X
+usage_says (Ok value) status X is two says = absurd is
+usage_says (Err error) status X is two (inl none) = absurd (not_2 error status (sym is) none two)
+usage_says (Err error) status X is two (inr x) = x
+
+-- an error from outside says nothing of the words
+outside : (error : ProgramError) → IsOutside error → IsNoUsage error
+outside Clock h = tt
+outside Random h = tt
+outside InputOrOutput h = tt
+outside (Memory source) h = tt
+outside error h = absurd h
+
+pub no_usage_or : {X : Type 0} (error : ProgramError) → IsOutside error ⊎ X → IsNoUsage error ⊎ X
+no_usage_or error (inl is) = inl (outside error is)
+no_usage_or error (inr x) = inr x
+
+-- ---- 1
+
+no_1 : (error : ProgramError) → IsNoRefusal error → (status_of error == 1) ≡ false
+no_1 Usage none = refl
+no_1 Claim none = refl
+no_1 TimeClaim none = refl
+no_1 Time none = refl
+no_1 Clock none = refl
+no_1 Random none = refl
+no_1 InputOrOutput none = refl
+no_1 (Memory source) none = refl
+no_1 error none = absurd none
+
+-- what is so unless the error refuses nothing
+pub refusal_says : {T : Type 0} (made : Result T ProgramError) (status : ℕ) (X : Type 0) → IsErrAnd made (λ error. status_of error ≡ status)
+    → status ≡ 1 → IfErr made (λ error. IsNoRefusal error ⊎ X) → X
+refusal_says (Ok value) status X is one says = absurd is
+refusal_says (Err error) status X is one (inl none) = absurd (false≢true (sym (no_1 error none) ∙ ap (λ n. n == 1) (is ∙ one)))
+refusal_says (Err error) status X is one (inr x) = x
