@@ -22,13 +22,14 @@ module _ {V : Type 0} (design : Design) (kept : List (Opened V)) (each : All (Is
   case_at : (i : ℕ) (x : Opened V) → slice_get kept i ≡ Some x → slice_get (map {A = Opened V} case_in kept) i ≡ Some (case_in x)
   case_at i x is = slice_get-map {A = Opened V} case_in kept i ∙ ap (option_map {T = Opened V} case_in) is
 
-  -- a pair, with its encodings and its tag
-  pub pair_collides : (i j : ℕ) (pair : IsPair design kept i j) (found : TagCollision)
-      → found.places ≡ i ∷ j ∷ []
-      → found.first ≡ encoding design (case_in pair.first) (content_in pair.first) → length found.first < 2 ^ 64
-      → found.second ≡ encoding design (case_in pair.second) (content_in pair.second) → length found.second < 2 ^ 64
-      → found.tag.items ≡ tag_in pair.first → IsCollision design (map {A = Opened V} case_in kept) found
-  pair_collides i j pair found places first first_fits second second_fits tags =
+  -- a pair, whose tokens are read at its places, with its encodings and its tag
+  pub pair_collides : (i j : ℕ) (pair : IsPair design kept i j) (a b : Opened V) → a ≡ pair.first → b ≡ pair.second
+      → (found : TagCollision) → found.places ≡ i ∷ j ∷ []
+      → found.first ≡ encoding design (case_in a) (content_in a) → length found.first < 2 ^ 64
+      → found.second ≡ encoding design (case_in b) (content_in b) → length found.second < 2 ^ 64
+      → found.tag.items ≡ tag_in a → IsCollision design (map {A = Opened V} case_in kept) found
+  pair_collides i j pair a b a_is b_is found places first first_fits second second_fits tags =
+      let encoded : Opened V → List ℕ = λ x. encoding design (case_in x) (content_in x) in
       let one = opened_at i pair.first pair.first_is in
       let other = opened_at j pair.second pair.second_is in
       record {
@@ -48,11 +49,11 @@ module _ {V : Type 0} (design : Design) (kept : List (Opened V)) (each : All (Is
           tag = sym one.tag ∙ ap (drop 32) pair.nonce_and_tag ∙ other.tag;
           apart = pair.apart;
         };
-        first_encoding = first;
-        second_encoding = second;
+        first_encoding = first ∙ ap encoded a_is;
+        second_encoding = second ∙ ap encoded b_is;
         first_fits = first_fits;
         second_fits = second_fits;
-        tag = tags ∙ one.tag;
+        tag = tags ∙ ap tag_in a_is ∙ one.tag;
       }
 
   -- two that share a tag have one nonce and tag
