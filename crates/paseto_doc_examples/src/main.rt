@@ -68,17 +68,34 @@ fn show_core(rt: &HostRuntime) -> Result<()> {
     let nonce = Key::<32>::try_new_random(&mut rng)?;
     let text = local_tokens::round_trip(alloc, &key, &PasetoNonce::from(&nonce))?;
     println!(rt; "decrypted: {text}")?;
-    let token = encrypting::encrypt(alloc, &key, &PasetoNonce::from(&nonce), "a message")?;
+    show_sections(rt, &key, &nonce)?;
+    let id_length = keys_as_text::write_and_read(alloc, &key)?.len();
+    println!(rt; "id of {id_length} bytes")?;
+    show_collision(rt, &key, &nonce)
+}
+
+fn show_sections(
+    rt: &HostRuntime,
+    key: &PasetoSymmetricKey<V4, Local>,
+    nonce: &Key<32>,
+) -> Result<()> {
+    let alloc = rt.alloc();
+    let token = encrypting::encrypt(alloc, key, &PasetoNonce::from(nonce), "a message")?;
     if let Some(footer) = footer_text::footer_of(alloc, token.as_str())? {
         println!(rt; "footer: {footer}")?;
     }
     println!(rt; "v4.local: {}", sections::is_v4_local(token.as_str())?)?;
-    println!(rt;
-        "id of {} bytes",
-        keys_as_text::write_and_read(alloc, &key)?.len()
-    )?;
-    let other = local_token(alloc, &key, &nonce)?;
-    let found = collisions::find_collision(alloc, &key, other.as_str(), other.as_str())?;
+    Ok(())
+}
+
+fn show_collision(
+    rt: &HostRuntime,
+    key: &PasetoSymmetricKey<V4, Local>,
+    nonce: &Key<32>,
+) -> Result<()> {
+    let alloc = rt.alloc();
+    let token = local_token(alloc, key, nonce)?;
+    let found = collisions::find_collision(alloc, key, token.as_str(), token.as_str())?;
     println!(rt; "no collision: {}", found.is_none())?;
     Ok(())
 }
@@ -113,17 +130,30 @@ fn show_generic(rt: &HostRuntime) -> Result<()> {
     )?;
     println!(rt; "claim: {}", custom_claims::seats(alloc)?)?;
     let token = generic_builder::build(alloc, &mut rng, &key)?;
-    println!(rt;
-        "parsed: {}",
-        generic_parser::parse(alloc, token.as_str(), &key)?
-    )?;
+    let value = generic_parser::parse(alloc, token.as_str(), &key)?;
+    println!(rt; "parsed: {value}")?;
+    show_another_footer(rt, token.as_str(), &key)?;
+    show_demands(rt, token.as_str(), &key)
+}
+
+fn show_another_footer(
+    rt: &HostRuntime,
+    token: &str,
+    key: &PasetoSymmetricKey<V4, Local>,
+) -> Result<()> {
+    let alloc = rt.alloc();
     let mut parser = leeway::lenient_parser(alloc, Timestamp::now(rt)?)?;
-    if let Err(error) = parser.parse(token.as_str(), &key) {
+    if let Err(error) = parser.parse(token, key) {
         println!(rt; "another footer: {}", causes::has_another_footer(&error))?;
     }
     let even = CustomClaim::try_from_str(alloc, "seats", 0u64)?;
     parser.put_validator(&even, Box::new(alloc, Even)?)?;
-    if let Err(error) = required_claims::demanding_parser(alloc)?.parse(token.as_str(), &key) {
+    Ok(())
+}
+
+fn show_demands(rt: &HostRuntime, token: &str, key: &PasetoSymmetricKey<V4, Local>) -> Result<()> {
+    let parser = required_claims::demanding_parser(rt.alloc())?;
+    if let Err(error) = parser.parse(token, key) {
         println!(rt; "demanding: {error}")?;
     }
     Ok(())
@@ -139,10 +169,20 @@ fn show_default(rt: &HostRuntime) -> Result<()> {
     let token = paseto_builder::issue(alloc, now, &mut rng, &key)?;
     let claims = paseto_parser::admit(alloc, soon, token.as_str(), &key)?;
     println!(rt; "for customers: {}", claims.get("aud").is_some())?;
-    let (id, _claims) = key_ring::admit(alloc, soon, token.as_str(), key)?;
+    show_rings(rt, soon, token.as_str(), key)
+}
+
+fn show_rings(
+    rt: &HostRuntime,
+    soon: Timestamp,
+    token: &str,
+    key: PasetoSymmetricKey<V4, Local>,
+) -> Result<()> {
+    let alloc = rt.alloc();
+    let (id, _claims) = key_ring::admit(alloc, soon, token, key)?;
     println!(rt; "by a ring: {id}")?;
     let parser = PasetoParser::<V4, Local>::default(alloc, soon)?;
-    if let Err(error) = KeyRing::<V4>::new(alloc).parse(&parser, token.as_str()) {
+    if let Err(error) = KeyRing::<V4>::new(alloc).parse(&parser, token) {
         println!(rt; "by an empty ring: {}", ring_causes::blame(&error))?;
     }
     Ok(())

@@ -15,10 +15,11 @@ use keyed_hash_scheme::KeyedHashScheme;
 use paseto_ed25519::Ed25519;
 use rand::rngs::SysRng;
 use rusty_paseto::prelude::{
-    Key, Local, PasetoAsymmetricPrivateKey, PasetoAsymmetricPublicKey, PasetoParser,
-    PasetoSymmetricKey, Public, PublicKeyRing, V2, V4,
+    GenericParserError, Key, Local, PasetoAsymmetricPrivateKey, PasetoAsymmetricPublicKey,
+    PasetoParser, PasetoSymmetricKey, Public, PublicKeyRing, V2, V4,
 };
-use sessions::{Refusal, Sessions};
+use serde_json::Value;
+use sessions::Sessions;
 
 fn main(rt: HostRuntime) -> Result<()> {
     let now = Timestamp::now(&rt)?;
@@ -40,13 +41,15 @@ fn show_local(rt: &HostRuntime, now: Timestamp, soon: Timestamp) -> Result<()> {
 
     let claims = ticket::admit(alloc, soon, token.as_str(), &key)?;
     println!(rt; "admitted: {} seats", ticket::seats(&claims))?;
-
-    let tomorrow = Timestamp::from_second(now.as_second().saturating_add(86_400))?;
-    match ticket::admit(alloc, tomorrow, token.as_str(), &key) {
+    match ticket::admit(alloc, a_day_after(now)?, token.as_str(), &key) {
         Ok(_) => println!(rt; "admitted tomorrow")?,
         Err(refusal) => println!(rt; "refused tomorrow: {refusal}")?,
     }
     Ok(())
+}
+
+fn a_day_after(now: Timestamp) -> Result<Timestamp> {
+    Ok(Timestamp::from_second(now.as_second().saturating_add(86_400))?)
 }
 
 /// Sessions are admitted under the newest key and the one before it, until that is retired.
@@ -63,21 +66,17 @@ fn show_sessions(rt: &HostRuntime, now: Timestamp) -> Result<()> {
     show_session(rt, &sessions, now, old.as_str())?;
     show_session(rt, &sessions, now, new.as_str())?;
     show_session(rt, &sessions, now, crowded.as_str())?;
-    let tomorrow = Timestamp::from_second(now.as_second().saturating_add(86_400))?;
-    show_session(rt, &sessions, tomorrow, new.as_str())?;
+    show_session(rt, &sessions, a_day_after(now)?, new.as_str())?;
     println!(rt; "retired: {}", sessions.retire("2026-10"))?;
     show_session(rt, &sessions, now, old.as_str())?;
-    show_session(rt, &sessions, now, "v4.local.AAAA.e30")?;
-    Ok(())
+    show_session(rt, &sessions, now, "v4.local.AAAA.e30")
 }
 
 /// What the service makes of a token, and what it would answer over HTTP.
 fn show_session(rt: &HostRuntime, sessions: &Sessions, now: Timestamp, token: &str) -> Result<()> {
     match sessions.admit(now, token) {
         Ok(session) => println!(rt; "200: {} with {} seats", session.sub, session.seats)?,
-        Err(refusal @ Refusal::Memory(_)) => println!(rt; "503: {refusal}")?,
-        Err(refusal @ Refusal::Odd(_)) => println!(rt; "403: {refusal}")?,
-        Err(refusal) => println!(rt; "401: {refusal}")?,
+        Err(refusal) => println!(rt; "{}: {refusal}", refusal.status())?,
     }
     Ok(())
 }
@@ -93,7 +92,12 @@ fn show_boxed(rt: &HostRuntime, now: Timestamp, soon: Timestamp) -> Result<()> {
     println!(rt; "admitted in version 2: {}", signed::subject(&claims))?;
 
     let other = PasetoSymmetricKey::<V2, Local>::from(Key::<32>::default());
-    match boxed::admit(alloc, soon, token.as_str(), &other) {
+    show_refusal(rt, boxed::admit(alloc, soon, token.as_str(), &other))
+}
+
+/// What is made of a ticket under another key than its own.
+fn show_refusal(rt: &HostRuntime, answer: Result<Value, GenericParserError>) -> Result<()> {
+    match answer {
         Ok(_) => println!(rt; "admitted under another key")?,
         Err(refusal) => println!(rt; "refused under another key: {}", refusal.explained())?,
     }
@@ -114,11 +118,10 @@ fn show_signed(rt: &HostRuntime, now: Timestamp, soon: Timestamp) -> Result<()> 
 
     let (_, other) = Ed25519::key_pair(&mut rng)?;
     let other_key = PasetoAsymmetricPublicKey::<V4, Public>::from(&other);
-    match signed::admit(alloc, soon, &Ed25519, token.as_str(), &other_key) {
-        Ok(_) => println!(rt; "admitted under another key")?,
-        Err(refusal) => println!(rt; "refused under another key: {}", refusal.explained())?,
-    }
-    Ok(())
+    show_refusal(
+        rt,
+        signed::admit(alloc, soon, &Ed25519, token.as_str(), &other_key),
+    )
 }
 
 /// Public keys that change with the month: the footer of a signed ticket names its key in the ring.
@@ -130,12 +133,21 @@ fn show_public_keys(rt: &HostRuntime, now: Timestamp, soon: Timestamp) -> Result
 
     let mut ring = PublicKeyRing::<V4>::new(alloc);
     ring.add("2026-11", PasetoAsymmetricPublicKey::from(&public))?;
-    let parser = PasetoParser::<V4, Public>::default(alloc, soon)?;
-    let (id, _claims) = ring.parse(&Ed25519, &parser, token.as_str())?;
-    println!(rt; "admitted under {id}")?;
+    show_ring(rt, &ring, soon, token.as_str())?;
     drop(ring.remove("2026-11"));
-    match ring.parse(&Ed25519, &parser, token.as_str()) {
-        Ok(_) => println!(rt; "admitted under a key that is gone")?,
+    show_ring(rt, &ring, soon, token.as_str())
+}
+
+/// Which key of the ring a signed ticket is admitted under.
+fn show_ring(
+    rt: &HostRuntime,
+    ring: &PublicKeyRing<V4>,
+    soon: Timestamp,
+    token: &str,
+) -> Result<()> {
+    let parser = PasetoParser::<V4, Public>::default(rt.alloc(), soon)?;
+    match ring.parse(&Ed25519, &parser, token) {
+        Ok((id, _claims)) => println!(rt; "admitted under {id}")?,
         Err(refusal) => println!(rt; "refused: {refusal}")?,
     }
     Ok(())

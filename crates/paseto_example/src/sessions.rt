@@ -45,6 +45,17 @@ pub enum Refusal {
     Memory(AllocError),
 }
 
+impl Refusal {
+    /// The status that the service would answer over HTTP.
+    pub fn status(&self) -> u16 {
+        match self {
+            Refusal::Memory(_) => 503,
+            Refusal::Odd(_) => 403,
+            Refusal::Foreign(_) | Refusal::Untimely(_) => 401,
+        }
+    }
+}
+
 impl From<KeyRingParserError> for Refusal {
     fn from(source: KeyRingParserError) -> Refusal {
         match source {
