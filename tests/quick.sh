@@ -1,7 +1,7 @@
 #!/usr/bin/env bash
-# Says within minutes whether a change is sound, while one works on it: the formats, the checks of all crates over the
-# work that earlier checks kept, so that only what changed and what stands above it costs time, the tests of these
-# crates, run with no proof, and the programs from outside.
+# Says within minutes whether a change is sound, while one works on it: the formats, the checks of the crates that changed
+# and of those above them over the work that earlier checks kept, so that only what changed costs time, the tests of
+# these crates, run with no proof, and the programs from outside.
 #
 #   tests/quick.sh [REVISION]
 #
@@ -58,16 +58,47 @@ check_format() {
     settle "format of $1" $? "$work/log"
 }
 
-# One line for each crate that `rt all check` tells of.
+# Checks the crates at and below a folder and those that they stand on, side by side.
+check_all() {
+    (cd "$1" && rt all check --jobs "$(nproc)") >"$work/checks" 2>&1
+}
+
+# The names of the crates that `rt all check` told of.
+told() {
+    sed -n '/^== summary/,$p' "$work/checks" | sed -nE 's/^([a-z0-9_]+): .*$/\1/p'
+}
+
+# One line for each of the crates, by what `rt all check` told of it.
 settle_checks() {
     local crate said
-    sed -n '/^== summary/,$p' "$work/checks" | sed -nE 's/^([a-z0-9_]+): (.*)$/\1 \2/p' >"$work/summary"
-    [ -s "$work/summary" ] || settle 'the checks' 1 "$work/checks"
-    while read -r crate said; do
+    for crate in "$@"; do
+        said=$(sed -n '/^== summary/,$p' "$work/checks" | sed -nE "s/^$crate: (.*)\$/\1/p")
+        if [[ $said == 'not run'* ]]; then
+            fail "check of $crate: $said"
+            continue
+        fi
         sed -n "/^== $crate\$/,/^== /p" "$work/checks" >"$work/log"
+        [ -s "$work/log" ] || cp "$work/checks" "$work/log"
         [ "$said" = ok ]
         settle "check of $crate" $? "$work/log"
-    done <"$work/summary"
+    done
+}
+
+# Builds those of the crates that others stand on, and stops where one is refused. Those below the program are built
+# side by side. Over built libraries `rt all check` makes no first pass over all sources, which takes minutes.
+build_libraries() {
+    local crate
+    if grep -qx paseto < <(printf '%s\n' "$@") && ! check_all crates/paseto; then
+        mapfile -t crates < <(told | grep -xF "$(printf '%s\n' "$@")")
+        settle_checks "${crates[@]:-paseto}"
+        return 1
+    fi
+    for crate in "$@"; do
+        grep -qE "^[a-z].*:.* $crate( |\$)" crates.txt || continue
+        (cd "crates/$crate" && rt lib --jobs "$(nproc)") >"$work/log" 2>&1 && continue
+        settle "check of $crate; those above it were not checked" 1 "$work/log"
+        return 1
+    done
 }
 
 # The tests of a crate that were run with no proof. One that did not end within its seconds is told.
@@ -81,16 +112,22 @@ settle_tests() {
     settle "tests of $1 with no proof: $right" $? "$log"
 }
 
-# settle_program NAME SCRIPT WORD..: builds a program by `rt run`, which runs it with the words, and asks it by its
-# script.
-settle_program() {
-    local name=$1 script=$2 status
-    shift 2
+# settle_build NAME WORD..: builds a program by `rt run`, which runs it with the words.
+settle_build() {
+    local name=$1
+    shift
     (cd "crates/$name" && rt run -- "$@") >"$work/log" 2>&1 </dev/null
     settle "$name is built" $? "$work/log"
-    bash "tests/$script" >"$work/log" 2>&1
-    status=$?
-    settle "tests/$script: $(tail -n 1 "$work/log")" "$status" "$work/log"
+}
+
+# Asks a program from outside by its script, whose status is kept for `settle_script`.
+ask() {
+    bash "tests/$1" >"$work/$1.log" 2>&1
+    echo $? >"$work/$1.status"
+}
+
+settle_script() {
+    settle "tests/$1: $(tail -n 1 "$work/$1.log")" "$(<"$work/$1.status")" "$work/$1.log"
 }
 
 changed | sort -u >"$work/changed"
@@ -104,12 +141,20 @@ for crate in "${crates[@]}"; do
         (cd "crates/$crate" && rt try --test --seconds 10) >"$work/tests.$crate" 2>&1 </dev/null &
     fi
 done
-rt all check --jobs "$(nproc)" >"$work/checks" 2>&1
-settle_checks
-
-settle_program paseto_tool program.sh inspect v4.local.payload
-settle_program paseto paseto.sh --version
+is_sound=yes
+[ ${#crates[@]} -eq 0 ] || build_libraries "${crates[@]}" || is_sound=no
+settle_build paseto_tool inspect v4.local.payload
+settle_build paseto --version
+ask program.sh &
+ask paseto.sh &
+# The scripts run beside the checks, which would hold up the programs' builds.
+if [ $is_sound = yes ] && [ ${#crates[@]} -gt 0 ]; then
+    check_all . || true
+    settle_checks "${crates[@]}"
+fi
 wait
+settle_script program.sh
+settle_script paseto.sh
 for crate in "${tested[@]}"; do
     settle_tests "$crate"
 done
