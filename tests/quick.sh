@@ -51,7 +51,7 @@ with_those_above() {
         - crates.txt
 }
 
-# The layout of all sources of a crate.
+# The layout of all sources of a crate that changed.
 check_format() {
     find "crates/$1" -path '*/out' -prune -o \( -name '*.rt' -o -name '*.antt' \) -print0 \
         | xargs -0 "$rattle" fmt --check >"$work/log" 2>&1
@@ -63,8 +63,9 @@ check_all() {
     (cd "$1" && rt all check --jobs "$(nproc)") >"$work/checks" 2>&1
 }
 
-# The names of the crates that `rt all check` told of.
+# The names of the crates that `rt all check` told of, if it ran.
 told() {
+    [ -f "$work/checks" ] || return
     sed -n '/^== summary/,$p' "$work/checks" | sed -nE 's/^([a-z0-9_]+): .*$/\1/p'
 }
 
@@ -94,6 +95,7 @@ build_libraries() {
         return 1
     fi
     for crate in "$@"; do
+        told | grep -qx "$crate" && continue
         grep -qE "^[a-z].*:.* $crate( |\$)" crates.txt || continue
         (cd "crates/$crate" && rt lib --jobs "$(nproc)") >"$work/log" 2>&1 && continue
         settle "check of $crate; those above it were not checked" 1 "$work/log"
@@ -134,8 +136,10 @@ changed | sort -u >"$work/changed"
 echo "changed against $base: $(tr '\n' ' ' <"$work/changed")"
 mapfile -t crates < <(with_those_above <"$work/changed")
 tested=()
+while read -r crate; do
+    [ ! -d "crates/$crate" ] || check_format "$crate"
+done <"$work/changed"
 for crate in "${crates[@]}"; do
-    check_format "$crate"
     if grep -rqF '#[test]' "crates/$crate/src"; then
         tested+=("$crate")
         (cd "crates/$crate" && rt try --test --seconds 10) >"$work/tests.$crate" 2>&1 </dev/null &
