@@ -4,21 +4,18 @@
 #
 #   tests/paseto.sh [PROGRAM [TOOL]]
 #
-# Without PROGRAM and TOOL it takes those that `rt run` leaves in the crates' out/, and builds them where they are not
-# there. The last line is 'N passed, M failed', and the status is 0 where none failed.
+# Without PROGRAM and TOOL it takes those that build.sh leaves in the crates' out/, and proves and builds them where they
+# are not there. The last line is 'N passed, M failed', and the status is 0 where none failed.
 set -u
 export LC_ALL=C
 
 root=$(cd "$(dirname "$0")/.." && pwd)
 program=$(realpath -m "${1-$root/crates/paseto/out/paseto}")
 tool=$(realpath -m "${2-$root/crates/paseto_tool/out/paseto_tool}")
-if [ $# -eq 0 ] && [ ! -x "$program" ]; then
-    echo "building the program"
-    (cd "$root/crates/paseto" && rt run -- --version) >/dev/null 2>&1
-fi
-if [ $# -lt 2 ] && [ ! -x "$tool" ]; then
-    echo "building paseto_tool"
-    (cd "$root/crates/paseto_tool" && rt run -- inspect v4.local.payload) >/dev/null 2>&1
+if [ $# -eq 0 ] && { [ ! -x "$program" ] || [ ! -x "$tool" ]; }; then
+    python3 "$root/tools/prove.py" paseto paseto_tool
+elif [ $# -eq 1 ] && [ ! -x "$tool" ]; then
+    python3 "$root/tools/prove.py" paseto_tool
 fi
 for needed in "$program" "$tool"; do
     if [ ! -x "$needed" ]; then
@@ -291,7 +288,7 @@ refuses "no token for a ring" 1 "" "$bad_count" check --ring ring
 refuses "a token of another kind for a ring" 1 v1.public.AAAA "$bad_header" check --ring ring
 refuses "no footer for a ring" 1 "$("$program" issue --key 4.issues)" "The token has no footer" check --ring ring
 refuses "a footer that names no key" 1 "$("$program" issue --key 4.issues --footer id)" "The footer is not a JSON object" check --ring ring
-refuses "a key that is not in the ring" 1 "$("$program" issue --key 4.issues --footer-kid "$(printf 'a\nb')")" "The key \"a\\nb\" is not in the ring" check --ring ring
+refuses "a key that is not in the ring" 1 "$("$program" issue --key 4.issues --footer-kid "$(printf 'a\nb')")" "The key 'a\\nb' is not in the ring" check --ring ring
 refuses "no ring" 3 "$(cat token)" "$no_file" check --ring nowhere
 cp -r ring rings && echo nothing >rings/notes && cp ring/4 rings/.hidden && echo nothing >rings/.notes
 refuses "a ring with a file that is no key" 1 "$(cat token)" "The file 'notes' of the ring is no key file" check --ring rings

@@ -5,6 +5,7 @@ ghost use Rattle.rusty_paseto.specs.Error.{cause_of, ring_cause_of};
 ghost use Rattle.rusty_paseto.specs.KeyRing.{of_parser, of_ring};
 ghost use Rattle.rusty_paseto.specs.declared.error.KeyRingError.TheVariants.{Memory};
 
+use crate::shown_id::ShownId;
 use rusty_paseto_core::PasetoError;
 use rusty_paseto_generic::GenericParserError;
 use std::alloc::AllocError;
@@ -44,8 +45,8 @@ pub enum KeyRingError {
     #[error("The footer names no key")]
     NoKeyId,
     /// The ring has no key of the id that the footer names. The id is whatever stood in the token: the error's text
-    /// shows it escaped, so that it stays on one line of a log.
-    #[error("The key {0:?} is not in the ring")]
+    /// escapes each character of it that is not printable, so that it stays on one line of a log.
+    #[error("The key '{}' is not in the ring", ShownId(.0.as_str()))]
     UnknownKey(String),
     /// The token was not opened under the key that its footer names.
     #[error("{0}")]

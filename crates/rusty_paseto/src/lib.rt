@@ -37,6 +37,7 @@ pub mod paseto_core;
 mod paseto_parser;
 pub mod prelude;
 mod setter;
+mod shown_id;
 pub mod validators;
 mod version;
 

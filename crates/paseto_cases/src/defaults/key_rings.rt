@@ -137,13 +137,15 @@ fn a_footer_that_names_no_key(rt: HostRuntime) {
 
 #[test]
 fn an_id_that_is_not_in_the_ring(rt: HostRuntime) {
-    let (alloc, third) = (rt.alloc(), "The key \"k3\" is not in the ring");
+    let (alloc, third) = (rt.alloc(), "The key 'k3' is not in the ring");
     check_refused(&rt, alloc, Some("{\"kid\":\"k3\"}"), third);
-    let upper = "The key \"K1\" is not in the ring";
+    let upper = "The key 'K1' is not in the ring";
     check_refused(&rt, alloc, Some("{\"kid\":\"K1\"}"), upper);
-    // The id is the caller's own text, which is to stay on its line of a log.
-    let two_lines = "The key \"x\\nERROR\" is not in the ring";
-    check_refused(&rt, alloc, Some("{\"kid\":\"x\\nERROR\"}"), two_lines);
+    // The id is anybody's text, which is to stay on its line of a log, and else reads as it is.
+    let two_lines = "The key 'x\\nERROR\\u{202e}' is not in the ring";
+    check_refused(&rt, alloc, Some("{\"kid\":\"x\\nERROR\\u202e\"}"), two_lines);
+    let printable = "The key 'it's \"mine\", \\ü' is not in the ring";
+    check_refused(&rt, alloc, Some("{\"kid\":\"it's \\\"mine\\\", \\\\ü\"}"), printable);
 }
 
 #[test]

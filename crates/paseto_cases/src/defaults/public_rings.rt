@@ -110,7 +110,7 @@ const FAULTS: &[(Option<&str>, &str)] = &[
     (Some("{\"kid\":1}"), "The footer names no key"),
     (
         Some("{\"kid\":\"k3\"}"),
-        "The key \"k3\" is not in the ring",
+        "The key 'k3' is not in the ring",
     ),
 ];
 
