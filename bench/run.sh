@@ -7,7 +7,7 @@
 # --quick measures each row for a quarter of a second in place of one and a half, and its figures are
 # rough. --cpu builds the library for another processor, as x86-64-v3. A SUBJECT, as v4, XChaCha20 or
 # build, is the beginning of the names of those that are measured; without one all are. The library and
-# the library for C are proved first, which takes some minutes where no check has kept its work.
+# the library for C are proved first, over what build.sh left.
 # plot.py draws what a run prints.
 set -euo pipefail
 cd "$(dirname "$0")"
@@ -31,11 +31,11 @@ fi
 
 mkdir -p out
 echo "proving and building the library (the log is bench/out/build.log)" >&2
-if ! (cd ../crates/paseto_bench && rt lib "${cpu[@]}") >out/build.log 2>&1; then
-    tail -5 out/build.log >&2
+if ! python3 ../tools/prove.py "${cpu[@]}" paseto_bench paseto_c >out/build.log 2>&1; then
+    tail -30 out/build.log >&2
     exit 1
 fi
-bash ../c/build.sh out/c "${cpu[@]}"
+bash ../c/build.sh out/c --built
 
 kit=$(dirname "$(rt doc)")
 cc -O2 -std=c11 -D_POSIX_C_SOURCE=200809L -Wall -Wextra -Iout/c/include -o out/bench \

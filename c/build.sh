@@ -4,8 +4,9 @@
 #
 #   c/build.sh PREFIX [--cpu NAME | --built]
 #
-# --cpu builds for another processor than the default, as x86-64-v3. The library is proved first, which takes some
-# minutes where no check has kept its work. --built takes crates/paseto_c/out/libpaseto_c.a as it stands.
+# It is the last step of build.sh at the top, and does that step alone for who wants no program. The library is proved
+# first, where build.sh has not done so. --cpu builds for another processor than the default, as x86-64-v3. --built takes
+# crates/paseto_c/out/libpaseto_c.a as it stands.
 set -euo pipefail
 
 case "$# ${2-}" in
@@ -16,7 +17,6 @@ case "$# ${2-}" in
 esac
 mkdir -p "$1"
 prefix=$(cd "$1" && pwd)
-options=("${@:2}")
 here=$(cd "$(dirname "$0")" && pwd)
 crate=$here/../crates/paseto_c
 
@@ -29,9 +29,8 @@ done
 
 work=$(mktemp -d)
 trap 'rm -rf "$work"' EXIT
-if [ "${2-}" != --built ] && ! (cd "$crate" && rt lib "${options[@]}") >"$work/log" 2>&1; then
-    tail -5 "$work/log" >&2
-    exit 1
+if [ "${2-}" != --built ]; then
+    python3 "$here/../tools/prove.py" "${@:2}" paseto_c
 fi
 
 # One object holds the crate and what it stands on, and shows the exports alone.

@@ -5,7 +5,7 @@
 #
 #   tests/memory.sh [PROGRAM TOOL]
 #
-# Without words it takes the programs that `rt run` leaves in the crates' out/, and builds them where they are
+# Without words it takes the programs that lie in the crates' out/, and proves and builds them where they are
 # not there. A row of the table is a call, how many requests it makes, for how many bytes in all, and how often a
 # run that met a refusal answered a failed allocation, or what is right all the same. The rows of the cases
 # have to be those of tests/memory.txt, so that a call that takes more memory than it did fails. The last line is
@@ -15,18 +15,11 @@ export LC_ALL=C
 
 root=$(cd "$(dirname "$0")/.." && pwd)
 
-# built CRATE WORD..: the program of a crate, which the words let run.
-built() {
-    local crate=$1 program=$root/crates/$1/out/$1
-    shift
-    if [ ! -x "$program" ]; then
-        (cd "$root/crates/$crate" && rt run -- "$@") >/dev/null 2>&1 </dev/null
-    fi
-    echo "$program"
-}
-
 if [ $# -eq 0 ]; then
-    set -- "$(built paseto_memory all 1)" "$(built paseto_tool inspect v4.local.payload)"
+    set -- "$root/crates/paseto_memory/out/paseto_memory" "$root/crates/paseto_tool/out/paseto_tool"
+    if [ ! -x "$1" ] || [ ! -x "$2" ]; then
+        python3 "$root/tools/prove.py" paseto_memory paseto_tool
+    fi
 fi
 program=$1
 tool=$2

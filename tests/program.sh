@@ -4,7 +4,7 @@
 #
 #   tests/program.sh [PROGRAM]
 #
-# Without PROGRAM it takes the one that `rt run` leaves in the crate's out/, and builds it where it is
+# Without PROGRAM it takes the one that build.sh leaves in the crate's out/, and proves and builds it where it is
 # not there. The last line is 'N passed, M failed', and the status is 0 where none failed.
 set -u
 export LC_ALL=C
@@ -12,8 +12,7 @@ export LC_ALL=C
 root=$(cd "$(dirname "$0")/.." && pwd)
 program=${1-$root/crates/paseto_tool/out/paseto_tool}
 if [ $# -eq 0 ] && [ ! -x "$program" ]; then
-    echo "building the program"
-    (cd "$root/crates/paseto_tool" && rt run -- inspect v4.local.payload) >/dev/null 2>&1
+    python3 "$root/tools/prove.py" paseto_tool
 fi
 if [ ! -x "$program" ]; then
     echo "there is no program $program"

@@ -58,48 +58,19 @@ check_format() {
     settle "format of $1" $? "$work/log"
 }
 
-# Checks the crates at and below a folder and those that they stand on, side by side.
-check_all() {
-    (cd "$1" && rt all check --jobs "$(nproc)") >"$work/checks" 2>&1
+# prove WORD..: proves crates by tools/prove.py, which tells how far each is.
+prove() {
+    python3 tools/prove.py "$@" 2>&1 | tee -a "$work/said"
+    return "${PIPESTATUS[0]}"
 }
 
-# The names of the crates that `rt all check` told of, if it ran.
-told() {
-    [ -f "$work/checks" ] || return
-    sed -n '/^== summary/,$p' "$work/checks" | sed -nE 's/^([a-z0-9_]+): .*$/\1/p'
-}
-
-# One line for each of the crates, by what `rt all check` told of it.
-settle_checks() {
+# One line for each of the crates, by what was told of it.
+settle_proofs() {
     local crate said
     for crate in "$@"; do
-        said=$(sed -n '/^== summary/,$p' "$work/checks" | sed -nE "s/^$crate: (.*)\$/\1/p")
-        if [[ $said == 'not run'* ]]; then
-            fail "check of $crate: $said"
-            continue
-        fi
-        sed -n "/^== $crate\$/,/^== /p" "$work/checks" >"$work/log"
-        [ -s "$work/log" ] || cp "$work/checks" "$work/log"
-        [ "$said" = ok ]
-        settle "check of $crate" $? "$work/log"
-    done
-}
-
-# Builds those of the crates that others stand on, and stops where one is refused. Those below the program are built
-# side by side. Over built libraries `rt all check` makes no first pass over all sources, which takes minutes.
-build_libraries() {
-    local crate
-    if grep -qx paseto < <(printf '%s\n' "$@") && ! check_all crates/paseto; then
-        mapfile -t crates < <(told | grep -xF "$(printf '%s\n' "$@")")
-        settle_checks "${crates[@]:-paseto}"
-        return 1
-    fi
-    for crate in "$@"; do
-        told | grep -qx "$crate" && continue
-        grep -qE "^[a-z].*:.* $crate( |\$)" crates.txt || continue
-        (cd "crates/$crate" && rt lib --jobs "$(nproc)") >"$work/log" 2>&1 && continue
-        settle "check of $crate; those above it were not checked" 1 "$work/log"
-        return 1
+        said=$(sed -nE "s/^ *[0-9]+:[0-9]+ $crate: ((proved|refused|not run).*)\$/\1/p" "$work/said" | tail -n 1)
+        [[ $said == proved* ]]
+        settle "check of $crate: ${said:-not run}" $? /dev/null
     done
 }
 
@@ -112,14 +83,6 @@ settle_tests() {
     [ "$right" -gt 0 ] && ! grep -A1 -E '^test .* \.\.\. FAILED$' "$log" \
         | grep -E '^ ' | grep -vqE 'checked: no-answer: the program did not end'
     settle "tests of $1 with no proof: $right" $? "$log"
-}
-
-# settle_build NAME WORD..: builds a program by `rt run`, which runs it with the words.
-settle_build() {
-    local name=$1
-    shift
-    (cd "crates/$name" && rt run -- "$@") >"$work/log" 2>&1 </dev/null
-    settle "$name is built" $? "$work/log"
 }
 
 # Asks a program from outside by its script, whose status is kept for `settle_script`.
@@ -145,20 +108,19 @@ for crate in "${crates[@]}"; do
         (cd "crates/$crate" && rt try --test --seconds 10) >"$work/tests.$crate" 2>&1 </dev/null &
     fi
 done
-is_sound=yes
-[ ${#crates[@]} -eq 0 ] || build_libraries "${crates[@]}" || is_sound=no
-settle_build paseto_tool inspect v4.local.payload
-settle_build paseto --version
-ask program.sh &
-ask paseto.sh &
-# The scripts run beside the checks, which would hold up the programs' builds.
-if [ $is_sound = yes ] && [ ${#crates[@]} -gt 0 ]; then
-    check_all . || true
-    settle_checks "${crates[@]}"
+# What is asked from outside comes first, so that it is asked beside the other checks.
+if prove paseto paseto_tool; then
+    ask program.sh &
+    ask paseto.sh &
+    [ ${#crates[@]} -eq 0 ] || prove --check "${crates[@]}"
+    wait
+    settle_script program.sh
+    settle_script paseto.sh
+else
+    fail 'paseto and paseto_tool are not built, so that nothing above them was checked or asked'
 fi
+settle_proofs "${crates[@]}"
 wait
-settle_script program.sh
-settle_script paseto.sh
 for crate in "${tested[@]}"; do
     settle_tests "$crate"
 done

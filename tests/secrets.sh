@@ -5,7 +5,8 @@
 #
 #   tests/secrets.sh [--cpu NAME | --built]
 #
-# --cpu builds the library for another processor, as x86-64-v3; --built takes it as it stands in the crate's out/. What
+# The library is proved first, over what build.sh left. --cpu builds it for another processor, as x86-64-v3; --built takes
+# it as it stands in the crate's out/. What
 # may be reported, and why that tells nothing, is in `secrets.txt`. The compiler may do otherwise on another processor or
 # at another version, so this is a test of a build, and no promise. The last line is 'N passed, M failed', and the status is 0 where none failed.
 set -u
@@ -37,8 +38,8 @@ needs() {
 needs cc gcc
 needs valgrind valgrind
 
-if [ "$is_built" -eq 0 ] && ! (cd "$root/crates/paseto_bench" && rt lib "${cpu[@]}") >"$work/build" 2>&1; then
-    tail -n 5 "$work/build"
+if [ "$is_built" -eq 0 ] && ! python3 "$root/tools/prove.py" "${cpu[@]}" paseto_bench >"$work/build" 2>&1; then
+    tail -n 30 "$work/build"
     fail 'the library is not built'
     finish
 fi

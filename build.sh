@@ -1,0 +1,56 @@
+#!/usr/bin/env bash
+# Proves the libraries, and builds and installs what one uses: the programs `paseto` and `paseto_tool`, and the library for
+# C, `libpaseto.a` and `libpaseto.so`, with `paseto.h` and `paseto.pc`.
+#
+#   bash build.sh [PREFIX]
+#
+# PREFIX, which is `build` where none is given, gets bin/, lib/ and include/. Libraries are proved side by side, on all
+# processors; a line tells how far each is. What is proved is kept in the crates' out/, so that a second run proves what
+# has changed alone, and one that was cut off goes on where it was.
+#
+#   bash build.sh --unproved
+#
+# says how to look at the programs before anything is proved.
+set -euo pipefail
+here=$(cd "$(dirname "$0")" && pwd)
+
+case "$# ${1-}" in
+    '1 --unproved')
+        cat <<END
+The toolchain builds no program that is not proved, so nothing was built. It runs one with no proof, in half a minute:
+
+  (cd $here/crates/paseto && rt try -- --help)
+  (cd $here/crates/paseto_tool && rt try -- inspect v4.local.payload)
+
+unproved: what these two run is checked by no proof
+END
+        exit 0 ;;
+    '0 ' | '1 '[!-]*) ;;
+    *)
+        echo 'usage: build.sh [PREFIX | --unproved]' >&2
+        exit 2 ;;
+esac
+mkdir -p "${1:-$here/build}"
+prefix=$(cd "${1:-$here/build}" && pwd)
+
+needs() {
+    command -v "$1" >/dev/null && return
+    echo "There is no $1. $2" >&2
+    exit 1
+}
+
+needs rt 'It comes with the toolchain, which README.md names'
+needs python3 'On Debian: apt-get install python3'
+for tool in cc ld ar objcopy; do
+    needs "$tool" 'On Debian: apt-get install gcc libc6-dev binutils'
+done
+
+python3 "$here/tools/prove.py" paseto paseto_tool paseto_c
+bash "$here/c/build.sh" "$prefix" --built
+install -d "$prefix/bin"
+for program in paseto paseto_tool; do
+    install -m 755 "$here/crates/$program/out/$program" "$prefix/bin/$program"
+done
+
+echo "proved, built and installed under $prefix:"
+(cd "$prefix" && find bin/paseto bin/paseto_tool include lib -type f | sort | sed 's/^/  /')

@@ -1,0 +1,205 @@
+#!/usr/bin/env python3
+"""Proves crates and those that they stand on, and builds what they are: libraries, programs and static libraries.
+
+    python3 tools/prove.py [--check] [--cpu NAME] CRATE..
+
+Each crate is begun as soon as those below it are done, those with the longest way to the top first, as many side by
+side as processors and memory allow. What is built lies in the crates' out/ as `rt lib` and `rt run` leave it, so that
+no other command proves it again, and a run that was cut off goes on where it was.
+
+--check proves programs and static libraries, and does not build them. --cpu builds static libraries for another
+processor, as x86-64-v3. While it works, a line tells how far each crate is; what the prover says stands in the crate's
+out/prove.log. A crate that is refused ends with its log's last lines, and those above it are not run. The status is 0
+where all was proved.
+"""
+import argparse
+import functools
+import importlib.machinery
+import importlib.util
+import os
+import re
+import shutil
+import subprocess
+import sys
+import threading
+import time
+
+ROOT = os.path.dirname(os.path.dirname(os.path.abspath(__file__)))
+# What one process of a check takes of memory, in bytes, as measured over the crates of this repository.
+EACH = 1_200_000_000
+# A crate that is not on the longest way gets what the others leave of the processors.
+LATER = 10
+# A crate's line comes again after so many seconds at the earliest.
+PAUSE = 15
+
+
+def toolchain():
+    """The module of the toolchain's command `rt`: its crates, their stamps, and the work that checkouts share."""
+    file = os.path.realpath(shutil.which("rt") or sys.exit("There is no rt on the PATH: it comes with the toolchain"))
+    loader = importlib.machinery.SourceFileLoader("rt", file)
+    module = importlib.util.module_from_spec(importlib.util.spec_from_loader("rt", loader))
+    sys.dont_write_bytecode = True
+    loader.exec_module(module)
+    return module
+
+
+def crates_of(rt, names):
+    """The crates of these names and all below them, by name, as `rt` reads them."""
+    known, found = {}, {}
+    for name in names:
+        folder = f"{ROOT}/crates/{name}"
+        if not os.path.isdir(folder):
+            sys.exit(f"There is no crate {name}: crates.txt lists those that there are")
+        crate = known.setdefault(folder, known.get(folder) or rt.rtlib.Crate(folder, ROOT, known))
+        rt.read_files(crate)
+        found.update((it.name, it) for it in [*crate.below(), crate])
+    return found
+
+
+def lines_of(rt, crate):
+    """How many lines a check of the crate reads that are its own, which is about what it costs."""
+    return sum(rt.rtlib.text_of(it).count("\n") for it in rt.rtlib.files_of(crate.folder))
+
+
+# ---- one crate, in a process of its own
+
+
+def archive_stamp(rt, crate, cpu):
+    """A sum of a static library and of all that it is made from. `rt lib` keeps none, and builds one anew each time."""
+    return f"{crate.stamp()} {cpu} {rt.rtlib.sum_of(f'{crate.folder}/out/lib{crate.name}.a')}"
+
+
+def is_built(rt, crate, cpu):
+    """Whether what is built of the crate is that of its text and of the libraries below."""
+    stamp, of = f"{crate.folder}/out/{crate.name}.stamp", rt.rtlib.text_of
+    if crate.makes_rlib():
+        return crate.is_built()
+    if crate.is_static:
+        return of(stamp) == archive_stamp(rt, crate, cpu)
+    return of(stamp) == crate.stamp() + rt.rtlib.sum_of(f"{crate.folder}/out/{crate.name}")
+
+
+def build(rt, crate, flags, cpu):
+    """Builds a program as `rt run` does, which also runs it: here with no words and no input. Or a static library."""
+    if not crate.is_static:
+        crate.held = []
+        crate.build_and_run(flags, [], False)
+        return 0 if is_built(rt, crate, cpu) else 1
+    status = crate.build_static([*flags, *([f"--cpu={cpu}"] if cpu else [])])
+    if status == 0:
+        with open(f"{crate.folder}/out/{crate.name}.stamp", "w", encoding="utf-8") as file:
+            file.write(archive_stamp(rt, crate, cpu))
+    return status
+
+
+def work(rt, crate, jobs, cpu, is_check):
+    """Proves and builds one crate over those below it, which are built."""
+    rt.share_work(True)
+    flags = ["--jobs", str(jobs)]
+    os.makedirs(f"{crate.folder}/out", exist_ok=True)
+    os.chdir(crate.folder)
+    if crate.makes_rlib():
+        return crate.build_rlib(flags, anew=False)
+    return crate.check(flags) if is_check else build(rt, crate, flags, cpu)
+
+
+# ---- all crates
+
+
+class Run:
+    """The crates, and which of them are done, at work, or refused."""
+
+    def __init__(self, rt, crates, given):
+        self.rt, self.crates, self.given, self.begun = rt, crates, given, time.monotonic()
+        self.done, self.lost, self.at_work, self.turn = set(), {}, {}, threading.Condition()
+        self.processors = rt.processors()
+        copies = max(rt.free() // EACH, 1)
+        self.most = min(self.processors, copies)
+        self.jobs = max(min(self.processors, copies // self.most), 1)
+
+    @functools.lru_cache(maxsize=None)
+    def way(self, name):
+        """The lines of the longest way from a crate to the top, which is what is left to do once it is begun."""
+        above = [it.name for it in self.crates.values() if name in [dep.name for dep in it.deps]]
+        return lines_of(self.rt, self.crates[name]) + max(map(self.way, above), default=0)
+
+    def say(self, name, text):
+        minutes, seconds = divmod(int(time.monotonic() - self.begun), 60)
+        print(f"{minutes:2d}:{seconds:02d} {name}: {text}", flush=True)
+
+    def next(self):
+        """The crate to begin now, if there is one; those above a refused one are given up."""
+        for name in sorted(self.crates, key=self.way, reverse=True):
+            if name in self.done or name in self.lost or name in self.at_work:
+                continue
+            below = [it.name for it in self.crates[name].below()]
+            refused = next((it for it in below if it in self.lost), None)
+            if refused:
+                self.lost[name] = f"not run, since {refused} was refused"
+                self.say(name, self.lost[name])
+            elif all(it in self.done for it in below):
+                return name
+        return None
+
+    def all(self):
+        """Runs all that does not stand, and returns whether each is proved."""
+        for name, crate in self.crates.items():
+            if not (self.given.check and not crate.makes_rlib()) and is_built(self.rt, crate, self.given.cpu):
+                self.done.add(name)
+                self.say(name, "proved earlier")
+        with self.turn:
+            while len(self.done) + len(self.lost) < len(self.crates):
+                name = self.next() if len(self.at_work) < self.most else None
+                if name is None:
+                    if self.at_work:
+                        self.turn.wait()
+                    continue
+                is_first = all(self.way(it) <= self.way(name) for it in self.at_work)
+                self.at_work[name] = time.monotonic()
+                threading.Thread(target=self.one, args=(name, 0 if is_first else LATER)).start()
+        return not self.lost
+
+    def one(self, name, niceness):
+        """Runs a crate's process, and tells how far it is by its lines."""
+        words = [sys.executable, os.path.abspath(__file__), "--one", str(self.jobs), name, *["--check"] * self.given.check]
+        words += ["--cpu", self.given.cpu] if self.given.cpu else []
+        log, told = f"{self.crates[name].folder}/out/prove.log", time.monotonic()
+        os.makedirs(os.path.dirname(log), exist_ok=True)
+        how = {"stdin": subprocess.DEVNULL, "stdout": subprocess.PIPE, "stderr": subprocess.STDOUT, "errors": "replace"}
+        with open(log, "w", encoding="utf-8") as file:
+            ran = subprocess.Popen(["nice", "-n", str(niceness), *words], **how)
+            for line in ran.stdout:
+                file.write(line)
+                far = re.match(r"so far: (\d+ of \d+ functions checked)", line)
+                if far and time.monotonic() - told > PAUSE:
+                    told = time.monotonic()
+                    self.say(name, far[1])
+        with self.turn:
+            taken = time.monotonic() - self.at_work.pop(name)
+            if ran.wait():
+                self.lost[name] = "refused"
+                self.say(name, f"refused; {os.path.relpath(log, ROOT)} has all that was said, and ends:")
+                print("".join(open(log, encoding="utf-8").readlines()[-25:]), end="", flush=True)
+            else:
+                self.done.add(name)
+                self.say(name, f"proved, in {taken:.0f} seconds")
+            self.turn.notify()
+
+
+def main():
+    words = argparse.ArgumentParser(description=__doc__, formatter_class=argparse.RawDescriptionHelpFormatter)
+    words.add_argument("--check", action="store_true", help="proves programs and static libraries, and builds none")
+    words.add_argument("--cpu", metavar="NAME", help="the processor that static libraries are built for")
+    words.add_argument("--one", type=int, metavar="JOBS", help=argparse.SUPPRESS)
+    words.add_argument("crates", nargs="+", metavar="CRATE")
+    given = words.parse_args()
+    rt = toolchain()
+    crates = crates_of(rt, given.crates)
+    if given.one:
+        sys.exit(work(rt, crates[given.crates[0]], given.one, given.cpu, given.check))
+    rt.rtlib.lock(crates.values())
+    sys.exit(0 if Run(rt, crates, given).all() else 1)
+
+
+if __name__ == "__main__":
+    main()
