@@ -1,0 +1,3 @@
+pub mod ElementLaws
+pub mod IdentityLaws
+pub mod PolynomialLaws
