@@ -21,7 +21,8 @@ pub fn equal_by_rules()
         → value n m numbers a % m ≡ value n m numbers b % m }
 {}
 
-/// The same for numbers below m, by operations modulo m.
+/// Expressions have the same value by operations modulo m, at numbers below m that obey the rules, under the same
+/// condition, where the equations hold by these operations.
 pub fn equal_elements_by_rules()
     ensures { (rules : ℕ → Option Cube) (n m : ℕ) (numbers : ℕ → ℕ) → 0 < m → AreBelow m numbers
         → Obey rules n m numbers → (es : List Equation) → HoldElements n m numbers es → (a b : Expression)
