@@ -1,0 +1,11 @@
+pub mod Associativity
+pub mod Closure
+pub mod ClosureLaws
+pub mod CompletenessLaws
+pub mod CurveLaws
+pub mod ExtendedLaws
+pub mod FractionLaws
+pub mod GroupLaws
+pub mod LadderLaws
+pub mod MultipleLaws
+pub mod OrderLaws

@@ -1,0 +1,13 @@
+pub mod BinomialLaws
+pub mod CertificateLaws
+pub mod CongruenceLaws
+pub mod DivisorLaws
+pub mod EulerLaws
+pub mod FermatLaws
+pub mod FieldOfEdwards25519
+pub mod FieldOfP384
+pub mod OrderOfEdwards25519
+pub mod OrderOfP384
+pub mod PocklingtonLaws
+pub mod PowerLaws
+pub mod RootLaws

@@ -1,0 +1,5 @@
+use Rattle.paseto_primes.proofs.OrderOfP384.{is-prime}
+use Rattle.paseto_primes.proofs.certified.order_of_p384_is_prime.Goals as goal
+
+pub returns : goal.returns
+returns c = is-prime

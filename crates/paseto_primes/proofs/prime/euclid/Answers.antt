@@ -1,0 +1,5 @@
+use Rattle.paseto_primes.proofs.DivisorLaws as laws
+use Rattle.paseto_primes.proofs.prime.euclid.Goals as goal
+
+pub returns : goal.returns
+returns c = laws.euclid

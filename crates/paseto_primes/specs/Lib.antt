@@ -1,0 +1,4 @@
+pub mod Certified
+pub mod Power
+pub mod Prime
+pub mod Root
