@@ -1,12 +1,12 @@
 #!/usr/bin/env bash
 # Builds a static library, crates/CRATE/out/libCRATE.a, over the libraries that `rt ci` has just proved and left in the
-# crates' out/. `rt lib` makes the same, but it proves every library below once more, since it takes none that another
-# command built.
+# crates' out/. `tools/prove.py` makes the same, but it proves every library below once more, since it takes none that
+# `rt ci` left.
 #
 #   tests/static_library.sh CRATE
 #
 # It is for the gate, right after `rt ci`. The crate itself is proved here, as the toolchain builds no other. Where a
-# library below is a session's own (it has a stamp), or is not there, `rt lib` does it all.
+# library below is not `rt ci`'s (it has a stamp), or is not there, `tools/prove.py` does it all.
 set -euo pipefail
 
 crate=${1:?usage: tests/static_library.sh CRATE}
@@ -37,8 +37,7 @@ words=(--crate-name "$crate" src/lib.rt --extern "std=$kit/rlibs/std.rlib" -L "d
 for name in "${!below[@]}"; do
     rlib=$root/crates/$name/out/rlib
     if [ ! -d "$rlib/$name.rlib" ] || [ -e "$rlib/stamp" ]; then
-        cd "crates/$crate"
-        exec rt lib
+        exec python3 tools/prove.py "$crate"
     fi
     words+=(-L "dependency=$rlib")
 done
