@@ -4,9 +4,8 @@
     python3 tools/prove.py [--check] [--cpu NAME] CRATE..
 
 Each crate is begun as soon as those below it are done, those with the longest way to the top first, as many side by
-side as processors and memory allow. Each library is proved as the gate proves it, and what is kept of it are its
-statements, which are all that the crates above read. What is built lies in the crates' out/, where `rt` takes it too,
-so that no other command proves it again; a run that was cut off goes on with the crates that it had not done.
+side as processors and memory allow. What is built lies in the crates' out/ as `rt lib` and `rt run` leave it, so that
+no other command proves it again, and a run that was cut off goes on where it was.
 
 --check proves programs and static libraries, and does not build them. --cpu builds static libraries for another
 processor, as x86-64-v3. While it works, a line tells how far each crate is; what the prover says stands in the crate's
@@ -28,8 +27,7 @@ import time
 ROOT = os.path.dirname(os.path.dirname(os.path.abspath(__file__)))
 # What one process of a check takes of memory, in bytes, as measured over the crates of this repository.
 EACH = 1_200_000_000
-# A crate leaves the processors to those at work with a longer way: it has half as many processes for each of these, and so
-# much more niceness, up to the most that there is.
+# A crate leaves the processors to those at work with a longer way, by so much niceness for each, up to the most that there is.
 STEP, MOST = 6, 19
 # A crate's line comes again after so many seconds at the earliest.
 PAUSE = 15
@@ -81,24 +79,6 @@ def is_built(rt, crate, cpu):
     return of(stamp) == crate.stamp() + rt.rtlib.sum_of(f"{crate.folder}/out/{crate.name}")
 
 
-def build_library(rt, crate, flags):
-    """Builds a library of its statements, without its proofs: those that `rt lib` builds hold both, and each check above
-    them takes twice as long."""
-    stamp, rlib, checked = crate.stamp(), f"{crate.folder}/out/rlib", "out/checked"
-    for it in (rlib, f"{crate.folder}/{checked}"):
-        shutil.rmtree(it, ignore_errors=True)
-    os.makedirs(rlib)
-    words = crate.words(flags, keeps=False)
-    status = crate.call(rt.rtlib.RATTLE, "check", *words, "--progress", "--statements", "-o", checked)
-    for it in ("--logic-built", "--jobs"):
-        del words[words.index(it) : words.index(it) + 2]
-    status = status or crate.call(rt.rtlib.RATTLE, "build", *words, "--crate-checked", checked, "-o", crate.rlib)
-    if status == 0 and stamp == crate.stamp():
-        with open(f"{rlib}/stamp", "w", encoding="utf-8") as file:
-            file.write(stamp)
-    return status
-
-
 def build(rt, crate, flags, cpu):
     """Builds a program as `rt run` does, which also runs it: here with no words and no input. Or a static library."""
     if not crate.is_static:
@@ -114,11 +94,12 @@ def build(rt, crate, flags, cpu):
 
 def work(rt, crate, jobs, cpu, is_check):
     """Proves and builds one crate over those below it, which are built."""
+    rt.share_work(True)
     flags = ["--jobs", str(jobs)]
     os.makedirs(f"{crate.folder}/out", exist_ok=True)
     os.chdir(crate.folder)
     if crate.makes_rlib():
-        return build_library(rt, crate, flags)
+        return crate.build_rlib(flags, anew=False)
     return crate.check(flags) if is_check else build(rt, crate, flags, cpu)
 
 
@@ -143,8 +124,9 @@ class Run:
         minutes, seconds = divmod(int(time.monotonic() - self.begun), 60)
         print(f"{minutes:2d}:{seconds:02d} {name}: {text}", flush=True)
 
-    def next(self):
-        """The crate to begin now, if there is one; those above a refused one are given up."""
+    def ready(self):
+        """The crates that can begin now, the longest way first; those above a refused one are given up."""
+        found = []
         for name in sorted(self.crates, key=self.way, reverse=True):
             if name in self.done or name in self.lost or name in self.at_work:
                 continue
@@ -154,8 +136,16 @@ class Run:
                 self.lost[name] = f"not run, since {refused} was refused"
                 self.say(name, self.lost[name])
             elif all(it in self.done for it in below):
-                return name
-        return None
+                found.append(name)
+        return found
+
+    def begin(self, name, beside):
+        """Begins a crate, beside so many that can begin too or are at work. More processes check it sooner, but each reads the
+        libraries below once more, so that it gets its share of the processors, and one more where its way is the longest."""
+        longer = sum(self.way(it) > self.way(name) for it in self.at_work)
+        jobs = min(max(self.processes // (beside + 1), 1) + (longer == 0), self.processes)
+        self.at_work[name] = time.monotonic()
+        threading.Thread(target=self.one, args=(name, jobs, min(STEP * longer, MOST))).start()
 
     def all(self):
         """Runs all that does not stand, and returns whether each is proved."""
@@ -165,20 +155,16 @@ class Run:
                 self.say(name, "proved earlier")
         with self.turn:
             while len(self.done) + len(self.lost) < len(self.crates):
-                name = self.next() if len(self.at_work) < self.processes else None
-                if name is None:
-                    if self.at_work:
-                        self.turn.wait()
-                    continue
-                longer = sum(self.way(it) > self.way(name) for it in self.at_work)
-                self.at_work[name] = time.monotonic()
-                threading.Thread(target=self.one, args=(name, longer)).start()
+                ready = self.ready()
+                if ready and len(self.at_work) < self.processes:
+                    self.begin(ready[0], len(ready) - 1 + len(self.at_work))
+                elif self.at_work:
+                    self.turn.wait()
         return not self.lost
 
-    def one(self, name, longer):
-        """Runs a crate's process beside so many with a longer way, and tells how far it is by its lines."""
-        jobs = max(self.processes >> longer, 1)
-        words = ["nice", "-n", str(min(STEP * longer, MOST)), sys.executable, os.path.abspath(__file__), "--one", str(jobs), name]
+    def one(self, name, jobs, niceness):
+        """Runs a crate's process, and tells how far it is by its lines."""
+        words = ["nice", "-n", str(niceness), sys.executable, os.path.abspath(__file__), "--one", str(jobs), name]
         words += [*["--check"] * self.given.check, *(["--cpu", self.given.cpu] if self.given.cpu else [])]
         log, told = f"{self.crates[name].folder}/out/prove.log", time.monotonic()
         os.makedirs(os.path.dirname(log), exist_ok=True)
@@ -187,10 +173,10 @@ class Run:
             ran = subprocess.Popen(words, **how)
             for line in ran.stdout:
                 file.write(line)
-                far = re.match(r"(?:so far:|checked \S+) (\d+ of \d+)", line)
+                far = re.match(r"so far: (\d+ of \d+ functions checked)", line)
                 if far and time.monotonic() - told > PAUSE:
                     told = time.monotonic()
-                    self.say(name, f"{far[1]} functions checked")
+                    self.say(name, far[1])
         with self.turn:
             taken = time.monotonic() - self.at_work.pop(name)
             if ran.wait():
