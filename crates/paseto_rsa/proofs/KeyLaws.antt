@@ -5,7 +5,7 @@ use Rattle.paseto_rsa.specs.Der.{IsSequence, behind_of, contents_of, der_length,
 use Rattle.sha2.specs.Sha512.{sha384}
 use Rattle.paseto_rsa.specs.Keys.{IsPrivateKey, IsPublicKey, PrivateNumbers, first_two, key_front, rsa_public}
 use Rattle.paseto_rsa.specs.Rsa.{IsPssSignature, pss_sign}
-use Rattle.paseto_rsa.specs.RsaPss.{IsSigned, RsaPssVerifies}
+use Rattle.paseto_rsa.specs.RsaPss.{HasNoSignature, IsSigned, RsaPssVerifies}
 use Rattle.paseto_rsa.proofs.DerLaws.{behind-is, contents-is, element-exact, element-unique, element-whole, integers-cons, integers-none, integers-parts, sequence-unique}
 
 -- the octets before a key
@@ -151,3 +151,13 @@ pub signed-is : (k : PrivateNumbers) (private message salt made hash bytes resul
 signed-is k private message salt made hash bytes result read digest drawn signed s =
     s.made ∙ ap (λ j. pss_sign j (sha384 message) salt) (numbers-unique s.numbers k private s.read read)
     ∙ ap (λ h. pss_sign k h salt) (sym digest) ∙ ap (pss_sign k hash) (sym drawn) ∙ sym signed
+
+-- where what the numbers of a private key make is not valid, the key has no signature
+pub no-signature : (k : PrivateNumbers) (private message salt hash bytes result : List ℕ) → IsPrivateKey k private
+    → hash ≡ sha384 message → bytes ≡ salt → result ≡ pss_sign k hash bytes → (¬ IsPssSignature k.n k.e hash result)
+    → HasNoSignature private message salt
+unfolding HasNoSignature
+no-signature k private message salt hash bytes result read digest drawn signed none made s v =
+    let e = signed-is k private message salt made hash bytes result read digest drawn signed s in
+    let valid = valid-by k.n k.e (rsa_public private) message made (public-of k private read) v in
+    none (subst (λ (h : List ℕ). IsPssSignature k.n k.e h result) (sym digest) (subst (λ (l : List ℕ). IsPssSignature k.n k.e (sha384 message) l) e valid))

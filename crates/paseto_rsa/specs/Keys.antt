@@ -6,14 +6,12 @@ use Rattle.paseto_rsa.specs.Der.{IsSequence, behind_of, contents_of, element}
 abbrev pub IsPublicKey : ℕ → ℕ → List ℕ → Type 0
 IsPublicKey n e key = IsSequence (n ∷ e ∷ []) key
 
--- n has 2048 bits and is odd; e is odd, 3 or more, and below 2 ^ 33
+-- n has 2048 bits and is odd; e is 65537, as version 1 asks (PASETO specification, "Version 1")
 pub record IsInRange (n e : ℕ) : Type 0 where
   pub full : 2 ^ 2047 ≤ n
   pub below : n < 2 ^ 2048
   pub odd : n % 2 ≡ 1
-  pub exponent_odd : e % 2 ≡ 1
-  pub exponent_some : 3 ≤ e
-  pub exponent_below : e < 2 ^ 33
+  pub exponent : e ≡ 65537
 
 -- the modulus, both exponents, both factors of the modulus, their exponents and their coefficient (A.1.2)
 pub record PrivateNumbers : Type 0 where

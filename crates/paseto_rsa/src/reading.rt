@@ -1,6 +1,6 @@
 //! Keys in their encodings (RFC 8017, appendix A.1).
 
-ghost use Rattle.std.specs.Prelude.{◌≡◌, ◌↔◌, ℕ, ◌%◌, ◌^◌, ◌<◌, ◌≤◌, IsTrue, MatchOption};
+ghost use Rattle.std.specs.Prelude.{◌≡◌, ℕ, ◌^◌, ◌<◌, MatchOption};
 ghost use Rattle.paseto_montgomery.specs.Words.{value};
 ghost use Rattle.paseto_rsa.specs.Keys.{IsInRange, IsPublicKey};
 
@@ -39,12 +39,8 @@ fn read_public(key: &[u8]) -> Option<PublicNumbers>
     })
 }
 
-// Whether a public exponent is odd, 3 or more and below 2^33.
-fn is_exponent(e: u64) -> bool
-    ensures { IsTrue result ↔ ((e % 2 ≡ 1) × (3 ≤ e) × (e < 2 ^ 33)) }
-{
-    e % 2 == 1 && e >= 3 && e < 1 << 33
-}
+// The public exponent of the keys of version 1.
+const PUBLIC_EXPONENT: u64 = 65537;
 
 /// The public key of two numbers, if they are in range.
 pub(crate) fn public_key(n: &[u64; 32], exponent: u64) -> Option<PublicKey>
@@ -52,7 +48,7 @@ pub(crate) fn public_key(n: &[u64; 32], exponent: u64) -> Option<PublicKey>
         (λ k. IsInRange (value n.now 32) exponent × (k.modulus.words ≡ n.now)
         × (k.exponent ≡ exponent)) }
 {
-    if !is_exponent(exponent) {
+    if exponent != PUBLIC_EXPONENT {
         return None;
     }
     let modulus = Modulus::new(n)?;
@@ -64,8 +60,8 @@ impl PublicKey {
     /// taken.
     ///
     /// `None` comes for what is no such encoding: lengths and INTEGERs are in the fewest octets, and nothing stands
-    /// behind the end; and for a modulus that has not 2048 bits or is even, and for a public exponent that is even,
-    /// below 3, or 2^33 or more.
+    /// behind the end; for a modulus that has not 2048 bits or is even; and for another public exponent than 65537, which
+    /// version 1 asks for.
     pub fn from_der(key: &[u8]) -> Option<PublicKey>
         ensures { MatchOption result
             ((n e : ℕ) → IsInRange n e → IsPublicKey n e key.now → ⊥)

@@ -1,9 +1,9 @@
 //! Signing and verifying of messages (RFC 8017, section 8.1).
 
-ghost use Rattle.std.specs.Prelude.{◌≡◌, ◌⊎◌, ℕ, List, IfErr, IfOk, OnOk};
+ghost use Rattle.std.specs.Prelude.{◌≡◌, ◌⊎◌, ℕ, List, length, IfErr, IfOk, OnOk};
 ghost use Rattle.rusty_paseto_parts.specs.declared.error.PasetoError.TheVariants.{Cipher, KeyRejected, RsaCipher};
 ghost use Rattle.paseto_rsa.specs.Keys.{IsPrivate, rsa_public};
-ghost use Rattle.paseto_rsa.specs.RsaPss.{IsDeclined, IsRefused, IsSigned, RsaPssVerifies};
+ghost use Rattle.paseto_rsa.specs.RsaPss.{HasNoSignature, IsDeclined, IsRefused, IsSigned, RsaPssVerifies};
 
 use crate::private_key::PrivateKey;
 use crate::public_key::PublicKey;
@@ -74,14 +74,15 @@ impl<R: TryRng> SignatureScheme<256> for RsaPss<R> {
     ) -> Result<[u8; 256], PasetoError>
         ensures ok { IfOk result (λ signature.
             RsaPssVerifies (rsa_public private.now) message.now signature
-            × ((salt : List ℕ) × R.may_fill self.old.rng salt self.new.rng
+            × ((salt : List ℕ) × (length salt ≡ 48)
+            × R.may_fill self.old.rng salt self.new.rng
             × IsSigned private.now message.now salt signature)) }
         ensures err { IfErr result (λ error. IsDeclined private.now error
             × (IsPrivate private.now → ((error ≡ PasetoError.Cipher) × R.Error)
-            ⊎ ((error ≡ PasetoError.RsaCipher) × ((salt : List ℕ)
+            ⊎ ((error ≡ PasetoError.RsaCipher) × ((salt : List ℕ) × (length salt ≡ 48)
             × R.may_fill self.old.rng salt self.new.rng
-            × ((made : List ℕ) → IsSigned private.now message.now salt made
-            → ¬ RsaPssVerifies (rsa_public private.now) message.now made))))) }
+            × HasNoSignature private.now message.now salt)))
+            × ((¬ IsPrivate private.now) → self.new ≡ self.old)) }
     {
         let Some(key) = PrivateKey::from_der(private) else {
             return Err(PasetoError::KeyRejected);
@@ -103,7 +104,11 @@ impl<R: TryRng> SignatureScheme<256> for RsaPss<R> {
         public: &[u8],
         message: &[u8],
         signature: &[u8; 256],
-    ) -> Result<(), PasetoError> {
+    ) -> Result<(), PasetoError>
+        ensures ok { OnOk result (RsaPssVerifies public.now message.now signature.now) }
+        ensures err { IfErr result (λ error. (error ≡ PasetoError.InvalidSignature)
+            × (¬ RsaPssVerifies public.now message.now signature.now)) }
+    {
         match PublicKey::from_der(public) {
             Some(key) => {
                 if key.verify(message, signature) {

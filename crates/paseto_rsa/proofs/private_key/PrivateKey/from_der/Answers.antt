@@ -23,7 +23,7 @@ returns-in_err-integers c =
     let k = h.numbers in
     let r = h.in_range in
     let e = inner-unique h.read.inner c.in_ok-inner_key.field-0.now c.args.key.now h.read.written c.in_ok-inner_key.ensures in
-    c.in_err-integers.ensures 0 k.n k.e k.d k.p k.q k.dp k.dq k.qinv (omega arith) r.public.below (omega (arith, r.public.exponent_below))
+    c.in_err-integers.ensures 0 k.n k.e k.d k.p k.q k.dp k.dq k.qinv (omega arith) r.public.below (omega (arith, r.public.exponent))
     r.d_below r.p_half.below r.q_half.below r.dp_below r.dq_below r.qinv_below
     (subst (IsSequence (integers_of k)) e h.read.integers))
 

@@ -9,7 +9,7 @@ use Rattle.paseto_rsa.proofs.public_key.PublicKey.from_der.Goals as goal
 pub returns-in_err-numbers : goal.returns-in_err-numbers
 returns-in_err-numbers c =
     rw c.from_residual.ensures
-    (λ n e r k. c.in_err-numbers.ensures n e r.below (omega (arith, r.exponent_below)) k)
+    (λ n e r k. c.in_err-numbers.ensures n e r.below (omega (arith, r.exponent)) k)
 
 match-of : {A : Type 0} (o : Option A) (P P' : Type 0) (Q Q' : A → Type 0) → (P → P') → ((k : A) → Q k → Q' k)
     → MatchOption o P Q → MatchOption o P' Q'

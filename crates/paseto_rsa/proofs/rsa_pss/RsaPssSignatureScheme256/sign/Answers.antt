@@ -1,10 +1,11 @@
-use Rattle.std.proofs.Common.{ℕ, List, inr, refl, ◌∙◌, ap, subst}
+use Rattle.std.proofs.Common.{◌≡◌, ℕ, List, length, inr, refl, ◌∙◌, ap}
 use Rattle.std.proofs.lemmas.Bool.{false≢true}
 use Rattle.sha2.specs.Sha512.{sha384}
-use Rattle.paseto_rsa.specs.Keys.{IsPrivate, rsa_public}
+use Rattle.paseto_rsa.specs.Keys.{IsPrivate}
 use Rattle.paseto_rsa.specs.PrivateKey.{private_numbers}
-use Rattle.paseto_rsa.specs.Rsa.{IsPssSignature, pss_sign}
-use Rattle.paseto_rsa.proofs.KeyLaws.{public-of, signed-is, valid-by}
+use Rattle.paseto_rsa.specs.Rsa.{pss_sign}
+use Rattle.paseto_rsa.specs.RsaPss.{HasNoSignature}
+use Rattle.paseto_rsa.proofs.KeyLaws.{no-signature, public-of}
 use Rattle.paseto_rsa.proofs.rsa_pss.RsaPssSignatureScheme256.sign.Goals as goal
 
 pub returns-then-not-is_valid-clause-err : goal.returns-then-not-is_valid-clause-err
@@ -14,20 +15,15 @@ returns-then-not-is_valid-clause-err g c =
     let found = c.in-Some.ensures in
     let k = private_numbers c.in-Some.key found.0 in
     let salt = c.in_ok-salt.salt in
-    let key : IsPrivate private = record { numbers = k; in_range = found.1.0; read = found.1.1 } in (
-      inr (key, inr refl),
-      λ _. inr (
-        refl,
-        (
-          salt,
-          c.in_ok-salt.ensures.given,
-          λ made s v.
-              let e = signed-is k private message salt made c.digest-hash.result c.as_bytes.result.now c.signature-made.result found.1.1 c.digest-hash.ensures c.as_bytes.ensures.bytes (c.signature-made.ensures found.0) s in
-              let valid = valid-by k.n k.e (rsa_public private) message made (public-of k private found.1.1) v in
-              let here = subst (λ (l : List ℕ). IsPssSignature k.n k.e (sha384 message) l) e valid in
-              false≢true (c.if-not-is_valid.ensures.1 (rw c.digest-hash.ensures here)),
-        ),
-      ),
+    let key : IsPrivate private = record { numbers = k; in_range = found.1.0; read = found.1.1 } in
+    let long : length salt ≡ 48 = c.as_bytes.ensures.len in
+    let none : HasNoSignature private message salt =
+    no-signature k private message salt c.digest-hash.result c.as_bytes.result.now c.signature-made.result found.1.1
+    c.digest-hash.ensures c.as_bytes.ensures.bytes (c.signature-made.ensures found.0)
+    (λ v. false≢true (c.if-not-is_valid.ensures.1 v)) in (
+      inr (key, inr (refl, (message, salt, long, none))),
+      λ _. inr (refl, (salt, long, c.in_ok-salt.ensures.given, none)),
+      λ no. absurd (no key),
     )
 
 pub returns-clause-ok : goal.returns-clause-ok
@@ -48,6 +44,7 @@ returns-clause-ok g c =
       },
       (
         salt,
+        c.as_bytes.ensures.len,
         c.in_ok-salt.ensures.given,
         record { numbers = k; in_range = found.1.0; read = found.1.1; made = made },
       ),
