@@ -3,8 +3,9 @@
 
 No contract says that memory was refused where `Memory` is answered: a refusal has no relation. So each place
 that writes down such an error, and does not hand on one that it was given, stands in tests/origins.txt, with
-its line; this script fails for a place more and for a place less. It sees a value by its name, `AllocError` or
-`InputOrOutput`, in the sources that are no tests.
+its line; this script fails for a place more and for a place less. It sees a value by its name, `AllocError`,
+`InputOrOutput` or, in the library for C, `Refusal::Memory`, and a request that is made in order to fail by its size
+(`with_capacity(alloc, usize::MAX)`), in the sources that are no tests.
 """
 
 import pathlib
@@ -27,9 +28,12 @@ TESTING = {
 NO_VALUE = re.compile(
     r"^\s*(pub )?use .*|[,<] ?AllocError>|: &?AllocError\b|type \w+ = AllocError;"
     r"|^\s*Memory\(AllocError\),|AllocError, \w+\};|\{AllocError\b"
-    r"|^\s*InputOrOutput,|InputOrOutput \||\| \w+::InputOrOutput|InputOrOutput =>"
+    r"|^\s*InputOrOutput,|InputOrOutput \||\| \w+::InputOrOutput|InputOrOutput =>|Refusal::Memory =>|Memory\(_\) => Refusal::Memory,"
 )
-VALUE = re.compile(r"\b(AllocError|InputOrOutput)\b")
+VALUE = re.compile(
+    r"\b(AllocError|InputOrOutput|Refusal::Memory)\b"
+    r"|(capacity|reserve\w*|resize|allocate\w*)\(.*(\bMAX\b|\b\d[\d_]{6,})"
+)
 
 
 def places():
