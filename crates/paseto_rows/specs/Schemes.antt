@@ -1,6 +1,7 @@
 -- When a row of the box of version 2 or of Ed25519 agrees with the definitions.
-use Rattle.std.specs.Prelude.{◌≡◌, ◌↔◌, ℕ, Bool, IsTrue, List, ◌++◌, Ok, Some}
+use Rattle.std.specs.Prelude.{◌≡◌, ◌≢◌, ◌↔◌, ℕ, Bool, IsTrue, List, ◌++◌, Ok, Some}
 use Rattle.hex.specs.Hex.{decode_of}
+use Rattle.rusty_paseto_primitives.specs.Bytes.{IsBytes}
 use Rattle.paseto_ed25519.specs.Ed25519.{Ed25519Verifies, ed25519_public, ed25519_sign}
 use Rattle.paseto_xchacha20poly1305.specs.Sealing.{box_sealing}
 use Rattle.paseto_rows.specs.Fields.{Says}
@@ -39,3 +40,15 @@ pub record IsBoxRow (key nonce associated message boxed : List ℕ) : Type 0 whe
   pub says_message : Says message message_bytes
   pub says_boxed : Says boxed boxed_bytes
   pub is_sealing : box_sealing key_bytes nonce_bytes associated_bytes message_bytes ≡ Some boxed_bytes
+
+-- the box is no message's sealing
+pub record IsRefusedBoxRow (key nonce associated boxed : List ℕ) : Type 0 where
+  pub key_bytes : List ℕ
+  pub nonce_bytes : List ℕ
+  pub associated_bytes : List ℕ
+  pub boxed_bytes : List ℕ
+  pub says_key : decode_of key ≡ Ok key_bytes
+  pub says_nonce : decode_of nonce ≡ Ok nonce_bytes
+  pub says_associated : Says associated associated_bytes
+  pub says_boxed : Says boxed boxed_bytes
+  pub is_none : (message : List ℕ) → IsBytes message → box_sealing key_bytes nonce_bytes associated_bytes message ≢ Some boxed_bytes

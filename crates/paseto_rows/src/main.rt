@@ -27,9 +27,10 @@ fn main(rt: HostRuntime) -> Result<()> {
     let schemes = check_file(&rt, folder.as_str(), Rows::Schemes)?;
     let p384 = check_file(&rt, folder.as_str(), Rows::P384)?;
     let rsa = check_file(&rt, folder.as_str(), Rows::Rsa)?;
+    let wycheproof = check_file(&rt, folder.as_str(), Rows::Wycheproof)?;
     let published = check_file(&rt, folder.as_str(), Rows::Published)?;
     ensure!(
-        primitives && local_tokens && schemes && p384 && rsa && published,
+        primitives && local_tokens && schemes && p384 && rsa && wycheproof && published,
         "not every row agrees"
     );
     Ok(())

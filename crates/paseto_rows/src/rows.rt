@@ -19,6 +19,8 @@ pub enum Rows {
     P384,
     /// Keys and signatures of version 1.
     Rsa,
+    /// Cases of Wycheproof for the box and the schemes.
+    Wycheproof,
     /// Tokens that the PASETO specification publishes.
     Published,
 }
@@ -32,6 +34,7 @@ impl Rows {
             Rows::Schemes => "schemes.txt",
             Rows::P384 => "p384.txt",
             Rows::Rsa => "rsa.txt",
+            Rows::Wycheproof => "wycheproof.txt",
             Rows::Published => "published.txt",
         }
     }
@@ -40,6 +43,7 @@ impl Rows {
     pub fn agreement(self) -> &'static str {
         match self {
             Rows::Primitives | Rows::Schemes | Rows::P384 | Rows::Rsa => "rows",
+            Rows::Wycheproof => "cases of Wycheproof",
             Rows::LocalTokens => "tokens sealed and opened",
             Rows::Published => "published tokens",
         }
@@ -69,7 +73,17 @@ impl Rows {
             Rows::Schemes => schemes::check(alloc, name, fields),
             Rows::P384 => p384::check(alloc, name, fields),
             Rows::Rsa => rsa::check(alloc, name, fields),
+            Rows::Wycheproof => check_case(alloc, name, fields),
             Rows::Published => published::check(alloc, name, fields),
         }
+    }
+}
+
+/// Checks a case of Wycheproof, which is a row of the box or of a scheme.
+fn check_case(alloc: Global, name: &str, fields: &[&str]) -> Result<(), RowError> {
+    match name {
+        "p384_verified" | "p384_refused" => p384::check(alloc, name, fields),
+        "rsa_verified" | "rsa_refused" => rsa::check(alloc, name, fields),
+        _ => schemes::check(alloc, name, fields),
     }
 }

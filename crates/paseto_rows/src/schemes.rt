@@ -1,7 +1,7 @@
 //! Rows of the box of version 2 and of Ed25519: `NAME FIELD..`, in hexadecimal.
 
 ghost use Rattle.std.specs.Prelude.{◌≡◌, ◌↔◌, ◌++◌, IfOk, IsTrue};
-ghost use Rattle.paseto_rows.specs.Schemes.{IsBoxRow, IsSigningRow, IsVerdictRow};
+ghost use Rattle.paseto_rows.specs.Schemes.{IsBoxRow, IsRefusedBoxRow, IsSigningRow, IsVerdictRow};
 
 use crate::error::RowError;
 use crate::fields::{array_of, bytes_of, compare};
@@ -17,6 +17,7 @@ pub fn check(alloc: Global, name: &str, fields: &[&str]) -> Result<(), RowError>
         "ed25519_valid" => check_verdict(alloc, fields, true),
         "ed25519_refused" => check_verdict(alloc, fields, false),
         "xchacha20poly1305" => check_xchacha20poly1305(alloc, fields),
+        "xchacha20poly1305_refused" => check_refused(alloc, fields),
         _ => Err(RowError::Form),
     }
 }
@@ -109,4 +110,30 @@ fn check_box(
         return Err(RowError::Opened);
     };
     compare(&opened, &message)
+}
+
+/// `KEY NONCE DATA SEALING`
+fn check_refused(alloc: Global, fields: &[&str]) -> Result<(), RowError> {
+    let [key, nonce, data, boxed] = *fields else {
+        return Err(RowError::Form);
+    };
+    check_unopened(alloc, key, nonce, data, boxed)
+}
+
+/// Checks that the box does not open.
+fn check_unopened(
+    alloc: Global,
+    key: &str,
+    nonce: &str,
+    data: &str,
+    boxed: &str,
+) -> Result<(), RowError>
+    ensures { IfOk result (λ _. IsRefusedBoxRow key.now nonce.now «data».now boxed.now) }
+{
+    let (key, nonce) = (array_of::<32>(key)?, array_of::<24>(nonce)?);
+    let (data, boxed) = (bytes_of(alloc, data)?, bytes_of(alloc, boxed)?);
+    match XChaCha20Poly1305.open(alloc, &key, &nonce, &data, &boxed)? {
+        Some(_) => Err(RowError::Differs),
+        None => Ok(()),
+    }
 }
