@@ -55,6 +55,7 @@ module _
 
     pub signed-verifies : (private message : List ℕ) → IsSigned private message
         → Ed25519Verifies (partner private) message (ed25519_sign private message)
+    unfolding ed25519_sign
     signed-verifies private message h =
         let seed : List ℕ = take 32 private in
         valid (nonce seed message) (secret_scalar seed) (partner private) message h.0 (reduced-low _) h.1 (secret-unit seed)
@@ -63,6 +64,7 @@ module _
 pub signed-is : (private message seed public scalar prefix signature : List ℕ) → seed ≡ take 32 private → public ≡ drop 32 private
     → scalar ≡ clamped (take 32 (sha512 seed)) → prefix ≡ drop 32 (sha512 seed)
     → signature ≡ signed (nonce_of prefix message) (number32 scalar) public message → signature ≡ ed25519_sign private message
+unfolding ed25519_sign
 signed-is private message seed public scalar prefix signature front back scalar_is prefix_is made =
     made ∙ rw (scalar_is, prefix_is, front, back) refl
 

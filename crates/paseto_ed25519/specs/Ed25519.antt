@@ -42,7 +42,7 @@ signed r s public message =
     commitment ++ bytes32 ((r + challenge commitment public message * s) % order)
 
 -- the signature of a message under a private key, which is a seed and its public key (5.1.6)
-abbrev pub ed25519_sign : List ℕ → List ℕ → List ℕ
+unfoldable pub ed25519_sign : List ℕ → List ℕ → List ℕ
 ed25519_sign private message =
     let seed = take 32 private in
     signed (nonce seed message) (secret_scalar seed) (drop 32 private) message
