@@ -1,6 +1,6 @@
 //! The multiple of the base point, by a table of multiples. No branch and no address depends on the scalar.
 
-ghost use Rattle.std.specs.Prelude.{◌≡◌, ◌≢◌, ℕ, ◌+◌, ◌*◌, ◌/◌, ◌%◌, ◌^◌, ◌<◌};
+ghost use Rattle.std.specs.Prelude.{◌≡◌, ◌≢◌, ℕ, ◌+◌, ◌*◌, ◌/◌, ◌%◌, ◌^◌, ◌<◌, replicate};
 ghost use Rattle.paseto_edwards.specs.Group.{neutral};
 ghost use Rattle.paseto_edwards.specs.Edwards25519.{base};
 ghost use Rattle.paseto_edwards25519.specs.Curve.{multiple};
@@ -19,7 +19,6 @@ use super::{
 use crate::bytes::halves;
 use crate::field::canonical::from_halves;
 use crate::field::constants::one;
-use crate::scalar::pick;
 
 // How many digits of 4 bits stand between those of two rows that are added in one turn.
 const TURNS: usize = 4;
@@ -36,20 +35,30 @@ fn equals(a: u128, b: u128) -> u128
     (16 + a - b) / 16 + (16 + b - a) / 16 - 1
 }
 
-// The first entry where `choice` is 1, and the second where it is 0, with no branch.
+// `chosen`, with the bits of `word` where `choice` is 1, with no branch.
 #[inline(always)]
-fn choose_entry(choice: u128, a: &[u128; 6], b: &[u128; 6]) -> [u128; 6]
+fn keep(choice: u128, word: u128, chosen: u128) -> u128
     requires { choice < 2 }
-    ensures one { choice ≡ 1 → result ≡ a.now }
-    ensures zero { choice ≡ 0 → result ≡ b.now }
+    ensures one { choice ≡ 1 → chosen ≡ 0 → result ≡ word }
+    ensures zero { choice ≡ 0 → result ≡ chosen }
+{
+    chosen | (word & 0u128.wrapping_sub(choice))
+}
+
+// `chosen`, with the entry where `choice` is 1 and none was chosen before, with no branch.
+#[inline(always)]
+fn keep_entry(choice: u128, entry: &[u128; 6], chosen: &[u128; 6]) -> [u128; 6]
+    requires { choice < 2 }
+    ensures one { choice ≡ 1 → chosen.now ≡ replicate 6 0 → result ≡ entry.now }
+    ensures zero { choice ≡ 0 → result ≡ chosen.now }
 {
     [
-        pick(choice, a[0], b[0]),
-        pick(choice, a[1], b[1]),
-        pick(choice, a[2], b[2]),
-        pick(choice, a[3], b[3]),
-        pick(choice, a[4], b[4]),
-        pick(choice, a[5], b[5]),
+        keep(choice, entry[0], chosen[0]),
+        keep(choice, entry[1], chosen[1]),
+        keep(choice, entry[2], chosen[2]),
+        keep(choice, entry[3], chosen[3]),
+        keep(choice, entry[4], chosen[4]),
+        keep(choice, entry[5], chosen[5]),
     ]
 }
 
@@ -59,9 +68,9 @@ fn select(row: usize, at: u128) -> [u128; 6]
     requires at { at < 16 }
     ensures { IsEntry (at * 2 ^ (16 * row)) result }
 {
-    let mut chosen = entry(row, 0);
-    'entries: for i in 1..ENTRIES {
-        chosen = choose_entry(equals(at, i as u128), &entry(row, i), &chosen);
+    let mut chosen = [0u128; 6];
+    'entries: for i in 0..ENTRIES {
+        chosen = keep_entry(equals(at, i as u128), &entry(row, i), &chosen);
     }
     chosen
 }
