@@ -1,8 +1,9 @@
--- The two ways to add three points of a twisted Edwards curve agree. Written by tools/associativity.py.
+-- The two ways to add three points of a twisted Edwards curve agree. Written by tools/identities.py.
 use Rattle.std.proofs.Common.{◌≡◌, ℕ, ◌+◌, ◌*◌, ◌%◌, List, [], ◌∷◌, refl}
 use Rattle.paseto_polynomials.specs.Identity.{Equation}
 use Rattle.paseto_polynomials.specs.Polynomial.{Expression, constant, product, sum, variable}
-use Rattle.paseto_polynomials.proofs.IdentityLaws.{by-equations, computing, listed, term, total}
+use Rattle.paseto_polynomials.specs.Program.{listed}
+use Rattle.paseto_polynomials.proofs.IdentityLaws.{by-equations, computing, term, total}
 use Rattle.paseto_edwards.specs.Group.{IsOn}
 
 abbrev x′ : Expression
@@ -33,19 +34,24 @@ abbrev r′ : Expression
 r′ = variable 8
 
 equation_on_x : Expression → Expression → Equation
-equation_on_x added taken = record { added = added; taken = taken; left = (product y′ y′); right = (sum (sum (constant 1) (product x′ x′)) (product d′ (product (product x′ x′) (product y′ y′)))) }
+equation_on_x added taken =
+    record { added = added; taken = taken; left = (product y′ y′); right = (sum (sum (constant 1) (product x′ x′)) (product d′ (product (product x′ x′) (product y′ y′)))) }
 
 equation_on_v : Expression → Expression → Equation
-equation_on_v added taken = record { added = added; taken = taken; left = (product w′ w′); right = (sum (sum (constant 1) (product v′ v′)) (product d′ (product (product v′ v′) (product w′ w′)))) }
+equation_on_v added taken =
+    record { added = added; taken = taken; left = (product w′ w′); right = (sum (sum (constant 1) (product v′ v′)) (product d′ (product (product v′ v′) (product w′ w′)))) }
 
 equation_on_s : Expression → Expression → Equation
-equation_on_s added taken = record { added = added; taken = taken; left = (product t′ t′); right = (sum (sum (constant 1) (product s′ s′)) (product d′ (product (product s′ s′) (product t′ t′)))) }
+equation_on_s added taken =
+    record { added = added; taken = taken; left = (product t′ t′); right = (sum (sum (constant 1) (product s′ s′)) (product d′ (product (product s′ s′) (product t′ t′)))) }
 
 equation_at_q : Expression → Expression → Equation
-equation_at_q added taken = record { added = added; taken = taken; left = (sum q′ (product d′ (product (product x′ v′) (product y′ w′)))); right = (constant 1) }
+equation_at_q added taken =
+    record { added = added; taken = taken; left = (sum q′ (product d′ (product (product x′ v′) (product y′ w′)))); right = (constant 1) }
 
 equation_at_r : Expression → Expression → Equation
-equation_at_r added taken = record { added = added; taken = taken; left = (sum r′ (product d′ (product (product v′ s′) (product w′ t′)))); right = (constant 1) }
+equation_at_r added taken =
+    record { added = added; taken = taken; left = (sum r′ (product d′ (product (product v′ s′) (product w′ t′)))); right = (constant 1) }
 
 first_on_x_added : Expression
 first_on_x_added =
@@ -191,11 +197,10 @@ first_equations =
     ∷ equation_at_r first_at_r_added first_at_r_taken
     ∷ []
 
-pub first : (p x y v w s t d q r : ℕ) → IsOn p d x y → IsOn p d v w → IsOn p d s t
-    → (q + d * (x * v * (y * w))) % p ≡ 1 % p → (r + d * (v * s * (w * t))) % p ≡ 1 % p
+pub first : (p x y v w s t d q r : ℕ) → IsOn p d x y → IsOn p d v w → IsOn p d s t → (q + d * (x * v * (y * w))) % p ≡ 1 % p → (r + d * (v * s * (w * t))) % p ≡ 1 % p
     → (((x * w + y * v) * q * t + (y * w + x * v) * (1 + d * (x * v * (y * w))) * s) * ((1 + d * (v * s * (w * t))) * r + d * (x * (v * t + w * s) * (y * (w * t + v * s))))) % p
     ≡ ((x * ((w * t + v * s) * (1 + d * (v * s * (w * t)))) + y * ((v * t + w * s) * r)) * ((1 + d * (x * v * (y * w))) * q + d * ((x * w + y * v) * s * ((y * w + x * v) * t)))) % p
-unfolding computing first_left first_right first_equations first_on_x_added first_on_x_taken first_on_v_added first_on_v_taken first_on_s_added first_on_s_taken first_at_q_added first_at_q_taken first_at_r_added first_at_r_taken equation_on_x equation_on_v equation_on_s equation_at_q equation_at_r
+unfolding computing first_left first_right first_equations equation_on_x first_on_x_added first_on_x_taken equation_on_v first_on_v_added first_on_v_taken equation_on_s first_on_s_added first_on_s_taken equation_at_q first_at_q_added first_at_q_taken equation_at_r first_at_r_added first_at_r_taken
 first p x y v w s t d q r on_x on_v on_s at_q at_r =
     by-equations 9 p (listed (x ∷ y ∷ v ∷ w ∷ s ∷ t ∷ d ∷ q ∷ r ∷ [])) first_equations (on_x, (on_v, (on_s, (at_q, (at_r, tt))))) first_left first_right refl
 
@@ -343,10 +348,9 @@ second_equations =
     ∷ equation_at_r second_at_r_added second_at_r_taken
     ∷ []
 
-pub second : (p x y v w s t d q r : ℕ) → IsOn p d x y → IsOn p d v w → IsOn p d s t
-    → (q + d * (x * v * (y * w))) % p ≡ 1 % p → (r + d * (v * s * (w * t))) % p ≡ 1 % p
+pub second : (p x y v w s t d q r : ℕ) → IsOn p d x y → IsOn p d v w → IsOn p d s t → (q + d * (x * v * (y * w))) % p ≡ 1 % p → (r + d * (v * s * (w * t))) % p ≡ 1 % p
     → (((y * w + x * v) * (1 + d * (x * v * (y * w))) * t + (x * w + y * v) * q * s) * ((1 + d * (v * s * (w * t))) * r) + (y * ((w * t + v * s) * (1 + d * (v * s * (w * t)))) + x * ((v * t + w * s) * r)) * (d * ((x * w + y * v) * s * ((y * w + x * v) * t)))) % p
     ≡ ((y * ((w * t + v * s) * (1 + d * (v * s * (w * t)))) + x * ((v * t + w * s) * r)) * ((1 + d * (x * v * (y * w))) * q) + ((y * w + x * v) * (1 + d * (x * v * (y * w))) * t + (x * w + y * v) * q * s) * (d * (x * (v * t + w * s) * (y * (w * t + v * s))))) % p
-unfolding computing second_left second_right second_equations second_on_x_added second_on_x_taken second_on_v_added second_on_v_taken second_on_s_added second_on_s_taken second_at_q_added second_at_q_taken second_at_r_added second_at_r_taken equation_on_x equation_on_v equation_on_s equation_at_q equation_at_r
+unfolding computing second_left second_right second_equations equation_on_x second_on_x_added second_on_x_taken equation_on_v second_on_v_added second_on_v_taken equation_on_s second_on_s_added second_on_s_taken equation_at_q second_at_q_added second_at_q_taken equation_at_r second_at_r_added second_at_r_taken
 second p x y v w s t d q r on_x on_v on_s at_q at_r =
     by-equations 9 p (listed (x ∷ y ∷ v ∷ w ∷ s ∷ t ∷ d ∷ q ∷ r ∷ [])) second_equations (on_x, (on_v, (on_s, (at_q, (at_r, tt))))) second_left second_right refl

@@ -1,38 +1,10 @@
--- The sum of two points of a twisted Edwards curve lies on it.
+-- The sum of two points of a twisted Edwards curve lies on it, as its coordinates are quotients.
 use Rattle.std.proofs.Common.{◌≢◌, ◌≡◌, ℕ, ◌+◌, ◌*◌, ◌%◌, refl, sym, ◌∙◌, ap, arith}
 use Rattle.paseto_edwards.specs.Group.{IsOn}
 use Rattle.paseto_primes.specs.Prime.{IsPrime}
 use Rattle.paseto_primes.proofs.CongruenceLaws.{cancel-plus, product-not_zero, same-plus, same-times}
 use Rattle.paseto_primes.proofs.DivisorLaws.{cancel}
-
--- that f is g modulo p, from two numbers that are equal modulo p, times what stands at each of them in f - g
-pub weighted : (p a b l r : ℕ) → l % p ≡ r % p → (b * l + a * r) % p ≡ (a * l + b * r) % p
-weighted p a b l r e =
-    let turned : b * r + a * l ≡ a * l + b * r = omega arith in
-    same-plus p (b * l) (b * r) (a * r) (a * l) (same-times p b b l r refl e) (same-times p a a r l refl (sym e)) ∙ ap (λ k. k % p) turned
-
-pub by_two : (p f g a b l r c e m n : ℕ) → l % p ≡ r % p → m % p ≡ n % p
-    → b * l + a * r + (e * m + c * n) + f ≡ a * l + b * r + (c * m + e * n) + g → f % p ≡ g % p
-by_two p f g a b l r c e m n same same' whole =
-    cancel-plus p (b * l + a * r + (e * m + c * n)) f g
-    (ap (λ k. k % p) whole
-    ∙ sym (same-plus p (b * l + a * r + (e * m + c * n)) (a * l + b * r + (c * m + e * n)) g g
-    (same-plus p (b * l + a * r) (a * l + b * r) (e * m + c * n) (c * m + e * n) (weighted p a b l r same) (weighted p c e m n same')) refl))
-
-pub sum-on : (p d x y v w : ℕ) → IsOn p d x y → IsOn p d v w
-    → ((1 + d * (x * v * (y * w))) * (1 + d * (x * v * (y * w))) * ((y * w + x * v) * (y * w + x * v))
-    + 2 * (d * (x * v * (y * w))) * ((1 + d * (x * v * (y * w))) * (1 + d * (x * v * (y * w))) + (x * w + y * v) * (x * w + y * v))) % p
-    ≡ ((1 + d * (x * v * (y * w)) * (d * (x * v * (y * w)))) * ((1 + d * (x * v * (y * w))) * (1 + d * (x * v * (y * w))) + (x * w + y * v) * (x * w + y * v))
-    + d * ((x * w + y * v) * (x * w + y * v) * ((y * w + x * v) * (y * w + x * v)))) % p
-sum-on p d x y v w on on' =
-    by_two p _ _
-    (v * v * v * v + w * w * w * w + 2 * v * v * w * w * w * w + d * v * v * w * w * w * w * x * x + d * v * v * v * v * w * w * y * y + d * d * v * v * v * v * w * w * w * w * y * y + d * d * d * v * v * v * v * w * w * w * w * x * x * y * y)
-    (4 * v * v * w * w + 2 * v * v * v * v * w * w + d * d * v * v * v * v * w * w * w * w + 2 * d * v * v * w * w + 2 * d * v * v * v * v * w * w * w * w + d * v * v * w * w * w * w * y * y + d * v * v * v * v * w * w * x * x + d * d * v * v * v * v * w * w * w * w * x * x)
-    (y * y) (1 + x * x + d * (x * x * (y * y)))
-    (1 + w * w + v * v * y * y + w * w * x * x + 2 * v * v * w * w + d * v * v * w * w + 2 * v * v * w * w * x * x + d * v * v * w * w * x * x * x * x + d * v * v * w * w * y * y * y * y + 2 * d * v * v * w * w * x * x)
-    (v * v + v * v * x * x + w * w * y * y + 2 * v * v * w * w * y * y + 2 * d * v * v * w * w * y * y)
-    (w * w) (1 + v * v + d * (v * v * (w * w)))
-    on on' (omega arith)
+use Rattle.paseto_edwards.proofs.Closure.{summed}
 
 -- (1 - e) ^ 2 + 2 * e is 1 + e ^ 2
 square-of_difference : (p e s : ℕ) → (s + e) % p ≡ 1 % p → (s * s + 2 * e) % p ≡ (1 + e * e) % p
@@ -89,4 +61,4 @@ pub closed : (p d x y v w a b s : ℕ) → IsPrime p → IsOn p d x y → IsOn p
 unfolding IsSum
 closed p d x y v w a b s prime on on' g_unit s_unit sum =
     closed-quotients p d (d * (x * v * (y * w))) (1 + d * (x * v * (y * w))) s (x * w + y * v) (y * w + x * v) a b prime g_unit s_unit
-    sum.0 sum.1 sum.2 (sum-on p d x y v w on on')
+    sum.0 sum.1 sum.2 (summed p x y v w d on on')

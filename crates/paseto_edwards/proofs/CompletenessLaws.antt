@@ -1,5 +1,5 @@
--- Why the sum of two points of a twisted Edwards curve -x ^ 2 + y ^ 2 = 1 + d * x ^ 2 * y ^ 2 has no zero denominator, where -1 is a
--- square and d is no quotient of squares (Bernstein and Lange, "Faster addition and doubling on elliptic curves", theorem 3.3).
+-- No sum of two points of a complete curve has a zero denominator (Bernstein and Lange, "Faster addition and doubling on
+-- elliptic curves", ASIACRYPT 2007, theorem 3.3).
 use Rattle.std.proofs.Common.{◌≡◌, ℕ, ◌+◌, ◌-◌, ◌*◌, ◌%◌, ◌<◌, ◌≢◌, refl, sym, ◌∙◌, ap, arith, mod-eq_of_lt, mod-lt, suc-ne-zero}
 use Rattle.std.proofs.Math.Nat.{mod-mod, mod_self, zero-mod}
 use Rattle.paseto_primes.specs.Prime.{IsPrime}
@@ -24,8 +24,8 @@ square-at p i d x y e root unit on =
     (same-times p (e * e) 1 (y * y) (y * y) unit refl ∙ ap (λ w. w % p) one ∙ on)
     ∙ ap (λ w. w % p) together)
 
--- what d is no quotient of squares says of two points whose product with d is its own inverse
-half : (p i d x y v w e : ℕ) → (i * i + 1) % p ≡ 0 → ((s t : ℕ) → (s * s) % p ≡ (d * (t * t)) % p → t % p ≡ 0)
+-- what is 0 of two points whose product with d is its own inverse, as d is no square
+half : (p i d x y v w e : ℕ) → (i * i + 1) % p ≡ 0 → IsNonresidue p d
     → (y * y) % p ≡ (1 + x * x + d * (x * x * (y * y))) % p → (w * w) % p ≡ (1 + v * v + d * (v * v * (w * w))) % p
     → e ≡ d * (x * v * (y * w)) → (e * e) % p ≡ 1 % p → (x * y * (i * v + 1 * w)) % p ≡ 0
 half p i d x y v w e root apart on on' e_is unit =

@@ -1,4 +1,5 @@
 pub mod Associativity
+pub mod Closure
 pub mod ClosureLaws
 pub mod CompletenessLaws
 pub mod CurveLaws

@@ -30,7 +30,7 @@ pub fn doubled_is_sum()
         → Stands p d (doubled p q) (sum p d a a) }
 {}
 
-/// With -X and -T they are those of the opposite.
+/// The coordinates with -X and -T are those of the opposite point.
 pub fn negated_is_opposite()
     ensures { (p d : ℕ) → IsComplete p d → (q : Extended) (a : Affine) → Stands p d q a
         → Stands p d (negated p q) (opposite p a) }

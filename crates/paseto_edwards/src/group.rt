@@ -23,12 +23,12 @@ pub fn sum_is_point()
     ensures { (p d : ℕ) → IsComplete p d → (a b : Affine) → IsPoint p d a → IsPoint p d b → IsPoint p d (sum p d a b) }
 {}
 
-/// The order of a sum is free.
+/// Two points may be added in either order.
 pub fn sum_commutes()
     ensures { (p d : ℕ) (a b : Affine) → sum p d a b ≡ sum p d b a }
 {}
 
-/// The order of two sums is free.
+/// Three points may be added from either end.
 pub fn sum_associates()
     ensures { (p d : ℕ) → IsComplete p d → (a b c : Affine) → IsPoint p d a → IsPoint p d b → IsPoint p d c
         → sum p d (sum p d a b) c ≡ sum p d a (sum p d b c) }
@@ -39,7 +39,7 @@ pub fn neutral_is_point()
     ensures { (p d : ℕ) → IsComplete p d → IsPoint p d neutral }
 {}
 
-/// It is neutral.
+/// (0, 1) is neutral.
 pub fn sum_with_neutral()
     ensures { (p d : ℕ) → IsComplete p d → (a : Affine) → IsPoint p d a → sum p d neutral a ≡ a }
 {}

@@ -1,9 +1,10 @@
 -- Operations modulo a number.
-use Rattle.std.proofs.Common.{◌≡◌, ℕ, zero, suc, ◌+◌, ◌-◌, ◌*◌, ◌/◌, ◌%◌, ◌<◌, true, false, nat_eq, if◌then◌else◌, refl, sym, ◌∙◌, ap₂, arith, div-add-mod', mod-lt, mod-eq_of_lt}
+use Rattle.std.proofs.Common.{◌≡◌, ℕ, zero, suc, ◌+◌, ◌-◌, ◌*◌, ◌/◌, ◌%◌, ◌<◌, List, [], ◌∷◌, true, false, nat_eq, if◌then◌else◌, refl, sym, ◌∙◌, ap₂, arith, div-add-mod', mod-lt, mod-eq_of_lt}
 use Rattle.std.proofs.Math.Nat.{add-mod}
 use Rattle.std.proofs.lemmas.Nat.{mul-mod}
 use Rattle.paseto_polynomials.specs.Element.{AreBelow, element, minus, plus, times}
 use Rattle.paseto_polynomials.specs.Polynomial.{Expression, constant, difference, product, read, sum, value, variable}
+use Rattle.paseto_polynomials.specs.Program.{listed}
 use Rattle.paseto_primes.proofs.CongruenceLaws.{equal-by}
 
 pub read-below : (n m : ℕ) (numbers : ℕ → ℕ) (i : ℕ) → 0 < m → AreBelow m numbers → read n numbers i < m
@@ -47,3 +48,14 @@ element-value n m numbers positive below (product a b) =
 element-value n m numbers positive below (difference a b) =
     ap₂ (λ x y. (x + (m - y)) % m) (element-value n m numbers positive below a) (element-value n m numbers positive below b)
     ∙ difference-value m _ _ positive
+
+-- the numbers of a list are below m
+abbrev pub AreListedBelow : ℕ → List ℕ → Type 0
+AreListedBelow m [] = Unit {0}
+AreListedBelow m (x ∷ xs) = (x < m) × AreListedBelow m xs
+
+pub listed-below : (m : ℕ) (xs : List ℕ) → 0 < m → AreListedBelow m xs → AreBelow m (listed xs)
+unfolding listed
+listed-below m [] positive h i = positive
+listed-below m (x ∷ xs) positive h zero = h.0
+listed-below m (x ∷ xs) positive h (suc i) = listed-below m xs positive h.1 i

@@ -4,6 +4,7 @@ use Rattle.std.proofs.lemmas.Nat.{mul-mod_second}
 use Rattle.std.proofs.Common.{eqb-true, ◌≡◌, ℕ, zero, suc, ◌+◌, ◌-◌, ◌*◌, ◌/◌, ◌%◌, ◌<◌, List, [], ◌∷◌, Bool, true, false, true≢false, if◌then◌else◌, refl, sym, ◌∙◌, ap, ap₂, arith, div-add-mod'}
 use Rattle.paseto_polynomials.specs.Identity.{Equation, Hold, all_in, is_null, is_same, is_zero, left_sides, right_sides, same_lists}
 use Rattle.paseto_polynomials.specs.Polynomial.{Expression, Polynomial, add, at, at_list, constant, constant_polynomial, difference, each, multiply, no_polynomial, polynomial, product, product_lists, read, sum, sum_lists, value, variable, variable_polynomial}
+use Rattle.paseto_polynomials.specs.Program.{listed}
 use Rattle.paseto_polynomials.proofs.PolynomialLaws.{at-polynomial}
 use Rattle.paseto_primes.proofs.CongruenceLaws.{cancel-plus, equal-by, same-plus, same-times}
 
@@ -88,7 +89,7 @@ by-null n m numbers positive a b e =
 
 -- ---- equations
 
-sides : (n m : ℕ) (numbers : ℕ → ℕ) (es : List Equation) → Hold n m numbers es
+pub sides : (n m : ℕ) (numbers : ℕ → ℕ) (es : List Equation) → Hold n m numbers es
     → value n m numbers (right_sides es) % m ≡ value n m numbers (left_sides es) % m
 unfolding value left_sides right_sides
 sides n m numbers [] h = refl
@@ -102,7 +103,7 @@ sides n m numbers (e ∷ es) h =
     (same-plus m (t * l) (t * r) (a * r) (a * l) (same-times m t t l r refl h.0) (same-times m a a r l refl (sym h.0)) ∙ ap (λ w. w % m) turned)
     (sides n m numbers es h.1)
 
-without-sides : (m a b r l : ℕ) → r % m ≡ l % m → (a + r) % m ≡ (b + l) % m → a % m ≡ b % m
+pub without-sides : (m a b r l : ℕ) → r % m ≡ l % m → (a + r) % m ≡ (b + l) % m → a % m ≡ b % m
 without-sides m a b r l same e =
     let first : r + a ≡ a + r = omega arith in
     let second : b + r ≡ r + b = omega arith in
@@ -125,12 +126,6 @@ by-equations_modulo n m numbers positive es h a b e =
     (sides n m numbers es h) (by-null n m numbers positive (sum a (right_sides es)) (sum b (left_sides es)) e)
 
 -- ---- how an identity is written
-
--- the numbers of a list, and 0 behind its end
-unfoldable pub listed : List ℕ → ℕ → ℕ
-listed [] i = 0
-listed (x ∷ xs) zero = x
-listed (x ∷ xs) (suc i) = listed xs i
 
 -- a number times variables
 unfoldable pub term : ℕ → List ℕ → Expression

@@ -1,3 +1,5 @@
 pub mod ElementLaws
 pub mod IdentityLaws
 pub mod PolynomialLaws
+pub mod ProgramLaws
+pub mod ReductionLaws

@@ -1,5 +1,6 @@
 -- Numbers modulo a number, and the values of expressions among them.
-use Rattle.std.specs.Prelude.{ℕ, ◌+◌, ◌-◌, ◌*◌, ◌%◌, ◌<◌}
+use Rattle.std.specs.Prelude.{ℕ, ◌+◌, ◌-◌, ◌*◌, ◌%◌, ◌<◌, ◌≡◌, List, [], ◌∷◌}
+use Rattle.paseto_polynomials.specs.Identity.{Equation}
 use Rattle.paseto_polynomials.specs.Polynomial.{Expression, constant, difference, product, read, sum, variable}
 
 unfoldable pub plus : ℕ → ℕ → ℕ → ℕ
@@ -19,6 +20,12 @@ element n m numbers (constant c) = c % m
 element n m numbers (sum a b) = plus m (element n m numbers a) (element n m numbers b)
 element n m numbers (product a b) = times m (element n m numbers a) (element n m numbers b)
 element n m numbers (difference a b) = minus m (element n m numbers a) (element n m numbers b)
+
+-- equations hold by operations modulo m
+abbrev pub HoldElements : (n m : ℕ) → (ℕ → ℕ) → List Equation → Type 0
+HoldElements n m numbers [] = Unit {0}
+HoldElements n m numbers (e ∷ es) =
+    (element n m numbers e.left ≡ element n m numbers e.right) × HoldElements n m numbers es
 
 abbrev pub AreBelow : ℕ → (ℕ → ℕ) → Type 0
 AreBelow m numbers = (i : ℕ) → numbers i < m

@@ -1,3 +1,5 @@
 pub mod Element
 pub mod Identity
 pub mod Polynomial
+pub mod Program
+pub mod Reduction

@@ -26,7 +26,8 @@ pub fn equal_by_equations()
         → value n m numbers a % m ≡ value n m numbers b % m }
 {}
 
-/// The same for a known m, which has to divide each coefficient of the difference alone.
+/// Expressions are equal modulo m if m divides each coefficient of their difference, once multiples of equations that
+/// hold modulo m are added to both. This is for a known m, whose multiples a check can tell.
 pub fn equal_by_equations_modulo()
     ensures { (n m : ℕ) (numbers : ℕ → ℕ) → 0 < m → (es : List Equation) → Hold n m numbers es → (a b : Expression)
         → is_null n m (polynomial n m (difference (sum a (right_sides es)) (sum b (left_sides es)))) ≡ true

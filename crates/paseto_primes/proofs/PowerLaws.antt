@@ -4,11 +4,6 @@ use Rattle.std.proofs.Math.Nat.{pow-zero}
 use Rattle.std.proofs.lemmas.Nat.{mul-mod_second, mul-pow, pow-mod}
 use Rattle.paseto_primes.specs.Power.{raised}
 
-pub first-power : (n : ℕ) → n ^ 1 ≡ n
-first-power n =
-    let none : n ^ 0 * n ≡ 1 * n = ap (λ w. w * n) (pow-zero n) in
-    omega (arith, pow-suc n 0, none)
-
 pub power-power : (a h k : ℕ) → (a ^ h) ^ k ≡ a ^ (k * h)
 power-power a h zero = let none : 0 ≡ 0 * h = omega arith in pow-zero (a ^ h) ∙ sym (pow-zero a) ∙ ap (λ w. a ^ w) none
 power-power a h (suc k) =

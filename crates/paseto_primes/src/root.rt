@@ -1,7 +1,6 @@
 //! Square roots modulo a prime, and numbers that have none.
 
-ghost use Rattle.std.specs.Prelude.{ℕ, suc, ◌+◌, ◌-◌, ◌*◌, ◌%◌, ◌^◌, ◌<◌, ◌≡◌, ◌≢◌, ◌⊎◌};
-ghost use Rattle.paseto_primes.specs.Power.{raised};
+ghost use Rattle.std.specs.Prelude.{ℕ, ◌+◌, ◌-◌, ◌*◌, ◌%◌, ◌^◌, ◌<◌, ◌≡◌, ◌≢◌, ◌⊎◌};
 ghost use Rattle.paseto_primes.specs.Prime.{IsPrime};
 ghost use Rattle.paseto_primes.specs.Root.{IsNonresidue, quotient_root};
 
