@@ -186,10 +186,10 @@ fn digit(number: (u128, u128), at: usize) -> u128
 }
 
 // Sixteen times a point.
-fn sixteen_times(p: ExtendedPoint) -> ExtendedPoint
-    ensures { point result ≡ multiple 16 (point p) }
+fn sixteen_times(p: ProjectivePoint) -> ExtendedPoint
+    ensures { point result ≡ multiple 16 (affine (projected p)) }
 {
-    let twice = to_projective(double(flattened(p)));
+    let twice = to_projective(double(p));
     let four_times = to_projective(double(twice));
     let eight_times = to_projective(double(four_times));
     to_extended(double(eight_times))

@@ -130,7 +130,7 @@ pub fn multiply_base(scalar: &[u8; 32]) -> ProjectivePoint
     let number = halves(scalar);
     let mut sum = add_rows(identity(), number, TURNS - 1);
     'turns: for i in 1..TURNS {
-        sum = add_rows(sixteen_times(sum), number, TURNS - 1 - i);
+        sum = add_rows(sixteen_times(flattened(sum)), number, TURNS - 1 - i);
     }
     flattened(sum)
 }

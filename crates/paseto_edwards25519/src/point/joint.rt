@@ -11,7 +11,7 @@ ghost use Rattle.paseto_edwards25519.specs.Scalar.{number32};
 use super::comb::known_multiple;
 use super::{
     Addend, DIGITS, ExtendedPoint, ProjectivePoint, add, add_affine, digit, flattened, identity,
-    prepared, sixteen_times, to_extended,
+    prepared, sixteen_times, to_extended, to_projective,
 };
 use crate::bytes::halves;
 
@@ -33,14 +33,14 @@ fn multiples(a: ExtendedPoint) -> [Addend; 16]
 }
 
 // A point, a multiple of the base point and one of the other.
-fn add_digits(p: ExtendedPoint, i: u128, j: u128, table: &[Addend; 16]) -> ExtendedPoint
+fn add_digits(p: ExtendedPoint, i: u128, j: u128, table: &[Addend; 16]) -> ProjectivePoint
     requires i { i < 16 }
     requires j { j < 16 }
     ensures { (a : Affine) → AreMultiples a 16 table.now
-        → point result ≡ sum (sum (point p) (multiple i base)) (multiple j a) }
+        → affine (projected result) ≡ sum (sum (point p) (multiple i base)) (multiple j a) }
 {
     let more = to_extended(add_affine(p, &known_multiple(i)));
-    to_extended(add(more, &table[j as usize]))
+    to_projective(add(more, &table[j as usize]))
 }
 
 /// The sum of the multiple of the base point by `s` and of the multiple of another point by `k`, in a time that
@@ -51,7 +51,7 @@ pub fn multiply_both(s: &[u8; 32], k: &[u8; 32], a: ExtendedPoint) -> Projective
 {
     let table = multiples(a);
     let (first, second) = (halves(s), halves(k));
-    let mut sum = identity();
+    let mut sum = flattened(identity());
     'digits: for i in 0..DIGITS {
         let at = DIGITS - 1 - i;
         sum = add_digits(
@@ -61,5 +61,5 @@ pub fn multiply_both(s: &[u8; 32], k: &[u8; 32], a: ExtendedPoint) -> Projective
             &table,
         );
     }
-    flattened(sum)
+    sum
 }

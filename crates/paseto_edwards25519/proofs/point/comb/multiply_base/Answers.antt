@@ -19,7 +19,7 @@ pub turns-preserved : goal.turns-preserved
 turns-preserved c =
     let n : ℕ = number32 c.args.scalar.now in
     let i : ℕ = c.turns.i in
-    let shifted = multiple-sixteen (turn_sum n i) base _ _ base-point c.sixteen_times.ensures c.turns.invariant in
+    let shifted = multiple-sixteen (turn_sum n i) base _ _ base-point c.sixteen_times.ensures (c.flattened.ensures ∙ c.turns.invariant) in
     rw add-one (c.add_rows-sum-in-turns.ensures (16 * turn_sum n i) shifted
     ∙ ap (λ m. multiple (16 * turn_sum n i + row_sum m (3 - i) 16) base) c.halves-number.ensures
     ∙ ap (λ k. multiple k base) (turn-more n i))
@@ -29,5 +29,5 @@ returns c =
     let n : ℕ = number32 c.args.scalar.now in
     let low : n < 2 ^ 256 = omega (arith, c.halves-number.ensures) in
     let ended : c.turns.i ≡ 4 = omega arith in
-    c.flattened.ensures ∙ subst (λ i. point c.turns.sum ≡ multiple (turn_sum n i) base) ended c.turns.invariant
+    c.flattened-2.ensures ∙ subst (λ i. point c.turns.sum ≡ multiple (turn_sum n i) base) ended c.turns.invariant
     ∙ ap (λ k. multiple k base) (turns_number n low)

@@ -8,4 +8,4 @@ returns c a made =
     let p = point c.args.p in
     let read = made c.args.j c.index-table-j.result c.requires.j in
     let more = c.to_extended-more.ensures ∙ c.add_affine.ensures ∙ ap (λ b. sum p b) c.known_multiple.ensures.is in
-    c.to_extended.ensures ∙ c.add.ensures ∙ ap₂ (λ b q. sum b q) more read
+    c.to_projective.ensures ∙ c.add.ensures ∙ ap₂ (λ b q. sum b q) more read

@@ -15,7 +15,7 @@ digits-init c =
     let k : ℕ = number32 c.args.k.now in
     let s_low : s < 2 ^ 256 = omega (arith, c.halves-first.ensures) in
     let k_low : k < 2 ^ 256 = omega (arith, c.halves-second.ensures) in
-    c.identity-sum.ensures ∙ joint-none s k (point c.args.a) s_low k_low
+    c.flattened-sum.ensures ∙ c.identity.ensures ∙ joint-none s k (point c.args.a) s_low k_low
 
 pub digits-preserved : goal.digits-preserved
 digits-preserved c =
@@ -43,6 +43,6 @@ returns c =
     let k : ℕ = number32 c.args.k.now in
     let a = point c.args.a in
     let ended : 64 - c.digits.i ≡ 0 = omega arith in
-    c.flattened.ensures ∙ c.digits.invariant
+    c.digits.invariant
     ∙ ap (λ n. sum (multiple (s / 16 ^ n) base) (multiple (k / 16 ^ n) a)) ended
     ∙ ap₂ (λ m n. sum (multiple m base) (multiple n a)) (div-one s) (div-one k)
