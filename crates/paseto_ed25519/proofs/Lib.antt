@@ -1,6 +1,3 @@
-pub mod EncodingLaws
-pub mod FieldLaws
-pub mod MaskLaws
-pub mod PointLaws
-pub mod ScalarLaws
+pub mod SecretLaws
+pub mod SigningLaws
 pub mod Validity

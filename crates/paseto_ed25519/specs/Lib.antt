@@ -1,5 +1,1 @@
 pub mod Ed25519
-pub mod Field
-pub mod Point
-pub mod Residue
-pub mod Scalar

@@ -1,111 +1,59 @@
 //! Keys, signing and verifying (RFC 8032, sections 5.1.5 to 5.1.7).
 
-ghost use Rattle.std.specs.Prelude.{◌≡◌, ◌↔◌, ℕ, ◌++◌, ◌<◌, length, take, drop, IfOk, IfErr, OnErr, OnOk, IsTrue};
-ghost use Rattle.sha2.specs.Sha512.{sha512};
-ghost use Rattle.rusty_paseto_parts.specs.declared.error.PasetoError.TheVariants.{Signature};
-ghost use Rattle.paseto_ed25519.specs.Ed25519.{Ed25519Verifies, IsDeclined, IsRefused, IsSum, challenge, clamped, commitment, decoded, encoded, ed25519_public, ed25519_sign, nonce, partner, response, secret_scalar};
-ghost use Rattle.paseto_ed25519.specs.Point.{base, coordinates, joint_multiple, multiple, negated};
-ghost use Rattle.paseto_ed25519.specs.Residue.{residue};
-ghost use Rattle.paseto_ed25519.specs.Scalar.{bytes32};
+ghost use Rattle.std.specs.Prelude.{◌≡◌, ◌≢◌, ◌↔◌, ◌⊎◌, take, drop, length, IfOk, IfErr, OnErr, OnOk, IsTrue, Some};
+ghost use Rattle.rusty_paseto_parts.specs.declared.error.PasetoError.TheVariants.{InvalidSignature, KeyRejected, Signature};
+ghost use Rattle.paseto_ed25519.specs.Ed25519.{Ed25519Verifies, IsDeclined, IsOwn, IsRefused, IsSigned, IsSum, ed25519_public, ed25519_sign, partner};
+ghost use Rattle.paseto_edwards25519.specs.Encoding.{decoded, encoded};
+ghost use Rattle.paseto_edwards25519.specs.Extended.{affine};
+ghost use Rattle.paseto_edwards25519.specs.Point.{point, projected};
+ghost use Rattle.paseto_edwards25519.specs.Scalar.{number32};
 
-use crate::bytes::joined;
-use crate::encoding::{decode, encode};
-use crate::point::{ExtendedPoint, base, multiply_base, multiply_both, negate};
-use crate::scalar::{Scalar, is_reduced, multiply_add, reduce, to_bytes};
+use crate::bytes::{HALF_LENGTH, PRIVATE_LENGTH, array, joined};
+use crate::laws::signed_verifies;
+use crate::signer::Ed25519Signer;
+use crate::signing::{challenge, encoded_multiple, expanded, sign};
+use paseto_edwards25519::{
+    ExtendedPoint, ProjectivePoint, decode, encode, flattened, has_small_order, is_reduced,
+    multiply_both, negate, to_bytes,
+};
 use rand_core::TryRng;
 use rusty_paseto_core::SignatureScheme;
 use rusty_paseto_parts::{Key, PasetoError};
-use sha2::{Digest, Sha512};
+use rusty_paseto_primitives::same_bytes;
 use std::alloc::Global;
-
-// How many bytes a seed, a public key and each half of a signature have.
-const HALF_LENGTH: usize = 32;
-
-// How many bytes a private key has: the seed, and its public key.
-const PRIVATE_LENGTH: usize = 64;
 
 /// Ed25519 (RFC 8032, section 5.1), the signature scheme of the versions 2 and 4.
 #[derive(Drop)]
 pub struct Ed25519;
 
-// The bytes of a slice.
-fn array(bytes: &[u8]) -> [u8; 32]
-    requires { length bytes.now ≡ 32 }
-    ensures { result ≡ bytes.now }
+// Whether a point is encoded as R.
+fn is_encoded_as(total: ProjectivePoint, r: &[u8; 32]) -> bool
+    ensures { IsTrue result ↔ encoded (affine (projected total)) ≡ r.now }
 {
-    let mut array = [0u8; HALF_LENGTH];
-    array.copy_from_slice(bytes);
-    array
+    encode(total) == *r
 }
 
-// The scalar that the first half of a digest gives (section 5.1.5, step 2).
-fn clamped(half: &[u8]) -> [u8; 32]
-    requires { length half.now ≡ 32 }
-    ensures { result ≡ clamped half.now }
+// Whether [S]B - [k]A is encoded as R, and neither it nor A is of small order (section 5.1.7, step 3).
+fn is_sum_of(a: ExtendedPoint, s: &[u8; 32], k: &[u8; 32], r: &[u8; 32]) -> bool
+    ensures { IsTrue result ↔ IsSum (Some (point a)) (number32 s.now) (number32 k.now) r.now }
 {
-    let mut scalar = array(half);
-    scalar[0] = scalar[0] / 8 * 8;
-    scalar[31] = scalar[31] % 64 + 64;
-    scalar
+    if has_small_order(flattened(a)) {
+        return false;
+    }
+    let total = multiply_both(s, k, negate(a));
+    if has_small_order(total) {
+        return false;
+    }
+    is_encoded_as(total, r)
 }
 
-// k (section 5.1.7, step 2).
-fn challenge(r: &[u8], public: &[u8], message: &[u8]) -> Scalar
-    ensures { residue result ≡ challenge r.now public.now message.now }
-{
-    let mut hasher = Sha512::new();
-    hasher.update(r);
-    hasher.update(public);
-    hasher.update(message);
-    reduce(&hasher.finalize())
-}
-
-// The number whose multiple of the base point is R (section 5.1.6, step 2).
-fn nonce(prefix: &[u8], message: &[u8]) -> Scalar
-    ensures { residue result ≡ nonce prefix.now message.now }
-{
-    let mut hasher = Sha512::new();
-    hasher.update(prefix);
-    hasher.update(message);
-    reduce(&hasher.finalize())
-}
-
-// The multiple of the base point, encoded.
-fn encoded_multiple(scalar: &[u8; 32]) -> [u8; 32]
-    ensures { result ≡ encoded (multiple base scalar.now 256) }
-{
-    encode(multiply_base(scalar))
-}
-
-// [s]B - [k]A, encoded.
-fn encoded_sum(a: ExtendedPoint, s: &[u8; 32], k: &[u8; 32]) -> [u8; 32]
-    ensures { result ≡ encoded (joint_multiple base (negated (coordinates a)) s.now k.now 256) }
-{
-    encode(multiply_both(base(), s, negate(a), k))
-}
-
-// The signature of a message under a private key (section 5.1.6).
-fn signature(private: &[u8], message: &[u8]) -> [u8; 64]
-    requires { length private.now ≡ 64 }
-    ensures { result ≡ ed25519_sign private.now message.now }
-{
-    let (seed, public) = private.split_at(HALF_LENGTH);
-    let digest = Sha512::digest(seed);
-    let (half, prefix) = digest.split_at(HALF_LENGTH);
-    let scalar = clamped(half);
-    let r = nonce(prefix, message);
-    let commitment = encoded_multiple(&to_bytes(r));
-    let k = challenge(&commitment, public, message);
-    joined(&commitment, &to_bytes(multiply_add(r, k, &scalar)))
-}
-
-// Whether [s]B - [k]A is encoded as R (section 5.1.7, step 3).
+// The same of a public key, if it is a point.
 fn is_sum(public: &[u8], s: &[u8; 32], k: &[u8; 32], r: &[u8; 32]) -> bool
     requires { length public.now ≡ 32 }
-    ensures { IsTrue result ↔ IsSum (decoded public.now) s.now k.now r.now }
+    ensures { IsTrue result ↔ IsSum (decoded public.now) (number32 s.now) (number32 k.now) r.now }
 {
     match decode(public) {
-        Some(a) => encoded_sum(a, s, k) == *r,
+        Some(a) => is_sum_of(a, s, k, r),
         None => false,
     }
 }
@@ -131,9 +79,7 @@ impl Ed25519 {
     pub fn public_key(seed: &[u8; 32]) -> [u8; 32]
         ensures { result ≡ ed25519_public seed.now }
     {
-        let digest = Sha512::digest(seed);
-        let (half, _prefix) = digest.split_at(HALF_LENGTH);
-        encoded_multiple(&clamped(half))
+        encoded_multiple(&expanded(seed).scalar)
     }
 
     /// A new private key, which is a seed that the generator gives and its public key, and that public key. No
@@ -151,6 +97,16 @@ impl Ed25519 {
             Key::from(public),
         ))
     }
+
+    /// The scheme for an issuer who signs many tokens under one private key: that its public half is its seed's is
+    /// asked here, once, and not for each token. `Signature` comes exactly where it is another seed's. No memory is
+    /// taken.
+    pub fn with_key(private: &Key<64>) -> Result<Ed25519Signer, PasetoError>
+        ensures ok { IfOk result (λ signer. (signer ≡ private.now) × IsOwn private.now) }
+        ensures err { IfErr result (λ error. (error ≡ PasetoError.Signature) × ¬ IsOwn private.now) }
+    {
+        Ed25519Signer::new(private)
+    }
 }
 
 impl SignatureScheme<64> for Ed25519 {
@@ -162,9 +118,9 @@ impl SignatureScheme<64> for Ed25519 {
 
     ghost declined = { IsDeclined };
 
-    /// The signature of RFC 8032, section 5.1.6, which is checked against the public half of the private key
-    /// before it is answered. `KeyRejected` comes for a private key that has not 64 bytes, and `Signature` where
-    /// the signature is not valid: the public half is another seed's. No memory is taken.
+    /// The signature of RFC 8032, section 5.1.6, which is valid for the private key's public half. `KeyRejected`
+    /// comes for a private key that has not 64 bytes, and `Signature` where its public half is another seed's, which
+    /// is asked at each call (`with_key` asks it once), or where the nonce is 0. No memory is taken.
     fn sign(
         &mut self,
         _alloc: Global,
@@ -175,18 +131,18 @@ impl SignatureScheme<64> for Ed25519 {
             (partner private.now) message.now signature
             × (signature ≡ ed25519_sign private.now message.now)) }
         ensures err { IfErr result (λ error. IsDeclined private.now error
-            × (¬ Ed25519Verifies (partner private.now) message.now
-            (ed25519_sign private.now message.now))) }
+            × ((length private.now ≡ 64) → ¬ IsSigned private.now message.now)) }
     {
+        signed_verifies();
         if private.len() != PRIVATE_LENGTH {
             return Err(PasetoError::KeyRejected);
         }
-        let (_seed, public) = private.split_at(HALF_LENGTH);
-        let signature = signature(private, message);
-        if !is_valid(public, message, &signature) {
+        let (seed, public) = private.split_at(HALF_LENGTH);
+        let secret = expanded(seed);
+        if !same_bytes(&encoded_multiple(&secret.scalar), public) {
             return Err(PasetoError::Signature);
         }
-        Ok(signature)
+        sign(&secret, public, message)
     }
 
     /// Is `Ok` exactly where the signature is valid, and else `InvalidSignature`. No memory is taken.
@@ -196,7 +152,11 @@ impl SignatureScheme<64> for Ed25519 {
         public: &[u8],
         message: &[u8],
         signature: &[u8; 64],
-    ) -> Result<(), PasetoError> {
+    ) -> Result<(), PasetoError>
+        ensures ok { OnOk result (Ed25519Verifies public.now message.now signature.now) }
+        ensures err { IfErr result (λ error. (¬ Ed25519Verifies public.now message.now signature.now)
+            × IsRefused public.now message.now signature.now error) }
+    {
         if is_valid(public, message, signature) {
             return Ok(());
         }

@@ -3,9 +3,9 @@
 
 mod bytes;
 mod ed25519;
-mod encoding;
-mod field;
-mod point;
-mod scalar;
+pub mod laws;
+mod signer;
+mod signing;
 
 pub use ed25519::Ed25519;
+pub use signer::Ed25519Signer;

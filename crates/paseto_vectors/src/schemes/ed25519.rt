@@ -7,7 +7,7 @@ use crate::counted::counted_bytes;
 use crate::expect::{expect_bytes, expect_digits, expect_same, expect_that};
 use crate::hexadecimal::{array_of, bytes_of};
 use paseto_ed25519::Ed25519;
-use rusty_paseto_core::{PasetoError, SignatureScheme};
+use rusty_paseto_core::{Key, PasetoError, SignatureScheme};
 use std::alloc::Global;
 use std::process::Abort;
 
@@ -158,73 +158,56 @@ fn s_above_the_order_is_refused(rt: HostRuntime) {
         "6291d657deec24024827e69c3abe01a30ce548a284743a445e3680d7db5ac3ac",
         "05d391b0a77904e98404ef037747a56e4a7c15e9716ed28dc027beceea1ec41a",
     );
-    let order = concat!(
-        "0100000000000000000000000000000000000000000000000000000000000000",
-        "edd3f55c1a631258d69cf7a2def9de1400000000000000000000000000000010",
-    );
-    expect_rows(
-        &rt,
-        rt.alloc(),
-        &[
-            (PUBLIC, MESSAGE, signature, false),
-            (NEUTRAL, MESSAGE, order, false),
-        ],
-    );
+    expect_rows(&rt, rt.alloc(), &[(PUBLIC, MESSAGE, signature, false)]);
 }
 
-// A signature of the neutral point is valid under the neutral point, which has no multiple but itself; OpenSSL
-// says so too. Under another encoding of the neutral point, whose y is p + 1 or whose x = 0 has a sign, it is not.
-const ENCODINGS: &[Row] = &[
-    (NEUTRAL, MESSAGE, NEUTRAL_SIGNATURE, true),
-    (
-        "eeffffffffffffffffffffffffffffffffffffffffffffffffffffffffffff7f",
-        MESSAGE,
-        NEUTRAL_SIGNATURE,
-        false,
-    ),
-    (
-        "0100000000000000000000000000000000000000000000000000000000000080",
-        MESSAGE,
-        NEUTRAL_SIGNATURE,
-        false,
-    ),
-    (
-        "0200000000000000000000000000000000000000000000000000000000000000",
-        MESSAGE,
-        NEUTRAL_SIGNATURE,
-        false,
-    ),
-    ("", MESSAGE, NEUTRAL_SIGNATURE, false),
+// The eight points of small order, and their six other spellings: y of p or more, or a sign at x = 0.
+const SMALL_ORDERS: &[&str] = &[
+    "0100000000000000000000000000000000000000000000000000000000000000",
+    "ecffffffffffffffffffffffffffffffffffffffffffffffffffffffffffff7f",
+    "0000000000000000000000000000000000000000000000000000000000000080",
+    "0000000000000000000000000000000000000000000000000000000000000000",
+    "c7176a703d4dd84fba3c0b760d10670f2a2053fa2c39ccc64ec7fd7792ac037a",
+    "c7176a703d4dd84fba3c0b760d10670f2a2053fa2c39ccc64ec7fd7792ac03fa",
+    "26e8958fc2b227b045c3f489f2ef98f0d5dfac05d3c63339b13802886d53fc05",
+    "26e8958fc2b227b045c3f489f2ef98f0d5dfac05d3c63339b13802886d53fc85",
+    "0100000000000000000000000000000000000000000000000000000000000080",
+    "ecffffffffffffffffffffffffffffffffffffffffffffffffffffffffffffff",
+    "eeffffffffffffffffffffffffffffffffffffffffffffffffffffffffffff7f",
+    "eeffffffffffffffffffffffffffffffffffffffffffffffffffffffffffffff",
+    "edffffffffffffffffffffffffffffffffffffffffffffffffffffffffffffff",
+    "edffffffffffffffffffffffffffffffffffffffffffffffffffffffffffff7f",
 ];
 
+// Under the neutral point the sum is R for each message, and under that of order two for one of these two.
 #[test]
-fn public_keys_have_one_encoding(rt: HostRuntime) {
-    expect_rows(&rt, rt.alloc(), ENCODINGS);
+fn small_orders(rt: HostRuntime) {
+    'points: for &point in SMALL_ORDERS {
+        expect_rows(
+            &rt,
+            rt.alloc(),
+            &[
+                (point, &[0], NEUTRAL_SIGNATURE, false),
+                (point, &[1], NEUTRAL_SIGNATURE, false),
+            ],
+        );
+    }
 }
 
-// R is the neutral point, with y = p + 1.
+// The same points as R, with S = 0, under an ordinary key and under the neutral point.
 #[test]
-fn r_has_one_encoding(rt: HostRuntime) {
-    let signature = concat!(
-        "eeffffffffffffffffffffffffffffffffffffffffffffffffffffffffffff7f",
-        "0000000000000000000000000000000000000000000000000000000000000000",
-    );
-    expect_rows(&rt, rt.alloc(), &[(NEUTRAL, MESSAGE, signature, false)]);
-}
-
-// Under the point of order two a signature of the neutral point is valid where k is even, as OpenSSL finds of these
-// two messages.
-#[test]
-fn order_two(rt: HostRuntime) {
-    let public = "ecffffffffffffffffffffffffffffffffffffffffffffffffffffffffffff7f";
-    expect_rows(
-        &rt,
-        rt.alloc(),
-        &[
-            (public, &[1], NEUTRAL_SIGNATURE, true),
-            (public, &[0], NEUTRAL_SIGNATURE, false),
-        ],
-    );
+fn small_orders_in_r(rt: HostRuntime) {
+    'points: for &point in SMALL_ORDERS {
+        let mut signature = [0u8; 64];
+        let r: [u8; 32] = array_of(&rt, point);
+        signature[..32].copy_from_slice(&r);
+        'keys: for public in [PUBLIC, NEUTRAL] {
+            let public: [u8; 32] = array_of(&rt, public);
+            let answer = Ed25519.verify(rt.alloc(), &public, MESSAGE, &signature);
+            let is_named = matches!(&answer, Err(PasetoError::InvalidSignature));
+            expect_that(&rt, is_named, point);
+        }
+    }
 }
 
 #[test]
@@ -270,4 +253,27 @@ fn key_pairs_sign(rt: HostRuntime) {
     Ed25519
         .verify(rt.alloc(), public.as_bytes(), b"text", &signature)
         .expect(&rt, "a signature");
+}
+
+// A scheme that holds a private key signs under it alone.
+#[test]
+fn signers(rt: HostRuntime) {
+    let alloc = rt.alloc();
+    let mut private: [u8; 64] = array_of(&rt, PRIVATE);
+    let mut signer = Ed25519::with_key(&Key::from(&private)).expect(&rt, "a signer");
+    let made = signer
+        .sign(alloc, &private, MESSAGE)
+        .expect(&rt, "a signature");
+    let wanted: [u8; 64] = array_of(&rt, SIGNATURE);
+    expect_bytes(&rt, &made, &wanted);
+    signer
+        .verify(alloc, &private[32..], MESSAGE, &made)
+        .expect(&rt, "a signature");
+    private[63] ^= 1;
+    let answer = signer.sign(alloc, &private, MESSAGE);
+    let is_named = matches!(&answer, Err(PasetoError::KeyRejected));
+    expect_that(&rt, is_named, "another key");
+    let answer = Ed25519::with_key(&Key::from(&private));
+    let is_named = matches!(&answer, Err(PasetoError::Signature));
+    expect_that(&rt, is_named, "another half");
 }

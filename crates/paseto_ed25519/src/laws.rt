@@ -1,0 +1,33 @@
+//! Laws of the scheme. Each function does nothing, and its contract is the theorem.
+
+ghost use Rattle.std.specs.Prelude.{◌≡◌, List, ℕ, Some};
+ghost use Rattle.paseto_edwards.specs.Group.{Affine};
+ghost use Rattle.paseto_ed25519.specs.Ed25519.{Ed25519Verifies, IsSigned, ed25519_public, ed25519_sign, partner};
+ghost use Rattle.paseto_edwards25519.specs.Curve.{HasSmallOrder};
+ghost use Rattle.paseto_edwards25519.specs.Encoding.{decoded};
+
+use paseto_edwards25519::laws::{
+    decoding, encoding, multiples_of_base, number_of_bytes, signature_sum, small_multiples,
+};
+
+/// A signature under a private key whose public half is its seed's is valid for that half.
+pub fn signed_verifies()
+    ensures { (private message : List ℕ) → IsSigned private message
+        → Ed25519Verifies (partner private) message (ed25519_sign private message) }
+{
+    decoding();
+    encoding();
+    multiples_of_base();
+    number_of_bytes();
+    signature_sum();
+    small_multiples();
+}
+
+/// The public key of a seed is a point, and not of small order.
+pub fn own_key_is_taken()
+    ensures { (seed : List ℕ) → (a : Affine) × (decoded (ed25519_public seed) ≡ Some a) × ¬ HasSmallOrder a }
+{
+    decoding();
+    multiples_of_base();
+    small_multiples();
+}

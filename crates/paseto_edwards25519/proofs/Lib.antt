@@ -1,0 +1,13 @@
+pub mod BytesLaws
+pub mod CurveLaws
+pub mod DecodingLaws
+pub mod DigitLaws
+pub mod EncodingLaws
+pub mod FieldLaws
+pub mod Formulas
+pub mod MaskLaws
+pub mod MultipleLaws
+pub mod OrderLaws
+pub mod RootLaws
+pub mod ScalarLaws
+pub mod TableLaws

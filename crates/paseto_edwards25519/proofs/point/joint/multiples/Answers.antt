@@ -1,0 +1,48 @@
+use Rattle.std.proofs.Common.{◌≡◌, ℕ, ◌+◌, ◌-◌, refl, sym, ◌∙◌, ap, inl, inr, arith, length-set}
+use Rattle.std.proofs.lemmas.Bool.{cases_eq}
+use Rattle.std.proofs.lemmas.List.{get_or-set_other, get_or-set_same}
+use Rattle.paseto_edwards25519.specs.Curve.{multiple}
+use Rattle.paseto_edwards25519.specs.Extended.{affine}
+use Rattle.paseto_edwards25519.specs.Point.{point, prepared}
+use Rattle.paseto_edwards25519.proofs.CurveLaws.{multiple-none, multiple-once}
+use Rattle.paseto_edwards25519.proofs.MultipleLaws.{multiple-next}
+use Rattle.paseto_edwards25519.proofs.point.joint.multiples.Goals as goal
+
+pub multiples-init : goal.multiples-init
+multiples-init c =
+    let a = point c.args.a in
+    let none = c.identity-last.ensures ∙ sym (multiple-none a) in
+    record {
+      all = refl;
+      last = none;
+      made = λ j other below.
+          let first : j ≡ 0 = omega arith in
+          rw first (c.prepared-table.ensures ∙ none);
+    }
+
+pub multiples-preserved : goal.multiples-preserved
+multiples-preserved c =
+    let a = point c.args.a in
+    let i : ℕ = c.multiples.i in
+    let table = c.multiples.table in
+    let point = c.args.a.on_curve.point in
+    let count : i - 1 + 1 ≡ i = omega arith in
+    let last = c.to_extended-last.ensures
+    ∙ multiple-next (i - 1) 1 a _ _ _ point c.add.ensures c.multiples.invariant.last (c.prepared-once.ensures ∙ sym (multiple-once a point))
+    ∙ ap (λ k. multiple k a) count in
+    let same : i + 1 - 1 ≡ i = omega arith in
+    record {
+      all = length-set table i c.prepared.result ∙ c.multiples.invariant.all;
+      last = last ∙ ap (λ k. multiple k a) (sym same);
+      made = λ j other below. elim (cases_eq j i) [
+        | inl here ↦
+            rw here (ap (λ q. affine (prepared q)) (get_or-set_same table i c.prepared.result other (omega (arith, c.multiples.invariant.all)))
+            ∙ c.prepared.ensures ∙ last)
+        | inr apart ↦
+            ap (λ q. affine (prepared q)) (get_or-set_other table i j c.prepared.result other apart)
+            ∙ c.multiples.invariant.made j other (omega arith)
+      ];
+    }
+
+pub returns : goal.returns
+returns c j other below = c.multiples.invariant.made j other (omega arith)

@@ -1,0 +1,15 @@
+use Rattle.std.proofs.Common.{sym, ◌∙◌}
+use Rattle.paseto_edwards25519.specs.Extended.{affine}
+use Rattle.paseto_edwards25519.specs.Point.{projected}
+use Rattle.paseto_edwards25519.proofs.CurveLaws.{multiple-once}
+use Rattle.paseto_edwards25519.proofs.MultipleLaws.{multiple-twice}
+use Rattle.paseto_edwards25519.proofs.point.sixteen_times.Goals as goal
+
+pub returns : goal.returns
+returns c =
+    let a = affine (projected c.args.p) in
+    let on_curve = c.args.p.on_curve.point in
+    let twice = multiple-twice 1 a _ _ on_curve c.double.ensures (sym (multiple-once a on_curve)) in
+    let four_times = multiple-twice 2 a _ _ on_curve c.double-2.ensures (c.to_projective-twice.ensures ∙ twice) in
+    let eight_times = multiple-twice 4 a _ _ on_curve c.double-3.ensures (c.to_projective-four_times.ensures ∙ four_times) in
+    c.to_extended.ensures ∙ multiple-twice 8 a _ _ on_curve c.double-4.ensures (c.to_projective-eight_times.ensures ∙ eight_times)

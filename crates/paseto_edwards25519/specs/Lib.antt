@@ -1,0 +1,9 @@
+pub mod Curve
+pub mod Digits
+pub mod Encoding
+pub mod Extended
+pub mod Field
+pub mod Point
+pub mod Residue
+pub mod Scalar
+pub mod Table

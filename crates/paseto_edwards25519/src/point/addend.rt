@@ -1,0 +1,17 @@
+//! A point that is added, as what a sum reads of it.
+
+ghost use Rattle.paseto_edwards25519.specs.Extended.{IsExtended, between};
+ghost use Rattle.paseto_edwards25519.specs.Field.{number};
+
+use crate::field::FieldElement;
+
+/// What each sum needs of a point, made once: Y - X, Y + X, Z and 2 * d * T (RFC 8032, section 5.1.4).
+#[derive(Clone, Copy)]
+pub(crate) struct Addend {
+    pub(crate) difference: FieldElement,
+    pub(crate) total: FieldElement,
+    pub(crate) z: FieldElement,
+    pub(crate) scaled: FieldElement,
+    ghost on_curve: { IsExtended
+        (between (number difference) (number total) (number z) (number scaled)) },
+}
