@@ -1,12 +1,14 @@
 -- The cases of verifying and signing.
-use Rattle.std.proofs.Common.{◌≡◌, ◌≢◌, ◌⊎◌, ℕ, ◌+◌, ◌-◌, ◌%◌, ◌<◌, ap, arith}
+use Rattle.std.proofs.Common.{◌≡◌, ◌≢◌, ◌⊎◌, ℕ, ◌+◌, ◌%◌, ◌<◌, ap, arith}
 use Rattle.std.specs.Prelude.{None, Some}
 use Rattle.std.proofs.lemmas.Bool.Decides.{nat_tests}
-use Rattle.paseto_p384.specs.Base.{base_multiple}
-use Rattle.paseto_p384.specs.Curve.{order}
+use Rattle.paseto_weierstrass.specs.Curve.{order}
 use Rattle.paseto_p384.specs.Ecdsa.{Accepts, IsFirst, attempt, first, halves, named, nonzero, second}
-use Rattle.paseto_p384.specs.Field.{power, prime, times}
-use Rattle.paseto_p384.specs.Point.{Point}
+use Rattle.paseto_weierstrass.specs.Field.{inverse, prime, times}
+use Rattle.paseto_weierstrass.specs.Multiples.{IsMultiple, multiple_of}
+use Rattle.paseto_weierstrass.specs.Point.{Point, base}
+use Rattle.paseto_weierstrass.proofs.MultipleLaws.{multiple-is_point}
+use Rattle.paseto_weierstrass.proofs.PointLaws.{base-is_point, same-quotient}
 
 pub first-parts : (p : Point) (r : ℕ) → IsFirst p r
     → (p.z ≢ 0) × ((times r p.z ≡ p.x) ⊎ ((r + order < prime) × (times (r + order) p.z ≡ p.x)))
@@ -18,9 +20,14 @@ pub first-of : (p : Point) (r : ℕ)
 unfolding IsFirst
 first-of p r h = h
 
-pub first-is : (p : Point) (k : ℕ) → p ≡ base_multiple k → times p.x (power p.z (prime - 2)) % order ≡ first k
+-- the quotient X / Z of any coordinates of [k]G
+pub first-is : (p : Point) (k : ℕ) → IsMultiple base p k → times p.x (inverse p.z) % order ≡ first k
 unfolding first
-first-is p k e = ap (λ (q : Point). times q.x (power q.z (prime - 2)) % order) e
+first-is p k h =
+    let g = multiple_of k base in
+    let s = h.same in
+    ap (λ n. n % order)
+    (same-quotient g.x g.z p.x p.z s.ratio (multiple-is_point k base base-is_point).x_below s.below s.nonzero s.x s.z)
 
 pub accepts-parts : (q : Point) (e r s : ℕ) → Accepts q e r s
     → ((0 < r) × (r < order)) × ((0 < s) × (s < order)) × IsFirst (named q e r s) r

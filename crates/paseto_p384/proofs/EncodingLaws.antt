@@ -1,16 +1,26 @@
 -- The cases of decoding.
-use Rattle.std.proofs.Common.{◌≡◌, ◌≢◌, ◌≤◌, ℕ, ◌+◌, ◌-◌, ◌/◌, ◌%◌, ◌<◌, List, ◌∷◌, drop, slice_index, arith}
+use Rattle.std.proofs.Common.{◌≡◌, ◌≢◌, ◌≤◌, ℕ, ◌+◌, ◌/◌, ◌%◌, ◌<◌, List, ◌∷◌, drop, slice_index, ap₂, arith}
 use Rattle.std.specs.Prelude.{None, Some}
 use Rattle.std.proofs.lemmas.Bool.Decides.{nat_tests}
 use Rattle.paseto_montgomery.specs.Octets.{i2osp, os2ip}
 use Rattle.paseto_p384.specs.Encoding.{decoded, encoded, point_at, right_side, signed}
-use Rattle.paseto_p384.specs.Field.{minus, power, prime, times}
-use Rattle.paseto_p384.specs.Point.{Point}
+use Rattle.paseto_weierstrass.specs.Field.{inverse, minus, power, prime, times}
+use Rattle.paseto_weierstrass.specs.Group.{IsPoint, Same}
+use Rattle.paseto_weierstrass.specs.Point.{Point}
+use Rattle.paseto_weierstrass.proofs.PointLaws.{same-quotient}
 
-pub encoded-is : (p : Point) (x y inverse : ℕ) → inverse ≡ power p.z (prime - 2) → x ≡ times p.x inverse → y ≡ times p.y inverse
+pub encoded-is : (p : Point) (x y z : ℕ) → z ≡ inverse p.z → x ≡ times p.x z → y ≡ times p.y z
     → (2 + y % 2) ∷ i2osp x 48 ≡ encoded p
 unfolding encoded
-encoded-is p x y inverse e f g = cc
+encoded-is p x y z e f g = cc
+
+-- coordinates of the same point have one encoding
+pub same-encoded : (p q : Point) → IsPoint p → Same p q → encoded q ≡ encoded p
+unfolding encoded
+same-encoded p q h s =
+    let x = same-quotient p.x p.z q.x q.z s.ratio h.x_below s.below s.nonzero s.x s.z in
+    let y = same-quotient p.y p.z q.y q.z s.ratio h.y_below s.below s.nonzero s.y s.z in
+    ap₂ (λ a b. (2 + b % 2) ∷ i2osp a 48) x y
 
 pub signed-same : (odd y : ℕ) → y % 2 ≡ odd → y ≡ signed odd y
 unfolding signed

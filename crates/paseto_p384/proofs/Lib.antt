@@ -1,6 +1,9 @@
 pub mod BaseLaws
+pub mod DecodingLaws
 pub mod EcdsaLaws
 pub mod EncodingLaws
 pub mod FieldLaws
 pub mod PointLaws
+pub mod SignatureLaws
+pub mod SigningLaws
 pub mod Validity

@@ -1,14 +1,9 @@
 -- The steps of double and add.
-use Rattle.std.proofs.Common.{◌≡◌, ◌≢◌, ℕ, zero, suc, ◌+◌, ◌-◌, ◌/◌, ◌%◌, ◌^◌, ◌<◌, ◌⊎◌, refl, sym, ◌∙◌, ap, inl, inr, arith}
+use Rattle.std.proofs.Common.{◌≡◌, ◌≢◌, ℕ, suc, ◌+◌, ◌-◌, ◌/◌, ◌%◌, ◌^◌, ◌<◌, refl, sym, ◌∙◌, ap, arith}
 use Rattle.std.proofs.lemmas.Bool.Decides.{nat_tests}
 use Rattle.std.proofs.lemmas.Nat.{shr-shr}
-use Rattle.paseto_p384.specs.Point.{Point, joint_multiple, neutral, point_add, point_add_by, point_double}
-
--- a bit is 0 or 1
-pub bit_cases : (n : ℕ) → n < 2 → (n ≡ 0) ⊎ (n ≡ 1)
-bit_cases zero h = inl refl
-bit_cases (suc zero) h = inr refl
-bit_cases (suc (suc n)) h = absurd (omega arith)
+use Rattle.paseto_weierstrass.specs.Point.{Point, neutral, point_add, point_double}
+use Rattle.paseto_weierstrass.specs.Multiples.{joint_multiple, point_add_by}
 
 -- the bits that are done are the half of those that are done after the next
 pub upper-bits : (v i : ℕ) → i < 384 → v / 2 ^ (384 - i) ≡ v / 2 ^ (384 - (i + 1)) / 2

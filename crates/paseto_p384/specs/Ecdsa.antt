@@ -1,17 +1,17 @@
 -- Verifying and signing of a hash, as numbers (FIPS 186-5, sections 6.4.1 and 6.4.2).
-use Rattle.std.specs.Prelude.{◌≡◌, ◌≢◌, ◌⊎◌, ℕ, ◌+◌, ◌-◌, ◌%◌, ◌<◌, List, ◌++◌, Option, None, Some, nat_eq, nat_lt, if◌then◌else◌}
+use Rattle.std.specs.Prelude.{◌≡◌, ◌≢◌, ◌⊎◌, ℕ, ◌+◌, ◌%◌, ◌<◌, List, ◌++◌, Option, None, Some, nat_eq, nat_lt, if◌then◌else◌}
 use Rattle.paseto_montgomery.specs.Octets.{i2osp}
-use Rattle.paseto_p384.specs.Base.{base, base_multiple}
-use Rattle.paseto_p384.specs.Curve.{order}
-use Rattle.paseto_p384.specs.Field.{power, prime, times}
-use Rattle.paseto_p384.specs.Point.{Point, joint_multiple}
+use Rattle.paseto_weierstrass.specs.Curve.{order}
+use Rattle.paseto_weierstrass.specs.Field.{inverse, prime, times}
+use Rattle.paseto_weierstrass.specs.Multiples.{joint_multiple, multiple_of}
+use Rattle.paseto_weierstrass.specs.Point.{Point, base}
 use Rattle.paseto_p384.specs.Scalar.{scalar_inverse, scalar_plus, scalar_times}
 
 -- R = [u1]G + [u2]Q of a hash e and a signature (r, s): u1 is e / s and u2 is r / s modulo n (6.4.2, steps 3 to 5)
 unfoldable pub named : Point → ℕ → ℕ → ℕ → Point
 named q e r s =
-    let inverse = scalar_inverse s in
-    joint_multiple base q 384 (scalar_times (e % order) inverse) (scalar_times r inverse)
+    let w = scalar_inverse s in
+    joint_multiple base q 384 (scalar_times (e % order) w) (scalar_times r w)
 
 -- R is not the neutral point, and its coordinate X / Z modulo n is r: X / Z is below p, which is below 2 * n, and so
 -- it is r or r + n (6.4.2, steps 6 to 8)
@@ -24,7 +24,7 @@ Accepts q e r s = ((0 < r) × (r < order)) × ((0 < s) × (s < order)) × IsFirs
 
 -- r: the coordinate X / Z of [k]G modulo n (6.4.1, steps 5 to 7)
 unfoldable pub first : ℕ → ℕ
-first k = let p = base_multiple k in times p.x (power p.z (prime - 2)) % order
+first k = let p = multiple_of k base in times p.x (inverse p.z) % order
 
 -- s: (e + r * d) / k modulo n (6.4.1, step 9)
 unfoldable pub second : ℕ → ℕ → ℕ → ℕ → ℕ

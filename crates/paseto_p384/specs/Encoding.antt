@@ -1,15 +1,15 @@
 -- Points of the curve as octets (SEC 1, sections 2.3.3 and 2.3.4), compressed.
-use Rattle.std.specs.Prelude.{ℕ, ◌+◌, ◌-◌, ◌/◌, ◌%◌, List, ◌∷◌, drop, slice_index, Option, None, Some, nat_eq, nat_lt, if◌then◌else◌}
+use Rattle.std.specs.Prelude.{ℕ, ◌+◌, ◌/◌, ◌%◌, List, ◌∷◌, drop, slice_index, Option, None, Some, nat_eq, nat_lt, if◌then◌else◌}
 use Rattle.paseto_montgomery.specs.Octets.{i2osp, os2ip}
-use Rattle.paseto_p384.specs.Curve.{curve_b}
-use Rattle.paseto_p384.specs.Field.{minus, plus, power, prime, times, triple}
-use Rattle.paseto_p384.specs.Point.{Point}
+use Rattle.paseto_weierstrass.specs.Curve.{curve_b}
+use Rattle.paseto_weierstrass.specs.Field.{inverse, minus, plus, power, prime, times, triple}
+use Rattle.paseto_weierstrass.specs.Point.{Point}
 
 -- 2 or 3 by the parity of y, and x, of the point (X / Z, Y / Z) (2.3.3, step 2)
 unfoldable pub encoded : Point → List ℕ
 encoded p =
-    let inverse = power p.z (prime - 2) in
-    (2 + times p.y inverse % 2) ∷ i2osp (times p.x inverse) 48
+    let z = inverse p.z in
+    (2 + times p.y z % 2) ∷ i2osp (times p.x z) 48
 
 -- alpha, which y ^ 2 has to be: x ^ 3 - 3 * x + b (2.3.4, step 2.4.1)
 unfoldable pub right_side : ℕ → ℕ

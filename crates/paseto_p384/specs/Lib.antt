@@ -1,9 +1,7 @@
 pub mod Base
-pub mod Curve
 pub mod Ecdsa
 pub mod Element
 pub mod Encoding
-pub mod Field
 pub mod Nonce
 pub mod P384
 pub mod Point

@@ -4,12 +4,12 @@ use Rattle.sha2.specs.Sha512.{sha384}
 use Rattle.rusty_paseto_parts.specs.declared.error.PasetoError.TheVariants.{InvalidSignature, KeyRejected, Signature}
 use Rattle.rusty_paseto_core.specs.Public.Scheme.{Declining, Refusal}
 use Rattle.paseto_montgomery.specs.Octets.{i2osp, os2ip}
-use Rattle.paseto_p384.specs.Base.{base_multiple}
-use Rattle.paseto_p384.specs.Curve.{order}
+use Rattle.paseto_weierstrass.specs.Curve.{order}
 use Rattle.paseto_p384.specs.Ecdsa.{Accepts, attempt}
 use Rattle.paseto_p384.specs.Encoding.{decoded, encoded}
 use Rattle.paseto_p384.specs.Nonce.{drawn, retried, started}
-use Rattle.paseto_p384.specs.Point.{Point}
+use Rattle.paseto_weierstrass.specs.Multiples.{multiple_of}
+use Rattle.paseto_weierstrass.specs.Point.{Point, base}
 use Rattle.paseto_p384.specs.declared.nonce.NonceGenerator.{NonceGenerator}
 
 -- e, the number of the hash: the leftmost 384 bits of its digest, which are all (6.4.1, step 2)
@@ -22,7 +22,7 @@ IsPrivate private = (length private ≡ 48) × ((0 < os2ip private) × (os2ip pr
 
 -- the public key of a private key, a compressed point
 unfoldable pub p384_public : List ℕ → List ℕ
-p384_public private = encoded (base_multiple (os2ip private))
+p384_public private = encoded (multiple_of (os2ip private) base)
 
 -- no signature is valid for a public key that is no point
 abbrev pub AcceptsBy : Option Point → ℕ → ℕ → ℕ → Type 0
@@ -58,7 +58,8 @@ p384_sign private message =
 abbrev pub IsRefused : Refusal
 IsRefused public message signature error = error ≡ InvalidSignature
 
--- what is answered for what is no private key, or a private key that has no valid signature of the message
+-- what is answered for what is no private key, or where the two candidates for a message give no signature
 abbrev pub IsDeclined : Declining
 IsDeclined private error =
-    ((¬ IsPrivate private) × (error ≡ KeyRejected)) ⊎ (IsPrivate private × (error ≡ Signature))
+    ((¬ IsPrivate private) × (error ≡ KeyRejected))
+    ⊎ (IsPrivate private × (error ≡ Signature) × ((message : List ℕ) × (p384_sign private message ≡ None)))

@@ -2,8 +2,10 @@
 
 ghost use Rattle.std.specs.Prelude.{◌≡◌, ◌<◌};
 ghost use Rattle.paseto_montgomery.specs.Words.{value};
-ghost use Rattle.paseto_p384.specs.Base.{base, base_multiple, fourth_base, second_base, third_base};
-ghost use Rattle.paseto_p384.specs.Point.{coordinates, point_add, point_add_by};
+ghost use Rattle.paseto_weierstrass.specs.Point.{base, point_add};
+ghost use Rattle.paseto_p384.specs.Base.{fourth_base, second_base, third_base};
+ghost use Rattle.paseto_p384.specs.Point.{coordinates};
+ghost use Rattle.paseto_weierstrass.specs.Multiples.{IsMultiple, point_add_by};
 
 use crate::field::FieldElement;
 use crate::field::constants::{base_x, base_y, one};
@@ -253,7 +255,7 @@ fn upper_pair() -> Pair
 
 /// The multiple of the base point, in a fixed number of steps and with no branch on the number.
 pub(crate) fn multiply_base(k: &[u64; 6]) -> ProjectivePoint
-    ensures { coordinates result ≡ base_multiple (value k.now 6) }
+    ensures { IsMultiple base (coordinates result) (value k.now 6) }
 {
     let lower = lower_pair();
     let upper = upper_pair();

@@ -5,9 +5,11 @@ mod base;
 mod ecdsa;
 mod encoding;
 mod field;
+mod laws;
 mod nonce;
 mod p384;
 mod point;
 mod scalar;
 
+pub use laws::signatures_are_valid;
 pub use p384::P384;

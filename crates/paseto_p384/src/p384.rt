@@ -1,15 +1,16 @@
 //! Keys, signing and verifying of messages (FIPS 186-5, section 6.4).
 
 ghost use Rattle.std.specs.Prelude.{◌≡◌, ◌↔◌, ◌⊎◌, ℕ, ◌<◌, List, length, None, Some, IfErr, IfOk, MatchOption, OnOk, IsTrue};
-ghost use Rattle.rusty_paseto_parts.specs.declared.error.PasetoError.TheVariants.{KeyRejected, Signature};
+ghost use Rattle.rusty_paseto_parts.specs.declared.error.PasetoError.TheVariants.{InvalidSignature, KeyRejected, Signature};
 ghost use Rattle.paseto_montgomery.specs.Octets.{os2ip};
 ghost use Rattle.paseto_montgomery.specs.Words.{value};
-ghost use Rattle.paseto_p384.specs.Curve.{order};
+ghost use Rattle.paseto_weierstrass.specs.Curve.{order};
 ghost use Rattle.paseto_p384.specs.P384.{IsDeclined, IsPrivate, IsRefused, P384Verifies, first_candidate, hash_number, p384_public, p384_sign, signed_by};
 
 use crate::base::multiply_base;
 use crate::ecdsa::{accepts, attempt};
 use crate::encoding::{decode, encode};
+use crate::laws::signatures_are_valid;
 use crate::nonce::NonceGenerator;
 use crate::scalar::{from_words, is_scalar, to_words};
 use paseto_montgomery::{from_octets, to_octets};
@@ -124,30 +125,6 @@ fn is_valid(public: &[u8], e: &[u64; 6], signature: &[u8; 96]) -> bool
     }
 }
 
-// A signature that is valid for the message with this hash.
-fn checked(
-    public: &[u8],
-    e: &[u64; 6],
-    signature: Option<[u8; 96]>,
-) -> Result<[u8; 96], PasetoError>
-    ensures ok { IfOk result (λ valid. (signature ≡ Some valid)
-        × ((message : List ℕ) → value e.now 6 ≡ hash_number message
-        → P384Verifies public.now message valid)) }
-    ensures err { IfErr result (λ error. (error ≡ PasetoError.Signature)
-        × ((message made : List ℕ) → value e.now 6 ≡ hash_number message
-        → signature ≡ Some made → ¬ P384Verifies public.now message made)) }
-{
-    match signature {
-        Some(made) => {
-            if !is_valid(public, e, &made) {
-                return Err(PasetoError::Signature);
-            }
-            Ok(made)
-        }
-        None => Err(PasetoError::Signature),
-    }
-}
-
 impl P384 {
     /// A new private key, which the generator gives, and its public key. No memory is taken. `Cipher` comes just where
     /// the generator fails, and `KeyRejected` where it gives 0 or a number that is not below n, which a good one
@@ -157,7 +134,8 @@ impl P384 {
             × IsPrivate pair.0 × (pair.1 ≡ p384_public pair.0)) }
         ensures err { IfErr result (λ error. ((error ≡ PasetoError.Cipher) × R.Error)
             ⊎ ((error ≡ PasetoError.KeyRejected)
-            × ((drawn : List ℕ) × R.may_fill rng.old drawn rng.new × (¬ IsPrivate drawn)))) }
+            × ((drawn : List ℕ) × (length drawn ≡ 48) × R.may_fill rng.old drawn rng.new
+            × (¬ IsPrivate drawn)))) }
     {
         let private = Key::<48>::try_new_random(rng)?;
         match private_number(private.as_bytes()) {
@@ -176,10 +154,10 @@ impl SignatureScheme<96> for P384 {
 
     ghost declined = { IsDeclined };
 
-    /// The signature of FIPS 186-5, section 6.4.1, with the nonce of RFC 6979, which is checked against the public
-    /// key of the private key before it is answered. `KeyRejected` comes for what is no private key: another length
-    /// than 48 bytes, 0, or a number that is not below n; and `Signature` where two candidates for a nonce are none,
-    /// or what was made is not valid. No memory is taken.
+    /// The signature of FIPS 186-5, section 6.4.1, with the nonce of RFC 6979. It is valid under the public key of the
+    /// private key, by the law `signatures_are_valid`, and not verified before it is answered. `KeyRejected` comes for
+    /// what is no private key: another length than 48 bytes, 0, or a number that is not below n; and `Signature` just
+    /// where neither of two candidates for a nonce gives a signature. No memory is taken.
     fn sign(
         &mut self,
         _alloc: Global,
@@ -189,16 +167,17 @@ impl SignatureScheme<96> for P384 {
         ensures ok { IfOk result (λ signature.
             P384Verifies (p384_public private.now) message.now signature
             × (p384_sign private.now message.now ≡ Some signature) × IsPrivate private.now) }
-        ensures err { IfErr result (λ error. IsDeclined private.now error
-            × (IsPrivate private.now → (made : List ℕ) → p384_sign private.now message.now
-            ≡ Some made
-            → ¬ P384Verifies (p384_public private.now) message.now made)) }
+        ensures err { IfErr result (λ error. ((¬ IsPrivate private.now) × (error ≡ KeyRejected))
+            ⊎ (IsPrivate private.now × (error ≡ Signature)
+            × (p384_sign private.now message.now ≡ None))) }
     {
         match private_number(private) {
             Some(d) => {
-                let e = hash_number(message);
-                let made = signature(private, &d, &e);
-                checked(&public_octets(&d), &e, made)
+                signatures_are_valid();
+                match signature(private, &d, &hash_number(message)) {
+                    Some(made) => Ok(made),
+                    None => Err(PasetoError::Signature),
+                }
             }
             None => Err(PasetoError::KeyRejected),
         }
@@ -211,7 +190,11 @@ impl SignatureScheme<96> for P384 {
         public: &[u8],
         message: &[u8],
         signature: &[u8; 96],
-    ) -> Result<(), PasetoError> {
+    ) -> Result<(), PasetoError>
+        ensures ok { OnOk result (P384Verifies public.now message.now signature.now) }
+        ensures err { IfErr result (λ error. (error ≡ InvalidSignature)
+            × (¬ P384Verifies public.now message.now signature.now)) }
+    {
         if is_valid(public, &hash_number(message), signature) {
             return Ok(());
         }

@@ -3,7 +3,9 @@
 ghost use Rattle.std.specs.Prelude.{◌≡◌, ◌<◌};
 ghost use Rattle.paseto_montgomery.specs.Words.{value};
 ghost use Rattle.paseto_p384.specs.Element.{number};
-ghost use Rattle.paseto_p384.specs.Point.{coordinates, cross, joint_multiple, neutral, point_add, point_add_by, point_double};
+ghost use Rattle.paseto_p384.specs.Point.{coordinates};
+ghost use Rattle.paseto_weierstrass.specs.Point.{cross, neutral, point_add, point_double};
+ghost use Rattle.paseto_weierstrass.specs.Multiples.{joint_multiple, point_add_by};
 
 mod pair;
 mod projective;

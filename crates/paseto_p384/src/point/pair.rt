@@ -1,7 +1,8 @@
 //! Two points and their sum.
 
 ghost use Rattle.std.specs.Prelude.{◌≡◌};
-ghost use Rattle.paseto_p384.specs.Point.{coordinates, point_add};
+ghost use Rattle.paseto_p384.specs.Point.{coordinates};
+ghost use Rattle.paseto_weierstrass.specs.Point.{point_add};
 
 use super::ProjectivePoint;
 

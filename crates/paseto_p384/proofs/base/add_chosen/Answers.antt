@@ -1,7 +1,9 @@
 use Rattle.std.proofs.Common.{◌≡◌, ℕ, ◌∙◌, ap, ap₂, inl, inr, arith}
 use Rattle.std.specs.Prelude.{bit_and, bit_or}
-use Rattle.paseto_p384.specs.Point.{coordinates, point_add}
-use Rattle.paseto_p384.proofs.PointLaws.{add_by_both, add_by_first, add_by_none, add_by_second, bit_cases}
+use Rattle.paseto_p384.specs.Point.{coordinates}
+use Rattle.paseto_weierstrass.specs.Point.{point_add}
+use Rattle.paseto_weierstrass.proofs.FieldLaws.{bit_cases}
+use Rattle.paseto_p384.proofs.PointLaws.{add_by_both, add_by_first, add_by_none, add_by_second}
 use Rattle.paseto_p384.proofs.base.add_chosen.Goals as goal
 
 pub returns : goal.returns

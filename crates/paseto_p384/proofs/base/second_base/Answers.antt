@@ -1,10 +1,11 @@
 use Rattle.std.proofs.Common.{lit<, refl}
-use Rattle.paseto_montgomery.specs.Residue.{minus as minus_modulo, plus as plus_modulo, residue, times as times_modulo}
+use Rattle.paseto_montgomery.specs.Residue.{residue}
 use Rattle.paseto_montgomery.specs.Words.{value, weight}
+use Rattle.paseto_polynomials.specs.Element.{minus as minus_modulo, plus as plus_modulo, times as times_modulo}
 use Rattle.paseto_p384.specs.Base.{doubled, fourth_base, second_base, third_base}
 use Rattle.paseto_p384.specs.Element.{number}
-use Rattle.paseto_p384.specs.Field.{minus, plus, times, triple}
-use Rattle.paseto_p384.specs.Point.{cross, point_add, point_double}
+use Rattle.paseto_weierstrass.specs.Field.{minus, plus, times, triple}
+use Rattle.paseto_weierstrass.specs.Point.{cross, point_add, point_double}
 use Rattle.paseto_p384.proofs.base.second_base.Goals as goal
 
 pub invariant_of-result : goal.invariant_of-result

@@ -1,9 +1,10 @@
 use Rattle.std.proofs.Common.{◌∙◌, ap, ap₂}
 use Rattle.std.proofs.Math.Nat.{mod-eq_of_lt}
 use Rattle.paseto_montgomery.specs.Words.{value}
-use Rattle.paseto_p384.specs.Base.{base}
+use Rattle.paseto_weierstrass.specs.Point.{base}
 use Rattle.paseto_p384.specs.Ecdsa.{named}
-use Rattle.paseto_p384.specs.Point.{coordinates, joint_multiple}
+use Rattle.paseto_p384.specs.Point.{coordinates}
+use Rattle.paseto_weierstrass.specs.Multiples.{joint_multiple}
 use Rattle.paseto_p384.specs.Scalar.{scalar_inverse, scalar_times}
 use Rattle.paseto_p384.proofs.ecdsa.named.Goals as goal
 

@@ -1,9 +1,19 @@
 use Rattle.std.proofs.Common.{◌∙◌, ap}
-use Rattle.paseto_p384.specs.Base.{base_multiple}
+use Rattle.paseto_weierstrass.specs.Multiples.{multiple_of}
+use Rattle.paseto_weierstrass.specs.Point.{base}
+use Rattle.paseto_weierstrass.proofs.MultipleLaws.{multiple-is_point}
+use Rattle.paseto_weierstrass.proofs.PointLaws.{base-is_point}
+use Rattle.paseto_montgomery.specs.Words.{value}
 use Rattle.paseto_p384.specs.Encoding.{encoded}
 use Rattle.paseto_p384.specs.P384.{p384_public}
+use Rattle.paseto_p384.specs.Point.{coordinates}
+use Rattle.paseto_p384.proofs.EncodingLaws.{same-encoded}
 use Rattle.paseto_p384.proofs.p384.public_octets.Goals as goal
 
 pub returns : goal.returns
 unfolding p384_public
-returns c private h = c.encode.ensures ∙ ap encoded (c.multiply_base.ensures ∙ ap base_multiple h)
+returns c private h =
+    let d = value c.args.d.now 6 in
+    c.encode.ensures
+    ∙ same-encoded (multiple_of d base) (coordinates c.multiply_base.result) (multiple-is_point d base base-is_point) c.multiply_base.ensures.same
+    ∙ ap (λ n. encoded (multiple_of n base)) h

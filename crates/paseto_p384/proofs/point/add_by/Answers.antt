@@ -1,5 +1,6 @@
 use Rattle.std.proofs.Common.{◌∙◌, ap}
-use Rattle.paseto_p384.specs.Point.{coordinates, point_add}
+use Rattle.paseto_p384.specs.Point.{coordinates}
+use Rattle.paseto_weierstrass.specs.Point.{point_add}
 use Rattle.paseto_p384.proofs.PointLaws.{add_by_both, add_by_first, add_by_none, add_by_second}
 use Rattle.paseto_p384.proofs.point.add_by.Goals as goal
 

@@ -1,6 +1,7 @@
 use Rattle.std.proofs.Common.{◌≡◌, ℕ, ◌+◌, ◌-◌, ◌/◌, ◌^◌, length, ◌∙◌, sym, ap, ap₂, add-one, rules, arith}
 use Rattle.paseto_montgomery.specs.Words.{value}
-use Rattle.paseto_p384.specs.Point.{coordinates, joint_multiple}
+use Rattle.paseto_p384.specs.Point.{coordinates}
+use Rattle.paseto_weierstrass.specs.Multiples.{joint_multiple}
 use Rattle.paseto_p384.proofs.PointLaws.{joint-none, joint-step, lower-bit, upper-bits}
 use Rattle.paseto_p384.proofs.point.multiply_pair.Goals as goal
 

@@ -1,6 +1,7 @@
 use Rattle.std.proofs.Common.{◌≡◌, ◌-◌, ◌/◌, ◌^◌}
 use Rattle.paseto_montgomery.specs.Words.{value}
-use Rattle.paseto_p384.specs.Point.{coordinates, joint_multiple}
+use Rattle.paseto_p384.specs.Point.{coordinates}
+use Rattle.paseto_weierstrass.specs.Multiples.{joint_multiple}
 use Rattle.paseto_p384.proofs.point.multiply_pair.Given as goal
 
 abbrev pub invariant-bits : goal.invariant-bits

@@ -1,0 +1,12 @@
+pub mod Associativity
+pub mod CompletenessLaws
+pub mod FieldLaws
+pub mod Formulas
+pub mod GroupLaws
+pub mod Identities
+pub mod MultipleLaws
+pub mod OrderLaws
+pub mod Plane
+pub mod PointLaws
+pub mod RootLaws
+pub mod SumLaws

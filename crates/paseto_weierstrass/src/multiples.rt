@@ -1,0 +1,44 @@
+//! Multiples of the base point.
+
+ghost use Rattle.std.specs.Prelude.{ℕ, ◌+◌, ◌*◌, ◌%◌, ◌^◌, ◌<◌, ◌≡◌, ◌↔◌};
+ghost use Rattle.paseto_weierstrass.specs.Curve.{order};
+ghost use Rattle.paseto_weierstrass.specs.Group.{IsPoint, Same};
+ghost use Rattle.paseto_weierstrass.specs.Multiples.{joint_multiple, multiple_of};
+ghost use Rattle.paseto_weierstrass.specs.Point.{Point, base, neutral, point_add};
+
+/// A multiple is a point.
+pub fn multiple_is_point()
+    ensures { (n : ℕ) (p : Point) → IsPoint p → IsPoint (multiple_of n p) }
+{}
+
+/// [m + n]G = [m]G + [n]G.
+pub fn multiple_by_sum()
+    ensures { (m n : ℕ) → Same (multiple_of (m + n) base) (point_add (multiple_of m base) (multiple_of n base)) }
+{}
+
+/// [m * n]G = [m]([n]G).
+pub fn multiple_by_product()
+    ensures { (m n : ℕ) → Same (multiple_of (m * n) base) (multiple_of m (multiple_of n base)) }
+{}
+
+/// [n]G is neutral (SP 800-186, section 3.2.1.4).
+pub fn order_of_base()
+    ensures { Same (multiple_of order base) neutral }
+{}
+
+/// [k]G is neutral exactly where n divides k, since n is prime.
+pub fn multiples_of_base()
+    ensures { (k : ℕ) → Same (multiple_of k base) neutral ↔ (k % order ≡ 0) }
+{}
+
+/// [k]G is [k mod n]G.
+pub fn multiple_by_remainder()
+    ensures { (k : ℕ) → Same (multiple_of (k % order) base) (multiple_of k base) }
+{}
+
+/// Double and add over two numbers at once (F. Straus, "Addition chains of vectors", American Mathematical Monthly 71,
+/// 1964) gives [k]G + [l]Q, where Q is a multiple of G.
+pub fn joint_multiple_is_sum()
+    ensures { (q : Point) (d bits k l : ℕ) → IsPoint q → Same (multiple_of d base) q → k < 2 ^ bits → l < 2 ^ bits
+        → Same (point_add (multiple_of k base) (multiple_of l q)) (joint_multiple base q bits k l) }
+{}
