@@ -11,7 +11,7 @@ use Rattle.paseto_primes.proofs.EulerLaws.{inverse as inverse-of}
 use Rattle.paseto_edwards.proofs.ExtendedLaws.{added-stands, affine-stands, affine-x, affine-y, doubled-stands, opposite-stands, times-is}
 use Rattle.paseto_edwards.proofs.CurveLaws.{base-point, curve}
 use Rattle.paseto_primes.proofs.FieldOfEdwards25519.{is-prime}
-use Rattle.paseto_edwards.proofs.MultipleLaws.{multiple-neutral, multiple-one, multiple-plus, multiple-point, multiple-times, multiple-sum, sum-four}
+use Rattle.paseto_edwards.proofs.MultipleLaws.{neutral-sum, multiple-neutral, multiple-one, multiple-plus, multiple-point, multiple-times, multiple-sum, sum-four}
 use Rattle.paseto_edwards25519.specs.Curve.{IsPoint, base_t, multiple, opposite, sum, twice_d}
 use Rattle.paseto_edwards.specs.Edwards25519.{base, base_x, base_y, d, prime}
 use Rattle.paseto_edwards25519.specs.Extended.{IsExtended, affine, between, extended, factored, flat, half, half_of_inverse_d}
@@ -220,3 +220,6 @@ multiple-of_multiple m n a point = sym (multiple-times prime d curve m n a point
 
 pub multiple-of_neutral : (n : ℕ) → multiple n neutral ≡ neutral
 multiple-of_neutral n = multiple-neutral prime d curve n
+
+pub sum-with_none : (a b : Affine) → IsPoint a → sum a (multiple 0 b) ≡ a
+sum-with_none a b point = ap (λ c. sum a c) (multiple-none b) ∙ neutral-sum prime d curve a point

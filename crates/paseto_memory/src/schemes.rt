@@ -3,7 +3,7 @@
 use crate::rsa_key::{PRIVATE, PUBLIC};
 use crate::run::{Run, calls};
 use anyhow::{Context, Result};
-use paseto_ed25519::Ed25519;
+use paseto_ed25519::{Ed25519, Ed25519Signer};
 use paseto_p384::P384;
 use paseto_rsa::RsaPss;
 use paseto_toys::generators::{Counting, Zeros};
@@ -11,6 +11,7 @@ use paseto_xchacha20poly1305::XChaCha20Poly1305;
 use rusty_paseto::prelude::*;
 use rusty_paseto::validators::*;
 use serde_json::Value;
+use std::alloc::Global;
 
 /// Asks them.
 pub fn ask(run: &mut Run<'_>) -> Result<()> {
@@ -38,15 +39,29 @@ fn private_half<const N: usize, const M: usize>(pair: (Key<N>, Key<M>)) -> [u8; 
     *pair.0.as_bytes()
 }
 
+// That there is a signer.
+fn let_go(_signer: Ed25519Signer) {}
+
+// A signature under a key that is asked once.
+fn signed(alloc: Global, private: &Key<64>, text: &[u8]) -> Result<[u8; 64], PasetoError> {
+    Ed25519::with_key(private)?.sign(alloc, private.as_bytes(), text)
+}
+
 fn ask_ed25519(run: &mut Run<'_>) -> Result<()> {
     let (alloc, text) = (run.alloc, run.text.as_bytes());
     let (private, public) = Ed25519::key_pair(&mut Zeros)?;
     let signature = Ed25519.sign(alloc, private.as_bytes(), text)?;
+    let signer = Ed25519::with_key(&private)?;
     calls! { run;
         "Ed25519::key_pair of a generator, with no memory" => Ed25519::key_pair(&mut Zeros).map(private_half);
+        "Ed25519::with_key, with no memory" => Ed25519::with_key(&private).map(let_go);
         "SignatureScheme::sign of Ed25519, with no memory" => Ed25519.sign(alloc, private.as_bytes(), text);
         "SignatureScheme::verify of Ed25519, with no memory"
             => Ed25519.verify(alloc, public.as_bytes(), text, &signature);
+        "SignatureScheme::sign of Ed25519Signer, with no memory"
+            => signed(alloc, &private, text);
+        "SignatureScheme::verify of Ed25519Signer, with no memory"
+            => signer.verify(alloc, public.as_bytes(), text, &signature);
     }
 }
 

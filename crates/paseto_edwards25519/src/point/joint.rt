@@ -32,15 +32,27 @@ fn multiples(a: ExtendedPoint) -> [Addend; 16]
     table
 }
 
-// A point, a multiple of the base point and one of the other.
-fn add_digits(p: ExtendedPoint, i: u128, j: u128, table: &[Addend; 16]) -> ProjectivePoint
-    requires i { i < 16 }
-    requires j { j < 16 }
-    ensures { (a : Affine) → AreMultiples a 16 table.now
-        → affine (projected result) ≡ sum (sum (point p) (multiple i base)) (multiple j a) }
+// A point, and the multiple of the base point by a digit.
+fn add_known(p: ExtendedPoint, i: u128) -> ExtendedPoint
+    requires { i < 16 }
+    ensures { point result ≡ sum (point p) (multiple i base) }
 {
-    let more = to_extended(add_affine(p, &known_multiple(i)));
-    to_projective(add(more, &table[j as usize]))
+    if i == 0 {
+        return p;
+    }
+    to_extended(add_affine(p, &known_multiple(i)))
+}
+
+// A point, and the multiple of the other point by a digit.
+fn add_listed(p: ExtendedPoint, j: u128, table: &[Addend; 16]) -> ProjectivePoint
+    requires { j < 16 }
+    ensures { (a : Affine) → AreMultiples a 16 table.now
+        → affine (projected result) ≡ sum (point p) (multiple j a) }
+{
+    if j == 0 {
+        return flattened(p);
+    }
+    to_projective(add(p, &table[j as usize]))
 }
 
 /// The sum of the multiple of the base point by `s` and of the multiple of another point by `k`, in a time that
@@ -54,12 +66,8 @@ pub fn multiply_both(s: &[u8; 32], k: &[u8; 32], a: ExtendedPoint) -> Projective
     let mut sum = flattened(identity());
     'digits: for i in 0..DIGITS {
         let at = DIGITS - 1 - i;
-        sum = add_digits(
-            sixteen_times(sum),
-            digit(first, at),
-            digit(second, at),
-            &table,
-        );
+        let more = add_known(sixteen_times(sum), digit(first, at));
+        sum = add_listed(more, digit(second, at), &table);
     }
     sum
 }

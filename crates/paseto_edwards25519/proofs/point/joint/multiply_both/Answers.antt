@@ -30,8 +30,9 @@ digits-preserved c =
     let shifted = ap₂ (λ m n. sum (multiple (s / 16 ^ m) base) (multiple (k / 16 ^ n) a)) before before in
     let first = c.digit.ensures.value ∙ ap (λ n. digit n at) c.halves-first.ensures in
     let second = c.digit-in-digits.ensures.value ∙ ap (λ n. digit n at) c.halves-second.ensures in
-    let digits = c.add_digits-sum.ensures a c.multiples-table.ensures
-    ∙ ap₂ (λ m n. sum (sum (point c.sixteen_times.result) (multiple m base)) (multiple n a)) first second in
+    let more = c.add_known-more.ensures ∙ ap (λ n. sum (point c.sixteen_times.result) (multiple n base)) first in
+    let digits = c.add_listed-sum.ensures a c.multiples-table.ensures
+    ∙ ap₂ (λ p n. sum p (multiple n a)) more second in
     joint-next (s / 16 ^ suc at) (k / 16 ^ suc at) (digit s at) (digit k at) a _ _ _ on_curve
     c.sixteen_times.ensures (c.digits.invariant ∙ shifted) digits
     ∙ ap₂ (λ m n. sum (multiple m base) (multiple n a)) (digit-step s at) (digit-step k at)
