@@ -7,7 +7,9 @@ use Rattle.paseto_weierstrass.specs.Multiples.{joint_multiple, multiple_of}
 use Rattle.paseto_weierstrass.specs.Point.{Point, base}
 use Rattle.paseto_p384.specs.Scalar.{scalar_inverse, scalar_plus, scalar_times}
 
--- R = [u1]G + [u2]Q of a hash e and a signature (r, s): u1 is e / s and u2 is r / s modulo n (6.4.2, steps 3 to 5)
+-- R = [u1]G + [u2]Q of a hash e and a signature (r, s): u1 is e / s and u2 is r / s modulo n (6.4.2, steps 3 to 5). Where
+-- Q is a multiple of G, as of a private key, this is the sum of the two multiples (`joint_multiple_is_sum`); for any other
+-- Q the order of the additions is part of the definition
 unfoldable pub named : Point → ℕ → ℕ → ℕ → Point
 named q e r s =
     let w = scalar_inverse s in
