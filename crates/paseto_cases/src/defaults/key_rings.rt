@@ -143,9 +143,19 @@ fn an_id_that_is_not_in_the_ring(rt: HostRuntime) {
     check_refused(&rt, alloc, Some("{\"kid\":\"K1\"}"), upper);
     // The id is anybody's text, which is to stay on its line of a log, and else reads as it is.
     let two_lines = "The key 'x\\nERROR\\u{202e}' is not in the ring";
-    check_refused(&rt, alloc, Some("{\"kid\":\"x\\nERROR\\u202e\"}"), two_lines);
+    check_refused(
+        &rt,
+        alloc,
+        Some("{\"kid\":\"x\\nERROR\\u202e\"}"),
+        two_lines,
+    );
     let printable = "The key 'it's \"mine\", \\ü' is not in the ring";
-    check_refused(&rt, alloc, Some("{\"kid\":\"it's \\\"mine\\\", \\\\ü\"}"), printable);
+    check_refused(
+        &rt,
+        alloc,
+        Some("{\"kid\":\"it's \\\"mine\\\", \\\\ü\"}"),
+        printable,
+    );
 }
 
 #[test]

@@ -108,10 +108,7 @@ const FAULTS: &[(Option<&str>, &str)] = &[
     (None, "The token has no footer"),
     (Some("k1"), "The footer is not a JSON object"),
     (Some("{\"kid\":1}"), "The footer names no key"),
-    (
-        Some("{\"kid\":\"k3\"}"),
-        "The key 'k3' is not in the ring",
-    ),
+    (Some("{\"kid\":\"k3\"}"), "The key 'k3' is not in the ring"),
 ];
 
 #[test]
