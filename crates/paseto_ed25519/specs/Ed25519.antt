@@ -78,6 +78,10 @@ IsOwn private = ed25519_public (take 32 private) ≡ partner private
 abbrev pub IsSigned : List ℕ → List ℕ → Type 0
 IsSigned private message = IsOwn private × (nonce (take 32 private) message ≢ 0)
 
+-- some message has no signature under a private key
+unfoldable pub HasUnsigned : List ℕ → Type 0
+HasUnsigned private = (message : List ℕ) × ¬ IsSigned private message
+
 -- what is answered for a signature that is not valid
 abbrev pub IsRefused : Refusal
 IsRefused public message signature error = error ≡ InvalidSignature
@@ -86,8 +90,8 @@ IsRefused public message signature error = error ≡ InvalidSignature
 abbrev pub IsDeclined : Declining
 IsDeclined private error =
     ((length private ≢ 64) × (error ≡ KeyRejected))
-    ⊎ ((length private ≡ 64) × (error ≡ Signature) × (message : List ℕ) × ¬ IsSigned private message)
+    ⊎ ((length private ≡ 64) × (error ≡ Signature) × HasUnsigned private)
 
 -- what a scheme that holds a private key answers for another, or where a message has no signature
 abbrev pub IsDeclinedByKey : Declining
-IsDeclinedByKey private error = (error ≡ KeyRejected) ⊎ ((error ≡ Signature) × (message : List ℕ) × ¬ IsSigned private message)
+IsDeclinedByKey private error = (error ≡ KeyRejected) ⊎ ((error ≡ Signature) × HasUnsigned private)

@@ -121,6 +121,7 @@ impl SignatureScheme<64> for Ed25519 {
     /// The signature of RFC 8032, section 5.1.6, which is valid for the private key's public half. `KeyRejected`
     /// comes for a private key that has not 64 bytes, and `Signature` where its public half is another seed's, which
     /// is asked at each call (`with_key` asks it once), or where the nonce is 0. No memory is taken.
+    #[tactic(auto, unfolding(crate::specs::Ed25519::HasUnsigned))]
     fn sign(
         &mut self,
         _alloc: Global,

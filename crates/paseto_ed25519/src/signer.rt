@@ -58,6 +58,7 @@ impl SignatureScheme<64> for Ed25519Signer {
 
     /// The signature of RFC 8032, section 5.1.6, which is valid for the private key's public half. `KeyRejected`
     /// comes for another private key than the signer's, and `Signature` where the nonce is 0. No memory is taken.
+    #[tactic(auto, unfolding(crate::specs::Ed25519::HasUnsigned))]
     fn sign(
         &mut self,
         _alloc: Global,
