@@ -1,4 +1,4 @@
-use Rattle.std.proofs.Common.{◌≡◌, ◌⊎◌, ℕ, List, ◌∙◌, sym, inl, inr, subst, rules}
+use Rattle.std.proofs.Common.{◌≡◌, ℕ, List, ◌∙◌, sym, subst, rules}
 use Rattle.paseto_rsa.specs.RsaPss.{RsaPssVerifies}
 use Rattle.paseto_rows.proofs.rsa.check_invalid.Goals as goal
 
@@ -18,8 +18,5 @@ returns-in-Err-InvalidSignature c =
       says_public = c.in_ok-public.ensures;
       says_message = c.in_ok-message.ensures;
       says_signature = c.in_ok-signature.ensures;
-      is_refused = elim c.in-Err-InvalidSignature.ensures.err [
-        | inl memory ↦ absurd (rw c.in-Err-InvalidSignature.field-0-is at memory)
-        | inr refused ↦ moved _ _ _ _ _ _ c.deref-2.ensures.value c.deref-3.ensures.value array refused.0
-      ];
+      is_refused = moved _ _ _ _ _ _ c.deref-2.ensures.value c.deref-3.ensures.value array c.in-Err-InvalidSignature.ensures.err.1;
     }

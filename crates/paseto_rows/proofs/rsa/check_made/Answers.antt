@@ -13,7 +13,7 @@ returns c =
     let private = c.in_ok-private.private.items in
     let message = c.in_ok-message.message.items in
     let made = c.in_ok-made.ensures.ok.1 in
-    let drawn = made.1 ∙ c.scheme.ensures in
+    let drawn = made.2 ∙ c.scheme.ensures in
     let same = c.compare.ensures.0 (rw c.in_ok-compare.was refl) in
     record {
       private_bytes = private;
@@ -24,5 +24,5 @@ returns c =
       says_message = c.in_ok-message.ensures;
       says_salt = c.in_ok-salt.ensures;
       says_signature = c.in_ok-signature.ensures;
-      is_signed = moved _ _ _ _ _ _ _ _ c.deref.ensures.value c.deref-2.ensures.value drawn same made.2;
+      is_signed = moved _ _ _ _ _ _ _ _ c.deref.ensures.value c.deref-2.ensures.value drawn same made.3;
     }
