@@ -54,7 +54,7 @@ fn ask_ed25519(run: &mut Run<'_>) -> Result<()> {
     let signer = Ed25519::with_key(&private)?;
     calls! { run;
         "Ed25519::key_pair of a generator, with no memory" => Ed25519::key_pair(&mut Zeros).map(private_half);
-        "Ed25519::with_key, with no memory" => Ed25519::with_key(&private).map(let_go);
+        "Ed25519::with_key of a private key, with no memory" => Ed25519::with_key(&private).map(let_go);
         "SignatureScheme::sign of Ed25519, with no memory" => Ed25519.sign(alloc, private.as_bytes(), text);
         "SignatureScheme::verify of Ed25519, with no memory"
             => Ed25519.verify(alloc, public.as_bytes(), text, &signature);
