@@ -43,7 +43,7 @@ paseto_bench_seal paseto_bench_v1_seal, paseto_bench_v2_seal, paseto_bench_v3_se
 paseto_bench_open paseto_bench_v1_open, paseto_bench_v2_open, paseto_bench_v3_open,
     paseto_bench_v4_open, paseto_bench_v3_verify, paseto_bench_v4_verify;
 paseto_bench_digest paseto_bench_blake2b, paseto_bench_hmac_sha384, paseto_bench_ed25519_sign,
-    paseto_bench_v3_sign, paseto_bench_v4_sign;
+    paseto_bench_ed25519_sign_with_key, paseto_bench_v3_sign, paseto_bench_v4_sign;
 paseto_bench_cipher paseto_bench_xchacha20, paseto_bench_aes256_ctr;
 paseto_bench_box paseto_bench_xchacha20poly1305_seal, paseto_bench_xchacha20poly1305_open;
 paseto_bench_key paseto_bench_ed25519_public_key;

@@ -33,8 +33,8 @@ pub use primitives::{
 };
 pub use rsa::{paseto_bench_rsa_sign, paseto_bench_rsa_verify, paseto_bench_rsa_verify_read};
 pub use schemes::{
-    paseto_bench_ed25519_public_key, paseto_bench_ed25519_sign, paseto_bench_ed25519_verify,
-    paseto_bench_v4_sign, paseto_bench_v4_verify,
+    paseto_bench_ed25519_public_key, paseto_bench_ed25519_sign, paseto_bench_ed25519_sign_with_key,
+    paseto_bench_ed25519_verify, paseto_bench_v4_sign, paseto_bench_v4_verify,
 };
 pub use signed_v3::{paseto_bench_v3_sign, paseto_bench_v3_verify};
 pub use tokens::{

@@ -59,6 +59,20 @@ pub extern "C" fn paseto_bench_ed25519_sign(
     sign_messages(alloc, private, message, signature, reps).unwrap_or(FAILED)
 }
 
+/// Signs `message` by Ed25519 as `paseto_bench_ed25519_sign` does, under a private key whose halves are asked once.
+#[unsafe(no_mangle)]
+pub extern "C" fn paseto_bench_ed25519_sign_with_key(
+    alloc: Global,
+    private: &[u8],
+    message: &[u8],
+    signature: &mut [u8],
+    reps: u32,
+) -> u64
+    ensures { result ≢ 2 ^ 64 - 1 → signature.new ≡ ed25519_sign private.now message.now }
+{
+    sign_with_key(alloc, private, message, signature, reps).unwrap_or(FAILED)
+}
+
 /// Verifies a signature of 64 bytes by Ed25519, `reps` times and at least once.
 ///
 /// The answer is 0, or 2^64 - 1 where it is not valid.
@@ -109,6 +123,29 @@ pub extern "C" fn paseto_bench_v4_verify(
     ensures { result ≢ 2 ^ 64 - 1 → VerifiesAs public.now token.now text.new }
 {
     verify_tokens(alloc, public, token, text, reps).unwrap_or(FAILED)
+}
+
+/// Signs the message `reps` times, and at least once, under a key that is asked before, and adds up the signatures'
+/// last bytes.
+fn sign_with_key(
+    alloc: Global,
+    private: &[u8],
+    message: &[u8],
+    signature: &mut [u8],
+    reps: u32,
+) -> Option<u64>
+    ensures { IsSome result → signature.new ≡ ed25519_sign private.now message.now }
+{
+    let key = Key::from(*private.as_array::<64>()?);
+    let mut signer = Ed25519::with_key(&key).ok()?;
+    let mut sum = 0u64;
+    'repetitions: for _ in 1..reps {
+        let made = signer.sign(alloc, private, message).ok()?;
+        sum = sum.wrapping_add(made[63] as u64);
+    }
+    let made = signer.sign(alloc, private, message).ok()?;
+    copy_bytes(&made, signature)?;
+    Some(sum.wrapping_add(made[63] as u64))
 }
 
 /// Signs the message `reps` times, and at least once, and adds up the signatures' last bytes.

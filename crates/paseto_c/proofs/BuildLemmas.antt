@@ -1,5 +1,5 @@
 -- What is built of claims, and why nothing is.
-use Rattle.std.proofs.Common.{◌≡◌, ◌∙◌, ◌⊎◌, inl, inr, ℕ, ℤ, List, Option, Some, None, is_some, Result, Ok, Err, IfOk, IfErr, String, Global, string_bytes, refl, sym}
+use Rattle.std.proofs.Common.{◌≡◌, ◌∙◌, ◌⊎◌, inl, inr, ℕ, ℤ, List, Option, Some, None, is_some, Result, Ok, Err, IfOk, IfErr, String, Global, string_bytes, length, refl, sym, ap, ap₂, subst}
 use Rattle.std.proofs.lemmas.Bool.{false≢true}
 use Rattle.serde_json.specs.Data.{Members, object}
 use Rattle.serde_json.specs.Read.{read}
@@ -8,18 +8,20 @@ use Rattle.rusty_paseto_parts.specs.declared.texts.implicit_assertion.ImplicitAs
 use Rattle.rusty_paseto_core.specs.Context.{assertion_of, binding_of, footer_of}
 use Rattle.rusty_paseto_core.specs.Local.Sealing.{sealing}
 use Rattle.rusty_paseto_core.specs.Local.V4.{v4}
-use Rattle.rusty_paseto_core.specs.Public.{v4_public}
+use Rattle.rusty_paseto_core.specs.Public.{message, v4_public}
 use Rattle.rusty_paseto_core.specs.Public.Signing.{IsSigning}
 use Rattle.paseto_ed25519.specs.Ed25519.{Ed25519Verifies, IsDeclined as IsDeclinedKey, partner}
 use Rattle.paseto_c.specs.Public.{IsDeclined}
-use Rattle.rusty_paseto_generic.specs.Builders.Claims.{becomes, payload, refused as refused_for}
+use Rattle.rusty_paseto_generic.specs.Builders.Claims.{Outcome, becomes, payload, refused as refused_for}
 use Rattle.rusty_paseto.specs.PasetoBuilder.{Counting}
+use Rattle.rusty_paseto.proofs.DefaultClaims.{same_default}
 use Rattle.paseto_c.specs.Arguments.{AreTaken, Call, IsMade, IsMadeWhole, Makes, Refuses, bad_key, bad_nonce, binding, has_bytes, no_memory, not_utf8, refused}
-use Rattle.paseto_c.specs.Build.{IsBeginningFault, IsBegun, IsBuilt, IsBuildingFault, IsRepeat, building_local, building_public, no_claim, no_moment, no_object, not_begun, not_set, twice}
-use Rattle.paseto_c.specs.Claims.{IsNoObject}
+use Rattle.paseto_c.specs.Build.{IsBeginningFault, IsBegun, IsBuilt, IsBuildingFault, IsRepeat, SignsBuilt, building_local, building_public, no_claim, no_moment, no_object, not_begun, not_set, twice}
+use Rattle.paseto_c.specs.Claims.{IsNoObject, all_set}
 use Rattle.paseto_c.specs.declared.refusal.Refusal.{Refusal}
 use Rattle.paseto_c.specs.declared.refusal.Refusal.TheVariants.{Memory, NotObject, DuplicateTopLevelPayloadClaim}
 use Rattle.paseto_c.proofs.ClaimLemmas.{all_set-fault}
+use Rattle.paseto_c.proofs.Exits.{ed25519_apart}
 
 -- the object that a text is is one
 same_members : (text : List ℕ) (one other : Members) → read text ≡ Some (object one) → read text ≡ Some (object other) → one ≡ other
@@ -58,6 +60,29 @@ pub built_whole : (key seed claims : List ℕ) (now : ℤ) (footer assertion : L
     → IsMade (building_local key seed claims now footer assertion) result → IsMadeWhole (building_local key seed claims now footer assertion) result
 built_whole key seed claims now footer assertion result =
     whole_made (building_local key seed claims now footer assertion) result (λ refusal text. built_apart claims now _ refusal)
+
+-- claims that are built make one text
+same_next : (outcome : Outcome) (one two : Members) → outcome ≡ becomes one → outcome ≡ becomes two → one ≡ two
+same_next outcome one two a b = let same : becomes one ≡ becomes two = sym a ∙ b in cc
+
+built_same : (text : List ℕ) (now : ℤ) (One Two : List ℕ → Type 0) → ((made : List ℕ) → One made → Two made → ⊥)
+    → IsBuilt text now One → IsBuilt text now Two → ⊥
+built_same text now One Two apart a b =
+    let members = same_members text a.members b.members a.is_object b.is_object in
+    let first = a.are_claims in
+    let second = b.are_claims in
+    let defaults = same_default a.moment b.moment first.defaults second.defaults (a.begins.is_moment ∙ sym b.begins.is_moment) first.are_defaults second.are_defaults in
+    let set = ap₂ (λ (m d : Members). all_set m d) members defaults in
+    let claims = same_next _ a.claims b.claims (sym set ∙ first.are_set) second.are_set in
+    apart (payload b.claims) (subst (λ (c : Members). One (payload c)) claims a.makes) b.makes
+
+-- nothing is refused where what is built is signed
+pub signs_apart : (private claims : List ℕ) (now : ℤ) (footer assertion : List ℕ) → length private ≡ 64
+    → SignsBuilt private claims now footer assertion → (refusal : Refusal)
+    → (building_public private claims now footer assertion).Refuses refusal → ⊥
+signs_apart private claims now footer assertion size signs refusal (inl fault) = built_apart claims now _ refusal fault signs
+signs_apart private claims now footer assertion size signs refusal (inr declined) =
+    built_same claims now _ _ (λ text signed. ed25519_apart private _ refusal size signed) signs declined
 
 -- ---- the exits of what builds
 
@@ -131,7 +156,8 @@ pub public_made : (private text : List ℕ) (now : ℤ) (footer assertion : List
     → (result : Result (String Global) Refusal)
     → IfOk result (λ token. (keys.repeated ≡ None)
     × IsSigning Ed25519Verifies v4_public (binding_of (partner taken_key) f a) (is_some f) (payload claims) (string_bytes token))
-    → IfErr result (λ refusal. IsRepeat keys refusal ⊎ IsDeclined IsDeclinedKey taken_key refusal)
+    → IfErr result (λ refusal. IsRepeat keys refusal
+    ⊎ ((keys.repeated ≡ None) × IsDeclined IsDeclinedKey taken_key (message v4_public (binding_of (partner taken_key) f a) (payload claims)) refusal))
     → IsMade (building_public private text now footer assertion) result
 public_made private text now footer assertion taken_key f a ke fe we ae taken found is claims keys begun (Ok token) ok err = record {
   taken = taken;
@@ -142,4 +168,6 @@ public_made private text now footer assertion taken_key f a ke fe we ae taken fo
 public_made private text now footer assertion taken_key f a ke fe we ae taken found is claims keys begun (Err refusal) ok (inl repeat) =
     repeat_refuses (building_public private text now footer assertion) taken text now (λ other. inl) found is claims keys begun refusal repeat
 public_made private text now footer assertion taken_key f a ke fe we ae taken found is claims keys begun (Err refusal) ok (inr declined) =
-    refused refusal taken (inr (rw ke at declined))
+    refused refusal taken (inr (is_built (building_public private text now footer assertion) taken text now (λ other. inl) found is claims keys begun
+        (λ payload. IsDeclined IsDeclinedKey private (message v4_public (binding (partner private) footer assertion) payload) refusal)
+        declined.0 (rw (ke, fe, ae) at declined.1)))

@@ -169,20 +169,25 @@ seal_refuses keys Failure error never why = elim (repeat_refuses keys (IsOfGener
   | inr failed ↦ absurd (never failed.1)
 ]
 
--- the scheme declines the key
+-- the scheme declines what is signed
 abbrev pub IsDeclinedBy : (PasetoError → Type 0) → GenericBuilderError → Type 0
 IsDeclinedBy declined error = (refusal : PasetoError) × declined refusal × (error ≡ of_cipher refusal)
 
 -- a builder of public tokens
-pub sign_refuses : (keys : Counting) (declined : Declining) (private : List ℕ) (error : GenericBuilderError)
-    → IsBuildRefusal keys (IsDeclinedBy (declined private)) error
-    → IsRepeat keys (builder_refusal error) ⊎ IsDeclined declined private (builder_refusal error)
-sign_refuses keys declined private error why =
-    elim (repeat_refuses keys (IsDeclinedBy (declined private)) error (some_or_none keys.repeated) why) [
-      | inl repeat ↦ inl repeat
-      | inr found ↦ inr (record {
-        error = found.0;
-        is_error = found.1;
-        is_refusal = ap builder_refusal found.2 ∙ cipher_refusal found.0;
-      })
-    ]
+pub sign_refuses : (keys : Counting) (declined : Declining) (private signed : List ℕ) (error : GenericBuilderError)
+    → IsBuildRefusal keys (IsDeclinedBy (declined private signed)) error
+    → IsRepeat keys (builder_refusal error) ⊎ ((keys.repeated ≡ None) × IsDeclined declined private signed (builder_refusal error))
+sign_refuses keys declined private signed error why = elim (some_or_none keys.repeated) [
+  | inl set ↦ elim (why.0 set) [
+    | inl memory ↦ inl (memory_repeat keys error memory)
+    | inr duplicate ↦ inl (duplicate_repeat keys error set duplicate)
+  ]
+  | inr none ↦ elim (why.1 none) [
+    | inl memory ↦ inl (memory_repeat keys error memory)
+    | inr found ↦ inr (none, record {
+      error = found.0;
+      is_error = found.1;
+      is_refusal = ap builder_refusal found.2 ∙ cipher_refusal found.0;
+    })
+  ]
+]

@@ -1,5 +1,5 @@
 -- What a call refuses with where an argument is not what it asks for, or the library refuses.
-use Rattle.std.proofs.Common.{◌≡◌, ◌∙◌, ◌⊎◌, ℕ, List, [], inl, inr, Option, Some, None, is_some, IsTrue, length, Result, Err, String, Global, refl, sym}
+use Rattle.std.proofs.Common.{◌≡◌, ◌≢◌, ◌∙◌, ◌⊎◌, ℕ, List, [], inl, inr, Option, Some, None, is_some, IsTrue, length, Result, Err, String, Global, refl, sym}
 use Rattle.std.proofs.lemmas.Bool.{false≢true}
 use Rattle.rusty_paseto_parts.specs.Error.{IsMemory}
 use Rattle.rusty_paseto_parts.specs.declared.error.PasetoError.{PasetoError}
@@ -8,13 +8,15 @@ use Rattle.rusty_paseto_parts.specs.PublicKey.{is_compressed}
 use Rattle.rusty_paseto_parts.specs.Section.{sections}
 use Rattle.rusty_paseto_parts.specs.UntrustedToken.{IsTokenFooterFault}
 use Rattle.rusty_paseto_core.specs.Reading.{IsFault, Reading}
-use Rattle.paseto_c.specs.Arguments.{AreTaken, AreUtf8, Call, IsMade, Refuses, bad_key, bad_nonce, has_bytes, no_memory, not_utf8, refused}
+use Rattle.paseto_c.specs.Arguments.{AreTaken, AreUtf8, Call, IsMade, Refuses, binding, bad_key, bad_nonce, has_bytes, no_memory, not_utf8, refused}
 use Rattle.paseto_c.specs.Local.{reading_of}
-use Rattle.rusty_paseto_core.specs.Public.{PublicDesign}
+use Rattle.rusty_paseto_core.specs.Public.{PublicDesign, message}
 use Rattle.rusty_paseto_core.specs.Public.Scheme.{Declining, Validity}
+use Rattle.paseto_ed25519.specs.Ed25519 as ed25519
+use Rattle.paseto_p384.specs.P384 as p384
 use Rattle.paseto_c.specs.Boxed.{boxing, sealing_of}
 use Rattle.paseto_c.specs.Footer.{footer_reading}
-use Rattle.paseto_c.specs.Public.{IsPointKey, signing}
+use Rattle.paseto_c.specs.Public.{IsDeclined, IsPointKey, signing}
 use Rattle.paseto_c.specs.Refusal.{token_refusal}
 use Rattle.paseto_c.specs.declared.refusal.Refusal.{Refusal}
 use Rattle.paseto_c.specs.declared.refusal.Refusal.TheVariants.{Memory, InvalidKey, InvalidNonce, NotUtf8, ChaChaCipherError}
@@ -57,14 +59,30 @@ fault_refuses HasKey reading token footer assertion error taken (inl memory) = m
 fault_refuses HasKey reading token footer assertion error taken (inr fault) =
     refused (token_refusal error) taken (record { error = error; is_fault = fault; is_refusal = refl })
 
--- a text that is not signed is refused by what the scheme declines the key with
+-- a text that is not signed is refused by what the scheme declines it with
 pub declined_refuses : (HasKey : Type 0) (valid : Validity) (declined : Declining) (partner : List ℕ → List ℕ) (design : PublicDesign)
     (private text footer assertion : List ℕ) (error : PasetoError)
-    → AreTaken (signing HasKey valid declined partner design private text footer assertion) → IsMemory error ⊎ declined private error
+    → AreTaken (signing HasKey valid declined partner design private text footer assertion)
+    → IsMemory error ⊎ declined private (message design (binding (partner private) footer assertion) text) error
     → Refuses (signing HasKey valid declined partner design private text footer assertion) (token_refusal error)
 declined_refuses HasKey valid declined partner design private text footer assertion error taken (inl memory) = memory_refuses _ error memory
 declined_refuses HasKey valid declined partner design private text footer assertion error taken (inr fault) =
     refused (token_refusal error) taken (record { error = error; is_error = fault; is_refusal = refl })
+
+-- what is signed is not declined
+pub ed25519_apart : (private signed : List ℕ) (refusal : Refusal) → length private ≡ 64 → ed25519.IsSigned private signed
+    → IsDeclined ed25519.IsDeclined private signed refusal → ⊥
+ed25519_apart private signed refusal size signs declined = elim declined.is_error [
+  | inl short ↦ short.0 size
+  | inr none ↦ none.2 signs
+]
+
+pub p384_apart : (private signed : List ℕ) (refusal : Refusal) → p384.IsPrivate private × (p384.p384_sign private signed ≢ None)
+    → IsDeclined p384.IsDeclined private signed refusal → ⊥
+p384_apart private signed refusal signs declined = elim declined.is_error [
+  | inl other ↦ other.0 signs.0
+  | inr none ↦ signs.1 none.2
+]
 
 -- a text that is not boxed is refused where the box has no sealing of it
 pub unboxed_refuses : (key nonce text footer : List ℕ) (error : PasetoError) → AreTaken (boxing key nonce text footer)

@@ -1,7 +1,7 @@
 -- How C is answered: by a status, a text in the room that it lends, and a number.
 use Rattle.std.specs.Prelude.{◌≡◌, ◌≤◌, ◌<◌, ◌++◌, ◌⊎◌, ℕ, List, Result, String, MatchResult, length, drop, string_bytes}
 use Rattle.std.specs.Global.{Global}
-use Rattle.paseto_c.specs.Arguments.{Call, Makes, Refuses}
+use Rattle.paseto_c.specs.Arguments.{AreTaken, Call, Makes, Refuses}
 use Rattle.paseto_c.specs.Refusal.{status_of}
 use Rattle.paseto_c.specs.declared.refusal.Refusal.{Refusal}
 
@@ -35,9 +35,17 @@ pub data IsAnswered (call : Call) (before after : List ℕ) (written status : �
   refuses : (refusal : Refusal) → Refuses call refusal → IsRefused refusal before after written status
       → IsAnswered call before after written status
 
--- where the call makes a text, C gets it, or learns that the room is too short or memory was refused
+-- C gets a text, or learns that the room is too short or memory was refused
+abbrev pub IsNotRefused : ℕ → Type 0
+IsNotRefused status = (status ≡ 0) ⊎ ((status ≡ 1) ⊎ (status ≡ 2))
+
+-- where the call makes a text, C gets it
 abbrev pub IsComplete : Call → ℕ → Type 0
-IsComplete call status = (text : List ℕ) → Makes call text → (status ≡ 0) ⊎ ((status ≡ 1) ⊎ (status ≡ 2))
+IsComplete call status = (text : List ℕ) → Makes call text → IsNotRefused status
+
+-- where the arguments are what the call asks for, and this holds of them, C gets a text
+abbrev pub IsCompleteWhere : Type 0 → Call → ℕ → Type 0
+IsCompleteWhere Holds call status = AreTaken call → Holds → IsNotRefused status
 
 -- ---- for private clauses
 

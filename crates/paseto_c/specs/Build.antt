@@ -6,7 +6,7 @@ use Rattle.serde_json.specs.Read.{read}
 use Rattle.rusty_paseto_claims.specs.Error.{Fault}
 use Rattle.rusty_paseto_core.specs.Local.Sealing.{sealing}
 use Rattle.rusty_paseto_core.specs.Local.V4.{v4}
-use Rattle.rusty_paseto_core.specs.Public.{v4_public}
+use Rattle.rusty_paseto_core.specs.Public.{message, v4_public}
 use Rattle.rusty_paseto_core.specs.Public.Signing.{IsSigning}
 use Rattle.rusty_paseto_generic.specs.Builders.Claims.{becomes, payload, refused}
 use Rattle.rusty_paseto.specs.Moment.{FitsDefault}
@@ -14,7 +14,7 @@ use Rattle.rusty_paseto.specs.PasetoBuilder.{Counting, IsDefaultClaims, IsSame, 
 use Rattle.paseto_ed25519.specs.Ed25519.{Ed25519Verifies, IsDeclined as IsDeclinedKey, partner}
 use Rattle.paseto_c.specs.Arguments.{Call, binding, has_bytes}
 use Rattle.paseto_c.specs.Claims.{IsNoObject, all_counted, all_set}
-use Rattle.paseto_c.specs.Public.{IsDeclined}
+use Rattle.paseto_c.specs.Public.{Ed25519Signs, IsDeclined}
 use Rattle.paseto_c.specs.Refusal.{fault_refusal}
 use Rattle.paseto_c.specs.declared.refusal.Refusal.{Refusal}
 use Rattle.paseto_c.specs.declared.refusal.Refusal.TheVariants.{Memory, NotObject, InvalidMoment, DuplicateTopLevelPayloadClaim}
@@ -80,8 +80,13 @@ building_public private claims now footer assertion = record {
   texts = claims ∷ footer ∷ assertion ∷ [];
   Makes = λ token. IsBuilt claims now
       (λ text. IsSigning Ed25519Verifies v4_public (binding (partner private) footer assertion) (has_bytes footer) text token);
-  Refuses = λ refusal. IsBuildingFault claims now refusal ⊎ IsDeclined IsDeclinedKey private refusal;
+  Refuses = λ refusal. IsBuildingFault claims now refusal ⊎ IsBuilt claims now
+      (λ text. IsDeclined IsDeclinedKey private (message v4_public (binding (partner private) footer assertion) text) refusal);
 }
+
+-- the claims are built, and the token of them is signed under the private key
+abbrev pub SignsBuilt : List ℕ → List ℕ → ℤ → List ℕ → List ℕ → Type 0
+SignsBuilt private claims now footer assertion = IsBuilt claims now (λ text. Ed25519Signs v4_public private text footer assertion)
 
 -- ---- for private clauses
 

@@ -5,16 +5,16 @@ ghost use Rattle.serde_json.specs.View.{members_view};
 ghost use Rattle.rusty_paseto_core.specs.Context.{binding_of};
 ghost use Rattle.rusty_paseto_core.specs.Local.Sealing.{sealing};
 ghost use Rattle.rusty_paseto_core.specs.Local.V4.{v4};
-ghost use Rattle.rusty_paseto_core.specs.Public.{v4_public};
+ghost use Rattle.rusty_paseto_core.specs.Public.{message, v4_public};
 ghost use Rattle.rusty_paseto_core.specs.Public.Signing.{IsSigning};
 ghost use Rattle.rusty_paseto_generic.specs.Builders.Claims.{becomes, payload};
 ghost use Rattle.rusty_paseto_generic.specs.Builders.Held.{held};
 ghost use Rattle.rusty_paseto.specs.Held.{counting};
 ghost use Rattle.rusty_paseto.specs.PasetoBuilder.{IsSame};
 ghost use Rattle.paseto_ed25519.specs.Ed25519.{Ed25519Verifies, IsDeclined as IsDeclinedKey, partner};
-ghost use Rattle.paseto_c.specs.Answer.{IsAnswered, IsComplete};
+ghost use Rattle.paseto_c.specs.Answer.{IsAnswered, IsComplete, IsCompleteWhere};
 ghost use Rattle.paseto_c.specs.Arguments.{IsMade};
-ghost use Rattle.paseto_c.specs.Build.{BeginsWith, HasNoMoment, IsBeginningFault, IsBegun, IsClaimFault, IsRepeat, building_local, building_public};
+ghost use Rattle.paseto_c.specs.Build.{BeginsWith, HasNoMoment, IsBeginningFault, IsBegun, IsClaimFault, IsRepeat, SignsBuilt, building_local, building_public};
 ghost use Rattle.paseto_c.specs.Claims.{all_counted, all_set};
 ghost use Rattle.paseto_c.specs.Public.{IsDeclined};
 
@@ -79,8 +79,12 @@ pub extern "C" fn paseto_v4_public_build(
     room: &mut [u8],
     written: &mut usize,
 ) -> u8
-    ensures { IsAnswered (building_public private.now claims.now now footer.now assertion.now)
+    ensures answer { IsAnswered
+        (building_public private.now claims.now now footer.now assertion.now)
         room.old room.new written.new result }
+    ensures complete { IsCompleteWhere
+        (SignsBuilt private.now claims.now now footer.now assertion.now)
+        (building_public private.now claims.now now footer.now assertion.now) result }
 {
     hand_over(
         signed(alloc, private, claims, now, footer, assertion),
@@ -207,8 +211,12 @@ fn sign(
         IfOk result (λ token. ((counting builder.now.keys).repeated ≡ None)
         × IsSigning Ed25519Verifies v4_public binding (is_some paseto.footer) text
         (string_bytes token)) }
-    ensures err { IfErr result (λ refusal. IsRepeat (counting builder.now.keys) refusal
-        ⊎ IsDeclined IsDeclinedKey key.now refusal) }
+    ensures err { let paseto = builder.now.builder.paseto in
+        let text = payload (held builder.now.builder.claims) in
+        let binding = binding_of (partner key.now) paseto.footer paseto.implicit_assertion in
+        IfErr result (λ refusal. IsRepeat (counting builder.now.keys) refusal
+        ⊎ (((counting builder.now.keys).repeated ≡ None)
+        × IsDeclined IsDeclinedKey key.now (message v4_public binding text) refusal)) }
 {
     let token = builder.build(&mut Ed25519, key)?;
     Ok(token)

@@ -2,9 +2,9 @@
 
 ghost use Rattle.std.specs.Prelude.{◌≡◌, [], Some, false, length};
 ghost use Rattle.rusty_paseto_core.specs.Public.{v2_public, v4_public};
-ghost use Rattle.paseto_c.specs.Answer.{IsAnswered, IsComplete};
+ghost use Rattle.paseto_c.specs.Answer.{IsAnswered, IsComplete, IsCompleteWhere};
 ghost use Rattle.paseto_c.specs.Arguments.{IsMade, IsMadeWhole};
-ghost use Rattle.paseto_c.specs.Public.{ed25519_signing, ed25519_verifying, p384_signing, p384_verifying, signing, verifying};
+ghost use Rattle.paseto_c.specs.Public.{Ed25519Signs, P384Signs, ed25519_signing, ed25519_verifying, p384_signing, p384_verifying, signing, verifying};
 
 use crate::answer::hand_over;
 use crate::arguments::{Texts, key_of};
@@ -29,8 +29,11 @@ pub extern "C" fn paseto_v2_public_sign(
     room: &mut [u8],
     written: &mut usize,
 ) -> u8
-    ensures { IsAnswered (ed25519_signing v2_public private.now text.now footer.now [])
+    ensures answer { IsAnswered (ed25519_signing v2_public private.now text.now footer.now [])
         room.old room.new written.new result }
+    ensures complete { IsCompleteWhere
+        (Ed25519Signs v2_public private.now text.now footer.now [])
+        (ed25519_signing v2_public private.now text.now footer.now []) result }
 {
     hand_over(
         ed25519_signed::<V2>(alloc, private, text, footer, &[]),
@@ -76,8 +79,10 @@ pub extern "C" fn paseto_v3_public_sign(
     room: &mut [u8],
     written: &mut usize,
 ) -> u8
-    ensures { IsAnswered (p384_signing private.now text.now footer.now assertion.now)
+    ensures answer { IsAnswered (p384_signing private.now text.now footer.now assertion.now)
         room.old room.new written.new result }
+    ensures complete { IsCompleteWhere (P384Signs private.now text.now footer.now assertion.now)
+        (p384_signing private.now text.now footer.now assertion.now) result }
 {
     hand_over(
         p384_signed(alloc, private, text, footer, assertion),
@@ -124,8 +129,11 @@ pub extern "C" fn paseto_v4_public_sign(
     room: &mut [u8],
     written: &mut usize,
 ) -> u8
-    ensures { IsAnswered (ed25519_signing v4_public private.now text.now footer.now assertion.now)
+    ensures answer { IsAnswered (ed25519_signing v4_public private.now text.now footer.now assertion.now)
         room.old room.new written.new result }
+    ensures complete { IsCompleteWhere
+        (Ed25519Signs v4_public private.now text.now footer.now assertion.now)
+        (ed25519_signing v4_public private.now text.now footer.now assertion.now) result }
 {
     hand_over(
         ed25519_signed::<V4>(alloc, private, text, footer, assertion),

@@ -11,7 +11,7 @@ use Rattle.rusty_paseto_parts.specs.declared.texts.implicit_assertion.ImplicitAs
 use Rattle.rusty_paseto_core.specs.Context.{Binding, binding_of}
 use Rattle.rusty_paseto_core.specs.Local.{Design}
 use Rattle.rusty_paseto_core.specs.Local.Boxed.{boxed_sealing, token_nonce}
-use Rattle.rusty_paseto_core.specs.Public.{HasPrivateLength, PublicDesign}
+use Rattle.rusty_paseto_core.specs.Public.{HasPrivateLength, PublicDesign, message}
 use Rattle.rusty_paseto_core.specs.Public.Scheme.{Declining, Validity}
 use Rattle.rusty_paseto_core.specs.declared.PasetoError.{PasetoError}
 use Rattle.rusty_paseto_core.specs.declared.PasetoError.TheVariants.{Cipher}
@@ -31,7 +31,7 @@ use Rattle.rusty_paseto_paserk.specs.Text.{writing}
 use Rattle.paseto_tasks.specs.declared.error.ProgramError.{ProgramError}
 use Rattle.paseto_commands.specs.Check.{bound_to}
 use Rattle.paseto_tasks.specs.Error.{IsOutside, Lacks}
-use Rattle.paseto_commands.specs.Issue.{AreNever, AreOrdered, BoxesClaims, IsOnce, IssuesNone, Ordered, SealsClaims, SealsIn, SignsClaims, SignsIn, SignsNone, SignsOrder, keys_set}
+use Rattle.paseto_commands.specs.Issue.{AreNever, AreOrdered, BoxesClaims, DeclinesOrder, IsOnce, IssuesNone, Ordered, SealsClaims, SealsIn, SignsClaims, SignsIn, SignsNone, SignsOrder, keys_set}
 use Rattle.paseto_tasks.specs.Local.{IsLocalKey}
 use Rattle.paseto_tasks.specs.Output.{IsLineOf}
 use Rattle.paseto_tasks.specs.Public.{DeclinesKey, IsHalf}
@@ -119,7 +119,7 @@ module _ (order : Ordered) (claims : Members) (keys : Counting) (footer : Option
   }
   boxes_found key IsDrawn (Err e) built token key_bytes is_key is repeated sealed line_is = tt
 
-  pub signs_found : {E : Type 0} (valid : Validity) (Declined : PasetoError → Type 0) (design : PublicDesign) (private public : List ℕ)
+  pub signs_found : {E : Type 0} (valid : Validity) (Declined : List ℕ → PasetoError → Type 0) (design : PublicDesign) (private public : List ℕ)
       (line : Result (String Global) E) (built : Result (String Global) GenericBuilderError) (token : String Global)
       → built ≡ Ok token → OnOk built (keys.repeated ≡ None)
       → (keys.repeated ≡ None → IsSignAnswer valid Declined design private public footer assertion claims built)
@@ -203,16 +203,29 @@ module _ (order : Ordered) (claims : Members) (keys : Counting) (footer : Option
   once_or_not None = inl refl
   once_or_not (Some key) = inr (λ none. false≢true (sym (ap (λ (o : Option (List ℕ)). is_some o) none)))
 
-  pub signs_none : (valid : Validity) (Declined : PasetoError → Type 0) (design : PublicDesign) (private public : List ℕ)
+  declined_order : (declined : Declining) (half : List ℕ → List ℕ) (design : PublicDesign) (private : List ℕ)
+      → (refusal : PasetoError) × declined private (message design (binding_of (half private) footer assertion) (payload claims)) refusal
+      → (source : PasetoError) × DeclinesOrder declined half design order private source
+  declined_order declined half design private found = (found.0, record {
+    claims = claims;
+    are_ordered = are;
+    is_declined = subst (λ (b : Binding). declined private (message design b (payload claims)) found.0)
+        (bound_same (half private) footer assertion order.footer none is_footer) found.1;
+  })
+
+  pub signs_none : (valid : Validity) (declined : Declining) (half : List ℕ → List ℕ) (design : PublicDesign) (private : List ℕ)
       (answer : Result (String Global) GenericBuilderError) (error : ProgramError)
       → IsErrAnd answer (λ source. IsOutside error ⊎ ((¬ IsMemory source) × (source ≢ CipherError Cipher)))
-      → (keys.repeated ≡ None → IsSignAnswer valid Declined design private public footer assertion claims answer) → HasPrivateLength design private
-      → IsOutside error ⊎ (((line : List ℕ) → ¬ SignsOrder valid design public order line) ⊎ ((source : PasetoError) × Declined source))
-  signs_none valid Declined design private public answer error built reason length =
-      elim (not_built answer error (λ source. (refusal : PasetoError) × Declined refusal) built (λ once. by_scheme answer Declined ((reason once).err length))) [
+      → (keys.repeated ≡ None → IsSignAnswer valid (declined private) design private (half private) footer assertion claims answer)
+      → HasPrivateLength design private
+      → IsOutside error ⊎ (((line : List ℕ) → ¬ SignsOrder valid design (half private) order line)
+      ⊎ ((source : PasetoError) × DeclinesOrder declined half design order private source))
+  signs_none valid declined half design private answer error built reason length =
+      let Now : PasetoError → Type 0 = declined private (message design (binding_of (half private) footer assertion) (payload claims)) in
+      elim (not_built answer error (λ source. (refusal : PasetoError) × Now refusal) built (λ once. by_scheme answer Now ((reason once).err length))) [
         | inl outside ↦ inl outside
         | inr why ↦ inr (elim (once_or_not (keys_set order).repeated) [
-          | inl once ↦ inr (why once).1
+          | inl once ↦ inr (declined_order declined half design private (why once).1)
           | inr twice ↦ inl (λ line is. twice is.once)
         ])
       ]
@@ -238,7 +251,7 @@ module _ (order : Ordered) where
 -- ---- private keys
 
 -- what a private key signs or not, its line does
-pub signs_by : {T : Type 0} (version : PaserkVersion) (size : ℕ) (valid : Validity) (Declined : Declining) (design : PublicDesign) (half : List ℕ → List ℕ)
+pub signs_by : {T : Type 0} (version : PaserkVersion) (size : ℕ) (valid : Validity) (Declined : List ℕ → PasetoError → Type 0) (design : PublicDesign) (half : List ℕ → List ℕ)
     (key : List ℕ) (order : Ordered) (key_bytes private : List ℕ) (result : Result T ProgramError)
     → IsHalf version Secret size key key_bytes → private ≡ key_bytes
     → ((other : List ℕ) → IsBytes other → length other ≡ size → key ≡ writing version Secret other → key_bytes ≡ other)

@@ -1,10 +1,10 @@
 -- The claims that a builder is given.
-use Rattle.std.proofs.Common.{◌≡◌, ◌≢◌, ◌⊎◌, ◌++◌, ℕ, List, [], ◌∷◌, Bool, true, false, if◌then◌else◌, Option, None, Some, MatchOption, Result, Ok, Err, IfErr, IfOk, IsErrAnd, OnOk, codes, String, Global, string_bytes, inl, inr, refl, sym, ap, ap₂, ◌∙◌}
+use Rattle.std.proofs.Common.{◌≡◌, ◌≢◌, ◌⊎◌, ◌++◌, ℕ, List, [], ◌∷◌, Bool, true, false, if◌then◌else◌, Option, None, Some, MatchOption, Result, Ok, Err, IfErr, IfOk, IsErrAnd, OnOk, codes, String, Global, string_bytes, inl, inr, refl, sym, ap, ◌∙◌}
 use Rattle.jiff.specs.Names.{iso_datetime_text}
 use Rattle.jiff.specs.Types.{DateTime, Timestamp}
 use Rattle.jiff.specs.Words.{civil_nanos}
 use Rattle.jiff.proofs.Family.{same_datetime}
-use Rattle.serde_json.specs.Data.{Data, Members, member, no_members, put, string}
+use Rattle.serde_json.specs.Data.{Data, Members, put, string}
 use Rattle.rusty_paseto_claims.specs.Claim.{gives, one_member}
 use Rattle.rusty_paseto_claims.specs.DateClaim.{IsDate}
 use Rattle.rusty_paseto_claims.specs.Error.{Fault, fault_of, unexpected}
@@ -14,8 +14,8 @@ use Rattle.rusty_paseto_generic.specs.Builders.Claims.{IsRefusal, Outcome, becom
 use Rattle.rusty_paseto_generic.specs.Error.{IsMemory}
 use Rattle.rusty_paseto_generic.specs.declared.error.GenericBuilderError.{GenericBuilderError}
 use Rattle.rusty_paseto_generic.specs.declared.error.GenericBuilderError.TheVariants.{CipherError, ClaimError, Memory}
-use Rattle.rusty_paseto.specs.Moment as moments
-use Rattle.rusty_paseto.specs.PasetoBuilder.{Counting, IsDefaultClaims, IsSame, counted, nothing_counted}
+use Rattle.rusty_paseto.specs.PasetoBuilder.{Counting, IsSame, counted, nothing_counted}
+use Rattle.rusty_paseto.proofs.DefaultClaims.{same_default}
 use Rattle.paseto_tasks.specs.declared.error.ProgramError.{ProgramError}
 use Rattle.paseto_commands.specs.Claims.{AreNeverSet, AreSet, Named, all_counted, json_of}
 use Rattle.paseto_tasks.specs.Error.{IsOutside}
@@ -173,14 +173,6 @@ counted_all order begun named expiring last a b c d =
 
 -- ---- the one object that they make
 
-same_moment : (moment : _) (one two : List ℕ) → moments.IsMomentText moment one → moments.IsMomentText moment two → one ≡ two
-same_moment moment one two a b = a.2 ∙ ap (λ (c : DateTime). moments.civil_text c) (same_datetime a.0 b.0 (a.1 ∙ sym b.1)) ∙ sym b.2
-
-same_default : (now : Timestamp) (one two : Members) → IsDefaultClaims now one → IsDefaultClaims now two → one ≡ two
-same_default now one two a b =
-    a.is ∙ ap₂ (λ (e s : List ℕ). member (codes "exp") (string e) (member (codes "iat") (string s) (member (codes "nbf") (string s) no_members)))
-    (same_moment _ a.end b.end a.is_end b.is_end) (same_moment _ a.begin b.begin a.is_begin b.is_begin) ∙ sym b.is
-
 same_next : (outcome : Outcome) (one two : Members) → outcome ≡ becomes one → outcome ≡ becomes two → one ≡ two
 same_next outcome one two a b = let same : becomes one ≡ becomes two = sym a ∙ b in cc
 
@@ -196,7 +188,7 @@ same_time key (Some moment) old other one two same a b =
 
 pub same_ordered : (order : Ordered) (one two : Members) → AreOrdered order one → AreOrdered order two → one ≡ two
 same_ordered order one two a b =
-    let begun = same_default order.moment a.begun b.begun a.is_default b.is_default in
+    let begun = same_default order.moment order.moment a.begun b.begun refl a.is_default b.is_default in
     let named = same_set order.claims a.begun b.begun a.named b.named begun a.are_set b.are_set in
     let expiring = same_time (codes "exp") order.expires a.named b.named a.expiring b.expiring named a.expires b.expires in
     same_time (codes "nbf") order.not_before a.expiring b.expiring one two expiring a.not_before b.not_before

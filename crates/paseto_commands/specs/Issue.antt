@@ -2,15 +2,16 @@
 use Rattle.std.specs.Prelude.{◌≡◌, ◌⊎◌, ⊤, ℕ, List, [], Option, None, Some, codes, is_some, option_map, string_bytes}
 use Rattle.jiff.specs.Types.{Timestamp}
 use Rattle.serde_json.specs.Data.{Members}
+use Rattle.rusty_paseto_core.specs.declared.PasetoError.{PasetoError}
 use Rattle.rusty_paseto_core.specs.Local.{Design}
 use Rattle.rusty_paseto_core.specs.Local.V1.{v1}
 use Rattle.rusty_paseto_core.specs.Local.V3.{v3}
 use Rattle.rusty_paseto_core.specs.Local.V4.{v4}
-use Rattle.rusty_paseto_core.specs.Public.{PublicDesign, v2_public, v3_public, v4_public}
-use Rattle.rusty_paseto_core.specs.Public.Scheme.{Validity}
+use Rattle.rusty_paseto_core.specs.Public.{PublicDesign, message, v2_public, v3_public, v4_public}
+use Rattle.rusty_paseto_core.specs.Public.Scheme.{Declining, Validity}
 use Rattle.rusty_paseto_core.specs.Public.Signing.{IsSigning}
 use Rattle.paseto_ed25519.specs.Ed25519.{Ed25519Verifies, IsDeclined, partner}
-use Rattle.paseto_p384.specs.P384.{P384Verifies, p384_public}
+use Rattle.paseto_p384.specs.P384.{P384Verifies, IsDeclined as IsDeclinedByP384, p384_public}
 use Rattle.paseto_xchacha20poly1305.specs.Sealing.{box_sealing}
 use Rattle.rusty_paseto_generic.specs.Builders.Claims.{payload}
 use Rattle.rusty_paseto_generic.specs.Builders.GenericBuilder.{IsBoxAnswer, IsSealed}
@@ -25,7 +26,7 @@ use Rattle.paseto_commands.specs.Claims.{AreClaims, AreSet, Named, all_counted, 
 use Rattle.paseto_commands.specs.Footers.{IsFooter}
 use Rattle.paseto_tasks.specs.Local.{IsLocalKey}
 use Rattle.paseto_tasks.specs.Output.{IsLineOf}
-use Rattle.paseto_tasks.specs.Public.{DeclinesKey, IsDeclinedInV3, IsDeclinedInV4, IsHalf}
+use Rattle.paseto_tasks.specs.Public.{DeclinesKey, IsHalf}
 use Rattle.paseto_commands.specs.Times.{IsTimeSet, SaysTime, time_counted}
 
 -- what is ordered: a moment, claims, when the token expires and when it may first be used, and its footer or none
@@ -141,26 +142,35 @@ Issues key order IsDrawn line =
 abbrev pub IssuesFor : List (List ℕ) → Options → Timestamp → List ℕ → (List ℕ → Type 0) → List ℕ → Type 0
 IssuesFor claims options now key IsDrawn line = (order : Ordered) × IsOrder claims options now order × Issues key order IsDrawn line
 
--- the line is the writing of a private key of a version that its scheme declines
-abbrev pub DeclinesIn : PaserkVersion → List ℕ → Type 0
-DeclinesIn V1 = λ key. ⊥
-DeclinesIn V2 = DeclinesKey V2 64 IsDeclined
-DeclinesIn V3 = IsDeclinedInV3
-DeclinesIn V4 = IsDeclinedInV4
+-- a scheme declines the claims of what is ordered for a private key
+pub record DeclinesOrder (declined : Declining) (half : List ℕ → List ℕ) (design : PublicDesign) (order : Ordered)
+    (private : List ℕ) (error : PasetoError) : Type 0 where
+  pub claims : Members
+  pub are_ordered : AreOrdered order claims
+  pub is_declined : declined private (message design (bound_to (half private) order.footer []) (payload claims)) error
 
-abbrev pub IsDeclinedKey : List ℕ → Type 0
-IsDeclinedKey key = (version : PaserkVersion) × DeclinesIn version key
+-- the line is the writing of a private key of a version whose scheme declines what is ordered for it
+abbrev pub DeclinesIn : PaserkVersion → List ℕ → Ordered → Type 0
+DeclinesIn V1 = λ key order. ⊥
+DeclinesIn V2 = λ key order. DeclinesKey V2 64 (DeclinesOrder IsDeclined partner v2_public order) key
+DeclinesIn V3 = λ key order. DeclinesKey V3 48 (DeclinesOrder IsDeclinedByP384 p384_public v3_public order) key
+DeclinesIn V4 = λ key order. DeclinesKey V4 64 (DeclinesOrder IsDeclined partner v4_public order) key
+
+abbrev pub IsDeclinedOrder : List ℕ → Ordered → Type 0
+IsDeclinedOrder key order = (version : PaserkVersion) × DeclinesIn version key order
 
 -- no token is made, whatever bytes are drawn: what the words order at a moment has none under the key of the line, or the
--- scheme declines the key, as one whose halves do not belong together
+-- scheme declines it for the key, as one whose halves do not belong together
 abbrev pub IssuesNothing : List (List ℕ) → Options → Timestamp → List ℕ → Type 0
-IssuesNothing claims options now key = ((line : List ℕ) → ¬ IssuesFor claims options now key (λ nonce. ⊤) line) ⊎ IsDeclinedKey key
+IssuesNothing claims options now key =
+    ((line : List ℕ) → ¬ IssuesFor claims options now key (λ nonce. ⊤) line)
+    ⊎ ((order : Ordered) × IsOrder claims options now order × IsDeclinedOrder key order)
 
 -- ---- for private clauses
 
--- what is ordered has no token under the key, or the key is declined
+-- what is ordered has no token under the key, or it is declined for the key
 abbrev pub IssuesNone : List ℕ → Ordered → Type 0
-IssuesNone key order = ((line : List ℕ) → ¬ Issues key order (λ nonce. ⊤) line) ⊎ IsDeclinedKey key
+IssuesNone key order = ((line : List ℕ) → ¬ Issues key order (λ nonce. ⊤) line) ⊎ IsDeclinedOrder key order
 
 abbrev pub SignsNone : PaserkVersion → List ℕ → Ordered → Type 0
-SignsNone version key order = ((line : List ℕ) → ¬ SignsIn version key order line) ⊎ DeclinesIn version key
+SignsNone version key order = ((line : List ℕ) → ¬ SignsIn version key order line) ⊎ DeclinesIn version key order

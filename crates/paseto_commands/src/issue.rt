@@ -11,7 +11,7 @@ ghost use Rattle.rusty_paseto_paserk.specs.declared.header.PaserkVersion.TheVari
 ghost use Rattle.paseto_tasks.specs.Arguments.{claim_words, words_of};
 ghost use Rattle.paseto_commands.specs.Claims.{AreNeverSet, AreSet, all_counted, all_named};
 ghost use Rattle.paseto_tasks.specs.Error.{IsNoRefusal, IsNoUsage, IsOutside, Lacks};
-ghost use Rattle.paseto_commands.specs.Issue.{AreNever, AreOrdered, BoxesClaims, IsOrder, Issues, IssuesNone, SealsClaims, SealsIn, SignsIn, SignsNone, SignsOrder, keys_set, ordered};
+ghost use Rattle.paseto_commands.specs.Issue.{AreNever, AreOrdered, BoxesClaims, DeclinesOrder, IsOrder, Issues, IssuesNone, SealsClaims, SealsIn, SignsIn, SignsNone, SignsOrder, keys_set, ordered};
 ghost use Rattle.paseto_commands.specs.Times.{IsNeverSet, IsTimeSet, SaysTime, time_counted};
 
 use crate::answers::{built, dated};
@@ -242,7 +242,8 @@ fn signed<V: Signs<S>, S>(
         → IfErr result (λ error. IsOutside error
         ⊎ (((line : List ℕ)
         → ¬ SignsOrder V.valid V.public_design (V.partner key.now) (ordered order.now) line)
-        ⊎ ((source : TokenError) × V.declined key.now source))) }
+        ⊎ ((source : TokenError) × DeclinesOrder V.declined V.partner V.public_design
+        (ordered order.now) key.now source))) }
     ensures usage { IfErr result (λ error. IsNoUsage error ⊎ AreNever (ordered order.now)) }
 {
     let builder = builder_of::<V, Public>(alloc, order)?;

@@ -78,20 +78,12 @@ IsOwn private = ed25519_public (take 32 private) ≡ partner private
 abbrev pub IsSigned : List ℕ → List ℕ → Type 0
 IsSigned private message = IsOwn private × (nonce (take 32 private) message ≢ 0)
 
--- some message has no signature under a private key
-unfoldable pub HasUnsigned : List ℕ → Type 0
-HasUnsigned private = (message : List ℕ) × ¬ IsSigned private message
-
 -- what is answered for a signature that is not valid
 abbrev pub IsRefused : Refusal
 IsRefused public message signature error = error ≡ InvalidSignature
 
--- what is answered for a private key that has not 64 bytes, or under which a message has no signature
+-- what is answered for a private key that has not 64 bytes, or under which the message has no signature
 abbrev pub IsDeclined : Declining
-IsDeclined private error =
+IsDeclined private message error =
     ((length private ≢ 64) × (error ≡ KeyRejected))
-    ⊎ ((length private ≡ 64) × (error ≡ Signature) × HasUnsigned private)
-
--- what a scheme that holds a private key answers for another, or where a message has no signature
-abbrev pub IsDeclinedByKey : Declining
-IsDeclinedByKey private error = (error ≡ KeyRejected) ⊎ ((error ≡ Signature) × HasUnsigned private)
+    ⊎ ((length private ≡ 64) × (error ≡ Signature) × ¬ IsSigned private message)

@@ -2,7 +2,7 @@
 
 ghost use Rattle.std.specs.Prelude.{◌≡◌, ◌≢◌, ◌↔◌, ◌⊎◌, take, drop, length, IfOk, IfErr, OnErr, OnOk, IsTrue, Some};
 ghost use Rattle.rusty_paseto_parts.specs.declared.error.PasetoError.TheVariants.{InvalidSignature, KeyRejected, Signature};
-ghost use Rattle.paseto_ed25519.specs.Ed25519.{Ed25519Verifies, IsDeclined, IsOwn, IsRefused, IsSigned, IsSum, ed25519_public, ed25519_sign, partner};
+ghost use Rattle.paseto_ed25519.specs.Ed25519.{Ed25519Verifies, IsDeclined, IsOwn, IsRefused, IsSum, ed25519_public, ed25519_sign, partner};
 ghost use Rattle.paseto_edwards25519.specs.Encoding.{decoded, encoded};
 ghost use Rattle.paseto_edwards25519.specs.Extended.{affine};
 ghost use Rattle.paseto_edwards25519.specs.Point.{point, projected};
@@ -121,7 +121,6 @@ impl SignatureScheme<64> for Ed25519 {
     /// The signature of RFC 8032, section 5.1.6, which is valid for the private key's public half. `KeyRejected`
     /// comes for a private key that has not 64 bytes, and `Signature` where its public half is another seed's, which
     /// is asked at each call (`with_key` asks it once), or where the nonce is 0. No memory is taken.
-    #[tactic(auto, unfolding(crate::specs::Ed25519::HasUnsigned))]
     fn sign(
         &mut self,
         _alloc: Global,
@@ -131,8 +130,7 @@ impl SignatureScheme<64> for Ed25519 {
         ensures ok { IfOk result (λ signature. Ed25519Verifies
             (partner private.now) message.now signature
             × (signature ≡ ed25519_sign private.now message.now)) }
-        ensures err { IfErr result (λ error. IsDeclined private.now error
-            × ((length private.now ≡ 64) → ¬ IsSigned private.now message.now)) }
+        ensures err { IfErr result (λ error. IsDeclined private.now message.now error) }
     {
         signed_verifies();
         if private.len() != PRIVATE_LENGTH {

@@ -1,8 +1,9 @@
 //! Laws of the scheme. Each function does nothing, and its contract is the theorem.
 
-ghost use Rattle.std.specs.Prelude.{◌≡◌, List, ℕ, Some};
+ghost use Rattle.std.specs.Prelude.{◌≡◌, List, ℕ, Some, length};
+ghost use Rattle.rusty_paseto_parts.specs.declared.error.PasetoError.{PasetoError};
 ghost use Rattle.paseto_edwards.specs.Group.{Affine};
-ghost use Rattle.paseto_ed25519.specs.Ed25519.{Ed25519Verifies, IsSigned, ed25519_public, ed25519_sign, partner};
+ghost use Rattle.paseto_ed25519.specs.Ed25519.{Ed25519Verifies, IsDeclined, IsSigned, ed25519_public, ed25519_sign, partner};
 ghost use Rattle.paseto_edwards25519.specs.Curve.{HasSmallOrder};
 ghost use Rattle.paseto_edwards25519.specs.Encoding.{decoded};
 
@@ -22,6 +23,12 @@ pub fn signed_verifies()
     signature_sum();
     small_multiples();
 }
+
+/// Under a private key whose public half is its seed's nothing is answered but a signature, unless the nonce is 0.
+pub fn own_keys_sign()
+    ensures { (private message : List ℕ) (error : PasetoError) → length private ≡ 64
+        → IsSigned private message → ¬ IsDeclined private message error }
+{}
 
 /// The public key of a seed is a point, and not of small order.
 pub fn own_key_is_taken()

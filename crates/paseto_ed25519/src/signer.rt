@@ -2,7 +2,7 @@
 
 ghost use Rattle.std.specs.Prelude.{◌≡◌, ◌≢◌, List, ℕ, length, take, IfOk, IfErr, OnOk};
 ghost use Rattle.rusty_paseto_parts.specs.declared.error.PasetoError.TheVariants.{InvalidSignature, KeyRejected, Signature};
-ghost use Rattle.paseto_ed25519.specs.Ed25519.{Ed25519Verifies, IsDeclinedByKey, IsOwn, IsRefused, IsSigned, ed25519_sign, partner};
+ghost use Rattle.paseto_ed25519.specs.Ed25519.{Ed25519Verifies, IsDeclined, IsOwn, IsRefused, ed25519_sign, partner};
 
 use crate::bytes::HALF_LENGTH;
 use crate::ed25519::Ed25519;
@@ -15,7 +15,8 @@ use std::alloc::Global;
 use std::marker::Model;
 
 /// Ed25519 for an issuer who signs many tokens under one private key, of which it was asked once that its public half
-/// is its seed's (`Ed25519::with_key`). It verifies as `Ed25519` does.
+/// is its seed's (`Ed25519::with_key`). It signs and verifies as `Ed25519` does, and under another private key it asks as
+/// that does too.
 ///
 /// The private key is **not wiped**: it stays in memory when the signer is dropped.
 #[derive(Drop)]
@@ -54,28 +55,26 @@ impl SignatureScheme<64> for Ed25519Signer {
 
     ghost refused = { IsRefused };
 
-    ghost declined = { IsDeclinedByKey };
+    ghost declined = { IsDeclined };
 
-    /// The signature of RFC 8032, section 5.1.6, which is valid for the private key's public half. `KeyRejected`
-    /// comes for another private key than the signer's, and `Signature` where the nonce is 0. No memory is taken.
-    #[tactic(auto, unfolding(crate::specs::Ed25519::HasUnsigned))]
+    /// The signature of RFC 8032, section 5.1.6, which is valid for the private key's public half. The errors are those of
+    /// `Ed25519`: under the signer's own private key `Signature` where the nonce is 0, and no other. No memory is taken.
     fn sign(
         &mut self,
-        _alloc: Global,
+        alloc: Global,
         private: &[u8],
         message: &[u8],
     ) -> Result<[u8; 64], PasetoError>
         ensures ok { IfOk result (λ signature. Ed25519Verifies
             (partner private.now) message.now signature
-            × (signature ≡ ed25519_sign private.now message.now) × (private.now ≡ self.old)) }
-        ensures err { IfErr result (λ error. IsDeclinedByKey private.now error
-            × ((private.now ≡ self.old) → ¬ IsSigned private.now message.now)) }
+            × (signature ≡ ed25519_sign private.now message.now)) }
+        ensures err { IfErr result (λ error. IsDeclined private.now message.now error) }
         ensures same { self.new ≡ self.old }
     {
         signed_verifies();
         let own = self.private.as_bytes();
         if !same_bytes(private, own) {
-            return Err(PasetoError::KeyRejected);
+            return Ed25519.sign(alloc, private, message);
         }
         let (seed, public) = own.split_at(HALF_LENGTH);
         sign(&expanded(seed), public, message)

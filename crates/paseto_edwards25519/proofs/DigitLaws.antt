@@ -46,14 +46,6 @@ digit-high low high k bound above =
     ∙ ap (λ n. n % 16) (sym (div-div-eq-div-mul (low + 2 ^ 128 * high) (2 ^ 128) (16 ^ (k - 32))))
     ∙ ap (λ n. n / 16 ^ (k - 32) % 16) upper)
 
--- a number without its lowest digits, with one digit more
-pub digit-step : (n k : ℕ) → 16 * (n / 16 ^ suc k) + digit n k ≡ n / 16 ^ k
-digit-step n k =
-    let more : 16 ^ suc k ≡ 16 ^ k * 16 = omega (arith, pow-suc 16 k) in
-    let parts : n / 16 ^ suc k ≡ n / 16 ^ k / 16 =
-    ap (λ m. n / m) more ∙ sym (div-div-eq-div-mul n (16 ^ k) 16) in
-    omega (arith, parts)
-
 -- a digit of what stands above the lowest digits
 digit-above : (n i k : ℕ) → digit n (i + k) ≡ digit (n / 16 ^ i) k
 digit-above n i k =

@@ -11,3 +11,4 @@ pub mod OrderLaws
 pub mod RootLaws
 pub mod ScalarLaws
 pub mod TableLaws
+pub mod WindowLaws

@@ -1,5 +1,5 @@
 -- The points that the fields of the code's structs are.
-use Rattle.std.specs.Prelude.{◌≡◌, ℕ, ◌<◌, List, get_or}
+use Rattle.std.specs.Prelude.{◌≡◌, ℕ, ◌+◌, ◌*◌, ◌<◌, List, get_or}
 use Rattle.paseto_edwards.specs.Group.{Affine}
 use Rattle.paseto_edwards.specs.Extended.{Extended}
 use Rattle.paseto_edwards25519.specs.declared.point.addend.Addend.{Addend}
@@ -26,6 +26,6 @@ prepared q = between (number q.difference) (number q.total) (number q.z) (number
 abbrev pub point : ExtendedPoint → Affine
 point p = affine (coordinates p)
 
--- the multiples of a point by the numbers below n
-abbrev pub AreMultiples : Affine → ℕ → List Addend → Type 0
-AreMultiples a n table = (j : ℕ) (other : Addend) → j < n → affine (prepared (get_or table j other)) ≡ multiple j a
+-- the multiples of a point by the first n odd numbers
+abbrev pub AreOddMultiples : Affine → ℕ → List Addend → Type 0
+AreOddMultiples a n table = (j : ℕ) (other : Addend) → j < n → affine (prepared (get_or table j other)) ≡ multiple (2 * j + 1) a

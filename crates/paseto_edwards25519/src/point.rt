@@ -16,6 +16,7 @@ mod extended;
 mod joint;
 mod projective;
 mod table;
+mod windows;
 
 use crate::bytes::halves;
 use crate::field;
@@ -29,9 +30,7 @@ pub use extended::ExtendedPoint;
 pub use joint::multiply_both;
 pub use projective::ProjectivePoint;
 
-// How many digits of 4 bits a scalar has, and half of it.
-const DIGITS: usize = 64;
-
+// How many digits of 4 bits half a scalar has.
 const HALF_DIGITS: usize = 32;
 
 // The neutral point.

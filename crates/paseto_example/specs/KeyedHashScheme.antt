@@ -19,4 +19,4 @@ IsRefused public message signature error =
 
 -- a private key of another length
 abbrev pub IsDeclined : Declining
-IsDeclined private error = (length private ≢ 64) × (error ≡ KeyRejected)
+IsDeclined private message error = (length private ≢ 64) × (error ≡ KeyRejected)

@@ -36,7 +36,7 @@ impl SignatureScheme<64> for KeyedHashScheme {
     ) -> Result<[u8; 64], PasetoError>
         ensures ok { IfOk result (λ signature. IsValid
             (partner private.now) message.now signature) }
-        ensures err { IfErr result (λ error. IsDeclined private.now error) }
+        ensures err { IfErr result (λ error. IsDeclined private.now message.now error) }
     {
         if private.len() != PRIVATE_LENGTH {
             return Err(PasetoError::KeyRejected);

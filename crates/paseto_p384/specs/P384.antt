@@ -58,8 +58,8 @@ p384_sign private message =
 abbrev pub IsRefused : Refusal
 IsRefused public message signature error = error ≡ InvalidSignature
 
--- what is answered for what is no private key, or where the two candidates for a message give no signature
+-- what is answered for what is no private key, or where the two candidates for the message give no signature
 abbrev pub IsDeclined : Declining
-IsDeclined private error =
+IsDeclined private message error =
     ((¬ IsPrivate private) × (error ≡ KeyRejected))
-    ⊎ (IsPrivate private × (error ≡ Signature) × ((message : List ℕ) × (p384_sign private message ≡ None)))
+    ⊎ (IsPrivate private × (error ≡ Signature) × (p384_sign private message ≡ None))

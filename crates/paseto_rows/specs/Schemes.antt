@@ -2,7 +2,7 @@
 use Rattle.std.specs.Prelude.{◌≡◌, ◌≢◌, ◌↔◌, ℕ, Bool, IsTrue, List, ◌++◌, Ok, Some}
 use Rattle.hex.specs.Hex.{decode_of}
 use Rattle.rusty_paseto_primitives.specs.Bytes.{IsBytes}
-use Rattle.paseto_ed25519.specs.Ed25519.{Ed25519Verifies, ed25519_public, ed25519_sign}
+use Rattle.paseto_ed25519.specs.Ed25519.{Ed25519Verifies, IsOwn, ed25519_public, ed25519_sign, partner}
 use Rattle.paseto_xchacha20poly1305.specs.Sealing.{box_sealing}
 use Rattle.paseto_rows.specs.Fields.{Says}
 
@@ -16,6 +16,17 @@ pub record IsSigningRow (seed public message signature : List ℕ) : Type 0 wher
   pub says_message : Says message message_bytes
   pub is_public : public_bytes ≡ ed25519_public seed_bytes
   pub says_signature : Says signature (ed25519_sign (seed_bytes ++ public_bytes) message_bytes)
+
+-- the public key is the private key's own half, and what is signed is the signature under it, which is valid, and the message
+pub record IsSignedRow (private public message signed : List ℕ) : Type 0 where
+  pub private_bytes : List ℕ
+  pub message_bytes : List ℕ
+  pub says_private : decode_of private ≡ Ok private_bytes
+  pub says_public : decode_of public ≡ Ok (partner private_bytes)
+  pub says_message : Says message message_bytes
+  pub is_own : IsOwn private_bytes
+  pub says_signed : Says signed (ed25519_sign private_bytes message_bytes ++ message_bytes)
+  pub is_valid : Ed25519Verifies (partner private_bytes) message_bytes (ed25519_sign private_bytes message_bytes)
 
 -- the verdict on the signature
 pub record IsVerdictRow (public message signature : List ℕ) (valid : Bool) : Type 0 where

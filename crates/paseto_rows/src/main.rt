@@ -25,12 +25,20 @@ fn main(rt: HostRuntime) -> Result<()> {
     let primitives = check_file(&rt, folder.as_str(), Rows::Primitives)?;
     let local_tokens = check_file(&rt, folder.as_str(), Rows::LocalTokens)?;
     let schemes = check_file(&rt, folder.as_str(), Rows::Schemes)?;
+    let sign_input = check_file(&rt, folder.as_str(), Rows::SignInput)?;
     let p384 = check_file(&rt, folder.as_str(), Rows::P384)?;
     let rsa = check_file(&rt, folder.as_str(), Rows::Rsa)?;
     let wycheproof = check_file(&rt, folder.as_str(), Rows::Wycheproof)?;
     let published = check_file(&rt, folder.as_str(), Rows::Published)?;
     ensure!(
-        primitives && local_tokens && schemes && p384 && rsa && wycheproof && published,
+        primitives
+            && local_tokens
+            && schemes
+            && sign_input
+            && p384
+            && rsa
+            && wycheproof
+            && published,
         "not every row agrees"
     );
     Ok(())

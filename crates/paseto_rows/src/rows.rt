@@ -15,6 +15,8 @@ pub enum Rows {
     LocalTokens,
     /// The box of version 2, and Ed25519.
     Schemes,
+    /// Messages that Ed25519 signed.
+    SignInput,
     /// Signatures of version 3.
     P384,
     /// Keys and signatures of version 1.
@@ -32,6 +34,7 @@ impl Rows {
             Rows::Primitives => "primitives.txt",
             Rows::LocalTokens => "local_tokens.txt",
             Rows::Schemes => "schemes.txt",
+            Rows::SignInput => "sign_input.txt",
             Rows::P384 => "p384.txt",
             Rows::Rsa => "rsa.txt",
             Rows::Wycheproof => "wycheproof.txt",
@@ -42,7 +45,7 @@ impl Rows {
     /// What is said of rows that agree.
     pub fn agreement(self) -> &'static str {
         match self {
-            Rows::Primitives | Rows::Schemes | Rows::P384 | Rows::Rsa => "rows",
+            Rows::Primitives | Rows::Schemes | Rows::SignInput | Rows::P384 | Rows::Rsa => "rows",
             Rows::Wycheproof => "cases of Wycheproof",
             Rows::LocalTokens => "tokens sealed and opened",
             Rows::Published => "published tokens",
@@ -70,7 +73,7 @@ impl Rows {
         match self {
             Rows::Primitives => primitives::check(alloc, name, fields),
             Rows::LocalTokens => tokens::check(alloc, name, fields),
-            Rows::Schemes => schemes::check(alloc, name, fields),
+            Rows::Schemes | Rows::SignInput => schemes::check(alloc, name, fields),
             Rows::P384 => p384::check(alloc, name, fields),
             Rows::Rsa => rsa::check(alloc, name, fields),
             Rows::Wycheproof => check_case(alloc, name, fields),

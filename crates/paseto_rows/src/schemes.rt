@@ -1,19 +1,20 @@
 //! Rows of the box of version 2 and of Ed25519: `NAME FIELD..`, in hexadecimal.
 
 ghost use Rattle.std.specs.Prelude.{◌≡◌, ◌↔◌, ◌++◌, IfOk, IsTrue};
-ghost use Rattle.paseto_rows.specs.Schemes.{IsBoxRow, IsRefusedBoxRow, IsSigningRow, IsVerdictRow};
+ghost use Rattle.paseto_rows.specs.Schemes.{IsBoxRow, IsRefusedBoxRow, IsSignedRow, IsSigningRow, IsVerdictRow};
 
 use crate::error::RowError;
 use crate::fields::{array_of, bytes_of, compare};
 use paseto_ed25519::Ed25519;
 use paseto_xchacha20poly1305::XChaCha20Poly1305;
-use rusty_paseto_core::{PasetoError, SealedBox, SignatureScheme};
+use rusty_paseto_core::{Key, PasetoError, SealedBox, SignatureScheme};
 use std::alloc::Global;
 
 /// Checks the row with this name.
 pub fn check(alloc: Global, name: &str, fields: &[&str]) -> Result<(), RowError> {
     match name {
         "ed25519" => check_ed25519(alloc, fields),
+        "ed25519_signed" => check_ed25519_signed(alloc, fields),
         "ed25519_valid" => check_verdict(alloc, fields, true),
         "ed25519_refused" => check_verdict(alloc, fields, false),
         "xchacha20poly1305" => check_xchacha20poly1305(alloc, fields),
@@ -56,6 +57,37 @@ fn private_key(seed: &[u8; 32], public: &[u8; 32]) -> [u8; 64]
     front.copy_from_slice(seed);
     back.copy_from_slice(public);
     bytes
+}
+
+/// `PRIVATE PUBLIC MESSAGE SIGNED`
+fn check_ed25519_signed(alloc: Global, fields: &[&str]) -> Result<(), RowError> {
+    let [private, public, message, signed] = *fields else {
+        return Err(RowError::Form);
+    };
+    check_signed(alloc, private, public, message, signed)
+}
+
+/// Checks what is signed under a private key, whose own half the public key is: the signature and the message. The key is
+/// asked once.
+fn check_signed(
+    alloc: Global,
+    private: &str,
+    public: &str,
+    message: &str,
+    signed: &str,
+) -> Result<(), RowError>
+    ensures { IfOk result (λ _. IsSignedRow private.now public.now message.now signed.now) }
+{
+    let (private, public) = (array_of::<64>(private)?, array_of::<32>(public)?);
+    let (message, signed) = (bytes_of(alloc, message)?, bytes_of(alloc, signed)?);
+    let Some((signature, rest)) = signed.split_first_chunk::<64>() else {
+        return Err(RowError::Form);
+    };
+    let mut signer = Ed25519::with_key(&Key::from(private))?;
+    compare(&private[32..], &public)?;
+    compare(&signer.sign(alloc, &private, &message)?, signature)?;
+    compare(&message, rest)?;
+    Ok(signer.verify(alloc, &public, &message, signature)?)
 }
 
 /// `PUBLIC MESSAGE SIGNATURE`, of which the signature is to be valid or not.

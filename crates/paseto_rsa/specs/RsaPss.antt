@@ -30,10 +30,10 @@ unfoldable pub HasNoSignature : List ℕ → List ℕ → List ℕ → Type 0
 HasNoSignature private message salt =
     (made : List ℕ) → IsSigned private message salt made → ¬ RsaPssVerifies (rsa_public private) message made
 
--- what is answered for what is no private key; for a private key where the generator fails, or where what it makes of some
+-- what is answered for what is no private key; for a private key where the generator fails, or where what it makes of the
 -- message with a drawn salt is not valid
 abbrev pub IsDeclined : Declining
-IsDeclined private error =
+IsDeclined private message error =
     ((¬ IsPrivate private) × (error ≡ KeyRejected))
     ⊎ (IsPrivate private × ((error ≡ Cipher)
-    ⊎ ((error ≡ RsaCipher) × ((message salt : List ℕ) × (length salt ≡ 48) × HasNoSignature private message salt))))
+    ⊎ ((error ≡ RsaCipher) × ((salt : List ℕ) × (length salt ≡ 48) × HasNoSignature private message salt))))

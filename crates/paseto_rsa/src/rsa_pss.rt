@@ -77,7 +77,7 @@ impl<R: TryRng> SignatureScheme<256> for RsaPss<R> {
             × ((salt : List ℕ) × (length salt ≡ 48)
             × R.may_fill self.old.rng salt self.new.rng
             × IsSigned private.now message.now salt signature)) }
-        ensures err { IfErr result (λ error. IsDeclined private.now error
+        ensures err { IfErr result (λ error. IsDeclined private.now message.now error
             × (IsPrivate private.now → ((error ≡ PasetoError.Cipher) × R.Error)
             ⊎ ((error ≡ PasetoError.RsaCipher) × ((salt : List ℕ) × (length salt ≡ 48)
             × R.may_fill self.old.rng salt self.new.rng

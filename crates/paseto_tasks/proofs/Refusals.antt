@@ -70,33 +70,33 @@ second_of_two (Ok value) known A B other h = tt
 second_of_two (Err error) known A B other h = second_known A B error known other h
 
 -- the same, beside a private key that is declined
-sign_first_known : (error : ProgramError) (known : Option (List ℕ)) (A B : List ℕ → List ℕ → Type 0) (C D : Type 0) → ((bytes text : List ℕ) → B bytes text → ⊥)
-    → IfSome known (λ bytes. IsOutside error ⊎ (((text : List ℕ) → ¬ A bytes text) ⊎ C))
-    → IfSome known (λ bytes. IsOutside error ⊎ (((text : List ℕ) → ¬ (A bytes text ⊎ B bytes text)) ⊎ (C ⊎ D)))
+sign_first_known : (error : ProgramError) (known : Option (List ℕ)) (A B : List ℕ → List ℕ → Type 0) (C D : List ℕ → Type 0) → ((bytes text : List ℕ) → B bytes text → ⊥)
+    → IfSome known (λ bytes. IsOutside error ⊎ (((text : List ℕ) → ¬ A bytes text) ⊎ C bytes))
+    → IfSome known (λ bytes. IsOutside error ⊎ (((text : List ℕ) → ¬ (A bytes text ⊎ B bytes text)) ⊎ (C bytes ⊎ D bytes)))
 sign_first_known error None A B C D other h = tt
 sign_first_known error (Some bytes) A B C D other (inl outside) = inl outside
 sign_first_known error (Some bytes) A B C D other (inr (inl none)) = inr (inl (λ text both. elim both [ inl a ↦ none text a | inr b ↦ other bytes text b ]))
 sign_first_known error (Some bytes) A B C D other (inr (inr declined)) = inr (inr (inl declined))
 
-sign_second_known : (error : ProgramError) (known : Option (List ℕ)) (A B : List ℕ → List ℕ → Type 0) (C D : Type 0) → ((bytes text : List ℕ) → A bytes text → ⊥)
-    → IfSome known (λ bytes. IsOutside error ⊎ (((text : List ℕ) → ¬ B bytes text) ⊎ D))
-    → IfSome known (λ bytes. IsOutside error ⊎ (((text : List ℕ) → ¬ (A bytes text ⊎ B bytes text)) ⊎ (C ⊎ D)))
+sign_second_known : (error : ProgramError) (known : Option (List ℕ)) (A B : List ℕ → List ℕ → Type 0) (C D : List ℕ → Type 0) → ((bytes text : List ℕ) → A bytes text → ⊥)
+    → IfSome known (λ bytes. IsOutside error ⊎ (((text : List ℕ) → ¬ B bytes text) ⊎ D bytes))
+    → IfSome known (λ bytes. IsOutside error ⊎ (((text : List ℕ) → ¬ (A bytes text ⊎ B bytes text)) ⊎ (C bytes ⊎ D bytes)))
 sign_second_known error None A B C D other h = tt
 sign_second_known error (Some bytes) A B C D other (inl outside) = inl outside
 sign_second_known error (Some bytes) A B C D other (inr (inl none)) = inr (inl (λ text both. elim both [ inl a ↦ other bytes text a | inr b ↦ none text b ]))
 sign_second_known error (Some bytes) A B C D other (inr (inr declined)) = inr (inr (inr declined))
 
-pub sign_first : {T : Type 0} (result : Result T ProgramError) (known : Option (List ℕ)) (A B : List ℕ → List ℕ → Type 0) (C D : Type 0)
+pub sign_first : {T : Type 0} (result : Result T ProgramError) (known : Option (List ℕ)) (A B : List ℕ → List ℕ → Type 0) (C D : List ℕ → Type 0)
     → ((bytes text : List ℕ) → B bytes text → ⊥)
-    → IfErr result (λ error. IfSome known (λ bytes. IsOutside error ⊎ (((text : List ℕ) → ¬ A bytes text) ⊎ C)))
-    → IfErr result (λ error. IfSome known (λ bytes. IsOutside error ⊎ (((text : List ℕ) → ¬ (A bytes text ⊎ B bytes text)) ⊎ (C ⊎ D))))
+    → IfErr result (λ error. IfSome known (λ bytes. IsOutside error ⊎ (((text : List ℕ) → ¬ A bytes text) ⊎ C bytes)))
+    → IfErr result (λ error. IfSome known (λ bytes. IsOutside error ⊎ (((text : List ℕ) → ¬ (A bytes text ⊎ B bytes text)) ⊎ (C bytes ⊎ D bytes))))
 sign_first (Ok value) known A B C D other h = tt
 sign_first (Err error) known A B C D other h = sign_first_known error known A B C D other h
 
-pub sign_second : {T : Type 0} (result : Result T ProgramError) (known : Option (List ℕ)) (A B : List ℕ → List ℕ → Type 0) (C D : Type 0)
+pub sign_second : {T : Type 0} (result : Result T ProgramError) (known : Option (List ℕ)) (A B : List ℕ → List ℕ → Type 0) (C D : List ℕ → Type 0)
     → ((bytes text : List ℕ) → A bytes text → ⊥)
-    → IfErr result (λ error. IfSome known (λ bytes. IsOutside error ⊎ (((text : List ℕ) → ¬ B bytes text) ⊎ D)))
-    → IfErr result (λ error. IfSome known (λ bytes. IsOutside error ⊎ (((text : List ℕ) → ¬ (A bytes text ⊎ B bytes text)) ⊎ (C ⊎ D))))
+    → IfErr result (λ error. IfSome known (λ bytes. IsOutside error ⊎ (((text : List ℕ) → ¬ B bytes text) ⊎ D bytes)))
+    → IfErr result (λ error. IfSome known (λ bytes. IsOutside error ⊎ (((text : List ℕ) → ¬ (A bytes text ⊎ B bytes text)) ⊎ (C bytes ⊎ D bytes))))
 sign_second (Ok value) known A B C D other h = tt
 sign_second (Err error) known A B C D other h = sign_second_known error known A B C D other h
 

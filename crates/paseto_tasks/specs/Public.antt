@@ -3,7 +3,7 @@ use Rattle.std.specs.Prelude.{◌≡◌, ◌⊎◌, ℕ, List, [], ◌∷◌, �
 use Rattle.base64.specs.GeneralPurpose.{IsBytes}
 use Rattle.rusty_paseto_parts.specs.PublicKey.{is_compressed}
 use Rattle.rusty_paseto_core.specs.Context.{binding_of}
-use Rattle.rusty_paseto_core.specs.Public.{PublicDesign, v3_public, v4_public}
+use Rattle.rusty_paseto_core.specs.Public.{PublicDesign, message, v3_public, v4_public}
 use Rattle.rusty_paseto_core.specs.Public.Scheme.{Declining, Refusal, Validity}
 use Rattle.rusty_paseto_core.specs.Public.Signing.{IsSigning}
 use Rattle.rusty_paseto_core.specs.Public.Verifying.{verification}
@@ -70,23 +70,29 @@ abbrev pub VerifiesBy : List ℕ → Options → List ℕ → List ℕ → Type 
 VerifiesBy key options input text =
     VerifiesInV3 key options (line_of_input input) text ⊎ VerifiesInV4 key options (line_of_input input) text
 
--- the line is the writing of a private key of a version, and its scheme declines the key
-pub record DeclinesKey (version : PaserkVersion) (size : ℕ) (Declined : Declining) (key : List ℕ) : Type 0 where
+-- the line is the writing of a private key of a version, for which this error is answered
+pub record DeclinesKey (version : PaserkVersion) (size : ℕ) (Declined : List ℕ → PasetoError → Type 0) (key : List ℕ) : Type 0 where
   pub key_bytes : List ℕ
   pub error : PasetoError
   pub is_key : IsHalf version Secret size key key_bytes
   pub declined : Declined key_bytes error
 
-abbrev pub IsDeclinedInV3 : List ℕ → Type 0
-IsDeclinedInV3 = DeclinesKey V3 48 IsDeclinedByP384
+-- a scheme declines the text for a private key
+abbrev pub DeclinesText : Declining → (List ℕ → List ℕ) → PublicDesign → Options → List ℕ → List ℕ → PasetoError → Type 0
+DeclinesText declined half design options text private error =
+    declined private (message design (binding_of (half private) options.footer options.assertion) text) error
 
-abbrev pub IsDeclinedInV4 : List ℕ → Type 0
-IsDeclinedInV4 = DeclinesKey V4 64 IsDeclined
+abbrev pub IsDeclinedInV3 : List ℕ → Options → List ℕ → Type 0
+IsDeclinedInV3 key options text = DeclinesKey V3 48 (DeclinesText IsDeclinedByP384 p384_public v3_public options text) key
+
+abbrev pub IsDeclinedInV4 : List ℕ → Options → List ℕ → Type 0
+IsDeclinedInV4 key options text = DeclinesKey V4 64 (DeclinesText IsDeclined partner v4_public options text) key
 
 -- no line is printed for the key and the text: there is no private key of version 3 or 4, or no text, or the scheme
--- declines the key, as one whose halves do not belong together
+-- declines the text for the key, as one whose halves do not belong together
 abbrev pub SignsNothing : List ℕ → Options → List ℕ → Type 0
-SignsNothing key options text = ((line : List ℕ) → ¬ SignsBy key options text line) ⊎ (IsDeclinedInV3 key ⊎ IsDeclinedInV4 key)
+SignsNothing key options text = ((line : List ℕ) → ¬ SignsBy key options text line)
+    ⊎ (IsDeclinedInV3 key options text ⊎ IsDeclinedInV4 key options text)
 
 -- no text is printed for the key and the input: the token is verified as none
 abbrev pub VerifiesNothing : List ℕ → Options → List ℕ → Type 0

@@ -4,7 +4,7 @@ ghost use Rattle.std.specs.Prelude.{◌⊎◌, ℕ, List, IfErr, IfOk, IfSome, s
 ghost use Rattle.rusty_paseto_parts.specs.declared.error.PasetoError.{PasetoError};
 ghost use Rattle.rusty_paseto_core.specs.Public.{HasPrivateLength};
 ghost use Rattle.paseto_tasks.specs.Error.{IsNoUsage, IsOutside};
-ghost use Rattle.paseto_tasks.specs.Public.{IsDeclinedInV3, IsDeclinedInV4, IsSigned, IsVerified, SignsBy, SignsInV3, SignsInV4, SignsNothing, VerifiesBy, VerifiesInV3, VerifiesInV4, VerifiesNothing};
+ghost use Rattle.paseto_tasks.specs.Public.{DeclinesText, IsDeclinedInV3, IsDeclinedInV4, IsSigned, IsVerified, SignsBy, SignsInV3, SignsInV4, SignsNothing, VerifiesBy, VerifiesInV3, VerifiesInV4, VerifiesNothing};
 ghost use Rattle.paseto_tasks.specs.Input.{line_of_input};
 
 use crate::arguments::Options;
@@ -51,7 +51,7 @@ fn sign_in_v3<R: Read>(
         SignsInV3 key.now options.now text (string_bytes line))) }
     ensures refused { IfErr result (λ error. IfSome (R.remaining input.old) (λ text. IsOutside error
         ⊎ (((line : List ℕ) → ¬ SignsInV3 key.now options.now text line)
-        ⊎ IsDeclinedInV3 key.now))) }
+        ⊎ IsDeclinedInV3 key.now options.now text))) }
     ensures no_usage { IfErr result IsNoUsage }
 {
     let key = secret_from_paserk::<V3, 48>(alloc, key)?;
@@ -70,7 +70,7 @@ fn sign_in_v4<R: Read>(
         SignsInV4 key.now options.now text (string_bytes line))) }
     ensures refused { IfErr result (λ error. IfSome (R.remaining input.old) (λ text. IsOutside error
         ⊎ (((line : List ℕ) → ¬ SignsInV4 key.now options.now text line)
-        ⊎ IsDeclinedInV4 key.now))) }
+        ⊎ IsDeclinedInV4 key.now options.now text))) }
     ensures no_usage { IfErr result IsNoUsage }
 {
     let key = secret_from_paserk::<V4, 64>(alloc, key)?;
@@ -91,7 +91,8 @@ fn signed<V: AssertionVersion + Signs<S>, S>(
         (string_bytes line)) }
     ensures refused { HasPrivateLength V.public_design key.now
         → IfErr result (λ error. IsOutside error
-        ⊎ ((source : PasetoError) × V.declined key.now source)) }
+        ⊎ ((source : PasetoError) × DeclinesText V.declined V.partner V.public_design options.now
+        text.now key.now source)) }
     ensures no_usage { IfErr result IsNoUsage }
 {
     let assertion = V::signed_assertion(options.assertion);

@@ -14,7 +14,7 @@ toy_refused public message signature error = error ≡ InvalidSignature
 
 -- no private key at all
 abbrev pub toy_declined : Declining
-toy_declined private error = (private ≡ []) × (error ≡ KeyRejected)
+toy_declined private message error = (private ≡ []) × (error ≡ KeyRejected)
 
 -- a public key of version 3: 49 bytes, of which the first is 2
 abbrev pub IsToyKey : List ℕ → Type 0

@@ -17,7 +17,7 @@ impl<const SIG: usize> SignatureScheme<SIG> for Lenient {
 
     ghost refused = { λ public message signature error. ⊥ };
 
-    ghost declined = { λ private error. ⊥ };
+    ghost declined = { λ private message error. ⊥ };
 
     /// Bytes that do not depend on the message.
     fn sign(

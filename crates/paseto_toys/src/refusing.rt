@@ -18,7 +18,7 @@ impl<const SIG: usize> SignatureScheme<SIG> for Refusing {
 
     ghost refused = { λ public message signature error. error ≡ Signature };
 
-    ghost declined = { λ private error. error ≡ Signature };
+    ghost declined = { λ private message error. error ≡ Signature };
 
     /// Is `Signature`.
     fn sign(

@@ -1,7 +1,7 @@
 //! Toys in the place of signature schemes. Those of versions 2 and 4 are the same, by two names.
 
-ghost use Rattle.std.specs.Prelude.{◌≢◌, [], IfErr, OnOk};
-ghost use Rattle.paseto_toys.specs.ToySchemes.{toy_declined};
+ghost use Rattle.std.specs.Prelude.{◌≡◌, ◌≢◌, [], IfErr, OnOk};
+ghost use Rattle.rusty_paseto_parts.specs.declared.error.PasetoError.TheVariants.{KeyRejected};
 
 mod v1;
 mod v2;
@@ -15,7 +15,7 @@ pub use v3::ToyV3;
 // Refuses the empty private key.
 fn check_private(private: &[u8]) -> Result<(), PasetoError>
     ensures ok { OnOk result (private.now ≢ []) }
-    ensures err { IfErr result (λ error. toy_declined private.now error) }
+    ensures err { IfErr result (λ error. (private.now ≡ []) × (error ≡ KeyRejected)) }
 {
     if private.is_empty() {
         return Err(PasetoError::KeyRejected);

@@ -1,4 +1,5 @@
 pub mod MomentLemmas
+pub mod DefaultClaims
 pub mod KeyLemmas
 pub mod KeyRingLemmas
 pub mod KeyRingParsing

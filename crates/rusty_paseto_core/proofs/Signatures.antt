@@ -86,7 +86,7 @@ module _ (valid : Validity) (design : PublicDesign) (public : List ℕ) (footer 
   answer_ok (Err error) signing = tt
 
 -- an assertion that the version does not bind does not change the answer of signing
-pub sign_answer-assertion : (valid : Validity) (Declined : PasetoError → Type 0) (design : PublicDesign) (private public : List ℕ) (footer : Option Footer)
+pub sign_answer-assertion : (valid : Validity) (Declined : List ℕ → PasetoError → Type 0) (design : PublicDesign) (private public : List ℕ) (footer : Option Footer)
     (first second : Option ImplicitAssertion) (text : List ℕ) (answer : Result (String Global) PasetoError)
     → (design.binds_assertion ≡ true → first ≡ second)
     → IsSignAnswer valid Declined design private public footer first text answer
@@ -94,5 +94,8 @@ pub sign_answer-assertion : (valid : Validity) (Declined : PasetoError → Type 
 sign_answer-assertion valid Declined design private public footer first second text answer same given = record {
   ok = answer_ok valid design public footer first second same (is_some footer) text answer given.ok;
   private_length = given.private_length;
-  err = given.err;
+  err = λ own_length.
+      let bytes : design.binds_assertion ≡ true → assertion_of first ≡ assertion_of second = λ binds. ap assertion_of (same binds) in
+      let message_same = message-assertion design public (footer_of footer) (assertion_of first) (assertion_of second) text bytes in
+      subst (λ (m : List ℕ). IfErr answer (λ error. IsMemory error ⊎ Declined m error)) message_same (given.err own_length);
 }

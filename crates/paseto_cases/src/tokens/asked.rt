@@ -105,7 +105,7 @@ impl<const SIG: usize> SignatureScheme<SIG> for Blank {
 
     ghost refused = { λ public message signature error. ⊥ };
 
-    ghost declined = { λ private error. ⊥ };
+    ghost declined = { λ private message error. ⊥ };
 
     fn sign(
         &mut self,

@@ -35,7 +35,7 @@ impl SignatureScheme<256> for ToyV1 {
     ) -> Result<[u8; 256], PasetoError>
         ensures ok { IfOk result (λ signature. (private.now ≢ [])
             × toy_valid 256 (toy_partner private.now) message.now signature) }
-        ensures err { IfErr result (λ error. toy_declined private.now error) }
+        ensures err { IfErr result (λ error. toy_declined private.now message.now error) }
     {
         check_private(private)?;
         Ok(toy_signature(&toy_partner(private), message))

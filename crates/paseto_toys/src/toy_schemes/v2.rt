@@ -31,7 +31,7 @@ impl SignatureScheme<64> for ToyV2 {
     ) -> Result<[u8; 64], PasetoError>
         ensures ok { IfOk result (λ signature. (private.now ≢ [])
             × toy_valid 64 (toy_partner private.now) message.now signature) }
-        ensures err { IfErr result (λ error. toy_declined private.now error) }
+        ensures err { IfErr result (λ error. toy_declined private.now message.now error) }
     {
         check_private(private)?;
         Ok(toy_signature(&toy_partner(private), message))

@@ -255,7 +255,7 @@ fn key_pairs_sign(rt: HostRuntime) {
         .expect(&rt, "a signature");
 }
 
-// A scheme that holds a private key signs under it alone.
+// A scheme that holds a private key signs under it, and asks another as `Ed25519` does.
 #[test]
 fn signers(rt: HostRuntime) {
     let alloc = rt.alloc();
@@ -271,8 +271,11 @@ fn signers(rt: HostRuntime) {
         .expect(&rt, "a signature");
     private[63] ^= 1;
     let answer = signer.sign(alloc, &private, MESSAGE);
+    let is_named = matches!(&answer, Err(PasetoError::Signature));
+    expect_that(&rt, is_named, "another key, of two halves");
+    let answer = signer.sign(alloc, &private[1..], MESSAGE);
     let is_named = matches!(&answer, Err(PasetoError::KeyRejected));
-    expect_that(&rt, is_named, "another key");
+    expect_that(&rt, is_named, "another length");
     let answer = Ed25519::with_key(&Key::from(&private));
     let is_named = matches!(&answer, Err(PasetoError::Signature));
     expect_that(&rt, is_named, "another half");

@@ -1,4 +1,4 @@
--- What a signature scheme means, said of a public key, a message and a signature, or of a private key.
+-- What a signature scheme means, said of a public key, a message and a signature, or of a private key and a message.
 use Rattle.std.specs.Prelude.{ℕ, List}
 use Rattle.rusty_paseto_parts.specs.declared.error.PasetoError.{PasetoError}
 
@@ -10,6 +10,6 @@ Validity = List ℕ → List ℕ → List ℕ → Type 0
 abbrev pub Refusal : Type 1
 Refusal = List ℕ → List ℕ → List ℕ → PasetoError → Type 0
 
--- the errors that may be answered for a private key
+-- the errors that may be answered for a private key and a message
 abbrev pub Declining : Type 1
-Declining = List ℕ → PasetoError → Type 0
+Declining = List ℕ → List ℕ → PasetoError → Type 0

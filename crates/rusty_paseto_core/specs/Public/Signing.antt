@@ -29,10 +29,11 @@ pub record IsSigning (valid : Validity) (design : PublicDesign) (binding : Bindi
 
 -- the answer of signing a text under a private key whose public key is `public`: a signing, with the
 -- footer's section exactly where a footer is given; `TryFromSlice` exactly for a private key of another
--- length than the version tells; and else what the scheme declines with, or a failed allocation
-pub record IsSignAnswer (valid : Validity) (Declined : PasetoError → Type 0) (design : PublicDesign) (private public : List ℕ)
+-- length than the version tells; and else what the scheme declines this message with, or a failed allocation
+pub record IsSignAnswer (valid : Validity) (Declined : List ℕ → PasetoError → Type 0) (design : PublicDesign) (private public : List ℕ)
     (footer : Option Footer) (assertion : Option ImplicitAssertion) (text : List ℕ)
     (result : Result (String Global) PasetoError) : Type 0 where
   pub ok : IfOk result (λ token. IsSigning valid design (binding_of public footer assertion) (is_some footer) text (string_bytes token))
   pub private_length : ¬ HasPrivateLength design private → result ≡ Err TryFromSlice
-  pub err : HasPrivateLength design private → IfErr result (λ error. IsMemory error ⊎ Declined error)
+  pub err : HasPrivateLength design private
+      → IfErr result (λ error. IsMemory error ⊎ Declined (message design (binding_of public footer assertion) text) error)

@@ -36,7 +36,7 @@ pub trait SignatureScheme<const SIG: usize> {
     // The errors that may be answered for a public key, a message and a signature that is not valid.
     ghost refused: { Refusal };
 
-    // The errors that may be answered for a private key.
+    // The errors that may be answered for a private key and a message.
     ghost declined: { Declining };
 
     /// A signature of a message that is valid for the private key's public key. It fails by an error of
@@ -48,7 +48,7 @@ pub trait SignatureScheme<const SIG: usize> {
         message: &[u8],
     ) -> Result<[u8; SIG], PasetoError>
         ensures ok { IfOk result (λ signature. valid (partner private.now) message.now signature) }
-        ensures err { IfErr result (λ error. IsMemory error ⊎ declined private.now error) };
+        ensures err { IfErr result (λ error. IsMemory error ⊎ declined private.now message.now error) };
 
     /// Is `Ok` exactly where the signature is valid for the public key and the message. Else it fails by
     /// an error of the scheme's own. `Memory` may come in place of either.
@@ -69,9 +69,10 @@ pub trait SignatureScheme<const SIG: usize> {
 ///
 /// Source: PASETO specification, "Version 3"; SEC 1, section 2.3.3.
 pub trait CompressedKey: SignatureScheme<96> {
-    /// The public key of a private key: a compressed point, of 49 bytes. It fails by an error of the
-    /// scheme's own, or by `Memory`.
+    /// The public key of a private key: a compressed point, of 49 bytes. It fails by an error that
+    /// the scheme may answer for each message, or by `Memory`.
     fn public_key(&self, alloc: Global, private: &[u8]) -> Result<[u8; 49], PasetoError>
         ensures ok { IfOk result (λ public. public ≡ Self.partner private.now) }
-        ensures err { IfErr result (λ error. IsMemory error ⊎ Self.declined private.now error) };
+        ensures err { IfErr result (λ error. IsMemory error
+            ⊎ ((message : List ℕ) → Self.declined private.now message error)) };
 }

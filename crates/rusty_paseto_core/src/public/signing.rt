@@ -60,7 +60,7 @@ fn signed_payload<S: SignatureScheme<SIG>, const SIG: usize>(
         × IsBytes signature
         × S.valid (S.partner private.now) message.now signature
         × (payload.items ≡ text.now ++ signature)) }
-    ensures err { IfErr result (λ error. IsMemory error ⊎ S.declined private.now error) }
+    ensures err { IfErr result (λ error. IsMemory error ⊎ S.declined private.now message.now error) }
 {
     let signature = scheme.sign(alloc, private, message)?;
     let mut payload = Vec::with_capacity(alloc, text.len() + SIG)?;

@@ -34,7 +34,7 @@ pub trait Signs<S>: PublicVersion {
     // The public key of a private key.
     ghost partner: { List ℕ → List ℕ };
 
-    // The errors that the scheme may answer for a private key.
+    // The errors that the scheme may answer for a private key and a message.
     ghost declined: { Declining };
 
     /// Signs a payload, as `try_sign` of `Paseto` does. In the versions 1 and 2, which have no implicit

@@ -11,7 +11,7 @@ use Rattle.rusty_paseto_core.specs.Local.{Design}
 use Rattle.rusty_paseto_core.specs.Local.Boxed.{boxed_sealing, token_nonce}
 use Rattle.rusty_paseto_core.specs.Local.SealedBox.{BoxSealing}
 use Rattle.rusty_paseto_core.specs.Local.Sealing.{sealing}
-use Rattle.rusty_paseto_core.specs.Public.{HasPrivateLength, PublicDesign}
+use Rattle.rusty_paseto_core.specs.Public.{HasPrivateLength, PublicDesign, message}
 use Rattle.rusty_paseto_core.specs.Public.Scheme.{Validity}
 use Rattle.rusty_paseto_core.specs.Public.Signing.{IsSigning}
 use Rattle.rusty_paseto_generic.specs.Builders.Claims.{payload}
@@ -37,12 +37,14 @@ pub record IsBoxAnswer (box : BoxSealing) (binding : Binding) (written : Bool) (
 
 -- the answer of signing the claims' text under a private key whose public key is `public`: a signing, with
 -- the footer's section exactly where a footer is given; `TryFromSlice` for a private key of another length than
--- the version tells; and else what the scheme declines with. A failed allocation may come in place of any answer
-pub record IsSignAnswer (valid : Validity) (Declined : PasetoError → Type 0) (design : PublicDesign) (private public : List ℕ)
+-- the version tells; and else what the scheme declines this message with. A failed allocation may come in place of any
+-- answer
+pub record IsSignAnswer (valid : Validity) (Declined : List ℕ → PasetoError → Type 0) (design : PublicDesign) (private public : List ℕ)
     (footer : Option Footer) (assertion : Option ImplicitAssertion) (claims : Members)
     (result : Result (String Global) GenericBuilderError) : Type 0 where
   pub ok : IfOk result (λ token. IsSigning valid design (binding_of public footer assertion) (is_some footer) (payload claims) (string_bytes token))
   pub not_signed : ¬ HasPrivateLength design private → IsErr result
   pub private_length : ¬ HasPrivateLength design private → IfErr result (λ error. IsMemory error ⊎ (error ≡ CipherError TryFromSlice))
   pub err : HasPrivateLength design private
-      → IfErr result (λ error. IsMemory error ⊎ ((refusal : PasetoError) × Declined refusal × (error ≡ of_cipher refusal)))
+      → IfErr result (λ error. IsMemory error ⊎ ((refusal : PasetoError)
+      × Declined (message design (binding_of public footer assertion) (payload claims)) refusal × (error ≡ of_cipher refusal)))

@@ -1,5 +1,11 @@
-use Rattle.paseto_c.proofs.Answers.{answered}
+use Rattle.paseto_c.proofs.Answers.{answered, completed_where}
+use Rattle.paseto_c.proofs.Exits.{p384_apart}
 use Rattle.paseto_c.proofs.public.paseto_v3_public_sign.Goals as goal
 
-pub returns : goal.returns
-returns c = answered _ _ _ _ _ c.p384_signed.result c.p384_signed.ensures c.hand_over.ensures
+pub returns-clause-answer : goal.returns-clause-answer
+returns-clause-answer c = answered _ _ _ _ _ c.p384_signed.result c.p384_signed.ensures c.hand_over.ensures
+
+pub returns-clause-complete : goal.returns-clause-complete
+returns-clause-complete c =
+    completed_where _ _ _ _ _ _ (λ taken signs refusal. p384_apart c.args.private.now _ refusal signs)
+    c.p384_signed.result c.p384_signed.ensures c.hand_over.ensures

@@ -17,5 +17,4 @@ returns-clause-ok c =
     let signed : IsSigned private message = (own, (λ none. h.0 (nonce-is private message _ _ front c.expanded.ensures.prefix ∙ none))) in (
       subst (λ s. Ed25519Verifies (partner private) message s) (sym made) (c.signed_verifies.ensures private message signed),
       made,
-      same ∙ kept ∙ c.self.view_is,
     ))

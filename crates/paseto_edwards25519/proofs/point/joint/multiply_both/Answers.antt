@@ -1,49 +1,50 @@
-use Rattle.std.proofs.Common.{◌≡◌, ℕ, suc, ◌+◌, ◌-◌, ◌/◌, ◌^◌, ◌<◌, sym, ◌∙◌, ap, ap₂, arith}
-use Rattle.std.proofs.Math.Nat.{div-one}
+use Rattle.std.proofs.Common.{◌≡◌, ℕ, suc, ◌+◌, ◌-◌, ◌^◌, ◌<◌, sym, ◌∙◌, ap, ap₂, arith}
 use Rattle.paseto_edwards.specs.Edwards25519.{base}
 use Rattle.paseto_edwards25519.specs.Curve.{multiple, sum}
-use Rattle.paseto_edwards25519.specs.Digits.{digit}
-use Rattle.paseto_edwards25519.specs.Point.{point}
+use Rattle.paseto_edwards25519.specs.Extended.{affine}
+use Rattle.paseto_edwards25519.specs.Point.{completed, point}
 use Rattle.paseto_edwards25519.specs.Scalar.{number32}
-use Rattle.paseto_edwards25519.proofs.DigitLaws.{digit-step}
+use Rattle.paseto_edwards25519.specs.Windows.{left_of, window}
 use Rattle.paseto_edwards25519.proofs.MultipleLaws.{joint-next, joint-none}
+use Rattle.paseto_edwards25519.proofs.WindowLaws.{left-first, left-none, window-step}
 use Rattle.paseto_edwards25519.proofs.point.joint.multiply_both.Goals as goal
 
-pub digits-init : goal.digits-init
-digits-init c =
+pub bits-init : goal.bits-init
+bits-init c =
     let s : ℕ = number32 c.args.s.now in
     let k : ℕ = number32 c.args.k.now in
-    let s_low : s < 2 ^ 256 = omega (arith, c.halves-first.ensures) in
-    let k_low : k < 2 ^ 256 = omega (arith, c.halves-second.ensures) in
-    c.flattened-sum.ensures ∙ c.identity.ensures ∙ joint-none s k (point c.args.a) s_low k_low
+    let s_low : s < 2 ^ 256 = omega (arith, c.halves.ensures) in
+    let k_low : k < 2 ^ 256 = omega (arith, c.halves-2.ensures) in
+    c.flattened-sum.ensures ∙ c.identity.ensures
+    ∙ joint-none (left_of s 256) (left_of k 256) (point c.args.a) (left-none s s_low) (left-none k k_low)
 
-pub digits-preserved : goal.digits-preserved
-digits-preserved c =
+pub bits-preserved : goal.bits-preserved
+bits-preserved c =
     let s : ℕ = number32 c.args.s.now in
     let k : ℕ = number32 c.args.k.now in
-    let i : ℕ = c.digits.i in
-    let at : ℕ = 63 - i in
-    let before : 64 - i ≡ suc at = omega arith in
-    let after : 64 - (i + 1) ≡ at = omega arith in
+    let i : ℕ = c.bits.i in
+    let at : ℕ = 255 - i in
+    let before : 256 - i ≡ suc at = omega arith in
+    let after : 256 - (i + 1) ≡ at = omega arith in
     let a = point c.args.a in
     let on_curve = c.args.a.on_curve.point in
-    let shifted = ap₂ (λ m n. sum (multiple (s / 16 ^ m) base) (multiple (k / 16 ^ n) a)) before before in
-    let first = c.digit.ensures.value ∙ ap (λ n. digit n at) c.halves-first.ensures in
-    let second = c.digit-in-digits.ensures.value ∙ ap (λ n. digit n at) c.halves-second.ensures in
-    let more = c.add_known-more.ensures ∙ ap (λ n. sum (point c.sixteen_times.result) (multiple n base)) first in
-    let digits = c.add_listed-sum.ensures a c.multiples-table.ensures
+    let shifted = ap₂ (λ m n. sum (multiple (left_of s m) base) (multiple (left_of k n) a)) before before in
+    let first = c.windows.ensures at c.index-first.result (omega arith) ∙ ap (λ n. window n at) c.halves.ensures in
+    let second = c.windows-2.ensures at c.index-second.result (omega arith) ∙ ap (λ n. window n at) c.halves-2.ensures in
+    let more = c.add_known-more.ensures ∙ ap (λ n. sum (affine (completed c.double.result)) (multiple n base)) first in
+    let digits = c.to_projective-sum.ensures ∙ c.add_listed.ensures a c.odd_multiples-table.ensures
     ∙ ap₂ (λ p n. sum p (multiple n a)) more second in
-    joint-next (s / 16 ^ suc at) (k / 16 ^ suc at) (digit s at) (digit k at) a _ _ _ on_curve
-    c.sixteen_times.ensures (c.digits.invariant ∙ shifted) digits
-    ∙ ap₂ (λ m n. sum (multiple m base) (multiple n a)) (digit-step s at) (digit-step k at)
-    ∙ ap₂ (λ m n. sum (multiple (s / 16 ^ m) base) (multiple (k / 16 ^ n) a)) (sym after) (sym after)
+    joint-next (left_of s (suc at)) (left_of k (suc at)) (window s at) (window k at) a _ _ _ on_curve
+    c.double.ensures (c.bits.invariant ∙ shifted) digits
+    ∙ ap₂ (λ m n. sum (multiple m base) (multiple n a)) (window-step s at) (window-step k at)
+    ∙ ap₂ (λ m n. sum (multiple (left_of s m) base) (multiple (left_of k n) a)) (sym after) (sym after)
 
 pub returns : goal.returns
 returns c =
     let s : ℕ = number32 c.args.s.now in
     let k : ℕ = number32 c.args.k.now in
     let a = point c.args.a in
-    let ended : 64 - c.digits.i ≡ 0 = omega arith in
-    c.digits.invariant
-    ∙ ap (λ n. sum (multiple (s / 16 ^ n) base) (multiple (k / 16 ^ n) a)) ended
-    ∙ ap₂ (λ m n. sum (multiple m base) (multiple n a)) (div-one s) (div-one k)
+    let ended : 256 - c.bits.i ≡ 0 = omega arith in
+    c.bits.invariant
+    ∙ ap (λ n. sum (multiple (left_of s n) base) (multiple (left_of k n) a)) ended
+    ∙ ap₂ (λ m n. sum (multiple m base) (multiple n a)) (left-first s) (left-first k)

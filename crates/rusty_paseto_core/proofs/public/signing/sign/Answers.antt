@@ -1,4 +1,5 @@
 use Rattle.std.proofs.Common.{◌≡◌, ◌∙◌, List, ℕ, refl, sym, ap}
+use Rattle.std.proofs.lemmas.Result.{err_from_is_err_and}
 use Rattle.rusty_paseto_parts.specs.Header.{header_text}
 use Rattle.rusty_paseto_core.specs.Context.{Binding, binding_of, bound}
 use Rattle.rusty_paseto_core.specs.Public.{header, message, public}
@@ -23,3 +24,17 @@ returns-clause-answer g c =
       private_length = λ other. absurd (other (c.has_private_length.ensures.0 c.if-not-has_private_length.false));
       err = λ own_length. memory_or _ c.frame.result c.frame.ensures.err;
     }
+
+pub returns-in_err-payload-clause-answer : goal.returns-in_err-payload-clause-answer
+returns-in_err-payload-clause-answer g c =
+    let design = g.V.PublicSuite.public_design in
+    let partner = g.S.SignatureScheme.partner c.args.private.now in
+    let own : Binding = binding_of partner c.args.footer c.args.assertion in
+    let asked : message design (bound c.args.public.now c.new-context.result) c.as_bytes-text.result.now ≡ message design own c.args.text.now =
+    rw (c.new-context.ensures, c.as_bytes-text.ensures.value) (message-key design c.args.public.now partner own.footer own.assertion c.args.text.now c.requires.partner) in
+    let exit = err_from_is_err_and c.from_residual-in_err-payload.result c.from_residual-in_err-payload.ensures.1 in
+    rw (exit.1, exit.2) (record {
+      ok = tt;
+      private_length = λ other. absurd (other (c.has_private_length.ensures.0 c.if-not-has_private_length.false));
+      err = λ own_length. rw (c.as_bytes.ensures ∙ c.in_ok-message.ensures.ok ∙ asked) at c.in_err-payload.ensures.err;
+    })

@@ -1,23 +1,23 @@
-use Rattle.std.proofs.Common.{◌≡◌, ℕ, ◌+◌, ◌-◌, refl, sym, ◌∙◌, ap, inl, inr, arith, length-set}
+use Rattle.std.proofs.Common.{◌≡◌, ℕ, ◌+◌, ◌-◌, ◌*◌, refl, sym, ◌∙◌, ap, ap₂, inl, inr, arith, length-set}
 use Rattle.std.proofs.lemmas.Bool.{cases_eq}
 use Rattle.std.proofs.lemmas.List.{get_or-set_other, get_or-set_same}
 use Rattle.paseto_edwards25519.specs.Curve.{multiple}
 use Rattle.paseto_edwards25519.specs.Extended.{affine}
 use Rattle.paseto_edwards25519.specs.Point.{point, prepared}
-use Rattle.paseto_edwards25519.proofs.CurveLaws.{multiple-none, multiple-once}
-use Rattle.paseto_edwards25519.proofs.MultipleLaws.{multiple-next}
-use Rattle.paseto_edwards25519.proofs.point.joint.multiples.Goals as goal
+use Rattle.paseto_edwards25519.proofs.CurveLaws.{multiple-once}
+use Rattle.paseto_edwards25519.proofs.MultipleLaws.{multiple-next, multiple-twice}
+use Rattle.paseto_edwards25519.proofs.point.joint.odd_multiples.Goals as goal
 
 pub multiples-init : goal.multiples-init
 multiples-init c =
     let a = point c.args.a in
-    let none = c.identity-last.ensures ∙ sym (multiple-none a) in
+    let once = sym (multiple-once a c.args.a.on_curve.point) in
     record {
       all = refl;
-      last = none;
+      last = once;
       made = λ j other below.
           let first : j ≡ 0 = omega arith in
-          rw first (c.prepared-table.ensures ∙ none);
+          rw first (c.prepared-table.ensures ∙ once);
     }
 
 pub multiples-preserved : goal.multiples-preserved
@@ -25,12 +25,14 @@ multiples-preserved c =
     let a = point c.args.a in
     let i : ℕ = c.multiples.i in
     let table = c.multiples.table in
-    let point = c.args.a.on_curve.point in
-    let count : i - 1 + 1 ≡ i = omega arith in
+    let on_curve = c.args.a.on_curve.point in
+    let twice = c.prepared-twice.ensures ∙ c.to_extended.ensures
+    ∙ multiple-twice 1 a _ _ on_curve c.double.ensures (c.flattened.ensures ∙ sym (multiple-once a on_curve)) in
+    let count : 2 * (i - 1) + 1 + 2 ≡ 2 * i + 1 = omega arith in
     let last = c.to_extended-last.ensures
-    ∙ multiple-next (i - 1) 1 a _ _ _ point c.add.ensures c.multiples.invariant.last (c.prepared-once.ensures ∙ sym (multiple-once a point))
+    ∙ multiple-next (2 * (i - 1) + 1) 2 a _ _ _ on_curve c.add.ensures c.multiples.invariant.last twice
     ∙ ap (λ k. multiple k a) count in
-    let same : i + 1 - 1 ≡ i = omega arith in
+    let same : 2 * (i + 1 - 1) + 1 ≡ 2 * i + 1 = omega arith in
     record {
       all = length-set table i c.prepared.result ∙ c.multiples.invariant.all;
       last = last ∙ ap (λ k. multiple k a) (sym same);
