@@ -15,5 +15,5 @@ returns c a made =
     let digit : ℕ = c.args.digit in
     let odd = c.requires.odd c.if-digit-eq0.false in
     let same : 2 * (digit / 2) + 1 ≡ digit = omega (arith, odd) in
-    let read = made (digit / 2) c.index-table.result (omega (arith, c.requires.bound)) ∙ ap (λ n. multiple n a) same in
+    let read = made (digit / 2) c.index-table-digit.result (omega (arith, c.requires.bound)) ∙ ap (λ n. multiple n a) same in
     c.add.ensures ∙ ap₂ (λ p q. sum p q) c.to_extended.ensures read

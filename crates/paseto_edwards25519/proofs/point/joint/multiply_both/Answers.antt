@@ -6,7 +6,7 @@ use Rattle.paseto_edwards25519.specs.Point.{completed, point}
 use Rattle.paseto_edwards25519.specs.Scalar.{number32}
 use Rattle.paseto_edwards25519.specs.Windows.{left_of, window}
 use Rattle.paseto_edwards25519.proofs.MultipleLaws.{joint-next, joint-none}
-use Rattle.paseto_edwards25519.proofs.WindowLaws.{left-first, left-none, window-step}
+use Rattle.paseto_edwards25519.proofs.WindowLaws.{left-first, left-none, slid-below, slid-is_odd, window-step}
 use Rattle.paseto_edwards25519.proofs.point.joint.multiply_both.Goals as goal
 
 pub bits-init : goal.bits-init
@@ -29,8 +29,8 @@ bits-preserved c =
     let a = point c.args.a in
     let on_curve = c.args.a.on_curve.point in
     let shifted = ap₂ (λ m n. sum (multiple (left_of s m) base) (multiple (left_of k n) a)) before before in
-    let first = c.windows.ensures at c.index-first.result (omega arith) ∙ ap (λ n. window n at) c.halves.ensures in
-    let second = c.windows-2.ensures at c.index-second.result (omega arith) ∙ ap (λ n. window n at) c.halves-2.ensures in
+    let first = c.windows-first.ensures at (omega arith) ∙ ap (λ n. window n at) c.halves.ensures in
+    let second = c.windows-second.ensures at (omega arith) ∙ ap (λ n. window n at) c.halves-2.ensures in
     let more = c.add_known-more.ensures ∙ ap (λ n. sum (affine (completed c.double.result)) (multiple n base)) first in
     let digits = c.to_projective-sum.ensures ∙ c.add_listed.ensures a c.odd_multiples-table.ensures
     ∙ ap₂ (λ p n. sum p (multiple n a)) more second in
@@ -38,6 +38,21 @@ bits-preserved c =
     c.double.ensures (c.bits.invariant ∙ shifted) digits
     ∙ ap₂ (λ m n. sum (multiple m base) (multiple n a)) (window-step s at) (window-step k at)
     ∙ ap₂ (λ m n. sum (multiple (left_of s m) base) (multiple (left_of k n) a)) (sym after) (sym after)
+
+pub add_known-more-requires : goal.add_known-more-requires
+add_known-more-requires c =
+    let digit = c.windows-first.ensures (255 - c.bits.i) (omega arith) in
+    rw digit (slid-below _)
+
+pub add_listed-requires-clause-bound : goal.add_listed-requires-clause-bound
+add_listed-requires-clause-bound c =
+    let digit = c.windows-second.ensures (255 - c.bits.i) (omega arith) in
+    rw digit (slid-below _)
+
+pub add_listed-requires-clause-odd : goal.add_listed-requires-clause-odd
+add_listed-requires-clause-odd c =
+    let digit = c.windows-second.ensures (255 - c.bits.i) (omega arith) in
+    rw digit (slid-is_odd _)
 
 pub returns : goal.returns
 returns c =
