@@ -14,6 +14,11 @@ import hashlib
 ED25519 = 1087
 COUNT = 1024
 
+HEADER = """\
+# Signed messages of 0 to 1023 bytes, made by tests/sign_input_rows.py. Bytes are hexadecimal, and '-' is the empty list.
+# ed25519_signed PRIVATE PUBLIC MESSAGE SIGNED: the private key is a seed and the public key, and what is signed is the
+# signature and the message."""
+
 crypto = ctypes.CDLL("libcrypto.so.3")
 for name in ("EVP_PKEY_new_raw_private_key", "EVP_PKEY_new_raw_public_key", "EVP_MD_CTX_new"):
     getattr(crypto, name).restype = ctypes.c_void_p
@@ -63,11 +68,7 @@ def row(size):
 
 
 def main():
-    print("# Signed messages of 0 to 1023 bytes, made by tests/sign_input_rows.py. Bytes are hexadecimal, and '-' is the "
-          "empty list.")
-    print("# ed25519_signed PRIVATE PUBLIC MESSAGE SIGNED: the private key is a seed and the public key, and what is signed "
-          "is the signature")
-    print("# and the message.")
+    print(HEADER)
     for size in range(COUNT):
         row(size)
 

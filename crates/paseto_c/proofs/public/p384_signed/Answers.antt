@@ -14,7 +14,8 @@ returns-in_err-texts c =
 
 pub returns-in-Err : goal.returns-in-Err
 returns-in-Err c =
-    let declined = rw (c.from-key.ensures, c.in_ok-private.ensures.0) at c.in-Err.ensures.answer.err in
+    let lent = c.in_ok-texts.ensures in
+    let declined = rw (c.from-key.ensures, c.in_ok-private.ensures.0, c.from-payload.ensures, lent.0, lent.1, lent.3) at c.in-Err.ensures.answer.err in
     rw c.of_token.ensures
     (declined_refuses _ _ _ p384_public _ _ _ _ _ c.in-Err.error
     (record { key = c.in_ok-private.ensures.1; nonce = tt; texts = c.in_ok-texts.ensures.5 }) (declined tt))

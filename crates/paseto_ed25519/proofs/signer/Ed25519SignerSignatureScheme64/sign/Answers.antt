@@ -12,7 +12,7 @@ returns-clause-ok c =
     let front = c.split_at.ensures.front ∙ ap (λ b. take 32 b) (sym same) in
     let back = c.split_at.ensures.back ∙ ap (λ b. drop 32 b) (sym same) in
     let own = subst (λ b. IsOwn b) (sym (same ∙ kept)) c.self.invariant in
-    IfOk_then c.sign.result c.sign.ensures.ok (λ signature h.
+    IfOk_then c.sign-2.result c.sign-2.ensures.ok (λ signature h.
     let made = signed-is private message _ _ _ _ signature front back c.expanded.ensures.scalar c.expanded.ensures.prefix h.1 in
     let signed : IsSigned private message = (own, (λ none. h.0 (nonce-is private message _ _ front c.expanded.ensures.prefix ∙ none))) in (
       subst (λ s. Ed25519Verifies (partner private) message s) (sym made) (c.signed_verifies.ensures private message signed),
