@@ -1,5 +1,5 @@
 -- What is refused has no output.
-use Rattle.std.proofs.Common.{◌≡◌, ◌≢◌, ◌⊎◌, ℕ, List, ◌++◌, length, get_or, codes, eqb, append_assoc, Option, None, Some, IfSome, Result, Ok, Err, IfErr, IsErrAnd, inl, inr, refl, sym, ap, subst, ◌∙◌}
+use Rattle.std.proofs.Common.{◌≡◌, ◌≢◌, ◌⊎◌, ℕ, List, ◌++◌, length, get_or, codes, eqb, append_assoc, Option, None, Some, IfSome, Result, Ok, Err, IfErr, IsErrAnd, inl, inr, refl, sym, ap, subst, subst₂, ◌∙◌}
 use Rattle.std.proofs.lemmas.Bool.{false≢true}
 use Rattle.base64.specs.GeneralPurpose.{IsBytes}
 use Rattle.rusty_paseto_parts.specs.Error.{IsMemory}
@@ -26,6 +26,7 @@ use Rattle.paseto_tasks.specs.declared.error.ProgramError.TheVariants.{Clock, Ra
 use Rattle.paseto_tasks.specs.Error.{IsOutside, key_error_of, program_error_of, status_of}
 use Rattle.paseto_tasks.specs.Input.{line_of_input}
 use Rattle.paseto_tasks.specs.Local.{Opens}
+use Rattle.paseto_tasks.specs.Public.{DeclinesKey, IsHalf}
 use Rattle.paseto_tasks.specs.Run.{IsRefused, PrintsNothing}
 
 -- ---- versions
@@ -222,3 +223,19 @@ pub input_refused : (error : ProgramError) (status : ℕ) (known : Option (List 
 input_refused error status None X is one h = tt
 input_refused error status (Some bytes) X is one (inl outside) = absurd (inside error status is (inl one) outside)
 input_refused error status (Some bytes) X is one (inr refused) = refused
+
+-- what a scheme declines for a private key and a text that was read, it declines for the key's line and the input
+pub declined_line : {T : Type 0} (result : Result T ProgramError) (known : Option (List ℕ)) (X : List ℕ → Type 0) (version : PaserkVersion) (size : ℕ)
+    (Declined : List ℕ → List ℕ → PasetoError → Type 0) (line key_bytes private text read : List ℕ)
+    → IfSome known (λ bytes. bytes ≡ read) → text ≡ read → IsHalf version Secret size line key_bytes → private ≡ key_bytes
+    → IfErr result (λ error. IsOutside error ⊎ ((source : PasetoError) × Declined text private source))
+    → IfErr result (λ error. IfSome known (λ bytes. IsOutside error ⊎ (X bytes ⊎ DeclinesKey version size (Declined bytes) line)))
+declined_line (Ok value) known X version size Declined line key_bytes private text read is same is_key own h = tt
+declined_line (Err error) None X version size Declined line key_bytes private text read is same is_key own h = tt
+declined_line (Err error) (Some bytes) X version size Declined line key_bytes private text read is same is_key own (inl outside) = inl outside
+declined_line (Err error) (Some bytes) X version size Declined line key_bytes private text read is same is_key own (inr declined) = inr (inr (record {
+  key_bytes = key_bytes;
+  error = declined.0;
+  is_key = is_key;
+  declined = subst₂ (λ (t k : List ℕ). Declined t k declined.0) (same ∙ sym is) own declined.1;
+}))

@@ -14,7 +14,8 @@ returns-in_err-texts g c =
 pub returns-in-Err : goal.returns-in-Err
 returns-in-Err g c =
     let lent = c.in_ok-texts.ensures in
-    let declined = rw (c.from-key.ensures, c.requires.size, c.from-payload.ensures, lent.0, lent.1, lent.3) at c.in-Err.ensures.answer.err in
+    let answered = c.in-Err.ensures.answer.err (rw (c.from-key.ensures, c.requires.size) c.if-private-ne64.false) in
+    let declined = rw (c.from-key.ensures, c.from-payload.ensures, lent.0, lent.1, lent.3) at answered in
     rw c.of_token.ensures
     (declined_refuses _ _ _ g.V.Signs.partner _ _ _ _ _ c.in-Err.error
-    (record { key = c.if-private-ne64.false; nonce = tt; texts = c.in_ok-texts.ensures.5 }) (declined c.if-private-ne64.false))
+    (record { key = c.if-private-ne64.false; nonce = tt; texts = c.in_ok-texts.ensures.5 }) declined)

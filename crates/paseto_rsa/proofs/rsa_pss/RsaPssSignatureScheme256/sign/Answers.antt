@@ -21,7 +21,7 @@ returns-then-not-is_valid-clause-err g c =
     no-signature k private message salt c.digest-hash.result c.as_bytes.result.now c.signature-made.result found.1.1
     c.digest-hash.ensures c.as_bytes.ensures.bytes (c.signature-made.ensures found.0)
     (λ v. false≢true (c.if-not-is_valid.ensures.1 v)) in (
-      inr (key, inr (refl, (message, salt, long, none))),
+      inr (key, inr (refl, (salt, long, none))),
       λ _. inr (refl, (salt, long, c.in_ok-salt.ensures.given, none)),
       λ no. absurd (no key),
     )
