@@ -72,6 +72,6 @@ pub issues_none : {T : Type 0} (claims : List (List ℕ)) (options : Options) (n
     → IfErr result (λ error. IsOutside error ⊎ IssuesNothing claims options now key)
 issues_none claims options now key (Ok made) order is none = tt
 issues_none claims options now key (Err error) order is (inl outside) = inl outside
-issues_none claims options now key (Err error) order is (inr (inr declined)) = inr (inr (order, (is, declined)))
+issues_none claims options now key (Err error) order is (inr (inr declined)) = inr (inr (order, is, declined))
 issues_none claims options now key (Err error) order is (inr (inl none)) = inr (inl (λ line issues.
     none line (subst (λ (o : Ordered). Issues key o (λ nonce. ⊤) line) (same_order claims options now issues.0 order issues.1 is) issues.2)))

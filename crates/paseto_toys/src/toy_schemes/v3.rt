@@ -1,6 +1,6 @@
 //! The toy of version 3.
 
-ghost use Rattle.std.specs.Prelude.{◌≡◌, ◌≢◌, ℕ, List, [], IfErr, IfOk, OnOk};
+ghost use Rattle.std.specs.Prelude.{◌≡◌, ◌≢◌, [], IfErr, IfOk, OnOk};
 ghost use Rattle.paseto_toys.specs.ToySchemes.{toy_declined, toy_refused_v3, toy_valid_v3};
 ghost use Rattle.paseto_toys.specs.ToySignature.{toy_partner_v3};
 
@@ -64,7 +64,7 @@ impl CompressedKey for ToyV3 {
     fn public_key(&self, _alloc: Global, private: &[u8]) -> Result<[u8; 49], PasetoError>
         ensures ok { IfOk result (λ public. (private.now ≢ [])
             × (public ≡ toy_partner_v3 private.now)) }
-        ensures err { IfErr result (λ error. (message : List ℕ) → toy_declined private.now message error) }
+        ensures err { IfErr result (λ error. (private.now ≡ []) × (error ≡ PasetoError.KeyRejected)) }
     {
         check_private(private)?;
         Ok(toy_partner_v3(private))
