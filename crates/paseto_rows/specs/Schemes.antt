@@ -1,5 +1,5 @@
 -- When a row of the box of version 2 or of Ed25519 agrees with the definitions.
-use Rattle.std.specs.Prelude.{◌≡◌, ◌≢◌, ◌↔◌, ℕ, Bool, IsTrue, List, ◌++◌, Ok, Some}
+use Rattle.std.specs.Prelude.{◌≡◌, ◌≢◌, ◌↔◌, ℕ, Bool, IsTrue, List, ◌++◌, take, drop, Ok, Some}
 use Rattle.hex.specs.Hex.{decode_of}
 use Rattle.rusty_paseto_primitives.specs.Bytes.{IsBytes}
 use Rattle.paseto_ed25519.specs.Ed25519.{Ed25519Verifies, IsOwn, ed25519_public, ed25519_sign, partner}
@@ -21,12 +21,15 @@ pub record IsSigningRow (seed public message signature : List ℕ) : Type 0 wher
 pub record IsSignedRow (private public message signed : List ℕ) : Type 0 where
   pub private_bytes : List ℕ
   pub message_bytes : List ℕ
+  pub signed_bytes : List ℕ
   pub says_private : decode_of private ≡ Ok private_bytes
-  pub says_public : decode_of public ≡ Ok (partner private_bytes)
+  pub says_public : Says public (partner private_bytes)
   pub says_message : Says message message_bytes
+  pub says_signed : Says signed signed_bytes
   pub is_own : IsOwn private_bytes
-  pub says_signed : Says signed (ed25519_sign private_bytes message_bytes ++ message_bytes)
-  pub is_valid : Ed25519Verifies (partner private_bytes) message_bytes (ed25519_sign private_bytes message_bytes)
+  pub is_signature : take 64 signed_bytes ≡ ed25519_sign private_bytes message_bytes
+  pub is_message : drop 64 signed_bytes ≡ message_bytes
+  pub is_valid : Ed25519Verifies (partner private_bytes) message_bytes (take 64 signed_bytes)
 
 -- the verdict on the signature
 pub record IsVerdictRow (public message signature : List ℕ) (valid : Bool) : Type 0 where

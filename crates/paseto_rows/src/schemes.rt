@@ -78,13 +78,14 @@ fn check_signed(
 ) -> Result<(), RowError>
     ensures { IfOk result (λ _. IsSignedRow private.now public.now message.now signed.now) }
 {
-    let (private, public) = (array_of::<64>(private)?, array_of::<32>(public)?);
+    let (private, public) = (array_of::<64>(private)?, bytes_of(alloc, public)?);
     let (message, signed) = (bytes_of(alloc, message)?, bytes_of(alloc, signed)?);
     let Some((signature, rest)) = signed.split_first_chunk::<64>() else {
         return Err(RowError::Form);
     };
     let mut signer = Ed25519::with_key(&Key::from(private))?;
-    compare(&private[32..], &public)?;
+    let (_seed, half) = private.split_at(32);
+    compare(half, &public)?;
     compare(&signer.sign(alloc, &private, &message)?, signature)?;
     compare(&message, rest)?;
     Ok(signer.verify(alloc, &public, &message, signature)?)
