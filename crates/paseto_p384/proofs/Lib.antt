@@ -1,4 +1,3 @@
-pub mod BaseLaws
 pub mod DecodingLaws
 pub mod EcdsaLaws
 pub mod EncodingLaws
@@ -6,4 +5,5 @@ pub mod FieldLaws
 pub mod PointLaws
 pub mod SignatureLaws
 pub mod SigningLaws
+pub mod TableLaws
 pub mod Validity
