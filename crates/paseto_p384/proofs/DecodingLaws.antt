@@ -1,6 +1,6 @@
 -- A public key is decoded to its point.
 use Rattle.std.proofs.Common.{◌≡◌, ◌≢◌, ℕ, zero, suc, ◌+◌, ◌*◌, ◌-◌, ◌/◌, ◌%◌, ◌^◌, ◌<◌, ◌≤◌, ◌⊎◌, inl, inr, List, [], ◌∷◌, refl, sym, ◌∙◌, ap, ap₂, subst, arith, mod-lt, mod-eq_of_lt, pow-add, pow-suc, div-add-mod', mul-le-mul_right}
-use Rattle.std.specs.Prelude.{Option, None, Some, drop, slice_index}
+use Rattle.std.specs.Prelude.{Some, drop, slice_index}
 use Rattle.std.proofs.lemmas.Bool.{cases_eq, cases_lt}
 use Rattle.std.proofs.Math.Nat.{add-mul-mod_self_right, pow-zero}
 use Rattle.std.proofs.lemmas.Nat.{mul-pow, pow-mod}
@@ -12,7 +12,7 @@ use Rattle.paseto_weierstrass.specs.Curve.{curve_b, order}
 use Rattle.paseto_weierstrass.specs.Field.{inverse, minus, plus, power, prime, times}
 use Rattle.paseto_weierstrass.specs.Group.{IsPoint, Same, cubic}
 use Rattle.paseto_weierstrass.specs.Multiples.{IsMultiple, multiple_of}
-use Rattle.paseto_weierstrass.specs.Point.{Point, base, neutral}
+use Rattle.paseto_weierstrass.specs.Point.{Point, base}
 use Rattle.paseto_weierstrass.proofs.FieldLaws.{fermat, inverse-below, inverse-ne-zero, minus-below, plus-below, power-below, power_plus, power_suc, times-below, times-zero, times_comm, times_unit, zero_or_not}
 use Rattle.paseto_weierstrass.proofs.Formulas.{cubic_expr, summing, triple_expr}
 use Rattle.paseto_weierstrass.proofs.Identities.{equation, identity, v0, v1}
@@ -22,6 +22,7 @@ use Rattle.paseto_weierstrass.proofs.Plane.{IsPlane, plane_point}
 use Rattle.paseto_weierstrass.proofs.PointLaws.{base-is_point, plane-is_point, plane_curve}
 use Rattle.paseto_weierstrass.proofs.SumLaws.{y-some}
 use Rattle.paseto_p384.specs.Encoding.{decoded, encoded, point_at, right_side, signed}
+use Rattle.paseto_p384.proofs.OptionLaws.{none-some, some-same}
 use Rattle.paseto_p384.proofs.EncodingLaws.{decoded-above, decoded-at, decoded-first, encoded-is, point_at-none, point_at-some, signed-other, signed-same}
 
 power-positive : (n : ℕ) → 0 < 256 ^ n
@@ -208,24 +209,6 @@ signed-plane odd x y h = elim (cases_eq (y % 2) odd) [
   | inl same ↦ subst (IsPlane x) (signed-same odd y same) h
   | inr apart ↦ subst (IsPlane x) (signed-other odd y apart) (opposite-plane x y h)
 ]
-
-held : Option Point → Point
-held None = neutral
-held (Some p) = p
-
-some-same : (p q : Point) → Some p ≡ Some q → p ≡ q
-unfolding held
-some-same p q e = ap held e
-
-is_some : Option Point → ℕ
-is_some None = 0
-is_some (Some p) = 1
-
-none-some : (p : Point) → None ≡ Some p → ⊥
-unfolding is_some
-none-some p e =
-    let bad : ◌≡◌ {A = ℕ} 0 1 = ap is_some e in
-    absurd (omega arith)
 
 point_at-is_point : (odd x : ℕ) (q : Point) → x < prime → point_at odd x ≡ Some q → IsPoint q
 point_at-is_point odd x q low e =

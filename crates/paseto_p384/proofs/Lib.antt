@@ -2,6 +2,7 @@ pub mod DecodingLaws
 pub mod EcdsaLaws
 pub mod EncodingLaws
 pub mod FieldLaws
+pub mod OptionLaws
 pub mod PointLaws
 pub mod SignatureLaws
 pub mod SigningLaws

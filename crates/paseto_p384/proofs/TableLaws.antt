@@ -1,9 +1,10 @@
 -- The table holds multiples of the base point: the prover computes them.
-use Rattle.std.proofs.Common.{◌≡◌, ℕ, zero, suc, ◌+◌, ◌-◌, ◌*◌, ◌^◌, ◌<◌, Bool, true, false, true≢false, List, [], ◌∷◌, length, get_or, nat_eq, nat_lt, if◌then◌else◌, eqb-true, ltb-true, refl, sym, ◌∙◌, ap, subst, arith, lit<, mod-lt, pow-add, pow-suc}
+use Rattle.std.proofs.Common.{◌≡◌, ℕ, zero, suc, ◌+◌, ◌-◌, ◌*◌, ◌^◌, ◌<◌, Bool, true, false, List, [], ◌∷◌, length, get_or, nat_eq, nat_lt, if◌then◌else◌, eqb-true, ltb-true, refl, sym, ◌∙◌, ap, subst, arith, lit<, mod-lt, pow-add, pow-suc}
 use Rattle.std.proofs.Math.Nat.{pow-zero}
 use Rattle.std.proofs.lemmas.List.{get_or_default}
 use Rattle.paseto_montgomery.specs.Residue.{residue}
 use Rattle.paseto_montgomery.specs.Words.{value, weight}
+use Rattle.paseto_polynomials.proofs.IdentityLaws.{if-both}
 use Rattle.paseto_weierstrass.specs.Field.{prime, times}
 use Rattle.paseto_weierstrass.specs.Group.{cubic}
 use Rattle.paseto_weierstrass.specs.Multiples.{IsMultiple}
@@ -41,10 +42,6 @@ table-checked : check_rows base TABLE ≡ true
 unfolding check_rows check_row check_entry doublings residue value weight summing
 table-checked = refl
 
-both : (a b : Bool) → (if a then b else false) ≡ true → (a ≡ true) × (b ≡ true)
-both true b h = (refl, h)
-both false b h = absurd (true≢false (sym h))
-
 residue-below : (x : ℕ) → residue prime 6 x < prime
 unfolding residue
 residue-below x = mod-lt _ (lit< tt)
@@ -54,10 +51,10 @@ unfolding check_entry
 entry-sound e q n q_is h =
     let x = residue prime 6 (words_at e 0) in
     let y = residue prime 6 (words_at e 1) in
-    let h1 = both (nat_lt (words_at e 0) prime) _ h in
-    let h2 = both (nat_lt (words_at e 1) prime) _ h1.1 in
-    let h3 = both (nat_eq (times (times y y) 1) (cubic x 1)) _ h2.1 in
-    let h4 = both (nat_eq (times q.x 1) (times x q.z)) _ h3.1 in
+    let h1 = if-both (nat_lt (words_at e 0) prime) _ h in
+    let h2 = if-both (nat_lt (words_at e 1) prime) _ h1.1 in
+    let h3 = if-both (nat_eq (times (times y y) 1) (cubic x 1)) _ h2.1 in
+    let h4 = if-both (nat_eq (times q.x 1) (times x q.z)) _ h3.1 in
     let on : IsPlane x y = record {
       x_below = residue-below (words_at e 0);
       y_below = residue-below (words_at e 1);
@@ -79,10 +76,10 @@ unfolding check_row
 row-sound b q w n b_is q_is [] h j below = absurd (omega arith)
 row-sound b q w n b_is q_is (e ∷ es) h zero below =
     let none : n + 0 * w ≡ n = omega arith in
-    rw none (entry-sound e q n q_is (both (check_entry e q) (check_row b (point_add q b) es) h).0)
+    rw none (entry-sound e q n q_is (if-both (check_entry e q) (check_row b (point_add q b) es) h).0)
 row-sound b q w n b_is q_is (e ∷ es) h (suc j) below =
     rw (← next_entry n j w) (row-sound b (point_add q b) w (n + w) b_is (multiple-add base q b n w base-is_point q_is b_is) es
-    (both (check_entry e q) (check_row b (point_add q b) es) h).1 j (omega arith))
+    (if-both (check_entry e q) (check_row b (point_add q b) es) h).1 j (omega arith))
 
 doublings-give : (b : Point) (w : ℕ) → IsMultiple base b w → (k : ℕ) → IsMultiple base (doublings k b) (2 ^ k * w)
 unfolding doublings
@@ -109,11 +106,11 @@ unfolding check_rows
 rows-sound b w b_is [] h m j hm hj = absurd (omega arith)
 rows-sound b w b_is (r ∷ rs) h zero j hm hj =
     rw (← first_row j w)
-    (row-sound b b w w b_is b_is r (both (check_row b b r) (check_rows (doublings 16 b) rs) h).0 j hj)
+    (row-sound b b w w b_is b_is r (if-both (check_row b b r) (check_rows (doublings 16 b) rs) h).0 j hj)
 rows-sound b w b_is (r ∷ rs) h (suc m) j hm hj =
     rw (← later_row (suc j) w m)
     (rows-sound (doublings 16 b) (2 ^ 16 * w) (doublings-give b w b_is 16) rs
-    (both (check_row b b r) (check_rows (doublings 16 b) rs) h).1 m j (omega arith) hj)
+    (if-both (check_row b b r) (check_rows (doublings 16 b) rs) h).1 m j (omega arith) hj)
 
 -- entry j of row m is [(j + 1) * 2 ^ (16 * m)]G
 table-entry : (m j : ℕ) → m < length TABLE → j < length (get_or TABLE m [])
@@ -130,8 +127,8 @@ full (r ∷ rs) = if nat_eq (length r) 15 then full rs else false
 full-sound : (rs : List (List (List (List ℕ)))) → full rs ≡ true → (m : ℕ) → m < length rs → length (get_or rs m []) ≡ 15
 unfolding full
 full-sound [] h m below = absurd (omega arith)
-full-sound (r ∷ rs) h zero below = eqb-true _ _ (both (nat_eq (length r) 15) (full rs) h).0
-full-sound (r ∷ rs) h (suc m) below = full-sound rs (both (nat_eq (length r) 15) (full rs) h).1 m (omega arith)
+full-sound (r ∷ rs) h zero below = eqb-true _ _ (if-both (nat_eq (length r) 15) (full rs) h).0
+full-sound (r ∷ rs) h (suc m) below = full-sound rs (if-both (nat_eq (length r) 15) (full rs) h).1 m (omega arith)
 
 table-full : full TABLE ≡ true
 unfolding full

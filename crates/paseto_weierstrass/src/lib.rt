@@ -1,5 +1,5 @@
-//! The points of P-384, their sums by complete formulas, and the multiples of its base point, as laws: each is the
-//! contract of a function that does nothing.
+//! The points of P-384, their sums by complete formulas, and their multiples, as laws: each is the contract of a
+//! function that does nothing.
 #![tactic(auto)]
 
 mod curve;
