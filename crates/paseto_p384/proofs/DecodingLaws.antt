@@ -1,6 +1,7 @@
 -- A public key is decoded to its point.
-use Rattle.std.proofs.Common.{◌≡◌, ◌≢◌, ℕ, zero, suc, ◌+◌, ◌*◌, ◌-◌, ◌/◌, ◌%◌, ◌^◌, ◌<◌, ◌≤◌, ◌⊎◌, inl, inr, List, [], ◌∷◌, refl, sym, ◌∙◌, ap, ap₂, arith, mod-lt, mod-eq_of_lt, pow-add, pow-suc, div-add-mod', mul-le-mul_right}
-use Rattle.std.specs.Prelude.{Some}
+use Rattle.std.proofs.Common.{◌≡◌, ◌≢◌, ℕ, zero, suc, ◌+◌, ◌*◌, ◌-◌, ◌/◌, ◌%◌, ◌^◌, ◌<◌, ◌≤◌, ◌⊎◌, inl, inr, List, [], ◌∷◌, refl, sym, ◌∙◌, ap, ap₂, subst, arith, mod-lt, mod-eq_of_lt, pow-add, pow-suc, div-add-mod', mul-le-mul_right}
+use Rattle.std.specs.Prelude.{Some, drop, slice_index}
+use Rattle.std.proofs.lemmas.Bool.{cases_eq, cases_lt}
 use Rattle.std.proofs.Math.Nat.{add-mul-mod_self_right, pow-zero}
 use Rattle.std.proofs.lemmas.Nat.{mul-pow, pow-mod}
 use Rattle.paseto_montgomery.specs.Octets.{i2osp, os2ip}
@@ -9,19 +10,20 @@ use Rattle.paseto_polynomials.specs.Element.{minus as minus_modulo, times as tim
 use Rattle.paseto_polynomials.specs.Polynomial.{constant, difference, product, sum}
 use Rattle.paseto_weierstrass.specs.Curve.{curve_b, order}
 use Rattle.paseto_weierstrass.specs.Field.{inverse, minus, plus, power, prime, times}
-use Rattle.paseto_weierstrass.specs.Group.{Same, cubic}
+use Rattle.paseto_weierstrass.specs.Group.{IsPoint, Same, cubic}
 use Rattle.paseto_weierstrass.specs.Multiples.{IsMultiple, multiple_of}
 use Rattle.paseto_weierstrass.specs.Point.{Point, base}
 use Rattle.paseto_weierstrass.proofs.FieldLaws.{fermat, inverse-below, inverse-ne-zero, minus-below, plus-below, power-below, power_plus, power_suc, times-below, times-zero, times_comm, times_unit, zero_or_not}
 use Rattle.paseto_weierstrass.proofs.Formulas.{cubic_expr, summing, triple_expr}
 use Rattle.paseto_weierstrass.proofs.Identities.{equation, identity, v0, v1}
-use Rattle.paseto_weierstrass.proofs.MultipleLaws.{base-is_third, multiple-itself, multiple-of_same}
+use Rattle.paseto_weierstrass.proofs.MultipleLaws.{multiple-itself, multiple-of_same}
 use Rattle.paseto_weierstrass.proofs.OrderLaws.{multiple-finite}
 use Rattle.paseto_weierstrass.proofs.Plane.{IsPlane, plane_point}
-use Rattle.paseto_weierstrass.proofs.PointLaws.{plane-is_point, plane_curve}
+use Rattle.paseto_weierstrass.proofs.PointLaws.{base-is_point, plane-is_point, plane_curve}
 use Rattle.paseto_weierstrass.proofs.SumLaws.{y-some}
 use Rattle.paseto_p384.specs.Encoding.{decoded, encoded, point_at, right_side, signed}
-use Rattle.paseto_p384.proofs.EncodingLaws.{decoded-at, encoded-is, point_at-some, signed-other, signed-same}
+use Rattle.paseto_p384.proofs.OptionLaws.{none-some, some-same}
+use Rattle.paseto_p384.proofs.EncodingLaws.{decoded-above, decoded-at, decoded-first, encoded-is, point_at-none, point_at-some, signed-other, signed-same}
 
 power-positive : (n : ℕ) → 0 < 256 ^ n
 power-positive zero = omega (arith, pow-zero 256)
@@ -156,7 +158,7 @@ plane_curve_of x y z i hx hy hz hi inv h = record {
 pub decoded-public : (d : ℕ) → d < order → d ≢ 0 → IsKey d
 decoded-public d below nonzero =
     let p = multiple_of d base in
-    let m = multiple-itself d base base-is_third in
+    let m = multiple-itself d base base-is_point in
     let h = m.point in
     let some = multiple-finite p d m (λ z. nonzero (sym (mod-eq_of_lt below) ∙ z)) in
     let i = inverse p.z in
@@ -175,5 +177,57 @@ decoded-public d below nonzero =
     record {
       point = plane_point x y;
       is_decoded = ap decoded (sym (encoded-is p x y i refl refl refl)) ∙ decoded-plane x y on;
-      multiple = multiple-of_same base p (plane_point x y) d base-is_third m same;
+      multiple = multiple-of_same base p (plane_point x y) d base-is_point m same;
     }
+
+-- ---- what is decoded is a point
+
+root-plane : (x y : ℕ) → x < prime → y < prime → times y y ≡ right_side x → IsPlane x y
+unfolding summing right_side
+root-plane x y hx hy h = record {
+  x_below = hx;
+  y_below = hy;
+  on_curve = identity 2 (x ∷ y ∷ []) (hx, (hy, tt))
+      (equation (constant 1) (product v1 v1) (sum (difference (product (product v0 v0) v0) (triple_expr v0)) (constant curve_b)) ∷ []) (h, tt)
+      (product (product v1 v1) (constant 1)) (cubic_expr v0 (constant 1)) refl;
+}
+
+opposite-plane : (x y : ℕ) → IsPlane x y → IsPlane x (minus 0 y)
+unfolding summing
+opposite-plane x y h =
+    let opposite = difference (constant 0) v1 in
+    record {
+      x_below = h.x_below;
+      y_below = minus-below 0 y;
+      on_curve = identity 2 (x ∷ y ∷ []) (h.x_below, (h.y_below, tt))
+          (equation (constant 1) (product (product v1 v1) (constant 1)) (cubic_expr v0 (constant 1)) ∷ []) (h.on_curve, tt)
+          (product (product opposite opposite) (constant 1)) (cubic_expr v0 (constant 1)) refl;
+    }
+
+signed-plane : (odd x y : ℕ) → IsPlane x y → IsPlane x (signed odd y)
+signed-plane odd x y h = elim (cases_eq (y % 2) odd) [
+  | inl same ↦ subst (IsPlane x) (signed-same odd y same) h
+  | inr apart ↦ subst (IsPlane x) (signed-other odd y apart) (opposite-plane x y h)
+]
+
+point_at-is_point : (odd x : ℕ) (q : Point) → x < prime → point_at odd x ≡ Some q → IsPoint q
+point_at-is_point odd x q low e =
+    let y = power (right_side x) ((prime + 1) / 4) in
+    elim (cases_eq (times y y) (right_side x)) [
+      | inl root ↦
+          let on = signed-plane odd x y (root-plane x y low (power-below _ _) root) in
+          subst IsPoint (some-same (plane_point x (signed odd y)) q (point_at-some odd x y refl root ∙ e)) (plane-is_point x (signed odd y) on)
+      | inr apart ↦ absurd (none-some q (point_at-none odd x y refl apart ∙ e))
+    ]
+
+pub decoded-is_point : (octets : List ℕ) (q : Point) → decoded octets ≡ Some q → IsPoint q
+decoded-is_point octets q e =
+    let first : ℕ = slice_index octets 0 in
+    let x = os2ip (drop 1 octets) in
+    elim (cases_eq (first / 2) 1) [
+      | inr other ↦ absurd (none-some q (decoded-first octets other ∙ e))
+      | inl two ↦ elim (cases_lt x prime) [
+        | inr above ↦ absurd (none-some q (decoded-above octets x two refl above ∙ e))
+        | inl low ↦ point_at-is_point (first % 2) x q low (decoded-at octets x two refl low ∙ e)
+      ]
+    ]

@@ -1,5 +1,6 @@
 -- The cases of verifying and signing.
-use Rattle.std.proofs.Common.{◌≡◌, ◌≢◌, ◌⊎◌, ℕ, ◌+◌, ◌%◌, ◌<◌, ap, arith}
+use Rattle.std.proofs.Common.{◌≡◌, ◌≢◌, ◌⊎◌, ℕ, ◌+◌, ◌%◌, ◌<◌, inl, inr, [], ◌∷◌, refl, sym, ◌∙◌, ap, arith}
+use Rattle.paseto_polynomials.specs.Polynomial.{product}
 use Rattle.std.specs.Prelude.{None, Some}
 use Rattle.std.proofs.lemmas.Bool.Decides.{nat_tests}
 use Rattle.paseto_weierstrass.specs.Curve.{order}
@@ -8,7 +9,12 @@ use Rattle.paseto_weierstrass.specs.Field.{inverse, prime, times}
 use Rattle.paseto_weierstrass.specs.Multiples.{IsMultiple, multiple_of}
 use Rattle.paseto_weierstrass.specs.Point.{Point, base}
 use Rattle.paseto_weierstrass.proofs.MultipleLaws.{multiple-is_point}
-use Rattle.paseto_weierstrass.proofs.PointLaws.{base-is_point, same-quotient}
+use Rattle.paseto_weierstrass.proofs.PointLaws.{base-is_point, same-is_point, same-quotient, same_sym}
+use Rattle.paseto_weierstrass.proofs.SumLaws.{sum-is_point}
+use Rattle.paseto_weierstrass.proofs.FieldLaws.{times-ne-zero}
+use Rattle.paseto_weierstrass.proofs.Formulas.{summing}
+use Rattle.paseto_weierstrass.proofs.Identities.{equation, identity, v0, v1, v2, v3}
+use Rattle.paseto_weierstrass.specs.Group.{IsPoint, Same}
 
 pub first-parts : (p : Point) (r : ℕ) → IsFirst p r
     → (p.z ≢ 0) × ((times r p.z ≡ p.x) ⊎ ((r + order < prime) × (times (r + order) p.z ≡ p.x)))
@@ -58,3 +64,36 @@ nonzero-second r s below h = let none : s ≡ 0 = grind (arith, h) in grind (ari
 pub nonzero-both : (r s : ℕ) → 0 < r → 0 < s → Some (halves r s) ≡ nonzero r s
 unfolding nonzero
 nonzero-both r s f g = grind (arith, nat_tests)
+
+pub named-is_point : (q : Point) (e r s : ℕ) → IsPoint q → IsPoint (named q e r s)
+unfolding named
+named-is_point q e r s h =
+    sum-is_point _ _ (multiple-is_point _ base base-is_point) (multiple-is_point _ q h)
+
+-- coordinates of the same point have the first half in common
+scaled-first : (v x z c : ℕ) → x < prime → z < prime → c < prime → v < prime → times v z ≡ x → times v (times c z) ≡ times c x
+unfolding summing
+scaled-first v x z c hx hz hc hv e =
+    identity 4 (v ∷ x ∷ z ∷ c ∷ []) (hv, (hx, (hz, (hc, tt))))
+    (equation v3 (product v0 v2) v1 ∷ []) (e, tt) (product v0 (product v3 v2)) (product v3 v1) refl
+
+first-scaled : (p q : Point) (v : ℕ) → v < prime → IsPoint p → Same p q → times v p.z ≡ p.x → times v q.z ≡ q.x
+first-scaled p q v low h s e =
+    ap (times v) s.z ∙ scaled-first v p.x p.z s.ratio h.x_below h.z_below s.below low e ∙ sym s.x
+
+first-from : (p q : Point) (r : ℕ) → r < prime → IsPoint p → Same p q → IsFirst p r → IsFirst q r
+first-from p q r low h s f =
+    let parts = first-parts p r f in
+    let some : q.z ≢ 0 = λ e. times-ne-zero s.ratio p.z s.below h.z_below s.nonzero parts.0 (sym s.z ∙ e) in
+    first-of q r (
+      some,
+      elim parts.1 [
+        | inl e ↦ inl (first-scaled p q r low h s e)
+        | inr e ↦ inr (e.0, first-scaled p q (r + order) e.0 h s e.1)
+      ],
+    )
+
+pub first-same : (p q : Point) (r : ℕ) → r < prime → IsPoint p → Same p q → (IsFirst p r → IsFirst q r) × (IsFirst q r → IsFirst p r)
+first-same p q r low h s =
+    let hq = same-is_point h s in
+    (first-from p q r low h s, first-from q p r low hq (same_sym h hq s))

@@ -1,9 +1,10 @@
-pub mod BaseLaws
 pub mod DecodingLaws
 pub mod EcdsaLaws
 pub mod EncodingLaws
 pub mod FieldLaws
+pub mod OptionLaws
 pub mod PointLaws
 pub mod SignatureLaws
 pub mod SigningLaws
+pub mod TableLaws
 pub mod Validity

@@ -15,26 +15,9 @@ use Rattle.paseto_p384.specs.P384.{IsPrivate, P384Verifies, either, first_candid
 use Rattle.paseto_p384.specs.declared.nonce.NonceGenerator.{NonceGenerator}
 use Rattle.paseto_p384.proofs.DecodingLaws.{decoded-public, os2ip-i2osp}
 use Rattle.paseto_p384.proofs.EcdsaLaws.{attempt-at, attempt-outside, nonzero-both, nonzero-first, nonzero-second}
+use Rattle.paseto_p384.proofs.OptionLaws.{none-some, some-same}
 use Rattle.paseto_p384.proofs.SigningLaws.{first-below, nonzero-of_positive, positive, second-below, signed-accepts}
 use Rattle.paseto_p384.proofs.Validity.{private-parts, valid-some}
-
-is_some : Option (List ℕ) → ℕ
-is_some None = 0
-is_some (Some x) = 1
-
-none-some : (x : List ℕ) → None ≡ Some x → ⊥
-unfolding is_some
-none-some x e =
-    let bad : ◌≡◌ {A = ℕ} 0 1 = ap is_some e in
-    absurd (omega arith)
-
-held : Option (List ℕ) → List ℕ
-held None = []
-held (Some x) = x
-
-some-same : (x y : List ℕ) → Some x ≡ Some y → x ≡ y
-unfolding held
-some-same x y e = ap held e
 
 either-cases : (a b : Option (List ℕ)) (x : List ℕ) → either a b ≡ Some x → (a ≡ Some x) ⊎ (b ≡ Some x)
 either-cases None b x e = inr e

@@ -1,5 +1,5 @@
 -- What is signed is accepted: [e / s]G + [r / s]Q is [k]G.
-use Rattle.std.proofs.Common.{◌≡◌, ◌≢◌, ℕ, zero, suc, ◌+◌, ◌*◌, ◌%◌, ◌^◌, ◌<◌, ◌⊎◌, inl, inr, [], ◌∷◌, refl, sym, ◌∙◌, ap, ap₂, subst, arith, mod-lt, mod-eq_of_lt, lit<}
+use Rattle.std.proofs.Common.{◌≡◌, ◌≢◌, ℕ, zero, suc, ◌+◌, ◌*◌, ◌%◌, ◌<◌, ◌⊎◌, inl, inr, [], ◌∷◌, refl, sym, ◌∙◌, ap, ap₂, subst, arith, mod-lt, mod-eq_of_lt}
 use Rattle.std.proofs.Math.Nat.{add-mod, mod-mod}
 use Rattle.std.proofs.lemmas.Nat.{mul-mod_first, mul-mod_second}
 use Rattle.std.proofs.lemmas.Bool.{cases_lt}
@@ -14,7 +14,8 @@ use Rattle.paseto_weierstrass.specs.Point.{Point, base}
 use Rattle.paseto_weierstrass.proofs.FieldLaws.{fermat, inverse-below, times-below}
 use Rattle.paseto_weierstrass.proofs.Formulas.{summing}
 use Rattle.paseto_weierstrass.proofs.Identities.{equation, identity, v0, v1, v2, v3}
-use Rattle.paseto_weierstrass.proofs.MultipleLaws.{base-is_third, joint-multiple, multiple-itself, multiple-one, multiples-same}
+use Rattle.paseto_weierstrass.proofs.MultipleLaws.{multiple-add, multiple-itself, multiple-times, multiples-same}
+use Rattle.paseto_weierstrass.proofs.PointLaws.{base-is_point}
 use Rattle.paseto_weierstrass.proofs.OrderLaws.{multiple-finite, multiple-remainder, order-neutral}
 use Rattle.paseto_p384.specs.Ecdsa.{Accepts, IsFirst, first, named, second}
 use Rattle.paseto_p384.specs.Scalar.{scalar_inverse, scalar_plus, scalar_times}
@@ -65,12 +66,6 @@ scalars d e k r s hk hs is =
     let inv' : (((i * m) % order) * w) % order ≡ 1 = subst (λ x. (x * w) % order ≡ 1) is (order-inverse s hs) in
     weighted order (e % order) r d w ∙ restored order k i m w (order-inverse k hk) inv'
 
-below-order : (x y : ℕ) → scalar_times x y < 2 ^ 384
-unfolding scalar_times times_modulo
-below-order x y =
-    let h : (x * y) % order < order = mod-lt (x * y) (lit< tt) in
-    omega arith
-
 -- R is [k]G
 named-multiple : (q : Point) (d e k r s : ℕ) → IsMultiple base q d → k < order → k ≢ 0 → s < order → s ≢ 0 → s ≡ second d e k r
     → IsMultiple base (named q e r s) k
@@ -81,11 +76,10 @@ named-multiple q d e k r s hq hk nk hs ns is =
     let v = scalar_times r w in
     let reduced_k : k % order ≡ k = mod-eq_of_lt hk in
     let reduced_s : s % order ≡ s = mod-eq_of_lt hs in
-    let one : u * 1 + v * d ≡ u + v * d = omega arith in
-    let joint = subst (IsMultiple base (named q e r s)) one
-    (joint-multiple base base q 1 d 384 u v base-is_third (multiple-one base base-is_third) hq (below-order (e % order) w) (below-order r w)) in
+    let joint = multiple-add base (multiple_of u base) (multiple_of v q) u (v * d) base-is_point (multiple-itself u base base-is_point)
+    (multiple-times base q v d base-is_point hq) in
     let number = scalars d e k r s (λ z. nk (sym reduced_k ∙ z)) (λ z. ns (sym reduced_s ∙ z)) is ∙ reduced_k in
-    subst (IsMultiple base (named q e r s)) number (multiple-remainder base (named q e r s) order (u + v * d) base-is_third order-neutral joint)
+    subst (IsMultiple base (named q e r s)) number (multiple-remainder base (named q e r s) order (u + v * d) base-is_point order-neutral joint)
 
 ratio_x : (x z i r : ℕ) → x < prime → z < prime → i < prime → r < prime → times z i ≡ 1 → times (times x i) (times r z) ≡ times r x
 unfolding summing
@@ -110,7 +104,7 @@ is-first p q k r hp hq below nonzero e =
     let reduced : k % order ≡ k = mod-eq_of_lt below in
     let p_some = multiple-finite p k hp (λ z. nonzero (sym reduced ∙ z)) in
     let q_some = multiple-finite q k hq (λ z. nonzero (sym reduced ∙ z)) in
-    let s = multiples-same base q p k base-is_third hq hp in
+    let s = multiples-same base q p k base-is_point hq hp in
     let i = inverse q.z in
     let v = times q.x i in
     let inv = fermat q.z hq.point.z_below q_some in
@@ -150,7 +144,7 @@ signed-accepts q d e k hq below nonzero nr ns =
     accepts-of q e r s (
       (positive r nr, first-below k),
       (positive s ns, second-below d e k r),
-      is-first (named q e r s) (multiple_of k base) k r r_is (multiple-itself k base base-is_third) below nonzero (first-is k),
+      is-first (named q e r s) (multiple_of k base) k r r_is (multiple-itself k base base-is_point) below nonzero (first-is k),
     )
 
 pub nonzero-of_positive : (n : ℕ) → 0 < n → n ≢ 0

@@ -3,17 +3,15 @@ use Rattle.std.specs.Prelude.{◌≡◌, ◌≢◌, ◌⊎◌, ℕ, ◌+◌, ◌
 use Rattle.paseto_montgomery.specs.Octets.{i2osp}
 use Rattle.paseto_weierstrass.specs.Curve.{order}
 use Rattle.paseto_weierstrass.specs.Field.{inverse, prime, times}
-use Rattle.paseto_weierstrass.specs.Multiples.{joint_multiple, multiple_of}
-use Rattle.paseto_weierstrass.specs.Point.{Point, base}
+use Rattle.paseto_weierstrass.specs.Multiples.{multiple_of}
+use Rattle.paseto_weierstrass.specs.Point.{Point, base, point_add}
 use Rattle.paseto_p384.specs.Scalar.{scalar_inverse, scalar_plus, scalar_times}
 
--- R = [u1]G + [u2]Q of a hash e and a signature (r, s): u1 is e / s and u2 is r / s modulo n (6.4.2, steps 3 to 5). Where
--- Q is a multiple of G, as of a private key, this is the sum of the two multiples (`joint_multiple_is_sum`); for any other
--- Q the order of the additions is part of the definition
+-- R = [u1]G + [u2]Q of a hash e and a signature (r, s): u1 is e / s and u2 is r / s modulo n (6.4.2, steps 3 to 5)
 unfoldable pub named : Point → ℕ → ℕ → ℕ → Point
 named q e r s =
     let w = scalar_inverse s in
-    joint_multiple base q 384 (scalar_times (e % order) w) (scalar_times r w)
+    point_add (multiple_of (scalar_times (e % order) w) base) (multiple_of (scalar_times r w) q)
 
 -- R is not the neutral point, and its coordinate X / Z modulo n is r: X / Z is below p, which is below 2 * n, and so
 -- it is r or r + n (6.4.2, steps 6 to 8)

@@ -1,4 +1,3 @@
-pub mod Base
 pub mod Ecdsa
 pub mod Element
 pub mod Encoding
@@ -7,3 +6,4 @@ pub mod P384
 pub mod Point
 pub mod Residue
 pub mod Scalar
+pub mod Table

@@ -6,13 +6,13 @@ ghost use Rattle.paseto_montgomery.specs.Words.{value};
 ghost use Rattle.paseto_weierstrass.specs.Curve.{order};
 ghost use Rattle.paseto_p384.specs.Ecdsa.{Accepts, IsFirst, attempt, first, halves, named, nonzero, second};
 ghost use Rattle.paseto_weierstrass.specs.Field.{prime};
+ghost use Rattle.paseto_weierstrass.specs.Group.{IsPoint, Same};
 ghost use Rattle.paseto_p384.specs.Point.{coordinates};
 
-use crate::base::{base, multiply_base};
 use crate::field::constants::{order_element, zero};
 use crate::field::is_equal;
 use crate::field::powers::inverse;
-use crate::point::{ProjectivePoint, multiply_both};
+use crate::point::{ProjectivePoint, add, multiply, multiply_base};
 use crate::scalar::is_scalar;
 use crate::{field, scalar};
 use paseto_montgomery::{is_less, to_octets};
@@ -51,19 +51,24 @@ fn is_first(p: ProjectivePoint, r: &[u64; 6]) -> bool
 
 // The point that a signature names.
 fn named(q: ProjectivePoint, e: &[u64; 6], r: &[u64; 6], s: &[u64; 6]) -> ProjectivePoint
+    requires point { IsPoint (coordinates q) }
     requires first { value r.now 6 < order }
     requires second { value s.now 6 < order }
-    ensures { coordinates result
-        ≡ named (coordinates q) (value e.now 6) (value r.now 6) (value s.now 6) }
+    ensures { Same (named (coordinates q) (value e.now 6) (value r.now 6) (value s.now 6))
+        (coordinates result) }
 {
     let s_inverse = scalar::inverse(scalar::from_words(s));
     let u1 = scalar::mul(scalar::from_words(e), s_inverse);
     let u2 = scalar::mul(scalar::from_words(r), s_inverse);
-    multiply_both(base(), &scalar::to_words(u1), q, &scalar::to_words(u2))
+    add(
+        multiply_base(&scalar::to_words(u1)),
+        multiply(q, &scalar::to_words(u2)),
+    )
 }
 
 /// Whether the signature (r, s) of the hash e is valid for the public key q.
 pub(crate) fn accepts(q: ProjectivePoint, e: &[u64; 6], r: &[u64; 6], s: &[u64; 6]) -> bool
+    requires { IsPoint (coordinates q) }
     ensures { IsTrue result
         ↔ Accepts (coordinates q) (value e.now 6) (value r.now 6) (value s.now 6) }
 {

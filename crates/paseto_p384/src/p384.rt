@@ -7,11 +7,11 @@ ghost use Rattle.paseto_montgomery.specs.Words.{value};
 ghost use Rattle.paseto_weierstrass.specs.Curve.{order};
 ghost use Rattle.paseto_p384.specs.P384.{IsDeclined, IsPrivate, IsRefused, P384Verifies, first_candidate, hash_number, p384_public, p384_sign, signed_by};
 
-use crate::base::multiply_base;
 use crate::ecdsa::{accepts, attempt};
 use crate::encoding::{decode, encode};
 use crate::laws::signatures_are_valid;
 use crate::nonce::NonceGenerator;
+use crate::point::multiply_base;
 use crate::scalar::{from_words, is_scalar, to_words};
 use paseto_montgomery::{from_octets, to_octets};
 use rand_core::TryRng;

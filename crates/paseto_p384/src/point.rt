@@ -1,24 +1,25 @@
 //! Points of the curve: sums, doubles and multiples, by complete formulas.
 
 ghost use Rattle.std.specs.Prelude.{◌≡◌, ◌<◌};
-ghost use Rattle.paseto_montgomery.specs.Words.{value};
 ghost use Rattle.paseto_p384.specs.Element.{number};
-ghost use Rattle.paseto_p384.specs.Point.{coordinates};
-ghost use Rattle.paseto_weierstrass.specs.Point.{cross, neutral, point_add, point_double};
-ghost use Rattle.paseto_weierstrass.specs.Multiples.{joint_multiple, point_add_by};
+ghost use Rattle.paseto_p384.specs.Point.{AreProducts, coordinates, plane};
+ghost use Rattle.paseto_weierstrass.specs.Point.{Point, cross, neutral, point_add, point_double};
 
-mod pair;
+mod comb;
+mod plane;
+mod products;
 mod projective;
+mod table;
+mod windows;
 
 use crate::field;
 use crate::field::constants::{curve_b, one, zero};
 use crate::field::{FieldElement, choose, mul, sub, triple};
-pub(crate) use pair::Pair;
-use paseto_montgomery::bit;
+pub(crate) use comb::multiply_base;
+pub(crate) use plane::PlanePoint;
+use products::Products;
 pub(crate) use projective::ProjectivePoint;
-
-// How many bits a scalar has.
-const SCALAR_BITS: usize = 384;
+pub(crate) use windows::multiply;
 
 /// The neutral point.
 pub(crate) fn neutral() -> ProjectivePoint
@@ -49,16 +50,19 @@ fn cross(
     )
 }
 
-/// The sum of two points.
-pub(crate) fn add(p: ProjectivePoint, q: ProjectivePoint) -> ProjectivePoint
-    ensures { coordinates result ≡ point_add (coordinates p) (coordinates q) }
+// The sum of two points by these products.
+#[inline(always)]
+fn sum_of(products: Products) -> ProjectivePoint
+    ensures { (p q : Point) → AreProducts p q products → coordinates result ≡ point_add p q }
 {
-    let xx = mul(p.x, q.x);
-    let yy = mul(p.y, q.y);
-    let zz = mul(p.z, q.z);
-    let xy = cross(p.x, p.y, q.x, q.y, xx, yy);
-    let yz = cross(p.y, p.z, q.y, q.z, yy, zz);
-    let xz = cross(p.x, p.z, q.x, q.z, xx, zz);
+    let Products {
+        xx,
+        yy,
+        zz,
+        xy,
+        yz,
+        xz,
+    } = products;
     let part = triple(sub(xz, mul(curve_b(), zz)));
     let low = sub(yy, part);
     let high = field::add(yy, part);
@@ -70,6 +74,45 @@ pub(crate) fn add(p: ProjectivePoint, q: ProjectivePoint) -> ProjectivePoint
         y: field::add(mul(high, low), mul(outer, inner)),
         z: field::add(mul(yz, low), mul(xy, outer)),
     }
+}
+
+/// The sum of two points.
+pub(crate) fn add(p: ProjectivePoint, q: ProjectivePoint) -> ProjectivePoint
+    ensures { coordinates result ≡ point_add (coordinates p) (coordinates q) }
+{
+    let xx = mul(p.x, q.x);
+    let yy = mul(p.y, q.y);
+    let zz = mul(p.z, q.z);
+    let xy = cross(p.x, p.y, q.x, q.y, xx, yy);
+    let yz = cross(p.y, p.z, q.y, q.z, yy, zz);
+    let xz = cross(p.x, p.z, q.x, q.z, xx, zz);
+    sum_of(Products {
+        xx,
+        yy,
+        zz,
+        xy,
+        yz,
+        xz,
+    })
+}
+
+/// The sum of a point and of one whose Z is 1, by one product fewer.
+pub(crate) fn add_plane(p: ProjectivePoint, q: PlanePoint) -> ProjectivePoint
+    ensures { coordinates result ≡ point_add (coordinates p) (plane q) }
+{
+    let xx = mul(p.x, q.x);
+    let yy = mul(p.y, q.y);
+    let xy = cross(p.x, p.y, q.x, q.y, xx, yy);
+    let yz = field::add(mul(q.y, p.z), p.y);
+    let xz = field::add(mul(q.x, p.z), p.x);
+    sum_of(Products {
+        xx,
+        yy,
+        zz: p.z,
+        xy,
+        yz,
+        xz,
+    })
 }
 
 /// The double of a point.
@@ -112,54 +155,4 @@ pub(crate) fn choose_point(choice: u64, p: ProjectivePoint, q: ProjectivePoint) 
         y: choose(choice, p.y, q.y),
         z: choose(choice, p.z, q.z),
     }
-}
-
-// A point and what two bits ask to be added to it. The bits are no secret.
-fn add_by(sum: ProjectivePoint, points: &Pair, i: u64, j: u64) -> ProjectivePoint
-    ensures { coordinates result
-        ≡ point_add_by (coordinates sum) (coordinates points.now.first)
-        (coordinates points.now.second) i j }
-{
-    if i == 1 {
-        if j == 1 {
-            return add(sum, points.both);
-        }
-        return add(sum, points.first);
-    }
-    if j == 1 {
-        return add(sum, points.second);
-    }
-    sum
-}
-
-// The sum of a multiple of each of two points, by one pass over both scalars.
-fn multiply_pair(points: &Pair, k: &[u64; 6], l: &[u64; 6]) -> ProjectivePoint
-    ensures { coordinates result
-        ≡ joint_multiple (coordinates points.now.first) (coordinates points.now.second) 384
-        (value k.now 6) (value l.now 6) }
-{
-    let mut sum = neutral();
-    'bits: for i in 0..SCALAR_BITS {
-        let at = SCALAR_BITS - 1 - i;
-        sum = add_by(double(sum), points, bit(k, at), bit(l, at));
-    }
-    sum
-}
-
-/// The sum of the multiple of `p` by `k` and of `q` by `l`, which are no secret.
-pub(crate) fn multiply_both(
-    p: ProjectivePoint,
-    k: &[u64; 6],
-    q: ProjectivePoint,
-    l: &[u64; 6],
-) -> ProjectivePoint
-    ensures { coordinates result
-        ≡ joint_multiple (coordinates p) (coordinates q) 384 (value k.now 6) (value l.now 6) }
-{
-    let points = Pair {
-        first: p,
-        second: q,
-        both: add(p, q),
-    };
-    multiply_pair(&points, k, l)
 }

@@ -8,7 +8,7 @@ use Rattle.paseto_polynomials.specs.Program.{listed}
 use Rattle.paseto_polynomials.proofs.PolynomialLaws.{at-polynomial}
 use Rattle.paseto_primes.proofs.CongruenceLaws.{cancel-plus, equal-by, same-plus, same-times}
 
-if-both : (a b : Bool) → (if a then b else false) ≡ true → (a ≡ true) × (b ≡ true)
+pub if-both : (a b : Bool) → (if a then b else false) ≡ true → (a ≡ true) × (b ≡ true)
 if-both true b h = (refl, h)
 if-both false b h = absurd (true≢false (sym h))
 

@@ -1,6 +1,7 @@
 pub mod BinomialLaws
 pub mod CertificateLaws
 pub mod CongruenceLaws
+pub mod DigitLaws
 pub mod DivisorLaws
 pub mod EulerLaws
 pub mod FermatLaws

@@ -1,4 +1,5 @@
 pub mod Certified
+pub mod Digits
 pub mod Power
 pub mod Prime
 pub mod Root

@@ -2,6 +2,7 @@
 #![tactic(auto)]
 
 mod certified;
+mod digits;
 mod power;
 mod prime;
 mod root;
@@ -10,6 +11,7 @@ pub use certified::{
     chain_of_certificates, field_of_edwards25519_is_prime, field_of_p384_is_prime,
     order_of_edwards25519_is_prime, order_of_p384_is_prime, pocklington, pocklington_divisor,
 };
+pub use digits::digits_by_turns;
 pub use power::{fermat, inverse, repeated_squaring};
 pub use prime::{common_factor, euclid, prime_divisor};
 pub use root::{nonresidue, root_five_of_eight, root_of_quotient, root_three_of_four, two_roots};

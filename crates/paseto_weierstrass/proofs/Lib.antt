@@ -4,6 +4,7 @@ pub mod FieldLaws
 pub mod Formulas
 pub mod GroupLaws
 pub mod Identities
+pub mod Lines
 pub mod MultipleLaws
 pub mod OrderLaws
 pub mod Plane

@@ -26,7 +26,7 @@ plane_expr i = record { x = variable (suc i); y = variable i; z = constant 1 }
 abbrev pub point_at : ℕ → ℕ → ℕ → ExpressionPoint
 point_at i j k = record { x = variable i; y = variable j; z = variable k }
 
-rule-1 : (numbers : ℕ → ℕ) → AreBelow prime numbers → IsPlane (numbers 1) (numbers 0) → Obeys 1 prime numbers (plane 1)
+pub rule-1 : (numbers : ℕ → ℕ) → AreBelow prime numbers → IsPlane (numbers 1) (numbers 0) → Obeys 1 prime numbers (plane 1)
 unfolding summing
 rule-1 numbers below h =
     let c = cube_of (variable 0) (constant 1) in
@@ -34,7 +34,7 @@ rule-1 numbers below h =
     ∙ cubed (numbers 1) (numbers 0) 1 h.x_below h.y_below (lit< tt) h.on_curve
     ∙ element-value 2 prime numbers (lit< tt) below (sum (product c.linear (variable 1)) c.rest)
 
-rule-3 : (numbers : ℕ → ℕ) → AreBelow prime numbers → IsPlane (numbers 3) (numbers 2) → Obeys 3 prime numbers (plane 3)
+pub rule-3 : (numbers : ℕ → ℕ) → AreBelow prime numbers → IsPlane (numbers 3) (numbers 2) → Obeys 3 prime numbers (plane 3)
 unfolding summing
 rule-3 numbers below h =
     let c = cube_of (variable 2) (constant 1) in

@@ -172,3 +172,6 @@ pub sum-same : (p p' q q' : Point) → IsPoint p → IsPoint p' → IsPoint q �
 sum-same p p' q q' hp hp' hq hq' s k =
     let right : Same (point_add p' q) (point_add p' q') = rw (sum_comm p' q hp' hq, sum_comm p' q' hp' hq') (sum-same_first q q' p' hq hp' k) in
     same_trans (sum-is_point p q hp hq) (sum-same_first p p' q hp hq s) right
+
+pub double-is_point : (p : Point) → IsPoint p → IsPoint (point_double p)
+double-is_point p h = rw (double-same p h) (sum-is_point p p h h)

@@ -13,6 +13,11 @@ pub record IsMultiple (p q : Point) (n : ℕ) : Type 0 where
   pub point : IsPoint q
   pub same : Same (multiple_of n p) q
 
+-- s is [m]P + [n]Q
+pub record IsSum (p q s : Point) (m n : ℕ) : Type 0 where
+  pub point : IsPoint s
+  pub same : Same (point_add (multiple_of m p) (multiple_of n q)) s
+
 -- a point and what two bits ask to be added to it: p, q, or p + q
 unfoldable pub point_add_by : Point → Point → Point → ℕ → ℕ → Point
 point_add_by sum p q i j =

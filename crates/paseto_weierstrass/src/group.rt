@@ -2,7 +2,7 @@
 
 ghost use Rattle.std.specs.Prelude.{◌≡◌};
 ghost use Rattle.paseto_weierstrass.specs.Group.{IsPoint, Same};
-ghost use Rattle.paseto_weierstrass.specs.Point.{Point, base, neutral, point_add, point_double};
+ghost use Rattle.paseto_weierstrass.specs.Point.{Point, neutral, point_add, point_double};
 
 /// A sum is a point of the curve, and never (0, 0, 0): the formulas are complete (J. Renes, C. Costello and L. Batina,
 /// "Complete Addition Formulas for Prime Order Elliptic Curves", EUROCRYPT 2016, section 3), since the curve has no
@@ -32,8 +32,9 @@ pub fn double_is_sum()
     ensures { (p : Point) → IsPoint p → point_double p ≡ point_add p p }
 {}
 
-/// Three points may be added from either end, where the third is G.
-pub fn sum_with_base_associates()
-    ensures { (p q : Point) → IsPoint p → IsPoint q
-        → Same (point_add (point_add p q) base) (point_add p (point_add q base)) }
+/// Three points may be added from either end. Where each sum is by a line, the slopes of the four lines tell it; else two
+/// of the points, or one and the sum of the others, are opposites.
+pub fn sum_associates()
+    ensures { (p q r : Point) → IsPoint p → IsPoint q → IsPoint r
+        → Same (point_add (point_add p q) r) (point_add p (point_add q r)) }
 {}

@@ -1,5 +1,5 @@
-//! The points of P-384, their sums by complete formulas, and the multiples of its base point, as laws: each is the
-//! contract of a function that does nothing.
+//! The points of P-384, their sums by complete formulas, and their multiples, as laws: each is the contract of a
+//! function that does nothing.
 #![tactic(auto)]
 
 mod curve;
@@ -9,8 +9,7 @@ mod same;
 
 pub use curve::{base_is_point, inverse_of_element, neutral_is_point, no_point_of_order_two};
 pub use group::{
-    double_is_sum, sum_commutes, sum_is_point, sum_of_same, sum_with_base_associates,
-    sum_with_neutral,
+    double_is_sum, sum_associates, sum_commutes, sum_is_point, sum_of_same, sum_with_neutral,
 };
 pub use multiples::{
     joint_multiple_is_sum, multiple_by_product, multiple_by_remainder, multiple_by_sum,

@@ -1,4 +1,4 @@
-//! Multiples of the base point.
+//! Multiples of points, and of the base point.
 
 ghost use Rattle.std.specs.Prelude.{ℕ, ◌+◌, ◌*◌, ◌%◌, ◌^◌, ◌<◌, ◌≡◌, ◌↔◌};
 ghost use Rattle.paseto_weierstrass.specs.Curve.{order};
@@ -11,14 +11,16 @@ pub fn multiple_is_point()
     ensures { (n : ℕ) (p : Point) → IsPoint p → IsPoint (multiple_of n p) }
 {}
 
-/// [m + n]G = [m]G + [n]G.
+/// [m + n]P = [m]P + [n]P.
 pub fn multiple_by_sum()
-    ensures { (m n : ℕ) → Same (multiple_of (m + n) base) (point_add (multiple_of m base) (multiple_of n base)) }
+    ensures { (m n : ℕ) (p : Point) → IsPoint p
+        → Same (multiple_of (m + n) p) (point_add (multiple_of m p) (multiple_of n p)) }
 {}
 
-/// [m * n]G = [m]([n]G).
+/// [m * n]P = [m]([n]P).
 pub fn multiple_by_product()
-    ensures { (m n : ℕ) → Same (multiple_of (m * n) base) (multiple_of m (multiple_of n base)) }
+    ensures { (m n : ℕ) (p : Point) → IsPoint p
+        → Same (multiple_of (m * n) p) (multiple_of m (multiple_of n p)) }
 {}
 
 /// [n]G is neutral (SP 800-186, section 3.2.1.4).
@@ -37,8 +39,8 @@ pub fn multiple_by_remainder()
 {}
 
 /// Double and add over two numbers at once (F. Straus, "Addition chains of vectors", American Mathematical Monthly 71,
-/// 1964) gives [k]G + [l]Q, where Q is a multiple of G.
+/// 1964) gives [k]P + [l]Q.
 pub fn joint_multiple_is_sum()
-    ensures { (q : Point) (d bits k l : ℕ) → IsPoint q → Same (multiple_of d base) q → k < 2 ^ bits → l < 2 ^ bits
-        → Same (point_add (multiple_of k base) (multiple_of l q)) (joint_multiple base q bits k l) }
+    ensures { (p q : Point) (bits k l : ℕ) → IsPoint p → IsPoint q → k < 2 ^ bits → l < 2 ^ bits
+        → Same (point_add (multiple_of k p) (multiple_of l q)) (joint_multiple p q bits k l) }
 {}

@@ -1,13 +1,17 @@
-use Rattle.std.proofs.Common.{◌∙◌, ap}
+use Rattle.std.proofs.Common.{sym, ◌∙◌, ap}
 use Rattle.std.proofs.lemmas.Bool.{false≢true}
 use Rattle.paseto_montgomery.specs.Octets.{os2ip}
 use Rattle.paseto_p384.specs.Point.{coordinates}
+use Rattle.paseto_p384.proofs.DecodingLaws.{decoded-is_point}
 use Rattle.paseto_p384.proofs.Validity.{valid-length, valid-none, valid-some}
 use Rattle.paseto_p384.proofs.p384.is_valid.Goals as goal
 
 pub returns-then-public-ne-PUBLIC_LENGTH : goal.returns-then-public-ne-PUBLIC_LENGTH
 returns-then-public-ne-PUBLIC_LENGTH c message h =
     ((λ v. absurd (false≢true v)), (λ v. absurd (c.if-public-ne-PUBLIC_LENGTH.true (valid-length _ _ _ v))))
+
+pub accepts-requires : goal.accepts-requires
+accepts-requires c = decoded-is_point c.args.public.now (coordinates c.in-Some.q) (sym c.in-Some.ensures)
 
 pub returns-in-Some : goal.returns-in-Some
 returns-in-Some c message hash =

@@ -1,9 +1,10 @@
 use Rattle.paseto_weierstrass.specs.Curve.{order}
 use Rattle.paseto_weierstrass.specs.Multiples.{multiple_of}
 use Rattle.paseto_weierstrass.specs.Point.{base}
-use Rattle.paseto_weierstrass.proofs.MultipleLaws.{base-is_third, multiple-itself}
+use Rattle.paseto_weierstrass.proofs.MultipleLaws.{multiple-itself}
+use Rattle.paseto_weierstrass.proofs.PointLaws.{base-is_point}
 use Rattle.paseto_weierstrass.proofs.OrderLaws.{multiple-remainder, order-neutral}
 use Rattle.paseto_weierstrass.proofs.multiples.multiple_by_remainder.Goals as goal
 
 pub returns : goal.returns
-returns c = λ k. (multiple-remainder base (multiple_of k base) order k base-is_third order-neutral (multiple-itself k base base-is_third)).same
+returns c = λ k. (multiple-remainder base (multiple_of k base) order k base-is_point order-neutral (multiple-itself k base base-is_point)).same

@@ -1,0 +1,14 @@
+//! What the sum of two points is told by.
+
+use crate::field::FieldElement;
+
+/// The products of the coordinates of two points by which their sum is told, with the names of its definition.
+#[derive(Clone, Copy)]
+pub(crate) struct Products {
+    pub(crate) xx: FieldElement,
+    pub(crate) yy: FieldElement,
+    pub(crate) zz: FieldElement,
+    pub(crate) xy: FieldElement,
+    pub(crate) yz: FieldElement,
+    pub(crate) xz: FieldElement,
+}
