@@ -5,11 +5,12 @@
 #
 #   tests/verified_once.sh [--built]
 #
-# Of an empty text, verifying takes between LEAST and MOST hundredths of what signing takes; one that verifies twice takes
-# twice that, and a `sign` that verifies afterwards makes it less than 100. Of a long text, what it takes more is the
-# hashing: both schemes hash the text in signing (Ed25519 twice) and in verifying (once), so that one pass more shows,
-# whatever the arithmetic costs. The library is proved first, over what build.sh left; --built takes it as it stands in the
-# crate's out/. The last line is 'N passed, M failed', and the status is 0 where none failed.
+# In November 2026 verifying an empty text took 134 hundredths of what signing it took by Ed25519, and 194 by P-384. A
+# scheme that verifies twice takes twice that, and a `sign` that verifies afterwards makes it less than 100: the bounds
+# leave room for other arithmetic. What a long text takes more than an empty one is the hashing, which is counted in passes:
+# both schemes hash the text once in verifying, and in signing Ed25519 twice and P-384 once. The library is proved first,
+# over what build.sh left; --built takes it as it stands in the crate's out/. The last line is 'N passed, M failed', and the
+# status is 0 where none failed.
 set -u
 export LC_ALL=C
 
@@ -104,6 +105,6 @@ check() {
     between "$1: hundredths of passes over the text in verifying" "$(passes "$1" verify)" 75 125
 }
 
-check ed25519 130 400 2
-check p384 130 400 1
+check ed25519 90 220 2
+check p384 110 300 1
 finish
