@@ -285,6 +285,99 @@ static void ask_claims(void) {
     drop(public);
 }
 
+/* ---- texts of more than a megabyte, which no call refuses for their length */
+
+enum { LONG = 1100000 };
+
+/* Wants the long text. */
+#define WANT_LONG(text, call, ...)                                                      \
+    do {                                                                                \
+        paseto_status status;                                                           \
+        struct slice answer;                                                            \
+        ASK(status, answer, call, __VA_ARGS__);                                         \
+        CHECK(status == PASETO_OK && answer.length == (text).length);                   \
+        CHECK(status == PASETO_OK && memcmp(answer.at, (text).at, (text).length) == 0); \
+        drop(answer);                                                                   \
+    } while (0)
+
+/* The letters x, so many that the text with what stands before and behind them has the long length. */
+static struct slice long_text(const char *before, const char *behind) {
+    struct slice made = {malloc(LONG), LONG};
+    if (made.at == NULL) abort();
+    memset(made.at, 'x', LONG);
+    memcpy(made.at, before, strlen(before));
+    memcpy(made.at + LONG - strlen(behind), behind, strlen(behind));
+    return made;
+}
+
+/* The text is the message, the footer and the implicit assertion. */
+static void ask_long_local(struct slice text) {
+    struct slice key = drawn(32), nonce = drawn(32), token;
+    paseto_status status;
+    ASK(status, token, paseto_v1_local_encrypt, GIVEN(key), GIVEN(nonce), GIVEN(text), GIVEN(text));
+    WANT_LONG(text, paseto_v1_local_decrypt, GIVEN(key), GIVEN(token), GIVEN(text));
+    WANT_LONG(text, paseto_footer, GIVEN(token));
+    drop(token);
+    ASK(status, token, paseto_v2_local_encrypt, GIVEN(key), GIVEN(nonce), GIVEN(text), GIVEN(text));
+    WANT_LONG(text, paseto_v2_local_decrypt, GIVEN(key), GIVEN(token), GIVEN(text));
+    drop(token);
+    ASK(status, token, paseto_v3_local_encrypt, GIVEN(key), GIVEN(nonce), GIVEN(text), GIVEN(text), GIVEN(text));
+    WANT_LONG(text, paseto_v3_local_decrypt, GIVEN(key), GIVEN(token), GIVEN(text), GIVEN(text));
+    drop(token);
+    ASK(status, token, paseto_v4_local_encrypt, GIVEN(key), GIVEN(nonce), GIVEN(text), GIVEN(text), GIVEN(text));
+    WANT_LONG(text, paseto_v4_local_decrypt, GIVEN(key), GIVEN(token), GIVEN(text), GIVEN(text));
+    drop(token);
+    drop(key);
+    drop(nonce);
+}
+
+static void ask_long_public(struct slice text) {
+    uint8_t private_key[64], public_key[49];
+    struct slice seed = drawn(32), scalar = drawn(48), token;
+    paseto_status status = paseto_v4_public_keypair(GIVEN(seed), private_key, 64, public_key, 32);
+    struct slice private = slice_of(private_key, 64), public = slice_of(public_key, 32);
+    ASK(status, token, paseto_v2_public_sign, GIVEN(private), GIVEN(text), GIVEN(text));
+    WANT_LONG(text, paseto_v2_public_verify, GIVEN(public), GIVEN(token), GIVEN(text));
+    drop(token);
+    ASK(status, token, paseto_v4_public_sign, GIVEN(private), GIVEN(text), GIVEN(text), GIVEN(text));
+    WANT_LONG(text, paseto_v4_public_verify, GIVEN(public), GIVEN(token), GIVEN(text), GIVEN(text));
+    drop(token);
+    CHECK(paseto_v3_public_keypair(GIVEN(scalar), private_key, 64, public_key, 49) == PASETO_OK);
+    struct slice point = slice_of(public_key, 49);
+    ASK(status, token, paseto_v3_public_sign, GIVEN(scalar), GIVEN(text), GIVEN(text), GIVEN(text));
+    WANT_LONG(text, paseto_v3_public_verify, GIVEN(point), GIVEN(token), GIVEN(text), GIVEN(text));
+    drop(token);
+    drop(seed);
+    drop(scalar);
+    drop(private);
+    drop(public);
+    drop(point);
+}
+
+/* Claims of more than a megabyte are issued, and are expected. */
+static void ask_long_claims(void) {
+    struct slice key = drawn(32), seed = drawn(32), none = slice_of("", 0), token, read;
+    struct slice claims = long_text("{\"text\":\"", "\"}");
+    paseto_status status;
+    ASK(status, token, paseto_v4_local_build, GIVEN(key), GIVEN(seed), GIVEN(claims), NOW, GIVEN(none), GIVEN(none));
+    CHECK(status == PASETO_OK);
+    ASK(status, read, paseto_v4_local_parse, GIVEN(key), GIVEN(token), GIVEN(claims), NOW + 1, GIVEN(none), GIVEN(none));
+    CHECK(status == PASETO_OK && read.length > LONG);
+    drop(key);
+    drop(seed);
+    drop(claims);
+    drop(token);
+    drop(read);
+}
+
+static void ask_long(void) {
+    struct slice text = long_text("", "");
+    ask_long_local(text);
+    ask_long_public(text);
+    ask_long_claims();
+    drop(text);
+}
+
 /* ---- what statuses say, and what is drawn */
 
 static void ask_texts(void) {
@@ -314,6 +407,7 @@ int main(void) {
     ask_v3_and_v4();
     ask_public();
     ask_claims();
+    ask_long();
     ask_texts();
     ask_random();
     printf("%u passed, %u failed\n", passed, failed);

@@ -1,13 +1,11 @@
 -- The claims that a builder is given.
 use Rattle.std.proofs.Common.{◌≡◌, ◌≢◌, ◌⊎◌, ◌++◌, ℕ, List, [], ◌∷◌, Bool, true, false, if◌then◌else◌, Option, None, Some, MatchOption, Result, Ok, Err, IfErr, IfOk, IsErrAnd, OnOk, codes, String, Global, string_bytes, inl, inr, refl, sym, ap, ◌∙◌}
-use Rattle.jiff.specs.Names.{iso_datetime_text}
-use Rattle.jiff.specs.Types.{DateTime, Timestamp}
-use Rattle.jiff.specs.Words.{civil_nanos}
-use Rattle.jiff.proofs.Family.{same_datetime}
+use Rattle.jiff.specs.Types.{Timestamp}
 use Rattle.serde_json.specs.Data.{Data, Members, put, string}
 use Rattle.rusty_paseto_claims.specs.Claim.{gives, one_member}
 use Rattle.rusty_paseto_claims.specs.DateClaim.{IsDate}
 use Rattle.rusty_paseto_claims.specs.Error.{Fault, fault_of, unexpected}
+use Rattle.rusty_paseto_claims.specs.Moment.{IsMomentText}
 use Rattle.rusty_paseto_claims.specs.Whole.{is_whole}
 use Rattle.rusty_paseto_core.specs.declared.PasetoError.TheVariants.{Cipher}
 use Rattle.rusty_paseto_generic.specs.Builders.Claims.{IsRefusal, Outcome, becomes, refused, claim_set, unwrapped}
@@ -16,36 +14,26 @@ use Rattle.rusty_paseto_generic.specs.declared.error.GenericBuilderError.{Generi
 use Rattle.rusty_paseto_generic.specs.declared.error.GenericBuilderError.TheVariants.{CipherError, ClaimError, Memory}
 use Rattle.rusty_paseto.specs.PasetoBuilder.{Counting, IsSame, counted, nothing_counted}
 use Rattle.rusty_paseto.proofs.DefaultClaims.{same_default}
+use Rattle.rusty_paseto_claims.proofs.MomentLemmas.{same_text}
 use Rattle.paseto_tasks.specs.declared.error.ProgramError.{ProgramError}
 use Rattle.paseto_commands.specs.Claims.{AreNeverSet, AreSet, Named, all_counted, json_of}
 use Rattle.paseto_tasks.specs.Error.{IsOutside}
 use Rattle.paseto_commands.specs.Issue.{AreNever, AreOrdered, Ordered, keys_set}
-use Rattle.paseto_commands.specs.Times.{IsMomentText, IsNeverSet, IsTimeSet, time_counted}
+use Rattle.paseto_commands.specs.Times.{IsNeverSet, IsTimeSet, time_counted}
 
 -- ---- times
-
--- the text of the date and time of a moment is that of the moment
-pub moment_text : {E : Type 0} (result : Result (String Global) E) (civil : DateTime) (moment : Timestamp) → civil_nanos civil ≡ moment.nanosecond
-    → IfOk result (λ text. string_bytes text ≡ iso_datetime_text civil ++ codes "Z") → IfOk result (λ text. IsMomentText moment (string_bytes text))
-moment_text (Ok text) civil moment at is = (civil, at, is)
-moment_text (Err error) civil moment at is = tt
 
 -- the claim of a moment's text is set where the builder answers
 pub time_set : {T E F : Type 0} (result : Result T E) (answer : Result T F) (key : List ℕ) (moment : Timestamp) (text claim : List ℕ) (old new : Members)
     → IfOk result (λ value. answer ≡ Ok value)
     → OnOk answer (claim_set key (gives (one_member key (string claim))) old ≡ becomes new)
-    → (claim ≡ text) × IsDate text → IsMomentText moment text → OnOk result (IsTimeSet key (Some moment) old new)
+    → (claim ≡ text) × IsDate text → IsMomentText moment.nanosecond text → OnOk result (IsTimeSet key (Some moment) old new)
 time_set (Ok value) answer key moment text claim old new answered set same says = (text, says, same.1, rw same.0 at (rw answered at set))
 time_set (Err error) answer key moment text claim old new answered set same says = tt
 
--- a moment has one text
-same_text : (moment : Timestamp) (one two : List ℕ) → IsMomentText moment one → IsMomentText moment two → one ≡ two
-same_text moment one two a b =
-    a.2 ∙ ap (λ (c : DateTime). iso_datetime_text c ++ codes "Z") (same_datetime a.0 b.0 (a.1 ∙ sym b.1)) ∙ sym b.2
-
 -- the claim of a moment whose text is no date
-pub no_date : (key : List ℕ) (moment : Timestamp) (text : List ℕ) → IsMomentText moment text → ¬ IsDate text → IsNeverSet key (Some moment)
-no_date key moment text says none old new set = none (rw (same_text moment set.0 text set.1 says) at set.2)
+pub no_date : (key : List ℕ) (moment : Timestamp) (text : List ℕ) → IsMomentText moment.nanosecond text → ¬ IsDate text → IsNeverSet key (Some moment)
+no_date key moment text says none old new set = none (rw (same_text moment.nanosecond set.0 text set.1 says) at set.2)
 
 -- ---- what a builder refuses
 
@@ -184,7 +172,7 @@ same_set (claim ∷ claims) old other one two same a b =
 same_time : (key : List ℕ) (moment : Option Timestamp) (old other one two : Members) → old ≡ other → IsTimeSet key moment old one → IsTimeSet key moment other two → one ≡ two
 same_time key None old other one two same a b = a ∙ same ∙ sym b
 same_time key (Some moment) old other one two same a b =
-    same_next _ one two (rw (same, same_text moment a.0 b.0 a.1 b.1) at a.3) b.3
+    same_next _ one two (rw (same, same_text moment.nanosecond a.0 b.0 a.1 b.1) at a.3) b.3
 
 pub same_ordered : (order : Ordered) (one two : Members) → AreOrdered order one → AreOrdered order two → one ≡ two
 same_ordered order one two a b =

@@ -1,15 +1,10 @@
 -- The footer that words say.
-use Rattle.std.specs.Prelude.{◌≡◌, ℕ, List, Option, None, Some, codes, option_map, string_bytes, String}
+use Rattle.std.specs.Prelude.{◌≡◌, ℕ, List, Option, None, Some, option_map, string_bytes, String}
 use Rattle.std.specs.Global.{Global}
-use Rattle.serde_json.specs.Data.{member, no_members, object, string}
-use Rattle.serde_json.specs.Written.{compact_text}
+use Rattle.rusty_paseto.specs.KeyRing.{kid_footer}
 use Rattle.rusty_paseto_parts.specs.Footer.{footer_text}
 use Rattle.rusty_paseto_parts.specs.declared.texts.footer.Footer.{Footer}
 use Rattle.paseto_tasks.specs.declared.arguments.Options.{Options}
-
--- the footer that names a key: the JSON of an object with the id under `kid`
-abbrev pub kid_footer : List ℕ → List ℕ
-kid_footer id = compact_text (object (member (codes "kid") (string id) no_members))
 
 -- the footer of --footer-kid, or of --footer, or none
 abbrev pub footer_for : Option (List ℕ) → Option (List ℕ) → Option (List ℕ)

@@ -1,12 +1,12 @@
 -- Moments and lengths of time, as words say them.
-use Rattle.std.specs.Prelude.{◌≡◌, ◌<◌, ◌*◌, ◌^◌, ◌==◌, ◌+ℤ◌, ℕ, pos, List, [], ◌∷◌, ◌++◌, if◌then◌else◌, Option, None, Some, MatchResult, codes}
+use Rattle.std.specs.Prelude.{◌≡◌, ◌<◌, ◌*◌, ◌^◌, ◌==◌, ◌+ℤ◌, ℕ, pos, List, [], ◌∷◌, ◌++◌, if◌then◌else◌, Option, None, Some, MatchResult}
 use Rattle.std.specs.Str.Parse.{IsNumeral, digits_value, without_leading_plus}
-use Rattle.jiff.specs.Names.{iso_datetime_text}
-use Rattle.jiff.specs.Types.{DateTime, Timestamp}
-use Rattle.jiff.specs.Words.{civil_nanos, parse_timestamp}
+use Rattle.jiff.specs.Types.{Timestamp}
+use Rattle.jiff.specs.Words.{parse_timestamp}
 use Rattle.serde_json.specs.Data.{Members, string}
 use Rattle.rusty_paseto_claims.specs.Claim.{gives, one_member}
 use Rattle.rusty_paseto_claims.specs.DateClaim.{IsDate}
+use Rattle.rusty_paseto_claims.specs.Moment.{IsMomentText}
 use Rattle.rusty_paseto_claims.specs.declared.error.PasetoClaimError.{PasetoClaimError}
 use Rattle.rusty_paseto_claims.specs.declared.error.PasetoClaimError.TheVariants.{Memory as NoClaimMemory}
 use Rattle.rusty_paseto_generic.specs.Builders.Claims.{becomes, claim_set}
@@ -62,14 +62,10 @@ SaysTime None now moment = moment ≡ None
 SaysTime (Some word) now None = ⊥
 SaysTime (Some word) now (Some moment) = SaysMoment word now moment
 
--- the text of a moment: its date and time in UTC
-abbrev pub IsMomentText : Timestamp → List ℕ → Type 0
-IsMomentText moment text = (civil : DateTime) × (civil_nanos civil ≡ moment.nanosecond) × (text ≡ iso_datetime_text civil ++ codes "Z")
-
 -- the claims of a builder, when the claim of a moment is set, where there is one: its text is read as a moment again
 abbrev pub IsTimeSet : List ℕ → Option Timestamp → Members → Members → Type 0
 IsTimeSet key None old new = new ≡ old
-IsTimeSet key (Some moment) old new = (text : List ℕ) × IsMomentText moment text × IsDate text
+IsTimeSet key (Some moment) old new = (text : List ℕ) × IsMomentText moment.nanosecond text × IsDate text
     × (claim_set key (gives (one_member key (string text))) old ≡ becomes new)
 
 -- the claim cannot be set, whatever a builder holds

@@ -17,7 +17,7 @@ ghost use Rattle.paseto_commands.specs.Times.{IsNeverSet, IsTimeSet, SaysTime, t
 use crate::answers::{built, dated};
 use crate::claims::{NamedClaim, claims_of};
 use crate::footer::footer_of;
-use crate::times::{moment_of, text_of};
+use crate::times::moment_of;
 use jiff::Timestamp;
 use paseto_ed25519::Ed25519;
 use paseto_p384::P384;
@@ -29,6 +29,7 @@ use rusty_paseto::prelude::{
     PasetoAsymmetricPrivateKey, PasetoBuilder, Public, PurposeTrait, Signs, V1, V2, V3, V4,
     VersionTrait, fits_default,
 };
+use rusty_paseto_claims::moment_text;
 use rusty_paseto_paserk::{
     KeyVersion, PaserkError, PaserkType, PaserkVersion, header_of, local_from_paserk,
     secret_from_paserk,
@@ -314,7 +315,7 @@ fn set_expiry<V: VersionTrait, P: PurposeTrait>(
     let Some(moment) = moment else {
         return Ok(());
     };
-    match ExpirationClaim::try_from_string(alloc, text_of(alloc, moment)?) {
+    match ExpirationClaim::try_from_string(alloc, moment_text(alloc, moment)?) {
         Ok(claim) => built(alloc, builder.put_claim(&claim)),
         Err(source) => Err(dated(source)),
     }
@@ -336,7 +337,7 @@ fn set_begin<V: VersionTrait, P: PurposeTrait>(
     let Some(moment) = moment else {
         return Ok(());
     };
-    match NotBeforeClaim::try_from_string(alloc, text_of(alloc, moment)?) {
+    match NotBeforeClaim::try_from_string(alloc, moment_text(alloc, moment)?) {
         Ok(claim) => built(alloc, builder.put_claim(&claim)),
         Err(source) => Err(dated(source)),
     }

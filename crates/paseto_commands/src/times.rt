@@ -1,13 +1,10 @@
 //! Moments and lengths of time, as words say them.
 
-ghost use Rattle.std.specs.Prelude.{◌≡◌, ◌≢◌, ◌≤◌, ◌*◌, ◌++◌, ◌+ℤ◌, ℕ, List, pos, IfOk, IfSome, MatchOption, codes, string_bytes};
-ghost use Rattle.jiff.specs.Names.{iso_datetime_text};
-ghost use Rattle.jiff.specs.Words.{IsTimestampNanos, civil_nanos};
-ghost use Rattle.paseto_commands.specs.Times.{HasUnit, IsLength, IsMomentText, IsNumber, SaysMoment, SaysNone};
+ghost use Rattle.std.specs.Prelude.{◌≡◌, ◌≢◌, ◌≤◌, ◌*◌, ◌++◌, ◌+ℤ◌, ℕ, List, pos, IfSome, MatchOption};
+ghost use Rattle.jiff.specs.Words.{IsTimestampNanos};
+ghost use Rattle.paseto_commands.specs.Times.{HasUnit, IsLength, IsNumber, SaysMoment, SaysNone};
 
 use jiff::Timestamp;
-use jiff::civil::DateTime;
-use jiff::tz::Offset;
 use std::alloc::{AllocError, Global};
 
 /// The nanoseconds of a second.
@@ -90,29 +87,6 @@ fn number_of(word: &str) -> Option<u64>
         Ok(number) => Some(number as u64),
         Err(_) => None,
     }
-}
-
-/// The text of a moment, in UTC.
-pub fn text_of(alloc: Global, moment: Timestamp) -> Result<String, AllocError>
-    ensures { IfOk result (λ text. IsMomentText moment (string_bytes text)) }
-{
-    text_in_utc(alloc, civil_of(moment))
-}
-
-/// The text of a date and time in UTC.
-fn text_in_utc(alloc: Global, civil: DateTime) -> Result<String, AllocError>
-    ensures { IfOk result (λ text. string_bytes text ≡ iso_datetime_text civil ++ codes "Z") }
-{
-    let mut text = format!(in alloc; "{civil}")?;
-    text.push('Z')?;
-    Ok(text)
-}
-
-/// The date and time of a moment in UTC.
-fn civil_of(moment: Timestamp) -> DateTime
-    ensures { civil_nanos result ≡ moment.nanosecond }
-{
-    Offset::UTC.to_datetime(moment)
 }
 
 /// How long it is from one moment to another, in words: `3 minutes`. It is rounded down.

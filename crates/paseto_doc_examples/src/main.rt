@@ -20,6 +20,8 @@ mod key_ring;
 mod keys_as_text;
 mod leeway;
 mod local_tokens;
+mod moment_claims;
+mod named_key;
 mod p384_signature;
 mod paseto_builder;
 mod paseto_parser;
@@ -146,8 +148,7 @@ fn show_another_footer(
     if let Err(error) = parser.parse(token, key) {
         println!(rt; "another footer: {}", causes::has_another_footer(&error))?;
     }
-    let even = CustomClaim::try_from_str(alloc, "seats", 0u64)?;
-    parser.put_validator(&even, Box::new(alloc, Even)?)?;
+    parser.put_key_validator("seats", Box::new(alloc, Even)?)?;
     Ok(())
 }
 
@@ -166,6 +167,13 @@ fn show_default(rt: &HostRuntime) -> Result<()> {
     let key = PasetoSymmetricKey::<V4, Local>::from(Key::<32>::try_new_random(&mut rng)?);
     let claims = default_tokens::round_trip(alloc, now, soon, &mut rng, &key)?;
     println!(rt; "expires: {}", claims.get("exp").is_some())?;
+    let end = moment_claims::end_of_session(alloc, now)?;
+    println!(rt; "a session ends by: {}", end.as_pair().0)?;
+    let named = named_key::issue_under(alloc, now, &mut rng, "2026-\"11\"", &key)?;
+    println!(rt;
+        "named: {:?}",
+        Footer::try_from_token(alloc, named.as_str())?
+    )?;
     let token = paseto_builder::issue(alloc, now, &mut rng, &key)?;
     let claims = paseto_parser::admit(alloc, soon, token.as_str(), &key)?;
     println!(rt; "for customers: {}", claims.get("aud").is_some())?;

@@ -1,12 +1,12 @@
 //! Tickets of version 2 that the office alone can read. Their sealed box is handed in.
 
-use anyhow::{Result, ensure};
+use anyhow::Result;
 use jiff::Timestamp;
 use paseto_xchacha20poly1305::XChaCha20Poly1305;
 use rand_core::TryRng;
 use rusty_paseto::prelude::{
     CountingSetter, GenericParserError, Local, PasetoBuilder, PasetoParser, PasetoSymmetricKey,
-    SubjectClaim, V2, fits_default,
+    SubjectClaim, V2,
 };
 use serde_json::Value;
 use std::alloc::Global;
@@ -19,8 +19,7 @@ pub fn issue<R: TryRng>(
     key: &PasetoSymmetricKey<V2, Local>,
     subject: &str,
 ) -> Result<String> {
-    ensure!(fits_default(now), "the clock is past the year 9999");
-    let mut builder = PasetoBuilder::<V2, Local>::default(alloc, now)?;
+    let mut builder = PasetoBuilder::<V2, Local>::try_default(alloc, now)?;
     builder.set_claim(&SubjectClaim::from(subject))?;
     Ok(builder.build(&XChaCha20Poly1305, rng, key)?)
 }

@@ -1,13 +1,13 @@
 //! The sessions of a service, under keys that change: issued under the newest key, admitted under each that is not
 //! retired, and refused with a reason that says whose fault it is.
 
-use anyhow::{Context, Result, ensure};
+use anyhow::{Context, Result};
 use jiff::Timestamp;
 use rand_core::TryRng;
 use rusty_paseto::prelude::{
     CheckSetter, CountingSetter, CustomClaim, Footer, GenericParserError, KeyRing,
     KeyRingParserError, Local, PasetoBuilder, PasetoClaimError, PasetoParser, PasetoSymmetricKey,
-    SubjectClaim, V4, fits_default,
+    SubjectClaim, V4, key_footer,
 };
 use rusty_paseto::validators::AtMost;
 use serde::Deserialize;
@@ -128,11 +128,10 @@ impl Sessions {
         subject: &str,
         seats: u64,
     ) -> Result<String> {
-        ensure!(fits_default(now), "the clock is past the year 9999");
         let newest = self.newest.as_str();
         let key = self.keys.key(newest).context("the newest key is retired")?;
-        let footer = format!(in self.alloc; "{{\"kid\":\"{newest}\"}}")?;
-        let mut builder = PasetoBuilder::<V4, Local>::default(self.alloc, now)?;
+        let footer = key_footer(self.alloc, newest)?;
+        let mut builder = PasetoBuilder::<V4, Local>::try_default(self.alloc, now)?;
         builder
             .set_claim(&SubjectClaim::from(subject))?
             .set_claim(&CustomClaim::try_from_str(self.alloc, "seats", seats)?)?
@@ -143,14 +142,11 @@ impl Sessions {
     /// The session of a token that is good at the moment.
     pub fn admit(&self, now: Timestamp, token: &str) -> Result<Session, Refusal> {
         let mut parser = PasetoParser::<V4, Local>::default(self.alloc, now)?;
-        let seats = CustomClaim::try_from_str(self.alloc, "seats", 0u64).map_err(
-            |source| GenericParserError::from(source),
-        )?;
         let bounded = Box::new(self.alloc, AtMost(SEATS)).map_err(|refused| Refusal::Memory(
             AllocError::from(refused),
         ))?;
         parser
-            .validate_claim(&seats, bounded)?
+            .validate_key("seats", bounded)?
             .require_claim("exp")?
             .set_leeway(LEEWAY);
         let (_id, claims) = self.keys.parse(&parser, token)?;

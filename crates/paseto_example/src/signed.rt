@@ -1,12 +1,12 @@
 //! Tickets that everybody can read and the office alone can make: public tokens, over any signature scheme of version
 //! 4. The program hands in `Ed25519`, and once a scheme of its own.
 
-use anyhow::{Result, ensure};
+use anyhow::Result;
 use jiff::Timestamp;
 use rusty_paseto::prelude::{
     CountingSetter, Footer, GenericParserError, PasetoAsymmetricPrivateKey,
     PasetoAsymmetricPublicKey, PasetoBuilder, PasetoParser, Public, SignatureScheme, SubjectClaim,
-    V4, fits_default,
+    V4, key_footer,
 };
 use serde_json::Value;
 use std::alloc::Global;
@@ -19,8 +19,7 @@ pub fn issue<S: SignatureScheme<64>>(
     key: &PasetoAsymmetricPrivateKey<'_, V4, Public>,
     subject: &str,
 ) -> Result<String> {
-    ensure!(fits_default(now), "the clock is past the year 9999");
-    let mut builder = PasetoBuilder::<V4, Public>::default(alloc, now)?;
+    let mut builder = PasetoBuilder::<V4, Public>::try_default(alloc, now)?;
     builder.set_claim(&SubjectClaim::from(subject))?;
     Ok(builder.build(scheme, key)?)
 }
@@ -33,9 +32,8 @@ pub fn issue_under<S: SignatureScheme<64>>(
     id: &str,
     key: &PasetoAsymmetricPrivateKey<'_, V4, Public>,
 ) -> Result<String> {
-    ensure!(fits_default(now), "the clock is past the year 9999");
-    let footer = format!(in alloc; "{{\"kid\":\"{id}\"}}")?;
-    let mut builder = PasetoBuilder::<V4, Public>::default(alloc, now)?;
+    let footer = key_footer(alloc, id)?;
+    let mut builder = PasetoBuilder::<V4, Public>::try_default(alloc, now)?;
     builder.set_footer(Footer::from(footer.as_str()));
     Ok(builder.build(scheme, key)?)
 }

@@ -1,7 +1,9 @@
 //! The calls on claims.
 
+use crate::parsers::now;
 use crate::run::{Run, Snapshot, calls, edits, put, shown};
 use anyhow::Result;
+use jiff::Timestamp;
 use rusty_paseto::prelude::*;
 use serde_json::Value;
 use std::alloc::Global;
@@ -36,14 +38,17 @@ pub fn ask(run: &mut Run<'_>) -> Result<()> {
 
 fn ask_made(run: &mut Run<'_>) -> Result<()> {
     let (alloc, text) = (run.alloc, run.text);
-    let claim = ExpirationClaim::try_from_str(alloc, DATE)?;
+    let (claim, now) = (ExpirationClaim::try_from_str(alloc, DATE)?, now()?);
     edits!(run, "DateClaim::", slot = Ok(None);
         "try_from_str of a date" => put(slot, ExpirationClaim::try_from_str(alloc, DATE));
         "try_from_str of no date, refused" => put(slot, ExpirationClaim::try_from_str(alloc, text));
+        "at of a moment" => put(slot, ExpirationClaim::at(alloc, now));
+        "at of a moment before the year 0, refused" => put(slot, ExpirationClaim::at(alloc, Timestamp::MIN));
         "default of its date" => put(slot, ExpirationClaim::default(alloc));
         "try_clone of a claim" => put(slot, claim.try_clone(alloc));
     )?;
     calls! { run;
+        "moment_text of a moment" => moment_text(alloc, now);
         "CustomClaim::try_from_str of a key and a text" => CustomClaim::try_from_str(alloc, text, text);
         "CustomClaim::try_from_key of a key" => CustomClaim::<&str>::try_from_key(alloc, text);
         "CustomClaim::try_from_str of iss, refused" => CustomClaim::try_from_str(alloc, "iss", "a");

@@ -73,6 +73,9 @@ fn ask_defaults(run: &mut Run<'_>) -> Result<()> {
     ensure!(fits_default(now), "no default builder begins at the moment");
     edits!(run, "PasetoBuilder::", slot = Ok(None);
         "default of a moment" => put(slot, PasetoBuilder::<V4, Local>::default(alloc, now));
+        "try_default of a moment" => put(slot, PasetoBuilder::<V4, Local>::try_default(alloc, now));
+        "try_default of the last moment, refused"
+            => put(slot, PasetoBuilder::<V4, Local>::try_default(alloc, Timestamp::MAX));
     )?;
     edits! { run, "DefaultParser::", slot = Ok(None);
         "default of a moment" => put(slot, PasetoParser::<V4, Local>::default(alloc, now));
@@ -134,6 +137,10 @@ fn ask_validators(run: &mut Run<'_>) -> Result<()> {
         "put_validators of a map", map = validators!(alloc) => parser.put_validators(map);
         "extend_validation_claims of a map", map = validators!(alloc)
             => parser.extend_validation_claims(map).map(drop);
+        "put_key_validator of a key", given = Box::new(alloc, Refuses)?
+            => parser.put_key_validator("aud", given);
+        "validate_key of a key", given = Box::new(alloc, Refuses)?
+            => parser.validate_key("aud", given).map(drop);
         "put_required of a claim" => parser.put_required("sub");
         "require_claim of a claim" => parser.require_claim("sub").map(drop);
         "put_times of a moment" => parser.put_times(late);

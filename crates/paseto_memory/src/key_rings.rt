@@ -37,7 +37,24 @@ pub fn ask(run: &mut Run<'_>) -> Result<()> {
     ask_local::<V3, _>(run, "v3.local", |ring, token| ring.open(token, None))?;
     ask_local::<V4, _>(run, "v4.local", |ring, token| ring.open(token, None))?;
     ask_boxed(run)?;
+    ask_id(run)?;
     ask_publics(run)
+}
+
+// A ring takes an id of the text, and finds its key by a footer that names it.
+fn ask_id(run: &mut Run<'_>) -> Result<()> {
+    let (alloc, text) = (run.alloc, run.text);
+    let footer = key_footer(alloc, text)?;
+    calls! { run;
+        "key_footer of an id" => key_footer(alloc, text);
+        "Ring::add of v4.local, an id of the text" => key_by(alloc, text, footer.as_str());
+    }
+}
+
+fn key_by(alloc: Global, id: &str, footer: &str) -> Result<[u8; 32], KeyRingError> {
+    let mut ring = KeyRing::<V4>::new(alloc);
+    ring.add(id, symmetric_key())?;
+    ring.key_of(footer).map(|key| *key.as_bytes())
 }
 
 fn ask_publics(run: &mut Run<'_>) -> Result<()> {

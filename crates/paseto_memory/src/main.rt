@@ -26,7 +26,7 @@ use std::env;
 const LENGTH: usize = 100;
 
 /// How long it is at most.
-const LONGEST: usize = 1_000_000;
+const LONGEST: usize = 1_100_000;
 
 /// `paseto_memory [CASE [LENGTH]]`. Without a case, or where it is `all`, all cases are asked, with no marks.
 fn main(rt: HostRuntime) -> Result<()> {

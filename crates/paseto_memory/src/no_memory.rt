@@ -23,6 +23,7 @@ pub fn ask(run: &mut Run<'_>) -> Result<()> {
     let (now, text) = (now()?, run.text.as_bytes());
     calls! { run;
         "fits_default of a moment, with no memory" => always(fits_default(now));
+        "has_short_year of a moment, with no memory" => always(has_short_year(now));
         "the primitives of a text, with no memory" => always(primitives::digest(text));
     }
 }

@@ -108,6 +108,10 @@ fn ask_maps(run: &mut Run<'_>) -> Result<()> {
         "put_validators of a map", map = validators!(alloc) => parser.put_validators(map);
         "extend_validation_claims of a map", map = validators!(alloc)
             => parser.extend_validation_claims(map).map(drop);
+        "put_key_validator of a key", given = Box::new(alloc, Refuses)?
+            => parser.put_key_validator("aud", given);
+        "validate_key of a key", given = Box::new(alloc, Refuses)?
+            => parser.validate_key("aud", given).map(drop);
         "put_required of a claim" => parser.put_required("sub");
         "require_claim of a claim" => parser.require_claim("sub").map(drop);
         "put_times of a moment" => parser.put_times(now);

@@ -27,10 +27,13 @@ fn ask_box(run: &mut Run<'_>) -> Result<()> {
     let (key, nonce) = ([7u8; 32], [1u8; 24]);
     let boxed = XChaCha20Poly1305.seal(alloc, &key, &nonce, b"data", text)?;
     let boxed = boxed.context("there is no box")?;
+    // The box under other data has another tag.
     calls! { run;
         "SealedBox::seal of XChaCha20Poly1305" => XChaCha20Poly1305.seal(alloc, &key, &nonce, b"data", text);
         "SealedBox::open of XChaCha20Poly1305"
             => XChaCha20Poly1305.open(alloc, &key, &nonce, b"data", &boxed);
+        "SealedBox::open of XChaCha20Poly1305 that has another tag, with no memory"
+            => XChaCha20Poly1305.open(alloc, &key, &nonce, b"other data", &boxed);
     }
 }
 

@@ -1,5 +1,5 @@
 -- What the box opens: a xored message and its tag, and nothing else.
-use Rattle.std.proofs.Common.{◌≡◌, ◌≢◌, ℕ, ◌+◌, ◌-◌, ◌<◌, ◌≤◌, List, ◌++◌, Some, None, length, take, drop, refl, sym, ap, ◌∙◌, arith, length-append}
+use Rattle.std.proofs.Common.{◌≡◌, ◌≢◌, ℕ, ◌+◌, ◌-◌, ◌<◌, ◌≤◌, List, ◌++◌, Some, None, Result, Ok, Err, IfErr, length, take, drop, refl, sym, ap, ◌∙◌, arith, length-append}
 use Rattle.std.proofs.lemmas.Bool.{le-leb, lt-leb}
 use Rattle.std.proofs.lemmas.List.{take_at, drop_at, take-append-drop, length-take-le}
 use Rattle.rusty_paseto_primitives.specs.Bytes.{IsBytes}
@@ -7,6 +7,11 @@ use Rattle.rusty_paseto_primitives.proofs.ByteLists.{IsBytes-take}
 use Rattle.rusty_paseto_core.specs.Local.SealedBox.{IsOpening}
 use Rattle.paseto_xchacha20poly1305.specs.Sealing.{box_sealing, xored_text, text_tag}
 use Rattle.paseto_xchacha20poly1305.specs.SealingLaws.{box_sealing-parts, IsBytes-xored_text, length-xored_text, length-text_tag, xored_text-twice}
+
+-- what holds anyway holds where there is an error
+pub where_err : {P T E : Type 0} (result : Result T E) → P → IfErr result (λ error. P)
+where_err (Ok value) p = tt
+where_err (Err error) p = p
 
 module _ (key nonce associated : List ℕ) where
   -- a message that is not too long

@@ -1,6 +1,7 @@
 //! XChaCha20-Poly1305 as the sealed box of version 2 (draft-irtf-cfrg-xchacha, section 2; RFC 8439, section 2.8).
 
-ghost use Rattle.std.specs.Prelude.{◌≡◌, ◌++◌, ◌-◌, ◌%◌, ℕ, List, length, replicate};
+ghost use Rattle.std.specs.Prelude.{◌≡◌, ◌++◌, ◌-◌, ◌%◌, ℕ, List, IfErr, IfOk, Some, length, option_map, replicate};
+ghost use Rattle.rusty_paseto_core.specs.Local.SealedBox.{IsOpening};
 ghost use Rattle.paseto_xchacha20poly1305.specs.Hasher.{Holds};
 ghost use Rattle.paseto_xchacha20poly1305.specs.Sealing.{box_sealing, xored_text, one_time_key, text_tag};
 ghost use Rattle.paseto_xchacha20poly1305.specs.SealingLaws.{box-IsLawful};
@@ -65,7 +66,8 @@ impl SealedBox for XChaCha20Poly1305 {
         Ok(Some(boxed))
     }
 
-    /// The message, or `None` where the last 16 bytes are not the tag of what stands before them.
+    /// The message, or `None` where the last 16 bytes are not the tag of what stands before them. Memory is asked for
+    /// only behind the right tag.
     fn open(
         &self,
         alloc: Global,
@@ -73,7 +75,13 @@ impl SealedBox for XChaCha20Poly1305 {
         nonce: &[u8; 24],
         data: &[u8],
         boxed: &[u8],
-    ) -> Result<Option<Vec<u8>>, AllocError> {
+    ) -> Result<Option<Vec<u8>>, AllocError>
+        ensures ok { IfOk result (λ found.
+            IsOpening (box_sealing key.now nonce.now «data».now) boxed.now
+            (option_map (λ bytes. bytes.items) found)) }
+        ensures err { IfErr result (λ error. (message : List ℕ)
+            × IsOpening (box_sealing key.now nonce.now «data».now) boxed.now (Some message)) }
+    {
         if boxed.len() < TAG_LENGTH || boxed.len() > LONGEST_MESSAGE + TAG_LENGTH {
             return Ok(None);
         }

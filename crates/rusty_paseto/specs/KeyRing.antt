@@ -2,10 +2,11 @@
 use Rattle.std.specs.Prelude.{◌≡◌, ◌⊎◌, ⊤, ℕ, List, if◌then◌else◌, Option, Some, None, bytes_eq, codes, IsSome, Result, Ok, Err, IfOk, IfErr, MatchResult, String, string_bytes}
 use Rattle.std.specs.Global.{Global}
 use Rattle.std.specs.List.{slice_get}
-use Rattle.serde_json.specs.Data.{Data, string}
+use Rattle.serde_json.specs.Data.{Data, member, no_members, object, string}
 use Rattle.serde_json.specs.Find.{as_object, get}
 use Rattle.serde_json.specs.Read.{read}
 use Rattle.serde_json.specs.View.{view}
+use Rattle.serde_json.specs.Written.{compact_text}
 use Rattle.serde_json.specs.declared.value.Value.{Value}
 use Rattle.rusty_paseto_core.specs.Reading.{IsFault, IsRead, Reading}
 use Rattle.rusty_paseto_parts.specs.Footer.{footer_text}
@@ -58,6 +59,10 @@ pub record IsObject (footer : List ℕ) (value : Data) : Type 0 where
 -- the object has the text under `kid`
 abbrev pub HasId : Data → List ℕ → Type 0
 HasId value id = get (codes "kid") value ≡ Some (string id)
+
+-- the footer that names a key: the compact JSON of an object with the id under `kid`
+abbrev pub kid_footer : List ℕ → List ℕ
+kid_footer id = compact_text (object (member (codes "kid") (string id) no_members))
 
 -- the footer names the id
 pub record Names (footer id : List ℕ) : Type 0 where

@@ -5,8 +5,10 @@ use Rattle.std.specs.Global.{Global}
 use Rattle.jiff.specs.Types.{Timestamp}
 use Rattle.serde_json.specs.Data.{Members, no_members, member, string}
 use Rattle.serde_json.specs.Find.{get_member}
-use Rattle.rusty_paseto.specs.Moment.{IsMomentText, hour_later}
-use Rattle.rusty_paseto_generic.specs.Error.{IsMemory}
+use Rattle.rusty_paseto_claims.specs.Error.{malformed_date}
+use Rattle.rusty_paseto_claims.specs.Moment.{IsMomentText}
+use Rattle.rusty_paseto.specs.Moment.{FitsDefault, hour_later}
+use Rattle.rusty_paseto_generic.specs.Error.{IsClaimFault, IsMemory}
 use Rattle.rusty_paseto_generic.specs.declared.error.GenericBuilderError.{GenericBuilderError}
 use Rattle.rusty_paseto_generic.specs.declared.error.GenericBuilderError.TheVariants.{DuplicateTopLevelPayloadClaim}
 
@@ -68,3 +70,10 @@ IsDuplicate repeated _ = ⊥
 pub record IsRefusedRepeat (repeated : Option (List ℕ)) (result : Result (String Global) GenericBuilderError) : Type 0 where
   pub ok : OnOk result (repeated ≡ None)
   pub err : IsSome repeated → IfErr result (λ error. IsMemory error ⊎ IsDuplicate repeated error)
+
+-- the error says that no default builder begins at the moment, and has its text
+pub record IsUnfitMoment (now : Timestamp) (error : GenericBuilderError) : Type 0 where
+  pub fits_not : ¬ FitsDefault now
+  pub text : List ℕ
+  pub is_text : IsMomentText now.nanosecond text
+  pub fault : IsClaimFault (malformed_date text) error

@@ -23,6 +23,8 @@ mod naming;
 mod opened;
 mod public;
 
+pub use naming::key_footer;
+
 /// The keys of local tokens of a version by their ids: a [`Ring`] that opens them.
 ///
 /// ```rust
@@ -72,7 +74,7 @@ pub type KeyRing<V> = Ring<PasetoSymmetricKey<V, Local>>;
 pub type PublicKeyRing<'a, V> = Ring<PasetoAsymmetricPublicKey<'a, V, Public>>;
 
 /// Keys by their ids, of which a token's footer names the one that opens it: the footer is the JSON of an object
-/// with the id as the text under `kid`.
+/// with the id as the text under `kid`, as `key_footer` makes it.
 ///
 /// `open` and `verify` check no claim: they answer the text of a token that has expired, too. `parse` answers the
 /// claims where they pass a parser's checks.

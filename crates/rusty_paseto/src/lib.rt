@@ -2,7 +2,7 @@
 //! over the generic ones and the core.
 //!
 //! ```rust
-//! use anyhow::{Result, ensure};
+//! use anyhow::Result;
 //! use jiff::Timestamp;
 //! use rand_core::TryRng;
 //! use rusty_paseto::prelude::*;
@@ -17,8 +17,7 @@
 //!     rng: &mut R,
 //!     key: &PasetoSymmetricKey<V4, Local>,
 //! ) -> Result<Value> {
-//!     ensure!(fits_default(now), "the clock is past the year 9999");
-//!     let token = PasetoBuilder::<V4, Local>::default(alloc, now)?.build(rng, key)?;
+//!     let token = PasetoBuilder::<V4, Local>::try_default(alloc, now)?.build(rng, key)?;
 //!     Ok(PasetoParser::<V4, Local>::default(alloc, later)?.parse(token.as_str(), key)?)
 //! }
 //! ```
@@ -42,7 +41,7 @@ pub mod validators;
 mod version;
 
 pub use error::{GeneralPasetoError, KeyRingError, KeyRingParserError};
-pub use key_ring::{KeyRing, PublicKeyRing, Ring};
+pub use key_ring::{KeyRing, PublicKeyRing, Ring, key_footer};
 pub use moment::fits_default;
 pub use paseto_builder::PasetoBuilder;
 pub use paseto_parser::{DefaultParser, PasetoParser};

@@ -12,19 +12,22 @@ ghost use Rattle.rusty_paseto_generic.specs.Builders.Held.{held};
 ghost use Rattle.rusty_paseto_generic.specs.Builders.GenericBuilder.{IsBoxAnswer, IsSealed, IsSignAnswer};
 ghost use Rattle.rusty_paseto.specs.Held.{counting};
 ghost use Rattle.rusty_paseto.specs.Moment.{FitsDefault};
-ghost use Rattle.rusty_paseto.specs.PasetoBuilder.{IsDefaultClaims, IsDuplicate, IsRefusedRepeat, IsSame, NeverExpires, acknowledged, counted, expiration_key, nothing_counted};
+ghost use Rattle.rusty_paseto.specs.PasetoBuilder.{IsDefaultClaims, IsDuplicate, IsRefusedRepeat, IsSame, IsUnfitMoment, NeverExpires, acknowledged, counted, expiration_key, nothing_counted};
 
 use crate::keys::Keys;
-use crate::moment::{hour_after, text_of};
+use crate::moment::{fits_default, hour_after};
 use crate::setter::CountingSetter;
 use crate::version::DefaultLocalVersion;
 use jiff::Timestamp;
 use rand_core::TryRng;
+use rusty_paseto_claims::moment_text;
 use rusty_paseto_core::{
     Footer, ImplicitAssertion, ImplicitAssertionCapable, Local, PasetoAsymmetricPrivateKey,
     PasetoSymmetricKey, Public, PublicVersion, PurposeTrait, SealedBox, Signs, V2, VersionTrait,
 };
-use rusty_paseto_generic::{ClaimSetter, GenericBuilder, GenericBuilderError, PasetoClaim};
+use rusty_paseto_generic::{
+    ClaimSetter, GenericBuilder, GenericBuilderError, PasetoClaim, PasetoClaimError,
+};
 use serde_json::{Map, Value};
 use std::alloc::{AllocError, Global};
 
@@ -41,7 +44,7 @@ const EXPIRATION: &str = "exp";
 /// number of tokens.
 ///
 /// ```rust
-/// use anyhow::{Result, ensure};
+/// use anyhow::Result;
 /// use jiff::Timestamp;
 /// use rand_core::TryRng;
 /// use rusty_paseto::prelude::*;
@@ -54,8 +57,7 @@ const EXPIRATION: &str = "exp";
 ///     rng: &mut R,
 ///     key: &PasetoSymmetricKey<V4, Local>,
 /// ) -> Result<String> {
-///     ensure!(fits_default(now), "the clock is past the year 9999");
-///     let mut builder = PasetoBuilder::<V4, Local>::default(alloc, now)?;
+///     let mut builder = PasetoBuilder::<V4, Local>::try_default(alloc, now)?;
 ///     builder
 ///         .set_claim(&AudienceClaim::from("customers"))?
 ///         .set_footer(Footer::from("{\"kid\":\"2026-11\"}"));
@@ -74,8 +76,8 @@ impl<'a, V: VersionTrait, P: PurposeTrait> PasetoBuilder<'a, V, P> {
     /// no footer and no implicit assertion. None of the keys is counted yet. All memory is asked of the
     /// allocator, and nothing but memory is refused.
     ///
-    /// The moment is one that `fits_default`. Moments are written in UTC, with the fraction of the second
-    /// where there is one, up to its last digit that is not zero.
+    /// The moment is one that `fits_default`; `try_default` refuses any other. Moments are written in UTC, with the
+    /// fraction of the second where there is one, up to its last digit that is not zero.
     pub fn default(alloc: Global, now: Timestamp) -> Result<Self, GenericBuilderError>
         requires { FitsDefault now }
         ensures claims { IfOk result (λ made. IsDefaultClaims now (held made.builder.claims)) }
@@ -92,6 +94,26 @@ impl<'a, V: VersionTrait, P: PurposeTrait> PasetoBuilder<'a, V, P> {
             builder,
             keys: Keys::new(alloc),
         })
+    }
+
+    /// The builder that `default` makes, where the moment is one that `fits_default`: the moment, and the one an hour
+    /// later, are in the years 0 to 9999 of UTC.
+    ///
+    /// For any other moment it answers `ClaimError` of `RFC3339Date`, with the moment's text.
+    pub fn try_default(alloc: Global, now: Timestamp) -> Result<Self, GenericBuilderError>
+        ensures fits { OnOk result (FitsDefault now) }
+        ensures claims { IfOk result (λ made. IsDefaultClaims now (held made.builder.claims)) }
+        ensures keys { IfOk result (λ made. IsSame nothing_counted (counting made.keys)) }
+        ensures footer { IfOk result (λ made. made.builder.paseto.footer ≡ None) }
+        ensures implicit_assertion { IfOk result
+            (λ made. made.builder.paseto.implicit_assertion ≡ None) }
+        ensures err { IfErr result (λ error. IsMemory error ⊎ IsUnfitMoment now error) }
+    {
+        if !fits_default(now) {
+            let source = PasetoClaimError::RFC3339Date(moment_text(alloc, now)?);
+            return Err(GenericBuilderError::ClaimError { source });
+        }
+        PasetoBuilder::default(alloc, now)
     }
 
     // The same for a key that was not counted. It is counted first, which takes memory, and taken out again
@@ -294,9 +316,9 @@ fn default_claims(alloc: Global, now: Timestamp) -> Result<Map<String, Value>, A
     ensures { IfOk result (λ claims. IsDefaultClaims now (members_view claims.entries)) }
 {
     let mut claims = Map::new(alloc);
-    let expiration = text_of(alloc, hour_after(now))?;
+    let expiration = moment_text(alloc, hour_after(now))?;
     put_text(&mut claims, alloc, EXPIRATION, expiration)?;
-    let begin = text_of(alloc, now)?;
+    let begin = moment_text(alloc, now)?;
     put_text(&mut claims, alloc, "iat", begin.clone()?)?;
     put_text(&mut claims, alloc, "nbf", begin)?;
     Ok(claims)

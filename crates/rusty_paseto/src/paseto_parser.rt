@@ -29,12 +29,12 @@ use std::collections::BTreeMap;
 ///
 /// The moment of both is the one that the parser was made with, or that `set_now` brought since. `set_leeway` allows
 /// for clocks that differ. A token without `exp` never expires: `require_claim("exp")` demands it. A claim that is to
-/// be checked beyond that comes with `check_claim`, or with `validate_claim` and one of the crate's
+/// be checked beyond that comes with `check_claim`, or with `validate_key` and one of the crate's
 /// [`validators`](crate::validators), or the caller's own.
 ///
-/// A call that refuses leaves the parser as it was. `check_claim`, `validate_claim` and `require_claim` lend the parser
-/// back, for chains of calls; `put_check`, `put_validator` and `put_required` are the same edits for code that goes on
-/// after a refusal.
+/// A call that refuses leaves the parser as it was. `check_claim`, `validate_key` and `require_claim` lend the parser
+/// back, for chains of calls; `put_check`, `put_key_validator` and `put_required` are the same edits for code that goes
+/// on after a refusal.
 ///
 /// ```rust
 /// use jiff::Timestamp;
@@ -165,6 +165,10 @@ impl<'a, V: VersionTrait, P: PurposeTrait, B: Drop> CheckSetter<B> for DefaultPa
         ensures fault { IfErr result IsMemory }
     {
         self.parser.put_validators(validators)
+    }
+
+    fn put_key_validator(&mut self, key: &str, validator: B) -> Result<(), GenericParserError> {
+        self.parser.put_key_validator(key, validator)
     }
 
     fn put_required(&mut self, key: &str) -> Result<(), GenericParserError> {

@@ -3,7 +3,7 @@
 pub use crate::{
     CountingSetter, DefaultAssertionVersion, DefaultLocalVersion, DefaultParser,
     GeneralPasetoError, KeyRing, KeyRingError, KeyRingParserError, PasetoBuilder, PasetoParser,
-    PublicKeyRing, Ring, fits_default,
+    PublicKeyRing, Ring, fits_default, key_footer,
 };
 pub use rusty_paseto_generic::{
     AssertionVersion, Audience, AudienceClaim, CheckSetter, ClaimSetter, ClaimValue, CompressedKey,
@@ -16,5 +16,6 @@ pub use rusty_paseto_generic::{
     PublicVersion, PurposeTrait, ReservedKey, SealedBox, SignatureScheme, Signs, Subject,
     SubjectClaim, TagCollision, TextClaim, TokenIdentifier, TokenIdentifierClaim, TokenParser,
     UntrustedToken, V1, V1orV3, V2, V2orV4, V3, V4, Validator, ValidatorFn, ValidatorMap, Verifies,
-    VersionTrait, from_section, is_whole, odd_key, same_value, split_token, to_section,
+    VersionTrait, from_section, has_short_year, is_whole, moment_text, odd_key, same_value,
+    split_token, to_section,
 };

@@ -1,6 +1,6 @@
 //! Validators that stand ready, for what services ask of a claim.
 //!
-//! Each is handed in boxed, with the claim whose key it checks:
+//! Each is handed in boxed, with the key that it checks:
 //!
 //! ```rust
 //! use anyhow::Result;
@@ -10,15 +10,14 @@
 //!
 //! /// Makes a parser refuse a token of more than eight seats.
 //! pub fn limit_seats(alloc: Global, parser: &mut GenericParser<'_, V4, Local>) -> Result<()> {
-//!     let seats = CustomClaim::try_from_str(alloc, "seats", 0u64)?;
-//!     parser.put_validator(&seats, Box::new(alloc, AtMost(8))?)?;
+//!     parser.validate_key("seats", Box::new(alloc, AtMost(8))?)?;
 //!     Ok(())
 //! }
 //! ```
 //!
-//! The value of that claim is not compared: where a key has a validator, it checks alone. A value that is not there, or
-//! null, is `Missing` with the key; one of another kind than the validator is for is `Unexpected`; one that may not
-//! stand there is `CustomValidation`.
+//! Where a key has a validator, it checks alone: a claim that is stored under the key is not compared. A value that is
+//! not there, or null, is `Missing` with the key; one of another kind than the validator is for is `Unexpected`; one that
+//! may not stand there is `CustomValidation`.
 //!
 //! A validator of one's own is a type with its meaning beside it:
 //!

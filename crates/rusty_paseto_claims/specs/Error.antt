@@ -1,5 +1,5 @@
 -- What an error of claims says.
-use Rattle.std.specs.Prelude.{◌≡◌, ℕ, List, Option, Some, None, string_bytes}
+use Rattle.std.specs.Prelude.{◌≡◌, ℕ, List, ◌++◌, Option, Some, None, codes, string_bytes}
 use Rattle.rusty_paseto_claims.specs.declared.error.PasetoClaimError.{PasetoClaimError}
 use Rattle.rusty_paseto_claims.specs.declared.error.PasetoClaimError.TheVariants.{Expired, UseBeforeAvailable, RFC3339Date, Missing, Unexpected, CustomValidation, Invalid, Reserved, DuplicateTopLevelPayloadClaim, Memory}
 
@@ -35,3 +35,22 @@ IsMemory error = fault_of error ≡ None
 -- the error names this fault
 abbrev pub IsFault : Fault → PasetoClaimError → Type 0
 IsFault fault error = fault_of error ≡ Some fault
+
+-- what each error says. That of another text names the text that was found as the expected one, as the Rust crate does
+abbrev pub error_text : PasetoClaimError → List ℕ
+error_text Expired = codes "This token is expired"
+error_text (UseBeforeAvailable date) = codes "The token cannot be used before " ++ string_bytes date
+error_text (RFC3339Date text) = codes "The value " ++ (string_bytes text ++ codes " is a malformed RFC3339 date")
+error_text (Missing key) = codes "The expected claim '" ++ (string_bytes key ++ codes "' was not found in the payload")
+error_text (Unexpected key) = codes "Could not convert claim '" ++ (string_bytes key ++ codes "' to the expected data type")
+error_text (CustomValidation key) = codes "The claim '" ++ (string_bytes key ++ codes "' failed custom validation")
+error_text (Invalid key found wanted) =
+    codes "The claim '" ++ (string_bytes key
+    ++ (codes "' failed validation.  Expected '" ++ (string_bytes found
+    ++ (codes "' but received '" ++ (string_bytes wanted ++ codes "'")))))
+error_text (Reserved key) =
+    codes "The key " ++ (string_bytes key
+    ++ codes " is a reserved for use within PASETO.  To set a reserved claim, use the strong type: e.g - ExpirationClaimClaim")
+error_text (DuplicateTopLevelPayloadClaim key) =
+    codes "The claim '" ++ (string_bytes key ++ codes "' appears more than once in the top level payload json")
+error_text (Memory _) = codes "No memory was found"

@@ -3,6 +3,7 @@ pub mod Claim
 pub mod Reserved
 pub mod TextClaim
 pub mod Whole
+pub mod Moment
 pub mod DateClaim
 pub mod CustomClaim
 pub mod Same

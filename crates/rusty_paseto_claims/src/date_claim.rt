@@ -1,13 +1,16 @@
 //! The three claims that are a date and time.
 
-ghost use Rattle.std.specs.Prelude.{◌≡◌, ◌↔◌, ℕ, List, codes, string_bytes, IsTrue, IfOk, IfErr};
+ghost use Rattle.std.specs.Prelude.{◌≡◌, ◌↔◌, ◌⊎◌, ℕ, List, Ok, codes, string_bytes, IsTrue, IfOk, IfErr, OnOk};
+ghost use Rattle.jiff.specs.Words.{parse_timestamp};
 ghost use Rattle.serde_json.specs.Data.{string};
 ghost use Rattle.rusty_paseto_claims.specs.Claim.{gives, one_member};
-ghost use Rattle.rusty_paseto_claims.specs.DateClaim.{IsDate, IsDateAtOnce, IsDateOf};
+ghost use Rattle.rusty_paseto_claims.specs.DateClaim.{IsDate, IsDateAtOnce, IsDateOf, IsUnfitMoment};
 ghost use Rattle.rusty_paseto_claims.specs.Error.{IsMemory};
+ghost use Rattle.rusty_paseto_claims.specs.Moment.{HasShortYear, IsMomentText};
 
 use crate::claim::{PasetoClaim, to_object};
 use crate::error::PasetoClaimError;
+use crate::moment::{has_short_year, moment_text};
 use crate::reserved::{Expiration, IssuedAt, NotBefore, ReservedKey};
 use jiff::Timestamp;
 use serde_json::Value;
@@ -58,6 +61,38 @@ impl<K: ReservedKey> DateClaim<K> {
         ensures { IsDateAtOnce (string_bytes text) result }
     {
         if !is_date(text.as_str()) {
+            return Err(PasetoClaimError::RFC3339Date(text));
+        }
+        Ok(DateClaim {
+            text,
+            key: PhantomData,
+        })
+    }
+
+    /// The claim of a moment, whose text is `moment_text`'s: `2026-11-25T12:00:00Z`. It is read as that moment again.
+    ///
+    /// `RFC3339Date` with the moment's text comes exactly where its year in UTC is before 0, memory aside.
+    ///
+    /// ```rust
+    /// use anyhow::Result;
+    /// use jiff::Timestamp;
+    /// use rusty_paseto::prelude::*;
+    /// use std::alloc::Global;
+    ///
+    /// /// When a session ends that begins now and lasts a day.
+    /// pub fn end_of_session(alloc: Global, now: Timestamp) -> Result<ExpirationClaim> {
+    ///     let end = Timestamp::from_second(now.as_second().saturating_add(86_400))?;
+    ///     Ok(ExpirationClaim::at(alloc, end)?)
+    /// }
+    /// ```
+    pub fn at(alloc: Global, moment: Timestamp) -> Result<Self, PasetoClaimError>
+        ensures text { IfOk result (IsMomentText moment.nanosecond) }
+        ensures read { IfOk result (λ claim. parse_timestamp claim ≡ Ok moment.nanosecond) }
+        ensures year { OnOk result (HasShortYear moment.nanosecond) }
+        ensures err { IfErr result (λ error. IsMemory error ⊎ IsUnfitMoment moment error) }
+    {
+        let text = moment_text(alloc, moment)?;
+        if !has_short_year(moment) {
             return Err(PasetoClaimError::RFC3339Date(text));
         }
         Ok(DateClaim {

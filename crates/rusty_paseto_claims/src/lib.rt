@@ -19,6 +19,7 @@ mod claim_value;
 mod custom_claim;
 mod date_claim;
 mod error;
+mod moment;
 mod reserved;
 mod same;
 mod text_claim;
@@ -29,6 +30,7 @@ pub use claim_value::ClaimValue;
 pub use custom_claim::CustomClaim;
 pub use date_claim::{DateClaim, ExpirationClaim, IssuedAtClaim, NotBeforeClaim};
 pub use error::PasetoClaimError;
+pub use moment::{has_short_year, moment_text};
 pub use reserved::{
     Audience, Expiration, IssuedAt, Issuer, NotBefore, ReservedKey, Subject, TokenIdentifier,
 };

@@ -1,15 +1,15 @@
 -- What is said of the errors of builders.
 pub mod Parser
-use Rattle.std.specs.Prelude.{◌≡◌, ⊤, ℕ, List, Option, Some, None, alloc_error}
+use Rattle.std.specs.Prelude.{◌≡◌, ⊤, ℕ, List, ◌++◌, Option, Some, None, alloc_error, codes, string_bytes}
 use Rattle.serde_json.specs.Errors.{IsMemory as IsMemoryOfJson}
 use Rattle.serde_json.specs.declared.error.Error.{Error}
-use Rattle.rusty_paseto_claims.specs.Error.{Fault, IsFault, unexpected}
+use Rattle.rusty_paseto_claims.specs.Error.{Fault, IsFault, unexpected, error_text as claim_text}
 use Rattle.rusty_paseto_claims.specs.declared.PasetoClaimError.{PasetoClaimError}
 use Rattle.rusty_paseto_claims.specs.declared.PasetoClaimError.TheVariants as Claim
 use Rattle.rusty_paseto_core.specs.declared.PasetoError.{PasetoError}
 use Rattle.rusty_paseto_core.specs.declared.PasetoError.TheVariants as Cipher
 use Rattle.rusty_paseto_generic.specs.declared.error.GenericBuilderError.{GenericBuilderError}
-use Rattle.rusty_paseto_generic.specs.declared.error.GenericBuilderError.TheVariants.{ClaimError, CipherError, PayloadJsonError, Memory}
+use Rattle.rusty_paseto_generic.specs.declared.error.GenericBuilderError.TheVariants.{ClaimError, BadEmailAddress, DuplicateTopLevelPayloadClaim, CipherError, PayloadJsonError, Memory}
 
 -- memory was refused
 abbrev pub IsMemory : GenericBuilderError → Type 0
@@ -52,3 +52,13 @@ IsOfGenerator Failure error = (error ≡ CipherError Cipher.Cipher) × Failure
 -- the sealed box has no sealing
 abbrev pub IsOfBox : GenericBuilderError → Type 0
 IsOfBox error = error ≡ CipherError Cipher.ChaChaCipherError
+
+-- what each error says
+abbrev pub error_text : GenericBuilderError → List ℕ
+error_text (ClaimError source) = claim_text source
+error_text (BadEmailAddress text) = string_bytes text ++ codes " is an invalid iso8601 (email) string"
+error_text (DuplicateTopLevelPayloadClaim key) =
+    codes "The claim '" ++ (string_bytes key ++ codes "' appears more than once in the top level payload json")
+error_text (CipherError _) = codes "A paseto cipher error occurred"
+error_text (PayloadJsonError _) = codes "The payload was unable to be serialized into json"
+error_text (Memory _) = codes "No memory was found"

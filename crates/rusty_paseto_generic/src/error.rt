@@ -1,8 +1,8 @@
 //! The errors of builders and of parsers.
 
-ghost use Rattle.std.specs.Prelude.{◌≡◌, option_map};
-ghost use Rattle.rusty_paseto_generic.specs.Error.{cause_of, of_cipher, of_claim, IsOfJson};
-ghost use Rattle.rusty_paseto_generic.specs.Error.Parser.{cause_of as parser_cause_of, of_cipher as parser_of_cipher, of_claim as parser_of_claim, IsOfJson as IsParserOfJson};
+ghost use Rattle.std.specs.Prelude.{◌≡◌, Some, option_map};
+ghost use Rattle.rusty_paseto_generic.specs.Error.{cause_of, error_text, of_cipher, of_claim, IsOfJson};
+ghost use Rattle.rusty_paseto_generic.specs.Error.Parser.{cause_of as parser_cause_of, error_text as parser_error_text, of_cipher as parser_of_cipher, of_claim as parser_of_claim, IsOfJson as IsParserOfJson};
 ghost use Rattle.rusty_paseto_generic.specs.declared.error.GenericBuilderError.TheVariants.{Memory};
 ghost use Rattle.rusty_paseto_generic.specs.declared.error.GenericParserError.TheVariants as Parser;
 
@@ -10,28 +10,23 @@ use crate::explained::Explained;
 use rusty_paseto_claims::PasetoClaimError;
 use rusty_paseto_core::PasetoError;
 use std::alloc::AllocError;
+use std::fmt;
 use thiserror::Error;
 
 /// Why a builder refused a claim, or made no token.
 #[derive(Debug, Drop, Error)]
 pub enum GenericBuilderError {
     /// A claim was refused. The message is the claim's own.
-    #[error("{source}")]
     ClaimError { source: PasetoClaimError },
     /// A text is no address. No call of this library answers it.
-    #[error("{0} is an invalid iso8601 (email) string")]
     BadEmailAddress(String),
     /// A key was set more than once.
-    #[error("The claim '{0}' appears more than once in the top level payload json")]
     DuplicateTopLevelPayloadClaim(String),
     /// The token was not sealed or signed, or the generator of random bytes failed.
-    #[error("A paseto cipher error occurred")]
     CipherError { source: PasetoError },
     /// The claims could not be written as JSON. No call of this library answers it.
-    #[error("The payload was unable to be serialized into json")]
     PayloadJsonError { source: serde_json::Error },
     /// Memory was refused.
-    #[error("No memory was found")]
     Memory(AllocError),
 }
 
@@ -52,6 +47,33 @@ impl GenericBuilderError {
         ensures cause { option_map (λ cause. cause.now) result.cause ≡ cause_of self.now }
     {
         Explained::new(self, self.cause())
+    }
+}
+
+impl fmt::Display for GenericBuilderError {
+    ghost output = { λ error. Some (error_text error) };
+
+    fn fmt<W: fmt::Write>(&self, f: &mut fmt::Formatter<W>) -> fmt::Result {
+        match self {
+            GenericBuilderError::ClaimError { source } => write!(f, "{source}"),
+            GenericBuilderError::BadEmailAddress(text) => write!(
+                f,
+                "{text} is an invalid iso8601 (email) string"
+            ),
+            GenericBuilderError::DuplicateTopLevelPayloadClaim(key) => {
+                write!(
+                    f,
+                    "The claim '{key}' appears more than once in the top level payload json"
+                )
+            }
+            GenericBuilderError::CipherError { .. } => f.write_str(
+                "A paseto cipher error occurred",
+            ),
+            GenericBuilderError::PayloadJsonError { .. } => {
+                f.write_str("The payload was unable to be serialized into json")
+            }
+            GenericBuilderError::Memory(_) => f.write_str("No memory was found"),
+        }
     }
 }
 
@@ -103,16 +125,12 @@ impl From<serde_json::Error> for GenericBuilderError {
 #[derive(Debug, Drop, Error)]
 pub enum GenericParserError {
     /// A claim was refused, or did not pass a check. The message is the claim's own.
-    #[error("{source}")]
     ClaimError { source: PasetoClaimError },
     /// The token was not opened or verified.
-    #[error("A paseto cipher error occurred")]
     CipherError { source: PasetoError },
     /// The payload was not read as JSON.
-    #[error("The payload was unable to be serialized into json")]
     PayloadJsonError { source: serde_json::Error },
     /// Memory was refused.
-    #[error("No memory was found")]
     Memory(AllocError),
 }
 
@@ -143,6 +161,21 @@ impl GenericParserError {
         ensures cause { option_map (λ cause. cause.now) result.cause ≡ parser_cause_of self.now }
     {
         Explained::new(self, self.cause())
+    }
+}
+
+impl fmt::Display for GenericParserError {
+    ghost output = { λ error. Some (parser_error_text error) };
+
+    fn fmt<W: fmt::Write>(&self, f: &mut fmt::Formatter<W>) -> fmt::Result {
+        match self {
+            GenericParserError::ClaimError { source } => write!(f, "{source}"),
+            GenericParserError::CipherError { .. } => f.write_str("A paseto cipher error occurred"),
+            GenericParserError::PayloadJsonError { .. } => {
+                f.write_str("The payload was unable to be serialized into json")
+            }
+            GenericParserError::Memory(_) => f.write_str("No memory was found"),
+        }
     }
 }
 

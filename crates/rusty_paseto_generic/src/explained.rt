@@ -1,6 +1,7 @@
 //! An error beside what caused it.
 
-ghost use Rattle.std.specs.Prelude.{◌≡◌};
+ghost use Rattle.std.specs.Prelude.{◌≡◌, option_map};
+ghost use Rattle.rusty_paseto_generic.specs.Explained.{explained_text};
 
 use rusty_paseto_core::PasetoError;
 use std::fmt;
@@ -23,6 +24,8 @@ impl<'a, E> Explained<'a, E> {
 }
 
 impl<E: fmt::Display> fmt::Display for Explained<'_, E> {
+    ghost output = { λ shown. explained_text (E.output shown.error.now) (option_map (λ cause. cause.now) shown.cause) };
+
     fn fmt<W: fmt::Write>(&self, f: &mut fmt::Formatter<W>) -> fmt::Result {
         match self.cause {
             Some(cause) => write!(f, "{}: {}", self.error, cause),

@@ -46,7 +46,7 @@ pub use rusty_paseto_claims::{
     Audience, AudienceClaim, ClaimValue, CustomClaim, DateClaim, Expiration, ExpirationClaim,
     IssuedAt, IssuedAtClaim, Issuer, IssuerClaim, NotBefore, NotBeforeClaim, PasetoClaim,
     PasetoClaimError, ReservedKey, Subject, SubjectClaim, TextClaim, TokenIdentifier,
-    TokenIdentifierClaim, is_whole, odd_key, same_value,
+    TokenIdentifierClaim, has_short_year, is_whole, moment_text, odd_key, same_value,
 };
 pub use rusty_paseto_core::{
     AssertionVersion, CompressedKey, Footer, Header, ImplicitAssertion, ImplicitAssertionCapable,

@@ -2,6 +2,7 @@
 
 use crate::claims::json;
 use crate::expect::{expect_text, expect_that};
+use jiff::Timestamp;
 use rusty_paseto_claims::{ExpirationClaim, IssuedAtClaim, NotBeforeClaim, PasetoClaimError};
 
 #[test]
@@ -24,6 +25,27 @@ fn kept_as_given(rt: HostRuntime) {
         expect_text(&rt, key, "nbf");
         expect_text(&rt, kept, text);
     }
+}
+
+// The texts are those of GNU date, `date --utc --iso-8601=seconds`, with the fraction behind them.
+#[test]
+fn of_moments(rt: HostRuntime) {
+    let alloc = rt.alloc();
+    'rows: for (nanosecond, text) in [
+        (0, "1970-01-01T00:00:00Z"),
+        (1_795_608_000_000_000_000, "2026-11-25T12:00:00Z"),
+        (482_196_050_520_000_000, "1985-04-12T23:20:50.52Z"),
+        (-1, "1969-12-31T23:59:59.999999999Z"),
+        (-62_167_219_200_000_000_000, "0000-01-01T00:00:00Z"),
+    ] {
+        let moment = Timestamp::from_nanosecond(nanosecond).expect(&rt, "a moment");
+        let claim = IssuedAtClaim::at(alloc, moment).expect(&rt, "a claim");
+        expect_text(&rt, claim.as_pair().1, text);
+    }
+    let moment = Timestamp::from_nanosecond(-62_167_219_200_000_000_001).expect(&rt, "a moment");
+    let answer = NotBeforeClaim::at(alloc, moment).map(drop);
+    let text = "-000001-12-31T23:59:59.999999999Z";
+    expect_that(&rt, is_no_date(answer, text), &text);
 }
 
 /// Whether no instant was read of the text.

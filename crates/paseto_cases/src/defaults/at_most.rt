@@ -7,7 +7,6 @@ use std::alloc::Global;
 
 /// Makes a parser refuse a token of more than eight seats.
 pub fn limit_seats(alloc: Global, parser: &mut GenericParser<'_, V4, Local>) -> Result<()> {
-    let seats = CustomClaim::try_from_str(alloc, "seats", 0u64)?;
-    parser.put_validator(&seats, Box::new(alloc, AtMost(8))?)?;
+    parser.validate_key("seats", Box::new(alloc, AtMost(8))?)?;
     Ok(())
 }

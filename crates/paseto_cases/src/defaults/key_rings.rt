@@ -4,7 +4,7 @@ use crate::expect::{expect_refusal, expect_text, expect_that};
 use crate::kinds::{Binding, Kind, SECRET, symmetric_key};
 use rusty_paseto::prelude::{
     DefaultAssertionVersion, DefaultLocalVersion, KeyRing, KeyRingError, PasetoError, Ring, V1, V3,
-    V4,
+    V4, key_footer,
 };
 use std::alloc::Global;
 use std::process::Abort;
@@ -208,5 +208,27 @@ fn an_assertion_that_is_not_passed(rt: HostRuntime) {
             ..question
         };
         check_opened(&rt, kind, ask(&rt, rt.alloc(), kind, asserted), "k1");
+    }
+}
+
+// The texts are those of Python's `json.dumps`, with no space and with letters beyond ASCII as they are. A ring finds
+// the key under each.
+#[test]
+fn footers_that_name_a_key(rt: HostRuntime) {
+    let alloc = rt.alloc();
+    'ids: for (id, expected) in [
+        ("2026-11", "{\"kid\":\"2026-11\"}"),
+        ("", "{\"kid\":\"\"}"),
+        ("a\"b", "{\"kid\":\"a\\\"b\"}"),
+        ("a\\b", "{\"kid\":\"a\\\\b\"}"),
+        ("a\nb", "{\"kid\":\"a\\nb\"}"),
+        ("Grüße 🔑", "{\"kid\":\"Grüße 🔑\"}"),
+        ("\u{1}", "{\"kid\":\"\\u0001\"}"),
+    ] {
+        let footer = key_footer(alloc, id).expect(&rt, "a footer");
+        expect_text(&rt, footer.as_str(), expected);
+        let mut ring = KeyRing::<V4>::new(alloc);
+        ring.add(id, symmetric_key(&SECRET)).expect(&rt, "room");
+        expect_that(&rt, ring.key_of(footer.as_str()).is_ok(), &id);
     }
 }

@@ -7,7 +7,7 @@ use crate::defaults::rows::NONE;
 use crate::expect::{expect_text, expect_that};
 use crate::kinds::{Binding, Kind};
 use jiff::Timestamp;
-use rusty_paseto::prelude::fits_default;
+use rusty_paseto::prelude::{Local, PasetoBuilder, V4, fits_default};
 use serde_json::Value;
 use std::alloc::Global;
 use std::process::Abort;
@@ -37,6 +37,39 @@ fn moments_that_fit(rt: HostRuntime) {
         (Timestamp::MIN, false),
     ] {
         expect_that(&rt, fits_default(moment) == fits, &moment);
+    }
+}
+
+// The text of the refusal of `try_default` at a moment, or none where it makes a builder.
+fn refusal_at(rt: &impl Abort, alloc: Global, now: Timestamp) -> String {
+    match PasetoBuilder::<V4, Local>::try_default(alloc, now) {
+        Ok(_) => String::new(alloc),
+        Err(error) => format!(in alloc; "{error}").expect(rt, "memory"),
+    }
+}
+
+#[test]
+fn moments_that_are_refused(rt: HostRuntime) {
+    let first = Timestamp::from_second(FIRST_SECOND).expect(&rt, "a moment");
+    let last = later(&rt, Timestamp::MAX, -HOUR);
+    'rows: for (moment, expected) in [
+        (first, ""),
+        (
+            later(&rt, first, -1),
+            "The value -000001-12-31T23:59:59.999999999Z is a malformed RFC3339 date",
+        ),
+        (last, ""),
+        (
+            later(&rt, last, 1),
+            "The value 9999-12-30T21:00:01Z is a malformed RFC3339 date",
+        ),
+        (
+            Timestamp::MIN,
+            "The value -009999-01-02T01:59:59Z is a malformed RFC3339 date",
+        ),
+    ] {
+        let refusal = refusal_at(&rt, rt.alloc(), moment);
+        expect_text(&rt, refusal.as_str(), expected);
     }
 }
 

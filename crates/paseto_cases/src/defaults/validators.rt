@@ -1,7 +1,7 @@
 //! The validators that stand ready.
 
 use crate::expect::{expect_shown, expect_text};
-use rusty_paseto::prelude::{CheckSetter, CustomClaim, GenericParser, Local, V4, ValidatorFn};
+use rusty_paseto::prelude::{CheckSetter, GenericParser, Local, V4, ValidatorFn};
 use rusty_paseto::validators::{
     AtLeast, AtMost, AtMostCharacters, BeginsWith, Holding, OneOf, Present, Within,
 };
@@ -13,9 +13,8 @@ type Parser<'a> = GenericParser<'a, V4, Local>;
 // What a parser answers for a text as `a`, which the validator checks.
 fn check_rows(rt: &impl Abort, alloc: Global, validator: ValidatorFn, rows: &[(&str, &str)]) {
     let mut parser = Parser::new(alloc);
-    let claim = CustomClaim::try_from_str(alloc, "a", 0u64).expect(rt, "a claim");
     parser
-        .put_validator(&claim, validator)
+        .put_key_validator("a", validator)
         .expect(rt, "a validator");
     'rows: for &(value, expected) in rows {
         check_value(rt, alloc, &parser, value, expected);

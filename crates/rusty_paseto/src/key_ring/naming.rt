@@ -4,13 +4,46 @@ ghost use Rattle.std.specs.Prelude.{◌≡◌, ◌⊎◌, ℕ, List, Some, Err, 
 ghost use Rattle.serde_json.specs.View.{view};
 ghost use Rattle.rusty_paseto_parts.specs.Section.{HasCount, sections};
 ghost use Rattle.rusty_paseto_parts.specs.declared.error.PasetoError.TheVariants.{IncorrectSize};
-ghost use Rattle.rusty_paseto.specs.KeyRing.{HasFooter, IsHandedOn, IsMemory, IsNamingFault, IsObject, IsUntrustedFault, Names};
+ghost use Rattle.rusty_paseto.specs.KeyRing.{HasFooter, IsHandedOn, IsMemory, IsNamingFault, IsObject, IsUntrustedFault, Names, kid_footer};
 ghost use Rattle.rusty_paseto.specs.declared.error.KeyRingError.TheVariants.{NotAnObject, Untrusted};
 
 use crate::error::KeyRingError;
 use rusty_paseto_core::{Footer, PasetoError};
-use serde_json::Value;
+use serde_json::{Map, Value};
 use std::alloc::{AllocError, Global};
+
+/// The footer that names a key, from which a ring finds it: the compact JSON of an object with the id under `kid`, as
+/// `{"kid":"2026-11"}`. The id may be any text: what JSON escapes is escaped. Nothing but memory is refused.
+///
+/// ```rust
+/// use anyhow::Result;
+/// use jiff::Timestamp;
+/// use rand_core::TryRng;
+/// use rusty_paseto::prelude::*;
+/// use std::alloc::Global;
+///
+/// /// A token under the key of this id, which a ring with the key opens.
+/// pub fn issue_under<R: TryRng>(
+///     alloc: Global,
+///     now: Timestamp,
+///     rng: &mut R,
+///     id: &str,
+///     key: &PasetoSymmetricKey<V4, Local>,
+/// ) -> Result<String> {
+///     let footer = key_footer(alloc, id)?;
+///     let mut builder = PasetoBuilder::<V4, Local>::try_default(alloc, now)?;
+///     builder.set_footer(Footer::from(footer.as_str()));
+///     Ok(builder.build(rng, key)?)
+/// }
+/// ```
+pub fn key_footer(alloc: Global, id: &str) -> Result<String, AllocError>
+    ensures text { IfOk result (λ footer. string_bytes footer ≡ kid_footer id.now) }
+    ensures names { IfOk result (λ footer. Names (string_bytes footer) id.now) }
+{
+    let mut members = Map::new(alloc);
+    serde_json::put(&mut members, alloc, "kid", Value::try_from_str(alloc, id)?)?;
+    Value::Object(members).to_string(alloc)
+}
 
 /// The text of the footer that stands in a token.
 pub(super) fn footer_of(alloc: Global, token: &str) -> Result<String, KeyRingError>

@@ -1,8 +1,8 @@
 -- What is said of the errors of parsers.
-use Rattle.std.specs.Prelude.{◌≡◌, ⊤, Option, Some, None, MatchOption, alloc_error}
+use Rattle.std.specs.Prelude.{◌≡◌, ⊤, ℕ, List, Option, Some, None, MatchOption, alloc_error, codes}
 use Rattle.serde_json.specs.Errors.{IsMemory as IsMemoryOfJson}
 use Rattle.serde_json.specs.declared.error.Error.{Error}
-use Rattle.rusty_paseto_claims.specs.Error.{Fault, fault_of}
+use Rattle.rusty_paseto_claims.specs.Error.{Fault, fault_of, error_text as claim_text}
 use Rattle.rusty_paseto_claims.specs.declared.PasetoClaimError.{PasetoClaimError}
 use Rattle.rusty_paseto_claims.specs.declared.PasetoClaimError.TheVariants as Claim
 use Rattle.rusty_paseto_core.specs.declared.PasetoError.{PasetoError}
@@ -40,3 +40,10 @@ of_cipher refusal = CipherError refusal
 pub record IsOfJson (source : Error) (error : GenericParserError) : Type 0 where
   pub memory : IsMemoryOfJson source → error ≡ Memory alloc_error
   pub other : ¬ IsMemoryOfJson source → error ≡ PayloadJsonError source
+
+-- what each error says
+abbrev pub error_text : GenericParserError → List ℕ
+error_text (ClaimError source) = claim_text source
+error_text (CipherError _) = codes "A paseto cipher error occurred"
+error_text (PayloadJsonError _) = codes "The payload was unable to be serialized into json"
+error_text (Memory _) = codes "No memory was found"

@@ -131,6 +131,18 @@ impl<B: Drop> Checks<B> {
         Ok(())
     }
 
+    /// Stores what is to check the key from now on, and keeps what is stored and required under it. Nothing but memory is
+    /// refused, and the checks are then unchanged.
+    pub(crate) fn store_checker(&mut self, key: &str, checker: B) -> Result<(), AllocError>
+        ensures ok { OnOk result (AreSame (rules_of self.new)
+            (edited key.now (with_checker (Checker.Boxed checker)) (rules_of self.old))) }
+        ensures err { OnErr result (AreSame (rules_of self.new) (rules_of self.old)) }
+    {
+        self.reserve(key)?;
+        self.set_checker(key, Checker::Boxed(checker));
+        Ok(())
+    }
+
     /// Stores `exp` and `nbf` with their claims by default, and what checks them by the moment from now on. A
     /// key that is there gets the new ones. Nothing but memory is refused, and the checks are then unchanged.
     pub(crate) fn check_times(&mut self) -> Result<(), GenericParserError>

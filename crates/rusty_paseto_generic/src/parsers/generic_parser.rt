@@ -37,15 +37,15 @@ use std::marker::PhantomData;
 /// implicit assertion, and the checks of single claims.
 ///
 /// A key is checked by a stored value, with `check_claim` or `extend_check_claims`, or by a validator of the
-/// caller's own, with `validate_claim` or `extend_validation_claims`. A key with a validator is checked by it
-/// alone. `check_times` brings the validators of `exp` and `nbf`, which check at the parser's moment, with a leeway
+/// caller's own, with `validate_key`, `validate_claim` or `extend_validation_claims`. A key with a validator is checked
+/// by it alone. `check_times` brings the validators of `exp` and `nbf`, which check at the parser's moment, with a leeway
 /// where `set_leeway` set one, and let a token without these claims pass: `require_claim` demands that a claim is
 /// there. The stored values have whole numbers of 64 bits alone.
 ///
-/// A call that refuses leaves the parser as it was. `check_claim`, `validate_claim`, `require_claim`,
+/// A call that refuses leaves the parser as it was. `check_claim`, `validate_claim`, `validate_key`, `require_claim`,
 /// `extend_check_claims`, `extend_validation_claims` and `check_times` lend the parser back, for chains of calls;
-/// `put_check`, `put_validator`, `put_required`, `put_checks`, `put_validators` and `put_times` are the same edits for
-/// code that goes on after a refusal.
+/// `put_check`, `put_validator`, `put_key_validator`, `put_required`, `put_checks`, `put_validators` and `put_times` are
+/// the same edits for code that goes on after a refusal.
 ///
 /// ```rust
 /// use rusty_paseto_generic::{
@@ -227,6 +227,10 @@ impl<'a, V: VersionTrait, P: PurposeTrait, B: Drop> CheckSetter<B> for TokenPars
         ensures fault { IfErr result IsMemory }
     {
         Ok(self.checks.store_validators(validators)?)
+    }
+
+    fn put_key_validator(&mut self, key: &str, validator: B) -> Result<(), GenericParserError> {
+        Ok(self.checks.store_checker(key, validator)?)
     }
 
     fn put_required(&mut self, key: &str) -> Result<(), GenericParserError> {

@@ -6,7 +6,7 @@ ghost use Rattle.serde_json.specs.View.{members_view};
 ghost use Rattle.rusty_paseto_claims.specs.Whole.{first_odd};
 ghost use Rattle.rusty_paseto_generic.specs.Error.Parser.{IsMemory, IsRefusal};
 ghost use Rattle.rusty_paseto_generic.specs.Parsers.Held.{checkers_of, with_times};
-ghost use Rattle.rusty_paseto_generic.specs.Parsers.Rules.{AreSame, IsStored, Rules, all_with_checkers, all_stored, edited, fault_in, odd_fault, whole_answer, with_both, with_required, with_stored};
+ghost use Rattle.rusty_paseto_generic.specs.Parsers.Rules.{AreSame, IsStored, Rules, all_with_checkers, all_stored, edited, fault_in, odd_fault, whole_answer, with_both, with_checker, with_required, with_stored};
 ghost use Rattle.rusty_paseto_generic.specs.declared.parsers.checks.Checker.{Checker as CheckerOf};
 ghost use Rattle.jiff.specs.declared.Timestamp.{Timestamp};
 
@@ -68,6 +68,15 @@ pub trait CheckSetter<B> {
     fn put_validators(&mut self, validators: BTreeMap<String, B>) -> Result<(), GenericParserError>
         ensures ok { OnOk result (AreSame (rules self.new)
             (all_with_checkers (checkers_of validators.entries) (rules self.old))) }
+        ensures moment { moment self.new ≡ moment self.old }
+        ensures rest { is_rest self.new self.old }
+        ensures err { OnErr result (AreSame (rules self.new) (rules self.old)) }
+        ensures fault { IfErr result IsMemory };
+
+    /// Stores a validator under a key, with no claim.
+    fn put_key_validator(&mut self, key: &str, validator: B) -> Result<(), GenericParserError>
+        ensures ok { OnOk result (AreSame (rules self.new)
+            (edited key.now (with_checker (Checker.Boxed validator)) (rules self.old))) }
         ensures moment { moment self.new ≡ moment self.old }
         ensures rest { is_rest self.new self.old }
         ensures err { OnErr result (AreSame (rules self.new) (rules self.old)) }
@@ -185,6 +194,32 @@ pub trait CheckSetter<B> {
         ensures fault { IfErr result IsMemory }
     {
         self.put_validators(validators)?;
+        Ok(self.itself())
+    }
+
+    /// Makes a validator check the value under a key, with no claim, and lends the parser back, as `put_key_validator`
+    /// does not. From then on it checks alone: a claim that is stored under the key is kept, and is not compared any more.
+    /// Nothing but memory is refused.
+    final fn validate_key<O>(
+        &mut self,
+        key: &str,
+        validator: B,
+    ) -> Result<&mut O, GenericParserError>
+    where
+        Self: Itself<O>,
+        ensures* err { sem 𝓛 (LendsSoOk Self.row O.row self.entry result
+            (λ last lent. last ≡ Self.whole lent)
+            (λ last. AreSame (rules last) (rules self.entry.now)
+            × (moment last ≡ moment self.entry.now) × is_rest last self.entry.now)) }
+        ensures lent { IfOk result (λ lent. lent.ghost_name ≡ self.entry.ghost_name) }
+        ensures ok { IfOk result (λ lent. AreSame (rules (Self.whole lent.now))
+            (edited key.now (with_checker (Checker.Boxed validator)) (rules self.entry.now))) }
+        ensures moment { IfOk result (λ lent. moment (Self.whole lent.now)
+            ≡ moment self.entry.now) }
+        ensures rest { IfOk result (λ lent. is_rest (Self.whole lent.now) self.entry.now) }
+        ensures fault { IfErr result IsMemory }
+    {
+        self.put_key_validator(key, validator)?;
         Ok(self.itself())
     }
 

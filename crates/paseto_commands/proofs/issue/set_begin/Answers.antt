@@ -6,9 +6,9 @@ use Rattle.paseto_commands.proofs.issue.set_begin.Goals as goal
 
 pub returns-in-Ok-clause-set : goal.returns-in-Ok-clause-set
 returns-in-Ok-clause-set g c = rw c.in-Some.is
-    (time_set c.built.result c.put_claim.result (codes "nbf") c.in-Some.moment (string_bytes c.in_ok-text_of.field-0) c.in-Ok.claim
+    (time_set c.built.result c.put_claim.result (codes "nbf") c.in-Some.moment (string_bytes c.in_ok-moment_text.field-0) c.in-Ok.claim
     (held c.args.builder.now.builder.claims) (held c.put_claim.new.self.builder.claims)
-    c.built.ensures.value c.put_claim.ensures.ok c.in-Ok.ensures.kept c.in_ok-text_of.ensures)
+    c.built.ensures.value c.put_claim.ensures.ok c.in-Ok.ensures.kept c.in_ok-moment_text.ensures)
 
 pub returns-in-Ok-clause-never : goal.returns-in-Ok-clause-never
 returns-in-Ok-clause-never g c = rw c.in-Some.is
@@ -17,4 +17,4 @@ returns-in-Ok-clause-never g c = rw c.in-Some.is
 
 pub returns-in-Err-clause-never : goal.returns-in-Err-clause-never
 returns-in-Err-clause-never g c = rw c.in-Some.is
-    (inr (no_date (codes "nbf") c.in-Some.moment (string_bytes c.in_ok-text_of.field-0) c.in_ok-text_of.ensures c.in-Err.ensures.refused.1))
+    (inr (no_date (codes "nbf") c.in-Some.moment (string_bytes c.in_ok-moment_text.field-0) c.in_ok-moment_text.ensures c.in-Err.ensures.refused.1))

@@ -1,11 +1,8 @@
-use Rattle.std.proofs.Common.{codes, string_bytes, sym, ap, subst}
+use Rattle.std.proofs.Common.{codes, string_bytes, ap, subst}
 use Rattle.serde_json.specs.Data.{no_members, member, string}
 use Rattle.rusty_paseto.specs.PasetoBuilder.{expiration_key}
-use Rattle.rusty_paseto.specs.Moment.{HasShortYear, IsMomentText}
+use Rattle.rusty_paseto_claims.specs.Moment.{IsMomentText}
 use Rattle.rusty_paseto.proofs.paseto_builder.default_claims.Goals as goal
-
-pub text_of-requires : goal.text_of-requires
-text_of-requires c = subst HasShortYear (sym c.hour_after.ensures) c.requires.later_year
 
 pub returns : goal.returns
 returns c = record {

@@ -1,7 +1,7 @@
 use Rattle.std.proofs.Common.{arith, ◌≤ℤ◌, pos}
 use Rattle.jiff.proofs.SpanFacts.{signed_arith}
-use Rattle.rusty_paseto.proofs.MomentLemmas.{short_year}
-use Rattle.rusty_paseto.proofs.moment.has_short_year.Goals as goal
+use Rattle.rusty_paseto_claims.proofs.MomentLemmas.{short_year}
+use Rattle.rusty_paseto_claims.proofs.moment.has_short_year.Goals as goal
 
 pub returns-then-year-lt0 : goal.returns-then-year-lt0
 returns-then-year-lt0 c short =
