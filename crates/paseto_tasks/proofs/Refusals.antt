@@ -8,6 +8,7 @@ use Rattle.rusty_paseto_parts.specs.declared.error.PasetoError.{PasetoError}
 use Rattle.rusty_paseto_parts.specs.declared.error.PasetoError.TheVariants.{Memory as NoMemory}
 use Rattle.rusty_paseto_core.specs.Context.{binding_of}
 use Rattle.rusty_paseto_core.specs.Local.{Design}
+use Rattle.rusty_paseto_core.specs.Public.Scheme.{Declining}
 use Rattle.rusty_paseto_core.specs.Local.Opening.{opening}
 use Rattle.rusty_paseto_core.specs.Reading.{IsRead, Reading}
 use Rattle.rusty_paseto_paserk.specs.Error.{IsMemory as IsKeyMemory}
@@ -26,6 +27,7 @@ use Rattle.paseto_tasks.specs.declared.error.ProgramError.TheVariants.{Clock, Ra
 use Rattle.paseto_tasks.specs.Error.{IsOutside, key_error_of, program_error_of, status_of}
 use Rattle.paseto_tasks.specs.Input.{line_of_input}
 use Rattle.paseto_tasks.specs.Local.{Opens}
+use Rattle.paseto_tasks.specs.Public.{DeclinesKey, IsHalf}
 use Rattle.paseto_tasks.specs.Run.{IsRefused, PrintsNothing}
 
 -- ---- versions
@@ -99,6 +101,22 @@ pub sign_second : {T : Type 0} (result : Result T ProgramError) (known : Option 
     → IfErr result (λ error. IfSome known (λ bytes. IsOutside error ⊎ (((text : List ℕ) → ¬ (A bytes text ⊎ B bytes text)) ⊎ (C ⊎ D))))
 sign_second (Ok value) known A B C D other h = tt
 sign_second (Err error) known A B C D other h = sign_second_known error known A B C D other h
+
+known_declined : (error : ProgramError) (known : Option (List ℕ)) (X : List ℕ → Type 0) (D : Type 0) → IsOutside error ⊎ D
+    → IfSome known (λ bytes. IsOutside error ⊎ (X bytes ⊎ D))
+known_declined error None X D h = tt
+known_declined error (Some bytes) X D (inl outside) = inl outside
+known_declined error (Some bytes) X D (inr declined) = inr (inr declined)
+
+-- a private key of a line that its scheme declines
+pub declined_key : {T : Type 0} (result : Result T ProgramError) (known : Option (List ℕ)) (version : PaserkVersion) (size : ℕ) (Declined : Declining)
+    (line key : List ℕ) (X : List ℕ → Type 0) → IsHalf version Secret size line key
+    → IfErr result (λ error. IsOutside error ⊎ ((source : PasetoError) × Declined key source))
+    → IfErr result (λ error. IfSome known (λ bytes. IsOutside error ⊎ (X bytes ⊎ DeclinesKey version size Declined line)))
+declined_key (Ok value) known version size Declined line key X half h = tt
+declined_key (Err error) known version size Declined line key X half (inl outside) = known_declined error known X (DeclinesKey version size Declined line) (inl outside)
+declined_key (Err error) known version size Declined line key X half (inr declined) = known_declined error known X (DeclinesKey version size Declined line)
+    (inr record { key_bytes = key; error = declined.0; is_key = half; declined = declined.1 })
 
 -- ---- tokens
 
