@@ -16,7 +16,7 @@ use Rattle.rusty_paseto_paserk.specs.Text.{IsKeyFault}
 use Rattle.paseto_tasks.specs.declared.error.ProgramError.{ProgramError}
 use Rattle.paseto_tasks.specs.Error.{IsOutside, Lacks, key_error_of}
 use Rattle.paseto_tasks.specs.Id.{IsKeyLine, IsKeyOf}
-use Rattle.paseto_commands.specs.Ring.{AreCompressed, AreKeysOf, IsAdded, IsInserted, IsNoLine, IsOther, IsPassedOver, IsRingOf}
+use Rattle.paseto_commands.specs.Ring.{AreKeysOf, IsAdded, IsInserted, IsNoLine, IsOther, IsPassedOver, IsRingOf}
 use Rattle.paseto_tasks.proofs.Ids.{same_header}
 use Rattle.paseto_commands.proofs.Parsed.{same_key}
 
@@ -97,12 +97,6 @@ module _ (A B : List ℕ → Type 0) (kind : PaserkType) (version : PaserkVersio
   in_words (line ∷ lines) keys (inl a) = inl (a.0, in_words lines keys a.1)
   in_words (line ∷ lines) keys (inr a) =
       inr (a.0, a.1, a.2, record { bytes = a.3.bytes; is_key = into a.0 a.3.is_key; is_writing = a.3.is_writing }, in_words lines a.1 a.4)
-
--- the keys of version 3 are compressed points
-pub are_compressed : (lines keys : List (List ℕ)) → AreKeysOf (IsKeyOf Public V3) Public V3 lines keys → AreCompressed keys
-are_compressed [] keys are = rw are tt
-are_compressed (line ∷ lines) keys (inl a) = are_compressed lines keys a.1
-are_compressed (line ∷ lines) keys (inr a) = rw a.2 (a.3.is_key.1, are_compressed lines a.1 a.4)
 
 -- ---- rings
 

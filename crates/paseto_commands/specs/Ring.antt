@@ -1,7 +1,6 @@
 -- The rings of key lines.
-use Rattle.std.specs.Prelude.{◌≡◌, ◌≢◌, ◌⊎◌, ⊤, ℕ, List, [], ◌∷◌, Bool, true, IsTrue, None}
+use Rattle.std.specs.Prelude.{◌≡◌, ◌≢◌, ◌⊎◌, ⊤, ℕ, List, [], ◌∷◌, Bool, true, None}
 use Rattle.serde_json.specs.Data.{Data}
-use Rattle.rusty_paseto_parts.specs.PublicKey.{is_compressed}
 use Rattle.rusty_paseto_core.specs.Context.{Binding}
 use Rattle.rusty_paseto_core.specs.Reading.{Reading}
 use Rattle.rusty_paseto.specs.KeyRing.{IsParsed, Keys, with_key}
@@ -71,11 +70,6 @@ IsAdded kind version line old new = (IsOther kind version line × (new ≡ old))
 abbrev pub IsInserted : (List ℕ → Type 0) → PaserkType → PaserkVersion → List ℕ → List (List ℕ) → List (List ℕ) → Type 0
 IsInserted IsKey kind version line old new = (IsOther kind version line × (new ≡ old))
     ⊎ ((key : List ℕ) × IsKeyLine IsKey kind version line key × (new ≡ key ∷ old))
-
--- each of these begins as a compressed point
-abbrev pub AreCompressed : List (List ℕ) → Type 0
-AreCompressed [] = ⊤
-AreCompressed (key ∷ keys) = IsTrue (is_compressed key) × AreCompressed keys
 
 -- the line begins as no key of another version or type, and is the writing of no key
 pub record IsNoLine (IsKey : List ℕ → Type 0) (kind : PaserkType) (version : PaserkVersion) (line : List ℕ) : Type 0 where

@@ -3,8 +3,9 @@
 ghost use Rattle.std.specs.Prelude.{◌≡◌, ◌⊎◌, None, IfErr, IfOk, OnOk, false, option_map, string_bytes, true};
 ghost use Rattle.serde_json.specs.View.{view};
 ghost use Rattle.rusty_paseto_core.specs.Local.Opening.{opening};
+ghost use Rattle.rusty_paseto_core.specs.Public.Verifying.{verification};
 ghost use Rattle.rusty_paseto_parts.specs.Footer.{footer_text};
-ghost use Rattle.rusty_paseto_paserk.specs.declared.header.PaserkVersion.TheVariants.{V2 as K2, V3 as K3, V4 as K4};
+ghost use Rattle.rusty_paseto_paserk.specs.declared.header.PaserkVersion.TheVariants.{V2 as K2};
 ghost use Rattle.rusty_paseto_paserk.specs.declared.header.PaserkType.TheVariants.{Local as LocalKey, Public as PublicKey};
 ghost use Rattle.rusty_paseto_generic.specs.Parsers.Held.{rules_of, verdicts_of};
 ghost use Rattle.rusty_paseto_generic.specs.Parsers.Rules.{AreSame};
@@ -22,17 +23,15 @@ use crate::footer::footer_of;
 use crate::ring::claims_by_ring;
 use crate::times::moment_of;
 use jiff::Timestamp;
-use paseto_ed25519::Ed25519;
-use paseto_p384::P384;
-use paseto_tasks::{Options, ProgramError};
+use paseto_tasks::{Options, ProgramError, Suite};
 use paseto_xchacha20poly1305::XChaCha20Poly1305;
 use rusty_paseto::prelude::{
-    CheckSetter, DefaultLocalVersion, DefaultParser, Footer, Local, PasetoAsymmetricPublicKey,
-    PasetoParser, Public, PurposeTrait, V1, V2, V3, V4, VersionTrait,
+    CheckSetter, DefaultLocalVersion, DefaultParser, Footer, Local, PasetoParser, Public,
+    PurposeTrait, V1, V2, V3, V4, Verifies, VersionTrait,
 };
 use rusty_paseto_paserk::{
     KeyVersion, PaserkError, PaserkType, PaserkVersion, header_of, local_from_paserk,
-    public_from_paserk,
+    public_key_from_paserk,
 };
 use serde_json::Value;
 use std::alloc::Global;
@@ -296,9 +295,9 @@ fn by_public_key(
 {
     match version {
         PaserkVersion::V1 => Err(ProgramError::Key(PaserkError::OtherVersion(version))),
-        PaserkVersion::V2 => verified_in_v2(alloc, key, demands, timed, token),
-        PaserkVersion::V3 => verified_in_v3(alloc, key, demands, timed, token),
-        PaserkVersion::V4 => verified_in_v4(alloc, key, demands, timed, token),
+        PaserkVersion::V2 => verified::<V2>(alloc, key, demands, timed, token),
+        PaserkVersion::V3 => verified::<V3>(alloc, key, demands, timed, token),
+        PaserkVersion::V4 => verified::<V4>(alloc, key, demands, timed, token),
     }
 }
 
@@ -342,7 +341,7 @@ fn unboxed(
     parsed(alloc, parser.parse(&XChaCha20Poly1305, token, &key))
 }
 
-fn verified_in_v2(
+fn verified<V: Suite + Verifies<V::Scheme>>(
     alloc: Global,
     key: &str,
     demands: &Demands,
@@ -350,57 +349,14 @@ fn verified_in_v2(
     token: &str,
 ) -> Result<Value, ProgramError>
     ensures found { IfOk result (λ value.
-        ParsesWith PublicKey K2 (reading_of PublicKey K2) key.now
+        ParsesWith PublicKey V.paserk (verification V.valid V.refused V.public_design) key.now
         (demanded demands.now) timed token.now (view value)) }
     ensures none { IfErr result (Lacks (λ value.
-        ParsesWith PublicKey K2 (reading_of PublicKey K2) key.now
+        ParsesWith PublicKey V.paserk (verification V.valid V.refused V.public_design) key.now
         (demanded demands.now) timed token.now value)) }
     ensures no_usage { IfErr result IsNoUsage }
 {
-    let key = public_from_paserk::<V2, 32>(alloc, key)?;
-    let parser = demands.parser::<V2, Public>(alloc, timed)?;
-    let public = PasetoAsymmetricPublicKey::from(&key);
-    parsed(alloc, parser.parse(&Ed25519, token, &public))
-}
-
-fn verified_in_v3(
-    alloc: Global,
-    key: &str,
-    demands: &Demands,
-    timed: bool,
-    token: &str,
-) -> Result<Value, ProgramError>
-    ensures found { IfOk result (λ value.
-        ParsesWith PublicKey K3 (reading_of PublicKey K3) key.now
-        (demanded demands.now) timed token.now (view value)) }
-    ensures none { IfErr result (Lacks (λ value.
-        ParsesWith PublicKey K3 (reading_of PublicKey K3) key.now
-        (demanded demands.now) timed token.now value)) }
-    ensures no_usage { IfErr result IsNoUsage }
-{
-    let key = public_from_paserk::<V3, 49>(alloc, key)?;
-    let parser = demands.parser::<V3, Public>(alloc, timed)?;
-    let public = PasetoAsymmetricPublicKey::try_from(&key)?;
-    parsed(alloc, parser.parse(&P384, token, &public))
-}
-
-fn verified_in_v4(
-    alloc: Global,
-    key: &str,
-    demands: &Demands,
-    timed: bool,
-    token: &str,
-) -> Result<Value, ProgramError>
-    ensures found { IfOk result (λ value.
-        ParsesWith PublicKey K4 (reading_of PublicKey K4) key.now
-        (demanded demands.now) timed token.now (view value)) }
-    ensures none { IfErr result (Lacks (λ value.
-        ParsesWith PublicKey K4 (reading_of PublicKey K4) key.now
-        (demanded demands.now) timed token.now value)) }
-    ensures no_usage { IfErr result IsNoUsage }
-{
-    let key = public_from_paserk::<V4, 32>(alloc, key)?;
-    let parser = demands.parser::<V4, Public>(alloc, timed)?;
-    let public = PasetoAsymmetricPublicKey::from(&key);
-    parsed(alloc, parser.parse(&Ed25519, token, &public))
+    let key = public_key_from_paserk::<V>(alloc, key)?;
+    let parser = demands.parser::<V, Public>(alloc, timed)?;
+    parsed(alloc, parser.parse(&V::scheme(), token, &key.lend()))
 }

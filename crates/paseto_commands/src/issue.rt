@@ -7,11 +7,11 @@ ghost use Rattle.rusty_paseto_core.specs.Public.{HasPrivateLength};
 ghost use Rattle.rusty_paseto_core.specs.declared.PasetoError.{PasetoError as TokenError};
 ghost use Rattle.rusty_paseto.specs.Held.{counting};
 ghost use Rattle.rusty_paseto.specs.PasetoBuilder.{IsSame};
-ghost use Rattle.rusty_paseto_paserk.specs.declared.header.PaserkVersion.TheVariants.{V2 as K2, V3 as K3, V4 as K4};
 ghost use Rattle.paseto_tasks.specs.Arguments.{claim_words, words_of};
 ghost use Rattle.paseto_commands.specs.Claims.{AreNeverSet, AreSet, all_counted, all_named};
 ghost use Rattle.paseto_tasks.specs.Error.{IsNoRefusal, IsNoUsage, IsOutside, Lacks};
-ghost use Rattle.paseto_commands.specs.Issue.{AreNever, AreOrdered, BoxesClaims, DeclinesOrder, IsOrder, Issues, IssuesNone, SealsClaims, SealsIn, SignsIn, SignsNone, SignsOrder, keys_set, ordered};
+ghost use Rattle.paseto_tasks.specs.Public.{DeclinesKey};
+ghost use Rattle.paseto_commands.specs.Issue.{AreNever, AreOrdered, BoxesClaims, DeclinesOrder, IsOrder, Issues, IssuesNone, SealsClaims, SealsIn, SignsClaims, SignsIn, SignsNone, SignsOrder, keys_set, ordered};
 ghost use Rattle.paseto_commands.specs.Times.{IsNeverSet, IsTimeSet, SaysTime, time_counted};
 
 use crate::answers::{built, dated};
@@ -19,9 +19,7 @@ use crate::claims::{NamedClaim, claims_of};
 use crate::footer::footer_of;
 use crate::times::moment_of;
 use jiff::Timestamp;
-use paseto_ed25519::Ed25519;
-use paseto_p384::P384;
-use paseto_tasks::{Options, ProgramError, with_line_feed};
+use paseto_tasks::{Options, ProgramError, Suite, with_line_feed};
 use paseto_xchacha20poly1305::XChaCha20Poly1305;
 use rand_core::TryRng;
 use rusty_paseto::prelude::{
@@ -32,7 +30,7 @@ use rusty_paseto::prelude::{
 use rusty_paseto_claims::moment_text;
 use rusty_paseto_paserk::{
     KeyVersion, PaserkError, PaserkType, PaserkVersion, header_of, local_from_paserk,
-    secret_from_paserk,
+    private_key_from_paserk,
 };
 use std::alloc::Global;
 
@@ -153,9 +151,9 @@ fn by_private_key(
 {
     match version {
         PaserkVersion::V1 => Err(ProgramError::Key(PaserkError::OtherVersion(version))),
-        PaserkVersion::V2 => signed_in_v2(alloc, key, order),
-        PaserkVersion::V3 => signed_in_v3(alloc, key, order),
-        PaserkVersion::V4 => signed_in_v4(alloc, key, order),
+        PaserkVersion::V2 => signed::<V2>(alloc, key, order),
+        PaserkVersion::V3 => signed::<V3>(alloc, key, order),
+        PaserkVersion::V4 => signed::<V4>(alloc, key, order),
     }
 }
 
@@ -194,43 +192,25 @@ fn boxed<G: TryRng>(
     with_line_feed(built(alloc, token)?)
 }
 
-fn signed_in_v2(alloc: Global, key: &str, order: &Order) -> Result<String, ProgramError>
-    ensures found { IfOk result (λ line. SignsIn K2 key.now (ordered order.now)
-        (string_bytes line)) }
+fn signed<V: Suite + Signs<V::Scheme>>(
+    alloc: Global,
+    key: &str,
+    order: &Order,
+) -> Result<String, ProgramError>
+    ensures found { IfOk result (λ line. SignsClaims V.paserk V.secret_length V.valid
+        V.public_design V.partner key.now (ordered order.now) (string_bytes line)) }
     ensures none { IfErr result (λ error. IsOutside error
-        ⊎ SignsNone K2 key.now (ordered order.now)) }
+        ⊎ (((line : List ℕ) → ¬ SignsClaims V.paserk V.secret_length V.valid
+        V.public_design V.partner key.now (ordered order.now) line)
+        ⊎ DeclinesKey V.paserk V.secret_length (DeclinesOrder V.declined V.partner V.public_design
+        (ordered order.now)) key.now)) }
     ensures usage { IfErr result (λ error. IsNoUsage error ⊎ AreNever (ordered order.now)) }
 {
-    let key = secret_from_paserk::<V2, 64>(alloc, key)?;
-    let private = PasetoAsymmetricPrivateKey::<V2, Public>::from(&key);
-    signed(alloc, &mut Ed25519, &private, order)
+    let key = private_key_from_paserk::<V>(alloc, key)?;
+    signed_by(alloc, &mut V::scheme(), &key.lend(), order)
 }
 
-fn signed_in_v3(alloc: Global, key: &str, order: &Order) -> Result<String, ProgramError>
-    ensures found { IfOk result (λ line. SignsIn K3 key.now (ordered order.now)
-        (string_bytes line)) }
-    ensures none { IfErr result (λ error. IsOutside error
-        ⊎ SignsNone K3 key.now (ordered order.now)) }
-    ensures usage { IfErr result (λ error. IsNoUsage error ⊎ AreNever (ordered order.now)) }
-{
-    let key = secret_from_paserk::<V3, 48>(alloc, key)?;
-    let private = PasetoAsymmetricPrivateKey::<V3, Public>::from(&key);
-    signed(alloc, &mut P384, &private, order)
-}
-
-fn signed_in_v4(alloc: Global, key: &str, order: &Order) -> Result<String, ProgramError>
-    ensures found { IfOk result (λ line. SignsIn K4 key.now (ordered order.now)
-        (string_bytes line)) }
-    ensures none { IfErr result (λ error. IsOutside error
-        ⊎ SignsNone K4 key.now (ordered order.now)) }
-    ensures usage { IfErr result (λ error. IsNoUsage error ⊎ AreNever (ordered order.now)) }
-{
-    let key = secret_from_paserk::<V4, 64>(alloc, key)?;
-    let private = PasetoAsymmetricPrivateKey::<V4, Public>::from(&key);
-    signed(alloc, &mut Ed25519, &private, order)
-}
-
-fn signed<V: Signs<S>, S>(
+fn signed_by<V: Signs<S>, S>(
     alloc: Global,
     scheme: &mut S,
     key: &PasetoAsymmetricPrivateKey<'_, V, Public>,

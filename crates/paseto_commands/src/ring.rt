@@ -1,33 +1,33 @@
 //! Rings: the keys of lines, each by its id.
 
-ghost use Rattle.std.specs.Prelude.{◌≡◌, ◌⊎◌, ℕ, List, IfErr, IfOk, IsTrue, OnOk, length};
+ghost use Rattle.std.specs.Prelude.{◌≡◌, ◌⊎◌, IfErr, IfOk, IsTrue, OnOk};
 ghost use Rattle.serde_json.specs.View.{view};
 ghost use Rattle.rusty_paseto_core.specs.Local.Opening.{opening};
+ghost use Rattle.rusty_paseto_core.specs.Public.Verifying.{verification};
 ghost use Rattle.rusty_paseto.specs.Held.{keys_of};
 ghost use Rattle.rusty_paseto.specs.KeyRing.{with_key};
 ghost use Rattle.rusty_paseto_paserk.specs.Id.{id_of};
-ghost use Rattle.rusty_paseto_paserk.specs.declared.header.PaserkVersion.TheVariants.{V2 as K2, V3 as K3, V4 as K4};
-ghost use Rattle.rusty_paseto_paserk.specs.declared.header.PaserkType.TheVariants.{Local as LocalKey, Public as PublicKey};
+ghost use Rattle.rusty_paseto_paserk.specs.declared.header.PaserkVersion.TheVariants.{V2 as K2};
+ghost use Rattle.rusty_paseto_paserk.specs.declared.header.PaserkType.TheVariants.{Local as LocalKey, Public as PublicKeys};
 ghost use Rattle.paseto_tasks.specs.Arguments.{words_of};
 ghost use Rattle.paseto_commands.specs.Check.{demanded};
 ghost use Rattle.paseto_tasks.specs.Error.{IsNoUsage, IsOutside, Lacks, key_error_of};
 ghost use Rattle.paseto_tasks.specs.Id.{IsKeyOf};
 ghost use Rattle.paseto_commands.specs.Readers.{IsReader, reading_of, type_in, version_in};
-ghost use Rattle.paseto_commands.specs.Ring.{AreCompressed, AreKeysOf, IsAdded, IsInserted, IsNoLine, IsPassedOver, IsRingOf, ParsesByRing, ParsesIn, ring_of};
+ghost use Rattle.paseto_commands.specs.Ring.{AreKeysOf, IsAdded, IsInserted, IsNoLine, IsPassedOver, IsRingOf, ParsesByRing, ParsesIn, ring_of};
 
 use crate::answers::{found, put};
 use crate::check::Demands;
-use paseto_ed25519::Ed25519;
-use paseto_p384::P384;
-use paseto_tasks::ProgramError;
+use paseto_tasks::{ProgramError, Suite};
 use paseto_xchacha20poly1305::XChaCha20Poly1305;
 use rusty_paseto::prelude::{
-    DefaultLocalVersion, Key, KeyRing, Local, PasetoAsymmetricPublicKey, PasetoError, Public,
-    PublicKeyRing, UntrustedToken, V1, V2, V2orV4, V3, V4,
+    DefaultLocalVersion, KeyRing, Local, PasetoError, Public, PublicKeyRing, UntrustedToken, V1,
+    V2, V3, V4, Verifies,
 };
+use rusty_paseto_parts::PublicKey;
 use rusty_paseto_paserk::{
     KeyPairVersion, KeyVersion, PaserkError, PaserkType, PaserkVersion, local_from_paserk,
-    local_id, public_from_paserk, public_id,
+    local_id, public_id, public_key_from_paserk,
 };
 use serde_json::Value;
 use std::alloc::Global;
@@ -117,19 +117,19 @@ fn by_public_keys(
     timed: bool,
     token: &str,
 ) -> Result<Value, ProgramError>
-    ensures found { IfOk result (λ value. IsReader PublicKey version
-        × ParsesIn PublicKey version (reading_of PublicKey version) (words_of lines.now)
+    ensures found { IfOk result (λ value. IsReader PublicKeys version
+        × ParsesIn PublicKeys version (reading_of PublicKeys version) (words_of lines.now)
         (demanded demands.now) timed token.now (view value)) }
-    ensures none { IfErr result (Lacks (λ value. IsReader PublicKey version
-        × ParsesIn PublicKey version (reading_of PublicKey version) (words_of lines.now)
+    ensures none { IfErr result (Lacks (λ value. IsReader PublicKeys version
+        × ParsesIn PublicKeys version (reading_of PublicKeys version) (words_of lines.now)
         (demanded demands.now) timed token.now value)) }
     ensures no_usage { IfErr result IsNoUsage }
 {
     match version {
         PaserkVersion::V1 => Err(ProgramError::Refused(PasetoError::WrongHeader)),
-        PaserkVersion::V2 => verified_in_v2(alloc, lines, demands, timed, token),
-        PaserkVersion::V3 => verified_in_v3(alloc, lines, demands, timed, token),
-        PaserkVersion::V4 => verified_in_v4(alloc, lines, demands, timed, token),
+        PaserkVersion::V2 => verified::<V2>(alloc, lines, demands, timed, token),
+        PaserkVersion::V3 => verified::<V3>(alloc, lines, demands, timed, token),
+        PaserkVersion::V4 => verified::<V4>(alloc, lines, demands, timed, token),
     }
 }
 
@@ -173,7 +173,7 @@ fn unboxed(
     found(alloc, ring.parse(&XChaCha20Poly1305, &parser, token))
 }
 
-fn verified_in_v2(
+fn verified<V: Suite + Verifies<V::Scheme>>(
     alloc: Global,
     lines: &[String],
     demands: &Demands,
@@ -181,59 +181,17 @@ fn verified_in_v2(
     token: &str,
 ) -> Result<Value, ProgramError>
     ensures found { IfOk result (λ value.
-        ParsesIn PublicKey K2 (reading_of PublicKey K2)
+        ParsesIn PublicKeys V.paserk (verification V.valid V.refused V.public_design)
         (words_of lines.now) (demanded demands.now) timed token.now (view value)) }
     ensures none { IfErr result (Lacks (λ value.
-        ParsesIn PublicKey K2 (reading_of PublicKey K2)
+        ParsesIn PublicKeys V.paserk (verification V.valid V.refused V.public_design)
         (words_of lines.now) (demanded demands.now) timed token.now value)) }
     ensures no_usage { IfErr result IsNoUsage }
 {
-    let keys = public_keys::<V2, 32>(alloc, lines)?;
-    let ring = ring_of_v2_or_v4::<V2>(alloc, &keys)?;
-    let parser = demands.parser::<V2, Public>(alloc, timed)?;
-    found(alloc, ring.parse(&Ed25519, &parser, token))
-}
-
-fn verified_in_v3(
-    alloc: Global,
-    lines: &[String],
-    demands: &Demands,
-    timed: bool,
-    token: &str,
-) -> Result<Value, ProgramError>
-    ensures found { IfOk result (λ value.
-        ParsesIn PublicKey K3 (reading_of PublicKey K3)
-        (words_of lines.now) (demanded demands.now) timed token.now (view value)) }
-    ensures none { IfErr result (Lacks (λ value.
-        ParsesIn PublicKey K3 (reading_of PublicKey K3)
-        (words_of lines.now) (demanded demands.now) timed token.now value)) }
-    ensures no_usage { IfErr result IsNoUsage }
-{
-    let keys = public_keys::<V3, 49>(alloc, lines)?;
-    let ring = ring_of_v3(alloc, &keys)?;
-    let parser = demands.parser::<V3, Public>(alloc, timed)?;
-    found(alloc, ring.parse(&P384, &parser, token))
-}
-
-fn verified_in_v4(
-    alloc: Global,
-    lines: &[String],
-    demands: &Demands,
-    timed: bool,
-    token: &str,
-) -> Result<Value, ProgramError>
-    ensures found { IfOk result (λ value.
-        ParsesIn PublicKey K4 (reading_of PublicKey K4)
-        (words_of lines.now) (demanded demands.now) timed token.now (view value)) }
-    ensures none { IfErr result (Lacks (λ value.
-        ParsesIn PublicKey K4 (reading_of PublicKey K4)
-        (words_of lines.now) (demanded demands.now) timed token.now value)) }
-    ensures no_usage { IfErr result IsNoUsage }
-{
-    let keys = public_keys::<V4, 32>(alloc, lines)?;
-    let ring = ring_of_v2_or_v4::<V4>(alloc, &keys)?;
-    let parser = demands.parser::<V4, Public>(alloc, timed)?;
-    found(alloc, ring.parse(&Ed25519, &parser, token))
+    let keys = public_keys::<V>(alloc, lines)?;
+    let ring = public_ring(alloc, &keys)?;
+    let parser = demands.parser::<V, Public>(alloc, timed)?;
+    found(alloc, ring.parse(&V::scheme(), &parser, token))
 }
 
 /// The ring of the keys of local tokens of a version among the lines, each under its id.
@@ -270,86 +228,55 @@ fn add_line<V: KeyVersion>(
     }
 }
 
-/// The ring of public keys of the versions 2 and 4, each under its id.
-fn ring_of_v2_or_v4<'k, V: V2orV4 + KeyPairVersion>(
+/// The ring of public keys, each under its id.
+fn public_ring<'k, V: KeyPairVersion>(
     alloc: Global,
-    keys: &'k [Key<32>],
+    keys: &'k [PublicKey<V>],
 ) -> Result<PublicKeyRing<'k, V>, ProgramError>
-    ensures ring { IfOk result (λ ring. keys_of ring ≡ ring_of PublicKey V.paserk keys.now) }
+    ensures ring { IfOk result (λ ring. keys_of ring ≡ ring_of PublicKeys V.paserk keys.now) }
     ensures memory { IfErr result IsOutside }
 {
     let [key, rest @ ..] = keys else {
         return Ok(PublicKeyRing::new(alloc));
     };
-    let mut ring = ring_of_v2_or_v4::<V>(alloc, rest)?;
-    add_public(alloc, &mut ring, PasetoAsymmetricPublicKey::from(key))?;
+    let mut ring = public_ring(alloc, rest)?;
+    let key = key.lend();
+    put(alloc, ring.add(public_id(alloc, &key)?.as_str(), key))?;
     Ok(ring)
-}
-
-/// The ring of public keys of version 3, each under its id.
-fn ring_of_v3<'k>(alloc: Global, keys: &'k [Key<49>]) -> Result<PublicKeyRing<'k, V3>, ProgramError>
-    ensures ring { IfOk result (λ ring. keys_of ring ≡ ring_of PublicKey K3 keys.now) }
-    ensures refused { AreCompressed keys.now → IfErr result IsOutside }
-    ensures no_usage { IfErr result IsNoUsage }
-{
-    let [key, rest @ ..] = keys else {
-        return Ok(PublicKeyRing::new(alloc));
-    };
-    let mut ring = ring_of_v3(alloc, rest)?;
-    add_public(alloc, &mut ring, PasetoAsymmetricPublicKey::try_from(key)?)?;
-    Ok(ring)
-}
-
-/// Puts a public key into a ring, under its id.
-fn add_public<'k, V: KeyPairVersion>(
-    alloc: Global,
-    ring: &mut PublicKeyRing<'k, V>,
-    key: PasetoAsymmetricPublicKey<'k, V, Public>,
-) -> Result<(), ProgramError>
-    ensures added { OnOk result (keys_of ring.new
-        ≡ with_key (id_of V.paserk PublicKey key.entry) key.entry (keys_of ring.old)) }
-    ensures memory { IfErr result IsOutside }
-{
-    put(alloc, ring.add(public_id(alloc, &key)?.as_str(), key))
 }
 
 /// The public keys of a version among the lines.
-fn public_keys<V: KeyPairVersion, const N: usize>(
+fn public_keys<V: KeyPairVersion>(
     alloc: Global,
     lines: &[String],
-) -> Result<Vec<Key<N>>, ProgramError>
-    requires { N ≡ V.public_length }
-    ensures found { IfOk result (λ keys. AreKeysOf
-        (λ key. (length key ≡ N) × IsTrue (V.is_public_key key)) PublicKey V.paserk
-        (words_of lines.now) keys.items) }
-    ensures none { IfErr result (Lacks (λ keys. AreKeysOf
-        (λ key. (length key ≡ N) × IsTrue (V.is_public_key key)) PublicKey V.paserk
-        (words_of lines.now) keys)) }
+) -> Result<Vec<PublicKey<V>>, ProgramError>
+    ensures found { IfOk result (λ keys. AreKeysOf (λ key. IsTrue (V.is_public_key key)) PublicKeys
+        V.paserk (words_of lines.now) keys.items) }
+    ensures none { IfErr result (Lacks (λ keys. AreKeysOf (λ key. IsTrue (V.is_public_key key))
+        PublicKeys V.paserk (words_of lines.now) keys)) }
     ensures no_usage { IfErr result IsNoUsage }
 {
     let [line, rest @ ..] = lines else {
         return Ok(Vec::new(alloc));
     };
-    let mut keys = public_keys::<V, N>(alloc, rest)?;
-    insert_line::<V, N>(alloc, &mut keys, line)?;
+    let mut keys = public_keys::<V>(alloc, rest)?;
+    insert_line(alloc, &mut keys, line)?;
     Ok(keys)
 }
 
 /// Puts the key of a line before others.
-fn insert_line<V: KeyPairVersion, const N: usize>(
+fn insert_line<V: KeyPairVersion>(
     alloc: Global,
-    keys: &mut Vec<Key<N>>,
+    keys: &mut Vec<PublicKey<V>>,
     line: &str,
 ) -> Result<(), ProgramError>
-    requires { N ≡ V.public_length }
-    ensures inserted { OnOk result (IsInserted
-        (λ key. (length key ≡ N) × IsTrue (V.is_public_key key)) PublicKey V.paserk
-        line.now keys.old.items keys.new.items) }
+    ensures inserted { OnOk result (IsInserted (λ key. IsTrue (V.is_public_key key)) PublicKeys
+        V.paserk line.now keys.old.items keys.new.items) }
     ensures none { IfErr result (λ error. IsOutside error ⊎ IsNoLine
-        (λ key. (length key ≡ N) × IsTrue (V.is_public_key key)) PublicKey V.paserk line.now) }
+        (λ key. IsTrue (V.is_public_key key)) PublicKeys V.paserk line.now) }
     ensures no_usage { IfErr result IsNoUsage }
 {
-    match public_from_paserk::<V, N>(alloc, line) {
+    match public_key_from_paserk::<V>(alloc, line) {
         Ok(key) => Ok(keys.insert(0, key)?),
         Err(error) => passed_over(error),
     }

@@ -1,7 +1,6 @@
 -- The commands `sign` and `verify`.
-use Rattle.std.specs.Prelude.{◌≡◌, ◌⊎◌, ℕ, List, [], ◌∷◌, ◌++◌, length, is_some, IsTrue, IsUtf8}
+use Rattle.std.specs.Prelude.{◌≡◌, ◌⊎◌, ℕ, List, [], ◌∷◌, ◌++◌, length, is_some, IsUtf8}
 use Rattle.base64.specs.GeneralPurpose.{IsBytes}
-use Rattle.rusty_paseto_parts.specs.PublicKey.{is_compressed}
 use Rattle.rusty_paseto_core.specs.Context.{binding_of}
 use Rattle.rusty_paseto_core.specs.Public.{PublicDesign, message, v3_public, v4_public}
 use Rattle.rusty_paseto_core.specs.Public.Scheme.{Declining, Refusal, Validity}
@@ -17,6 +16,7 @@ use Rattle.rusty_paseto_paserk.specs.declared.header.PaserkType.{PaserkType}
 use Rattle.rusty_paseto_paserk.specs.declared.header.PaserkType.TheVariants.{Secret, Public}
 use Rattle.rusty_paseto_paserk.specs.Text.{writing}
 use Rattle.paseto_tasks.specs.declared.arguments.Options.{Options}
+use Rattle.paseto_tasks.specs.Id.{IsKeyLine, IsKeyOf}
 use Rattle.paseto_tasks.specs.Input.{line_of_input}
 
 -- the line is the writing of these bytes, which are so many
@@ -33,15 +33,18 @@ pub record IsSigned (valid : Validity) (design : PublicDesign) (public : List �
   pub signing : IsSigning valid design (binding_of public options.footer options.assertion) (is_some options.footer) text token
   pub line_is : line ≡ token ++ (10 ∷ [])
 
-pub record SignsInV3 (key : List ℕ) (options : Options) (text line : List ℕ) : Type 0 where
+-- in a version: the same by the private key of the line
+pub record SignsText (version : PaserkVersion) (size : ℕ) (valid : Validity) (design : PublicDesign) (half : List ℕ → List ℕ)
+    (key : List ℕ) (options : Options) (text line : List ℕ) : Type 0 where
   pub key_bytes : List ℕ
-  pub is_key : IsHalf V3 Secret 48 key key_bytes
-  pub signed : IsSigned P384Verifies v3_public (p384_public key_bytes) options text line
+  pub is_key : IsHalf version Secret size key key_bytes
+  pub signed : IsSigned valid design (half key_bytes) options text line
 
-pub record SignsInV4 (key : List ℕ) (options : Options) (text line : List ℕ) : Type 0 where
-  pub key_bytes : List ℕ
-  pub is_key : IsHalf V4 Secret 64 key key_bytes
-  pub signed : IsSigned Ed25519Verifies v4_public (partner key_bytes) options text line
+abbrev pub SignsInV3 : List ℕ → Options → List ℕ → List ℕ → Type 0
+SignsInV3 = SignsText V3 48 P384Verifies v3_public p384_public
+
+abbrev pub SignsInV4 : List ℕ → Options → List ℕ → List ℕ → Type 0
+SignsInV4 = SignsText V4 64 Ed25519Verifies v4_public partner
 
 -- the line is printed for a private key of version 3 or of version 4
 abbrev pub SignsBy : List ℕ → Options → List ℕ → List ℕ → Type 0
@@ -52,18 +55,19 @@ abbrev pub IsVerified : Validity → Refusal → PublicDesign → List ℕ → O
 IsVerified valid refused design public options token text =
     IsRead (verification valid refused design (binding_of public options.footer options.assertion)) token text
 
-pub record VerifiesInV3 (key : List ℕ) (options : Options) (token text : List ℕ) : Type 0 where
+-- in a version: the same by the public key of the line
+pub record VerifiesText (version : PaserkVersion) (valid : Validity) (refused : Refusal) (design : PublicDesign)
+    (key : List ℕ) (options : Options) (token text : List ℕ) : Type 0 where
   pub key_bytes : List ℕ
-  pub is_key : IsHalf V3 Public 49 key key_bytes
-  pub compressed : IsTrue (is_compressed key_bytes)
+  pub is_key : IsKeyLine (IsKeyOf Public version) Public version key key_bytes
   pub utf8 : IsUtf8 token
-  pub verified : IsVerified P384Verifies IsRefusedByP384 v3_public key_bytes options token text
+  pub verified : IsVerified valid refused design key_bytes options token text
 
-pub record VerifiesInV4 (key : List ℕ) (options : Options) (token text : List ℕ) : Type 0 where
-  pub key_bytes : List ℕ
-  pub is_key : IsHalf V4 Public 32 key key_bytes
-  pub utf8 : IsUtf8 token
-  pub verified : IsVerified Ed25519Verifies IsRefused v4_public key_bytes options token text
+abbrev pub VerifiesInV3 : List ℕ → Options → List ℕ → List ℕ → Type 0
+VerifiesInV3 = VerifiesText V3 P384Verifies IsRefusedByP384 v3_public
+
+abbrev pub VerifiesInV4 : List ℕ → Options → List ℕ → List ℕ → Type 0
+VerifiesInV4 = VerifiesText V4 Ed25519Verifies IsRefused v4_public
 
 -- the text is printed for a public key of version 3 or of version 4, and the token that the input is
 abbrev pub VerifiesBy : List ℕ → Options → List ℕ → List ℕ → Type 0

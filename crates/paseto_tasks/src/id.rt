@@ -7,13 +7,11 @@ ghost use Rattle.paseto_tasks.specs.Id.{Identifies, IdentifiesNothing, IsIdOf, I
 
 use crate::error::ProgramError;
 use crate::output::with_line_feed;
-use rusty_paseto_core::{
-    Local, PasetoAsymmetricPrivateKey, PasetoAsymmetricPublicKey, PasetoSymmetricKey, Public, V1,
-    V2, V3, V4,
-};
+use crate::suite::Suite;
+use rusty_paseto_core::{V1, V2, V3, V4};
 use rusty_paseto_paserk::{
     KeyVersion, PaserkError, PaserkType, PaserkVersion, header_of, local_from_paserk, local_id,
-    public_from_paserk, public_id, secret_from_paserk, secret_id,
+    private_key_from_paserk, public_id, public_key_from_paserk, secret_id,
 };
 use std::alloc::Global;
 
@@ -62,22 +60,20 @@ fn id_of_secret(alloc: Global, version: PaserkVersion, key: &str) -> Result<Stri
 {
     match version {
         PaserkVersion::V1 => Err(ProgramError::Key(PaserkError::OtherVersion(version))),
-        PaserkVersion::V2 => {
-            let key = secret_from_paserk::<V2, 64>(alloc, key)?;
-            let private = PasetoAsymmetricPrivateKey::<V2, Public>::from(&key);
-            Ok(secret_id(alloc, &private)?)
-        }
-        PaserkVersion::V3 => {
-            let key = secret_from_paserk::<V3, 48>(alloc, key)?;
-            let private = PasetoAsymmetricPrivateKey::<V3, Public>::from(&key);
-            Ok(secret_id(alloc, &private)?)
-        }
-        PaserkVersion::V4 => {
-            let key = secret_from_paserk::<V4, 64>(alloc, key)?;
-            let private = PasetoAsymmetricPrivateKey::<V4, Public>::from(&key);
-            Ok(secret_id(alloc, &private)?)
-        }
+        PaserkVersion::V2 => id_of_private::<V2>(alloc, key),
+        PaserkVersion::V3 => id_of_private::<V3>(alloc, key),
+        PaserkVersion::V4 => id_of_private::<V4>(alloc, key),
     }
+}
+
+/// The id of a private key, in one version.
+fn id_of_private<V: Suite>(alloc: Global, key: &str) -> Result<String, ProgramError>
+    ensures printed { IfOk result (λ id. IsIdOf key.now (string_bytes id)) }
+    ensures refused { IfErr result (λ error. IsOutside error ⊎ IsNoKeyOf V.paserk Secret key.now) }
+    ensures no_usage { IfErr result IsNoUsage }
+{
+    let private = private_key_from_paserk::<V>(alloc, key)?;
+    Ok(secret_id(alloc, &private.lend())?)
 }
 
 fn id_of_public(alloc: Global, version: PaserkVersion, key: &str) -> Result<String, ProgramError>
@@ -88,20 +84,19 @@ fn id_of_public(alloc: Global, version: PaserkVersion, key: &str) -> Result<Stri
 {
     match version {
         PaserkVersion::V1 => Err(ProgramError::Key(PaserkError::OtherVersion(version))),
-        PaserkVersion::V2 => {
-            let key = public_from_paserk::<V2, 32>(alloc, key)?;
-            let public = PasetoAsymmetricPublicKey::<V2, Public>::from(&key);
-            Ok(public_id(alloc, &public)?)
-        }
-        PaserkVersion::V3 => {
-            let key = public_from_paserk::<V3, 49>(alloc, key)?;
-            let public = PasetoAsymmetricPublicKey::<V3, Public>::try_from(&key)?;
-            Ok(public_id(alloc, &public)?)
-        }
-        PaserkVersion::V4 => {
-            let key = public_from_paserk::<V4, 32>(alloc, key)?;
-            let public = PasetoAsymmetricPublicKey::<V4, Public>::from(&key);
-            Ok(public_id(alloc, &public)?)
-        }
+        PaserkVersion::V2 => id_of_verifying::<V2>(alloc, key),
+        PaserkVersion::V3 => id_of_verifying::<V3>(alloc, key),
+        PaserkVersion::V4 => id_of_verifying::<V4>(alloc, key),
     }
+}
+
+/// The id of a public key, in one version.
+fn id_of_verifying<V: Suite>(alloc: Global, key: &str) -> Result<String, ProgramError>
+    ensures printed { IfOk result (λ id. IsIdOf key.now (string_bytes id)) }
+    ensures refused { IfErr result (λ error. IsOutside error
+        ⊎ IsNoKeyOf V.paserk PublicKey key.now) }
+    ensures no_usage { IfErr result IsNoUsage }
+{
+    let public = public_key_from_paserk::<V>(alloc, key)?;
+    Ok(public_id(alloc, &public.lend())?)
 }

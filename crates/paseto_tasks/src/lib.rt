@@ -13,6 +13,7 @@ mod local;
 mod output;
 mod public;
 pub mod run;
+mod suite;
 mod version;
 
 pub use arguments::{Action, Command, Kind, Options, Task, is_flag, is_name};
@@ -20,3 +21,4 @@ pub use error::ProgramError;
 pub use help::{VERSION, help_of};
 pub use input::{read_key_line, read_line};
 pub use output::{with_line_feed, write_whole};
+pub use suite::Suite;

@@ -4,20 +4,19 @@ ghost use Rattle.std.specs.Prelude.{◌⊎◌, ℕ, List, IfErr, IfOk, IfSome, s
 ghost use Rattle.rusty_paseto_parts.specs.declared.error.PasetoError.{PasetoError};
 ghost use Rattle.rusty_paseto_core.specs.Public.{HasPrivateLength};
 ghost use Rattle.paseto_tasks.specs.Error.{IsNoUsage, IsOutside};
-ghost use Rattle.paseto_tasks.specs.Public.{DeclinesText, IsDeclinedInV3, IsDeclinedInV4, IsSigned, IsVerified, SignsBy, SignsInV3, SignsInV4, SignsNothing, VerifiesBy, VerifiesInV3, VerifiesInV4, VerifiesNothing};
+ghost use Rattle.paseto_tasks.specs.Public.{DeclinesKey, DeclinesText, IsSigned, IsVerified, SignsBy, SignsNothing, SignsText, VerifiesBy, VerifiesNothing, VerifiesText};
 ghost use Rattle.paseto_tasks.specs.Input.{line_of_input};
 
 use crate::arguments::Options;
 use crate::error::ProgramError;
 use crate::input::{read_line, read_text};
+use crate::suite::Suite;
 use crate::version::is_of_version_3;
-use paseto_ed25519::Ed25519;
-use paseto_p384::P384;
 use rusty_paseto_core::{
     AssertionVersion, Paseto, PasetoAsymmetricPrivateKey, PasetoAsymmetricPublicKey, Payload,
     Public, Signs, V3, V4, Verifies,
 };
-use rusty_paseto_paserk::{public_from_paserk, secret_from_paserk};
+use rusty_paseto_paserk::{private_key_from_paserk, public_key_from_paserk};
 use std::alloc::Global;
 use std::io::Read;
 
@@ -35,48 +34,31 @@ pub fn sign<R: Read>(
     ensures no_usage { IfErr result IsNoUsage }
 {
     if is_of_version_3(key) {
-        sign_in_v3(alloc, key, options, input)
+        sign_by::<V3, R>(alloc, key, options, input)
     } else {
-        sign_in_v4(alloc, key, options, input)
+        sign_by::<V4, R>(alloc, key, options, input)
     }
 }
 
-fn sign_in_v3<R: Read>(
+fn sign_by<V: Suite + AssertionVersion + Signs<V::Scheme>, R: Read>(
     alloc: Global,
     key: &str,
     options: &Options<'_>,
     input: &mut R,
 ) -> Result<String, ProgramError>
     ensures printed { IfOk result (λ line. IfSome (R.remaining input.old) (λ text.
-        SignsInV3 key.now options.now text (string_bytes line))) }
+        SignsText V.paserk V.secret_length V.valid V.public_design V.partner key.now options.now
+        text (string_bytes line))) }
     ensures refused { IfErr result (λ error. IfSome (R.remaining input.old) (λ text. IsOutside error
-        ⊎ (((line : List ℕ) → ¬ SignsInV3 key.now options.now text line)
-        ⊎ IsDeclinedInV3 key.now options.now text))) }
+        ⊎ (((line : List ℕ) → ¬ SignsText V.paserk V.secret_length V.valid V.public_design V.partner
+        key.now options.now text line)
+        ⊎ DeclinesKey V.paserk V.secret_length (DeclinesText V.declined V.partner
+        V.public_design options.now text) key.now))) }
     ensures no_usage { IfErr result IsNoUsage }
 {
-    let key = secret_from_paserk::<V3, 48>(alloc, key)?;
+    let key = private_key_from_paserk::<V>(alloc, key)?;
     let text = read_text(alloc, input)?;
-    let private = PasetoAsymmetricPrivateKey::<V3, Public>::from(&key);
-    signed(alloc, &mut P384, &private, text.as_str(), options)
-}
-
-fn sign_in_v4<R: Read>(
-    alloc: Global,
-    key: &str,
-    options: &Options<'_>,
-    input: &mut R,
-) -> Result<String, ProgramError>
-    ensures printed { IfOk result (λ line. IfSome (R.remaining input.old) (λ text.
-        SignsInV4 key.now options.now text (string_bytes line))) }
-    ensures refused { IfErr result (λ error. IfSome (R.remaining input.old) (λ text. IsOutside error
-        ⊎ (((line : List ℕ) → ¬ SignsInV4 key.now options.now text line)
-        ⊎ IsDeclinedInV4 key.now options.now text))) }
-    ensures no_usage { IfErr result IsNoUsage }
-{
-    let key = secret_from_paserk::<V4, 64>(alloc, key)?;
-    let text = read_text(alloc, input)?;
-    let private = PasetoAsymmetricPrivateKey::<V4, Public>::from(&key);
-    signed(alloc, &mut Ed25519, &private, text.as_str(), options)
+    signed(alloc, &mut V::scheme(), &key.lend(), text.as_str(), options)
 }
 
 fn signed<V: AssertionVersion + Signs<S>, S>(
@@ -116,48 +98,30 @@ pub fn verify<R: Read>(
     ensures no_usage { IfErr result IsNoUsage }
 {
     if is_of_version_3(key) {
-        verify_in_v3(alloc, key, options, input)
+        verify_by::<V3, R>(alloc, key, options, input)
     } else {
-        verify_in_v4(alloc, key, options, input)
+        verify_by::<V4, R>(alloc, key, options, input)
     }
 }
 
-fn verify_in_v3<R: Read>(
+fn verify_by<V: Suite + AssertionVersion + Verifies<V::Scheme>, R: Read>(
     alloc: Global,
     key: &str,
     options: &Options<'_>,
     input: &mut R,
 ) -> Result<String, ProgramError>
     ensures printed { IfOk result (λ text. IfSome (R.remaining input.old) (λ bytes.
-        VerifiesInV3 key.now options.now (line_of_input bytes) (string_bytes text))) }
+        VerifiesText V.paserk V.valid V.refused V.public_design key.now options.now
+        (line_of_input bytes) (string_bytes text))) }
     ensures refused { IfErr result (λ error. IfSome (R.remaining input.old)
         (λ bytes. IsOutside error
-        ⊎ ((text : List ℕ) → ¬ VerifiesInV3 key.now options.now (line_of_input bytes) text))) }
+        ⊎ ((text : List ℕ) → ¬ VerifiesText V.paserk V.valid V.refused V.public_design key.now
+        options.now (line_of_input bytes) text))) }
     ensures no_usage { IfErr result IsNoUsage }
 {
-    let key = public_from_paserk::<V3, 49>(alloc, key)?;
+    let key = public_key_from_paserk::<V>(alloc, key)?;
     let token = read_line(alloc, input)?;
-    let public = PasetoAsymmetricPublicKey::<V3, Public>::try_from(&key)?;
-    verified(alloc, &P384, &public, token.as_str(), options)
-}
-
-fn verify_in_v4<R: Read>(
-    alloc: Global,
-    key: &str,
-    options: &Options<'_>,
-    input: &mut R,
-) -> Result<String, ProgramError>
-    ensures printed { IfOk result (λ text. IfSome (R.remaining input.old) (λ bytes.
-        VerifiesInV4 key.now options.now (line_of_input bytes) (string_bytes text))) }
-    ensures refused { IfErr result (λ error. IfSome (R.remaining input.old)
-        (λ bytes. IsOutside error
-        ⊎ ((text : List ℕ) → ¬ VerifiesInV4 key.now options.now (line_of_input bytes) text))) }
-    ensures no_usage { IfErr result IsNoUsage }
-{
-    let key = public_from_paserk::<V4, 32>(alloc, key)?;
-    let token = read_line(alloc, input)?;
-    let public = PasetoAsymmetricPublicKey::<V4, Public>::from(&key);
-    verified(alloc, &Ed25519, &public, token.as_str(), options)
+    verified(alloc, &V::scheme(), &key.lend(), token.as_str(), options)
 }
 
 fn verified<V: AssertionVersion + Verifies<S>, S>(

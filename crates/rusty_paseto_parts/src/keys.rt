@@ -2,6 +2,7 @@
 
 pub mod key;
 pub mod nonce;
+pub mod owned_keys;
 pub mod private_key;
 pub mod public_key;
 pub mod symmetric_key;

@@ -30,6 +30,7 @@ pub use absorb::Absorb;
 pub use error::PasetoError;
 pub use keys::key::Key;
 pub use keys::nonce::PasetoNonce;
+pub use keys::owned_keys::{PrivateKey, PublicKey};
 pub use keys::private_key::PasetoAsymmetricPrivateKey;
 pub use keys::public_key::PasetoAsymmetricPublicKey;
 pub use keys::symmetric_key::PasetoSymmetricKey;

@@ -1,7 +1,7 @@
 //! The keys of tokens as text, and back.
 
 ghost use Rattle.std.specs.Prelude.{◌≡◌, length, IsTrue, IfOk, IfErr, MatchResult, string_bytes};
-ghost use Rattle.rusty_paseto_paserk.specs.declared.header.PaserkType.TheVariants.{Local as LocalKey, Secret, Public as PublicKey};
+ghost use Rattle.rusty_paseto_paserk.specs.declared.header.PaserkType.TheVariants.{Local as LocalKey, Secret, Public as PublicKeys};
 ghost use Rattle.rusty_paseto_paserk.specs.Error.{IsMemory};
 ghost use Rattle.rusty_paseto_paserk.specs.Text.{ReadsKey, WritesSecret, writing};
 
@@ -10,7 +10,8 @@ use crate::header::PaserkType;
 use crate::text::{read_bytes, write_key};
 use crate::versions::{KeyPairVersion, KeyVersion};
 use rusty_paseto_parts::{
-    Key, Local, PasetoAsymmetricPrivateKey, PasetoAsymmetricPublicKey, PasetoSymmetricKey, Public,
+    Key, Local, PasetoAsymmetricPrivateKey, PasetoAsymmetricPublicKey, PasetoSymmetricKey,
+    PrivateKey, Public, PublicKey,
 };
 use std::alloc::Global;
 
@@ -91,6 +92,22 @@ pub fn secret_from_paserk<V: KeyPairVersion, const N: usize>(
     Ok(Key::from_slice(&bytes))
 }
 
+/// The private key whose text this is, which owns its bytes. The errors are those of `secret_from_paserk`.
+///
+/// Source: PASERK specification, type `secret`.
+pub fn private_key_from_paserk<V: KeyPairVersion>(
+    alloc: Global,
+    text: &str,
+) -> Result<PrivateKey<V>, PaserkError>
+    ensures { ReadsKey V.paserk Secret (λ key. length key ≡ V.secret_length) text.now result }
+{
+    let bytes = read_bytes(alloc, V::paserk_version(), PaserkType::Secret, text)?;
+    if bytes.len() != V::secret_length() {
+        return Err(PaserkError::InvalidKey);
+    }
+    Ok(PrivateKey::from_vec(bytes))
+}
+
 /// The text of the public half of a key pair, for example `k4.public.` and 43 characters. It fails only by `Memory`.
 ///
 /// Source: PASERK specification, type `public`.
@@ -98,7 +115,7 @@ pub fn public_to_paserk<V: KeyPairVersion>(
     alloc: Global,
     key: &PasetoAsymmetricPublicKey<'_, V, Public>,
 ) -> Result<String, PaserkError>
-    ensures ok { IfOk result (λ text. string_bytes text ≡ writing V.paserk PublicKey key.now) }
+    ensures ok { IfOk result (λ text. string_bytes text ≡ writing V.paserk PublicKeys key.now) }
     ensures err { IfErr result IsMemory }
 {
     write_key(
@@ -120,7 +137,7 @@ pub fn public_from_paserk<V: KeyPairVersion, const N: usize>(
     text: &str,
 ) -> Result<Key<N>, PaserkError>
     requires { N ≡ V.public_length }
-    ensures { ReadsKey V.paserk PublicKey (λ key. (length key ≡ N) × IsTrue (V.is_public_key key))
+    ensures { ReadsKey V.paserk PublicKeys (λ key. (length key ≡ N) × IsTrue (V.is_public_key key))
         text.now result }
 {
     let bytes = read_bytes(alloc, V::paserk_version(), PaserkType::Public, text)?;
@@ -128,4 +145,20 @@ pub fn public_from_paserk<V: KeyPairVersion, const N: usize>(
         return Err(PaserkError::InvalidKey);
     }
     Ok(Key::from_slice(&bytes))
+}
+
+/// The public key whose text this is, which owns its bytes. The errors are those of `public_from_paserk`.
+///
+/// Source: PASERK specification, type `public`.
+pub fn public_key_from_paserk<V: KeyPairVersion>(
+    alloc: Global,
+    text: &str,
+) -> Result<PublicKey<V>, PaserkError>
+    ensures { ReadsKey V.paserk PublicKeys (λ key. IsTrue (V.is_public_key key)) text.now result }
+{
+    let bytes = read_bytes(alloc, V::paserk_version(), PaserkType::Public, text)?;
+    if !V::is_public_key(&bytes) {
+        return Err(PaserkError::InvalidKey);
+    }
+    Ok(PublicKey::from_vec(bytes))
 }

@@ -31,7 +31,7 @@ pub use error::PaserkError;
 pub use header::{PaserkType, PaserkVersion, header_of};
 pub use id::{local_id, public_id, secret_id};
 pub use keys::{
-    local_from_paserk, local_to_paserk, public_from_paserk, public_to_paserk, secret_from_paserk,
-    secret_to_paserk,
+    local_from_paserk, local_to_paserk, private_key_from_paserk, public_from_paserk,
+    public_key_from_paserk, public_to_paserk, secret_from_paserk, secret_to_paserk,
 };
 pub use versions::{KeyPairVersion, KeyVersion};

@@ -1,6 +1,7 @@
 //! The versions of PASETO whose keys have texts in PASERK.
 
-ghost use Rattle.std.specs.Prelude.{◌≡◌, ℕ};
+ghost use Rattle.std.specs.Prelude.{◌≡◌, ℕ, List, IsTrue, length};
+ghost use Rattle.std.proofs.Common.{rules};
 ghost use Rattle.rusty_paseto_paserk.specs.declared.header.PaserkVersion.{PaserkVersion as Paserk};
 ghost use Rattle.rusty_paseto_paserk.specs.declared.header.PaserkVersion.TheVariants.{V1 as K1, V2 as K2, V3 as K3, V4 as K4};
 
@@ -35,6 +36,10 @@ pub trait KeyPairVersion: KeyVersion {
     /// of which is 2 or 3.
     fn is_public_key(bytes: &[u8]) -> bool
         ensures { result ≡ Self.is_public_key bytes.now };
+
+    // A private key of the version may have any so many bytes.
+    ghost has_private_keys: { (key : List ℕ) → length key ≡ Self.secret_length
+        → IsTrue (Self.is_private_key key) };
 }
 
 impl KeyVersion for V1 {
@@ -81,6 +86,8 @@ impl KeyPairVersion for V2 {
     fn is_public_key(bytes: &[u8]) -> bool {
         bytes.len() == 32
     }
+
+    ghost has_private_keys = { Prim.search rules };
 }
 
 impl KeyPairVersion for V3 {
@@ -95,6 +102,8 @@ impl KeyPairVersion for V3 {
     fn is_public_key(bytes: &[u8]) -> bool {
         bytes.len() == 49 && (bytes[0] == 2 || bytes[0] == 3)
     }
+
+    ghost has_private_keys = { Prim.search rules };
 }
 
 impl KeyPairVersion for V4 {
@@ -109,4 +118,6 @@ impl KeyPairVersion for V4 {
     fn is_public_key(bytes: &[u8]) -> bool {
         bytes.len() == 32
     }
+
+    ghost has_private_keys = { Prim.search rules };
 }

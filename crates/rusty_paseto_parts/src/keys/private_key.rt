@@ -33,6 +33,18 @@ impl<'a, V: VersionTrait, P> Model for PasetoAsymmetricPrivateKey<'a, V, P> {
 }
 
 impl<'a, V: VersionTrait, P> PasetoAsymmetricPrivateKey<'a, V, P> {
+    /// The key of these bytes, which a private key of the version may have.
+    pub(crate) fn of(bytes: &'a [u8]) -> Self
+        requires { IsTrue (V.is_private_key bytes.now) }
+        ensures { result ≡ bytes.now }
+    {
+        PasetoAsymmetricPrivateKey {
+            bytes,
+            version: PhantomData,
+            purpose: PhantomData,
+        }
+    }
+
     /// The bytes of the key, as they were given.
     pub fn as_bytes(&self) -> &[u8]
         ensures bytes { result.now ≡ self.now }

@@ -35,6 +35,18 @@ impl<'a, V: VersionTrait, P> Model for PasetoAsymmetricPublicKey<'a, V, P> {
 }
 
 impl<'a, V: VersionTrait, P> PasetoAsymmetricPublicKey<'a, V, P> {
+    /// The key of these bytes, which a public key of the version may have.
+    pub(crate) fn of(bytes: &'a [u8]) -> Self
+        requires { IsTrue (V.is_public_key bytes.now) }
+        ensures { result ≡ bytes.now }
+    {
+        PasetoAsymmetricPublicKey {
+            bytes,
+            version: PhantomData,
+            purpose: PhantomData,
+        }
+    }
+
     /// The bytes of the key, as they were given.
     pub fn as_bytes(&self) -> &[u8]
         ensures bytes { result.now ≡ self.now }

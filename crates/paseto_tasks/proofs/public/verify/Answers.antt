@@ -7,13 +7,13 @@ use Rattle.paseto_tasks.proofs.public.verify.Goals as goal
 pub returns-then-is_of_version_3-clause-refused : goal.returns-then-is_of_version_3-clause-refused
 returns-then-is_of_version_3-clause-refused g c =
     let begins = rw c.if-is_of_version_3.true at c.is_of_version_3.ensures in
-    first_of_two c.verify_in_v3.result _ (λ bytes text. VerifiesInV3 c.args.key.now c.args.options.now (line_of_input bytes) text)
+    first_of_two c.verify_by.result _ (λ bytes text. VerifiesInV3 c.args.key.now c.args.options.now (line_of_input bytes) text)
     (λ bytes text. VerifiesInV4 c.args.key.now c.args.options.now (line_of_input bytes) text)
-    (λ bytes text o. not_v4 c.args.key.now o.key_bytes Public begins o.is_key.is_writing) c.verify_in_v3.ensures.refused
+    (λ bytes text o. not_v4 c.args.key.now o.key_bytes Public begins o.is_key.is_writing) c.verify_by.ensures.refused
 
 pub returns-else-is_of_version_3-clause-refused : goal.returns-else-is_of_version_3-clause-refused
 returns-else-is_of_version_3-clause-refused g c =
     let none = rw c.if-is_of_version_3.false at c.is_of_version_3.ensures in
-    second_of_two c.verify_in_v4.result _ (λ bytes text. VerifiesInV3 c.args.key.now c.args.options.now (line_of_input bytes) text)
+    second_of_two c.verify_by-else-is_of_version_3.result _ (λ bytes text. VerifiesInV3 c.args.key.now c.args.options.now (line_of_input bytes) text)
     (λ bytes text. VerifiesInV4 c.args.key.now c.args.options.now (line_of_input bytes) text)
-    (λ bytes text o. not_v3 c.args.key.now o.key_bytes Public none o.is_key.is_writing) c.verify_in_v4.ensures.refused
+    (λ bytes text o. not_v3 c.args.key.now o.key_bytes Public none o.is_key.is_writing) c.verify_by-else-is_of_version_3.ensures.refused
