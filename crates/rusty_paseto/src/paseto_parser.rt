@@ -1,7 +1,6 @@
 //! The default parser of tokens.
 
-ghost use Rattle.std.specs.Prelude.{◌≡◌, ◌⊎◌, if◌then◌else◌, None, IfOk, IfErr, OnOk, OnErr};
-ghost use Rattle.serde_json.specs.View.{view};
+ghost use Rattle.std.specs.Prelude.{◌≡◌, if◌then◌else◌, None, IfOk, IfErr, OnOk, OnErr};
 ghost use Rattle.rusty_paseto_core.specs.Context.{binding_of};
 ghost use Rattle.rusty_paseto_core.specs.Local.Boxed.{box_opening};
 ghost use Rattle.rusty_paseto_core.specs.Local.Opening.{opening};
@@ -9,8 +8,7 @@ ghost use Rattle.rusty_paseto_core.specs.Public.Verifying.{verification};
 ghost use Rattle.rusty_paseto_generic.specs.Error.Parser.{IsMemory};
 ghost use Rattle.rusty_paseto_generic.specs.Parsers.Held.{checkers_of, rules_of, verdicts_of, with_times};
 ghost use Rattle.rusty_paseto_generic.specs.Parsers.Times.{times_at};
-ghost use Rattle.rusty_paseto_generic.specs.Parsers.Parsing.{IsCheckFault, IsParseAnswer, assertion_in};
-ghost use Rattle.rusty_paseto_generic.specs.Parsers.Verdicts.{PassesAll};
+ghost use Rattle.rusty_paseto_generic.specs.Parsers.Parsing.{IsParseAnswer, assertion_in};
 ghost use Rattle.rusty_paseto_generic.specs.Parsers.Rules.{AreSame, all_with_checkers, no_rule};
 
 use crate::version::DefaultLocalVersion;
@@ -191,20 +189,6 @@ impl<'a, V: ImplicitAssertionCapable, P: PurposeTrait, B: Drop> DefaultParser<'a
     {
         self.parser.set_implicit_assertion(implicit_assertion);
         self
-    }
-}
-
-impl<V: VersionTrait, P: PurposeTrait> DefaultParser<'_, V, P, ValidatorFn> {
-    /// Checks a value that was parsed already, at the parser's moment, as `check` of a `GenericParser` does.
-    pub fn check(&self, value: &Value) -> Result<(), GenericParserError>
-        ensures ok { let parser = self.now.parser in
-            OnOk result (PassesAll (verdicts_of (λ b. verdict b)
-            (times_at parser.moment parser.leeway) parser.checks) (view value.now)) }
-        ensures err { let parser = self.now.parser in
-            IfErr result (λ error. IsMemory error ⊎ IsCheckFault (verdicts_of (λ b. verdict b)
-            (times_at parser.moment parser.leeway) parser.checks) (view value.now) error) }
-    {
-        self.parser.check(value)
     }
 }
 

@@ -1,7 +1,7 @@
 //! The parser of tokens of every version and purpose.
 
-ghost use Rattle.std.specs.Prelude.{◌≡◌, ◌⊎◌, ℕ, List, if◌then◌else◌, None, Some, IfOk, IfErr, OnOk, OnErr};
-ghost use Rattle.serde_json.specs.View.{members_view, view};
+ghost use Rattle.std.specs.Prelude.{◌≡◌, ℕ, List, if◌then◌else◌, None, Some, IfOk, IfErr, OnOk, OnErr};
+ghost use Rattle.serde_json.specs.View.{members_view};
 ghost use Rattle.rusty_paseto_claims.specs.Whole.{first_odd};
 ghost use Rattle.rusty_paseto_core.specs.Context.{assertion_of, binding_of, footer_of};
 ghost use Rattle.rusty_paseto_core.specs.Footer.{footer_text};
@@ -12,13 +12,11 @@ ghost use Rattle.rusty_paseto_core.specs.Public.Verifying.{verification};
 ghost use Rattle.rusty_paseto_generic.specs.Error.Parser.{IsMemory, IsRefusal};
 ghost use Rattle.rusty_paseto_generic.specs.Parsers.Held.{checkers_of, rules_of, verdicts_of, with_times};
 ghost use Rattle.rusty_paseto_generic.specs.Parsers.Times.{times_at};
-ghost use Rattle.rusty_paseto_generic.specs.Parsers.Parsing.{IsCheckFault, IsParseAnswer, IsTextAnswer, assertion_in};
-ghost use Rattle.rusty_paseto_generic.specs.Parsers.Verdicts.{PassesAll};
+ghost use Rattle.rusty_paseto_generic.specs.Parsers.Parsing.{IsParseAnswer, IsTextAnswer, assertion_in};
 ghost use Rattle.rusty_paseto_generic.specs.Parsers.Rules.{AreSame, IsStored, all_with_checkers, all_stored, edited, fault_in, no_rule, odd_fault, whole_answer, with_both, with_required, with_stored};
 
 use crate::builders::GenericLocalVersion;
 use crate::error::GenericParserError;
-use crate::parsers::check_all::check_all;
 use crate::parsers::checks::Checks;
 use crate::parsers::parsing::{parse_opened, parse_text};
 use crate::parsers::setter::CheckSetter;
@@ -277,20 +275,6 @@ impl<V: VersionTrait, P: PurposeTrait> TokenParser<'_, V, P, ValidatorFn> {
             (times_at self.now.moment self.now.leeway) self.now.checks) text.now result }
     {
         parse_text(&self.checks, &self.times(), text)
-    }
-
-    /// Checks a value that was parsed already, at the parser's moment, as `parse` checks that of a token.
-    ///
-    /// `ClaimError` comes for the first key in byte order that fails its check. `Memory` may come in place of any
-    /// answer.
-    pub fn check(&self, value: &Value) -> Result<(), GenericParserError>
-        ensures ok { OnOk result (PassesAll (verdicts_of (λ b. verdict b)
-            (times_at self.now.moment self.now.leeway) self.now.checks) (view value.now)) }
-        ensures err { IfErr result (λ error. IsMemory error ⊎ IsCheckFault
-            (verdicts_of (λ b. verdict b) (times_at self.now.moment self.now.leeway)
-            self.now.checks) (view value.now) error) }
-    {
-        Ok(check_all(self.checks.allocator(), &self.times(), &self.checks, value)?)
     }
 }
 
