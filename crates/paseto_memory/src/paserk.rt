@@ -27,6 +27,16 @@ fn read_local(alloc: Global, text: &str) -> Result<String, PaserkError> {
     local_to_paserk(alloc, &key)
 }
 
+fn read_private(alloc: Global, text: &str) -> Result<String, PaserkError> {
+    let key = private_key_from_paserk::<V4>(alloc, text)?;
+    secret_to_paserk(alloc, &key.lend())
+}
+
+fn read_public(alloc: Global, text: &str) -> Result<String, PaserkError> {
+    let key = public_key_from_paserk::<V4>(alloc, text)?;
+    public_to_paserk(alloc, &key.lend())
+}
+
 fn ask_pairs(run: &mut Run<'_>) -> Result<()> {
     let (alloc, keys) = (run.alloc, Keys::of(&SECRET));
     let (private, public) = (V4::private_key(&keys), V4::public_key(&keys)?);
@@ -39,11 +49,15 @@ fn ask_pairs(run: &mut Run<'_>) -> Result<()> {
         "secret_from_paserk of v4.public" => secret_from_paserk::<V4, 64>(alloc, secret.as_str()).map(bytes_of);
         "secret_from_paserk of another text, refused"
             => secret_from_paserk::<V4, 64>(alloc, other_secret.as_str()).map(bytes_of);
+        "private_key_from_paserk of v4.public" => read_private(alloc, secret.as_str());
+        "private_key_from_paserk of another text, refused" => read_private(alloc, other_secret.as_str());
         "secret_id of v4.public" => secret_id(alloc, &private);
         "public_to_paserk of v4.public" => public_to_paserk(alloc, &public);
         "public_from_paserk of v4.public" => public_from_paserk::<V4, 32>(alloc, text.as_str()).map(bytes_of);
         "public_from_paserk of another text, refused"
             => public_from_paserk::<V4, 32>(alloc, other_public.as_str()).map(bytes_of);
+        "public_key_from_paserk of v4.public" => read_public(alloc, text.as_str());
+        "public_key_from_paserk of another text, refused" => read_public(alloc, other_public.as_str());
         "public_id of v4.public" => public_id(alloc, &public);
     }
 }

@@ -12,8 +12,8 @@ use rusty_paseto_parts::{
 };
 use rusty_paseto_paserk::{
     KeyPairVersion, KeyVersion, PaserkError, local_from_paserk, local_id, local_to_paserk,
-    public_from_paserk, public_id, public_to_paserk, secret_from_paserk, secret_id,
-    secret_to_paserk,
+    private_key_from_paserk, public_from_paserk, public_id, public_key_from_paserk,
+    public_to_paserk, secret_from_paserk, secret_id, secret_to_paserk,
 };
 use std::alloc::Global;
 use std::process::Abort;
@@ -58,6 +58,8 @@ fn agrees_as_secret<V: KeyPairVersion>(
 ) {
     expect_answer(rt, secret_to_paserk(alloc, key), text);
     expect_answer(rt, secret_id(alloc, key), id);
+    let again = private_key_from_paserk::<V>(alloc, text).expect(rt, "a key");
+    expect_bytes(rt, again.lend().as_bytes(), key.as_bytes());
 }
 
 fn agrees_as_public<V: KeyPairVersion>(
@@ -69,6 +71,8 @@ fn agrees_as_public<V: KeyPairVersion>(
 ) {
     expect_answer(rt, public_to_paserk(alloc, key), text);
     expect_answer(rt, public_id(alloc, key), id);
+    let again = public_key_from_paserk::<V>(alloc, text).expect(rt, "a key");
+    expect_bytes(rt, again.lend().as_bytes(), key.as_bytes());
 }
 
 fn agrees_in_p384(rt: &impl Abort, alloc: Global, row: &Row) {

@@ -3,8 +3,8 @@
 use crate::expect::{expect_text, expect_that};
 use rusty_paseto_parts::{PasetoAsymmetricPrivateKey, Public, V1, V3, V4};
 use rusty_paseto_paserk::{
-    PaserkError, PaserkType, PaserkVersion, header_of, local_from_paserk, public_from_paserk,
-    secret_from_paserk, secret_id, secret_to_paserk,
+    PaserkError, PaserkType, PaserkVersion, header_of, local_from_paserk, private_key_from_paserk,
+    public_from_paserk, public_key_from_paserk, secret_from_paserk, secret_id, secret_to_paserk,
 };
 use std::process::Abort;
 
@@ -71,6 +71,19 @@ const REFUSED: &[(&str, &str)] = &[
         "The key was not in the correct format",
     ),
 ];
+
+#[test]
+fn owned_keys_are_refused_by_name(rt: HostRuntime) {
+    let alloc = rt.alloc();
+    let private = private_key_from_paserk::<V4>(alloc, LOCAL);
+    expect_fault(&rt, private, "The key is one for local tokens");
+    let private = private_key_from_paserk::<V3>(alloc, "k3.secret.AAAA");
+    expect_fault(&rt, private, "The key was not in the correct format");
+    let public = public_key_from_paserk::<V3>(alloc, LOCAL);
+    expect_fault(&rt, public, "The key is one of version 4");
+    let public = public_key_from_paserk::<V4>(alloc, "k4.public.AAAA");
+    expect_fault(&rt, public, "The key was not in the correct format");
+}
 
 #[test]
 fn other_texts_are_refused_by_name(rt: HostRuntime) {
