@@ -8,6 +8,7 @@
      secrets VERSION open       the key is undefined, and tokens are opened
      secrets ed25519 key        the seeds are undefined, and their public keys are made
      secrets ed25519 sign       the seed of the private key is undefined, and messages of each length are signed
+     secrets ed25519 signer     the same, under a key whose halves are asked once
      secrets p384 key           private keys are undefined, and their public keys are made
      secrets p384 sign          private keys are undefined, and texts of each length are signed
      secrets rsa sign           private keys are read from standard input, a line of hexadecimal digits each; the numbers
@@ -148,7 +149,7 @@ static int make_public_keys(void) {
 }
 
 /* The seed of the private key is undefined, and its public half is not. */
-static int sign_all(void) {
+static int sign_all(paseto_bench_digest *sign) {
     material *m = make_material();
     uint8_t private_key[2 * KEY], signature[SIGNATURE];
     memcpy(private_key, m->key, KEY);
@@ -156,8 +157,7 @@ static int sign_all(void) {
     VALGRIND_MAKE_MEM_UNDEFINED(private_key, KEY);
     int right = 0;
     for (size_t i = 0; i < LENGTH_COUNT; i++) {
-        right += done(paseto_bench_ed25519_sign(private_key, sizeof private_key, m->text, LENGTHS[i], signature,
-                                                SIGNATURE, 1));
+        right += done(sign(private_key, sizeof private_key, m->text, LENGTHS[i], signature, SIGNATURE, 1));
     }
     free(m);
     return right;
@@ -239,7 +239,10 @@ int main(int argc, char **argv) {
     int right = -1;
     if (strcmp(argv[1], "control") == 0) right = control();
     if (strcmp(argv[1], "ed25519") == 0 && strcmp(argv[2], "key") == 0) right = make_public_keys();
-    if (strcmp(argv[1], "ed25519") == 0 && strcmp(argv[2], "sign") == 0) right = sign_all();
+    if (strcmp(argv[1], "ed25519") == 0 && strcmp(argv[2], "sign") == 0) right = sign_all(paseto_bench_ed25519_sign);
+    if (strcmp(argv[1], "ed25519") == 0 && strcmp(argv[2], "signer") == 0) {
+        right = sign_all(paseto_bench_ed25519_sign_with_key);
+    }
     if (strcmp(argv[1], "rsa") == 0 && strcmp(argv[2], "sign") == 0) right = rsa_sign_all();
     if (strcmp(argv[1], "p384") == 0) right = p384_all(strcmp(argv[2], "sign") == 0);
     for (size_t i = 0; i < sizeof VERSIONS / sizeof *VERSIONS; i++) {

@@ -106,7 +106,7 @@ for version in v1 v2 v3 v4 box; do
         check "$version" "$call"
     done
 done
-for call in key sign; do
+for call in key sign signer; do
     check ed25519 "$call"
 done
 check p384 key

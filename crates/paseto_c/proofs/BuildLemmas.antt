@@ -169,5 +169,5 @@ public_made private text now footer assertion taken_key f a ke fe we ae taken fo
     repeat_refuses (building_public private text now footer assertion) taken text now (λ other. inl) found is claims keys begun refusal repeat
 public_made private text now footer assertion taken_key f a ke fe we ae taken found is claims keys begun (Err refusal) ok (inr declined) =
     refused refusal taken (inr (is_built (building_public private text now footer assertion) taken text now (λ other. inl) found is claims keys begun
-        (λ payload. IsDeclined IsDeclinedKey private (message v4_public (binding (partner private) footer assertion) payload) refusal)
-        declined.0 (rw (ke, fe, ae) at declined.1)))
+    (λ payload. IsDeclined IsDeclinedKey private (message v4_public (binding (partner private) footer assertion) payload) refusal)
+    declined.0 (rw (ke, fe, ae) at declined.1)))

@@ -184,10 +184,13 @@ sign_refuses keys declined private signed error why = elim (some_or_none keys.re
   ]
   | inr none ↦ elim (why.1 none) [
     | inl memory ↦ inl (memory_repeat keys error memory)
-    | inr found ↦ inr (none, record {
-      error = found.0;
-      is_error = found.1;
-      is_refusal = ap builder_refusal found.2 ∙ cipher_refusal found.0;
-    })
+    | inr found ↦ inr (
+      none,
+      record {
+        error = found.0;
+        is_error = found.1;
+        is_refusal = ap builder_refusal found.2 ∙ cipher_refusal found.0;
+      },
+    )
   ]
 ]

@@ -206,12 +206,15 @@ module _ (order : Ordered) (claims : Members) (keys : Counting) (footer : Option
   declined_order : (declined : Declining) (half : List ℕ → List ℕ) (design : PublicDesign) (private : List ℕ)
       → (refusal : PasetoError) × declined private (message design (binding_of (half private) footer assertion) (payload claims)) refusal
       → (source : PasetoError) × DeclinesOrder declined half design order private source
-  declined_order declined half design private found = (found.0, record {
-    claims = claims;
-    are_ordered = are;
-    is_declined = subst (λ (b : Binding). declined private (message design b (payload claims)) found.0)
-        (bound_same (half private) footer assertion order.footer none is_footer) found.1;
-  })
+  declined_order declined half design private found = (
+    found.0,
+    record {
+      claims = claims;
+      are_ordered = are;
+      is_declined = subst (λ (b : Binding). declined private (message design b (payload claims)) found.0)
+          (bound_same (half private) footer assertion order.footer none is_footer) found.1;
+    },
+  )
 
   pub signs_none : (valid : Validity) (declined : Declining) (half : List ℕ → List ℕ) (design : PublicDesign) (private : List ℕ)
       (answer : Result (String Global) GenericBuilderError) (error : ProgramError)
