@@ -106,5 +106,5 @@ check() {
 }
 
 check ed25519 90 220 2
-check p384 110 300 1
+check p384 200 450 1
 finish
