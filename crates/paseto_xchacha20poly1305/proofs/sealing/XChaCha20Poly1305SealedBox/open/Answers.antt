@@ -36,9 +36,10 @@ returns-in_err-message-clause-err c =
     let own = c.tag_of-own.ensures
     ∙ ap (λ (t : List ℕ). text_tag key nonce c.args.data.now t) c.split_at.ensures.front in
     let found = c.same_bytes.ensures.0 c.if-not-same_bytes.false in
-    where_err c.from_residual.result
-    (xored_text key nonce (take (length boxed - 16) boxed),
-    own_tag key nonce c.args.data.now boxed low high bytes (sym own ∙ found ∙ c.split_at.ensures.back))
+    where_err c.from_residual.result (
+      xored_text key nonce (take (length boxed - 16) boxed),
+      own_tag key nonce c.args.data.now boxed low high bytes (sym own ∙ found ∙ c.split_at.ensures.back),
+    )
 
 pub returns-clause-ok : goal.returns-clause-ok
 unfolding xored_text
