@@ -45,13 +45,6 @@ counted() {
     echo "$name: $right passed, $wrong failed"
 }
 
-# needs COMMAND PACKAGE
-needs() {
-    command -v "$1" >/dev/null && return
-    fail "$1 is missing. On Debian: apt-get install $2"
-    finish
-}
-
 needs cc gcc
 needs c++ g++
 needs nm binutils

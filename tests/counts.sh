@@ -18,3 +18,10 @@ finish() {
     [ "$failed" -eq 0 ]
     exit
 }
+
+# needs COMMAND PACKAGE: ends the script where a command that it asks is missing.
+needs() {
+    command -v "$1" >/dev/null && return
+    fail "$1 is missing. On Debian: apt-get install $2"
+    finish
+}

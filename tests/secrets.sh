@@ -28,13 +28,6 @@ work=$(mktemp -d)
 trap 'rm -rf "$work"' EXIT
 source "$root/tests/counts.sh"
 
-# needs COMMAND PACKAGE
-needs() {
-    command -v "$1" >/dev/null && return
-    fail "$1 is missing. On Debian: apt-get install $2"
-    finish
-}
-
 needs cc gcc
 needs valgrind valgrind
 
