@@ -5,13 +5,13 @@ use Rattle.paseto_edwards.specs.Group.{Affine, neutral, opposite as opposite_of}
 use Rattle.paseto_edwards.specs.Extended.{Extended, Stands, added as added_of, doubled as doubled_of, negated, of_affine}
 use Rattle.paseto_polynomials.specs.Element.{minus as minus_of, plus as plus_of, times as times_of}
 use Rattle.paseto_edwards.specs.Multiples.{multiple_of}
-use Rattle.paseto_edwards.proofs.GroupLaws.{neutral-point, opposite-point, sum-associative, sum-neutral, sum-point}
+use Rattle.paseto_edwards.proofs.GroupLaws.{neutral-point, opposite-point, sum-associative, sum-commutative, sum-neutral, sum-opposite, sum-point}
 use Rattle.paseto_primes.proofs.CongruenceLaws.{same-times}
 use Rattle.paseto_primes.proofs.EulerLaws.{inverse as inverse-of}
 use Rattle.paseto_edwards.proofs.ExtendedLaws.{added-stands, affine-stands, affine-x, affine-y, doubled-stands, opposite-stands, times-is}
 use Rattle.paseto_edwards.proofs.CurveLaws.{base-point, curve}
 use Rattle.paseto_primes.proofs.FieldOfEdwards25519.{is-prime}
-use Rattle.paseto_edwards.proofs.MultipleLaws.{neutral-sum, multiple-neutral, multiple-one, multiple-plus, multiple-point, multiple-times, multiple-sum, sum-four}
+use Rattle.paseto_edwards.proofs.MultipleLaws.{neutral-sum, multiple-neutral, multiple-one, multiple-opposite, multiple-plus, multiple-point, multiple-times, multiple-sum, sum-four}
 use Rattle.paseto_edwards25519.specs.Curve.{IsPoint, base_t, multiple, opposite, sum, twice_d}
 use Rattle.paseto_edwards.specs.Edwards25519.{base, base_x, base_y, d, prime}
 use Rattle.paseto_edwards25519.specs.Extended.{IsExtended, affine, between, extended, factored, flat, half, half_of_inverse_d}
@@ -124,6 +124,25 @@ unfolding between
 between-of x y z t x_low y_low t_low =
     rw (first-of x y x_low y_low, second-of x y x_low y_low, last-of t t_low) refl
 
+opposed-first : (m s : ℕ) → m < prime → s < prime → times half (minus m s) ≡ minus 0 (times half (minus s m))
+unfolding minus times
+opposed-first m s m_low s_low = omega arith
+
+opposed-second : (m s : ℕ) → times half (plus m s) ≡ times half (plus s m)
+unfolding plus times
+opposed-second m s = omega arith
+
+opposed-last : (k : ℕ) → k < prime → times half_of_inverse_d (minus 0 k) ≡ minus 0 (times half_of_inverse_d k)
+unfolding minus times
+opposed-last k k_low = omega arith
+
+-- those of the opposite
+pub opposed-gives : (m s w k : ℕ) → m < prime → s < prime → k < prime → IsExtended (between m s w k)
+    → Gives (between s m w (minus 0 k)) (opposite (affine (between m s w k)))
+unfolding between
+opposed-gives m s w k m_low s_low k_low q_is =
+    rw (opposed-first m s m_low s_low, opposed-second m s, opposed-last k k_low) (opposite-gives (between m s w k) q_is)
+
 -- the factors of a sum
 pub sum-factors : (x y z t m s w k a b c zz dd e f g h : ℕ) → m < prime → s < prime → k < prime
     → IsExtended (extended x y z t) → IsExtended (between m s w k)
@@ -221,5 +240,12 @@ multiple-of_multiple m n a point = sym (multiple-times prime d curve m n a point
 pub multiple-of_neutral : (n : ℕ) → multiple n neutral ≡ neutral
 multiple-of_neutral n = multiple-neutral prime d curve n
 
-pub sum-with_none : (a b : Affine) → IsPoint a → sum a (multiple 0 b) ≡ a
-sum-with_none a b point = ap (λ c. sum a c) (multiple-none b) ∙ neutral-sum prime d curve a point
+pub neutral-right : (a : Affine) → IsPoint a → sum a neutral ≡ a
+neutral-right a point = neutral-sum prime d curve a point
+
+-- the sum of a point and its opposite
+pub sum-with_opposite : (a : Affine) → IsPoint a → sum a (opposite a) ≡ neutral
+sum-with_opposite a point = sum-commutative prime d a (opposite a) ∙ sum-opposite prime d curve a point
+
+pub multiple-of_opposite : (n : ℕ) (a : Affine) → IsPoint a → multiple n (opposite a) ≡ opposite (multiple n a)
+multiple-of_opposite n a point = multiple-opposite prime d curve n a point

@@ -10,5 +10,6 @@ pub mod MultipleLaws
 pub mod OrderLaws
 pub mod RootLaws
 pub mod ScalarLaws
+pub mod SmallOrderLaws
 pub mod TableLaws
 pub mod WindowLaws

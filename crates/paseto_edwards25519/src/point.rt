@@ -20,7 +20,7 @@ mod windows;
 
 use crate::bytes::halves;
 use crate::field;
-use crate::field::canonical::{is_equal, negative};
+use crate::field::canonical::{carry, is_equal, negative};
 use crate::field::constants::{base_t, base_x, base_y, one, twice_d, zero};
 use crate::field::{FieldElement, add_loose, choose, mul, square, sub_loose};
 use addend::Addend;
@@ -159,6 +159,19 @@ fn double(p: ProjectivePoint) -> Completed
     }
 }
 
+// What sums with the opposite of this point need of it.
+fn opposed(q: &Addend) -> Addend
+    ensures is { affine (prepared result) ≡ opposite (affine (prepared q.now)) }
+    ensures unit { number result.z ≡ number q.now.z }
+{
+    Addend {
+        difference: q.total,
+        total: q.difference,
+        z: q.z,
+        scaled: negative(q.scaled),
+    }
+}
+
 /// The opposite of a point.
 pub fn negate(p: ExtendedPoint) -> ExtendedPoint
     ensures { point result ≡ opposite (point p) }
@@ -194,18 +207,10 @@ fn sixteen_times(p: ProjectivePoint) -> ExtendedPoint
     to_extended(double(eight_times))
 }
 
-// Whether a point is the neutral one.
-fn is_neutral(p: ProjectivePoint) -> bool
-    ensures { IsTrue result ↔ affine (projected p) ≡ neutral }
-{
-    is_equal(p.x, zero()) && is_equal(p.y, p.z)
-}
-
-/// Whether a point is of small order, in a time that may depend on it.
+/// Whether a point is of small order, in a time that may depend on it: whether x or y of its double is 0.
 pub fn has_small_order(p: ProjectivePoint) -> bool
     ensures { IsTrue result ↔ HasSmallOrder (affine (projected p)) }
 {
-    let twice = to_projective(double(p));
-    let four_times = to_projective(double(twice));
-    is_neutral(to_projective(double(four_times)))
+    let twice = double(p);
+    is_equal(carry(twice.e), zero()) || is_equal(carry(twice.h), zero())
 }

@@ -1,7 +1,7 @@
 //! A point that is added, as what a sum reads of it.
 
 ghost use Rattle.paseto_edwards25519.specs.Extended.{IsExtended, between};
-ghost use Rattle.paseto_edwards25519.specs.Field.{number};
+ghost use Rattle.paseto_edwards25519.specs.Field.{IsCarried, number};
 
 use crate::field::FieldElement;
 
@@ -12,6 +12,7 @@ pub(crate) struct Addend {
     pub(crate) total: FieldElement,
     pub(crate) z: FieldElement,
     pub(crate) scaled: FieldElement,
+    ghost carried: { IsCarried scaled },
     ghost on_curve: { IsExtended
         (between (number difference) (number total) (number z) (number scaled)) },
 }

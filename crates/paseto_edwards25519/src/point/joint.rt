@@ -3,21 +3,25 @@
 ghost use Rattle.std.specs.Prelude.{◌≡◌, ◌≢◌, ℕ, ◌+◌, ◌*◌, ◌%◌, ◌^◌, ◌<◌, get_or};
 ghost use Rattle.paseto_edwards.specs.Group.{Affine};
 ghost use Rattle.paseto_edwards.specs.Edwards25519.{base};
-ghost use Rattle.paseto_edwards25519.specs.Curve.{multiple, sum};
+ghost use Rattle.paseto_edwards25519.specs.Curve.{IsPoint, multiple, sum};
 ghost use Rattle.paseto_edwards25519.specs.Extended.{affine};
-ghost use Rattle.paseto_edwards25519.specs.Point.{AreOddMultiples, completed, point, prepared, projected};
+ghost use Rattle.paseto_edwards25519.specs.Point.{AreOddMultiples, AreSignedMultiples, HaveUnitZ, completed, point, prepared, projected};
 ghost use Rattle.paseto_edwards25519.specs.Scalar.{number32};
+ghost use Rattle.paseto_edwards25519.specs.Windows.{signed_multiple};
 
 use super::comb::known_multiple;
-use super::windows::{BITS, windows};
+use super::windows::{used, windows};
 use super::{
     Addend, Completed, ExtendedPoint, ProjectivePoint, add, add_affine, double, flattened,
-    identity, prepared, to_extended, to_projective,
+    identity, opposed, prepared, to_extended, to_projective,
 };
 use crate::bytes::halves;
 
-// How many multiples of the other point are made: those by the odd digits.
+// How many multiples of a point are made: those by 1, 3 and so on to 15.
 const MULTIPLES: usize = 8;
+
+// How many odd digits there are, of which the upper half stand for numbers below 0.
+const SIGNED_MULTIPLES: usize = 16;
 
 // The multiples of a point by 1, 3 and so on to 15.
 fn odd_multiples(a: ExtendedPoint) -> [Addend; 8]
@@ -33,25 +37,53 @@ fn odd_multiples(a: ExtendedPoint) -> [Addend; 8]
     table
 }
 
-// A point, and the multiple of the base point by a digit.
+// The multiples of the base point by 1, 3 and so on to 15.
+fn known_odd_multiples() -> [Addend; 8]
+    ensures is { AreOddMultiples base 8 result }
+    ensures unit { HaveUnitZ 8 result }
+{
+    let mut table = [known_multiple(1); MULTIPLES];
+    'multiples: for i in 1..MULTIPLES {
+        table[i] = known_multiple(2 * i as u128 + 1);
+    }
+    table
+}
+
+// The multiples that the odd digits stand for, of those by 1, 3 and so on to 15.
+fn signed_multiples(odd: &[Addend; 8]) -> [Addend; 16]
+    ensures is { (a : Affine) → IsPoint a → AreOddMultiples a 8 odd.now → AreSignedMultiples a 16 result }
+    ensures unit { HaveUnitZ 8 odd.now → HaveUnitZ 16 result }
+{
+    let mut table = [odd[0]; SIGNED_MULTIPLES];
+    'multiples: for i in 0..MULTIPLES {
+        table[i] = odd[i];
+        table[SIGNED_MULTIPLES - 1 - i] = opposed(&odd[i]);
+    }
+    table
+}
+
+// A point, and the multiple of the base point that a digit stands for.
 #[inline(always)]
-fn add_known(p: Completed, digit: u8) -> Completed
-    requires { digit < 16 }
-    ensures { affine (completed result) ≡ sum (affine (completed p)) (multiple digit base) }
+fn add_known(p: Completed, digit: u8, table: &[Addend; 16]) -> Completed
+    requires bound { digit < 32 }
+    requires odd { digit ≢ 0 → digit % 2 ≡ 1 }
+    requires table { AreSignedMultiples base 16 table.now }
+    requires unit { HaveUnitZ 16 table.now }
+    ensures { affine (completed result) ≡ sum (affine (completed p)) (signed_multiple digit base) }
 {
     if digit == 0 {
         return p;
     }
-    add_affine(to_extended(p), &known_multiple(digit as u128))
+    add_affine(to_extended(p), &table[digit as usize / 2])
 }
 
-// A point, and the multiple of the other point by a digit.
+// A point, and the multiple of the other point that a digit stands for.
 #[inline(always)]
-fn add_listed(p: Completed, digit: u8, table: &[Addend; 8]) -> Completed
-    requires bound { digit < 16 }
+fn add_listed(p: Completed, digit: u8, table: &[Addend; 16]) -> Completed
+    requires bound { digit < 32 }
     requires odd { digit ≢ 0 → digit % 2 ≡ 1 }
-    ensures { (a : Affine) → AreOddMultiples a 8 table.now
-        → affine (completed result) ≡ sum (affine (completed p)) (multiple digit a) }
+    ensures { (a : Affine) → AreSignedMultiples a 16 table.now
+        → affine (completed result) ≡ sum (affine (completed p)) (signed_multiple digit a) }
 {
     if digit == 0 {
         return p;
@@ -65,12 +97,14 @@ pub fn multiply_both(s: &[u8; 32], k: &[u8; 32], a: ExtendedPoint) -> Projective
     ensures { affine (projected result) ≡ sum (multiple (number32 s.now) base)
         (multiple (number32 k.now) (point a)) }
 {
-    let table = odd_multiples(a);
+    let known = signed_multiples(&known_odd_multiples());
+    let table = signed_multiples(&odd_multiples(a));
     let (first, second) = (windows(halves(s)), windows(halves(k)));
+    let count = used(&first, &second);
     let mut sum = flattened(identity());
-    'bits: for i in 0..BITS {
-        let at = BITS - 1 - i;
-        let more = add_known(double(sum), first[at]);
+    'digits: for i in 0..count {
+        let at = count - 1 - i;
+        let more = add_known(double(sum), first[at], &known);
         sum = to_projective(add_listed(more, second[at], &table));
     }
     sum

@@ -7,6 +7,6 @@ use Rattle.paseto_edwards25519.specs.Scalar.{number32}
 use Rattle.paseto_edwards25519.specs.Windows.{left_of}
 use Rattle.paseto_edwards25519.proofs.point.joint.multiply_both.Given as goal
 
-abbrev pub invariant-bits : goal.invariant-bits
-invariant-bits l = affine (projected l.sum)
-    ≡ sum (multiple (left_of (number32 l.s) (256 - l.i)) base) (multiple (left_of (number32 l.k) (256 - l.i)) (point l.fn.a))
+abbrev pub invariant-digits : goal.invariant-digits
+invariant-digits l = affine (projected l.sum)
+    ≡ sum (multiple (left_of (number32 l.s) (l.count - l.i)) base) (multiple (left_of (number32 l.k) (l.count - l.i)) (point l.fn.a))
