@@ -2,9 +2,9 @@
 //! of its base point.
 #![tactic(auto)]
 
-mod bytes;
+pub mod bytes;
 mod encoding;
-mod field;
+pub mod field;
 pub mod laws;
 mod point;
 mod scalar;
