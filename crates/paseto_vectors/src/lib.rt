@@ -33,3 +33,5 @@ mod sections;
 mod texts;
 #[cfg(test)]
 mod untrusted;
+#[cfg(test)]
+mod x25519;

@@ -1,0 +1,7 @@
+//! X25519 (RFC 7748, sections 5 and 6.1), by which two parties agree on a secret over a channel that others read.
+#![tactic(auto)]
+
+mod agreement;
+mod ladder;
+
+pub use agreement::{AgreementError, public_key, shared_secret, x25519};
