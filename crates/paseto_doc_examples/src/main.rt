@@ -2,6 +2,7 @@
 //! proved here, and most are run.
 #![tactic(auto)]
 
+mod blame;
 mod boxed_decrypting;
 mod boxed_tokens;
 mod causes;
@@ -11,6 +12,7 @@ mod default_tokens;
 mod digests;
 mod encrypting;
 mod even;
+mod everyday;
 mod footer_text;
 mod from_block_one;
 mod generic_builder;
@@ -19,9 +21,13 @@ mod generic_tokens;
 mod key_ring;
 mod keys_as_text;
 mod leeway;
+mod lifetime;
 mod local_tokens;
 mod moment_claims;
 mod named_key;
+mod new_key;
+mod new_pair;
+mod owned_key_ring;
 mod p384_signature;
 mod paseto_builder;
 mod paseto_parser;
@@ -29,6 +35,7 @@ mod poly1305_pieces;
 mod poly1305_tag;
 mod public_key_ring;
 mod required_claims;
+mod ring_blame;
 mod ring_causes;
 mod rsa_public_key;
 mod rsa_signature;
@@ -41,6 +48,7 @@ use jiff::Timestamp;
 use paseto_ed25519::Ed25519;
 use rand::rngs::SysRng;
 use rusty_paseto::prelude::*;
+use rusty_paseto_paserk::{public_to_paserk, secret_to_paserk};
 use std::alloc::Global;
 
 fn main(rt: HostRuntime) -> Result<()> {
@@ -49,7 +57,10 @@ fn main(rt: HostRuntime) -> Result<()> {
     show_boxed(&rt)?;
     show_generic(&rt)?;
     show_default(&rt)?;
-    show_signed(&rt)
+    show_lifetime(&rt)?;
+    show_signed(&rt)?;
+    show_everyday(&rt)?;
+    show_everyday_rings(&rt)
 }
 
 fn show_primitives(rt: &HostRuntime) -> Result<()> {
@@ -147,6 +158,7 @@ fn show_another_footer(
     let mut parser = leeway::lenient_parser(alloc, Timestamp::now(rt)?)?;
     if let Err(error) = parser.parse(token, key) {
         println!(rt; "another footer: {}", causes::has_another_footer(&error))?;
+        println!(rt; "its status: {}", blame::status(&error))?;
     }
     parser.put_key_validator("seats", Box::new(alloc, Even)?)?;
     Ok(())
@@ -191,7 +203,24 @@ fn show_rings(
     println!(rt; "by a ring: {id}")?;
     let parser = PasetoParser::<V4, Local>::default(alloc, soon)?;
     if let Err(error) = KeyRing::<V4>::new(alloc).parse(&parser, token) {
-        println!(rt; "by an empty ring: {}", ring_causes::blame(&error))?;
+        println!(rt; "by an empty ring: {}", ring_blame::status(&error))?;
+        println!(rt;
+            "with another tag: {}",
+            ring_causes::has_another_tag(&error)
+        )?;
+    }
+    Ok(())
+}
+
+fn show_lifetime(rt: &HostRuntime) -> Result<()> {
+    let (alloc, mut rng) = (rt.alloc(), SysRng::new(rt));
+    let now = Timestamp::now(rt)?;
+    let later = Timestamp::from_second(now.as_second().saturating_add(601))?;
+    let key = new_key::new_key(&mut rng)?;
+    let token = lifetime::issue_for_ten_minutes(alloc, now, &mut rng, &key)?;
+    let parser = PasetoParser::<V4, Local>::default(alloc, later)?;
+    if let Err(error) = parser.parse(token.as_str(), &key) {
+        println!(rt; "after ten minutes: {error}")?;
     }
     Ok(())
 }
@@ -207,5 +236,72 @@ fn show_signed(rt: &HostRuntime) -> Result<()> {
     }
     p384_signature::sign_and_verify(alloc, &mut rng, b"a message")?;
     println!(rt; "signed by P-384")?;
+    let (token, public) = new_pair::sign(alloc, &mut rng)?;
+    let text = Paseto::<V4, Public>::try_verify(
+        alloc,
+        &Ed25519,
+        token.as_str(),
+        &public.lend(),
+        None,
+        None,
+    )?;
+    println!(rt; "under a new pair: '{text}'")?;
+    show_owned_ring(rt, now)
+}
+
+fn show_owned_ring(rt: &HostRuntime, now: Timestamp) -> Result<()> {
+    let (alloc, mut rng) = (rt.alloc(), SysRng::new(rt));
+    let soon = Timestamp::from_second(now.as_second().saturating_add(60))?;
+    let pair: KeyPair<V4> = Ed25519::try_new_pair(alloc, &mut rng)?;
+    let line = public_to_paserk(alloc, &pair.public())?;
+    let footer = key_footer(alloc, "2026-11")?;
+    let mut builder = PasetoBuilder::<V4, Public>::try_default(alloc, now)?;
+    builder.set_footer(Footer::from(footer.as_str()));
+    let token = builder.build(&mut Ed25519, &pair.private())?;
+    let ring = owned_key_ring::ring_of(alloc, &[("2026-11", line.as_str())])?;
+    let (id, _claims) = owned_key_ring::admit(alloc, soon, &ring, token.as_str())?;
+    println!(rt; "by a ring that owns its keys: {id}")?;
+    Ok(())
+}
+
+fn show_everyday(rt: &HostRuntime) -> Result<()> {
+    let (alloc, mut rng) = (rt.alloc(), SysRng::new(rt));
+    let now = Timestamp::now(rt)?;
+    let soon = Timestamp::from_second(now.as_second().saturating_add(60))?;
+    let late = Timestamp::from_second(now.as_second().saturating_add(604_800))?;
+    let key = everyday::new_key(&mut rng)?;
+    let plain = everyday::default_token(alloc, now, &mut rng, &key)?;
+    let token = everyday::token_for_a_week(alloc, now, &mut rng, &key)?;
+    let seats = everyday::with_seats(alloc, soon, 8, token.as_str(), &key)?;
+    println!(rt; "seats: {:?}", seats.get("seats"))?;
+    let admitted = everyday::for_customers(alloc, soon, token.as_str(), &key);
+    println!(rt; "for customers: {}", everyday::status(&admitted))?;
+    let unfit = everyday::for_customers(alloc, soon, plain.as_str(), &key);
+    println!(rt; "for nobody: {}", everyday::status(&unfit))?;
+    let expired = everyday::for_customers(alloc, late, token.as_str(), &key);
+    println!(rt; "a week later: {}", everyday::status(&expired))?;
+    let pair: KeyPair<V4> = Ed25519::try_new_pair(alloc, &mut rng)?;
+    let secret = secret_to_paserk(alloc, &pair.private())?;
+    let public = public_to_paserk(alloc, &pair.public())?;
+    let signed = everyday::sign(alloc, now, secret.as_str())?;
+    let claims = everyday::verify(alloc, soon, public.as_str(), signed.as_str())?;
+    println!(rt; "verified: {}", claims.get("exp").is_some())?;
+    Ok(())
+}
+
+fn show_everyday_rings(rt: &HostRuntime) -> Result<()> {
+    let (alloc, mut rng) = (rt.alloc(), SysRng::new(rt));
+    let now = Timestamp::now(rt)?;
+    let soon = Timestamp::from_second(now.as_second().saturating_add(60))?;
+    let mut ring = KeyRing::<V4>::new(alloc);
+    ring.add("2026-10", everyday::new_key(&mut rng)?)?;
+    ring.add("2026-11", everyday::new_key(&mut rng)?)?;
+    let token = everyday::issue_by_ring(alloc, now, &mut rng, &ring, "2026-10")?;
+    let (id, _claims) = everyday::admit_by_ring(alloc, soon, &ring, token.as_str())?;
+    println!(rt; "by the old key: {id}")?;
+    println!(rt; "retired: {}", ring.remove("2026-10"))?;
+    if let Err(refusal) = everyday::admit_by_ring(alloc, soon, &ring, token.as_str()) {
+        println!(rt; "under a retired key: {:?}", refusal.blame())?;
+    }
     Ok(())
 }

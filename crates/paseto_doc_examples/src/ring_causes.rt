@@ -2,12 +2,7 @@
 
 use rusty_paseto::prelude::*;
 
-/// Whose fault a refusal is.
-pub fn blame(error: &KeyRingParserError) -> &'static str {
-    match error {
-        error if error.cause().is_some() => "no token of ours",
-        KeyRingParserError::Ring(_) => "no key of ours",
-        KeyRingParserError::Parser(_) => "not now, or not here",
-        KeyRingParserError::Memory(_) => "ask again later",
-    }
+/// Whether the token was changed, or was sealed with another key of this id or another assertion.
+pub fn has_another_tag(error: &KeyRingParserError) -> bool {
+    matches!(error.cause(), Some(PasetoError::Cryption))
 }

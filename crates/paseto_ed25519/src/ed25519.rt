@@ -1,6 +1,7 @@
 //! Keys, signing and verifying (RFC 8032, sections 5.1.5 to 5.1.7).
 
 ghost use Rattle.std.specs.Prelude.{◌≡◌, ◌≢◌, ◌↔◌, ◌⊎◌, take, drop, length, IfOk, IfErr, OnErr, OnOk, IsTrue, Some};
+ghost use Rattle.rusty_paseto_parts.specs.Error.{IsMemory};
 ghost use Rattle.rusty_paseto_parts.specs.declared.error.PasetoError.TheVariants.{InvalidSignature, KeyRejected, Signature};
 ghost use Rattle.paseto_ed25519.specs.Ed25519.{Ed25519Verifies, IsDeclined, IsOwn, IsRefused, IsSum, ed25519_public, ed25519_sign, partner};
 ghost use Rattle.paseto_edwards25519.specs.Encoding.{decoded, encoded};
@@ -18,7 +19,10 @@ use paseto_edwards25519::{
 };
 use rand_core::TryRng;
 use rusty_paseto_core::SignatureScheme;
-use rusty_paseto_parts::{Key, PasetoError};
+use rusty_paseto_parts::{
+    Key, KeyPair, PasetoAsymmetricPrivateKey, PasetoAsymmetricPublicKey, PasetoError, PrivateKey,
+    PublicKey, V2orV4,
+};
 use rusty_paseto_primitives::same_bytes;
 use std::alloc::Global;
 
@@ -95,6 +99,40 @@ impl Ed25519 {
         Ok((
             Key::from(joined(seed.as_bytes(), &public)),
             Key::from(public),
+        ))
+    }
+
+    /// A new pair of keys of version 2 or 4, which owns its bytes: they are those that `key_pair` makes.
+    ///
+    /// `Cipher` comes exactly where the generator fails, and else nothing but memory is refused.
+    ///
+    /// ```rust
+    /// use paseto_ed25519::Ed25519;
+    /// use rand_core::TryRng;
+    /// use rusty_paseto::prelude::*;
+    /// use std::alloc::Global;
+    ///
+    /// /// A token that the new key signed, and the public key for its readers.
+    /// pub fn sign<R: TryRng>(alloc: Global, rng: &mut R) -> Result<(String, PublicKey<V4>), PasetoError> {
+    ///     let pair: KeyPair<V4> = Ed25519::try_new_pair(alloc, rng)?;
+    ///     let token = Paseto::<V4, Public>::builder().try_sign(alloc, &mut Ed25519, &pair.private())?;
+    ///     let (_private, public) = pair.into_keys();
+    ///     Ok((token, public))
+    /// }
+    /// ```
+    pub fn try_new_pair<V: V2orV4, R: TryRng>(
+        alloc: Global,
+        rng: &mut R,
+    ) -> Result<KeyPair<V>, PasetoError>
+        ensures ok { IfOk result (λ pair. R.may_fill rng.old (take 32 pair.0) rng.new
+            × (pair.1 ≡ ed25519_public (take 32 pair.0)) × (drop 32 pair.0 ≡ pair.1)) }
+        ensures err { IfErr result (λ error. IsMemory error
+            ⊎ ((error ≡ PasetoError.Cipher) × R.Error)) }
+    {
+        let (private, public) = Ed25519::key_pair(rng)?;
+        Ok(KeyPair::new(
+            PrivateKey::copy_of(alloc, &PasetoAsymmetricPrivateKey::from(&private))?,
+            PublicKey::copy_of(alloc, &PasetoAsymmetricPublicKey::from(&public))?,
         ))
     }
 

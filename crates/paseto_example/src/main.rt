@@ -15,8 +15,8 @@ use keyed_hash_scheme::KeyedHashScheme;
 use paseto_ed25519::Ed25519;
 use rand::rngs::SysRng;
 use rusty_paseto::prelude::{
-    GenericParserError, Key, Local, PasetoAsymmetricPrivateKey, PasetoAsymmetricPublicKey,
-    PasetoParser, PasetoSymmetricKey, Public, PublicKeyRing, V2, V4,
+    GenericParserError, Key, KeyPair, Local, OwnedPublicKeyRing, PasetoAsymmetricPrivateKey,
+    PasetoAsymmetricPublicKey, PasetoParser, PasetoSymmetricKey, Public, V2, V4,
 };
 use serde_json::Value;
 use sessions::Sessions;
@@ -36,7 +36,7 @@ fn main(rt: HostRuntime) -> Result<()> {
 fn show_local(rt: &HostRuntime, now: Timestamp, soon: Timestamp) -> Result<()> {
     let alloc = rt.alloc();
     let mut rng = SysRng::new(rt);
-    let key = PasetoSymmetricKey::<V4, Local>::from(Key::<32>::try_new_random(&mut rng)?);
+    let key = PasetoSymmetricKey::<V4, Local>::try_new_random(&mut rng)?;
     let token = ticket::issue(alloc, now, &mut rng, &key)?;
 
     let claims = ticket::admit(alloc, soon, token.as_str(), &key)?;
@@ -55,8 +55,8 @@ fn a_day_after(now: Timestamp) -> Result<Timestamp> {
 /// Sessions are admitted under the newest key and the one before it, until that is retired.
 fn show_sessions(rt: &HostRuntime, now: Timestamp) -> Result<()> {
     let (alloc, mut rng) = (rt.alloc(), SysRng::new(rt));
-    let october = PasetoSymmetricKey::<V4, Local>::from(Key::<32>::try_new_random(&mut rng)?);
-    let november = PasetoSymmetricKey::<V4, Local>::from(Key::<32>::try_new_random(&mut rng)?);
+    let october = PasetoSymmetricKey::<V4, Local>::try_new_random(&mut rng)?;
+    let november = PasetoSymmetricKey::<V4, Local>::try_new_random(&mut rng)?;
     let mut sessions = Sessions::new(alloc, "2026-10", october)?;
     let old = sessions.issue(now, &mut rng, "Ada", 2)?;
     sessions.rotate("2026-11", november)?;
@@ -76,7 +76,7 @@ fn show_sessions(rt: &HostRuntime, now: Timestamp) -> Result<()> {
 fn show_session(rt: &HostRuntime, sessions: &Sessions, now: Timestamp, token: &str) -> Result<()> {
     match sessions.admit(now, token) {
         Ok(session) => println!(rt; "200: {} with {} seats", session.sub, session.seats)?,
-        Err(refusal) => println!(rt; "{}: {refusal}", refusal.status())?,
+        Err(refusal) => println!(rt; "{}: {refusal}", sessions::status(&refusal))?,
     }
     Ok(())
 }
@@ -85,7 +85,7 @@ fn show_session(rt: &HostRuntime, sessions: &Sessions, now: Timestamp, token: &s
 fn show_boxed(rt: &HostRuntime, now: Timestamp, soon: Timestamp) -> Result<()> {
     let alloc = rt.alloc();
     let mut rng = SysRng::new(rt);
-    let key = PasetoSymmetricKey::<V2, Local>::from(Key::<32>::try_new_random(&mut rng)?);
+    let key = PasetoSymmetricKey::<V2, Local>::try_new_random(&mut rng)?;
     let token = boxed::issue(alloc, now, &mut rng, &key, "Ada")?;
 
     let claims = boxed::admit(alloc, soon, token.as_str(), &key)?;
@@ -108,31 +108,28 @@ fn show_refusal(rt: &HostRuntime, answer: Result<Value, GenericParserError>) -> 
 fn show_signed(rt: &HostRuntime, now: Timestamp, soon: Timestamp) -> Result<()> {
     let alloc = rt.alloc();
     let mut rng = SysRng::new(rt);
-    let (private, public) = Ed25519::key_pair(&mut rng)?;
-    let private_key = PasetoAsymmetricPrivateKey::<V4, Public>::from(&private);
-    let token = signed::issue(alloc, now, &mut Ed25519, &private_key, "Ada")?;
+    let pair: KeyPair<V4> = Ed25519::try_new_pair(alloc, &mut rng)?;
+    let token = signed::issue(alloc, now, &mut Ed25519, &pair.private(), "Ada")?;
 
-    let public_key = PasetoAsymmetricPublicKey::<V4, Public>::from(&public);
-    let claims = signed::admit(alloc, soon, &Ed25519, token.as_str(), &public_key)?;
+    let claims = signed::admit(alloc, soon, &Ed25519, token.as_str(), &pair.public())?;
     println!(rt; "admitted: {}", signed::subject(&claims))?;
 
-    let (_, other) = Ed25519::key_pair(&mut rng)?;
-    let other_key = PasetoAsymmetricPublicKey::<V4, Public>::from(&other);
+    let other: KeyPair<V4> = Ed25519::try_new_pair(alloc, &mut rng)?;
     show_refusal(
         rt,
-        signed::admit(alloc, soon, &Ed25519, token.as_str(), &other_key),
+        signed::admit(alloc, soon, &Ed25519, token.as_str(), &other.public()),
     )
 }
 
-/// Public keys that change with the month: the footer of a signed ticket names its key in the ring.
+/// Public keys that change with the month: the footer of a signed ticket names its key in the ring, which owns it.
 fn show_public_keys(rt: &HostRuntime, now: Timestamp, soon: Timestamp) -> Result<()> {
     let alloc = rt.alloc();
-    let (private, public) = Ed25519::key_pair(&mut SysRng::new(rt))?;
-    let private_key = PasetoAsymmetricPrivateKey::<V4, Public>::from(&private);
-    let token = signed::issue_under(alloc, now, &mut Ed25519, "2026-11", &private_key)?;
+    let pair: KeyPair<V4> = Ed25519::try_new_pair(alloc, &mut SysRng::new(rt))?;
+    let (private, public) = pair.into_keys();
+    let token = signed::issue_under(alloc, now, &mut Ed25519, "2026-11", &private.lend())?;
 
-    let mut ring = PublicKeyRing::<V4>::new(alloc);
-    ring.add("2026-11", PasetoAsymmetricPublicKey::from(&public))?;
+    let mut ring = OwnedPublicKeyRing::<V4>::new(alloc);
+    ring.add("2026-11", public)?;
     show_ring(rt, &ring, soon, token.as_str())?;
     drop(ring.remove("2026-11"));
     show_ring(rt, &ring, soon, token.as_str())
@@ -141,7 +138,7 @@ fn show_public_keys(rt: &HostRuntime, now: Timestamp, soon: Timestamp) -> Result
 /// Which key of the ring a signed ticket is admitted under.
 fn show_ring(
     rt: &HostRuntime,
-    ring: &PublicKeyRing<V4>,
+    ring: &OwnedPublicKeyRing<V4>,
     soon: Timestamp,
     token: &str,
 ) -> Result<()> {

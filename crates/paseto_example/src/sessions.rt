@@ -1,22 +1,24 @@
 //! The sessions of a service, under keys that change: issued under the newest key, admitted under each that is not
-//! retired, and refused with a reason that says whose fault it is.
+//! retired, and refused with a status that says whose fault it is.
 
 use anyhow::{Context, Result};
 use jiff::Timestamp;
 use rand_core::TryRng;
 use rusty_paseto::prelude::{
-    CheckSetter, CountingSetter, CustomClaim, Footer, GenericParserError, KeyRing,
-    KeyRingParserError, Local, PasetoBuilder, PasetoClaimError, PasetoParser, PasetoSymmetricKey,
-    SubjectClaim, V4, key_footer,
+    Blame, CheckSetter, CountingSetter, CustomClaim, Footer, GenericParserError, KeyRing,
+    KeyRingParserError, Local, PasetoBuilder, PasetoParser, PasetoSymmetricKey, SubjectClaim, V4,
+    key_footer,
 };
 use rusty_paseto::validators::AtMost;
 use serde::Deserialize;
 use serde_json::Value;
 use std::alloc::{AllocError, Global};
-use thiserror::Error;
 
 /// How many seconds the clocks of our machines may differ by.
 const LEEWAY: u32 = 5;
+
+/// How many seconds a session lives.
+const LIFETIME: u32 = 600;
 
 /// How many seats a session may have.
 const SEATS: i64 = 8;
@@ -28,62 +30,13 @@ pub struct Session {
     pub seats: u64,
 }
 
-/// Why a token was not admitted.
-#[derive(Debug, Drop, Error)]
-pub enum Refusal {
-    /// The caller's: no token of ours. It was made up or changed, or its key is retired.
-    #[error("no token of ours: {0}")]
-    Foreign(KeyRingParserError),
-    /// The clock's: a token of ours, which is not good at this moment.
-    #[error("not now: {0}")]
-    Untimely(PasetoClaimError),
-    /// Our own: a token under our key, whose claims are not those of a session.
-    #[error("no session: {0}")]
-    Odd(GenericParserError),
-    /// Nobody's: memory was refused.
-    #[error("ask again later")]
-    Memory(AllocError),
-}
-
-impl Refusal {
-    /// The status that the service would answer over HTTP.
-    pub fn status(&self) -> u16 {
-        match self {
-            Refusal::Memory(_) => 503,
-            Refusal::Odd(_) => 403,
-            Refusal::Foreign(_) | Refusal::Untimely(_) => 401,
-        }
+/// The status that the service would answer over HTTP for a refused token.
+pub fn status(refusal: &KeyRingParserError) -> u16 {
+    match refusal.blame() {
+        Blame::Foreign | Blame::Untimely => 401,
+        Blame::Unfit => 403,
+        Blame::Memory => 503,
     }
-}
-
-impl From<KeyRingParserError> for Refusal {
-    fn from(source: KeyRingParserError) -> Refusal {
-        match source {
-            KeyRingParserError::Parser(refused) => Refusal::from(refused),
-            KeyRingParserError::Memory(refused) => Refusal::Memory(refused),
-            foreign => Refusal::Foreign(foreign),
-        }
-    }
-}
-
-impl From<GenericParserError> for Refusal {
-    fn from(source: GenericParserError) -> Refusal {
-        match source {
-            GenericParserError::ClaimError { source } => untimely_or_odd(source),
-            GenericParserError::Memory(refused) => Refusal::Memory(refused),
-            odd => Refusal::Odd(odd),
-        }
-    }
-}
-
-fn untimely_or_odd(source: PasetoClaimError) -> Refusal {
-    if matches!(
-        &source,
-        PasetoClaimError::Expired | PasetoClaimError::UseBeforeAvailable(_)
-    ) {
-        return Refusal::Untimely(source);
-    }
-    Refusal::Odd(GenericParserError::ClaimError { source })
 }
 
 /// The keys of the service, of which the newest seals.
@@ -120,7 +73,7 @@ impl Sessions {
         self.keys.remove(id)
     }
 
-    /// The token of a session, which expires an hour from now.
+    /// The token of a session, which lives ten minutes.
     pub fn issue<R: TryRng>(
         &self,
         now: Timestamp,
@@ -135,16 +88,15 @@ impl Sessions {
         builder
             .set_claim(&SubjectClaim::from(subject))?
             .set_claim(&CustomClaim::try_from_str(self.alloc, "seats", seats)?)?
+            .set_lifetime(LIFETIME)?
             .set_footer(Footer::from(footer.as_str()));
         Ok(builder.build(rng, key)?)
     }
 
     /// The session of a token that is good at the moment.
-    pub fn admit(&self, now: Timestamp, token: &str) -> Result<Session, Refusal> {
+    pub fn admit(&self, now: Timestamp, token: &str) -> Result<Session, KeyRingParserError> {
         let mut parser = PasetoParser::<V4, Local>::default(self.alloc, now)?;
-        let bounded = Box::new(self.alloc, AtMost(SEATS)).map_err(|refused| Refusal::Memory(
-            AllocError::from(refused),
-        ))?;
+        let bounded = Box::new(self.alloc, AtMost(SEATS)).map_err(AllocError::from)?;
         parser
             .validate_key("seats", bounded)?
             .require_claim("exp")?
@@ -154,10 +106,10 @@ impl Sessions {
     }
 
     // The claims as a session.
-    fn session_of(&self, claims: Value) -> Result<Session, Refusal> {
+    fn session_of(&self, claims: Value) -> Result<Session, KeyRingParserError> {
         match serde_json::from_value(self.alloc, claims) {
             Ok(session) => Ok(session),
-            Err(source) => Err(Refusal::from(GenericParserError::from(source))),
+            Err(source) => Err(KeyRingParserError::from(GenericParserError::from(source))),
         }
     }
 }

@@ -35,6 +35,7 @@ pub fn ask(run: &mut Run<'_>) -> Result<()> {
     ask_defaults(run)?;
     ask_claims(run)?;
     ask_repeated_claims(run)?;
+    ask_lifetimes(run)?;
     ask_checks(run)?;
     ask_validators(run)?;
     ask_kinds::<Kinds>(run)
@@ -112,6 +113,19 @@ fn ask_repeated_claims(run: &mut Run<'_>) -> Result<()> {
             => builder.put_no_expiration_danger_acknowledged();
         "set_no_expiration_danger_acknowledged of a builder"
             => builder.set_no_expiration_danger_acknowledged().map(drop);
+    }
+}
+
+// From the last moment at which a builder begins, an hour is left, and its fraction of a second.
+fn ask_lifetimes(run: &mut Run<'_>) -> Result<()> {
+    let alloc = run.alloc;
+    let last = Timestamp::from_nanosecond(Timestamp::MAX.as_nanosecond() - 3_600_000_000_000)?;
+    edits!(run, "PasetoBuilder::", builder = builder_of::<V4, Local>(alloc, "a", 10);
+        "put_lifetime of a builder" => builder.put_lifetime(600);
+        "set_lifetime of a builder" => builder.set_lifetime(600).map(drop);
+    )?;
+    edits! { run, "PasetoBuilder::", builder = Ok(PasetoBuilder::<V4, Local>::try_default(alloc, last)?);
+        "put_lifetime of a builder past the last moment, refused" => builder.put_lifetime(3_601);
     }
 }
 

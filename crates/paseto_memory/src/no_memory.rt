@@ -4,7 +4,7 @@
 use crate::claims::{DATE, tree};
 use crate::kinds::bytes_of;
 use crate::parsers::now;
-use crate::run::{Run, calls, edits, put};
+use crate::run::{Run, Snapshot, calls, edits, put, shown};
 use crate::{builders, defaults, parsers, primitives};
 use anyhow::Result;
 use paseto_toys::generators::Zeros;
@@ -12,10 +12,12 @@ use paseto_toys::keys::{Keys, SECRET, ToyVersion};
 use rusty_paseto::prelude::*;
 use rusty_paseto_parts::is_section_of;
 use serde_json::Value;
+use std::alloc::Global;
 
 /// Asks them.
 pub fn ask(run: &mut Run<'_>) -> Result<()> {
     ask_keys(run)?;
+    ask_owned_keys(run)?;
     ask_texts(run)?;
     ask_values(run)?;
     ask_claims(run)?;
@@ -42,9 +44,41 @@ fn ask_keys(run: &mut Run<'_>) -> Result<()> {
             => Key::<32>::try_from("no digits").map(bytes_of);
         "Key::try_new_random of a generator, with no memory"
             => Key::<32>::try_new_random(&mut Zeros).map(bytes_of);
+        "PasetoSymmetricKey::try_new_random of a generator, with no memory"
+            => PasetoSymmetricKey::<V4, Local>::try_new_random(&mut Zeros).map(|key| *key.as_bytes());
         "TryFrom::try_from of PasetoAsymmetricPublicKey, with no memory"
             => PasetoAsymmetricPublicKey::<V3, Public>::try_from(&Key::<49>::from([2; 49]))
                 .map(|key| key.as_bytes().first_chunk::<49>().copied());
+    }
+}
+
+/// A key that owns its bytes is known by them.
+impl<V: VersionTrait> Snapshot for PrivateKey<V> {
+    fn snapshot(&self, alloc: Global) -> Result<String> {
+        shown(alloc, self.lend().as_bytes())
+    }
+}
+
+impl<V: VersionTrait> Snapshot for PublicKey<V> {
+    fn snapshot(&self, alloc: Global) -> Result<String> {
+        shown(alloc, self.lend().as_bytes())
+    }
+}
+
+// Keys that take the bytes that they are given.
+fn ask_owned_keys(run: &mut Run<'_>) -> Result<()> {
+    let alloc = run.alloc;
+    edits!(run, "TryFrom::try_from of ", slot = Ok(None);
+        "PrivateKey, with no memory", bytes = Vec::from_slice(alloc, &[7; 48])?
+            => put(slot, PrivateKey::<V3>::try_from(bytes));
+        "PrivateKey of 47 bytes, with no memory, refused", bytes = Vec::from_slice(alloc, &[7; 47])?
+            => put(slot, PrivateKey::<V3>::try_from(bytes));
+    )?;
+    edits! { run, "TryFrom::try_from of ", slot = Ok(None);
+        "PublicKey, with no memory", bytes = Vec::from_slice(alloc, &[7; 32])?
+            => put(slot, PublicKey::<V4>::try_from(bytes));
+        "PublicKey of 33 bytes, with no memory, refused", bytes = Vec::from_slice(alloc, &[7; 33])?
+            => put(slot, PublicKey::<V4>::try_from(bytes));
     }
 }
 

@@ -42,6 +42,16 @@ fn private_half<const N: usize, const M: usize>(pair: (Key<N>, Key<M>)) -> [u8; 
     *pair.0.as_bytes()
 }
 
+// The front of the private key of a pair.
+fn private_front<V: VersionTrait>(pair: KeyPair<V>) -> Option<[u8; 48]> {
+    pair.private().as_bytes().first_chunk::<48>().copied()
+}
+
+// A pair of version 4.
+fn pair_of_v4(alloc: Global) -> Result<KeyPair<V4>, PasetoError> {
+    Ed25519::try_new_pair(alloc, &mut Zeros)
+}
+
 // That there is a signer.
 fn let_go(_signer: Ed25519Signer) {}
 
@@ -57,6 +67,7 @@ fn ask_ed25519(run: &mut Run<'_>) -> Result<()> {
     let signer = Ed25519::with_key(&private)?;
     calls! { run;
         "Ed25519::key_pair of a generator, with no memory" => Ed25519::key_pair(&mut Zeros).map(private_half);
+        "Ed25519::try_new_pair of a generator" => pair_of_v4(alloc).map(private_front);
         "Ed25519::with_key of a private key, with no memory" => Ed25519::with_key(&private).map(let_go);
         "SignatureScheme::sign of Ed25519, with no memory" => Ed25519.sign(alloc, private.as_bytes(), text);
         "SignatureScheme::verify of Ed25519, with no memory"
@@ -76,6 +87,8 @@ fn ask_p384(run: &mut Run<'_>) -> Result<()> {
     calls! { run;
         "P384::key_pair of a generator, with no memory"
             => P384::key_pair(&mut Counting::new()).map(private_half);
+        "P384::try_new_pair of a generator"
+            => P384::try_new_pair(alloc, &mut Counting::new()).map(private_front);
         "CompressedKey::public_key of P384, with no memory" => P384.public_key(alloc, &private);
         "SignatureScheme::sign of P384, with no memory" => P384.sign(alloc, &private, text);
         "SignatureScheme::verify of P384, with no memory" => P384.verify(alloc, &public, text, &signature);

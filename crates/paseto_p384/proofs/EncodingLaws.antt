@@ -1,7 +1,8 @@
 -- The cases of decoding.
 use Rattle.std.proofs.Common.{◌≡◌, ◌≢◌, ◌≤◌, ℕ, ◌+◌, ◌/◌, ◌%◌, ◌<◌, List, ◌∷◌, drop, slice_index, ap₂, arith}
-use Rattle.std.specs.Prelude.{None, Some}
+use Rattle.std.specs.Prelude.{None, Some, IsTrue, ◌==◌, ◌||◌}
 use Rattle.std.proofs.lemmas.Bool.Decides.{nat_tests}
+use Rattle.rusty_paseto_parts.specs.PublicKey.{is_compressed}
 use Rattle.paseto_montgomery.specs.Octets.{i2osp, os2ip}
 use Rattle.paseto_p384.specs.Encoding.{decoded, encoded, point_at, right_side, signed}
 use Rattle.paseto_weierstrass.specs.Field.{inverse, minus, power, prime, times}
@@ -51,3 +52,14 @@ pub decoded-at : (octets : List ℕ) (x : ℕ) → slice_index octets 0 / 2 ≡ 
     → point_at (slice_index octets 0 % 2) x ≡ decoded octets
 unfolding decoded
 decoded-at octets x h e below = rw (← e) (grind (arith, nat_tests))
+
+first-compressed : (n : ℕ) → n < 2 → IsTrue (2 + n == 2 || 2 + n == 3)
+first-compressed n h = grind (arith, nat_tests)
+
+-- the first octet is one that a compressed point begins with
+pub encoded-compressed : (p : Point) → IsTrue (is_compressed (encoded p))
+unfolding encoded
+encoded-compressed p =
+    let y = times p.y (inverse p.z) in
+    let below : y % 2 < 2 = grind arith in
+    first-compressed (y % 2) below

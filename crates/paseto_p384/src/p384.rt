@@ -1,6 +1,7 @@
 //! Keys, signing and verifying of messages (FIPS 186-5, section 6.4).
 
 ghost use Rattle.std.specs.Prelude.{◌≡◌, ◌↔◌, ◌⊎◌, ℕ, ◌<◌, List, length, None, Some, IfErr, IfOk, MatchOption, OnOk, IsTrue};
+ghost use Rattle.rusty_paseto_parts.specs.Error.{IsMemory};
 ghost use Rattle.rusty_paseto_parts.specs.declared.error.PasetoError.TheVariants.{InvalidSignature, KeyRejected, Signature};
 ghost use Rattle.paseto_montgomery.specs.Octets.{os2ip};
 ghost use Rattle.paseto_montgomery.specs.Words.{value};
@@ -16,7 +17,10 @@ use crate::scalar::{from_words, is_scalar, to_words};
 use paseto_montgomery::{from_octets, to_octets};
 use rand_core::TryRng;
 use rusty_paseto_core::{CompressedKey, SignatureScheme};
-use rusty_paseto_parts::{Key, PasetoError};
+use rusty_paseto_parts::{
+    Key, KeyPair, PasetoAsymmetricPrivateKey, PasetoAsymmetricPublicKey, PasetoError, PrivateKey,
+    PublicKey, V3,
+};
 use sha2::{Digest, Sha384};
 use std::alloc::Global;
 
@@ -142,6 +146,24 @@ impl P384 {
             Some(d) => Ok((private, Key::from(public_octets(&d)))),
             None => Err(PasetoError::KeyRejected),
         }
+    }
+
+    /// A new pair of keys of version 3, which owns its bytes: they are those that `key_pair` makes.
+    ///
+    /// `Cipher` and `KeyRejected` come just where `key_pair` answers them, and else nothing but memory is refused.
+    pub fn try_new_pair<R: TryRng>(alloc: Global, rng: &mut R) -> Result<KeyPair<V3>, PasetoError>
+        ensures ok { IfOk result (λ pair. R.may_fill rng.old pair.0 rng.new
+            × IsPrivate pair.0 × (pair.1 ≡ p384_public pair.0)) }
+        ensures err { IfErr result (λ error. IsMemory error ⊎ (((error ≡ PasetoError.Cipher) × R.Error)
+            ⊎ ((error ≡ PasetoError.KeyRejected)
+            × ((drawn : List ℕ) × (length drawn ≡ 48) × R.may_fill rng.old drawn rng.new
+            × (¬ IsPrivate drawn))))) }
+    {
+        let (private, public) = P384::key_pair(rng)?;
+        Ok(KeyPair::new(
+            PrivateKey::copy_of(alloc, &PasetoAsymmetricPrivateKey::from(&private))?,
+            PublicKey::copy_of(alloc, &PasetoAsymmetricPublicKey::try_from(&public)?)?,
+        ))
     }
 }
 

@@ -27,6 +27,14 @@ impl VersionTrait for OneTag {
         "v4"
     }
 
+    fn is_private_key(_bytes: &[u8]) -> bool {
+        true
+    }
+
+    fn is_public_key(bytes: &[u8]) -> bool {
+        bytes.len() == 32
+    }
+
     ghost has_nonce_of_32 = { refl };
 }
 

@@ -2,8 +2,8 @@
 
 use crate::expect::{expect_bytes, expect_text, expect_that};
 use rusty_paseto_core::{
-    Key, Local, PasetoAsymmetricPrivateKey, PasetoAsymmetricPublicKey, PasetoError, PasetoNonce,
-    PasetoSymmetricKey, Public, V1, V2, V3, V4,
+    Key, KeyPair, Local, PasetoAsymmetricPrivateKey, PasetoAsymmetricPublicKey, PasetoError,
+    PasetoNonce, PasetoSymmetricKey, PrivateKey, Public, PublicKey, V1, V2, V3, V4, VersionTrait,
 };
 use std::alloc::Global;
 use std::fmt;
@@ -73,6 +73,88 @@ fn no_byte_is_told(rt: HostRuntime) {
     check_told(&rt, rt.alloc(), &private, "!!! KEY IS PRIVATE !!!");
     check_told(&rt, rt.alloc(), &public, "PasetoAsymmetricPublicKey { .. }");
     check_told(&rt, rt.alloc(), &nonce, "PasetoNonce { .. }");
+}
+
+#[test]
+fn no_byte_of_an_owned_key_is_told(rt: HostRuntime) {
+    let alloc = rt.alloc();
+    let long = Key::<64>::from(bytes_of());
+    let short = Key::<32>::from(bytes_of());
+    let pair = pair_of(&rt, alloc, &long, &short);
+    check_told(&rt, alloc, &pair, "!!! KEY IS PRIVATE !!!");
+    let (private, public) = pair.into_keys();
+    check_told(&rt, alloc, &private, "!!! KEY IS PRIVATE !!!");
+    check_told(&rt, alloc, &public, "PublicKey { .. }");
+}
+
+// A pair of version 4 of these bytes.
+fn pair_of(rt: &impl Abort, alloc: Global, private: &Key<64>, public: &Key<32>) -> KeyPair<V4> {
+    let private = PrivateKey::copy_of(alloc, &PasetoAsymmetricPrivateKey::from(private));
+    let public = PublicKey::copy_of(alloc, &PasetoAsymmetricPublicKey::from(public));
+    KeyPair::new(private.expect(rt, "memory"), public.expect(rt, "memory"))
+}
+
+#[test]
+fn a_pair_keeps_its_keys(rt: HostRuntime) {
+    let long = Key::<64>::from(bytes_of());
+    let short = Key::<32>::from(bytes_of());
+    let pair = pair_of(&rt, rt.alloc(), &long, &short);
+    expect_bytes(&rt, pair.private().as_bytes(), &bytes_of::<64>());
+    expect_bytes(&rt, pair.public().as_bytes(), &bytes_of::<32>());
+    let (private, public) = pair.into_keys();
+    expect_bytes(&rt, private.lend().as_bytes(), &bytes_of::<64>());
+    expect_bytes(&rt, public.lend().as_bytes(), &bytes_of::<32>());
+}
+
+// So many bytes, of which the first is 2.
+fn owned_bytes(rt: &impl Abort, alloc: Global, length: usize) -> Vec<u8> {
+    let bytes = [2u8; 65];
+    Vec::from_slice(alloc, &bytes[..length]).expect(rt, "memory")
+}
+
+// Whether a private key, and whether a public key, of the version may have so many bytes.
+fn may_have<V: VersionTrait>(rt: &impl Abort, alloc: Global, length: usize) -> (bool, bool) {
+    let private = PrivateKey::<V>::try_from(owned_bytes(rt, alloc, length));
+    let public = PublicKey::<V>::try_from(owned_bytes(rt, alloc, length));
+    let named = matches!(&private, Ok(_) | Err(PasetoError::InvalidKey))
+        && matches!(&public, Ok(_) | Err(PasetoError::InvalidKey));
+    expect_that(rt, named, &length);
+    (private.is_ok(), public.is_ok())
+}
+
+#[test]
+fn owned_keys_have_their_lengths(rt: HostRuntime) {
+    'lengths: for length in 0..=65usize {
+        let alloc = rt.alloc();
+        expect_that(
+            &rt,
+            may_have::<V1>(&rt, alloc, length) == (true, true),
+            &length,
+        );
+        let is_32 = length == 32;
+        expect_that(
+            &rt,
+            may_have::<V2>(&rt, alloc, length) == (true, is_32),
+            &length,
+        );
+        expect_that(
+            &rt,
+            may_have::<V4>(&rt, alloc, length) == (true, is_32),
+            &length,
+        );
+        let of_v3 = (length == 48, length == 49);
+        expect_that(&rt, may_have::<V3>(&rt, alloc, length) == of_v3, &length);
+    }
+}
+
+#[test]
+fn owned_points_are_compressed(rt: HostRuntime) {
+    'bytes: for first in 0..=255u8 {
+        let mut bytes = owned_bytes(&rt, rt.alloc(), 49);
+        bytes[0] = first;
+        let is_taken = PublicKey::<V3>::try_from(bytes).is_ok();
+        expect_that(&rt, is_taken == (first == 2 || first == 3), &first);
+    }
 }
 
 // A clone has the same bytes.

@@ -5,3 +5,4 @@ pub mod KeyRingLemmas
 pub mod KeyRingParsing
 pub mod StaysOut
 pub mod ValidatorLemmas
+pub mod Lifetimes

@@ -1,5 +1,5 @@
 -- The moments at which a default builder can begin.
-use Rattle.std.specs.Prelude.{◌+ℤ◌, ℤ, pos}
+use Rattle.std.specs.Prelude.{◌+ℤ◌, ◌*◌, ℕ, ℤ, pos}
 use Rattle.jiff.specs.Types.{Timestamp}
 use Rattle.jiff.specs.Words.{IsTimestampNanos}
 use Rattle.rusty_paseto_claims.specs.Moment.{HasShortYear}
@@ -13,3 +13,12 @@ pub record FitsDefault (now : Timestamp) : Type 0 where
   pub year : HasShortYear now.nanosecond
   pub later : IsTimestampNanos (hour_later now)
   pub later_year : HasShortYear (hour_later now)
+
+-- the moment so many seconds later
+abbrev pub seconds_later : ℕ → Timestamp → ℤ
+seconds_later seconds now = now.nanosecond +ℤ pos (seconds * 1_000_000_000)
+
+-- there is such a moment, and its year is from 0 to 9999
+pub record HasText (moment : ℤ) : Type 0 where
+  pub is_moment : IsTimestampNanos moment
+  pub year : HasShortYear moment

@@ -1,13 +1,13 @@
 -- What a default builder holds beside its claims, its footer and its assertion: which keys were set, and the last of
 -- them that was set again.
-use Rattle.std.specs.Prelude.{◌≡◌, ℕ, List, Bool, true, false, if◌then◌else◌, Option, Some, None, bytes_eq, codes, string_bytes, ◌⊎◌, IsSome, Result, OnOk, IfErr, String}
+use Rattle.std.specs.Prelude.{◌≡◌, ℕ, ℤ, List, Bool, true, false, if◌then◌else◌, Option, Some, None, bytes_eq, codes, string_bytes, ◌⊎◌, IsSome, Result, OnOk, IfErr, String}
 use Rattle.std.specs.Global.{Global}
 use Rattle.jiff.specs.Types.{Timestamp}
-use Rattle.serde_json.specs.Data.{Members, no_members, member, string}
+use Rattle.serde_json.specs.Data.{Members, no_members, member, put, string}
 use Rattle.serde_json.specs.Find.{get_member}
 use Rattle.rusty_paseto_claims.specs.Error.{malformed_date}
 use Rattle.rusty_paseto_claims.specs.Moment.{IsMomentText}
-use Rattle.rusty_paseto.specs.Moment.{FitsDefault, hour_later}
+use Rattle.rusty_paseto.specs.Moment.{FitsDefault, HasText, hour_later}
 use Rattle.rusty_paseto_generic.specs.Error.{IsClaimFault, IsMemory}
 use Rattle.rusty_paseto_generic.specs.declared.error.GenericBuilderError.{GenericBuilderError}
 use Rattle.rusty_paseto_generic.specs.declared.error.GenericBuilderError.TheVariants.{DuplicateTopLevelPayloadClaim}
@@ -71,9 +71,25 @@ pub record IsRefusedRepeat (repeated : Option (List ℕ)) (result : Result (Stri
   pub ok : OnOk result (repeated ≡ None)
   pub err : IsSome repeated → IfErr result (λ error. IsMemory error ⊎ IsDuplicate repeated error)
 
--- the error says that no default builder begins at the moment, and has its text
-pub record IsUnfitMoment (now : Timestamp) (error : GenericBuilderError) : Type 0 where
-  pub fits_not : ¬ FitsDefault now
+-- the error names a moment by its text
+pub record IsMomentFault (now : Timestamp) (error : GenericBuilderError) : Type 0 where
   pub text : List ℕ
   pub is_text : IsMomentText now.nanosecond text
   pub fault : IsClaimFault (malformed_date text) error
+
+-- the error says that no default builder begins at the moment, and has its text
+pub record IsUnfitMoment (now : Timestamp) (error : GenericBuilderError) : Type 0 where
+  pub fits_not : ¬ FitsDefault now
+  pub fault : IsMomentFault now error
+
+-- the claims get an expiration at the end, and stay what they were beside it
+pub record GetsEnd (end : ℤ) (old new : Members) : Type 0 where
+  pub has_text : HasText end
+  pub text : List ℕ
+  pub is_text : IsMomentText end text
+  pub is : new ≡ put expiration_key (string text) old
+
+-- the error says that no token ends there which begins at the moment, and has the moment's text
+pub record IsUnfitEnd (now : Timestamp) (end : ℤ) (error : GenericBuilderError) : Type 0 where
+  pub has_none : ¬ HasText end
+  pub fault : IsMomentFault now error

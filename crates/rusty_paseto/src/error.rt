@@ -1,13 +1,14 @@
 //! The general error, and why a key ring refused a token.
 
 ghost use Rattle.std.specs.Prelude.{◌≡◌, option_map};
-ghost use Rattle.rusty_paseto.specs.Error.{cause_of, ring_cause_of};
+ghost use Rattle.rusty_paseto.specs.Error.{cause_of, parsing_blame, ring_blame, ring_cause_of};
 ghost use Rattle.rusty_paseto.specs.KeyRing.{of_parser, of_ring};
 ghost use Rattle.rusty_paseto.specs.declared.error.KeyRingError.TheVariants.{Memory};
+ghost use Rattle.rusty_paseto.specs.declared.error.KeyRingParserError.TheVariants.{Memory as NoMemory};
 
 use crate::shown_id::ShownId;
 use rusty_paseto_core::PasetoError;
-use rusty_paseto_generic::GenericParserError;
+use rusty_paseto_generic::{Blame, GenericParserError};
 use std::alloc::AllocError;
 use thiserror::Error;
 
@@ -66,6 +67,18 @@ impl KeyRingError {
             _ => None,
         }
     }
+
+    /// On which side the fault lies: `Memory` where memory was refused, and else `Foreign`: the token names no key of the
+    /// ring, or was not opened under the one that it names.
+    pub fn blame(&self) -> Blame
+        ensures { result ≡ ring_blame self.now }
+    {
+        match self {
+            KeyRingError::Untrusted(source) | KeyRingError::Token(source) => Blame::from(source),
+            KeyRingError::Memory(_) => Blame::Memory,
+            _ => Blame::Foreign,
+        }
+    }
 }
 
 impl From<AllocError> for KeyRingError {
@@ -98,14 +111,9 @@ impl KeyRingParserError {
     /// ```rust
     /// use rusty_paseto::prelude::*;
     ///
-    /// /// Whose fault a refusal is.
-    /// pub fn blame(error: &KeyRingParserError) -> &'static str {
-    ///     match error {
-    ///         error if error.cause().is_some() => "no token of ours",
-    ///         KeyRingParserError::Ring(_) => "no key of ours",
-    ///         KeyRingParserError::Parser(_) => "not now, or not here",
-    ///         KeyRingParserError::Memory(_) => "ask again later",
-    ///     }
+    /// /// Whether the token was changed, or was sealed with another key of this id or another assertion.
+    /// pub fn has_another_tag(error: &KeyRingParserError) -> bool {
+    ///     matches!(error.cause(), Some(PasetoError::Cryption))
     /// }
     /// ```
     pub fn cause(&self) -> Option<&PasetoError>
@@ -116,6 +124,38 @@ impl KeyRingParserError {
             KeyRingParserError::Parser(source) => source.cause(),
             KeyRingParserError::Memory(_) => None,
         }
+    }
+
+    /// On which side the fault lies: that of the ring's fault, or of the parser's.
+    ///
+    /// ```rust
+    /// use rusty_paseto::prelude::*;
+    ///
+    /// /// The status that a service would answer over HTTP for a refused token.
+    /// pub fn status(refusal: &KeyRingParserError) -> u16 {
+    ///     match refusal.blame() {
+    ///         Blame::Foreign | Blame::Untimely => 401,
+    ///         Blame::Unfit => 403,
+    ///         Blame::Memory => 503,
+    ///     }
+    /// }
+    /// ```
+    pub fn blame(&self) -> Blame
+        ensures { result ≡ parsing_blame self.now }
+    {
+        match self {
+            KeyRingParserError::Ring(source) => source.blame(),
+            KeyRingParserError::Parser(source) => source.blame(),
+            KeyRingParserError::Memory(_) => Blame::Memory,
+        }
+    }
+}
+
+impl From<AllocError> for KeyRingParserError {
+    ghost from_gives = { λ source error. error ≡ NoMemory source };
+
+    fn from(source: AllocError) -> KeyRingParserError {
+        KeyRingParserError::Memory(source)
     }
 }
 

@@ -1,16 +1,16 @@
 //! All of the generic builders and parsers, of the claims, and of the core.
 
 pub use rusty_paseto_generic::{
-    AssertionVersion, Audience, AudienceClaim, CheckSetter, ClaimSetter, ClaimValue, CompressedKey,
-    CustomClaim, DateClaim, Expiration, ExpirationClaim, Explained, Footer, GenericBuilder,
-    GenericBuilderError, GenericLocalVersion, GenericParser, GenericParserError, Header,
-    ImplicitAssertion, ImplicitAssertionCapable, IssuedAt, IssuedAtClaim, Issuer, IssuerClaim,
-    Itself, Key, Local, LocalVersion, NotBefore, NotBeforeClaim, Opening, Paseto,
-    PasetoAsymmetricPrivateKey, PasetoAsymmetricPublicKey, PasetoClaim, PasetoClaimError,
-    PasetoError, PasetoNonce, PasetoSymmetricKey, Payload, PreAuthenticationEncoding, Public,
-    PublicVersion, PurposeTrait, ReservedKey, SealedBox, SignatureScheme, Signs, Subject,
-    SubjectClaim, TagCollision, TextClaim, TokenIdentifier, TokenIdentifierClaim, TokenParser,
-    UntrustedToken, V1, V1orV3, V2, V2orV4, V3, V4, Validator, ValidatorFn, ValidatorMap, Verifies,
-    VersionTrait, from_section, has_short_year, is_whole, moment_text, odd_key, same_value,
-    split_token, to_section,
+    AssertionVersion, Audience, AudienceClaim, Blame, CheckSetter, ClaimSetter, ClaimValue,
+    CompressedKey, CustomClaim, DateClaim, Expiration, ExpirationClaim, Explained, Footer,
+    GenericBuilder, GenericBuilderError, GenericLocalVersion, GenericParser, GenericParserError,
+    Header, ImplicitAssertion, ImplicitAssertionCapable, IssuedAt, IssuedAtClaim, Issuer,
+    IssuerClaim, Itself, Key, KeyPair, Local, LocalVersion, NotBefore, NotBeforeClaim, Opening,
+    Paseto, PasetoAsymmetricPrivateKey, PasetoAsymmetricPublicKey, PasetoClaim, PasetoClaimError,
+    PasetoError, PasetoNonce, PasetoSymmetricKey, Payload, PreAuthenticationEncoding, PrivateKey,
+    Public, PublicKey, PublicVersion, PurposeTrait, ReservedKey, SealedBox, SignatureScheme, Signs,
+    Subject, SubjectClaim, TagCollision, TextClaim, TokenIdentifier, TokenIdentifierClaim,
+    TokenParser, UntrustedToken, V1, V1orV3, V2, V2orV4, V3, V4, Validator, ValidatorFn,
+    ValidatorMap, Verifies, VersionTrait, from_section, has_short_year, is_whole, moment_text,
+    odd_key, same_value, split_token, to_section,
 };

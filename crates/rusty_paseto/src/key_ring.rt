@@ -11,7 +11,7 @@ ghost use Rattle.rusty_paseto.specs.declared.error.KeyRingError.TheVariants.{Unt
 
 use crate::error::KeyRingError;
 use crate::key_ring::naming::{footer_of, key_id};
-use rusty_paseto_core::{Local, PasetoAsymmetricPublicKey, PasetoSymmetricKey, Public};
+use rusty_paseto_core::{Local, PasetoAsymmetricPublicKey, PasetoSymmetricKey, Public, PublicKey};
 use std::alloc::{AllocError, Global};
 use std::collections::BTreeMap;
 use std::collections::btree_map::Keys;
@@ -21,6 +21,7 @@ mod claims;
 mod local;
 mod naming;
 mod opened;
+mod owned;
 mod public;
 
 pub use naming::key_footer;
@@ -72,6 +73,39 @@ pub type KeyRing<V> = Ring<PasetoSymmetricKey<V, Local>>;
 /// }
 /// ```
 pub type PublicKeyRing<'a, V> = Ring<PasetoAsymmetricPublicKey<'a, V, Public>>;
+
+/// The public keys of a version by their ids, which own their bytes: a [`Ring`] that verifies public tokens, for a
+/// service that keeps its keys. It has `parse` and `parse_by`.
+///
+/// ```rust
+/// use anyhow::Result;
+/// use jiff::Timestamp;
+/// use paseto_ed25519::Ed25519;
+/// use rusty_paseto::prelude::*;
+/// use rusty_paseto_paserk::public_key_from_paserk;
+/// use serde_json::Value;
+/// use std::alloc::Global;
+///
+/// /// The ring of the keys of these ids and texts, as `k4.public...`.
+/// pub fn ring_of(alloc: Global, lines: &[(&str, &str)]) -> Result<OwnedPublicKeyRing<V4>> {
+///     let mut ring = OwnedPublicKeyRing::<V4>::new(alloc);
+///     for (id, text) in lines {
+///         ring.add(id, public_key_from_paserk(alloc, text)?)?;
+///     }
+///     Ok(ring)
+/// }
+///
+/// /// The id of the key that the token's footer names, and the claims.
+/// pub fn admit(
+///     alloc: Global,
+///     now: Timestamp,
+///     ring: &OwnedPublicKeyRing<V4>,
+///     token: &str,
+/// ) -> Result<(String, Value)> {
+///     Ok(ring.parse(&Ed25519, &PasetoParser::default(alloc, now)?, token)?)
+/// }
+/// ```
+pub type OwnedPublicKeyRing<V> = Ring<PublicKey<V>>;
 
 /// Keys by their ids, of which a token's footer names the one that opens it: the footer is the JSON of an object
 /// with the id as the text under `kid`, as `key_footer` makes it.

@@ -12,10 +12,10 @@ ghost use Rattle.rusty_paseto_generic.specs.Builders.Held.{held};
 ghost use Rattle.rusty_paseto_generic.specs.Builders.GenericBuilder.{IsBoxAnswer, IsSealed, IsSignAnswer};
 ghost use Rattle.rusty_paseto.specs.Held.{counting};
 ghost use Rattle.rusty_paseto.specs.Moment.{FitsDefault};
-ghost use Rattle.rusty_paseto.specs.PasetoBuilder.{IsDefaultClaims, IsDuplicate, IsRefusedRepeat, IsSame, IsUnfitMoment, NeverExpires, acknowledged, counted, expiration_key, nothing_counted};
+ghost use Rattle.rusty_paseto.specs.PasetoBuilder.{IsDefaultClaims, IsDuplicate, IsMomentFault, IsRefusedRepeat, IsSame, IsUnfitMoment, NeverExpires, acknowledged, counted, expiration_key, nothing_counted};
 
 use crate::keys::Keys;
-use crate::moment::{fits_default, hour_after};
+use crate::moment::{fits_default, hour_after, seconds_after};
 use crate::setter::CountingSetter;
 use crate::version::DefaultLocalVersion;
 use jiff::Timestamp;
@@ -26,7 +26,8 @@ use rusty_paseto_core::{
     PasetoSymmetricKey, Public, PublicVersion, PurposeTrait, SealedBox, Signs, V2, VersionTrait,
 };
 use rusty_paseto_generic::{
-    ClaimSetter, GenericBuilder, GenericBuilderError, PasetoClaim, PasetoClaimError,
+    ClaimSetter, ExpirationClaim, GenericBuilder, GenericBuilderError, PasetoClaim,
+    PasetoClaimError,
 };
 use serde_json::{Map, Value};
 use std::alloc::{AllocError, Global};
@@ -38,7 +39,8 @@ const EXPIRATION: &str = "exp";
 /// moment of issue and the first moment of use.
 ///
 /// It counts the keys that are set. For a key that was set twice nothing is built, so that no claim replaces
-/// another unseen; the three claims that it begins with may each be replaced once.
+/// another unseen; the three claims that it begins with may each be replaced once. `set_lifetime` replaces the
+/// expiration by one so many seconds after the builder's moment.
 ///
 /// A call that refuses leaves the builder as it was. The builder keeps its claims, so that it may make any
 /// number of tokens.
@@ -67,6 +69,8 @@ const EXPIRATION: &str = "exp";
 #[derive(Drop)]
 pub struct PasetoBuilder<'a, V, P> {
     alloc: Global,
+    // The moment that it was made at.
+    moment: Timestamp,
     builder: GenericBuilder<'a, V, P>,
     keys: Keys,
 }
@@ -82,6 +86,7 @@ impl<'a, V: VersionTrait, P: PurposeTrait> PasetoBuilder<'a, V, P> {
         requires { FitsDefault now }
         ensures claims { IfOk result (λ made. IsDefaultClaims now (held made.builder.claims)) }
         ensures keys { IfOk result (λ made. IsSame nothing_counted (counting made.keys)) }
+        ensures moment { IfOk result (λ made. made.moment ≡ now) }
         ensures footer { IfOk result (λ made. made.builder.paseto.footer ≡ None) }
         ensures implicit_assertion { IfOk result
             (λ made. made.builder.paseto.implicit_assertion ≡ None) }
@@ -91,6 +96,7 @@ impl<'a, V: VersionTrait, P: PurposeTrait> PasetoBuilder<'a, V, P> {
         builder.put_claims(default_claims(alloc, now)?)?;
         Ok(PasetoBuilder {
             alloc,
+            moment: now,
             builder,
             keys: Keys::new(alloc),
         })
@@ -104,14 +110,14 @@ impl<'a, V: VersionTrait, P: PurposeTrait> PasetoBuilder<'a, V, P> {
         ensures fits { OnOk result (FitsDefault now) }
         ensures claims { IfOk result (λ made. IsDefaultClaims now (held made.builder.claims)) }
         ensures keys { IfOk result (λ made. IsSame nothing_counted (counting made.keys)) }
+        ensures moment { IfOk result (λ made. made.moment ≡ now) }
         ensures footer { IfOk result (λ made. made.builder.paseto.footer ≡ None) }
         ensures implicit_assertion { IfOk result
             (λ made. made.builder.paseto.implicit_assertion ≡ None) }
         ensures err { IfErr result (λ error. IsMemory error ⊎ IsUnfitMoment now error) }
     {
         if !fits_default(now) {
-            let source = PasetoClaimError::RFC3339Date(moment_text(alloc, now)?);
-            return Err(GenericBuilderError::ClaimError { source });
+            return Err(unfit_moment(alloc, now));
         }
         PasetoBuilder::default(alloc, now)
     }
@@ -126,7 +132,8 @@ impl<'a, V: VersionTrait, P: PurposeTrait> PasetoBuilder<'a, V, P> {
             ≡ becomes (held self.new.builder.claims)) }
         ensures keys { OnOk result (IsSame (acknowledged (C.key claim.now) (counting self.old.keys))
             (counting self.new.keys)) }
-        ensures rest { self.new.builder.paseto ≡ self.old.builder.paseto }
+        ensures rest { (self.new.builder.paseto ≡ self.old.builder.paseto)
+            × (self.new.moment ≡ self.old.moment) }
         ensures err { OnErr result (held self.new.builder.claims ≡ held self.old.builder.claims) }
         ensures err_keys { OnErr result (IsSame (counting self.old.keys) (counting self.new.keys)) }
         ensures fault { IfErr result
@@ -147,7 +154,8 @@ impl<'a, V: VersionTrait, P: PurposeTrait> PasetoBuilder<'a, V, P> {
             ≡ without expiration_key (held self.old.builder.claims) }
         ensures gone { get_member expiration_key (held self.new.builder.claims) ≡ None }
         ensures keys { self.new.keys ≡ self.old.keys }
-        ensures rest { self.new.builder.paseto ≡ self.old.builder.paseto }
+        ensures rest { (self.new.builder.paseto ≡ self.old.builder.paseto)
+            × (self.new.moment ≡ self.old.moment) }
     {
         self.builder.remove_claim(EXPIRATION);
     }
@@ -159,6 +167,7 @@ impl<'a, V: VersionTrait, P: PurposeTrait> PasetoBuilder<'a, V, P> {
             ≡ record self.entry.now.builder.paseto { footer = Some footer.entry } }
         ensures claims { held result.now.builder.claims ≡ held self.entry.now.builder.claims }
         ensures keys { result.now.keys ≡ self.entry.now.keys }
+        ensures moment { result.now.moment ≡ self.entry.now.moment }
     {
         self.builder.set_footer(footer);
         self
@@ -183,7 +192,10 @@ impl<'a, V: VersionTrait, P: PurposeTrait> CountingSetter for PasetoBuilder<'a, 
 
     ghost keys = { λ made. counting made.keys };
 
-    ghost is_rest = { λ made other. made.builder.paseto ≡ other.builder.paseto };
+    ghost moment = { λ made. made.moment };
+
+    ghost is_rest = { λ made other. (made.builder.paseto ≡ other.builder.paseto)
+        × (made.moment ≡ other.moment) };
 
     fn put_claim<C: PasetoClaim>(&mut self, claim: &C) -> Result<(), GenericBuilderError> {
         let key = String::from_str(self.alloc, claim.get_key())?;
@@ -193,6 +205,14 @@ impl<'a, V: VersionTrait, P: PurposeTrait> CountingSetter for PasetoBuilder<'a, 
             return Ok(());
         }
         self.put_new(key, claim)
+    }
+
+    fn put_lifetime(&mut self, seconds: u32) -> Result<(), GenericBuilderError> {
+        let Some(end) = seconds_after(self.moment, seconds) else {
+            return Err(unfit_moment(self.alloc, self.moment));
+        };
+        let claim = ExpirationClaim::at(self.alloc, end)?;
+        self.put_claim(&claim)
     }
 
     fn put_no_expiration_danger_acknowledged(&mut self) -> Result<(), GenericBuilderError> {
@@ -211,6 +231,7 @@ impl<'a, V: ImplicitAssertionCapable, P: PurposeTrait> PasetoBuilder<'a, V, P> {
             { implicit_assertion = Some implicit_assertion.entry } }
         ensures claims { held result.now.builder.claims ≡ held self.entry.now.builder.claims }
         ensures keys { result.now.keys ≡ self.entry.now.keys }
+        ensures moment { result.now.moment ≡ self.entry.now.moment }
     {
         self.builder.set_implicit_assertion(implicit_assertion);
         self
@@ -307,6 +328,18 @@ impl<V: PublicVersion> PasetoBuilder<'_, V, Public> {
     {
         self.check_keys()?;
         self.builder.try_sign(scheme, key)
+    }
+}
+
+// The error that names a moment.
+fn unfit_moment(alloc: Global, now: Timestamp) -> GenericBuilderError
+    ensures { IsMemory result ⊎ IsMomentFault now result }
+{
+    match moment_text(alloc, now) {
+        Ok(text) => GenericBuilderError::ClaimError {
+            source: PasetoClaimError::RFC3339Date(text),
+        },
+        Err(refused) => GenericBuilderError::Memory(refused),
     }
 }
 

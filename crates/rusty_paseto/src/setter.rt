@@ -1,11 +1,13 @@
 //! The setters of default builders that lend the builder back.
 
 ghost use Rattle.std.specs.Borrow.{sem, LendsSoOk};
-ghost use Rattle.std.specs.Prelude.{◌≡◌, IfOk, IfErr, OnOk, OnErr};
+ghost use Rattle.std.specs.Prelude.{◌≡◌, ◌⊎◌, IfOk, IfErr, OnOk, OnErr};
+ghost use Rattle.jiff.specs.Types.{Timestamp};
 ghost use Rattle.serde_json.specs.Data.{Members};
 ghost use Rattle.rusty_paseto_generic.specs.Error.{IsMemory};
 ghost use Rattle.rusty_paseto_generic.specs.Builders.Claims.{IsRefusal, becomes, claim_set, without};
-ghost use Rattle.rusty_paseto.specs.PasetoBuilder.{Counting, IsSame, NeverExpires, acknowledged, counted, expiration_key};
+ghost use Rattle.rusty_paseto.specs.Moment.{seconds_later};
+ghost use Rattle.rusty_paseto.specs.PasetoBuilder.{Counting, GetsEnd, IsSame, IsUnfitEnd, NeverExpires, acknowledged, counted, expiration_key};
 
 use rusty_paseto_generic::{GenericBuilderError, Itself, PasetoClaim};
 
@@ -18,7 +20,10 @@ pub trait CountingSetter {
     // The keys that were set.
     ghost keys: { Self → Counting };
 
-    // The first has what the second has beside them.
+    // The moment that the builder was made at.
+    ghost moment: { Self → Timestamp };
+
+    // The first has what the second has beside claims and keys.
     ghost is_rest: { Self → Self → Type 0 };
 
     /// Stores a claim under its key, as `put_claim` of a `GenericBuilder` does, and counts the key, the empty
@@ -59,6 +64,66 @@ pub trait CountingSetter {
             (claims self.entry.now))) }
     {
         self.put_claim(claim)?;
+        Ok(self.itself())
+    }
+
+    /// Stores the expiration of a token that lives so many seconds from the builder's moment on, and counts its key, as
+    /// `put_claim` of an `ExpirationClaim` does.
+    ///
+    /// `ClaimError` of `RFC3339Date`, with the text of the builder's moment, comes exactly where there is no moment so
+    /// many seconds later, or its year is none from 0 to 9999. Nothing else but memory is refused. The builder is then
+    /// unchanged.
+    fn put_lifetime(&mut self, seconds: u32) -> Result<(), GenericBuilderError>
+        ensures ok { OnOk result (GetsEnd (seconds_later seconds (moment self.old))
+            (claims self.old) (claims self.new)) }
+        ensures keys { OnOk result (IsSame (counted expiration_key (keys self.old))
+            (keys self.new)) }
+        ensures rest { is_rest self.new self.old }
+        ensures err { OnErr result (claims self.new ≡ claims self.old) }
+        ensures err_keys { OnErr result (IsSame (keys self.old) (keys self.new)) }
+        ensures fault { IfErr result (λ error. IsMemory error
+            ⊎ IsUnfitEnd (moment self.old) (seconds_later seconds (moment self.old)) error) };
+
+    /// Stores the expiration, as `put_lifetime` does, and lends the builder back. Where it refuses, the builder is
+    /// unchanged.
+    ///
+    /// ```rust
+    /// use anyhow::Result;
+    /// use jiff::Timestamp;
+    /// use rand_core::TryRng;
+    /// use rusty_paseto::prelude::*;
+    /// use std::alloc::Global;
+    ///
+    /// /// A token that lives ten minutes.
+    /// pub fn issue_for_ten_minutes<R: TryRng>(
+    ///     alloc: Global,
+    ///     now: Timestamp,
+    ///     rng: &mut R,
+    ///     key: &PasetoSymmetricKey<V4, Local>,
+    /// ) -> Result<String> {
+    ///     let mut builder = PasetoBuilder::<V4, Local>::try_default(alloc, now)?;
+    ///     builder.set_lifetime(600)?;
+    ///     Ok(builder.build(rng, key)?)
+    /// }
+    /// ```
+    final fn set_lifetime<O>(&mut self, seconds: u32) -> Result<&mut O, GenericBuilderError>
+    where
+        Self: Itself<O>,
+        ensures* err { sem 𝓛 (LendsSoOk Self.row O.row self.entry result
+            (λ last lent. last ≡ Self.whole lent)
+            (λ last. (claims last ≡ claims self.entry.now) × IsSame (keys self.entry.now)
+            (keys last) × is_rest last self.entry.now)) }
+        ensures lent { IfOk result (λ lent. lent.ghost_name ≡ self.entry.ghost_name) }
+        ensures ok { IfOk result (λ lent. GetsEnd (seconds_later seconds (moment self.entry.now))
+            (claims self.entry.now) (claims (Self.whole lent.now))) }
+        ensures keys { IfOk result (λ lent. IsSame (counted expiration_key (keys self.entry.now))
+            (keys (Self.whole lent.now))) }
+        ensures rest { IfOk result (λ lent. is_rest (Self.whole lent.now) self.entry.now) }
+        ensures fault { IfErr result (λ error. IsMemory error
+            ⊎ IsUnfitEnd (moment self.entry.now) (seconds_later seconds (moment self.entry.now))
+            error) }
+    {
+        self.put_lifetime(seconds)?;
         Ok(self.itself())
     }
 

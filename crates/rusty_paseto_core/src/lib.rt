@@ -42,8 +42,9 @@ pub use paseto::{AssertionVersion, Paseto};
 pub use public::scheme::{CompressedKey, SignatureScheme};
 pub use public::{PublicVersion, Signs, Verifies};
 pub use rusty_paseto_parts::{
-    Footer, Header, ImplicitAssertion, ImplicitAssertionCapable, Key, Local,
+    Footer, Header, ImplicitAssertion, ImplicitAssertionCapable, Key, KeyPair, Local,
     PasetoAsymmetricPrivateKey, PasetoAsymmetricPublicKey, PasetoError, PasetoNonce,
-    PasetoSymmetricKey, Payload, PreAuthenticationEncoding, Public, PurposeTrait, UntrustedToken,
-    V1, V1orV3, V2, V2orV4, V3, V4, VersionTrait, from_section, split_token, to_section,
+    PasetoSymmetricKey, Payload, PreAuthenticationEncoding, PrivateKey, Public, PublicKey,
+    PurposeTrait, UntrustedToken, V1, V1orV3, V2, V2orV4, V3, V4, VersionTrait, from_section,
+    split_token, to_section,
 };

@@ -1,11 +1,13 @@
 //! The errors of builders and of parsers.
 
 ghost use Rattle.std.specs.Prelude.{◌≡◌, Some, option_map};
+ghost use Rattle.rusty_paseto_generic.specs.Blame.{builder_blame, parser_blame};
 ghost use Rattle.rusty_paseto_generic.specs.Error.{cause_of, error_text, of_cipher, of_claim, IsOfJson};
 ghost use Rattle.rusty_paseto_generic.specs.Error.Parser.{cause_of as parser_cause_of, error_text as parser_error_text, of_cipher as parser_of_cipher, of_claim as parser_of_claim, IsOfJson as IsParserOfJson};
 ghost use Rattle.rusty_paseto_generic.specs.declared.error.GenericBuilderError.TheVariants.{Memory};
 ghost use Rattle.rusty_paseto_generic.specs.declared.error.GenericParserError.TheVariants as Parser;
 
+use crate::blame::Blame;
 use crate::explained::Explained;
 use rusty_paseto_claims::PasetoClaimError;
 use rusty_paseto_core::PasetoError;
@@ -38,6 +40,17 @@ impl GenericBuilderError {
         match self {
             GenericBuilderError::CipherError { source } => Some(source),
             _ => None,
+        }
+    }
+
+    /// On which side the fault lies: `Memory` where memory was refused, and else `Unfit`. What a builder refuses is
+    /// never `Foreign` or `Untimely`.
+    pub fn blame(&self) -> Blame
+        ensures { result ≡ builder_blame self.now }
+    {
+        match self {
+            GenericBuilderError::Memory(_) => Blame::Memory,
+            _ => Blame::Unfit,
         }
     }
 
@@ -151,6 +164,20 @@ impl GenericParserError {
         match self {
             GenericParserError::CipherError { source } => Some(source),
             _ => None,
+        }
+    }
+
+    /// On which side the fault lies: `Foreign` where the token was not opened or verified, `Untimely` where it has
+    /// expired or may not be used yet, `Unfit` where its text is no JSON or a claim does not pass another check, and
+    /// `Memory` where memory was refused.
+    pub fn blame(&self) -> Blame
+        ensures { result ≡ parser_blame self.now }
+    {
+        match self {
+            GenericParserError::ClaimError { source } => Blame::from(source),
+            GenericParserError::CipherError { source } => Blame::from(source),
+            GenericParserError::PayloadJsonError { .. } => Blame::Unfit,
+            GenericParserError::Memory(_) => Blame::Memory,
         }
     }
 

@@ -28,6 +28,7 @@
 //! ```
 #![tactic(auto)]
 
+mod blame;
 mod builders;
 mod error;
 mod explained;
@@ -37,6 +38,7 @@ mod parsers;
 mod validator;
 mod whole;
 
+pub use blame::Blame;
 pub use builders::{ClaimSetter, GenericBuilder, GenericLocalVersion};
 pub use error::{GenericBuilderError, GenericParserError};
 pub use explained::Explained;
@@ -50,10 +52,10 @@ pub use rusty_paseto_claims::{
 };
 pub use rusty_paseto_core::{
     AssertionVersion, CompressedKey, Footer, Header, ImplicitAssertion, ImplicitAssertionCapable,
-    Key, Local, LocalVersion, Opening, Paseto, PasetoAsymmetricPrivateKey,
+    Key, KeyPair, Local, LocalVersion, Opening, Paseto, PasetoAsymmetricPrivateKey,
     PasetoAsymmetricPublicKey, PasetoError, PasetoNonce, PasetoSymmetricKey, Payload,
-    PreAuthenticationEncoding, Public, PublicVersion, PurposeTrait, SealedBox, SignatureScheme,
-    Signs, TagCollision, UntrustedToken, V1, V1orV3, V2, V2orV4, V3, V4, Verifies, VersionTrait,
-    from_section, split_token, to_section,
+    PreAuthenticationEncoding, PrivateKey, Public, PublicKey, PublicVersion, PurposeTrait,
+    SealedBox, SignatureScheme, Signs, TagCollision, UntrustedToken, V1, V1orV3, V2, V2orV4, V3,
+    V4, Verifies, VersionTrait, from_section, split_token, to_section,
 };
 pub use validator::{Validator, ValidatorFn, ValidatorMap};

@@ -4,6 +4,7 @@ pub mod Payload
 pub mod Footer
 pub mod ImplicitAssertion
 pub mod Key
+pub mod OwnedKeys
 pub mod PublicKey
 pub mod PreAuthenticationEncoding
 pub mod Section

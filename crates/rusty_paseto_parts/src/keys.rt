@@ -1,6 +1,7 @@
 //! Keys and nonces.
 
 pub mod key;
+pub mod key_pair;
 pub mod nonce;
 pub mod owned_keys;
 pub mod private_key;

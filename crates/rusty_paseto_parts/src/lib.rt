@@ -29,6 +29,7 @@ mod version;
 pub use absorb::Absorb;
 pub use error::PasetoError;
 pub use keys::key::Key;
+pub use keys::key_pair::KeyPair;
 pub use keys::nonce::PasetoNonce;
 pub use keys::owned_keys::{PrivateKey, PublicKey};
 pub use keys::private_key::PasetoAsymmetricPrivateKey;

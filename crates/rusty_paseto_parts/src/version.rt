@@ -27,6 +27,16 @@ pub trait VersionTrait: Display + Default + Drop {
     fn as_str(&self) -> &str
         ensures { result.now ≡ text };
 
+    /// Whether a private key of the version may have these bytes: in version 3 where they are 48, and any bytes in the
+    /// other versions. No memory is taken.
+    fn is_private_key(bytes: &[u8]) -> bool
+        ensures { result ≡ Self.is_private_key bytes.now };
+
+    /// Whether a public key of the version may have these bytes: 32 in versions 2 and 4, and in version 3 49, the first
+    /// of which is 2 or 3; any bytes in version 1. No memory is taken.
+    fn is_public_key(bytes: &[u8]) -> bool
+        ensures { result ≡ Self.is_public_key bytes.now };
+
     // Each version has nonces of 32 bytes.
     ghost has_nonce_of_32: { IsTrue (nonce_length 32) };
 }

@@ -105,7 +105,10 @@ pub fn private_key_from_paserk<V: KeyPairVersion>(
     if bytes.len() != V::secret_length() {
         return Err(PaserkError::InvalidKey);
     }
-    Ok(PrivateKey::from_vec(bytes))
+    match PrivateKey::try_from(bytes) {
+        Ok(key) => Ok(key),
+        Err(_) => Err(PaserkError::InvalidKey),
+    }
 }
 
 /// The text of the public half of a key pair, for example `k4.public.` and 43 characters. It fails only by `Memory`.
@@ -157,8 +160,8 @@ pub fn public_key_from_paserk<V: KeyPairVersion>(
     ensures { ReadsKey V.paserk PublicKeys (λ key. IsTrue (V.is_public_key key)) text.now result }
 {
     let bytes = read_bytes(alloc, V::paserk_version(), PaserkType::Public, text)?;
-    if !V::is_public_key(&bytes) {
-        return Err(PaserkError::InvalidKey);
+    match PublicKey::try_from(bytes) {
+        Ok(key) => Ok(key),
+        Err(_) => Err(PaserkError::InvalidKey),
     }
-    Ok(PublicKey::from_vec(bytes))
 }

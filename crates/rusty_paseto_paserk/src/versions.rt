@@ -32,11 +32,6 @@ pub trait KeyPairVersion: KeyVersion {
     fn secret_length() -> usize
         ensures { result ≡ secret_length };
 
-    /// Whether a public key of the version may have these bytes: 32 in versions 2 and 4, and 49 in version 3, the first
-    /// of which is 2 or 3.
-    fn is_public_key(bytes: &[u8]) -> bool
-        ensures { result ≡ Self.is_public_key bytes.now };
-
     // A private key of the version may have any so many bytes.
     ghost has_private_keys: { (key : List ℕ) → length key ≡ Self.secret_length
         → IsTrue (Self.is_private_key key) };
@@ -83,10 +78,6 @@ impl KeyPairVersion for V2 {
         64
     }
 
-    fn is_public_key(bytes: &[u8]) -> bool {
-        bytes.len() == 32
-    }
-
     ghost has_private_keys = { Prim.search rules };
 }
 
@@ -99,10 +90,6 @@ impl KeyPairVersion for V3 {
         48
     }
 
-    fn is_public_key(bytes: &[u8]) -> bool {
-        bytes.len() == 49 && (bytes[0] == 2 || bytes[0] == 3)
-    }
-
     ghost has_private_keys = { Prim.search rules };
 }
 
@@ -113,10 +100,6 @@ impl KeyPairVersion for V4 {
 
     fn secret_length() -> usize {
         64
-    }
-
-    fn is_public_key(bytes: &[u8]) -> bool {
-        bytes.len() == 32
     }
 
     ghost has_private_keys = { Prim.search rules };

@@ -2,7 +2,7 @@
 
 use crate::expect::{expect_bytes, expect_same, expect_that};
 use paseto_toys::generators::{Counting, Failing};
-use rusty_paseto_core::{Key, PasetoError};
+use rusty_paseto_core::{Key, Local, PasetoError, PasetoSymmetricKey, V4};
 
 #[test]
 fn of_the_generators_bytes(rt: HostRuntime) {
@@ -14,6 +14,9 @@ fn of_the_generators_bytes(rt: HostRuntime) {
     let key = Key::<32>::try_new_random(&mut generator).expect(&rt, "a key");
     expect_same(&rt, &key.as_bytes()[0], &7, "the answer");
     expect_same(&rt, &key.as_bytes()[31], &38, "the answer");
+    let key = PasetoSymmetricKey::<V4, Local>::try_new_random(&mut generator).expect(&rt, "a key");
+    expect_same(&rt, &key.as_bytes()[0], &39, "the answer");
+    expect_same(&rt, &key.as_bytes()[31], &70, "the answer");
 }
 
 #[test]
@@ -26,4 +29,10 @@ fn refused_where_the_generator_fails(rt: HostRuntime) {
         "the answer",
     );
     expect_same(&rt, &generator.asked, &1, "the answer");
+    let answer = PasetoSymmetricKey::<V4, Local>::try_new_random(&mut generator).map(drop);
+    expect_that(
+        &rt,
+        matches!(&answer, Err(PasetoError::Cipher)),
+        "the answer",
+    );
 }

@@ -2,10 +2,11 @@
 
 use crate::expect::{expect_shown, expect_that};
 use rusty_paseto::prelude::{
-    GenericBuilderError, GenericParserError, KeyRingError, KeyRingParserError, PasetoClaimError,
-    PasetoError,
+    Blame, GenericBuilderError, GenericParserError, KeyRingError, KeyRingParserError,
+    PasetoClaimError, PasetoError,
 };
 use std::alloc::AllocError;
+use std::process::Abort;
 
 #[test]
 fn of_builders(rt: HostRuntime) {
@@ -59,5 +60,59 @@ fn of_rings(rt: HostRuntime) {
         &rt,
         KeyRingParserError::from(claim).cause().is_none(),
         "the answer",
+    );
+}
+
+fn expect_blame(rt: &impl Abort, found: Blame, wanted: Blame) {
+    expect_that(rt, found == wanted, &(found, wanted));
+}
+
+#[test]
+fn blame_of_builders(rt: HostRuntime) {
+    let claim = GenericBuilderError::from(PasetoClaimError::Expired);
+    expect_blame(&rt, claim.blame(), Blame::Unfit);
+    let cipher = GenericBuilderError::from(PasetoError::Cipher);
+    expect_blame(&rt, cipher.blame(), Blame::Unfit);
+    let memory = GenericBuilderError::from(AllocError);
+    expect_blame(&rt, memory.blame(), Blame::Memory);
+}
+
+#[test]
+fn blame_of_parsers(rt: HostRuntime) {
+    let alloc = rt.alloc();
+    let foreign = GenericParserError::from(PasetoError::Cryption);
+    expect_blame(&rt, foreign.blame(), Blame::Foreign);
+    let expired = GenericParserError::from(PasetoClaimError::Expired);
+    expect_blame(&rt, expired.blame(), Blame::Untimely);
+    let early = PasetoClaimError::UseBeforeAvailable(String::new(alloc));
+    expect_blame(
+        &rt,
+        GenericParserError::from(early).blame(),
+        Blame::Untimely,
+    );
+    let missing = PasetoClaimError::Missing(String::new(alloc));
+    expect_blame(&rt, GenericParserError::from(missing).blame(), Blame::Unfit);
+    let memory = GenericParserError::from(PasetoError::Memory(AllocError));
+    expect_blame(&rt, memory.blame(), Blame::Memory);
+}
+
+#[test]
+fn blame_of_rings(rt: HostRuntime) {
+    let unnamed = KeyRingParserError::from(KeyRingError::NoKeyId);
+    expect_blame(&rt, unnamed.blame(), Blame::Foreign);
+    let changed = KeyRingError::Token(PasetoError::Cryption);
+    expect_blame(&rt, changed.blame(), Blame::Foreign);
+    let cut = KeyRingError::Untrusted(PasetoError::IncorrectSize);
+    expect_blame(&rt, cut.blame(), Blame::Foreign);
+    let claim = GenericParserError::from(PasetoClaimError::Expired);
+    expect_blame(
+        &rt,
+        KeyRingParserError::from(claim).blame(),
+        Blame::Untimely,
+    );
+    expect_blame(
+        &rt,
+        KeyRingParserError::from(AllocError).blame(),
+        Blame::Memory,
     );
 }

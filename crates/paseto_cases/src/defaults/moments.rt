@@ -4,10 +4,11 @@ use crate::builders::maps::Numbers;
 use crate::claims::json::value_of;
 use crate::defaults::kinds::moment_after;
 use crate::defaults::rows::NONE;
-use crate::expect::{expect_text, expect_that};
-use crate::kinds::{Binding, Kind};
+use crate::expect::{expect_refusal, expect_text, expect_that};
+use crate::kinds::{Binding, Kind, SECRET, symmetric_key};
 use jiff::Timestamp;
-use rusty_paseto::prelude::{Local, PasetoBuilder, V4, fits_default};
+use paseto_toys::generators::Counting;
+use rusty_paseto::prelude::{CountingSetter, Local, PasetoBuilder, V4, fits_default};
 use serde_json::Value;
 use std::alloc::Global;
 use std::process::Abort;
@@ -136,4 +137,69 @@ fn read_back(rt: HostRuntime) {
         let found = text.as_str().parse::<Timestamp>().expect(&rt, "an instant");
         expect_that(&rt, found == now, &(index, text));
     }
+}
+
+// The text under `exp` in a token of so many seconds that is built at the moment, or the text of the refusal.
+fn end_of(rt: &impl Abort, alloc: Global, now: Timestamp, seconds: u32) -> String {
+    let mut builder = PasetoBuilder::<V4, Local>::try_default(alloc, now).expect(rt, "a builder");
+    if let Err(refusal) = builder.put_lifetime(seconds) {
+        return format!(in alloc; "{refusal}").expect(rt, "memory");
+    }
+    let key = symmetric_key::<V4>(&SECRET);
+    let token = builder
+        .build(&mut Counting::new(), &key)
+        .expect(rt, "a token");
+    let text = Kind::V4Local
+        .read(alloc, token.as_str(), Binding::NONE)
+        .expect(rt, "a text");
+    let claims = value_of(rt, alloc, text.as_str());
+    let end = claims.get("exp").expect(rt, "an expiration");
+    String::from_str(alloc, end.as_str().expect(rt, "a text")).expect(rt, "memory")
+}
+
+#[test]
+fn lifetimes(rt: HostRuntime) {
+    let last = later(&rt, Timestamp::MAX, -HOUR);
+    'rows: for (now, seconds, expected) in [
+        (moment_after(&rt, 0), 600, "2024-01-01T00:10:00Z"),
+        (moment_after(&rt, 0), 0, "2024-01-01T00:00:00Z"),
+        (
+            moment_after(&rt, 1),
+            604_800,
+            "2024-01-08T00:00:00.000000001Z",
+        ),
+        (moment_after(&rt, 0), u32::MAX, "2160-02-07T06:28:15Z"),
+        (last, 3_600, "9999-12-30T22:00:00.999999999Z"),
+        (
+            last,
+            3_601,
+            "The value 9999-12-30T21:00:00.999999999Z is a malformed RFC3339 date",
+        ),
+    ] {
+        expect_text(
+            &rt,
+            end_of(&rt, rt.alloc(), now, seconds).as_str(),
+            expected,
+        );
+    }
+}
+
+// The lifetime counts as the claim `exp`: a second one is a key that was set again.
+#[test]
+fn a_lifetime_is_set_once(rt: HostRuntime) {
+    let alloc = rt.alloc();
+    let now = moment_after(&rt, 0);
+    let mut builder = PasetoBuilder::<V4, Local>::try_default(alloc, now).expect(&rt, "a builder");
+    builder
+        .set_lifetime(60)
+        .expect(&rt, "memory")
+        .set_lifetime(61)
+        .expect(&rt, "memory");
+    let refused = builder.build(&mut Counting::new(), &symmetric_key::<V4>(&SECRET));
+    expect_refusal(
+        &rt,
+        alloc,
+        refused,
+        "The claim 'exp' appears more than once in the top level payload json",
+    );
 }

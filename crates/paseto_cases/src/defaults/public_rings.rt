@@ -9,8 +9,8 @@ use crate::kinds::{Binding, Kind, OTHER_SECRET, SECRET, symmetric_key};
 use paseto_toys::ToyBox;
 use paseto_toys::keys::{Keys, ToyVersion};
 use rusty_paseto::prelude::{
-    DefaultAssertionVersion, GenericParser, KeyRing, KeyRingError, Local, PasetoError, Public,
-    PublicKeyRing, V1, V2, V3, V4, Verifies,
+    DefaultAssertionVersion, GenericParser, KeyRing, KeyRingError, Local, OwnedPublicKeyRing,
+    PasetoError, Public, PublicKey, PublicKeyRing, V1, V2, V3, V4, Verifies,
 };
 use std::alloc::Global;
 use std::process::Abort;
@@ -53,6 +53,37 @@ fn check_version<V: ToyVersion + Verifies<V::Toy>>(rt: &impl Abort, alloc: Globa
     let generic = GenericParser::<V, Public>::new(alloc);
     let answer = ring.parse_by(&V::toy(), &generic, token.as_str());
     expect_told(rt, alloc, answer, PARSED);
+}
+
+// A ring that owns its keys answers what one with lent keys does.
+fn check_owned<V: ToyVersion + Verifies<V::Toy>>(rt: &impl Abort, alloc: Global, kind: Kind) {
+    let keys = Keys::of(&SECRET);
+    let lent = V::public_key(&keys).expect(rt, "a key");
+    let mut ring = OwnedPublicKeyRing::<V>::new(alloc);
+    put_key(
+        rt,
+        &mut ring,
+        "k1",
+        PublicKey::copy_of(alloc, &lent).expect(rt, "memory"),
+    );
+    'rows: for &row in ROWS {
+        let token = token_of(rt, alloc, kind, row.payload);
+        let parser = parser_of::<V, Public>(rt, alloc, row);
+        let answer = ring.parse(&V::toy(), &parser, token.as_str());
+        expect_told(rt, alloc, answer, row.told);
+    }
+    let token = token_of(rt, alloc, kind, CLAIMS);
+    let generic = GenericParser::<V, Public>::new(alloc);
+    let answer = ring.parse_by(&V::toy(), &generic, token.as_str());
+    expect_told(rt, alloc, answer, PARSED);
+}
+
+#[test]
+fn owned_keys_verify(rt: HostRuntime) {
+    check_owned::<V1>(&rt, rt.alloc(), Kind::V1Public);
+    check_owned::<V2>(&rt, rt.alloc(), Kind::V2Public);
+    check_owned::<V3>(&rt, rt.alloc(), Kind::V3Public);
+    check_owned::<V4>(&rt, rt.alloc(), Kind::V4Public);
 }
 
 #[test]

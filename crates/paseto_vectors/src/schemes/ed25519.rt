@@ -7,7 +7,7 @@ use crate::counted::counted_bytes;
 use crate::expect::{expect_bytes, expect_digits, expect_same, expect_that};
 use crate::hexadecimal::{array_of, bytes_of};
 use paseto_ed25519::Ed25519;
-use rusty_paseto_core::{Key, PasetoError, SignatureScheme};
+use rusty_paseto_core::{Key, KeyPair, PasetoError, SignatureScheme, V4};
 use std::alloc::Global;
 use std::process::Abort;
 
@@ -253,6 +253,18 @@ fn key_pairs_sign(rt: HostRuntime) {
     Ed25519
         .verify(rt.alloc(), public.as_bytes(), b"text", &signature)
         .expect(&rt, "a signature");
+}
+
+// They are those that `key_pair` makes of the same bytes.
+#[test]
+fn owned_pairs(rt: HostRuntime) {
+    let (private, public) = Ed25519::key_pair(&mut Repeated { byte: 7 }).expect(&rt, "keys");
+    let pair: KeyPair<V4> = Ed25519::try_new_pair(rt.alloc(), &mut Repeated { byte: 7 }).expect(
+        &rt,
+        "a pair of keys",
+    );
+    expect_bytes(&rt, pair.private().as_bytes(), private.as_bytes());
+    expect_bytes(&rt, pair.public().as_bytes(), public.as_bytes());
 }
 
 // A scheme that holds a private key signs under it, and asks another as `Ed25519` does.

@@ -1,7 +1,7 @@
 //! Values of RFC 6979, appendix A.2.6, published tokens, and what is to be refused.
 
 use super::Repeated;
-use crate::expect::{expect_digits, expect_text, expect_that};
+use crate::expect::{expect_bytes, expect_digits, expect_text, expect_that};
 use crate::hexadecimal::array_of;
 use paseto_p384::P384;
 use rusty_paseto_core::{
@@ -195,9 +195,22 @@ fn key_pairs_sign(rt: HostRuntime) {
     expect_that(&rt, found, "the signature");
 }
 
+// They are those that `key_pair` makes of the same bytes.
+#[test]
+fn owned_pairs(rt: HostRuntime) {
+    let alloc = rt.alloc();
+    let (private, public) = P384::key_pair(&mut Repeated { byte: 7 }).expect(&rt, "keys");
+    let pair = P384::try_new_pair(alloc, &mut Repeated { byte: 7 }).expect(&rt, "a pair of keys");
+    expect_bytes(&rt, pair.private().as_bytes(), private.as_bytes());
+    expect_bytes(&rt, pair.public().as_bytes(), public.as_bytes());
+}
+
 #[test]
 fn a_generator_that_gives_no_private_key(rt: HostRuntime) {
     let answer = P384::key_pair(&mut Repeated { byte: 0 });
     let is_named = matches!(&answer, Err(PasetoError::KeyRejected));
     expect_that(&rt, is_named, "zeros");
+    let answer = P384::try_new_pair(rt.alloc(), &mut Repeated { byte: 0 });
+    let is_named = matches!(&answer, Err(PasetoError::KeyRejected));
+    expect_that(&rt, is_named, "zeros in a pair");
 }

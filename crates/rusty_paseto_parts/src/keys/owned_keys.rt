@@ -1,11 +1,14 @@
 //! Keys that own their bytes, for whoever keeps them.
 
-ghost use Rattle.std.specs.Prelude.{◌≡◌, ℕ, List, Some, codes, IsTrue};
+ghost use Rattle.std.specs.Prelude.{◌≡◌, ℕ, List, Some, codes, IfOk, IsTrue};
+ghost use Rattle.rusty_paseto_parts.specs.OwnedKeys.{TakesKey};
 
+use crate::error::PasetoError;
 use crate::keys::private_key::PasetoAsymmetricPrivateKey;
 use crate::keys::public_key::PasetoAsymmetricPublicKey;
 use crate::purpose::public::Public;
 use crate::version::VersionTrait;
+use std::alloc::{AllocError, Global};
 use std::fmt;
 use std::marker::{Model, PhantomData};
 
@@ -28,15 +31,17 @@ impl<V: VersionTrait> Model for PrivateKey<V> {
 }
 
 impl<V: VersionTrait> PrivateKey<V> {
-    /// The key of these bytes, which a private key of the version may have.
-    pub fn from_vec(bytes: Vec<u8>) -> Self
-        requires { IsTrue (V.is_private_key bytes.items) }
-        ensures { result ≡ bytes.items }
+    /// A key that owns a copy of the bytes of a lent one. Nothing but memory is refused.
+    pub fn copy_of(
+        alloc: Global,
+        key: &PasetoAsymmetricPrivateKey<'_, V, Public>,
+    ) -> Result<Self, AllocError>
+        ensures { IfOk result (λ own. own ≡ key.now) }
     {
-        PrivateKey {
-            bytes,
+        Ok(PrivateKey {
+            bytes: Vec::from_slice(alloc, key.as_bytes())?,
             version: PhantomData,
-        }
+        })
     }
 
     /// The key that signs. Its bytes are lent.
@@ -44,6 +49,24 @@ impl<V: VersionTrait> PrivateKey<V> {
         ensures { result ≡ self.now }
     {
         PasetoAsymmetricPrivateKey::of(&self.bytes)
+    }
+}
+
+/// The key of these bytes, of which no copy is made. `InvalidKey` comes exactly where no private key of the version has
+/// them: in version 3 where they are not 48, and never in the other versions. The bytes are then dropped.
+impl<V: VersionTrait> TryFrom<Vec<u8>> for PrivateKey<V> {
+    type Error = PasetoError;
+
+    ghost try_from_gives = { λ bytes answer. TakesKey (V.is_private_key bytes.items) bytes.items answer };
+
+    fn try_from(bytes: Vec<u8>) -> Result<Self, PasetoError> {
+        if !V::is_private_key(&bytes) {
+            return Err(PasetoError::InvalidKey);
+        }
+        Ok(PrivateKey {
+            bytes,
+            version: PhantomData,
+        })
     }
 }
 
@@ -71,15 +94,17 @@ impl<V: VersionTrait> Model for PublicKey<V> {
 }
 
 impl<V: VersionTrait> PublicKey<V> {
-    /// The key of these bytes, which a public key of the version may have.
-    pub fn from_vec(bytes: Vec<u8>) -> Self
-        requires { IsTrue (V.is_public_key bytes.items) }
-        ensures { result ≡ bytes.items }
+    /// A key that owns a copy of the bytes of a lent one. Nothing but memory is refused.
+    pub fn copy_of(
+        alloc: Global,
+        key: &PasetoAsymmetricPublicKey<'_, V, Public>,
+    ) -> Result<Self, AllocError>
+        ensures { IfOk result (λ own. own ≡ key.now) }
     {
-        PublicKey {
-            bytes,
+        Ok(PublicKey {
+            bytes: Vec::from_slice(alloc, key.as_bytes())?,
             version: PhantomData,
-        }
+        })
     }
 
     /// The key that verifies. Its bytes are lent.
@@ -87,6 +112,25 @@ impl<V: VersionTrait> PublicKey<V> {
         ensures { result ≡ self.now }
     {
         PasetoAsymmetricPublicKey::of(&self.bytes)
+    }
+}
+
+/// The key of these bytes, of which no copy is made. `InvalidKey` comes exactly where no public key of the version has
+/// them: in versions 2 and 4 where they are not 32, in version 3 where they are not 49 or the first of them is neither 2
+/// nor 3, and never in version 1. The bytes are then dropped.
+impl<V: VersionTrait> TryFrom<Vec<u8>> for PublicKey<V> {
+    type Error = PasetoError;
+
+    ghost try_from_gives = { λ bytes answer. TakesKey (V.is_public_key bytes.items) bytes.items answer };
+
+    fn try_from(bytes: Vec<u8>) -> Result<Self, PasetoError> {
+        if !V::is_public_key(&bytes) {
+            return Err(PasetoError::InvalidKey);
+        }
+        Ok(PublicKey {
+            bytes,
+            version: PhantomData,
+        })
     }
 }
 

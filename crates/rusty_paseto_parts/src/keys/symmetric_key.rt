@@ -1,9 +1,11 @@
 //! The key of local tokens.
 
-ghost use Rattle.std.specs.Prelude.{◌≡◌, ℕ, List, Some, codes, length};
+ghost use Rattle.std.specs.Prelude.{◌≡◌, ℕ, List, Some, codes, length, IfOk, IfErr, OnErr};
 
+use crate::error::PasetoError;
 use crate::keys::key::Key;
 use crate::purpose::local::Local;
+use rand_core::TryRng;
 use std::fmt;
 use std::marker::{Model, PhantomData};
 
@@ -41,6 +43,29 @@ impl<V, P> PasetoSymmetricKey<V, P> {
             version: PhantomData,
             purpose: PhantomData,
         }
+    }
+}
+
+impl<V> PasetoSymmetricKey<V, Local> {
+    /// A new key of 32 bytes that the generator gives. No memory is taken.
+    ///
+    /// `Cipher` comes exactly where the generator fails.
+    ///
+    /// ```rust
+    /// use rand_core::TryRng;
+    /// use rusty_paseto::prelude::*;
+    ///
+    /// /// The key of a service that begins: `local_to_paserk` writes it as a text, which it keeps.
+    /// pub fn new_key<R: TryRng>(rng: &mut R) -> Result<PasetoSymmetricKey<V4, Local>, PasetoError> {
+    ///     PasetoSymmetricKey::try_new_random(rng)
+    /// }
+    /// ```
+    pub fn try_new_random<R: TryRng>(rng: &mut R) -> Result<Self, PasetoError>
+        ensures given { IfOk result (λ key. R.may_fill rng.old key rng.new) }
+        ensures err { IfErr result (λ error. error ≡ PasetoError.Cipher) }
+        ensures failed { OnErr result R.Error }
+    {
+        Ok(PasetoSymmetricKey::from(Key::try_new_random(rng)?))
     }
 }
 

@@ -26,6 +26,14 @@ impl VersionTrait for V1 {
         "v1"
     }
 
+    fn is_private_key(_bytes: &[u8]) -> bool {
+        true
+    }
+
+    fn is_public_key(_bytes: &[u8]) -> bool {
+        true
+    }
+
     ghost has_nonce_of_32 = { refl };
 }
 

@@ -26,6 +26,14 @@ impl VersionTrait for V2 {
         "v2"
     }
 
+    fn is_private_key(_bytes: &[u8]) -> bool {
+        true
+    }
+
+    fn is_public_key(bytes: &[u8]) -> bool {
+        bytes.len() == 32
+    }
+
     ghost has_nonce_of_32 = { refl };
 }
 

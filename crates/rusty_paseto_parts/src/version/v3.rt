@@ -27,6 +27,14 @@ impl VersionTrait for V3 {
         "v3"
     }
 
+    fn is_private_key(bytes: &[u8]) -> bool {
+        bytes.len() == 48
+    }
+
+    fn is_public_key(bytes: &[u8]) -> bool {
+        bytes.len() == 49 && (bytes[0] == 2 || bytes[0] == 3)
+    }
+
     ghost has_nonce_of_32 = { refl };
 }
 
