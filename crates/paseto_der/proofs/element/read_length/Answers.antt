@@ -1,8 +1,8 @@
 use Rattle.std.proofs.Common.{get_or, ◌≡◌, ◌++◌, ◌<◌, ◌∙◌, length, sym, ap, arith}
 use Rattle.std.proofs.lemmas.Bool.Decides.{nat_tests}
-use Rattle.paseto_rsa.specs.Der.{der_length}
-use Rattle.paseto_rsa.proofs.DerLaws.{none-empty, none-other, some-short}
-use Rattle.paseto_rsa.proofs.der.read_length.Goals as goal
+use Rattle.paseto_der.specs.Element.{der_length}
+use Rattle.paseto_der.proofs.ElementLaws.{none-empty, none-other, some-short}
+use Rattle.paseto_der.proofs.element.read_length.Goals as goal
 
 pub returns-then-is_empty : goal.returns-then-is_empty
 returns-then-is_empty c n behind e =

@@ -1,7 +1,7 @@
 use Rattle.std.proofs.Common.{[], ◌∷◌, refl, subst}
-use Rattle.paseto_rsa.specs.Der.{AreIntegers}
-use Rattle.paseto_rsa.proofs.DerLaws.{integer-unique, integers-cons, integers-none, integers-parts}
-use Rattle.paseto_rsa.proofs.der.read_triple.Goals as goal
+use Rattle.paseto_rsa.specs.Integers.{AreIntegers}
+use Rattle.paseto_rsa.proofs.IntegerLaws.{integer-unique, integers-cons, integers-none, integers-parts}
+use Rattle.paseto_rsa.proofs.integers.read_triple.Goals as goal
 
 pub returns-in-None : goal.returns-in-None
 returns-in-None g c x y z b below below' below'' i =

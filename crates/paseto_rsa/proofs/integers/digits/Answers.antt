@@ -1,8 +1,8 @@
 use Rattle.std.proofs.Common.{◌∙◌, length, ap, arith}
 use Rattle.std.proofs.lemmas.List.{length-drop}
 use Rattle.paseto_montgomery.specs.Octets.{os2ip}
-use Rattle.paseto_rsa.proofs.DerLaws.{least-front, least-long, value-zero}
-use Rattle.paseto_rsa.proofs.der.digits.Goals as goal
+use Rattle.paseto_rsa.proofs.IntegerLaws.{least-front, least-long, value-zero}
+use Rattle.paseto_rsa.proofs.integers.digits.Goals as goal
 
 pub returns-then-rest-most : goal.returns-then-rest-most
 returns-then-rest-most c =

@@ -1,7 +1,7 @@
 use Rattle.std.proofs.Common.{◌≡◌, ◌++◌, ◌<◌, ◌∙◌, length, sym, rules, arith}
 use Rattle.std.proofs.lemmas.Bool.Decides.{nat_tests}
-use Rattle.paseto_rsa.proofs.DerLaws.{element-first, element-long, element-of, element-rest}
-use Rattle.paseto_rsa.proofs.der.read_element.Goals as goal
+use Rattle.paseto_der.proofs.ElementLaws.{element-first, element-long, element-of, element-rest}
+use Rattle.paseto_der.proofs.element.read_element.Goals as goal
 
 pub returns-then-is_empty : goal.returns-then-is_empty
 returns-then-is_empty c contents behind e =

@@ -1,7 +1,7 @@
 use Rattle.std.proofs.Common.{get_or, ◌+◌, ◌*◌, ◌++◌, ◌∙◌, sym, ap, arith}
-use Rattle.paseto_rsa.specs.Der.{der_length}
-use Rattle.paseto_rsa.proofs.DerLaws.{none-two, some-two}
-use Rattle.paseto_rsa.proofs.der.read_two.Goals as goal
+use Rattle.paseto_der.specs.Element.{der_length}
+use Rattle.paseto_der.proofs.ElementLaws.{none-two, some-two}
+use Rattle.paseto_der.proofs.element.read_two.Goals as goal
 
 pub returns-then-octets-lt3 : goal.returns-then-octets-lt3
 returns-then-octets-lt3 c n behind e =

@@ -1,7 +1,7 @@
 use Rattle.std.proofs.Common.{get_or, ◌++◌, ◌∙◌, sym, ap, arith}
-use Rattle.paseto_rsa.specs.Der.{der_length}
-use Rattle.paseto_rsa.proofs.DerLaws.{none-one, some-one}
-use Rattle.paseto_rsa.proofs.der.read_one.Goals as goal
+use Rattle.paseto_der.specs.Element.{der_length}
+use Rattle.paseto_der.proofs.ElementLaws.{none-one, some-one}
+use Rattle.paseto_der.proofs.element.read_one.Goals as goal
 
 pub returns-then-octets-lt2 : goal.returns-then-octets-lt2
 returns-then-octets-lt2 c n behind e =

@@ -3,9 +3,9 @@ use Rattle.std.proofs.lemmas.Bool.{false≢true}
 use Rattle.paseto_montgomery.specs.Octets.{os2ip}
 use Rattle.paseto_montgomery.specs.Words.{weight}
 use Rattle.paseto_montgomery.proofs.DigitLaws.{octet-power, weight-is}
-use Rattle.paseto_rsa.specs.Der.{IsShortest}
-use Rattle.paseto_rsa.proofs.DerLaws.{element-unique}
-use Rattle.paseto_rsa.proofs.der.read_number.Goals as goal
+use Rattle.paseto_rsa.specs.Integers.{IsShortest}
+use Rattle.paseto_der.proofs.ElementLaws.{element-unique}
+use Rattle.paseto_rsa.proofs.integers.read_number.Goals as goal
 
 -- a number that has more octets than n words have is not below what they count
 too-long : (n x : ℕ) → x < weight n → 256 ^ (8 * n) ≤ x → ⊥
