@@ -1,10 +1,9 @@
 -- The header of a token that is read under the keys of a ring.
-use Rattle.std.proofs.Common.{◌≡◌, ℕ, List, [], ◌∷◌, ◌++◌, Bool, true, Option, Some, None, Result, Ok, Err, IfErr, IfOk, is_some, append_assoc, inl, inr, refl, sym, ap, subst₂, ◌∙◌}
+use Rattle.std.proofs.Common.{◌≡◌, ℕ, List, [], ◌∷◌, ◌++◌, Bool, true, Option, Some, None, Result, is_some, append_assoc, refl, sym, ap, subst₂, ◌∙◌}
 use Rattle.std.proofs.lemmas.Bool.{false≢true}
 use Rattle.std.specs.List.{slice_get}
 use Rattle.std.specs.Option.{unwrap_or}
 use Rattle.serde_json.specs.Data.{Data}
-use Rattle.serde_json.specs.View.{view}
 use Rattle.serde_json.specs.declared.value.Value.{Value}
 use Rattle.rusty_paseto_parts.specs.Header.{is_purpose, is_version}
 use Rattle.rusty_paseto_parts.specs.Section.{base64url, sections}
@@ -21,10 +20,10 @@ use Rattle.rusty_paseto_paserk.specs.declared.header.PaserkVersion.TheVariants.{
 use Rattle.rusty_paseto_paserk.specs.declared.header.PaserkType.{PaserkType}
 use Rattle.rusty_paseto_paserk.specs.declared.header.PaserkType.TheVariants.{Local, Secret, Public}
 use Rattle.paseto_tasks.specs.declared.error.ProgramError.{ProgramError}
-use Rattle.paseto_commands.specs.Check.{Demanded, bound_to}
-use Rattle.paseto_tasks.specs.Error.{Lacks}
+use Rattle.paseto_commands.specs.Check.{IsTheValue, bound_to}
 use Rattle.paseto_commands.specs.Readers.{IsReader, reading_of, type_in, version_in}
 use Rattle.paseto_commands.specs.Ring.{ParsesByRing, ParsesIn}
+use Rattle.paseto_commands.proofs.Parsed.{in_words_of}
 
 regroup : (version purpose section rest : List ℕ)
     → ((version ++ (46 ∷ (purpose ++ (46 ∷ [])))) ++ section) ++ rest ≡ version ++ (46 ∷ (purpose ++ (46 ∷ (section ++ rest))))
@@ -67,14 +66,14 @@ known Secret version binding reads = absurd reads
 some_same : {X : Type 0} (x y : X) → Some x ≡ Some y → x ≡ y
 some_same x y e = ap (λ (o : Option _). unwrap_or o x) e
 
-module _ (lines : List (List ℕ)) (demands : Demanded) (timed : Bool) (token first second : List ℕ)
+module _ (lines : List (List ℕ)) (footer : Option (List ℕ)) (token first second : List ℕ)
     (is_first : slice_get (sections token) 0 ≡ Some first) (is_second : slice_get (sections token) 1 ≡ Some second) where
   -- the version and the type under whose keys a token is parsed are those that its sections name
-  named : (value : Data) (is : ParsesByRing lines demands timed token value) → (version_in first ≡ Some is.version) × (type_in second ≡ Some is.kind)
+  named : (value : Data) (is : ParsesByRing lines footer token value) → (version_in first ≡ Some is.version) × (type_in second ≡ Some is.kind)
   named value is =
       let parsed = is.parses.is_parsed in
       let opened = parsed.is_opened in
-      let binding = bound_to opened.key demands.footer opened.footer in
+      let binding = bound_to opened.key footer opened.footer in
       let reading = reading_of is.kind is.version binding in
       let knows = known is.kind is.version binding is.is_reader in
       let parts = sections_read reading token parsed.text knows.is_version knows.is_purpose opened.is_read in
@@ -85,31 +84,20 @@ module _ (lines : List (List ℕ)) (demands : Demanded) (timed : Bool) (token fi
   -- by keys of a type and a version that the sections name
   module _ (kind : PaserkType) (version : PaserkVersion) where
     abbrev pub Parses : PaserkVersion → PaserkType → Data → Type 0
-    Parses v k value = IsReader k v × ParsesIn k v (reading_of k v) lines demands timed token value
+    Parses v k value = IsReader k v × ParsesIn k v (reading_of k v) lines footer token value
 
-    pub ring_found : {E : Type 0} (result : Result Value E) → IfOk result (λ value. Parses version kind (view value))
-        → IfOk result (λ value. ParsesByRing lines demands timed token (view value))
-    ring_found (Ok value) is = record { kind = kind; version = version; is_reader = is.0; parses = is.1 }
-    ring_found (Err error) is = tt
-
-    pub ring_none : {T : Type 0} (result : Result T ProgramError) → version_in first ≡ Some version → type_in second ≡ Some kind
-        → IfErr result (Lacks (λ value. Parses version kind value)) → IfErr result (Lacks (λ value. ParsesByRing lines demands timed token value))
-    ring_none (Ok value) v k none = tt
-    ring_none (Err error) v k (inl outside) = inl outside
-    ring_none (Err error) v k (inr none) = inr (λ value is.
+    pub by_sections : (result : Result Value ProgramError) → version_in first ≡ Some version → type_in second ≡ Some kind
+        → IsTheValue (λ value. Parses version kind value) result → IsTheValue (λ value. ParsesByRing lines footer token value) result
+    by_sections result v k = in_words_of (λ value. Parses version kind value) (λ value. ParsesByRing lines footer token value)
+        (λ value is. record { kind = kind; version = version; is_reader = is.0; parses = is.1 })
+        (λ value is.
         let names = named value is in
-        none value (subst₂ (λ (o : PaserkVersion) (t : PaserkType). Parses o t value)
-        (some_same _ _ (sym names.0 ∙ v)) (some_same _ _ (sym names.1 ∙ k)) (is.is_reader, is.parses)))
+        subst₂ (λ (o : PaserkVersion) (t : PaserkType). Parses o t value)
+        (some_same _ _ (sym names.0 ∙ v)) (some_same _ _ (sym names.1 ∙ k)) (is.is_reader, is.parses)) result
 
   -- the sections name none
-  pub no_version : version_in first ≡ None → (value : Data) → ¬ ParsesByRing lines demands timed token value
+  pub no_version : version_in first ≡ None → (value : Data) → ¬ ParsesByRing lines footer token value
   no_version none value is = false≢true (ap (λ (o : Option PaserkVersion). is_some o) (sym none ∙ (named value is).0))
 
-  pub no_type : type_in second ≡ None → (value : Data) → ¬ ParsesByRing lines demands timed token value
+  pub no_type : type_in second ≡ None → (value : Data) → ¬ ParsesByRing lines footer token value
   no_type none value is = false≢true (ap (λ (o : Option PaserkType). is_some o) (sym none ∙ (named value is).1))
-
--- where something is known beside
-pub beside : {T : Type 0} (result : Result T ProgramError) (R : Type 0) (P : Data → Type 0) → IfErr result (Lacks P) → IfErr result (Lacks (λ value. R × P value))
-beside (Ok value) R P none = tt
-beside (Err error) R P (inl outside) = inl outside
-beside (Err error) R P (inr none) = inr (λ value both. none value both.1)

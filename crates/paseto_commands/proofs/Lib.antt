@@ -8,4 +8,5 @@ pub mod Witnesses
 pub mod Holders
 pub mod RingParsing
 pub mod Headers
+pub mod Checking
 pub mod Words

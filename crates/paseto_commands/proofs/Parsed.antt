@@ -1,5 +1,5 @@
 -- What is parsed under the keys of lines.
-use Rattle.std.proofs.Common.{◌≡◌, ◌⊎◌, ℕ, List, [], Bool, true, false, Option, None, Some, option_map, Result, Ok, Err, IfOk, IfErr, IsErrAnd, MatchResult, inl, inr, refl, sym, ap, subst₂, ◌∙◌}
+use Rattle.std.proofs.Common.{◌≡◌, ◌⊎◌, ℕ, List, [], Bool, true, false, Option, None, Some, option_map, Result, Ok, Err, IfOk, IfErr, IsErrAnd, inl, inr, refl, sym, ap, subst₂, ◌∙◌}
 use Rattle.std.proofs.lemmas.List.{append_cancel_left}
 use Rattle.serde_json.specs.Data.{Data}
 use Rattle.serde_json.specs.View.{view}
@@ -11,16 +11,15 @@ use Rattle.rusty_paseto_parts.specs.declared.texts.implicit_assertion.ImplicitAs
 use Rattle.rusty_paseto_core.specs.Context.{Binding, binding_of}
 use Rattle.rusty_paseto_core.specs.Reading.{Reading}
 use Rattle.rusty_paseto_generic.specs.Error.Parser.{IsMemory}
-use Rattle.rusty_paseto_generic.specs.Parsers.Parsing.{IsParsed, assertion_in}
-use Rattle.rusty_paseto_generic.specs.Parsers.Rules.{Rules}
+use Rattle.rusty_paseto_generic.specs.Parsers.Parsing.{IsParseAnswer, IsParsed, assertion_in}
+use Rattle.rusty_paseto_generic.specs.Parsers.Rules.{Rules, no_rule}
 use Rattle.rusty_paseto_generic.specs.Validator.{Verdict}
 use Rattle.rusty_paseto_generic.specs.declared.error.GenericParserError.{GenericParserError}
 use Rattle.rusty_paseto_paserk.specs.Header.{header}
 use Rattle.rusty_paseto_paserk.specs.declared.header.PaserkVersion.{PaserkVersion}
 use Rattle.rusty_paseto_paserk.specs.declared.header.PaserkType.{PaserkType}
 use Rattle.paseto_tasks.specs.declared.error.ProgramError.{ProgramError}
-use Rattle.paseto_commands.specs.Check.{Demanded, ParsesWith, bound_to, demanded_rules}
-use Rattle.paseto_commands.specs.Claims.{are_whole}
+use Rattle.paseto_commands.specs.Check.{IsTheValue, ParsesWith, bound_to}
 use Rattle.paseto_tasks.specs.Error.{IsOutside, Lacks}
 use Rattle.paseto_tasks.specs.Id.{IsKeyLine, IsKeyOf}
 
@@ -44,29 +43,52 @@ pub same_binding : (key : List ℕ) (footer : Option Footer) (assertion : Option
 same_binding key footer assertion binds text none same =
     ap (λ (a : Option ImplicitAssertion). binding_of key footer (assertion_in binds a)) none ∙ plain key footer binds ∙ ap (λ (t : Option (List ℕ)). bound_to key t []) same
 
-module _ (reading : Binding → Reading) (kind : PaserkType) (version : PaserkVersion) (line : List ℕ) (demands : Demanded) (timed : Bool) (token key : List ℕ)
+-- ---- the one value
+
+-- there is none
+pub no_value : (Is : Data → Type 0) (error : ProgramError) → Lacks Is error → IsTheValue Is (Err error)
+no_value Is error none = record { found = tt; one = tt; none = none }
+
+-- what is so in other words
+pub in_words_of : (A B : Data → Type 0) → ((value : Data) → A value → B value) → ((value : Data) → B value → A value)
+    → (result : Result Value ProgramError) → IsTheValue A result → IsTheValue B result
+in_words_of A B into back (Ok value) is = record {
+  found = into (view value) is.found;
+  one = λ other so. is.one other (back other so);
+  none = tt;
+}
+in_words_of A B into back (Err error) is = no_value B error (elim is.none [
+  | inl outside ↦ inl outside
+  | inr none ↦ inr (λ value so. none value (back value so))
+])
+
+-- where something is known beside
+pub beside : (result : Result Value ProgramError) (R : Type 0) (P : Data → Type 0) → R → IsTheValue P result → IsTheValue (λ value. R × P value) result
+beside result R P r = in_words_of P (λ value. R × P value) (λ value is. (r, is)) (λ value both. both.1) result
+
+module _ (reading : Binding → Reading) (kind : PaserkType) (version : PaserkVersion) (line : List ℕ) (footer : Option (List ℕ)) (token key : List ℕ)
     (is_key : IsKeyLine (IsKeyOf kind version) kind version line key) (binding : Binding) (rules : Rules Verdict)
-    (bound : binding ≡ bound_to key demands.footer []) (ruled : rules ≡ demanded_rules demands timed) where
-  pub parses_found : {E F : Type 0} (parsed : Result Value E) (answer : Result Value F) → are_whole demands.claims ≡ true
-      → IfOk parsed (λ value. answer ≡ Ok value) → IfOk answer (λ value. IsParsed (reading binding) rules token (view value))
-      → IfOk parsed (λ value. ParsesWith kind version reading line demands timed token (view value))
-  parses_found (Ok value) answer whole is parsed = record {
+    (bound : binding ≡ bound_to key footer []) (unruled : rules ≡ (λ key. no_rule)) where
+  parsed_with : (value : Data) → IsParsed (reading binding) rules token value → ParsesWith kind version reading line footer token value
+  parsed_with value parsed = record {
     key = key;
     is_key = is_key;
-    whole = whole;
-    is_parsed = subst₂ (λ (b : Binding) (r : Rules Verdict). IsParsed (reading b) r token (view value)) bound ruled (rw is at parsed);
+    is_parsed = subst₂ (λ (b : Binding) (r : Rules Verdict). IsParsed (reading b) r token value) bound unruled parsed;
   }
-  parses_found (Err error) answer whole is parsed = tt
 
-  parsed_so : (value : Data) → ParsesWith kind version reading line demands timed token value → IsParsed (reading binding) rules token value
+  parsed_so : (value : Data) → ParsesWith kind version reading line footer token value → IsParsed (reading binding) rules token value
   parsed_so value is = subst₂ (λ (b : Binding) (r : Rules Verdict). IsParsed (reading b) r token value)
-      (ap (λ (k : List ℕ). bound_to k demands.footer []) (same_key (IsKeyOf kind version) kind version line is.key key is.is_key is_key) ∙ sym bound) (sym ruled) is.is_parsed
+      (ap (λ (k : List ℕ). bound_to k footer []) (same_key (IsKeyOf kind version) kind version line is.key key is.is_key is_key) ∙ sym bound) (sym unruled) is.is_parsed
 
-  pub parses_none : (parsed : Result Value ProgramError) (answer : Result Value GenericParserError)
+  pub parses : (parsed : Result Value ProgramError) (answer : Result Value GenericParserError) → IfOk parsed (λ value. answer ≡ Ok value)
       → IfErr parsed (λ error. IsErrAnd answer (λ source. IsOutside error ⊎ (¬ IsMemory source)))
-      → ((value : Data) → IsParsed (reading binding) rules token value → MatchResult answer (λ found. view found ≡ value) IsMemory)
-      → IfErr parsed (Lacks (λ value. ParsesWith kind version reading line demands timed token value))
-  parses_none (Ok value) answer refused complete = tt
-  parses_none (Err error) (Ok value) refused complete = absurd refused
-  parses_none (Err error) (Err source) (inl outside) complete = inl outside
-  parses_none (Err error) (Err source) (inr none) complete = inr (λ value is. none (complete value (parsed_so value is)))
+      → IsParseAnswer (reading binding) rules token answer
+      → IsTheValue (λ value. ParsesWith kind version reading line footer token value) parsed
+  parses (Ok value) answer is refused answered =
+      let parsed : IsParsed (reading binding) rules token (view value) = rw is at answered.parsed in
+      let one : (other : Data) → IsParsed (reading binding) rules token other → view value ≡ other = rw is at answered.complete in
+      record { found = parsed_with (view value) parsed; one = λ other so. sym (one other (parsed_so other so)); none = tt }
+  parses (Err error) (Ok value) is refused answered = absurd refused
+  parses (Err error) (Err source) is (inl outside) answered = no_value _ error (inl outside)
+  parses (Err error) (Err source) is (inr none) answered =
+      no_value _ error (inr (λ value so. none (answered.complete value (parsed_so value so))))

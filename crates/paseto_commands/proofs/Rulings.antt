@@ -9,7 +9,7 @@ use Rattle.rusty_paseto_claims.specs.Claim.{Answer, gives, refuses}
 use Rattle.rusty_paseto_claims.specs.Error.{Fault, fault_of}
 use Rattle.rusty_paseto_claims.specs.Whole.{is_whole}
 use Rattle.rusty_paseto_generic.specs.Error.Parser.{IsMemory, IsRefusal}
-use Rattle.rusty_paseto_generic.specs.Parsers.Held.{checked, default_date, rules_of, verdict_of, verdicts_of}
+use Rattle.rusty_paseto_generic.specs.Parsers.Held.{checked, default_date, rules_of, verdict_of, verdicts_of, with_times}
 use Rattle.rusty_paseto_generic.specs.Parsers.Rules.{AreSame, IsStored, Rule, Rules, edited, fault_in, no_rule, whole_answer, with_both, with_stored}
 use Rattle.rusty_paseto_generic.specs.Parsers.Times.{not_before, times_at}
 use Rattle.rusty_paseto_generic.specs.Validator.{Verdict}
@@ -19,7 +19,7 @@ use Rattle.rusty_paseto_generic.specs.declared.parsers.checks.Checks.{Checks}
 use Rattle.rusty_paseto_generic.specs.declared.parsers.checks.Checker.{Checker}
 use Rattle.rusty_paseto_generic.specs.declared.parsers.checks.Checker.TheVariants.{Expiry, NotBefore}
 use Rattle.paseto_tasks.specs.declared.error.ProgramError.{ProgramError}
-use Rattle.paseto_commands.specs.Check.{Demanded, begun_rules, demanded_rules, first_rules}
+use Rattle.paseto_commands.specs.Check.{Demanded, demanded_rules, first_rules}
 use Rattle.paseto_commands.specs.Claims.{Named, all_demanded, are_whole, json_of}
 use Rattle.paseto_tasks.specs.Error.{IsOutside}
 
@@ -45,25 +45,24 @@ module _ {B : Type 0} (verdict : B → Verdict) (moment : Timestamp) where
   one_checked true checker value rule = refl
   one_checked false checker value rule = refl
 
-  pub found_begun : (timed : Bool) → AreSame (found (begun_rules timed)) (first_rules timed moment)
-  found_begun false = λ key. refl
-  found_begun true = λ key.
+  found_times : AreSame (found (with_times (λ key. no_rule))) (first_rules moment)
+  found_times = λ key.
       one_checked (bytes_eq (codes "nbf") key) NotBefore (default_date (codes "nbf")) (edited (codes "exp") (with_both Expiry (default_date (codes "exp"))) (λ other. no_rule) key)
       ∙ ap (λ rule. if bytes_eq (codes "nbf") key then with_both (not_before (times_at moment 0)) (default_date (codes "nbf")) rule else rule)
       (one_checked (bytes_eq (codes "exp") key) Expiry (default_date (codes "exp")) no_rule)
 
 -- what a parser with the checks that are demanded finds is what is demanded
-pub are_demanded : {B : Type 0} (verdict : B → Verdict) (demands : Demanded) (timed : Bool) (begun : Rules (Checker B)) (checks : Checks B)
-    (moment : Timestamp) (leeway : ℕ) → moment ≡ demands.at → leeway ≡ 0 → AreSame begun (begun_rules timed)
+pub are_demanded : {B : Type 0} (verdict : B → Verdict) (demands : Demanded) (begun : Rules (Checker B)) (checks : Checks B)
+    (moment : Timestamp) (leeway : ℕ) → moment ≡ demands.at → leeway ≡ 0 → AreSame begun (with_times (λ key. no_rule))
     → rules_of checks ≡ all_demanded demands.claims begun
-    → verdicts_of verdict (times_at moment leeway) checks ≡ demanded_rules demands timed
-are_demanded {B} verdict demands timed begun checks moment leeway at none is_begun stored =
+    → verdicts_of verdict (times_at moment leeway) checks ≡ demanded_rules demands
+are_demanded {B} verdict demands begun checks moment leeway at none is_begun stored =
     ap (λ (l : ℕ). verdicts_of verdict (times_at moment l) checks) none
     ∙ ap (λ (r : Rules (Checker B)). found verdict moment r) stored
     ∙ found_demanded verdict moment demands.claims begun
     ∙ ap (λ (r : Rules Verdict). all_demanded demands.claims r)
-    (ap (λ (r : Rules (Checker B)). found verdict moment r) (fun_ext is_begun) ∙ fun_ext (found_begun verdict moment timed))
-    ∙ ap (λ (t : Timestamp). all_demanded demands.claims (first_rules timed t)) at
+    (ap (λ (r : Rules (Checker B)). found verdict moment r) (fun_ext is_begun) ∙ fun_ext (found_times verdict moment))
+    ∙ ap (λ (t : Timestamp). all_demanded demands.claims (first_rules t)) at
 
 -- ---- one claim after the other
 

@@ -1,5 +1,5 @@
 -- What `check` prints.
-use Rattle.std.specs.Prelude.{◌≡◌, ℕ, List, [], ◌∷◌, ◌++◌, Bool, true, false, IsUtf8}
+use Rattle.std.specs.Prelude.{◌≡◌, ℕ, List, [], ◌∷◌, ◌++◌, Option, false, IsUtf8}
 use Rattle.jiff.specs.Types.{Timestamp}
 use Rattle.serde_json.specs.Data.{Data}
 use Rattle.serde_json.specs.Written.{compact_text, has_float}
@@ -7,13 +7,13 @@ use Rattle.paseto_tasks.specs.declared.arguments.Options.{Options}
 use Rattle.paseto_commands.specs.declared.check.Keys.{Keys}
 use Rattle.paseto_commands.specs.declared.check.Keys.TheVariants.{One, Ring}
 use Rattle.paseto_tasks.specs.Arguments.{words_of}
-use Rattle.paseto_commands.specs.Check.{AreDemands, Demanded, ParsesByKey}
+use Rattle.paseto_commands.specs.Check.{AreDemands, Demanded, IsDemanded, ParsesByKey}
 use Rattle.paseto_commands.specs.Ring.{ParsesByRing}
 
 -- the value is that of the token under the key of the line, or the one of the lines that its footer names
-abbrev pub ParsesBy : Keys → Demanded → Bool → List ℕ → Data → Type 0
-ParsesBy (One key) demands timed token value = ParsesByKey key.now demands timed token value
-ParsesBy (Ring lines) demands timed token value = ParsesByRing (words_of lines.now) demands timed token value
+abbrev pub ParsesBy : Keys → Option (List ℕ) → List ℕ → Data → Type 0
+ParsesBy (One key) footer token value = ParsesByKey key.now footer token value
+ParsesBy (Ring lines) footer token value = ParsesByRing (words_of lines.now) footer token value
 
 -- the line is the JSON of the value, with no space
 abbrev pub IsJsonLine : Data → List ℕ → Type 0
@@ -21,7 +21,8 @@ IsJsonLine value line = has_float value ≡ false → line ≡ compact_text valu
 
 -- the line is that of the claims of a token that is what is demanded
 abbrev pub ChecksBy : Keys → Demanded → List ℕ → List ℕ → Type 0
-ChecksBy keys demands token line = (value : Data) × ParsesBy keys demands true token value × IsJsonLine value line
+ChecksBy keys demands token line =
+    (value : Data) × ParsesBy keys demands.footer token value × IsDemanded demands value × IsJsonLine value line
 
 -- the same of what words demand at a moment
 pub record ChecksFor (claims : List (List ℕ)) (options : Options) (now : Timestamp) (keys : Keys) (token line : List ℕ) : Type 0 where

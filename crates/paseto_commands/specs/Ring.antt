@@ -1,8 +1,9 @@
 -- The rings of key lines.
-use Rattle.std.specs.Prelude.{◌≡◌, ◌≢◌, ◌⊎◌, ⊤, ℕ, List, [], ◌∷◌, Bool, true, None}
+use Rattle.std.specs.Prelude.{◌≡◌, ◌≢◌, ◌⊎◌, ⊤, ℕ, List, [], ◌∷◌, Option, None}
 use Rattle.serde_json.specs.Data.{Data}
 use Rattle.rusty_paseto_core.specs.Context.{Binding}
 use Rattle.rusty_paseto_core.specs.Reading.{Reading}
+use Rattle.rusty_paseto_generic.specs.Parsers.Rules.{no_rule}
 use Rattle.rusty_paseto.specs.KeyRing.{IsParsed, Keys, with_key}
 use Rattle.rusty_paseto_paserk.specs.declared.header.PaserkVersion.{PaserkVersion}
 use Rattle.rusty_paseto_paserk.specs.declared.header.PaserkType.{PaserkType}
@@ -10,8 +11,7 @@ use Rattle.rusty_paseto_paserk.specs.declared.error.PaserkError.{PaserkError}
 use Rattle.rusty_paseto_paserk.specs.declared.error.PaserkError.TheVariants.{OtherVersion, OtherType}
 use Rattle.rusty_paseto_paserk.specs.Header.{HasHeader}
 use Rattle.rusty_paseto_paserk.specs.Id.{id_of}
-use Rattle.paseto_commands.specs.Check.{Demanded, bound_to, demanded_rules}
-use Rattle.paseto_commands.specs.Claims.{are_whole}
+use Rattle.paseto_commands.specs.Check.{bound_to}
 use Rattle.paseto_tasks.specs.Id.{IsKeyLine, IsKeyOf}
 use Rattle.paseto_commands.specs.Readers.{IsReader, reading_of}
 
@@ -32,21 +32,21 @@ abbrev pub ring_of : PaserkType → PaserkVersion → List (List ℕ) → Keys (
 ring_of kind version [] = λ id. None
 ring_of kind version (key ∷ keys) = with_key (id_of version kind key) key (ring_of kind version keys)
 
--- the value is that of the token, read under the key of the lines that its footer names, and it is what is demanded
+-- the value is that of the token, read under the key of the lines that its footer names, and under the footer that is
+-- demanded, or else its own
 pub record ParsesIn (kind : PaserkType) (version : PaserkVersion) (reading : Binding → Reading)
-    (lines : List (List ℕ)) (demands : Demanded) (timed : Bool) (token : List ℕ) (value : Data) : Type 0 where
+    (lines : List (List ℕ)) (footer : Option (List ℕ)) (token : List ℕ) (value : Data) : Type 0 where
   pub keys : List (List ℕ)
   pub are_keys : AreKeysOf (IsKeyOf kind version) kind version lines keys
-  pub whole : are_whole demands.claims ≡ true
   pub id : List ℕ
-  pub is_parsed : IsParsed (ring_of kind version keys) (λ key own. reading (bound_to key demands.footer own)) (demanded_rules demands timed) token id value
+  pub is_parsed : IsParsed (ring_of kind version keys) (λ key own. reading (bound_to key footer own)) (λ key. no_rule) token id value
 
 -- the same by the keys of whatever type and version
-pub record ParsesByRing (lines : List (List ℕ)) (demands : Demanded) (timed : Bool) (token : List ℕ) (value : Data) : Type 0 where
+pub record ParsesByRing (lines : List (List ℕ)) (footer : Option (List ℕ)) (token : List ℕ) (value : Data) : Type 0 where
   pub kind : PaserkType
   pub version : PaserkVersion
   pub is_reader : IsReader kind version
-  pub parses : ParsesIn kind version (reading_of kind version) lines demands timed token value
+  pub parses : ParsesIn kind version (reading_of kind version) lines footer token value
 
 -- ---- for private clauses
 

@@ -64,6 +64,25 @@ pub fn parsed<T: Drop>(
     }
 }
 
+/// The answer of a check of these claims, which a token has, at a moment.
+pub fn checked(
+    alloc: Global,
+    claims: &Value,
+    at: Timestamp,
+    answer: Result<(), GenericParserError>,
+) -> Result<(), ProgramError>
+    ensures passed { OnOk result (IsOk answer) }
+    ensures refused { IfErr result (λ error. IsErrAnd answer
+        (λ source. IsOutside error ⊎ (¬ IsMemory source))) }
+    ensures no_usage { IfErr result IsNoUsage }
+{
+    match answer {
+        Ok(()) => Ok(()),
+        Err(GenericParserError::ClaimError { source }) => Err(by_claim(alloc, claims, at, source)),
+        Err(source) => Err(by_parser(alloc, source)),
+    }
+}
+
 /// The answer of a ring, without the id of the key.
 pub fn found(
     alloc: Global,
@@ -102,7 +121,6 @@ fn by_parser(alloc: Global, source: GenericParserError) -> ProgramError
     match source {
         GenericParserError::Memory(source) => ProgramError::Memory(source),
         GenericParserError::CipherError { source } => by_token(source),
-        GenericParserError::ClaimError { source } => by_claim(alloc, source),
         source => unfit(alloc, &source),
     }
 }
@@ -116,12 +134,12 @@ fn by_token(source: PasetoError) -> ProgramError
     }
 }
 
-fn by_claim(alloc: Global, source: PasetoClaimError) -> ProgramError
+fn by_claim(alloc: Global, claims: &Value, at: Timestamp, source: PasetoClaimError) -> ProgramError
     ensures { IsNoUsage result }
 {
     match source {
-        PasetoClaimError::Expired => ProgramError::Expired,
-        PasetoClaimError::UseBeforeAvailable(text) => ProgramError::Early(text),
+        PasetoClaimError::Expired => told(expired(alloc, claims, at)),
+        PasetoClaimError::UseBeforeAvailable(text) => told(early(alloc, text.as_str(), at)),
         PasetoClaimError::Invalid(key, found, wanted) => other_text(
             alloc,
             key.as_str(),
@@ -129,6 +147,16 @@ fn by_claim(alloc: Global, source: PasetoClaimError) -> ProgramError
             wanted.as_str(),
         ),
         source => unfit(alloc, &source),
+    }
+}
+
+/// A refusal that a line of our own tells.
+fn told(line: Result<String, AllocError>) -> ProgramError
+    ensures { IsNoUsage result }
+{
+    match line {
+        Ok(line) => ProgramError::Unfit(line),
+        Err(source) => ProgramError::Memory(source),
     }
 }
 
@@ -157,10 +185,7 @@ fn by_ring(alloc: Global, source: KeyRingError) -> ProgramError
 pub fn unfit(alloc: Global, source: &impl Display) -> ProgramError
     ensures { IsNoUsage result }
 {
-    match one_line(alloc, source) {
-        Ok(line) => ProgramError::Unfit(line),
-        Err(source) => ProgramError::Memory(source),
-    }
+    told(one_line(alloc, source))
 }
 
 /// The text of an error, in which each control character is a question mark: it may tell of a token that anyone wrote.

@@ -8,16 +8,16 @@ ghost use Rattle.rusty_paseto_parts.specs.Footer.{footer_text};
 ghost use Rattle.rusty_paseto_paserk.specs.declared.header.PaserkVersion.TheVariants.{V2 as K2};
 ghost use Rattle.rusty_paseto_paserk.specs.declared.header.PaserkType.TheVariants.{Local as LocalKey, Public as PublicKey};
 ghost use Rattle.rusty_paseto_generic.specs.Parsers.Held.{rules_of, verdicts_of};
-ghost use Rattle.rusty_paseto_generic.specs.Parsers.Rules.{AreSame};
+ghost use Rattle.rusty_paseto_generic.specs.Parsers.Rules.{no_rule};
 ghost use Rattle.rusty_paseto_generic.specs.Parsers.Times.{times_at};
 ghost use Rattle.paseto_tasks.specs.Arguments.{claim_words, words_of};
-ghost use Rattle.paseto_commands.specs.Check.{AreDemands, IsCheckedAt, ParsesByKey, ParsesWith, begun_rules, demanded, demanded_rules};
+ghost use Rattle.paseto_commands.specs.Check.{AreDemands, IsCheckedAt, IsTheValue, ParsesByKey, ParsesWith, demanded, demanded_rules};
 ghost use Rattle.paseto_commands.specs.Checked.{ChecksBy, IsJsonLine, ParsesBy};
 ghost use Rattle.paseto_commands.specs.Claims.{all_demanded, all_named, are_whole};
 ghost use Rattle.paseto_tasks.specs.Error.{IsNoRefusal, IsNoUsage, IsOutside, Lacks};
-ghost use Rattle.paseto_commands.specs.Readers.{reading_of};
+ghost use Rattle.paseto_commands.specs.Readers.{IsReader, reading_of};
 
-use crate::answers::{early, expired, parsed};
+use crate::answers::{checked, parsed};
 use crate::claims::{NamedClaim, claims_of};
 use crate::footer::footer_of;
 use crate::ring::claims_by_ring;
@@ -25,9 +25,10 @@ use crate::times::moment_of;
 use jiff::Timestamp;
 use paseto_tasks::{Options, ProgramError, Suite};
 use paseto_xchacha20poly1305::XChaCha20Poly1305;
+use rusty_paseto::DefaultParser;
 use rusty_paseto::prelude::{
-    CheckSetter, DefaultLocalVersion, DefaultParser, Footer, Local, PasetoParser, Public,
-    PurposeTrait, V1, V2, V3, V4, Verifies, VersionTrait,
+    CheckSetter, DefaultLocalVersion, Footer, Local, PasetoParser, Public, PurposeTrait, V1, V2,
+    V3, V4, Verifies, VersionTrait,
 };
 use rusty_paseto_paserk::{
     KeyVersion, PaserkError, PaserkType, PaserkVersion, header_of, local_from_paserk,
@@ -74,51 +75,36 @@ impl Demands {
         })
     }
 
-    /// The parser that demands it: with the times, or without.
-    pub fn parser<'d, V: VersionTrait, P: PurposeTrait>(
-        &'d self,
-        alloc: Global,
-        timed: bool,
-    ) -> Result<PasetoParser<'d, V, P>, ProgramError>
+    /// The parser under whose footer a token is read, which checks no claim.
+    pub fn reader<V: VersionTrait, P: PurposeTrait>(&self, alloc: Global) -> PasetoParser<'_, V, P>
+        ensures rules { verdicts_of (λ b. verdict b)
+            (times_at result.parser.moment result.parser.leeway) result.parser.checks
+            ≡ (λ key. no_rule) }
+        ensures footer { option_map footer_text result.parser.footer
+            ≡ option_map string_bytes self.now.footer }
+        ensures assertion { result.parser.implicit_assertion ≡ None }
+    {
+        let mut parser = PasetoParser::new(alloc);
+        if let Some(footer) = &self.footer {
+            parser.set_footer(Footer::from(footer.as_str()));
+        }
+        parser
+    }
+
+    /// The parser that checks the claims of what was read, whatever the token's version and purpose.
+    fn checker(&self, alloc: Global) -> Result<PasetoParser<'static, V4, Local>, ProgramError>
         ensures rules { IfOk result (λ made. verdicts_of (λ b. verdict b)
             (times_at made.parser.moment made.parser.leeway) made.parser.checks
-            ≡ demanded_rules (demanded self.now) timed) }
+            ≡ demanded_rules (demanded self.now)) }
         ensures whole { OnOk result (are_whole (all_named self.now.claims.items) ≡ true) }
-        ensures footer { IfOk result (λ made. option_map footer_text made.parser.footer
-            ≡ option_map string_bytes self.now.footer) }
-        ensures assertion { IfOk result (λ made. made.parser.implicit_assertion ≡ None) }
         ensures refused { IfErr result (λ error. IsOutside error
             ⊎ (are_whole (all_named self.now.claims.items) ≡ false)) }
         ensures no_usage { IfErr result IsNoUsage }
     {
-        let mut parser = first_parser(alloc, self.at, timed)?;
-        if let Some(footer) = &self.footer {
-            parser.set_footer(Footer::from(footer.as_str()));
-        }
+        let mut parser = parsed(alloc, PasetoParser::default(alloc, self.at))?;
         put_checks(alloc, &mut parser, &self.claims)?;
         Ok(parser)
     }
-}
-
-/// The default parser of a moment, or one that checks no times.
-fn first_parser<'d, V: VersionTrait, P: PurposeTrait>(
-    alloc: Global,
-    at: Timestamp,
-    timed: bool,
-) -> Result<PasetoParser<'d, V, P>, ProgramError>
-    ensures checks { IfOk result (λ made. AreSame (rules_of made.parser.checks)
-        (begun_rules timed)) }
-    ensures times { IfOk result (λ made. (made.parser.moment ≡ at) × (made.parser.leeway ≡ 0)) }
-    ensures footer { IfOk result (λ made. made.parser.footer ≡ None) }
-    ensures assertion { IfOk result (λ made. made.parser.implicit_assertion ≡ None) }
-    ensures memory { IfErr result IsOutside }
-{
-    if timed {
-        return parsed(alloc, PasetoParser::default(alloc, at));
-    }
-    let mut parser = PasetoParser::new(alloc);
-    parser.set_now(at);
-    Ok(parser)
 }
 
 /// The moment at which a token is checked.
@@ -177,17 +163,10 @@ pub fn check(
         line)) }
     ensures no_usage { IfErr result IsNoUsage }
 {
-    match claims_by(alloc, keys, demands, true, token) {
-        Ok(claims) => json_line(alloc, &claims),
-        Err(ProgramError::Expired) => {
-            let claims = claims_by(alloc, keys, demands, false, token)?;
-            Err(ProgramError::Unfit(expired(alloc, &claims, demands.at)?))
-        }
-        Err(ProgramError::Early(text)) => {
-            Err(ProgramError::Unfit(early(alloc, text.as_str(), demands.at)?))
-        }
-        Err(error) => Err(error),
-    }
+    let checker = demands.checker(alloc)?;
+    let claims = claims_by(alloc, keys, demands, token)?;
+    checked(alloc, &claims, demands.at, checker.check(&claims))?;
+    json_line(alloc, &claims)
 }
 
 /// The line of a value as JSON.
@@ -204,18 +183,15 @@ fn claims_by(
     alloc: Global,
     keys: &Keys<'_>,
     demands: &Demands,
-    timed: bool,
     token: &str,
 ) -> Result<Value, ProgramError>
-    ensures found { IfOk result (λ value. ParsesBy keys.now (demanded demands.now) timed token.now
-        (view value)) }
-    ensures none { IfErr result (Lacks (λ value. ParsesBy keys.now (demanded demands.now) timed
-        token.now value)) }
+    ensures answer { IsTheValue (λ value. ParsesBy keys.now (demanded demands.now).footer
+        token.now value) result }
     ensures no_usage { IfErr result IsNoUsage }
 {
     match keys {
-        Keys::One(key) => claims_by_key(alloc, key, demands, timed, token),
-        Keys::Ring(lines) => claims_by_ring(alloc, lines, demands, timed, token),
+        Keys::One(key) => claims_by_key(alloc, key, demands, token),
+        Keys::Ring(lines) => claims_by_ring(alloc, lines, demands, token),
     }
 }
 
@@ -224,21 +200,16 @@ fn claims_by_key(
     alloc: Global,
     key: &str,
     demands: &Demands,
-    timed: bool,
     token: &str,
 ) -> Result<Value, ProgramError>
-    ensures found { IfOk result (λ value. ParsesByKey key.now (demanded demands.now) timed
-        token.now (view value)) }
-    ensures none { IfErr result (Lacks (λ value. ParsesByKey key.now (demanded demands.now) timed
-        token.now value)) }
+    ensures answer { IsTheValue (λ value. ParsesByKey key.now (demanded demands.now).footer
+        token.now value) result }
     ensures no_usage { IfErr result IsNoUsage }
 {
     match header_of(key) {
-        Some((version, PaserkType::Local, _)) => by_local_key(
-            alloc, version, key, demands, timed, token,
-        ),
+        Some((version, PaserkType::Local, _)) => by_local_key(alloc, version, key, demands, token),
         Some((version, PaserkType::Public, _)) => by_public_key(
-            alloc, version, key, demands, timed, token,
+            alloc, version, key, demands, token,
         ),
         Some((version, PaserkType::Secret, _)) => Err(ProgramError::Key(no_reader(version))),
         None => Err(ProgramError::Key(PaserkError::NoKey)),
@@ -258,22 +229,18 @@ fn by_local_key(
     version: PaserkVersion,
     key: &str,
     demands: &Demands,
-    timed: bool,
     token: &str,
 ) -> Result<Value, ProgramError>
-    ensures found { IfOk result (λ value.
-        ParsesWith LocalKey version (reading_of LocalKey version)
-        key.now (demanded demands.now) timed token.now (view value)) }
-    ensures none { IfErr result (Lacks (λ value.
-        ParsesWith LocalKey version (reading_of LocalKey version)
-        key.now (demanded demands.now) timed token.now value)) }
+    ensures answer { IsTheValue (λ value. IsReader LocalKey version × ParsesWith LocalKey version
+        (reading_of LocalKey version) key.now (demanded demands.now).footer token.now value)
+        result }
     ensures no_usage { IfErr result IsNoUsage }
 {
     match version {
-        PaserkVersion::V1 => opened::<V1>(alloc, key, demands, timed, token),
-        PaserkVersion::V2 => unboxed(alloc, key, demands, timed, token),
-        PaserkVersion::V3 => opened::<V3>(alloc, key, demands, timed, token),
-        PaserkVersion::V4 => opened::<V4>(alloc, key, demands, timed, token),
+        PaserkVersion::V1 => opened::<V1>(alloc, key, demands, token),
+        PaserkVersion::V2 => unboxed(alloc, key, demands, token),
+        PaserkVersion::V3 => opened::<V3>(alloc, key, demands, token),
+        PaserkVersion::V4 => opened::<V4>(alloc, key, demands, token),
     }
 }
 
@@ -282,22 +249,18 @@ fn by_public_key(
     version: PaserkVersion,
     key: &str,
     demands: &Demands,
-    timed: bool,
     token: &str,
 ) -> Result<Value, ProgramError>
-    ensures found { IfOk result (λ value.
-        ParsesWith PublicKey version (reading_of PublicKey version)
-        key.now (demanded demands.now) timed token.now (view value)) }
-    ensures none { IfErr result (Lacks (λ value.
-        ParsesWith PublicKey version (reading_of PublicKey version)
-        key.now (demanded demands.now) timed token.now value)) }
+    ensures answer { IsTheValue (λ value. IsReader PublicKey version × ParsesWith PublicKey
+        version (reading_of PublicKey version) key.now (demanded demands.now).footer token.now
+        value) result }
     ensures no_usage { IfErr result IsNoUsage }
 {
     match version {
         PaserkVersion::V1 => Err(ProgramError::Key(PaserkError::OtherVersion(version))),
-        PaserkVersion::V2 => verified::<V2>(alloc, key, demands, timed, token),
-        PaserkVersion::V3 => verified::<V3>(alloc, key, demands, timed, token),
-        PaserkVersion::V4 => verified::<V4>(alloc, key, demands, timed, token),
+        PaserkVersion::V2 => verified::<V2>(alloc, key, demands, token),
+        PaserkVersion::V3 => verified::<V3>(alloc, key, demands, token),
+        PaserkVersion::V4 => verified::<V4>(alloc, key, demands, token),
     }
 }
 
@@ -305,39 +268,24 @@ fn opened<V: DefaultLocalVersion + KeyVersion>(
     alloc: Global,
     key: &str,
     demands: &Demands,
-    timed: bool,
     token: &str,
 ) -> Result<Value, ProgramError>
-    ensures found { IfOk result (λ value.
-        ParsesWith LocalKey V.paserk (opening V.design) key.now
-        (demanded demands.now) timed token.now (view value)) }
-    ensures none { IfErr result (Lacks (λ value.
-        ParsesWith LocalKey V.paserk (opening V.design) key.now
-        (demanded demands.now) timed token.now value)) }
+    ensures answer { IsTheValue (λ value. ParsesWith LocalKey V.paserk (opening V.design) key.now
+        (demanded demands.now).footer token.now value) result }
     ensures no_usage { IfErr result IsNoUsage }
 {
     let key = local_from_paserk::<V>(alloc, key)?;
-    let parser = demands.parser::<V, Local>(alloc, timed)?;
+    let parser = demands.reader::<V, Local>(alloc);
     parsed(alloc, parser.parse(token, &key))
 }
 
-fn unboxed(
-    alloc: Global,
-    key: &str,
-    demands: &Demands,
-    timed: bool,
-    token: &str,
-) -> Result<Value, ProgramError>
-    ensures found { IfOk result (λ value.
-        ParsesWith LocalKey K2 (reading_of LocalKey K2) key.now
-        (demanded demands.now) timed token.now (view value)) }
-    ensures none { IfErr result (Lacks (λ value.
-        ParsesWith LocalKey K2 (reading_of LocalKey K2) key.now
-        (demanded demands.now) timed token.now value)) }
+fn unboxed(alloc: Global, key: &str, demands: &Demands, token: &str) -> Result<Value, ProgramError>
+    ensures answer { IsTheValue (λ value. ParsesWith LocalKey K2 (reading_of LocalKey K2) key.now
+        (demanded demands.now).footer token.now value) result }
     ensures no_usage { IfErr result IsNoUsage }
 {
     let key = local_from_paserk::<V2>(alloc, key)?;
-    let parser = demands.parser::<V2, Local>(alloc, timed)?;
+    let parser = demands.reader::<V2, Local>(alloc);
     parsed(alloc, parser.parse(&XChaCha20Poly1305, token, &key))
 }
 
@@ -345,18 +293,13 @@ fn verified<V: Suite + Verifies<V::Scheme>>(
     alloc: Global,
     key: &str,
     demands: &Demands,
-    timed: bool,
     token: &str,
 ) -> Result<Value, ProgramError>
-    ensures found { IfOk result (λ value.
-        ParsesWith PublicKey V.paserk (verification V.valid V.refused V.public_design) key.now
-        (demanded demands.now) timed token.now (view value)) }
-    ensures none { IfErr result (Lacks (λ value.
-        ParsesWith PublicKey V.paserk (verification V.valid V.refused V.public_design) key.now
-        (demanded demands.now) timed token.now value)) }
+    ensures answer { IsTheValue (λ value. ParsesWith PublicKey V.paserk (verification V.valid
+        V.refused V.public_design) key.now (demanded demands.now).footer token.now value) result }
     ensures no_usage { IfErr result IsNoUsage }
 {
     let key = public_key_from_paserk::<V>(alloc, key)?;
-    let parser = demands.parser::<V, Public>(alloc, timed)?;
+    let parser = demands.reader::<V, Public>(alloc);
     parsed(alloc, parser.parse(&V::scheme(), token, &key.lend()))
 }

@@ -10,7 +10,7 @@ ghost use Rattle.rusty_paseto_paserk.specs.Id.{id_of};
 ghost use Rattle.rusty_paseto_paserk.specs.declared.header.PaserkVersion.TheVariants.{V2 as K2};
 ghost use Rattle.rusty_paseto_paserk.specs.declared.header.PaserkType.TheVariants.{Local as LocalKey, Public as PublicKeys};
 ghost use Rattle.paseto_tasks.specs.Arguments.{words_of};
-ghost use Rattle.paseto_commands.specs.Check.{demanded};
+ghost use Rattle.paseto_commands.specs.Check.{IsTheValue, demanded};
 ghost use Rattle.paseto_tasks.specs.Error.{IsNoUsage, IsOutside, Lacks, key_error_of};
 ghost use Rattle.paseto_tasks.specs.Id.{IsKeyOf};
 ghost use Rattle.paseto_commands.specs.Readers.{IsReader, reading_of, type_in, version_in};
@@ -38,13 +38,10 @@ pub fn claims_by_ring(
     alloc: Global,
     lines: &[String],
     demands: &Demands,
-    timed: bool,
     token: &str,
 ) -> Result<Value, ProgramError>
-    ensures found { IfOk result (λ value. ParsesByRing (words_of lines.now)
-        (demanded demands.now) timed token.now (view value)) }
-    ensures none { IfErr result (Lacks (λ value. ParsesByRing (words_of lines.now)
-        (demanded demands.now) timed token.now value)) }
+    ensures answer { IsTheValue (λ value. ParsesByRing (words_of lines.now) (demanded
+        demands.now).footer token.now value) result }
     ensures no_usage { IfErr result IsNoUsage }
 {
     let untrusted = UntrustedToken::try_parse(token)?;
@@ -55,8 +52,8 @@ pub fn claims_by_ring(
         return Err(ProgramError::Refused(PasetoError::WrongHeader));
     };
     match kind {
-        PaserkType::Local => by_local_keys(alloc, version, lines, demands, timed, token),
-        PaserkType::Public => by_public_keys(alloc, version, lines, demands, timed, token),
+        PaserkType::Local => by_local_keys(alloc, version, lines, demands, token),
+        PaserkType::Public => by_public_keys(alloc, version, lines, demands, token),
         PaserkType::Secret => Err(ProgramError::Refused(PasetoError::WrongHeader)),
     }
 }
@@ -90,22 +87,18 @@ fn by_local_keys(
     version: PaserkVersion,
     lines: &[String],
     demands: &Demands,
-    timed: bool,
     token: &str,
 ) -> Result<Value, ProgramError>
-    ensures found { IfOk result (λ value. IsReader LocalKey version
-        × ParsesIn LocalKey version (reading_of LocalKey version) (words_of lines.now)
-        (demanded demands.now) timed token.now (view value)) }
-    ensures none { IfErr result (Lacks (λ value. IsReader LocalKey version
-        × ParsesIn LocalKey version (reading_of LocalKey version) (words_of lines.now)
-        (demanded demands.now) timed token.now value)) }
+    ensures answer { IsTheValue (λ value. IsReader LocalKey version × ParsesIn LocalKey version
+        (reading_of LocalKey version) (words_of lines.now) (demanded demands.now).footer token.now
+        value) result }
     ensures no_usage { IfErr result IsNoUsage }
 {
     match version {
-        PaserkVersion::V1 => opened::<V1>(alloc, lines, demands, timed, token),
-        PaserkVersion::V2 => unboxed(alloc, lines, demands, timed, token),
-        PaserkVersion::V3 => opened::<V3>(alloc, lines, demands, timed, token),
-        PaserkVersion::V4 => opened::<V4>(alloc, lines, demands, timed, token),
+        PaserkVersion::V1 => opened::<V1>(alloc, lines, demands, token),
+        PaserkVersion::V2 => unboxed(alloc, lines, demands, token),
+        PaserkVersion::V3 => opened::<V3>(alloc, lines, demands, token),
+        PaserkVersion::V4 => opened::<V4>(alloc, lines, demands, token),
     }
 }
 
@@ -114,22 +107,18 @@ fn by_public_keys(
     version: PaserkVersion,
     lines: &[String],
     demands: &Demands,
-    timed: bool,
     token: &str,
 ) -> Result<Value, ProgramError>
-    ensures found { IfOk result (λ value. IsReader PublicKeys version
-        × ParsesIn PublicKeys version (reading_of PublicKeys version) (words_of lines.now)
-        (demanded demands.now) timed token.now (view value)) }
-    ensures none { IfErr result (Lacks (λ value. IsReader PublicKeys version
-        × ParsesIn PublicKeys version (reading_of PublicKeys version) (words_of lines.now)
-        (demanded demands.now) timed token.now value)) }
+    ensures answer { IsTheValue (λ value. IsReader PublicKeys version × ParsesIn PublicKeys
+        version (reading_of PublicKeys version) (words_of lines.now) (demanded demands.now).footer
+        token.now value) result }
     ensures no_usage { IfErr result IsNoUsage }
 {
     match version {
         PaserkVersion::V1 => Err(ProgramError::Refused(PasetoError::WrongHeader)),
-        PaserkVersion::V2 => verified::<V2>(alloc, lines, demands, timed, token),
-        PaserkVersion::V3 => verified::<V3>(alloc, lines, demands, timed, token),
-        PaserkVersion::V4 => verified::<V4>(alloc, lines, demands, timed, token),
+        PaserkVersion::V2 => verified::<V2>(alloc, lines, demands, token),
+        PaserkVersion::V3 => verified::<V3>(alloc, lines, demands, token),
+        PaserkVersion::V4 => verified::<V4>(alloc, lines, demands, token),
     }
 }
 
@@ -137,19 +126,14 @@ fn opened<V: DefaultLocalVersion + KeyVersion>(
     alloc: Global,
     lines: &[String],
     demands: &Demands,
-    timed: bool,
     token: &str,
 ) -> Result<Value, ProgramError>
-    ensures found { IfOk result (λ value.
-        ParsesIn LocalKey V.paserk (opening V.design)
-        (words_of lines.now) (demanded demands.now) timed token.now (view value)) }
-    ensures none { IfErr result (Lacks (λ value.
-        ParsesIn LocalKey V.paserk (opening V.design)
-        (words_of lines.now) (demanded demands.now) timed token.now value)) }
+    ensures answer { IsTheValue (λ value. ParsesIn LocalKey V.paserk (opening V.design) (words_of
+        lines.now) (demanded demands.now).footer token.now value) result }
     ensures no_usage { IfErr result IsNoUsage }
 {
     let ring = local_ring::<V>(alloc, lines)?;
-    let parser = demands.parser::<V, Local>(alloc, timed)?;
+    let parser = demands.reader::<V, Local>(alloc);
     found(alloc, ring.parse(&parser, token))
 }
 
@@ -157,19 +141,14 @@ fn unboxed(
     alloc: Global,
     lines: &[String],
     demands: &Demands,
-    timed: bool,
     token: &str,
 ) -> Result<Value, ProgramError>
-    ensures found { IfOk result (λ value.
-        ParsesIn LocalKey K2 (reading_of LocalKey K2)
-        (words_of lines.now) (demanded demands.now) timed token.now (view value)) }
-    ensures none { IfErr result (Lacks (λ value.
-        ParsesIn LocalKey K2 (reading_of LocalKey K2)
-        (words_of lines.now) (demanded demands.now) timed token.now value)) }
+    ensures answer { IsTheValue (λ value. ParsesIn LocalKey K2 (reading_of LocalKey K2) (words_of
+        lines.now) (demanded demands.now).footer token.now value) result }
     ensures no_usage { IfErr result IsNoUsage }
 {
     let ring = local_ring::<V2>(alloc, lines)?;
-    let parser = demands.parser::<V2, Local>(alloc, timed)?;
+    let parser = demands.reader::<V2, Local>(alloc);
     found(alloc, ring.parse(&XChaCha20Poly1305, &parser, token))
 }
 
@@ -177,20 +156,16 @@ fn verified<V: Suite + Verifies<V::Scheme>>(
     alloc: Global,
     lines: &[String],
     demands: &Demands,
-    timed: bool,
     token: &str,
 ) -> Result<Value, ProgramError>
-    ensures found { IfOk result (λ value.
-        ParsesIn PublicKeys V.paserk (verification V.valid V.refused V.public_design)
-        (words_of lines.now) (demanded demands.now) timed token.now (view value)) }
-    ensures none { IfErr result (Lacks (λ value.
-        ParsesIn PublicKeys V.paserk (verification V.valid V.refused V.public_design)
-        (words_of lines.now) (demanded demands.now) timed token.now value)) }
+    ensures answer { IsTheValue (λ value. ParsesIn PublicKeys V.paserk (verification V.valid
+        V.refused V.public_design) (words_of lines.now) (demanded demands.now).footer token.now
+        value) result }
     ensures no_usage { IfErr result IsNoUsage }
 {
     let keys = public_keys::<V>(alloc, lines)?;
     let ring = public_ring(alloc, &keys)?;
-    let parser = demands.parser::<V, Public>(alloc, timed)?;
+    let parser = demands.reader::<V, Public>(alloc);
     found(alloc, ring.parse(&V::scheme(), &parser, token))
 }
 

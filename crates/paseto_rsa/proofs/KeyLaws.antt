@@ -1,12 +1,14 @@
 -- Keys in their encodings.
 use Rattle.std.proofs.Common.{◌≡◌, ℕ, ◌-◌, ◌≤◌, List, [], ◌∷◌, ◌++◌, length, get_or, take, drop, refl, sym, ◌∙◌, ap, ap₂, subst, append_assoc, length-append, arith}
 use Rattle.std.proofs.lemmas.List.{drop_at, take-append-drop, take_at}
-use Rattle.paseto_rsa.specs.Der.{IsSequence, behind_of, contents_of, der_length, element}
+use Rattle.paseto_der.specs.Element.{behind_of, contents_of, der_length, element}
+use Rattle.paseto_rsa.specs.Integers.{IsSequence}
 use Rattle.sha2.specs.Sha512.{sha384}
 use Rattle.paseto_rsa.specs.Keys.{IsPrivateKey, IsPublicKey, PrivateNumbers, first_two, key_front, rsa_public}
 use Rattle.paseto_rsa.specs.Rsa.{IsPssSignature, pss_sign}
 use Rattle.paseto_rsa.specs.RsaPss.{HasNoSignature, IsSigned, RsaPssVerifies}
-use Rattle.paseto_rsa.proofs.DerLaws.{behind-is, contents-is, element-exact, element-unique, element-whole, integers-cons, integers-none, integers-parts, sequence-unique}
+use Rattle.paseto_der.proofs.ElementLaws.{behind-is, contents-is, element-exact, element-unique, element-whole}
+use Rattle.paseto_rsa.proofs.IntegerLaws.{integers-cons, integers-none, integers-parts, sequence-unique}
 
 -- the octets before a key
 pub front-octets : key_front

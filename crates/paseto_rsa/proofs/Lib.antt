@@ -1,3 +1,3 @@
-pub mod DerLaws
+pub mod IntegerLaws
 pub mod KeyLaws
 pub mod MaskLaws

@@ -1,6 +1,7 @@
 -- RSA keys of 2048 bits (RFC 8017, appendix A.1; RFC 5208, section 5).
 use Rattle.std.specs.Prelude.{◌≡◌, ℕ, ◌-◌, ◌%◌, ◌^◌, ◌<◌, ◌≤◌, List, [], ◌∷◌, ◌++◌, length, take}
-use Rattle.paseto_rsa.specs.Der.{IsSequence, behind_of, contents_of, element}
+use Rattle.paseto_der.specs.Element.{behind_of, contents_of, element}
+use Rattle.paseto_rsa.specs.Integers.{IsSequence}
 
 -- RSAPublicKey: the modulus n and the public exponent e (A.1.1)
 abbrev pub IsPublicKey : ℕ → ℕ → List ℕ → Type 0

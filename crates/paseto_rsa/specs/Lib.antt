@@ -1,4 +1,4 @@
-pub mod Der
+pub mod Integers
 pub mod Encoding
 pub mod Keys
 pub mod Mask

@@ -1,8 +1,8 @@
 //! RSASSA-PSS with SHA-384 (RFC 8017), the signature scheme of PASETO's public tokens in version 1.
 #![tactic(auto)]
 
-mod der;
 mod encoding;
+mod integers;
 mod mask;
 mod private_key;
 mod private_reading;

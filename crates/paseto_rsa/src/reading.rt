@@ -4,8 +4,9 @@ ghost use Rattle.std.specs.Prelude.{◌≡◌, ℕ, ◌^◌, ◌<◌, MatchOptio
 ghost use Rattle.paseto_montgomery.specs.Words.{value};
 ghost use Rattle.paseto_rsa.specs.Keys.{IsInRange, IsPublicKey};
 
-use crate::der::{Element, read_element, read_number};
+use crate::integers::read_number;
 use crate::public_key::PublicKey;
+use paseto_der::{Element, read_element};
 use paseto_montgomery::Modulus;
 
 // The tag of a SEQUENCE.

@@ -24,6 +24,8 @@ mod montgomery;
 #[cfg(test)]
 mod paserk;
 #[cfg(test)]
+mod pbkdf2;
+#[cfg(test)]
 mod primitives;
 #[cfg(test)]
 mod schemes;

@@ -1,6 +1,7 @@
 //! The default parser of tokens.
 
 ghost use Rattle.std.specs.Prelude.{◌≡◌, if◌then◌else◌, None, IfOk, IfErr, OnOk, OnErr};
+ghost use Rattle.serde_json.specs.View.{view};
 ghost use Rattle.rusty_paseto_core.specs.Context.{binding_of};
 ghost use Rattle.rusty_paseto_core.specs.Local.Boxed.{box_opening};
 ghost use Rattle.rusty_paseto_core.specs.Local.Opening.{opening};
@@ -8,7 +9,7 @@ ghost use Rattle.rusty_paseto_core.specs.Public.Verifying.{verification};
 ghost use Rattle.rusty_paseto_generic.specs.Error.Parser.{IsMemory};
 ghost use Rattle.rusty_paseto_generic.specs.Parsers.Held.{checkers_of, rules_of, verdicts_of, with_times};
 ghost use Rattle.rusty_paseto_generic.specs.Parsers.Times.{times_at};
-ghost use Rattle.rusty_paseto_generic.specs.Parsers.Parsing.{IsParseAnswer, assertion_in};
+ghost use Rattle.rusty_paseto_generic.specs.Parsers.Parsing.{IsCheckAnswer, IsParseAnswer, assertion_in};
 ghost use Rattle.rusty_paseto_generic.specs.Parsers.Rules.{AreSame, all_with_checkers, no_rule};
 
 use crate::version::DefaultLocalVersion;
@@ -60,7 +61,7 @@ use std::collections::BTreeMap;
 /// ```
 pub type PasetoParser<'a, V, P> = DefaultParser<'a, V, P, ValidatorFn>;
 
-/// A parser whose validators are of the type `B`: a [`PasetoParser`], where that is a box.
+/// For code that is generic in the validators' type `B`; everybody else uses [`PasetoParser`], where `B` is a box.
 #[derive(Drop)]
 pub struct DefaultParser<'a, V, P, B> {
     pub(crate) parser: TokenParser<'a, V, P, B>,
@@ -189,6 +190,21 @@ impl<'a, V: ImplicitAssertionCapable, P: PurposeTrait, B: Drop> DefaultParser<'a
     {
         self.parser.set_implicit_assertion(implicit_assertion);
         self
+    }
+}
+
+impl<V: VersionTrait, P: PurposeTrait> DefaultParser<'_, V, P, ValidatorFn> {
+    /// Checks a value that was parsed in another way, as by a parser with no checks, which is how a program tells the
+    /// claims of a token that it refuses: whether the value passes what `parse` checks once a token is read.
+    ///
+    /// Else it answers `ClaimError` for the first key in byte order that fails its check. `Memory` may come in place
+    /// of any answer.
+    pub fn check(&self, value: &Value) -> Result<(), GenericParserError>
+        ensures { let parser = self.now.parser in
+            IsCheckAnswer (verdicts_of (λ b. verdict b)
+            (times_at parser.moment parser.leeway) parser.checks) (view value.now) result }
+    {
+        self.parser.check(value)
     }
 }
 

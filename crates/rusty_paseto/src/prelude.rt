@@ -1,9 +1,9 @@
 //! Everything of `generic` and `paseto_core`, and the items of this crate.
 
 pub use crate::{
-    CountingSetter, DefaultAssertionVersion, DefaultLocalVersion, DefaultParser,
-    GeneralPasetoError, KeyRing, KeyRingError, KeyRingParserError, OwnedPublicKeyRing,
-    PasetoBuilder, PasetoParser, PublicKeyRing, Ring, fits_default, key_footer,
+    CountingSetter, DefaultAssertionVersion, DefaultLocalVersion, GeneralPasetoError, KeyRing,
+    KeyRingError, KeyRingParserError, OwnedPublicKeyRing, PasetoBuilder, PasetoParser,
+    PublicKeyRing, Ring, fits_default, key_footer,
 };
 pub use rusty_paseto_generic::{
     AssertionVersion, Audience, AudienceClaim, Blame, CheckSetter, ClaimSetter, ClaimValue,
@@ -15,7 +15,7 @@ pub use rusty_paseto_generic::{
     PasetoError, PasetoNonce, PasetoSymmetricKey, Payload, PreAuthenticationEncoding, PrivateKey,
     Public, PublicKey, PublicVersion, PurposeTrait, ReservedKey, SealedBox, SignatureScheme, Signs,
     Subject, SubjectClaim, TagCollision, TextClaim, TokenIdentifier, TokenIdentifierClaim,
-    TokenParser, UntrustedToken, V1, V1orV3, V2, V2orV4, V3, V4, Validator, ValidatorFn,
-    ValidatorMap, Verifies, VersionTrait, from_section, has_short_year, is_whole, moment_text,
-    odd_key, same_value, split_token, to_section,
+    UntrustedToken, V1, V1orV3, V2, V2orV4, V3, V4, Validator, ValidatorFn, ValidatorMap, Verifies,
+    VersionTrait, from_section, has_short_year, is_whole, moment_text, odd_key, same_value,
+    split_token, to_section,
 };

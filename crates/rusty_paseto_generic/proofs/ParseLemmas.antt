@@ -1,5 +1,6 @@
 -- What a parser answers for a text and for a token.
-use Rattle.std.proofs.Common.{◌≡◌, ◌⊎◌, inl, inr, ⊎_elim, ℕ, List, Bool, true, false, not, Option, Some, None, Result, Ok, Err, IfOk, IfErr, MatchResult, String, Global, Ordering, Less, Equal, Greater, string_bytes, nat_cmp, refl}
+use Rattle.std.proofs.Common.{◌≡◌, ◌⊎◌, inl, inr, ⊎_elim, ℕ, List, Bool, true, false, not, Option, Some, None, Result, Ok, Err, IfOk, IfErr, OnOk, MatchResult, String, Global, Ordering, Less, Equal, Greater, string_bytes, nat_cmp, refl}
+use Rattle.std.specs.Bool.{⊤}
 use Rattle.std.specs.Cmp.Lexicographic.{slice_cmp}
 use Rattle.std.specs.Ordering.{match_ordering}
 use Rattle.std.proofs.lemmas.Bool.{or_parts}
@@ -19,7 +20,7 @@ use Rattle.rusty_paseto_core.specs.declared.ImplicitAssertion.{ImplicitAssertion
 use Rattle.rusty_paseto_core.specs.declared.PasetoError.{PasetoError}
 use Rattle.rusty_paseto_core.specs.declared.PasetoError.TheVariants as Cipher
 use Rattle.rusty_paseto_generic.specs.Error.Parser.{IsMemory, of_cipher, of_claim}
-use Rattle.rusty_paseto_generic.specs.Parsers.Parsing.{IsCheckFault, IsFirstFault, IsOpenedAnswer, IsParseAnswer, IsParsed, IsReadAs, IsReadingFault, IsTextAnswer, IsTextFault, IsValueOf, assertion_in}
+use Rattle.rusty_paseto_generic.specs.Parsers.Parsing.{IsCheckAnswer, IsCheckFault, IsFirstFault, IsOpenedAnswer, IsParseAnswer, IsParsed, IsReadAs, IsReadingFault, IsTextAnswer, IsTextFault, IsValueOf, assertion_in}
 use Rattle.rusty_paseto_generic.specs.Parsers.Rules.{Rule, Rules}
 use Rattle.rusty_paseto_generic.specs.Parsers.Verdicts.{Fails, IsFirstFailing, Meets, Misses, Passes, PassesAll}
 use Rattle.rusty_paseto_generic.specs.Validator.{IfFault, Verdict}
@@ -28,19 +29,25 @@ use Rattle.rusty_paseto_generic.specs.declared.error.GenericParserError.TheVaria
 
 -- ---- the fault of a check
 
--- the error of a check is the first fault of the text that was read
-pub checked_fault : (rules : Rules Verdict) (text : List ℕ) (value : Data) (source : PasetoClaimError) → IsReadAs text value
-    → IfFault (IsFirstFailing rules value) source → IsMemory (of_claim source) ⊎ IsTextFault rules text (of_claim source)
-checked_fault rules text value Claim.Expired reads first = inr (inr (value, reads, (_, refl, first)))
-checked_fault rules text value (Claim.UseBeforeAvailable t) reads first = inr (inr (value, reads, (_, refl, first)))
-checked_fault rules text value (Claim.RFC3339Date t) reads first = inr (inr (value, reads, (_, refl, first)))
-checked_fault rules text value (Claim.Missing k) reads first = inr (inr (value, reads, (_, refl, first)))
-checked_fault rules text value (Claim.Unexpected k) reads first = inr (inr (value, reads, (_, refl, first)))
-checked_fault rules text value (Claim.CustomValidation k) reads first = inr (inr (value, reads, (_, refl, first)))
-checked_fault rules text value (Claim.Invalid k found wanted) reads first = inr (inr (value, reads, (_, refl, first)))
-checked_fault rules text value (Claim.Reserved k) reads first = inr (inr (value, reads, (_, refl, first)))
-checked_fault rules text value (Claim.DuplicateTopLevelPayloadClaim k) reads first = inr (inr (value, reads, (_, refl, first)))
-checked_fault rules text value (Claim.Memory refused) reads first = inl tt
+-- the error of a check
+pub check_fault : (rules : Rules Verdict) (value : Data) (source : PasetoClaimError) → IfFault (IsFirstFailing rules value) source
+    → IsMemory (of_claim source) ⊎ IsCheckFault rules value (of_claim source)
+check_fault rules value Claim.Expired first = inr (_, refl, first)
+check_fault rules value (Claim.UseBeforeAvailable t) first = inr (_, refl, first)
+check_fault rules value (Claim.RFC3339Date t) first = inr (_, refl, first)
+check_fault rules value (Claim.Missing k) first = inr (_, refl, first)
+check_fault rules value (Claim.Unexpected k) first = inr (_, refl, first)
+check_fault rules value (Claim.CustomValidation k) first = inr (_, refl, first)
+check_fault rules value (Claim.Invalid k found wanted) first = inr (_, refl, first)
+check_fault rules value (Claim.Reserved k) first = inr (_, refl, first)
+check_fault rules value (Claim.DuplicateTopLevelPayloadClaim k) first = inr (_, refl, first)
+check_fault rules value (Claim.Memory refused) first = inl tt
+
+-- and that of a check of what a text was read as
+pub checked_fault : (rules : Rules Verdict) (text : List ℕ) (value : Data) (error : GenericParserError) → IsReadAs text value
+    → IsMemory error ⊎ IsCheckFault rules value error → IsMemory error ⊎ IsTextFault rules text error
+checked_fault rules text value error reads (inl memory) = inl memory
+checked_fault rules text value error reads (inr fault) = inr (inr (value, reads, fault))
 
 -- ---- a text of which there is a value has no fault
 
@@ -127,6 +134,17 @@ pub text_answer : (rules : Rules Verdict) (text : List ℕ) (result : Result Val
     → IfOk result (λ value. IsValueOf rules text (view value)) → IfErr result (λ error. IsMemory error ⊎ IsTextFault rules text error)
     → IsTextAnswer rules text result
 text_answer rules text result ok err = record { value = ok; complete = completes rules text result ok err; fault = err }
+
+passing_completes : {T : Type 0} (rules : Rules Verdict) (value : Data) (result : Result T GenericParserError)
+    → IfErr result (λ error. IsMemory error ⊎ IsCheckFault rules value error) → PassesAll rules value → MatchResult result (λ _. ⊤) IsMemory
+passing_completes rules value (Ok found) err passes = tt
+passing_completes rules value (Err error) (inl memory) passes = memory
+passing_completes rules value (Err error) (inr fault) passes = absurd (check_apart rules value error passes fault)
+
+-- what is answered for a value
+pub check_answer : (rules : Rules Verdict) (value : Data) (result : Result ⊤ GenericParserError) → OnOk result (PassesAll rules value)
+    → IfErr result (λ error. IsMemory error ⊎ IsCheckFault rules value error) → IsCheckAnswer rules value result
+check_answer rules value result ok err = record { passes = ok; complete = passing_completes rules value result err; fault = err }
 
 -- ---- what is answered for a token
 

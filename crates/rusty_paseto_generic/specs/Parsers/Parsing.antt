@@ -1,5 +1,5 @@
 -- What a parser answers for a token.
-use Rattle.std.specs.Prelude.{◌≡◌, ◌⊎◌, true, ℕ, Bool, List, if◌then◌else◌, Option, Some, None, Result, Err, IfOk, IfErr, MatchResult, String, string_bytes}
+use Rattle.std.specs.Prelude.{◌≡◌, ◌⊎◌, ⊤, true, ℕ, Bool, List, if◌then◌else◌, Option, Some, None, Result, Err, IfOk, IfErr, OnOk, MatchResult, String, string_bytes}
 use Rattle.std.specs.Global.{Global}
 use Rattle.serde_json.specs.Data.{Data}
 use Rattle.serde_json.specs.Read.{read}
@@ -63,6 +63,12 @@ pub record IsTextAnswer (rules : Rules Verdict) (text : List ℕ) (result : Resu
 abbrev pub IsOpenedAnswer : Rules Verdict → Result (String Global) PasetoError → Result Value GenericParserError → Type 0
 IsOpenedAnswer rules opened result =
     MatchResult opened (λ text. IsTextAnswer rules (string_bytes text) result) (λ error. result ≡ Err (of_cipher error))
+
+-- the answer of a check: that the value passes, that wherever it does unless memory is refused, and else the first fault
+pub record IsCheckAnswer (rules : Rules Verdict) (value : Data) (result : Result ⊤ GenericParserError) : Type 0 where
+  pub passes : OnOk result (PassesAll rules value)
+  pub complete : PassesAll rules value → MatchResult result (λ _. ⊤) IsMemory
+  pub fault : IfErr result (λ error. IsMemory error ⊎ IsCheckFault rules value error)
 
 -- ---- of a token
 

@@ -1,7 +1,7 @@
 //! The parser of tokens of every version and purpose.
 
 ghost use Rattle.std.specs.Prelude.{◌≡◌, ℕ, List, if◌then◌else◌, None, Some, IfOk, IfErr, OnOk, OnErr};
-ghost use Rattle.serde_json.specs.View.{members_view};
+ghost use Rattle.serde_json.specs.View.{members_view, view};
 ghost use Rattle.rusty_paseto_claims.specs.Whole.{first_odd};
 ghost use Rattle.rusty_paseto_core.specs.Context.{assertion_of, binding_of, footer_of};
 ghost use Rattle.rusty_paseto_core.specs.Footer.{footer_text};
@@ -12,13 +12,13 @@ ghost use Rattle.rusty_paseto_core.specs.Public.Verifying.{verification};
 ghost use Rattle.rusty_paseto_generic.specs.Error.Parser.{IsMemory, IsRefusal};
 ghost use Rattle.rusty_paseto_generic.specs.Parsers.Held.{checkers_of, rules_of, verdicts_of, with_times};
 ghost use Rattle.rusty_paseto_generic.specs.Parsers.Times.{times_at};
-ghost use Rattle.rusty_paseto_generic.specs.Parsers.Parsing.{IsParseAnswer, IsTextAnswer, assertion_in};
+ghost use Rattle.rusty_paseto_generic.specs.Parsers.Parsing.{IsCheckAnswer, IsParseAnswer, IsTextAnswer, assertion_in};
 ghost use Rattle.rusty_paseto_generic.specs.Parsers.Rules.{AreSame, IsStored, all_with_checkers, all_stored, edited, fault_in, no_rule, odd_fault, whole_answer, with_both, with_required, with_stored};
 
 use crate::builders::GenericLocalVersion;
 use crate::error::GenericParserError;
 use crate::parsers::checks::Checks;
-use crate::parsers::parsing::{parse_opened, parse_text};
+use crate::parsers::parsing::{check_value, parse_opened, parse_text};
 use crate::parsers::setter::CheckSetter;
 use crate::parsers::times::Times;
 use crate::validator::ValidatorFn;
@@ -70,7 +70,7 @@ use std::marker::PhantomData;
 /// ```
 pub type GenericParser<'a, V, P> = TokenParser<'a, V, P, ValidatorFn>;
 
-/// A parser whose validators are of the type `B`: a [`GenericParser`], where that is a box.
+/// For code that is generic in the validators' type `B`; everybody else uses [`GenericParser`], where `B` is a box.
 #[derive(Drop)]
 pub struct TokenParser<'a, V, P, B> {
     version: PhantomData<V>,
@@ -275,6 +275,18 @@ impl<V: VersionTrait, P: PurposeTrait> TokenParser<'_, V, P, ValidatorFn> {
             (times_at self.now.moment self.now.leeway) self.now.checks) text.now result }
     {
         parse_text(&self.checks, &self.times(), text)
+    }
+
+    /// Checks a value that was parsed in another way, as by a parser with no checks: whether it passes what `parse`
+    /// checks once a token is read. The parser's footer and implicit assertion are of no account.
+    ///
+    /// Else it answers `ClaimError` for the first key in byte order that fails its check. `Memory` may come in place
+    /// of any answer.
+    pub fn check(&self, value: &Value) -> Result<(), GenericParserError>
+        ensures { IsCheckAnswer (verdicts_of (λ b. verdict b)
+            (times_at self.now.moment self.now.leeway) self.now.checks) (view value.now) result }
+    {
+        check_value(&self.checks, &self.times(), value)
     }
 }
 

@@ -1,10 +1,11 @@
 //! From a text that a token holds to the value that a parser answers: read as JSON, and checked.
 
-ghost use Rattle.std.specs.Prelude.{◌⊎◌, IfOk, IfErr};
+ghost use Rattle.std.specs.Prelude.{◌⊎◌, IfOk, IfErr, OnOk};
 ghost use Rattle.serde_json.specs.View.{view};
 ghost use Rattle.rusty_paseto_generic.specs.Error.Parser.{IsMemory};
 ghost use Rattle.rusty_paseto_generic.specs.Parsers.Held.{verdicts_of};
-ghost use Rattle.rusty_paseto_generic.specs.Parsers.Parsing.{IsOpenedAnswer, IsReadAs, IsReadingFault, IsTextFault, IsValueOf};
+ghost use Rattle.rusty_paseto_generic.specs.Parsers.Parsing.{IsCheckFault, IsOpenedAnswer, IsReadAs, IsReadingFault, IsTextFault, IsValueOf};
+ghost use Rattle.rusty_paseto_generic.specs.Parsers.Verdicts.{PassesAll};
 
 use crate::error::GenericParserError;
 use crate::parsers::check_all::check_all;
@@ -32,6 +33,21 @@ fn read_value(alloc: Global, text: &str) -> Result<Value, GenericParserError>
     Ok(value)
 }
 
+/// Checks a value, or answers `ClaimError` for the first key in byte order that fails its check.
+pub(crate) fn check_value(
+    checks: &Checks<ValidatorFn>,
+    times: &Times,
+    value: &Value,
+) -> Result<(), GenericParserError>
+    ensures ok { OnOk result (PassesAll (verdicts_of (λ b. verdict b) times.now checks.now)
+        (view value.now)) }
+    ensures err { IfErr result (λ error. IsMemory error
+        ⊎ IsCheckFault (verdicts_of (λ b. verdict b) times.now checks.now) (view value.now) error) }
+{
+    check_all(checks.allocator(), times, checks, value)?;
+    Ok(())
+}
+
 /// The value of a text, which passes all checks. Else it answers the first of these: `PayloadJsonError` for a text
 /// that is no JSON, `ClaimError` of `Unexpected` for a number that is not a whole number of 64 bits, and
 /// `ClaimError` for the first key in byte order that fails its check.
@@ -45,9 +61,8 @@ pub(crate) fn parse_text(
     ensures err { IfErr result (λ error. IsMemory error
         ⊎ IsTextFault (verdicts_of (λ b. verdict b) times.now checks.now) text.now error) }
 {
-    let alloc = checks.allocator();
-    let value = read_value(alloc, text)?;
-    check_all(alloc, times, checks, &value)?;
+    let value = read_value(checks.allocator(), text)?;
+    check_value(checks, times, &value)?;
     Ok(value)
 }
 

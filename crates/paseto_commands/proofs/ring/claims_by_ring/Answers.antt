@@ -2,33 +2,34 @@ use Rattle.std.proofs.Common.{◌∙◌, ℕ, List, Some, inr, sym, ap}
 use Rattle.rusty_paseto_paserk.specs.declared.header.PaserkType.TheVariants.{Local, Public}
 use Rattle.paseto_tasks.specs.Arguments.{words_of}
 use Rattle.paseto_commands.specs.Check.{demanded}
-use Rattle.paseto_commands.proofs.Headers.{no_type, no_version, ring_none}
+use Rattle.paseto_commands.proofs.Headers.{by_sections, no_type, no_version}
+use Rattle.paseto_commands.proofs.Parsed.{no_value}
 use Rattle.paseto_commands.proofs.ring.claims_by_ring.Goals as goal
 
-pub returns-in-Local-clause-none : goal.returns-in-Local-clause-none
-returns-in-Local-clause-none c =
-    ring_none (words_of c.args.lines.now) (demanded c.args.demands.now) c.args.timed c.args.token.now c.version.result.now c.purpose.result.now
+pub returns-in-Local-clause-answer : goal.returns-in-Local-clause-answer
+returns-in-Local-clause-answer c =
+    by_sections (words_of c.args.lines.now) (demanded c.args.demands.now).footer c.args.token.now c.version.result.now c.purpose.result.now
     (c.in_ok-untrusted.ensures.kept.version ∙ ap (λ (l : List ℕ). Some l) (sym c.version.ensures))
     (c.in_ok-untrusted.ensures.kept.purpose ∙ ap (λ (l : List ℕ). Some l) (sym c.purpose.ensures))
-    Local c.in-Some.version c.by_local_keys.result (sym c.in-Some.ensures) (sym (rw c.in-Local.is at c.in-Some-type_of.ensures)) c.by_local_keys.ensures.none
+    Local c.in-Some.version c.by_local_keys.result (sym c.in-Some.ensures) (sym (rw c.in-Local.is at c.in-Some-type_of.ensures)) c.by_local_keys.ensures.answer
 
-pub returns-in-Public-clause-none : goal.returns-in-Public-clause-none
-returns-in-Public-clause-none c =
-    ring_none (words_of c.args.lines.now) (demanded c.args.demands.now) c.args.timed c.args.token.now c.version.result.now c.purpose.result.now
+pub returns-in-Public-clause-answer : goal.returns-in-Public-clause-answer
+returns-in-Public-clause-answer c =
+    by_sections (words_of c.args.lines.now) (demanded c.args.demands.now).footer c.args.token.now c.version.result.now c.purpose.result.now
     (c.in_ok-untrusted.ensures.kept.version ∙ ap (λ (l : List ℕ). Some l) (sym c.version.ensures))
     (c.in_ok-untrusted.ensures.kept.purpose ∙ ap (λ (l : List ℕ). Some l) (sym c.purpose.ensures))
-    Public c.in-Some.version c.by_public_keys.result (sym c.in-Some.ensures) (sym (rw c.in-Public.is at c.in-Some-type_of.ensures)) c.by_public_keys.ensures.none
+    Public c.in-Some.version c.by_public_keys.result (sym c.in-Some.ensures) (sym (rw c.in-Public.is at c.in-Some-type_of.ensures)) c.by_public_keys.ensures.answer
 
-pub returns-in_default-clause-none : goal.returns-in_default-clause-none
-returns-in_default-clause-none c =
-    inr (no_version (words_of c.args.lines.now) (demanded c.args.demands.now) c.args.timed c.args.token.now c.version.result.now _
+pub returns-in_default-clause-answer : goal.returns-in_default-clause-answer
+returns-in_default-clause-answer c =
+    no_value _ _ (inr (no_version (words_of c.args.lines.now) (demanded c.args.demands.now).footer c.args.token.now c.version.result.now _
     (c.in_ok-untrusted.ensures.kept.version ∙ ap (λ (l : List ℕ). Some l) (sym c.version.ensures))
     c.in_ok-untrusted.ensures.kept.purpose
-    (sym c.in_default.ensures))
+    (sym c.in_default.ensures)))
 
-pub returns-in_default-type_of-clause-none : goal.returns-in_default-type_of-clause-none
-returns-in_default-type_of-clause-none c =
-    inr (no_type (words_of c.args.lines.now) (demanded c.args.demands.now) c.args.timed c.args.token.now c.version.result.now c.purpose.result.now
+pub returns-in_default-type_of-clause-answer : goal.returns-in_default-type_of-clause-answer
+returns-in_default-type_of-clause-answer c =
+    no_value _ _ (inr (no_type (words_of c.args.lines.now) (demanded c.args.demands.now).footer c.args.token.now c.version.result.now c.purpose.result.now
     (c.in_ok-untrusted.ensures.kept.version ∙ ap (λ (l : List ℕ). Some l) (sym c.version.ensures))
     (c.in_ok-untrusted.ensures.kept.purpose ∙ ap (λ (l : List ℕ). Some l) (sym c.purpose.ensures))
-    (sym c.in_default-type_of.ensures))
+    (sym c.in_default-type_of.ensures)))

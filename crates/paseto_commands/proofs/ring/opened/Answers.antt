@@ -5,27 +5,20 @@ use Rattle.rusty_paseto_paserk.specs.declared.header.PaserkType.TheVariants.{Loc
 use Rattle.paseto_tasks.specs.Arguments.{words_of}
 use Rattle.paseto_commands.specs.Check.{demanded}
 use Rattle.paseto_tasks.specs.Id.{IsKeyOf}
-use Rattle.paseto_commands.proofs.RingParsing.{no_keys, ring_lacks, ring_parses}
+use Rattle.paseto_commands.proofs.Parsed.{no_value}
+use Rattle.paseto_commands.proofs.RingParsing.{no_keys, ring_parses}
 use Rattle.paseto_commands.proofs.ring.opened.Goals as goal
 
-pub returns-in_err-ring-clause-none : goal.returns-in_err-ring-clause-none
-returns-in_err-ring-clause-none g c =
+pub returns-in_err-ring-clause-answer : goal.returns-in_err-ring-clause-answer
+returns-in_err-ring-clause-answer g c =
     let p = err_from_is_err_and c.from_residual.result c.from_residual.ensures.1 in
-    rw (p.1, p.2) (no_keys (IsKeyOf Local g.V.KeyVersion.paserk) Local g.V.KeyVersion.paserk (opening g.V.LocalSuite.design) (words_of c.args.lines.now)
-    (demanded c.args.demands.now) c.args.timed c.args.token.now c.in_err-ring.field-0.0 (λ key is. is) c.in_err-ring.ensures.none)
+    rw (p.1, p.2) (no_value _ _ (no_keys (IsKeyOf Local g.V.KeyVersion.paserk) Local g.V.KeyVersion.paserk (opening g.V.LocalSuite.design) (words_of c.args.lines.now)
+    (demanded c.args.demands.now).footer c.args.token.now c.in_err-ring.field-0.0 (λ key is. is) c.in_err-ring.ensures.none))
 
-pub returns-clause-found : goal.returns-clause-found
-returns-clause-found g c =
-    let made = c.in_ok-parser.ensures in
-    let held = c.in_ok-parser.parser.parser in
-    ring_parses (opening g.V.LocalSuite.design) Local g.V.KeyVersion.paserk (words_of c.args.lines.now) (demanded c.args.demands.now) c.args.timed c.args.token.now
+pub returns-clause-answer : goal.returns-clause-answer
+returns-clause-answer g c =
+    let made = c.reader-parser.ensures in
+    let held = c.reader-parser.result.parser in
+    ring_parses (opening g.V.LocalSuite.design) Local g.V.KeyVersion.paserk (words_of c.args.lines.now) (demanded c.args.demands.now).footer c.args.token.now
     c.in_ok-ring.ensures.found.0 (keys_of c.in_ok-ring.ring) held.footer g.V.LocalSuite.design.binds_assertion held.implicit_assertion _ c.in_ok-ring.ensures.found.1 c.in_ok-ring.ensures.found.2 made.assertion made.footer made.rules
-    c.found.result c.parse.result made.whole c.found.ensures.value c.parse.ensures.parsed
-
-pub returns-clause-none : goal.returns-clause-none
-returns-clause-none g c =
-    let made = c.in_ok-parser.ensures in
-    let held = c.in_ok-parser.parser.parser in
-    ring_lacks (opening g.V.LocalSuite.design) Local g.V.KeyVersion.paserk (words_of c.args.lines.now) (demanded c.args.demands.now) c.args.timed c.args.token.now
-    c.in_ok-ring.ensures.found.0 (keys_of c.in_ok-ring.ring) held.footer g.V.LocalSuite.design.binds_assertion held.implicit_assertion _ c.in_ok-ring.ensures.found.1 c.in_ok-ring.ensures.found.2 made.assertion made.footer made.rules
-    c.found.result c.parse.result c.found.ensures.refused c.parse.ensures.complete
+    c.found.result c.parse.result c.found.ensures.value c.found.ensures.refused c.parse.ensures

@@ -6,21 +6,13 @@ use Rattle.rusty_paseto_paserk.specs.declared.header.PaserkVersion.TheVariants.{
 use Rattle.rusty_paseto_paserk.specs.declared.header.PaserkType.TheVariants.{Local}
 use Rattle.paseto_tasks.specs.Arguments.{words_of}
 use Rattle.paseto_commands.specs.Check.{demanded}
-use Rattle.paseto_commands.proofs.RingParsing.{ring_lacks, ring_parses}
+use Rattle.paseto_commands.proofs.RingParsing.{ring_parses}
 use Rattle.paseto_commands.proofs.ring.unboxed.Goals as goal
 
-pub returns-clause-found : goal.returns-clause-found
-returns-clause-found c =
-    let made = c.in_ok-parser.ensures in
-    let held = c.in_ok-parser.parser.parser in
-    ring_parses (box_opening box_sealing) Local V2 (words_of c.args.lines.now) (demanded c.args.demands.now) c.args.timed c.args.token.now
+pub returns-clause-answer : goal.returns-clause-answer
+returns-clause-answer c =
+    let made = c.reader-parser.ensures in
+    let held = c.reader-parser.result.parser in
+    ring_parses (box_opening box_sealing) Local V2 (words_of c.args.lines.now) (demanded c.args.demands.now).footer c.args.token.now
     c.in_ok-ring.ensures.found.0 (keys_of c.in_ok-ring.ring) held.footer false None _ c.in_ok-ring.ensures.found.1 c.in_ok-ring.ensures.found.2 refl made.footer made.rules
-    c.found.result c.parse.result made.whole c.found.ensures.value c.parse.ensures.parsed
-
-pub returns-clause-none : goal.returns-clause-none
-returns-clause-none c =
-    let made = c.in_ok-parser.ensures in
-    let held = c.in_ok-parser.parser.parser in
-    ring_lacks (box_opening box_sealing) Local V2 (words_of c.args.lines.now) (demanded c.args.demands.now) c.args.timed c.args.token.now
-    c.in_ok-ring.ensures.found.0 (keys_of c.in_ok-ring.ring) held.footer false None _ c.in_ok-ring.ensures.found.1 c.in_ok-ring.ensures.found.2 refl made.footer made.rules
-    c.found.result c.parse.result c.found.ensures.refused c.parse.ensures.complete
+    c.found.result c.parse.result c.found.ensures.value c.found.ensures.refused c.parse.ensures

@@ -4,8 +4,9 @@ use Rattle.std.proofs.lemmas.List.{append-nil, nil_from_length}
 use Rattle.paseto_montgomery.specs.Words.{weight}
 use Rattle.paseto_montgomery.proofs.DigitLaws.{weight-is}
 use Rattle.paseto_montgomery.proofs.WordsLaws.{weight-one}
-use Rattle.paseto_rsa.specs.Der.{AreIntegers, element}
-use Rattle.paseto_rsa.proofs.DerLaws.{integer-unique, integers-cons, integers-nil, integers-none, integers-parts, sequence-contents, sequence-written}
+use Rattle.paseto_der.specs.Element.{element}
+use Rattle.paseto_rsa.specs.Integers.{AreIntegers}
+use Rattle.paseto_rsa.proofs.IntegerLaws.{integer-unique, integers-cons, integers-nil, integers-none, integers-parts, sequence-contents, sequence-written}
 use Rattle.paseto_rsa.proofs.reading.read_public.Goals as goal
 
 fits : (n x : ℕ) → 2 ^ 2048 ≡ n → x < 2 ^ 2048 → x < weight 32

@@ -2,9 +2,10 @@ use Rattle.std.proofs.Common.{◌≡◌, ℕ, ◌*◌, ◌%◌, ◌<◌, ◌≤�
 use Rattle.paseto_montgomery.specs.Words.{value, weight}
 use Rattle.paseto_montgomery.proofs.DigitLaws.{weight-is}
 use Rattle.paseto_montgomery.proofs.WordsLaws.{value-one}
-use Rattle.paseto_rsa.specs.Der.{IsSequence, element}
+use Rattle.paseto_der.specs.Element.{element}
+use Rattle.paseto_rsa.specs.Integers.{IsSequence}
 use Rattle.paseto_rsa.specs.Keys.{IsHalf, IsPrivateKey, PrivateNumbers, key_front}
-use Rattle.paseto_rsa.proofs.DerLaws.{sequence-unique}
+use Rattle.paseto_rsa.proofs.IntegerLaws.{sequence-unique}
 use Rattle.paseto_rsa.proofs.KeyLaws.{inner-unique, integers_of}
 use Rattle.paseto_rsa.proofs.private_key.PrivateKey.from_der.Goals as goal
 

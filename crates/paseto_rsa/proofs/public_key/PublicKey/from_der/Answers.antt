@@ -3,7 +3,7 @@ use Rattle.std.specs.Prelude.{MatchOption, Option, None, Some}
 use Rattle.paseto_montgomery.specs.Words.{value}
 use Rattle.paseto_montgomery.proofs.WordsLaws.{value-one}
 use Rattle.paseto_rsa.specs.Keys.{IsPublicKey}
-use Rattle.paseto_rsa.proofs.DerLaws.{sequence-unique}
+use Rattle.paseto_rsa.proofs.IntegerLaws.{sequence-unique}
 use Rattle.paseto_rsa.proofs.public_key.PublicKey.from_der.Goals as goal
 
 pub returns-in_err-numbers : goal.returns-in_err-numbers

@@ -1,0 +1,20 @@
+//! Keys, payloads, footers and tokens: encrypting and decrypting, signing and verifying.
+
+mod base64url;
+mod error;
+mod keys;
+mod paseto;
+mod texts;
+mod untrusted_token;
+mod versions;
+
+pub use error::PasetoError;
+pub use keys::{
+    Key, PasetoAsymmetricPrivateKey, PasetoAsymmetricPublicKey, PasetoNonce, PasetoSymmetricKey,
+};
+pub use paseto::Paseto;
+pub use texts::{Footer, ImplicitAssertion, Payload};
+pub use untrusted_token::UntrustedToken;
+pub use versions::{
+    ImplicitAssertionCapable, Local, Public, PurposeTrait, V1, V2, V2orV4, V3, V4, VersionTrait,
+};

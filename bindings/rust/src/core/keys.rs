@@ -1,0 +1,215 @@
+//! Keys and nonces, each with the version and the purpose that it is for.
+
+use crate::core::{Local, PasetoError, Public, V1, V2, V3, V4, V2orV4};
+use crate::library;
+use std::fmt;
+use std::marker::PhantomData;
+use std::ops::Deref;
+
+/// The bytes of a key or a nonce. They are overwritten when it is dropped, and `Debug` does not show them.
+#[derive(Clone)]
+pub struct Key<const N: usize>([u8; N]);
+
+impl<const N: usize> Key<N> {
+    /// Random bytes of the system. `Cipher` comes where it gives none.
+    pub fn try_new_random() -> Result<Self, PasetoError> {
+        let mut key = Key([0; N]);
+        if library::fill_random(&mut key.0) {
+            Ok(key)
+        } else {
+            Err(PasetoError::Cipher)
+        }
+    }
+}
+
+impl<const N: usize> Default for Key<N> {
+    fn default() -> Self {
+        Key([0; N])
+    }
+}
+
+impl<const N: usize> Drop for Key<N> {
+    fn drop(&mut self) {
+        library::wipe(&mut self.0);
+    }
+}
+
+impl<const N: usize> fmt::Debug for Key<N> {
+    fn fmt(&self, f: &mut fmt::Formatter<'_>) -> fmt::Result {
+        f.write_str("!!! KEY IS PRIVATE !!!")
+    }
+}
+
+impl<const N: usize> AsRef<[u8]> for Key<N> {
+    fn as_ref(&self) -> &[u8] {
+        &self.0
+    }
+}
+
+impl<const N: usize> Deref for Key<N> {
+    type Target = [u8; N];
+
+    fn deref(&self) -> &[u8; N] {
+        &self.0
+    }
+}
+
+impl<const N: usize> From<[u8; N]> for Key<N> {
+    fn from(bytes: [u8; N]) -> Self {
+        Key(bytes)
+    }
+}
+
+impl<const N: usize> From<&[u8; N]> for Key<N> {
+    fn from(bytes: &[u8; N]) -> Self {
+        Key(*bytes)
+    }
+}
+
+impl<const N: usize> From<&[u8]> for Key<N> {
+    /// The key of these bytes.
+    ///
+    /// # Panics
+    ///
+    /// Where there are not `N` bytes, as in the crate rusty_paseto.
+    fn from(bytes: &[u8]) -> Self {
+        let mut key = Key([0; N]);
+        key.0.copy_from_slice(bytes);
+        key
+    }
+}
+
+impl<const N: usize> TryFrom<&str> for Key<N> {
+    type Error = PasetoError;
+
+    /// The key of these hexadecimal digits. `InvalidKey` comes where there are not `2 * N`, or other characters.
+    fn try_from(digits: &str) -> Result<Self, PasetoError> {
+        if digits.len() != 2 * N {
+            return Err(PasetoError::InvalidKey);
+        }
+        let mut key = Key([0; N]);
+        for (byte, pair) in key.0.iter_mut().zip(digits.as_bytes().chunks(2)) {
+            *byte = (digit(pair[0])? << 4) | digit(pair[1])?;
+        }
+        Ok(key)
+    }
+}
+
+fn digit(letter: u8) -> Result<u8, PasetoError> {
+    match letter {
+        b'0'..=b'9' => Ok(letter - b'0'),
+        b'a'..=b'f' => Ok(letter - b'a' + 10),
+        b'A'..=b'F' => Ok(letter - b'A' + 10),
+        _ => Err(PasetoError::InvalidKey),
+    }
+}
+
+/// The key of local tokens of a version.
+pub struct PasetoSymmetricKey<Version, Purpose> {
+    kind: PhantomData<(Version, Purpose)>,
+    key: Key<32>,
+}
+
+impl<Version> From<Key<32>> for PasetoSymmetricKey<Version, Local> {
+    fn from(key: Key<32>) -> Self {
+        PasetoSymmetricKey { kind: PhantomData, key }
+    }
+}
+
+impl<Version, Purpose> AsRef<[u8]> for PasetoSymmetricKey<Version, Purpose> {
+    fn as_ref(&self) -> &[u8] {
+        self.key.as_ref()
+    }
+}
+
+macro_rules! lent {
+    ($(#[$about:meta])* $name:ident) => {
+        $(#[$about])*
+        pub struct $name<'a, Version, Purpose> {
+            kind: PhantomData<(Version, Purpose)>,
+            bytes: &'a [u8],
+        }
+
+        impl<'a, Version, Purpose> $name<'a, Version, Purpose> {
+            fn of(bytes: &'a [u8]) -> Self {
+                $name { kind: PhantomData, bytes }
+            }
+        }
+
+        impl<Version, Purpose> AsRef<[u8]> for $name<'_, Version, Purpose> {
+            fn as_ref(&self) -> &[u8] {
+                self.bytes
+            }
+        }
+    };
+}
+
+lent! {
+    /// The nonce of a local token, drawn anew for each one.
+    PasetoNonce
+}
+lent! {
+    /// The private half of a key pair, which signs: 64 bytes in versions 2 and 4, 48 in version 3, and PKCS #8 in version 1.
+    PasetoAsymmetricPrivateKey
+}
+lent! {
+    /// The public half of a key pair, which verifies: 32 bytes in versions 2 and 4, 49 in version 3, and in version 1 a
+    /// `RSAPublicKey` of PKCS #1.
+    PasetoAsymmetricPublicKey
+}
+
+impl<Version, Purpose> Deref for PasetoNonce<'_, Version, Purpose> {
+    type Target = [u8];
+
+    fn deref(&self) -> &[u8] {
+        self.bytes
+    }
+}
+
+macro_rules! nonce {
+    ($($version:ident),*) => {$(
+        impl<'a> From<&'a Key<32>> for PasetoNonce<'a, $version, Local> {
+            fn from(key: &'a Key<32>) -> Self {
+                PasetoNonce::of(key.as_ref())
+            }
+        }
+    )*};
+}
+
+nonce!(V1, V2, V3, V4);
+
+impl<'a, Version: V2orV4> From<&'a [u8]> for PasetoAsymmetricPrivateKey<'a, Version, Public> {
+    fn from(key: &'a [u8]) -> Self {
+        PasetoAsymmetricPrivateKey::of(key)
+    }
+}
+
+impl<'a, Version: V2orV4> From<&'a Key<64>> for PasetoAsymmetricPrivateKey<'a, Version, Public> {
+    fn from(key: &'a Key<64>) -> Self {
+        PasetoAsymmetricPrivateKey::of(key.as_ref())
+    }
+}
+
+impl<'a> From<&'a Key<48>> for PasetoAsymmetricPrivateKey<'a, V3, Public> {
+    fn from(key: &'a Key<48>) -> Self {
+        PasetoAsymmetricPrivateKey::of(key.as_ref())
+    }
+}
+
+impl<'a, Version: V2orV4> From<&'a Key<32>> for PasetoAsymmetricPublicKey<'a, Version, Public> {
+    fn from(key: &'a Key<32>) -> Self {
+        PasetoAsymmetricPublicKey::of(key.as_ref())
+    }
+}
+
+impl<'a> TryFrom<&'a Key<49>> for PasetoAsymmetricPublicKey<'a, V3, Public> {
+    type Error = PasetoError;
+
+    /// The key of a compressed point. `InvalidKey` comes where the first byte is neither 2 nor 3.
+    fn try_from(key: &'a Key<49>) -> Result<Self, PasetoError> {
+        match key[0] {
+            2 | 3 => Ok(PasetoAsymmetricPublicKey::of(key.as_ref())),
+            _ => Err(PasetoError::InvalidKey),
+        }
+    }
+}

@@ -1,0 +1,69 @@
+//! A token that nobody has opened.
+
+use crate::core::base64url::decode;
+use crate::core::PasetoError;
+use std::str;
+
+/// The sections of a token that nobody has opened: trust nothing of it.
+///
+/// ```rust
+/// use paseto_proved::core::UntrustedToken;
+///
+/// # fn main() -> Result<(), Box<dyn std::error::Error>> {
+/// let token = UntrustedToken::try_parse("v4.local.payload.a2V5LTE")?;
+/// assert_eq!((token.version(), token.purpose()), ("v4", "local"));
+/// assert_eq!(token.footer_str()?.as_deref(), Some("key-1"));
+/// # Ok(())
+/// # }
+/// ```
+#[derive(Clone, Copy, Debug)]
+pub struct UntrustedToken<'a> {
+    version: &'a str,
+    purpose: &'a str,
+    footer: Option<&'a str>,
+}
+
+impl<'a> UntrustedToken<'a> {
+    /// Takes a token apart at its dots. `IncorrectSize` comes where it has not three or four sections.
+    pub fn try_parse(token: &'a str) -> Result<Self, PasetoError> {
+        let mut sections = token.split('.');
+        let mut next = || sections.next().ok_or(PasetoError::IncorrectSize);
+        let (version, purpose, _payload) = (next()?, next()?, next()?);
+        let footer = sections.next();
+        match sections.next() {
+            None => Ok(UntrustedToken { version, purpose, footer }),
+            Some(_) => Err(PasetoError::IncorrectSize),
+        }
+    }
+
+    /// The first section, as `v4`.
+    pub fn version(&self) -> &'a str {
+        self.version
+    }
+
+    /// The second section, as `local`.
+    pub fn purpose(&self) -> &'a str {
+        self.purpose
+    }
+
+    /// The fourth section as it stands, or `None` where there is none.
+    pub fn footer_base64(&self) -> Option<&'a str> {
+        self.footer
+    }
+
+    /// The bytes of the footer, or `None` where there is none. `PayloadBase64Decode` comes where the section is not valid
+    /// base64url.
+    pub fn footer_decoded(&self) -> Result<Option<Vec<u8>>, PasetoError> {
+        self.footer
+            .map(|section| decode(section).ok_or(PasetoError::PayloadBase64Decode))
+            .transpose()
+    }
+
+    /// The text of the footer, or `None` where there is none. `Utf8Error` comes where its bytes are no text.
+    pub fn footer_str(&self) -> Result<Option<String>, PasetoError> {
+        match self.footer_decoded()? {
+            Some(bytes) => Ok(Some(str::from_utf8(&bytes)?.to_owned())),
+            None => Ok(None),
+        }
+    }
+}

@@ -1,0 +1,67 @@
+//! The versions and purposes of tokens.
+
+use std::fmt::Display;
+
+/// A version of PASETO, which a type names.
+pub trait VersionTrait: Display + Default + AsRef<str> {}
+
+/// A purpose of tokens, which a type names.
+pub trait PurposeTrait: Display + Default + AsRef<str> {}
+
+/// A version whose tokens are bound to an implicit assertion: 3 and 4.
+pub trait ImplicitAssertionCapable: VersionTrait {}
+
+/// A version whose key pairs are those of Ed25519: 2 and 4.
+pub trait V2orV4: VersionTrait {}
+
+macro_rules! named {
+    ($(#[$about:meta])* $name:ident, $text:literal, $kind:ident) => {
+        $(#[$about])*
+        #[derive(Clone, Copy, Debug, Default, PartialEq, Eq)]
+        pub struct $name;
+
+        impl AsRef<str> for $name {
+            fn as_ref(&self) -> &str {
+                $text
+            }
+        }
+
+        impl Display for $name {
+            fn fmt(&self, f: &mut std::fmt::Formatter<'_>) -> std::fmt::Result {
+                f.write_str($text)
+            }
+        }
+
+        impl $kind for $name {}
+    };
+}
+
+named! {
+    /// Version 1: AES-256, HMAC-SHA384 and RSA-PSS. For tokens that exist already.
+    V1, "v1", VersionTrait
+}
+named! {
+    /// Version 2: XChaCha20-Poly1305 and Ed25519. For tokens that exist already.
+    V2, "v2", VersionTrait
+}
+named! {
+    /// Version 3: AES-256, HMAC-SHA384 and ECDSA over P-384, for those who need NIST's algorithms.
+    V3, "v3", VersionTrait
+}
+named! {
+    /// Version 4: XChaCha20, BLAKE2b and Ed25519, which new projects should use.
+    V4, "v4", VersionTrait
+}
+named! {
+    /// Tokens that are encrypted and authenticated by one secret key.
+    Local, "local", PurposeTrait
+}
+named! {
+    /// Tokens that are signed by a private key, and readable by everybody.
+    Public, "public", PurposeTrait
+}
+
+impl ImplicitAssertionCapable for V3 {}
+impl ImplicitAssertionCapable for V4 {}
+impl V2orV4 for V2 {}
+impl V2orV4 for V4 {}
