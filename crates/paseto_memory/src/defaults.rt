@@ -13,6 +13,7 @@ use paseto_toys::generators::Zeros;
 use paseto_toys::keys::Keys;
 use paseto_toys::{Lenient, PlainBox};
 use rusty_paseto::prelude::*;
+use serde_json::Value;
 use std::alloc::Global;
 
 /// A builder is known by its token.
@@ -181,7 +182,9 @@ impl Cases for Kinds {
         let token = seal_boxed(alloc, good(alloc, run.text)?.as_str(), footer())?;
         let builder = builder_of::<V2, Local>(alloc, run.text, 10)?;
         let parser = parser_of::<V2, Local>(alloc)?;
+        let undated = Value::from_str(alloc, "{\"exp\":\"x\"}")?;
         calls! { run;
+            "DefaultParser::check of no date, refused" => parser.check(&undated);
             "PasetoBuilder::build of v2.local" => builder.build(&PlainBox, &mut Zeros, &key);
             "DefaultParser::parse of v2.local" => parser.parse(&PlainBox, token.as_str(), &key);
         }

@@ -11,6 +11,7 @@ use jiff::Timestamp;
 use paseto_toys::keys::Keys;
 use paseto_toys::{Lenient, PlainBox};
 use rusty_paseto::prelude::*;
+use serde_json::Value;
 use std::alloc::Global;
 
 /// The entries that all parsers check.
@@ -121,7 +122,11 @@ fn ask_maps(run: &mut Run<'_>) -> Result<()> {
 
 fn ask_value(run: &mut Run<'_>) -> Result<()> {
     let (payload, parser) = (good(run.alloc, run.text)?, timed::<V4, Local>(run.alloc)?);
-    calls! { run; "TokenParser::value_of of a text" => parser.value_of(payload.as_str()); }
+    let undated = Value::from_str(run.alloc, "{\"exp\":\"x\"}")?;
+    calls! { run;
+        "TokenParser::value_of of a text" => parser.value_of(payload.as_str());
+        "TokenParser::check of no date, refused" => parser.check(&undated);
+    }
 }
 
 struct Kinds;

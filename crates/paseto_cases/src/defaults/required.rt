@@ -1,10 +1,11 @@
 //! Claims that a parser requires, and clocks that differ.
 
+use crate::claims::json::value_of;
 use crate::defaults::kinds::{default_parser, moment_after};
 use crate::defaults::rows::told;
 use crate::expect::{expect_refusal, expect_text};
 use crate::kinds::{Binding, Kind, SECRET, symmetric_key};
-use rusty_paseto::prelude::{AudienceClaim, CheckSetter, GenericParser, Local, V4};
+use rusty_paseto::prelude::{AudienceClaim, CheckSetter, GenericParser, Local, PasetoParser, V4};
 use std::alloc::Global;
 use std::process::Abort;
 
@@ -134,4 +135,29 @@ fn a_default_parser_requires_and_allows_the_same(rt: HostRuntime) {
     parser.set_leeway(2);
     let missing = "The expected claim 'sub' was not found in the payload";
     expect_refusal(&rt, alloc, parser.parse(token.as_str(), &key), missing);
+}
+
+// The claims, and what a check of their value answers at the first moment of 2024.
+const CHECKED: &[(&str, Option<&str>)] = &[
+    ("{\"exp\":\"2024-01-01T00:00:01Z\"}", None),
+    (EXP, Some(EXPIRED)),
+    (NBF, Some(EARLY)),
+    ("{}", None),
+    ("null", None),
+];
+
+#[test]
+fn a_value_is_checked(rt: HostRuntime) {
+    let (alloc, now) = (rt.alloc(), moment_after(&rt, 0));
+    let generic = parser_after(&rt, alloc, 0);
+    let parser = PasetoParser::<V4, Local>::default(alloc, now).expect(&rt, "a parser");
+    'rows: for &(claims, refusal) in CHECKED {
+        let value = value_of(&rt, alloc, claims);
+        'parsers: for answer in [generic.check(&value), parser.check(&value)] {
+            match refusal {
+                Some(text) => expect_refusal(&rt, alloc, answer, text),
+                None => answer.expect(&rt, claims),
+            }
+        }
+    }
 }
