@@ -26,7 +26,17 @@ import time
 
 ROOT = os.path.dirname(os.path.dirname(os.path.abspath(__file__)))
 # What one process of a check takes of memory, in bytes, as measured over the crates of this repository.
-EACH = 1_200_000_000
+EACH = 2_000_000_000
+# What one process took to prove each crate, in seconds, as measured once. It decides which crate goes first, and nothing
+# else. A crate that is not listed counts as OTHERS.
+OTHERS = 60
+SECONDS = {
+    "paseto": 190, "paseto_bench": 60, "paseto_c": 275, "paseto_commands": 300, "paseto_ed25519": 45, "paseto_edwards": 24,
+    "paseto_edwards25519": 100, "paseto_montgomery": 100, "paseto_p384": 37, "paseto_polynomials": 35, "paseto_primes": 45,
+    "paseto_tasks": 240, "paseto_tool": 150, "paseto_weierstrass": 14, "paseto_xchacha20poly1305": 25, "rusty_paseto": 200,
+    "rusty_paseto_claims": 130, "rusty_paseto_core": 246, "rusty_paseto_generic": 290, "rusty_paseto_parts": 120,
+    "rusty_paseto_paserk": 130, "rusty_paseto_primitives": 180,
+}
 # A crate leaves the processors to those at work with a longer way, by so much niceness for each, up to the most that there is.
 STEP, MOST = 6, 19
 # A crate's line comes again after so many seconds at the earliest.
@@ -54,11 +64,6 @@ def crates_of(rt, names):
         rt.read_files(crate)
         found.update((it.name, it) for it in [*crate.below(), crate])
     return found
-
-
-def lines_of(rt, crate):
-    """How many lines a check of the crate reads that are its own, which is about what it costs."""
-    return sum(rt.rtlib.text_of(it).count("\n") for it in rt.rtlib.files_of(crate.folder))
 
 
 # ---- one crate, in a process of its own
@@ -95,6 +100,9 @@ def build(rt, crate, flags, cpu):
 def work(rt, crate, jobs, cpu, is_check):
     """Proves and builds one crate over those below it, which are built."""
     rt.share_work(True)
+    # Processes that share a check keep no work, and are sooner done than batches, which do.
+    if jobs > 1 and not crate.has_kept():
+        rt.rtlib.KEPT = []
     flags = ["--jobs", str(jobs)]
     os.makedirs(f"{crate.folder}/out", exist_ok=True)
     os.chdir(crate.folder)
@@ -116,9 +124,9 @@ class Run:
 
     @functools.lru_cache(maxsize=None)
     def way(self, name):
-        """The lines of the longest way from a crate to the top, which is what is left to do once it is begun."""
+        """The seconds of the longest way from a crate to the top, which is what is left to do once it is begun."""
         above = [it.name for it in self.crates.values() if name in [dep.name for dep in it.deps]]
-        return lines_of(self.rt, self.crates[name]) + max(map(self.way, above), default=0)
+        return SECONDS.get(name, OTHERS) + max(map(self.way, above), default=0)
 
     def say(self, name, text):
         minutes, seconds = divmod(int(time.monotonic() - self.begun), 60)
@@ -139,11 +147,13 @@ class Run:
                 found.append(name)
         return found
 
-    def begin(self, name, beside):
-        """Begins a crate, beside so many that can begin too or are at work. More processes check it sooner, but each reads the
-        libraries below once more, so that it gets its share of the processors, and one more where its way is the longest."""
+    def begin(self, name, waiting):
+        """Begins the first of so many crates that wait. Each process of a check reads the libraries below once more, so that one
+        alone costs least. But all wait for the crate with the longest way, which gets all processors where there are more than
+        two; and another gets its share of those that nobody uses."""
         longer = sum(self.way(it) > self.way(name) for it in self.at_work)
-        jobs = min(max(self.processes // (beside + 1), 1) + (longer == 0), self.processes)
+        unused = self.processes - len(self.at_work)
+        jobs = self.processes if longer == 0 and self.processes > 2 else max(unused // waiting, 1)
         self.at_work[name] = time.monotonic()
         threading.Thread(target=self.one, args=(name, jobs, min(STEP * longer, MOST))).start()
 
@@ -157,7 +167,7 @@ class Run:
             while len(self.done) + len(self.lost) < len(self.crates):
                 ready = self.ready()
                 if ready and len(self.at_work) < self.processes:
-                    self.begin(ready[0], len(ready) - 1 + len(self.at_work))
+                    self.begin(ready[0], len(ready))
                 elif self.at_work:
                     self.turn.wait()
         return not self.lost
