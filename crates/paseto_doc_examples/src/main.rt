@@ -268,7 +268,7 @@ fn show_everyday(rt: &HostRuntime) -> Result<()> {
     let (alloc, mut rng) = (rt.alloc(), SysRng::new(rt));
     let now = Timestamp::now(rt)?;
     let soon = Timestamp::from_second(now.as_second().saturating_add(60))?;
-    let late = Timestamp::from_second(now.as_second().saturating_add(604_800))?;
+    let late = Timestamp::from_second(now.as_second().saturating_add(604_801))?;
     let key = everyday::new_key(&mut rng)?;
     let plain = everyday::default_token(alloc, now, &mut rng, &key)?;
     let token = everyday::token_for_a_week(alloc, now, &mut rng, &key)?;
