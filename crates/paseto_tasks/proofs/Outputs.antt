@@ -7,7 +7,7 @@ use Rattle.rusty_paseto_paserk.specs.declared.error.PaserkError.TheVariants.{NoK
 use Rattle.paseto_tasks.specs.declared.arguments.Options.{Options}
 use Rattle.paseto_tasks.specs.declared.arguments.Task.{Task}
 use Rattle.paseto_tasks.specs.declared.error.ProgramError.{ProgramError}
-use Rattle.paseto_tasks.specs.declared.error.ProgramError.TheVariants.{Usage, NoKind, NoHalf, NoKey, OneInput, Claim, TimeClaim, Time, Key, TooLong, Refused, OtherFooter, Expired, Early, Unfit, NoFile, NoAccess, FileExists, Clock, Random, InputOrOutput, Memory}
+use Rattle.paseto_tasks.specs.declared.error.ProgramError.TheVariants.{Usage, NoKind, NoHalf, NoKey, OneInput, Claim, TimeClaim, Time, Key, TooLong, Refused, OtherFooter, Unfit, NoFile, NoAccess, FileExists, Clock, Random, InputOrOutput, Memory}
 use Rattle.paseto_tasks.specs.Error.{status_of}
 use Rattle.paseto_tasks.specs.Output.{IsCutShort}
 use Rattle.paseto_tasks.specs.Run.{Prints, Writes}
@@ -46,8 +46,6 @@ status_of-some (Key (NoKeyMemory source)) = refl
 status_of-some TooLong = refl
 status_of-some (Refused error) = refl
 status_of-some OtherFooter = refl
-status_of-some Expired = refl
-status_of-some (Early text) = refl
 status_of-some (Unfit line) = refl
 status_of-some NoFile = refl
 status_of-some NoAccess = refl

@@ -10,7 +10,7 @@ use Rattle.rusty_paseto_paserk.specs.declared.error.PaserkError.{PaserkError}
 use Rattle.rusty_paseto_paserk.specs.declared.error.PaserkError.TheVariants.{Memory as NoKeyMemory}
 use Rattle.paseto_tasks.specs.declared.error.Names.{Names}
 use Rattle.paseto_tasks.specs.declared.error.ProgramError.{ProgramError}
-use Rattle.paseto_tasks.specs.declared.error.ProgramError.TheVariants.{Usage, NoKind, NoHalf, NoKey, OneInput, Claim, TimeClaim, Time, Key, TooLong, Refused, OtherFooter, Expired, Early, Unfit, NoFile, NoAccess, FileExists, Clock, Random, InputOrOutput, Memory}
+use Rattle.paseto_tasks.specs.declared.error.ProgramError.TheVariants.{Usage, NoKind, NoHalf, NoKey, OneInput, Claim, TimeClaim, Time, Key, TooLong, Refused, OtherFooter, Unfit, NoFile, NoAccess, FileExists, Clock, Random, InputOrOutput, Memory}
 
 -- 2 for words that ask for nothing, 1 for what is refused, and 3 for what fails outside
 abbrev pub status_of : ProgramError → ℕ
@@ -27,8 +27,6 @@ status_of (Key _) = 1
 status_of TooLong = 1
 status_of (Refused _) = 1
 status_of OtherFooter = 1
-status_of Expired = 1
-status_of (Early _) = 1
 status_of (Unfit _) = 1
 status_of NoFile = 3
 status_of NoAccess = 3
@@ -60,8 +58,6 @@ text_of Claim = codes "--claim: a claim is as aud=customers, or as seats:=4 with
 text_of TimeClaim = codes "--claim: exp, nbf and iat are set by --expires and --not-before"
 text_of Time = codes "--expires, --not-before, --at: a time is as 90s, 30m, 12h, 7d or 2026-11-22T10:00:00Z"
 text_of OtherFooter = codes "another footer: say it by --footer or --footer-kid; paseto inspect shows it"
-text_of Expired = codes "expired"
-text_of (Early text) = string_bytes text
 text_of (Unfit line) = string_bytes line
 text_of Clock = codes "the system's clock tells no moment of the years 0 to 9999"
 text_of NoFile = codes "no such file"
@@ -82,8 +78,6 @@ about_of names NoAccess = names.key.now
 about_of names FileExists = names.key.now
 about_of names (Refused _) = names.input.now
 about_of names OtherFooter = names.input.now
-about_of names Expired = names.input.now
-about_of names (Early _) = names.input.now
 about_of names (Unfit _) = names.input.now
 about_of names _ = []
 
@@ -148,7 +142,6 @@ IsNoUsage _ = ⊤
 -- an error that refuses a key, a text or a token and has no text of its own, or that says nothing of them: what is said of
 -- it is in this table, and holds nothing of the key or of the input
 abbrev pub IsFixed : ProgramError → Type 0
-IsFixed (Early _) = ⊥
 IsFixed (Unfit _) = ⊥
 IsFixed error = IsNoUsage error
 

@@ -43,10 +43,6 @@ pub enum ProgramError {
     Time,
     /// The footer of a token is another one than the one that is demanded.
     OtherFooter,
-    /// A token has expired.
-    Expired,
-    /// A token may not be used before the moment of this text.
-    Early(String),
     /// A token, or what is to become one, was refused, as this line says.
     Unfit(String),
     /// The system's clock tells no moment at which a token can be issued.
@@ -99,8 +95,7 @@ impl ProgramError {
                 "--expires, --not-before, --at: a time is as 90s, 30m, 12h, 7d or 2026-11-22T10:00:00Z",
             ProgramError::OtherFooter =>
                 "another footer: say it by --footer or --footer-kid; paseto inspect shows it",
-            ProgramError::Expired => "expired",
-            ProgramError::Early(text) | ProgramError::Unfit(text) => text.as_str(),
+            ProgramError::Unfit(text) => text.as_str(),
             ProgramError::Clock => "the system's clock tells no moment of the years 0 to 9999",
             ProgramError::NoFile => "no such file",
             ProgramError::NoAccess => "the file cannot be opened or made",
@@ -126,8 +121,6 @@ impl ProgramError {
             | ProgramError::FileExists => names.key,
             ProgramError::Refused(_)
             | ProgramError::OtherFooter
-            | ProgramError::Expired
-            | ProgramError::Early(_)
             | ProgramError::Unfit(_) => names.input,
             _ => "",
         }
@@ -168,8 +161,6 @@ impl ProgramError {
             | ProgramError::TooLong
             | ProgramError::Refused(_)
             | ProgramError::OtherFooter
-            | ProgramError::Expired
-            | ProgramError::Early(_)
             | ProgramError::Unfit(_) => 1,
             ProgramError::NoFile
             | ProgramError::NoAccess
