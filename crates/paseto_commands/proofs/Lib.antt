@@ -1,4 +1,3 @@
-pub mod Claimed
 pub mod Rulings
 pub mod Orders
 pub mod Issued

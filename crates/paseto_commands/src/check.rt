@@ -10,7 +10,7 @@ ghost use Rattle.rusty_paseto_paserk.specs.declared.header.PaserkType.TheVariant
 ghost use Rattle.rusty_paseto_generic.specs.Parsers.Held.{rules_of, verdicts_of};
 ghost use Rattle.rusty_paseto_generic.specs.Parsers.Rules.{no_rule};
 ghost use Rattle.rusty_paseto_generic.specs.Parsers.Times.{times_at};
-ghost use Rattle.paseto_tasks.specs.Arguments.{claim_words, words_of};
+ghost use Rattle.paseto_tasks.specs.Arguments.{texts};
 ghost use Rattle.paseto_commands.specs.Check.{AreDemands, IsCheckedAt, IsTheValue, ParsesByKey, ParsesWith, demanded, demanded_rules};
 ghost use Rattle.paseto_commands.specs.Checked.{ChecksBy, IsJsonLine, ParsesBy};
 ghost use Rattle.paseto_commands.specs.Claims.{all_demanded, all_named, are_whole};
@@ -58,14 +58,14 @@ impl Demands {
     /// What the words of a command demand.
     pub fn parse(
         alloc: Global,
-        words: &[String],
+        words: &[&str],
         options: &Options<'_>,
         now: Timestamp,
     ) -> Result<Demands, ProgramError>
         ensures found { IfOk result (λ demands. AreDemands
-            (claim_words (words_of words.now)) options.now now (demanded demands)) }
+            (texts words.now) options.now now (demanded demands)) }
         ensures none { IfErr result (Lacks (λ demands. AreDemands
-            (claim_words (words_of words.now)) options.now now demands)) }
+            (texts words.now) options.now now demands)) }
         ensures no_refusal { IfErr result IsNoRefusal }
     {
         Ok(Demands {

@@ -5,11 +5,11 @@ ghost use Rattle.std.specs.Option.{option_map_or};
 ghost use Rattle.serde_json.specs.View.{view};
 ghost use Rattle.serde_json.specs.Read.{read};
 ghost use Rattle.rusty_paseto_claims.specs.Claim.{gives, one_member};
-ghost use Rattle.paseto_tasks.specs.Arguments.{claim_words, is_flag, is_name, words_of};
+ghost use Rattle.paseto_tasks.specs.Arguments.{texts};
 ghost use Rattle.paseto_commands.specs.Claims.{AreClaims, IsClaimOf, IsFirstOf, all_named, is_time, named};
 ghost use Rattle.paseto_tasks.specs.Error.{IsNoRefusal, IsOutside, Lacks};
 
-use paseto_tasks::{ProgramError, is_flag, is_name};
+use paseto_tasks::ProgramError;
 use rusty_paseto::prelude::{PasetoClaim, PasetoClaimError};
 use serde_json::{Map, Value};
 use std::alloc::{AllocError, Global};
@@ -101,53 +101,19 @@ fn is_time(name: &str) -> bool
     matches!(name, "exp" | "nbf" | "iat")
 }
 
-/// The claims that words say by `--claim`, in their order. The words are those of a command.
-pub fn claims_of(alloc: Global, words: &[String]) -> Result<Vec<NamedClaim>, ProgramError>
-    ensures found { IfOk result (λ claims. AreClaims (claim_words (words_of words.now))
-        (all_named claims.items)) }
-    ensures none { IfErr result
-        (Lacks (λ claims. AreClaims (claim_words (words_of words.now)) claims)) }
+/// The claims that words say, in their order.
+pub fn claims_of(alloc: Global, words: &[&str]) -> Result<Vec<NamedClaim>, ProgramError>
+    ensures found { IfOk result (λ claims. AreClaims (texts words.now) (all_named claims.items)) }
+    ensures none { IfErr result (Lacks (λ claims. AreClaims (texts words.now) claims)) }
     ensures no_refusal { IfErr result IsNoRefusal }
 {
-    let Some((word, rest)) = next_claim(words) else {
+    let [word, rest @ ..] = words else {
         return Ok(Vec::new(alloc));
     };
     match claims_of(alloc, rest) {
         Ok(claims) => with_claim(alloc, word, claims),
         Err(error) => Err(error),
     }
-}
-
-/// The value of the first `--claim` among words, and the words behind it.
-#[tactic(auto, using(crate::proofs::Claimed::claims_cons))]
-fn next_claim(words: &[String]) -> Option<(&str, &[String])>
-    ensures claims { claim_words (words_of words.now) ≡ option_map_or
-        (λ found. found.0.now ∷ claim_words (words_of found.1.now)) result [] }
-    ensures fewer { IfSome result (λ found. length found.1.now < length words.now) }
-{
-    let [word, rest @ ..] = words else {
-        return None;
-    };
-    if word.as_str() == "--" {
-        return None;
-    }
-    if stands_alone(word) {
-        return next_claim(rest);
-    }
-    let [value, rest @ ..] = rest else {
-        return None;
-    };
-    if word.as_str() != "--claim" {
-        return next_claim(rest);
-    }
-    Some((value.as_str(), rest))
-}
-
-/// Whether a word has no value behind it: it is no option, or one without a value.
-fn stands_alone(word: &str) -> bool
-    ensures { result ≡ (not (is_name word.now) || is_flag word.now) }
-{
-    !is_name(word) || is_flag(word)
 }
 
 /// The claim of a word, and others behind it.

@@ -7,7 +7,7 @@ ghost use Rattle.rusty_paseto_core.specs.Public.{HasPrivateLength};
 ghost use Rattle.rusty_paseto_core.specs.declared.PasetoError.{PasetoError as TokenError};
 ghost use Rattle.rusty_paseto.specs.Held.{counting};
 ghost use Rattle.rusty_paseto.specs.PasetoBuilder.{IsSame};
-ghost use Rattle.paseto_tasks.specs.Arguments.{claim_words, words_of};
+ghost use Rattle.paseto_tasks.specs.Arguments.{texts};
 ghost use Rattle.paseto_commands.specs.Claims.{AreNeverSet, AreSet, all_counted, all_named};
 ghost use Rattle.paseto_tasks.specs.Error.{IsNoRefusal, IsNoUsage, IsOutside, Lacks};
 ghost use Rattle.paseto_tasks.specs.Public.{DeclinesKey};
@@ -48,14 +48,14 @@ impl Order {
     /// What the words of a command say.
     pub fn parse(
         alloc: Global,
-        words: &[String],
+        words: &[&str],
         options: &Options<'_>,
         now: Timestamp,
     ) -> Result<Order, ProgramError>
         ensures found { IfOk result (λ order. IsOrder
-            (claim_words (words_of words.now)) options.now now (ordered order)) }
+            (texts words.now) options.now now (ordered order)) }
         ensures none { IfErr result (Lacks (λ order. IsOrder
-            (claim_words (words_of words.now)) options.now now order)) }
+            (texts words.now) options.now now order)) }
         ensures no_refusal { IfErr result IsNoRefusal }
     {
         Ok(Order {

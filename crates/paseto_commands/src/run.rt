@@ -3,7 +3,7 @@
 ghost use Rattle.std.specs.Prelude.{◌≡◌, ◌≢◌, ◌≤◌, ◌⊎◌, ℕ, List, IfOk, IfErr, IfSome, string_bytes};
 ghost use Rattle.std.specs.Io.{StartsWith};
 ghost use Rattle.std.specs.Io.KnownBytes.{Appends};
-ghost use Rattle.paseto_tasks.specs.Arguments.{claim_words, words_of};
+ghost use Rattle.paseto_tasks.specs.Arguments.{texts};
 ghost use Rattle.paseto_commands.specs.Check.{AreDemands, Demanded, DemandsNothing};
 ghost use Rattle.paseto_commands.specs.Checked.{ChecksFor, ChecksNothing};
 ghost use Rattle.paseto_commands.specs.Issue.{IsOrder, IssuesFor, IssuesNothing, Ordered, OrdersNothing};
@@ -15,15 +15,16 @@ use crate::check::{Demands, Keys, check};
 use crate::issue::{Order, issue};
 use jiff::Timestamp;
 use paseto_tasks::run::finish;
-use paseto_tasks::{Options, ProgramError, read_line};
+use paseto_tasks::{Names, Options, ProgramError, read_line};
 use rand_core::TryRng;
 use std::alloc::Global;
 use std::io::{Read, Write};
 
-/// Prints the token of claims that the words ask for, and returns the status, as `run` does.
+/// Prints the token of claims that is ordered, and returns the status, as `run` does.
 pub fn run_issue<G: TryRng, W: Write, E: Write>(
     alloc: Global,
-    words: &[String],
+    names: &Names<'_>,
+    claims: &[&str],
     options: &Options<'_>,
     key: &str,
     now: Timestamp,
@@ -34,50 +35,51 @@ pub fn run_issue<G: TryRng, W: Write, E: Write>(
     ensures status { result ≤ 3 }
     ensures written { result ≡ 0 → (written : List ℕ)
         × Appends (W.contents output.old) (W.contents output.new) written
-        × IssuesFor (claim_words (words_of words.now)) options.now now key.now
+        × IssuesFor (texts claims.now) options.now now key.now
         (λ nonce. G.may_fill generator.old nonce generator.new) written }
     ensures refused { (result ≡ 1) ⊎ (result ≡ 2) → (output.new ≡ output.old)
-        × IssuesNothing (claim_words (words_of words.now)) options.now now key.now }
+        × IssuesNothing (texts claims.now) options.now now key.now }
     ensures usage { result ≡ 2 → OrdersNothing
-        (claim_words (words_of words.now)) options.now now }
+        (texts claims.now) options.now now }
     ensures ordered { result ≡ 1 → (order : Ordered)
-        × IsOrder (claim_words (words_of words.now)) options.now now order }
+        × IsOrder (texts claims.now) options.now now order }
     ensures quiet { result ≡ 0 → errors.new ≡ errors.old }
     ensures said { result ≢ 0 → (error : ProgramError) × (status_of error ≡ result)
-        × ((said : List ℕ) × StartsWith (line_of error) said × Appends (E.contents errors.old)
+        × ((said : List ℕ) × StartsWith (line_of names.now error) said × Appends (E.contents errors.old)
         (E.contents errors.new) said) }
 {
-    let made = token_of(alloc, words, options, key, now, generator);
-    finish(made, output, errors)
+    let made = token_of(alloc, claims, options, key, now, generator);
+    finish(made, names, output, errors)
 }
 
-/// The line of the token of claims that the words ask for.
+/// The line of the token of claims that is ordered.
 fn token_of<G: TryRng>(
     alloc: Global,
-    words: &[String],
+    claims: &[&str],
     options: &Options<'_>,
     key: &str,
     now: Timestamp,
     generator: &mut G,
 ) -> Result<String, ProgramError>
     ensures found { IfOk result (λ line. IssuesFor
-        (claim_words (words_of words.now)) options.now now key.now
+        (texts claims.now) options.now now key.now
         (λ nonce. G.may_fill generator.old nonce generator.new) (string_bytes line)) }
     ensures none { IfErr result (λ error. IsOutside error
-        ⊎ IssuesNothing (claim_words (words_of words.now)) options.now now key.now) }
+        ⊎ IssuesNothing (texts claims.now) options.now now key.now) }
     ensures usage { IfErr result (λ error. IsNoUsage error
-        ⊎ OrdersNothing (claim_words (words_of words.now)) options.now now) }
+        ⊎ OrdersNothing (texts claims.now) options.now now) }
     ensures ordered { IfErr result (λ error. IsNoRefusal error ⊎ ((order : Ordered)
-        × IsOrder (claim_words (words_of words.now)) options.now now order)) }
+        × IsOrder (texts claims.now) options.now now order)) }
 {
-    let order = Order::parse(alloc, words, options, now)?;
+    let order = Order::parse(alloc, claims, options, now)?;
     issue(alloc, key, &order, generator)
 }
 
 /// Prints the claims of a token, and returns the status, as `run` does.
 pub fn run_check<R: Read, W: Write, E: Write>(
     alloc: Global,
-    words: &[String],
+    names: &Names<'_>,
+    claims: &[&str],
     options: &Options<'_>,
     keys: &Keys<'_>,
     now: Timestamp,
@@ -89,46 +91,46 @@ pub fn run_check<R: Read, W: Write, E: Write>(
     ensures written { result ≡ 0 → (written : List ℕ)
         × Appends (W.contents output.old) (W.contents output.new) written
         × IfSome (R.remaining input.old)
-        (λ bytes. ChecksFor (claim_words (words_of words.now)) options.now now keys.now
+        (λ bytes. ChecksFor (texts claims.now) options.now now keys.now
         (line_of_input bytes) written) }
     ensures refused { (result ≡ 1) ⊎ (result ≡ 2) → (output.new ≡ output.old)
         × IfSome (R.remaining input.old)
-        (λ bytes. ChecksNothing (claim_words (words_of words.now)) options.now now keys.now
+        (λ bytes. ChecksNothing (texts claims.now) options.now now keys.now
         (line_of_input bytes)) }
     ensures usage { result ≡ 2 → DemandsNothing
-        (claim_words (words_of words.now)) options.now now }
+        (texts claims.now) options.now now }
     ensures demanded { result ≡ 1 → (demands : Demanded)
-        × AreDemands (claim_words (words_of words.now)) options.now now demands }
+        × AreDemands (texts claims.now) options.now now demands }
     ensures quiet { result ≡ 0 → errors.new ≡ errors.old }
     ensures said { result ≢ 0 → (error : ProgramError) × (status_of error ≡ result)
-        × ((said : List ℕ) × StartsWith (line_of error) said × Appends (E.contents errors.old)
+        × ((said : List ℕ) × StartsWith (line_of names.now error) said × Appends (E.contents errors.old)
         (E.contents errors.new) said) }
 {
-    let made = claims_line(alloc, words, options, keys, now, input);
-    finish(made, output, errors)
+    let made = claims_line(alloc, claims, options, keys, now, input);
+    finish(made, names, output, errors)
 }
 
 /// The line of the claims of a token.
 fn claims_line<R: Read>(
     alloc: Global,
-    words: &[String],
+    claims: &[&str],
     options: &Options<'_>,
     keys: &Keys<'_>,
     now: Timestamp,
     input: &mut R,
 ) -> Result<String, ProgramError>
     ensures found { IfOk result (λ line. IfSome (R.remaining input.old) (λ bytes.
-        ChecksFor (claim_words (words_of words.now)) options.now now keys.now
+        ChecksFor (texts claims.now) options.now now keys.now
         (line_of_input bytes) (string_bytes line))) }
     ensures none { IfErr result (λ error. IfSome (R.remaining input.old) (λ bytes.
-        IsOutside error ⊎ ChecksNothing (claim_words (words_of words.now)) options.now now keys.now
+        IsOutside error ⊎ ChecksNothing (texts claims.now) options.now now keys.now
         (line_of_input bytes))) }
     ensures usage { IfErr result (λ error. IsNoUsage error
-        ⊎ DemandsNothing (claim_words (words_of words.now)) options.now now) }
+        ⊎ DemandsNothing (texts claims.now) options.now now) }
     ensures demanded { IfErr result (λ error. IsNoRefusal error ⊎ ((demands : Demanded)
-        × AreDemands (claim_words (words_of words.now)) options.now now demands)) }
+        × AreDemands (texts claims.now) options.now now demands)) }
 {
-    let demands = Demands::parse(alloc, words, options, now)?;
+    let demands = Demands::parse(alloc, claims, options, now)?;
     let token = read_line(alloc, input)?;
     check(alloc, keys, &demands, token.as_str())
 }

@@ -1,9 +1,8 @@
--- A word in front of others.
-use Rattle.std.proofs.Common.{◌≡◌, ◌<◌, ◌≤◌, ◌-◌, List, ℕ, [], ◌∷◌, length, take, drop, get_or, true, false, Option, Some, option_map, option_and_then, codes, nat_eq, String, Global, string_bytes, refl, ap, sym, ◌∙◌, arith}
+-- A text in front of others.
+use Rattle.std.proofs.Common.{◌≡◌, ◌<◌, ◌≤◌, ◌-◌, List, ℕ, [], ◌∷◌, length, take, drop, get_or, String, Global, string_bytes, refl, ap, sym, ◌∙◌, arith}
 use Rattle.std.proofs.lemmas.List.{take_rest}
-use Rattle.std.specs.Cmp.Lexicographic.{pointwise}
-use Rattle.paseto_tasks.specs.Arguments.{Settings, is_flag, is_name, settings_of, with_flag, with_word, words_of}
-use Rattle.paseto_tasks.proofs.Readings.{settings_cons}
+use Rattle.std.specs.Borrow.{Bor}
+use Rattle.paseto_tasks.specs.Arguments.{texts, words_of}
 
 -- words are the first of them and the rest
 first_of : (words : List (String Global)) (word : String Global) → 1 ≤ length words → word ≡ get_or words 0 word
@@ -21,17 +20,24 @@ pub word_and_rest : (words : List (String Global)) (word : String Global) → 1 
 word_and_rest words word some is =
     first_of words word some is ∙ ap (λ (rest : List (String Global)). string_bytes word ∷ words_of rest) (sym (take_rest words 1))
 
-module _ (all : List (List ℕ)) (word : List ℕ) (rest : List (List ℕ)) (s : Settings) (cons : all ≡ word ∷ rest) (said : Some s ≡ settings_of rest) where
-  -- a flag in front of others
-  pub flag_more : (found : Settings) → pointwise nat_eq word (codes "--") ≡ false → is_flag word ≡ true → found ≡ with_flag word s
-      → Some found ≡ settings_of all
-  flag_more found other flag is =
-      let step : settings_of (word ∷ rest) ≡ option_map (λ (o : Settings). with_flag word o) (settings_of rest) = settings_cons word rest ∙ rw (other, flag) refl in
-      rw (cons, step, sym said, is) refl
+-- the same of texts that are borrowed
+first_text : (words : List (Bor (List ℕ))) (word : Bor (List ℕ)) → 1 ≤ length words → word ≡ get_or words 0 word
+    → texts words ≡ word.now ∷ texts (drop 1 words)
+first_text [] word some is = absurd (omega (arith, some))
+first_text (other ∷ words) word some is = ap (λ (w : Bor (List ℕ)). w.now ∷ texts words) (sym is)
 
-  -- a word that is no option in front of others
-  pub word_more : (found : Option Settings) → pointwise nat_eq word (codes "--") ≡ false → is_flag word ≡ false → is_name word ≡ false
-      → found ≡ with_word word s → found ≡ settings_of all
-  word_more found other flag name is =
-      let step : settings_of (word ∷ rest) ≡ option_and_then (λ (o : Settings). with_word word o) (settings_of rest) = settings_cons word rest ∙ rw (other, flag, name) refl in
-      rw (cons, step, sym said, is) refl
+pub no_texts : (words : List (Bor (List ℕ))) → length words < 1 → texts words ≡ []
+no_texts [] none = refl
+no_texts (word ∷ words) none = absurd (omega (arith, none))
+
+pub text_and_rest : (words : List (Bor (List ℕ))) (word : Bor (List ℕ)) → 1 ≤ length words → word ≡ get_or words 0 word
+    → texts words ≡ word.now ∷ texts (take (length words - 1) (drop 1 words))
+text_and_rest words word some is =
+    first_text words word some is ∙ ap (λ (rest : List (Bor (List ℕ))). word.now ∷ texts rest) (sym (take_rest words 1))
+
+-- the same by the text in front
+pub front_and_rest : (words : List (Bor (List ℕ))) (other : Bor (List ℕ)) (front : List ℕ) → 1 ≤ length words → front ≡ (get_or words 0 other).now
+    → texts words ≡ front ∷ texts (take (length words - 1) (drop 1 words))
+front_and_rest [] other front some is = absurd (omega (arith, some))
+front_and_rest (word ∷ words) other front some is =
+    ap (λ (f : List ℕ). f ∷ texts words) (sym is) ∙ ap (λ (rest : List (Bor (List ℕ))). front ∷ texts rest) (sym (take_rest (word ∷ words) 1))

@@ -4,6 +4,6 @@ pub mod Outputs
 pub mod Inspections
 pub mod Refusals
 pub mod Statuses
-pub mod Readings
 pub mod Fronts
 pub mod Ids
+pub mod Halves

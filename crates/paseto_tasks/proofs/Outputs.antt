@@ -7,7 +7,7 @@ use Rattle.rusty_paseto_paserk.specs.declared.error.PaserkError.TheVariants.{NoK
 use Rattle.paseto_tasks.specs.declared.arguments.Options.{Options}
 use Rattle.paseto_tasks.specs.declared.arguments.Task.{Task}
 use Rattle.paseto_tasks.specs.declared.error.ProgramError.{ProgramError}
-use Rattle.paseto_tasks.specs.declared.error.ProgramError.TheVariants.{Usage, Claim, TimeClaim, Time, Key, TooLong, Refused, OtherFooter, Expired, Early, Unfit, NoFile, FileExists, Clock, Random, InputOrOutput, Memory}
+use Rattle.paseto_tasks.specs.declared.error.ProgramError.TheVariants.{Usage, NoKind, NoHalf, NoKey, OneInput, Claim, TimeClaim, Time, Key, TooLong, Refused, OtherFooter, Unfit, NoFile, NoAccess, FileExists, Clock, Random, InputOrOutput, Memory}
 use Rattle.paseto_tasks.specs.Error.{status_of}
 use Rattle.paseto_tasks.specs.Output.{IsCutShort}
 use Rattle.paseto_tasks.specs.Run.{Prints, Writes}
@@ -31,6 +31,10 @@ IfSome-all (Some x) P h = h x
 -- no error ends the program with the status of success
 pub status_of-some : (error : ProgramError) → (status_of error == 0) ≡ false
 status_of-some Usage = refl
+status_of-some NoKind = refl
+status_of-some NoHalf = refl
+status_of-some NoKey = refl
+status_of-some OneInput = refl
 status_of-some Claim = refl
 status_of-some TimeClaim = refl
 status_of-some Time = refl
@@ -42,10 +46,9 @@ status_of-some (Key (NoKeyMemory source)) = refl
 status_of-some TooLong = refl
 status_of-some (Refused error) = refl
 status_of-some OtherFooter = refl
-status_of-some Expired = refl
-status_of-some (Early text) = refl
 status_of-some (Unfit line) = refl
 status_of-some NoFile = refl
+status_of-some NoAccess = refl
 status_of-some FileExists = refl
 status_of-some Clock = refl
 status_of-some Random = refl

@@ -3,13 +3,17 @@ use Rattle.std.proofs.Common.{◌≡◌, ◌≢◌, ◌⊎◌, ℕ, ◌==◌, fa
 use Rattle.std.proofs.lemmas.Bool.{false≢true}
 use Rattle.rusty_paseto_paserk.specs.declared.error.PaserkError.TheVariants.{Memory as NoKeyMemory}
 use Rattle.paseto_tasks.specs.declared.error.ProgramError.{ProgramError}
-use Rattle.paseto_tasks.specs.declared.error.ProgramError.TheVariants.{Usage, Claim, TimeClaim, Time, Key, Clock, Random, InputOrOutput, Memory}
+use Rattle.paseto_tasks.specs.declared.error.ProgramError.TheVariants.{Usage, NoKind, NoHalf, NoKey, OneInput, Claim, TimeClaim, Time, Key, Clock, Random, InputOrOutput, Memory}
 use Rattle.paseto_tasks.specs.Error.{IsNoRefusal, IsNoUsage, IsOutside, status_of}
 
 -- ---- 2
 
 no_2 : (error : ProgramError) → IsNoUsage error → (status_of error == 2) ≡ false
 no_2 Usage none = absurd none
+no_2 NoKind none = absurd none
+no_2 NoHalf none = absurd none
+no_2 NoKey none = absurd none
+no_2 OneInput none = absurd none
 no_2 Claim none = absurd none
 no_2 TimeClaim none = absurd none
 no_2 Time none = absurd none
@@ -49,6 +53,10 @@ no_usage_or error (inr x) = inr x
 
 no_1 : (error : ProgramError) → IsNoRefusal error → (status_of error == 1) ≡ false
 no_1 Usage none = refl
+no_1 NoKind none = refl
+no_1 NoHalf none = refl
+no_1 NoKey none = refl
+no_1 OneInput none = refl
 no_1 Claim none = refl
 no_1 TimeClaim none = refl
 no_1 Time none = refl

@@ -4,16 +4,21 @@ use Rattle.std.specs.declared.io.ErrorKind.{ErrorKind}
 use Rattle.std.specs.declared.io.ErrorKind.TheVariants.{AlreadyExists, InvalidData, NotFound, OutOfMemory}
 use Rattle.rusty_paseto_parts.specs.Error.{error_text}
 use Rattle.rusty_paseto_parts.specs.declared.error.PasetoError.{PasetoError}
-use Rattle.rusty_paseto_parts.specs.declared.error.PasetoError.TheVariants.{Cipher, Memory as NoMemory}
+use Rattle.rusty_paseto_parts.specs.declared.error.PasetoError.TheVariants.{ChaChaCipherError, Cipher, Cryption, InvalidSignature, Memory as NoMemory, WrongHeader}
 use Rattle.rusty_paseto_paserk.specs.Error.{error_text as key_error_text}
 use Rattle.rusty_paseto_paserk.specs.declared.error.PaserkError.{PaserkError}
 use Rattle.rusty_paseto_paserk.specs.declared.error.PaserkError.TheVariants.{Memory as NoKeyMemory}
+use Rattle.paseto_tasks.specs.declared.error.Names.{Names}
 use Rattle.paseto_tasks.specs.declared.error.ProgramError.{ProgramError}
-use Rattle.paseto_tasks.specs.declared.error.ProgramError.TheVariants.{Usage, Claim, TimeClaim, Time, Key, TooLong, Refused, OtherFooter, Expired, Early, Unfit, NoFile, FileExists, Clock, Random, InputOrOutput, Memory}
+use Rattle.paseto_tasks.specs.declared.error.ProgramError.TheVariants.{Usage, NoKind, NoHalf, NoKey, OneInput, Claim, TimeClaim, Time, Key, TooLong, Refused, OtherFooter, Unfit, NoFile, NoAccess, FileExists, Clock, Random, InputOrOutput, Memory}
 
 -- 2 for words that ask for nothing, 1 for what is refused, and 3 for what fails outside
 abbrev pub status_of : ProgramError → ℕ
 status_of Usage = 2
+status_of NoKind = 2
+status_of NoHalf = 2
+status_of NoKey = 2
+status_of OneInput = 2
 status_of Claim = 2
 status_of TimeClaim = 2
 status_of Time = 2
@@ -22,39 +27,73 @@ status_of (Key _) = 1
 status_of TooLong = 1
 status_of (Refused _) = 1
 status_of OtherFooter = 1
-status_of Expired = 1
-status_of (Early _) = 1
 status_of (Unfit _) = 1
 status_of NoFile = 3
+status_of NoAccess = 3
 status_of FileExists = 3
 status_of Clock = 3
 status_of Random = 3
 status_of InputOrOutput = 3
 status_of (Memory _) = 3
 
+-- what is said of a text or a token that was refused: the text of the error, but where that leaves open what to do
+abbrev pub refusal_text : PasetoError → List ℕ
+refusal_text Cryption = codes "wrong key, wrong footer or assertion, or the token was changed"
+refusal_text ChaChaCipherError = codes "wrong key, wrong footer or assertion, or the token was changed"
+refusal_text InvalidSignature = codes "wrong key, wrong footer or assertion, or the token was changed"
+refusal_text WrongHeader = codes "the token is of another kind than the key"
+refusal_text error = error_text error
+
 -- what each error says, which is the same whatever the words and the input are, but for what tells of a token
 abbrev pub text_of : ProgramError → List ℕ
-text_of Usage = codes "These words ask for nothing that paseto does: paseto --help tells what it does"
+text_of Usage = codes "a word is no text: paseto --help tells what paseto does"
+text_of NoKind = codes "no kind of key: v1.local, v2.local, v2.public, v3.local, v3.public, v4.local and v4.public are kinds"
+text_of NoHalf = codes "keys of this kind have no public half: leave --public out"
+text_of NoKey = codes "no key is named: give --key FILE, or the text of the key in PASETO_KEY"
+text_of OneInput = codes "standard input cannot be the key and the input: name a file for one of them"
 text_of (Key error) = key_error_text error
-text_of TooLong = codes "The file is longer than any key: it is no key file"
-text_of (Refused error) = error_text error
-text_of Claim = codes "A claim is as aud=customers, or as seats:=4 with a value of JSON"
-text_of TimeClaim = codes "exp, nbf and iat are set by --expires and --not-before"
-text_of Time = codes "A time is as 90s, 30m, 12h, 7d or 2026-11-22T10:00:00Z"
-text_of OtherFooter = codes "The token has another footer: say it by --footer or --footer-kid; paseto inspect shows it"
-text_of Expired = codes "expired"
-text_of (Early text) = string_bytes text
+text_of TooLong = codes "longer than any key: it is no key file"
+text_of (Refused error) = refusal_text error
+text_of Claim = codes "--claim: a claim is as aud=customers, or as seats:=4 with a value of JSON"
+text_of TimeClaim = codes "--claim: exp, nbf and iat are set by --expires and --not-before"
+text_of Time = codes "--expires, --not-before, --at: a time is as 90s, 30m, 12h, 7d or 2026-11-22T10:00:00Z"
+text_of OtherFooter = codes "another footer: say it by --footer or --footer-kid; paseto inspect shows it"
 text_of (Unfit line) = string_bytes line
-text_of Clock = codes "The system's clock tells no moment of the years 0 to 9999"
-text_of NoFile = codes "There is no such file: paseto keygen makes a key file"
-text_of FileExists = codes "The file is there already, and is not written over"
-text_of Random = codes "The system gave no random bytes"
-text_of InputOrOutput = codes "A file, the input or the output failed"
-text_of (Memory _) = codes "No memory was found"
+text_of Clock = codes "the system's clock tells no moment of the years 0 to 9999"
+text_of NoFile = codes "no such file"
+text_of NoAccess = codes "the file cannot be opened or made"
+text_of FileExists = codes "the file is there already, and is not written over"
+text_of Random = codes "the system gave no random bytes"
+text_of InputOrOutput = codes "a read or a write failed"
+text_of (Memory _) = codes "no memory was found"
+
+-- the name of what each error is about, which is empty where it is about no file and no word
+abbrev pub about_of : Names → ProgramError → List ℕ
+about_of names (Key _) = names.key.now
+about_of names TooLong = names.key.now
+about_of names NoKind = names.key.now
+about_of names NoHalf = names.key.now
+about_of names NoFile = names.key.now
+about_of names NoAccess = names.key.now
+about_of names FileExists = names.key.now
+about_of names (Refused _) = names.input.now
+about_of names OtherFooter = names.input.now
+about_of names (Unfit _) = names.input.now
+about_of names _ = []
+
+-- what stands between a name and what is said of it
+abbrev pub colon_behind : List ℕ → List ℕ
+colon_behind [] = []
+colon_behind name = codes ": "
+
+-- texts, one behind the other
+abbrev pub joined : List (List ℕ) → List ℕ
+joined [] = []
+joined (text ∷ texts) = text ++ joined texts
 
 -- the line on standard error, which ends in a line feed
-abbrev pub line_of : ProgramError → List ℕ
-line_of error = text_of error ++ 10 ∷ []
+abbrev pub line_of : Names → ProgramError → List ℕ
+line_of names error = joined (codes "paseto: " ∷ about_of names error ∷ colon_behind (about_of names error) ∷ text_of error ∷ (10 ∷ []) ∷ [])
 
 -- a failed allocation and a want of random bytes are errors of the program, wherever they came
 abbrev pub program_error_of : PasetoError → ProgramError
@@ -78,7 +117,7 @@ abbrev pub file_error : ErrorKind → ProgramError
 file_error OutOfMemory = Memory alloc_error
 file_error NotFound = NoFile
 file_error AlreadyExists = FileExists
-file_error _ = InputOrOutput
+file_error _ = NoAccess
 
 -- an error that says nothing of the words, of the key or of the input
 abbrev pub IsOutside : ProgramError → Type 0
@@ -91,14 +130,28 @@ IsOutside _ = ⊥
 -- an error that says nothing of the words, so that the program does not end with status 2
 abbrev pub IsNoUsage : ProgramError → Type 0
 IsNoUsage Usage = ⊥
+IsNoUsage NoKind = ⊥
+IsNoUsage NoHalf = ⊥
+IsNoUsage NoKey = ⊥
+IsNoUsage OneInput = ⊥
 IsNoUsage Claim = ⊥
 IsNoUsage TimeClaim = ⊥
 IsNoUsage Time = ⊥
 IsNoUsage _ = ⊤
 
+-- an error that refuses a key, a text or a token and has no text of its own, or that says nothing of them: what is said of
+-- it is in this table, and holds nothing of the key or of the input
+abbrev pub IsFixed : ProgramError → Type 0
+IsFixed (Unfit _) = ⊥
+IsFixed error = IsNoUsage error
+
 -- an error of the words or from outside, which refuses no key, text or token, so that the program does not end with status 1
 abbrev pub IsNoRefusal : ProgramError → Type 0
 IsNoRefusal Usage = ⊤
+IsNoRefusal NoKind = ⊤
+IsNoRefusal NoHalf = ⊤
+IsNoRefusal NoKey = ⊤
+IsNoRefusal OneInput = ⊤
 IsNoRefusal Claim = ⊤
 IsNoRefusal TimeClaim = ⊤
 IsNoRefusal Time = ⊤

@@ -6,5 +6,6 @@ pub mod Local
 pub mod Public
 pub mod Keygen
 pub mod Inspect
+pub mod Half
 pub mod Id
 pub mod Run

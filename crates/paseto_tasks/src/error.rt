@@ -1,12 +1,13 @@
 //! Why the program does not do what it was asked.
 
-ghost use Rattle.std.specs.Prelude.{◌≡◌, ℕ, List, alloc_error};
+ghost use Rattle.std.specs.Prelude.{◌≡◌, ◌∷◌, [], ℕ, List, alloc_error};
+ghost use Rattle.paseto_tasks.specs.Arguments.{texts};
 ghost use Rattle.std.specs.Io.{StartsWith};
 ghost use Rattle.std.specs.Io.KnownBytes.{Appends};
 ghost use Rattle.std.specs.IoError.{error_kind};
 ghost use Rattle.rusty_paseto_parts.specs.declared.error.PasetoError.TheVariants.{Utf8Error as NotUtf8};
 ghost use Rattle.paseto_tasks.specs.declared.error.ProgramError.TheVariants.{InputOrOutput, Memory, Refused};
-ghost use Rattle.paseto_tasks.specs.Error.{file_error, key_error_of, line_of, program_error_of, status_of, text_of, words_error};
+ghost use Rattle.paseto_tasks.specs.Error.{about_of, colon_behind, file_error, joined, key_error_of, line_of, program_error_of, refusal_text, status_of, text_of, words_error};
 
 use crate::output::write_whole;
 use rusty_paseto_core::PasetoError;
@@ -18,8 +19,16 @@ use std::str::Utf8Error;
 /// Why the program ends with another status than 0.
 #[derive(Debug, Drop)]
 pub enum ProgramError {
-    /// The words ask for nothing that the program does.
+    /// A word is no text.
     Usage,
+    /// A word names no kind of key.
+    NoKind,
+    /// Keys of the kind that is named have no public half.
+    NoHalf,
+    /// No key is named.
+    NoKey,
+    /// Standard input is to be the key and the input.
+    OneInput,
     /// The text of the key file was refused.
     Key(PaserkError),
     /// The key file or the input is longer than the program reads.
@@ -34,16 +43,14 @@ pub enum ProgramError {
     Time,
     /// The footer of a token is another one than the one that is demanded.
     OtherFooter,
-    /// A token has expired.
-    Expired,
-    /// A token may not be used before the moment of this text.
-    Early(String),
     /// A token, or what is to become one, was refused, as this line says.
     Unfit(String),
     /// The system's clock tells no moment at which a token can be issued.
     Clock,
     /// A file that was named is not there.
     NoFile,
+    /// A file that was named cannot be opened or made.
+    NoAccess,
     /// A file that is to be made is there already.
     FileExists,
     /// The system gave no random bytes.
@@ -54,43 +61,86 @@ pub enum ProgramError {
     Memory(AllocError),
 }
 
+/// What the files are called by which a command goes, in its lines on standard error.
+#[derive(Clone, Copy)]
+pub struct Names<'a> {
+    /// The key file, or another file or word that is refused before a key is read.
+    pub key: &'a str,
+    /// The input.
+    pub input: &'a str,
+}
+
 impl ProgramError {
-    /// What the program says of it on standard error: one line, without its end.
+    /// What the program says of it on standard error, behind the name of what it is about.
     fn text(&self) -> &str
         ensures { result.now ≡ text_of self.now }
     {
         match self {
-            ProgramError::Usage =>
-                "These words ask for nothing that paseto does: paseto --help tells what it does",
+            ProgramError::Usage => "a word is no text: paseto --help tells what paseto does",
+            ProgramError::NoKind =>
+                "no kind of key: v1.local, v2.local, v2.public, v3.local, v3.public, v4.local and v4.public are kinds",
+            ProgramError::NoHalf => "keys of this kind have no public half: leave --public out",
+            ProgramError::NoKey =>
+                "no key is named: give --key FILE, or the text of the key in PASETO_KEY",
+            ProgramError::OneInput =>
+                "standard input cannot be the key and the input: name a file for one of them",
             ProgramError::Key(source) => source.text(),
-            ProgramError::TooLong => "The file is longer than any key: it is no key file",
-            ProgramError::Refused(source) => source.text(),
+            ProgramError::TooLong => "longer than any key: it is no key file",
+            ProgramError::Refused(source) => refusal_text(source),
             ProgramError::Claim =>
-                "A claim is as aud=customers, or as seats:=4 with a value of JSON",
-            ProgramError::TimeClaim => "exp, nbf and iat are set by --expires and --not-before",
-            ProgramError::Time => "A time is as 90s, 30m, 12h, 7d or 2026-11-22T10:00:00Z",
+                "--claim: a claim is as aud=customers, or as seats:=4 with a value of JSON",
+            ProgramError::TimeClaim =>
+                "--claim: exp, nbf and iat are set by --expires and --not-before",
+            ProgramError::Time =>
+                "--expires, --not-before, --at: a time is as 90s, 30m, 12h, 7d or 2026-11-22T10:00:00Z",
             ProgramError::OtherFooter =>
-                "The token has another footer: say it by --footer or --footer-kid; paseto inspect shows it",
-            ProgramError::Expired => "expired",
-            ProgramError::Early(text) | ProgramError::Unfit(text) => text.as_str(),
-            ProgramError::Clock => "The system's clock tells no moment of the years 0 to 9999",
-            ProgramError::NoFile => "There is no such file: paseto keygen makes a key file",
-            ProgramError::FileExists => "The file is there already, and is not written over",
-            ProgramError::Random => "The system gave no random bytes",
-            ProgramError::InputOrOutput => "A file, the input or the output failed",
-            ProgramError::Memory(_) => "No memory was found",
+                "another footer: say it by --footer or --footer-kid; paseto inspect shows it",
+            ProgramError::Unfit(text) => text.as_str(),
+            ProgramError::Clock => "the system's clock tells no moment of the years 0 to 9999",
+            ProgramError::NoFile => "no such file",
+            ProgramError::NoAccess => "the file cannot be opened or made",
+            ProgramError::FileExists => "the file is there already, and is not written over",
+            ProgramError::Random => "the system gave no random bytes",
+            ProgramError::InputOrOutput => "a read or a write failed",
+            ProgramError::Memory(_) => "no memory was found",
         }
     }
 
-    /// Writes the text and a line feed, or a beginning of them where a write fails, which changes nothing else. No
-    /// memory is taken.
-    pub fn say<E: Write>(&self, errors: &mut E)
-        ensures { (said : List ℕ) × StartsWith (line_of self.now) said × Appends
+    /// The name of what it is about: a key file, another file or a word that is named, or the input. It is empty where
+    /// it is about neither.
+    fn about<'n>(&self, names: &Names<'n>) -> &'n str
+        ensures { result.now ≡ about_of names.now self.now }
+    {
+        match self {
+            ProgramError::Key(_)
+            | ProgramError::TooLong
+            | ProgramError::NoKind
+            | ProgramError::NoHalf
+            | ProgramError::NoFile
+            | ProgramError::NoAccess
+            | ProgramError::FileExists => names.key,
+            ProgramError::Refused(_)
+            | ProgramError::OtherFooter
+            | ProgramError::Unfit(_) => names.input,
+            _ => "",
+        }
+    }
+
+    /// Writes a line on it: `paseto: `, the name of what it is about, and what is wrong; or a beginning of the line where
+    /// a write fails, which changes nothing else. No memory is taken.
+    pub fn say<E: Write>(&self, names: &Names<'_>, errors: &mut E)
+        ensures { (said : List ℕ) × StartsWith (line_of names.now self.now) said × Appends
             (E.contents errors.old) (E.contents errors.new) said }
     {
-        if write_whole(errors, self.text().as_bytes()).is_ok() {
-            let _ = write_whole(errors, b"\n");
-        }
+        let about = self.about(names);
+        write_line(
+            errors,
+            "paseto: ",
+            about,
+            colon_behind(about),
+            self.text(),
+            "\n",
+        );
     }
 
     /// The status that the program ends with.
@@ -99,6 +149,10 @@ impl ProgramError {
     {
         match self {
             ProgramError::Usage
+            | ProgramError::NoKind
+            | ProgramError::NoHalf
+            | ProgramError::NoKey
+            | ProgramError::OneInput
             | ProgramError::Claim
             | ProgramError::TimeClaim
             | ProgramError::Time => 2,
@@ -107,10 +161,9 @@ impl ProgramError {
             | ProgramError::TooLong
             | ProgramError::Refused(_)
             | ProgramError::OtherFooter
-            | ProgramError::Expired
-            | ProgramError::Early(_)
             | ProgramError::Unfit(_) => 1,
             ProgramError::NoFile
+            | ProgramError::NoAccess
             | ProgramError::FileExists
             | ProgramError::Clock
             | ProgramError::Random
@@ -119,8 +172,8 @@ impl ProgramError {
         }
     }
 
-    /// Why the words after the program's name could not be read: memory was refused; a word is no text, and so
-    /// asks for nothing that the program does; or else the system failed.
+    /// Why the words after the program's name could not be read: memory was refused; a word is no text;
+    /// or else the system failed.
     pub fn of_words(source: &io::Error) -> ProgramError
         ensures { result ≡ words_error (error_kind source.now) }
     {
@@ -139,8 +192,56 @@ impl ProgramError {
             io::ErrorKind::OutOfMemory => ProgramError::Memory(AllocError),
             io::ErrorKind::NotFound => ProgramError::NoFile,
             io::ErrorKind::AlreadyExists => ProgramError::FileExists,
-            _ => ProgramError::InputOrOutput,
+            _ => ProgramError::NoAccess,
         }
+    }
+}
+
+/// What is said of a text or a token that was refused: the text of the error, but where that leaves open what to do.
+fn refusal_text(source: &PasetoError) -> &'static str
+    ensures { result.now ≡ refusal_text source.now }
+{
+    match source {
+        PasetoError::Cryption | PasetoError::ChaChaCipherError | PasetoError::InvalidSignature =>
+            "wrong key, wrong footer or assertion, or the token was changed",
+        PasetoError::WrongHeader => "the token is of another kind than the key",
+        _ => source.text(),
+    }
+}
+
+/// What stands between a name and what is said of it, and nothing where the name is empty.
+fn colon_behind(about: &str) -> &'static str
+    ensures { result.now ≡ colon_behind about.now }
+{
+    if about.is_empty() { "" } else { ": " }
+}
+
+/// Writes the parts of a line one behind the other, or a beginning of them where a write fails.
+fn write_line<'p, E: Write>(
+    errors: &mut E,
+    program: &'p str,
+    about: &'p str,
+    colon: &'p str,
+    text: &'p str,
+    end: &'p str,
+)
+    ensures { (said : List ℕ) × StartsWith (joined
+        (program.now ∷ about.now ∷ colon.now ∷ text.now ∷ end.now ∷ [])) said × Appends
+        (E.contents errors.old) (E.contents errors.new) said }
+{
+    write_pieces(errors, &[program, about, colon, text, end]);
+}
+
+/// Writes texts one behind the other, or a beginning of them where a write fails.
+fn write_pieces<E: Write>(errors: &mut E, pieces: &[&str])
+    ensures { (said : List ℕ) × StartsWith (joined (texts pieces.now)) said × Appends
+        (E.contents errors.old) (E.contents errors.new) said }
+{
+    let [piece, rest @ ..] = pieces else {
+        return;
+    };
+    if write_whole(errors, piece.as_bytes()).is_ok() {
+        write_pieces(errors, rest);
     }
 }
 

@@ -3,6 +3,7 @@
 ghost use Rattle.std.specs.Prelude.{◌≡◌, ◌≢◌, ◌≤◌, ◌==◌, ◌⊎◌, ℕ, List, IfOk, IfErr, IfSome, IsErrAnd, IsOkAnd, OnOk, is_ok, string_bytes};
 ghost use Rattle.std.specs.Io.{StartsWith};
 ghost use Rattle.std.specs.Io.KnownBytes.{Appends};
+ghost use Rattle.paseto_tasks.specs.Half.{HasHalf, HasNoHalf};
 ghost use Rattle.paseto_tasks.specs.Id.{Identifies, IdentifiesNothing};
 ghost use Rattle.paseto_tasks.specs.declared.error.ProgramError.{ProgramError};
 ghost use Rattle.paseto_tasks.specs.Error.{IsNoUsage, IsOutside, line_of, status_of};
@@ -11,7 +12,8 @@ ghost use Rattle.paseto_tasks.specs.Inspect.{Inspects, InspectsNothing};
 ghost use Rattle.paseto_tasks.specs.Run.{IsRefused, Prints, Writes};
 
 use crate::arguments::{Options, Task};
-use crate::error::ProgramError;
+use crate::error::{Names, ProgramError};
+use crate::half::public;
 use crate::id::id;
 use crate::input::{read_key_line, read_line};
 use crate::inspect::inspect;
@@ -32,6 +34,7 @@ pub fn run<K: Read, G: TryRng, R: Read, W: Write, E: Write>(
     alloc: Global,
     task: Task,
     options: &Options<'_>,
+    names: &Names<'_>,
     key_file: &mut K,
     generator: &mut G,
     input: &mut R,
@@ -51,13 +54,13 @@ pub fn run<K: Read, G: TryRng, R: Read, W: Write, E: Write>(
         bytes)) }
     ensures quiet { result ≡ 0 → errors.new ≡ errors.old }
     ensures said { result ≢ 0 → (error : ProgramError) × (status_of error ≡ result)
-        × ((said : List ℕ) × StartsWith (line_of error) said × Appends (E.contents errors.old)
+        × ((said : List ℕ) × StartsWith (line_of names.now error) said × Appends (E.contents errors.old)
         (E.contents errors.new) said) }
 {
     match print(alloc, task, options, key_file, generator, input, output) {
         Ok(()) => 0,
         Err(error) => {
-            error.say(errors);
+            error.say(names, errors);
             error.status()
         }
     }
@@ -92,6 +95,7 @@ fn print<K: Read, G: TryRng, R: Read, W: Write>(
 /// Tells what a token says of itself, and returns the status, as `run` does.
 pub fn run_inspect<R: Read, W: Write, E: Write>(
     alloc: Global,
+    names: &Names<'_>,
     input: &mut R,
     output: &mut W,
     errors: &mut E,
@@ -105,13 +109,13 @@ pub fn run_inspect<R: Read, W: Write, E: Write>(
         × IfSome (R.remaining input.old) (λ bytes. InspectsNothing (line_of_input bytes)) }
     ensures quiet { result ≡ 0 → errors.new ≡ errors.old }
     ensures said { result ≢ 0 → (error : ProgramError) × (status_of error ≡ result)
-        × ((said : List ℕ) × StartsWith (line_of error) said × Appends (E.contents errors.old)
+        × ((said : List ℕ) × StartsWith (line_of names.now error) said × Appends (E.contents errors.old)
         (E.contents errors.new) said) }
 {
     match print_inspection(alloc, input, output) {
         Ok(()) => 0,
         Err(error) => {
-            error.say(errors);
+            error.say(names, errors);
             error.status()
         }
     }
@@ -166,7 +170,13 @@ fn make<K: Read, G: TryRng, R: Read>(
 }
 
 /// Prints the id of a key, and returns the status, as `run` does.
-pub fn run_id<W: Write, E: Write>(alloc: Global, key: &str, output: &mut W, errors: &mut E) -> u8
+pub fn run_id<W: Write, E: Write>(
+    alloc: Global,
+    names: &Names<'_>,
+    key: &str,
+    output: &mut W,
+    errors: &mut E,
+) -> u8
     ensures status { result ≤ 3 }
     ensures no_usage { result ≢ 2 }
     ensures written { result ≡ 0 → (written : List ℕ)
@@ -175,15 +185,38 @@ pub fn run_id<W: Write, E: Write>(alloc: Global, key: &str, output: &mut W, erro
     ensures refused { result ≡ 1 → (output.new ≡ output.old) × IdentifiesNothing key.now }
     ensures quiet { result ≡ 0 → errors.new ≡ errors.old }
     ensures said { result ≢ 0 → (error : ProgramError) × (status_of error ≡ result)
-        × ((said : List ℕ) × StartsWith (line_of error) said × Appends (E.contents errors.old)
+        × ((said : List ℕ) × StartsWith (line_of names.now error) said × Appends (E.contents errors.old)
         (E.contents errors.new) said) }
 {
-    finish(id(alloc, key), output, errors)
+    finish(id(alloc, key), names, output, errors)
+}
+
+/// Prints the public half of a private key, and returns the status, as `run` does.
+pub fn run_public<W: Write, E: Write>(
+    alloc: Global,
+    names: &Names<'_>,
+    key: &str,
+    output: &mut W,
+    errors: &mut E,
+) -> u8
+    ensures status { result ≤ 3 }
+    ensures no_usage { result ≢ 2 }
+    ensures written { result ≡ 0 → (written : List ℕ)
+        × Appends (W.contents output.old) (W.contents output.new) written
+        × HasHalf key.now written }
+    ensures refused { result ≡ 1 → (output.new ≡ output.old) × HasNoHalf key.now }
+    ensures quiet { result ≡ 0 → errors.new ≡ errors.old }
+    ensures said { result ≢ 0 → (error : ProgramError) × (status_of error ≡ result)
+        × ((said : List ℕ) × StartsWith (line_of names.now error) said × Appends (E.contents errors.old)
+        (E.contents errors.new) said) }
+{
+    finish(public(alloc, key), names, output, errors)
 }
 
 /// Writes what was made, or says why nothing was, and returns the status, as `run` does.
 pub fn finish<W: Write, E: Write>(
     made: Result<String, ProgramError>,
+    names: &Names<'_>,
     output: &mut W,
     errors: &mut E,
 ) -> u8
@@ -194,13 +227,13 @@ pub fn finish<W: Write, E: Write>(
         × IsErrAnd made (λ error. status_of error ≡ result) }
     ensures quiet { result ≡ 0 → errors.new ≡ errors.old }
     ensures said { result ≢ 0 → (error : ProgramError) × (status_of error ≡ result)
-        × ((said : List ℕ) × StartsWith (line_of error) said × Appends (E.contents errors.old)
+        × ((said : List ℕ) × StartsWith (line_of names.now error) said × Appends (E.contents errors.old)
         (E.contents errors.new) said) }
 {
     match written(made, output) {
         Ok(()) => 0,
         Err(error) => {
-            error.say(errors);
+            error.say(names, errors);
             error.status()
         }
     }

@@ -1,5 +1,5 @@
 use Rattle.std.proofs.Common.{inl, inr}
-use Rattle.paseto_tasks.specs.Arguments.{claim_words, words_of}
+use Rattle.paseto_tasks.specs.Arguments.{texts}
 use Rattle.paseto_tasks.specs.Input.{line_of_input}
 use Rattle.paseto_commands.specs.Check.{AreDemands, Demanded, DemandsNothing}
 use Rattle.paseto_commands.specs.Checked.{ChecksNothing}
@@ -12,17 +12,17 @@ returns-clause-refused g c = λ some.
     let finished = c.finish.ensures.refused some in (
       finished.0,
       known_refused_as c.claims_line-made.result c.finish.result (g.R.Read.remaining c.args.input.now)
-          (λ bytes. ChecksNothing (claim_words (words_of c.args.words.now)) c.args.options.now c.args.now c.args.keys.now (line_of_input bytes))
+          (λ bytes. ChecksNothing (texts c.args.claims.now) c.args.options.now c.args.now c.args.keys.now (line_of_input bytes))
           some finished.1 c.claims_line-made.ensures.none,
     )
 
 pub returns-clause-usage : goal.returns-clause-usage
 returns-clause-usage g c = λ two.
-    usage_says c.claims_line-made.result c.finish.result (DemandsNothing (claim_words (words_of c.args.words.now)) c.args.options.now c.args.now)
+    usage_says c.claims_line-made.result c.finish.result (DemandsNothing (texts c.args.claims.now) c.args.options.now c.args.now)
     (c.finish.ensures.refused (inr two)).1 two c.claims_line-made.ensures.usage
 
 pub returns-clause-demanded : goal.returns-clause-demanded
 returns-clause-demanded g c = λ one.
     refusal_says c.claims_line-made.result c.finish.result
-    ((demands : Demanded) × AreDemands (claim_words (words_of c.args.words.now)) c.args.options.now c.args.now demands)
+    ((demands : Demanded) × AreDemands (texts c.args.claims.now) c.args.options.now c.args.now demands)
     (c.finish.ensures.refused (inl one)).1 one c.claims_line-made.ensures.demanded

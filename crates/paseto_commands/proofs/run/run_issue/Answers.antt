@@ -1,5 +1,5 @@
 use Rattle.std.proofs.Common.{inl, inr}
-use Rattle.paseto_tasks.specs.Arguments.{claim_words, words_of}
+use Rattle.paseto_tasks.specs.Arguments.{texts}
 use Rattle.paseto_commands.specs.Issue.{IsOrder, IssuesNothing, Ordered, OrdersNothing}
 use Rattle.paseto_tasks.proofs.Refusals.{refused_as}
 use Rattle.paseto_tasks.proofs.Statuses.{refusal_says, usage_says}
@@ -9,16 +9,16 @@ pub returns-clause-refused : goal.returns-clause-refused
 returns-clause-refused g c = λ some.
     let finished = c.finish.ensures.refused some in (
       finished.0,
-      refused_as c.token_of-made.result c.finish.result (IssuesNothing (claim_words (words_of c.args.words.now)) c.args.options.now c.args.now c.args.key.now) some finished.1
+      refused_as c.token_of-made.result c.finish.result (IssuesNothing (texts c.args.claims.now) c.args.options.now c.args.now c.args.key.now) some finished.1
           c.token_of-made.ensures.none,
     )
 
 pub returns-clause-usage : goal.returns-clause-usage
 returns-clause-usage g c = λ two.
-    usage_says c.token_of-made.result c.finish.result (OrdersNothing (claim_words (words_of c.args.words.now)) c.args.options.now c.args.now)
+    usage_says c.token_of-made.result c.finish.result (OrdersNothing (texts c.args.claims.now) c.args.options.now c.args.now)
     (c.finish.ensures.refused (inr two)).1 two c.token_of-made.ensures.usage
 
 pub returns-clause-ordered : goal.returns-clause-ordered
 returns-clause-ordered g c = λ one.
-    refusal_says c.token_of-made.result c.finish.result ((order : Ordered) × IsOrder (claim_words (words_of c.args.words.now)) c.args.options.now c.args.now order)
+    refusal_says c.token_of-made.result c.finish.result ((order : Ordered) × IsOrder (texts c.args.claims.now) c.args.options.now c.args.now order)
     (c.finish.ensures.refused (inl one)).1 one c.token_of-made.ensures.ordered

@@ -1,0 +1,33 @@
+//! Why a command is not done.
+
+use paseto_tasks::{Names, ProgramError};
+
+/// Why a command is not done, and the file or the word that this is about.
+#[derive(Drop)]
+pub struct Fault<'a> {
+    about: &'a str,
+    error: ProgramError,
+}
+
+impl<'a> Fault<'a> {
+    /// An error about a file or a word.
+    pub fn about(about: &'a str, error: ProgramError) -> Fault<'a> {
+        Fault { about, error }
+    }
+
+    /// Says it on standard error, and returns the status.
+    pub fn report(&self, rt: &HostRuntime) -> u8 {
+        let names = Names {
+            key: self.about,
+            input: self.about,
+        };
+        self.error.say(&names, &mut rt.stderr());
+        self.error.status()
+    }
+}
+
+impl<'a> From<ProgramError> for Fault<'a> {
+    fn from(error: ProgramError) -> Fault<'a> {
+        Fault::about("", error)
+    }
+}

@@ -1,0 +1,60 @@
+//! The files and streams that words name.
+
+use crate::fault::Fault;
+use paseto_tasks::{ProgramError, write_whole};
+use std::fs::File;
+use std::os::unix::fs::OpenOptionsExt;
+
+/// What standard input is called in lines on standard error.
+const STANDARD_INPUT: &str = "standard input";
+
+/// Whether words mean standard input: by a hyphen, or by naming nothing.
+pub fn is_standard(input: Option<&str>) -> bool {
+    input.is_none() || input == Some("-")
+}
+
+/// What an input is called in lines on standard error.
+pub fn name_of(input: Option<&str>) -> &str {
+    match input {
+        None | Some("-") => STANDARD_INPUT,
+        Some(path) => path,
+    }
+}
+
+/// The file that is named.
+pub fn opened<'a>(rt: &HostRuntime, path: &'a str) -> Result<File, Fault<'a>> {
+    match paseto_commands::opened(File::open(rt, path)) {
+        Ok(file) => Ok(file),
+        Err(error) => Err(Fault::about(path, error)),
+    }
+}
+
+/// Writes bytes to a file that was not there before, for those alone that the mode says.
+pub fn write_new<'a>(
+    rt: &HostRuntime,
+    path: &'a str,
+    mode: u32,
+    bytes: &[u8],
+) -> Result<(), Fault<'a>> {
+    match new_file(rt, path, mode) {
+        Ok(mut file) => Ok(write_whole(&mut file, bytes)?),
+        Err(error) => Err(Fault::about(path, error)),
+    }
+}
+
+fn new_file(rt: &HostRuntime, path: &str, mode: u32) -> Result<File, ProgramError> {
+    let file = File::options()
+        .write(true)
+        .create_new(true)
+        .mode(mode)
+        .open(rt, path);
+    paseto_commands::opened(file)
+}
+
+/// Writes what was made to a new file, which its owner alone may read, or to standard output.
+pub fn put<'a>(rt: &HostRuntime, out: Option<&'a str>, made: &[u8]) -> Result<(), Fault<'a>> {
+    match out {
+        Some(path) => write_new(rt, path, 0o600, made),
+        None => Ok(write_whole(&mut rt.stdout(), made)?),
+    }
+}

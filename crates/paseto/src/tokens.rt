@@ -1,0 +1,146 @@
+//! The commands `issue` and `check`.
+
+use crate::fault::Fault;
+use crate::files::{is_standard, name_of, opened, write_new};
+use crate::keys::{key_line, key_name};
+use jiff::Timestamp;
+use paseto_commands::run::{run_check, run_issue};
+use paseto_commands::{Keys, key_lines};
+use paseto_tasks::{Names, Options, ProgramError};
+use paseto_words::{Check, Foot, Issue, Keys as KeyWords};
+use rand::rngs::SysRng;
+use rusty_paseto_core::{Footer, ImplicitAssertion};
+use std::io::{Read, Write};
+
+/// Issues a token at the present second.
+pub fn issue<'a>(rt: &HostRuntime, words: &Issue<'a>) -> Result<u8, Fault<'a>> {
+    let line = key_line(rt, words.key)?;
+    let now = second_of(clock(rt)?)?;
+    let Some(path) = words.out else {
+        return Ok(issued(rt, words, line.as_str(), now, &mut rt.stdout()));
+    };
+    let mut made = Vec::new(rt.alloc());
+    let status = issued(rt, words, line.as_str(), now, &mut made);
+    if status == 0 {
+        write_new(rt, path, 0o600, &made)?;
+    }
+    Ok(status)
+}
+
+fn issued<W: Write>(
+    rt: &HostRuntime,
+    words: &Issue<'_>,
+    line: &str,
+    now: Timestamp,
+    output: &mut W,
+) -> u8 {
+    let names = Names {
+        key: key_name(words.key),
+        input: "",
+    };
+    let mut options = options_of(words.foot, words.assertion);
+    options.expires = words.expires;
+    options.not_before = words.not_before;
+    run_issue(
+        rt.alloc(),
+        &names,
+        &words.claims,
+        &options,
+        line,
+        now,
+        &mut SysRng::new(rt),
+        output,
+        &mut rt.stderr(),
+    )
+}
+
+/// What words say of a token.
+fn options_of<'a>(foot: Foot<'a>, assertion: Option<&'a str>) -> Options<'a> {
+    let (footer, kid) = match foot {
+        Foot::Unsaid => (None, None),
+        Foot::Text(text) => (Some(Footer::from(text)), None),
+        Foot::Kid(id) => (None, Some(id)),
+    };
+    Options {
+        footer,
+        kid,
+        assertion: assertion.map(ImplicitAssertion::from),
+        expires: None,
+        not_before: None,
+        at: None,
+    }
+}
+
+/// The second in which a moment lies.
+fn second_of(moment: Timestamp) -> Result<Timestamp, ProgramError> {
+    match Timestamp::from_second(moment.as_second()) {
+        Ok(second) => Ok(second),
+        Err(_) => Err(ProgramError::Clock),
+    }
+}
+
+/// The present moment.
+fn clock(rt: &HostRuntime) -> Result<Timestamp, ProgramError> {
+    match Timestamp::now(rt) {
+        Ok(now) => Ok(now),
+        Err(_) => Err(ProgramError::Clock),
+    }
+}
+
+/// Checks a token at the present moment.
+pub fn check<'a>(rt: &HostRuntime, words: &Check<'a>) -> Result<u8, Fault<'a>> {
+    match words.keys {
+        KeyWords::Ring(folder) => match key_lines(rt, folder) {
+            Ok(lines) => with_keys(rt, words, folder, &Keys::Ring(&lines)),
+            Err(error) => Err(Fault::about(folder, error)),
+        },
+        KeyWords::File("-") if is_standard(words.input) => Err(Fault::from(ProgramError::OneInput)),
+        KeyWords::File(path) => {
+            let line = key_line(rt, Some(path))?;
+            with_keys(rt, words, name_of(Some(path)), &Keys::One(line.as_str()))
+        }
+        KeyWords::Unsaid => {
+            let line = key_line(rt, None)?;
+            with_keys(rt, words, key_name(None), &Keys::One(line.as_str()))
+        }
+    }
+}
+
+/// Hands `check` its input: the file that is named, or standard input.
+fn with_keys<'a>(
+    rt: &HostRuntime,
+    words: &Check<'a>,
+    name: &'a str,
+    keys: &Keys<'_>,
+) -> Result<u8, Fault<'a>> {
+    match words.input {
+        None | Some("-") => checked(rt, words, name, keys, &mut rt.stdin()),
+        Some(path) => checked(rt, words, name, keys, &mut opened(rt, path)?),
+    }
+}
+
+fn checked<'a, R: Read>(
+    rt: &HostRuntime,
+    words: &Check<'a>,
+    name: &'a str,
+    keys: &Keys<'_>,
+    input: &mut R,
+) -> Result<u8, Fault<'a>> {
+    let names = Names {
+        key: name,
+        input: name_of(words.input),
+    };
+    let mut options = options_of(words.foot, words.assertion);
+    options.at = words.at;
+    Ok(run_check(
+        rt.alloc(),
+        &names,
+        &words.claims,
+        &options,
+        keys,
+        clock(rt)?,
+        input,
+        &mut rt.stdout(),
+        &mut rt.stderr(),
+    ))
+}

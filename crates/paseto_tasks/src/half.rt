@@ -1,0 +1,82 @@
+//! The command `public`: the half of a private key that verifies.
+
+ghost use Rattle.std.specs.Prelude.{◌≡◌, ◌⊎◌, ℕ, List, IfErr, IfOk, IsTrue, length, string_bytes};
+ghost use Rattle.paseto_tasks.specs.Error.{IsNoUsage, IsOutside};
+ghost use Rattle.paseto_tasks.specs.Half.{Ed25519Half, HasHalf, HasHalfIn, HasNoHalf, IsNoWritingOf, P384Half};
+ghost use Rattle.paseto_ed25519.specs.Ed25519.{IsOwn};
+ghost use Rattle.paseto_p384.specs.P384.{IsPrivate};
+ghost use Rattle.rusty_paseto_paserk.specs.declared.header.PaserkVersion.TheVariants.{V3 as K3};
+
+use crate::error::ProgramError;
+use crate::output::with_line_feed;
+use paseto_ed25519::Ed25519;
+use paseto_p384::P384;
+use rusty_paseto_core::{CompressedKey, V2, V3, V4};
+use rusty_paseto_parts::PublicKey;
+use rusty_paseto_paserk::{
+    KeyPairVersion, PaserkError, PaserkType, PaserkVersion, header_of, public_to_paserk,
+    secret_from_paserk,
+};
+use std::alloc::Global;
+
+/// The line of the public half of the private key that a line is.
+///
+/// Refused are a line that is no private key of version 2, 3 or 4, as `Key`, and a private key without a public half of
+/// its own, as `Key(InvalidKey)`: one of version 2 or 4 whose last 32 bytes are another seed's, and one of version 3 that
+/// is 0 or no number below the order of P-384.
+pub fn public(alloc: Global, key: &str) -> Result<String, ProgramError>
+    ensures printed { IfOk result (λ line. HasHalf key.now (string_bytes line)) }
+    ensures refused { IfErr result (λ error. IsOutside error ⊎ HasNoHalf key.now) }
+    ensures no_usage { IfErr result IsNoUsage }
+{
+    match header_of(key) {
+        Some((version, PaserkType::Secret, _)) => half_in(alloc, version, key),
+        Some((_, other, _)) => Err(ProgramError::Key(PaserkError::OtherType(other))),
+        None => Err(ProgramError::Key(PaserkError::NoKey)),
+    }
+}
+
+fn half_in(alloc: Global, version: PaserkVersion, key: &str) -> Result<String, ProgramError>
+    ensures printed { IfOk result (λ line. HasHalfIn version key.now (string_bytes line)) }
+    ensures refused { IfErr result (λ error. IsOutside error
+        ⊎ ((line : List ℕ) → ¬ HasHalfIn version key.now line)) }
+    ensures no_usage { IfErr result IsNoUsage }
+{
+    match version {
+        PaserkVersion::V1 => Err(ProgramError::Key(PaserkError::OtherVersion(version))),
+        PaserkVersion::V2 => half_of_ed25519::<V2>(alloc, key),
+        PaserkVersion::V3 => half_of_p384(alloc, key),
+        PaserkVersion::V4 => half_of_ed25519::<V4>(alloc, key),
+    }
+}
+
+fn half_of_ed25519<V: KeyPairVersion>(alloc: Global, key: &str) -> Result<String, ProgramError>
+    requires private { 64 ≡ V.secret_length }
+    requires public { (half : List ℕ) → length half ≡ 32 → IsTrue (V.is_public_key half) }
+    ensures printed { IfOk result (λ line. Ed25519Half V.paserk key.now (string_bytes line)) }
+    ensures refused { IfErr result (λ error. IsOutside error
+        ⊎ IsNoWritingOf V.paserk 64 IsOwn key.now) }
+    ensures no_usage { IfErr result IsNoUsage }
+{
+    let private = secret_from_paserk::<V, 64>(alloc, key)?;
+    let Ok(_signer) = Ed25519::with_key(&private) else {
+        return Err(ProgramError::Key(PaserkError::InvalidKey));
+    };
+    let half = Vec::from_slice(alloc, &private.as_bytes()[32..])?;
+    let half = PublicKey::<V>::from_vec(half);
+    with_line_feed(public_to_paserk(alloc, &half.lend())?)
+}
+
+fn half_of_p384(alloc: Global, key: &str) -> Result<String, ProgramError>
+    ensures printed { IfOk result (λ line. P384Half key.now (string_bytes line)) }
+    ensures refused { IfErr result (λ error. IsOutside error
+        ⊎ IsNoWritingOf K3 48 IsPrivate key.now) }
+    ensures no_usage { IfErr result IsNoUsage }
+{
+    let private = secret_from_paserk::<V3, 48>(alloc, key)?;
+    let Ok(half) = P384.public_key(alloc, private.as_bytes()) else {
+        return Err(ProgramError::Key(PaserkError::InvalidKey));
+    };
+    let half = PublicKey::<V3>::from_vec(Vec::from_slice(alloc, &half)?);
+    with_line_feed(public_to_paserk(alloc, &half.lend())?)
+}

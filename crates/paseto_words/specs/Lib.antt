@@ -1,0 +1,4 @@
+pub mod Action
+pub mod App
+pub mod Reading
+pub mod CommandLine

@@ -1,0 +1,353 @@
+//! What each command takes.
+
+ghost use Rattle.std.specs.Prelude.{◌≡◌, IfOk, codes, false};
+ghost use Rattle.clap.specs.Words.{new_app, rule_of};
+ghost use Rattle.paseto_words.specs.App.{IsFor, check_app, flag_rule, id_app, inspect_app, issue_app, keygen_app, many_rule, opening_app, option_rule, paseto_app, place_rule, public_app, sealing_app};
+
+use clap::{Arg, ArgAction, Command};
+use std::alloc::{AllocError, Global};
+
+/// An option with a value.
+fn option<'a>(alloc: Global, id: &'a str, value: &'a str, help: &'a str) -> Arg<'a>
+    ensures rule { rule_of result ≡ option_rule id.entry.now }
+    ensures local { result.global ≡ false }
+{
+    Arg::new(alloc, id).long(id).value_name(value).help(help)
+}
+
+/// An option with a value that may stand many times.
+fn options<'a>(alloc: Global, id: &'a str, value: &'a str, help: &'a str) -> Arg<'a>
+    ensures rule { rule_of result ≡ many_rule id.entry.now }
+    ensures local { result.global ≡ false }
+{
+    option(alloc, id, value, help).action(ArgAction::Append)
+}
+
+/// An option without a value.
+fn flag<'a>(alloc: Global, id: &'a str, help: &'a str) -> Arg<'a>
+    ensures rule { rule_of result ≡ flag_rule id.entry.now }
+    ensures local { result.global ≡ false }
+{
+    Arg::new(alloc, id)
+        .long(id)
+        .help(help)
+        .action(ArgAction::SetTrue)
+}
+
+/// A word that is no option.
+fn place<'a>(alloc: Global, id: &'a str, value: &'a str, help: &'a str) -> Arg<'a>
+    ensures rule { rule_of result ≡ place_rule id.entry.now }
+    ensures local { result.global ≡ false }
+{
+    Arg::new(alloc, id).value_name(value).help(help)
+}
+
+fn key<'a>(alloc: Global) -> Arg<'a>
+    ensures rule { rule_of result ≡ option_rule (codes "key") }
+    ensures local { result.global ≡ false }
+{
+    option(
+        alloc,
+        "key",
+        "FILE",
+        "The key file, one line of PASERK text; - is standard input; without it PASETO_KEY is the key",
+    )
+}
+
+fn claim<'a>(alloc: Global) -> Arg<'a>
+    ensures rule { rule_of result ≡ many_rule (codes "claim") }
+    ensures local { result.global ≡ false }
+{
+    options(
+        alloc,
+        "claim",
+        "CLAIM",
+        "A claim, NAME=TEXT or NAME:=JSON; may stand many times",
+    )
+}
+
+fn footer<'a>(alloc: Global) -> Arg<'a>
+    ensures rule { rule_of result ≡ option_rule (codes "footer") }
+    ensures local { result.global ≡ false }
+{
+    option(alloc, "footer", "TEXT", "The footer of the token")
+}
+
+fn kid<'a>(alloc: Global) -> Arg<'a>
+    ensures rule { rule_of result ≡ option_rule (codes "footer-kid") }
+    ensures local { result.global ≡ false }
+{
+    option(
+        alloc,
+        "footer-kid",
+        "ID",
+        "The id of a key, for the footer, by which a ring finds the key",
+    )
+}
+
+fn assertion<'a>(alloc: Global) -> Arg<'a>
+    ensures rule { rule_of result ≡ option_rule (codes "assertion") }
+    ensures local { result.global ≡ false }
+{
+    option(
+        alloc,
+        "assertion",
+        "TEXT",
+        "The implicit assertion of the token, of version 3 or 4",
+    )
+}
+
+fn out<'a>(alloc: Global) -> Arg<'a>
+    ensures rule { rule_of result ≡ option_rule (codes "out") }
+    ensures local { result.global ≡ false }
+{
+    option(
+        alloc,
+        "out",
+        "FILE",
+        "A new file for what is made, in place of standard output",
+    )
+}
+
+fn input<'a>(alloc: Global) -> Arg<'a>
+    ensures rule { rule_of result ≡ place_rule (codes "input") }
+    ensures local { result.global ≡ false }
+{
+    place(
+        alloc,
+        "input",
+        "INPUT",
+        "A file, or - for standard input, which is taken too where none is named",
+    )
+}
+
+fn with_keygen<'a>(alloc: Global) -> Result<Command<'a>, AllocError>
+    ensures { IfOk result (IsFor keygen_app) }
+{
+    let kind = place(
+        alloc,
+        "kind",
+        "KIND",
+        "v1.local, v2.local, v2.public, v3.local, v3.public, v4.local or v4.public",
+    );
+    Command::new(alloc, "keygen")
+        .about("Makes a key: local kinds encrypt, public kinds sign")
+        .after_help("Example: paseto keygen v4.public --out signing.key --public verifying.key")
+        .arg(kind.required(true))?
+        .arg(option(
+            alloc,
+            "out",
+            "FILE",
+            "A new file for the key, which its owner alone may read",
+        ))?
+        .arg(option(
+            alloc,
+            "public",
+            "FILE",
+            "A new file for the half that verifies",
+        ))?
+        .arg(flag(alloc, "quiet", "Says nothing of what was made"))
+}
+
+fn with_public<'a>(alloc: Global) -> Result<Command<'a>, AllocError>
+    ensures { IfOk result (IsFor public_app) }
+{
+    Command::new(alloc, "public")
+        .about("Prints the public half of a private key, which verifies")
+        .after_help("Example: paseto public --key signing.key --out verifying.key")
+        .arg(key(alloc))?
+        .arg(out(alloc))
+}
+
+fn with_id<'a>(alloc: Global) -> Result<Command<'a>, AllocError>
+    ensures { IfOk result (IsFor id_app) }
+{
+    Command::new(alloc, "id")
+        .about("Prints the PASERK id of a key, which names it and does not tell it")
+        .after_help("Example: paseto id --key office.key")
+        .arg(key(alloc))
+}
+
+fn with_issue<'a>(alloc: Global) -> Result<Command<'a>, AllocError>
+    ensures { IfOk result (IsFor issue_app) }
+{
+    Command::new(alloc, "issue")
+        .about("Prints a token of claims, which expires in an hour unless --expires says otherwise")
+        .after_help(
+            "Example: paseto issue --key office.key --claim seats:=4 --claim aud=customers --expires 1h",
+        )
+        .arg(key(alloc))?
+        .arg(claim(alloc))?
+        .arg(option(
+            alloc,
+            "expires",
+            "TIME",
+            "When it expires: in 90s, 30m, 12h or 7d, or at 2026-11-22T10:00:00Z",
+        ))?
+        .arg(option(
+            alloc,
+            "not-before",
+            "TIME",
+            "When it may first be used, as --expires",
+        ))?
+        .arg(footer(alloc))?
+        .arg(kid(alloc))?
+        .arg(assertion(alloc))?
+        .arg(out(alloc))
+}
+
+fn with_check<'a>(alloc: Global) -> Result<Command<'a>, AllocError>
+    ensures { IfOk result (IsFor check_app) }
+{
+    Command::new(alloc, "check")
+        .about("Prints the claims of a token as JSON, or says why it is refused")
+        .after_help("Example: paseto check --key office.key --claim aud=customers token")
+        .override_usage("paseto check [--key <FILE> | --ring <FOLDER>] [OPTIONS] [INPUT]")
+        .arg(key(alloc))?
+        .arg(option(
+            alloc,
+            "ring",
+            "FOLDER",
+            "A folder of key files, of which the footer names one by its id",
+        ))?
+        .arg(claim(alloc))?
+        .arg(options(
+            alloc,
+            "require",
+            "NAME",
+            "The name of a claim that has to be there; may stand many times",
+        ))?
+        .arg(option(
+            alloc,
+            "at",
+            "TIME",
+            "The moment of checking, in place of the present one",
+        ))?
+        .arg(option(alloc, "leeway", "TIME", "How far clocks may differ, as 5s"))?
+        .arg(footer(alloc))?
+        .arg(kid(alloc))?
+        .arg(assertion(alloc))?
+        .arg(input(alloc))
+}
+
+/// A command that takes a token, and what `about` says of it.
+fn with_opening<'a>(
+    alloc: Global,
+    name: &'a str,
+    about: &'a str,
+    example: &'a str,
+) -> Result<Command<'a>, AllocError>
+    ensures { IfOk result (IsFor (opening_app name.entry.now)) }
+{
+    Command::new(alloc, name)
+        .about(about)
+        .after_help(example)
+        .arg(key(alloc))?
+        .arg(footer(alloc))?
+        .arg(assertion(alloc))?
+        .arg(input(alloc))
+}
+
+/// A command that takes a text and makes a token.
+fn with_sealing<'a>(
+    alloc: Global,
+    name: &'a str,
+    about: &'a str,
+    example: &'a str,
+) -> Result<Command<'a>, AllocError>
+    ensures { IfOk result (IsFor (sealing_app name.entry.now)) }
+{
+    with_opening(alloc, name, about, example)?.arg(out(alloc))
+}
+
+fn with_encrypt<'a>(alloc: Global) -> Result<Command<'a>, AllocError>
+    ensures { IfOk result (IsFor (sealing_app (codes "encrypt"))) }
+{
+    with_sealing(
+        alloc,
+        "encrypt",
+        "Prints the token of a text, under a nonce that is drawn",
+        "Example: echo hello | paseto encrypt --key office.key",
+    )
+}
+
+fn with_decrypt<'a>(alloc: Global) -> Result<Command<'a>, AllocError>
+    ensures { IfOk result (IsFor (opening_app (codes "decrypt"))) }
+{
+    with_opening(
+        alloc,
+        "decrypt",
+        "Prints the text of a token that was encrypted",
+        "Example: paseto decrypt --key office.key token",
+    )
+}
+
+fn with_sign<'a>(alloc: Global) -> Result<Command<'a>, AllocError>
+    ensures { IfOk result (IsFor (sealing_app (codes "sign"))) }
+{
+    with_sealing(
+        alloc,
+        "sign",
+        "Prints the signed token of a text, which everyone can read",
+        "Example: echo hello | paseto sign --key signing.key",
+    )
+}
+
+fn with_verify<'a>(alloc: Global) -> Result<Command<'a>, AllocError>
+    ensures { IfOk result (IsFor (opening_app (codes "verify"))) }
+{
+    with_opening(
+        alloc,
+        "verify",
+        "Prints the text of a signed token",
+        "Example: paseto verify --key verifying.key token",
+    )
+}
+
+fn with_inspect<'a>(alloc: Global) -> Result<Command<'a>, AllocError>
+    ensures { IfOk result (IsFor inspect_app) }
+{
+    Command::new(alloc, "inspect")
+        .about("Prints what a token says of itself, none of which is verified")
+        .after_help("Example: paseto inspect token")
+        .arg(input(alloc))
+}
+
+fn named<'a>(alloc: Global) -> Result<Command<'a>, AllocError>
+    ensures { IfOk result (IsFor (new_app (codes "paseto"))) }
+{
+    Command::new(alloc, "paseto").bin_name("paseto")
+}
+
+/// The commands of the program, for clap, which shows the help where no word stands behind the program's name.
+///
+/// Nothing but memory is refused.
+pub fn paseto<'a>(alloc: Global) -> Result<Command<'a>, AllocError>
+    ensures { IfOk result (IsFor paseto_app) }
+{
+    named(alloc)?
+        .version("0.2.0")
+        .about("Makes keys in files, and PASETO tokens by them")
+        .subcommand_required(true)
+        .arg_required_else_help(true)
+        .subcommand(with_keygen(alloc)?)?
+        .subcommand(with_public(alloc)?)?
+        .subcommand(with_id(alloc)?)?
+        .subcommand(with_issue(alloc)?)?
+        .subcommand(with_check(alloc)?)?
+        .subcommand(with_encrypt(alloc)?)?
+        .subcommand(with_decrypt(alloc)?)?
+        .subcommand(with_sign(alloc)?)?
+        .subcommand(with_verify(alloc)?)?
+        .subcommand(with_inspect(alloc)?)
+}
+
+/// The command `issue` as it stands in the program, for its errors.
+pub fn issue_command<'a>(alloc: Global) -> Result<Command<'a>, AllocError> {
+    with_issue(alloc)?.bin_name("paseto issue")
+}
+
+/// The command `check` as it stands in the program, for its errors.
+pub fn check_command<'a>(alloc: Global) -> Result<Command<'a>, AllocError> {
+    with_check(alloc)?.bin_name("paseto check")
+}

@@ -1,0 +1,12 @@
+//! The words of the program `paseto`, as clap reads them: what each command takes, and what words ask for, in plain
+//! structs of texts.
+#![tactic(auto)]
+
+mod action;
+mod app;
+mod command_line;
+mod reading;
+
+pub use action::{Action, Check, Foot, Issue, Keyed, Keygen, Keys, Public};
+pub use app::paseto;
+pub use command_line::{parse, status};
