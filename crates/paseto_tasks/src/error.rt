@@ -119,9 +119,8 @@ impl ProgramError {
             | ProgramError::NoFile
             | ProgramError::NoAccess
             | ProgramError::FileExists => names.key,
-            ProgramError::Refused(_)
-            | ProgramError::OtherFooter
-            | ProgramError::Unfit(_) => names.input,
+            ProgramError::Refused(_) | ProgramError::OtherFooter | ProgramError::Unfit(_) =>
+                names.input,
             _ => "",
         }
     }
