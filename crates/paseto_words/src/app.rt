@@ -192,7 +192,6 @@ fn with_issue<'a>(alloc: Global) -> Result<Command<'a>, AllocError>
         ))?
         .arg(footer(alloc))?
         .arg(kid(alloc))?
-        .arg(assertion(alloc))?
         .arg(out(alloc))
 }
 
@@ -211,22 +210,14 @@ fn with_check<'a>(alloc: Global) -> Result<Command<'a>, AllocError>
             "A folder of key files, of which the footer names one by its id",
         ))?
         .arg(claim(alloc))?
-        .arg(options(
-            alloc,
-            "require",
-            "NAME",
-            "The name of a claim that has to be there; may stand many times",
-        ))?
         .arg(option(
             alloc,
             "at",
             "TIME",
             "The moment of checking, in place of the present one",
         ))?
-        .arg(option(alloc, "leeway", "TIME", "How far clocks may differ, as 5s"))?
         .arg(footer(alloc))?
         .arg(kid(alloc))?
-        .arg(assertion(alloc))?
         .arg(input(alloc))
 }
 
