@@ -209,7 +209,7 @@ refuses "a public key to sign" 1 hello "v4.public: The key is a public one, whic
 refuses "a local key to sign" 1 hello "v4.local: The key is one for local tokens" sign --key v4.local
 # The public half of this private key is another seed's.
 echo k4.secret.AAAAAAAAAAAAAAAAAAAAAAAAAAAAAAAAAAAAAAAAAADXWpgBgrEKt9VL_tPJZAc6DuFy89qmIyWvAhpo9wdRGg >mixed.secret
-refuses "halves of two keys" 1 hello "Could not assemble final signature." sign --key mixed.secret
+refuses "halves of two keys" 1 hello "mixed.secret: the halves of the private key are of two keys" sign --key mixed.secret
 refuses "a changed text" 1 "v4.public.$(printf jello | base64 | tr -d =)${token:17}" "$input: $bad_signature" verify --key v4.public
 
 # -- key files
@@ -272,7 +272,7 @@ refuses "id of no key" 1 "" "empty: $no_key" id --key empty
 for version in 2 3 4; do
     is "the public half of version $version" "$("$program" public --key half$version.secret)" "$(cat half$version.public)"
 done
-is "public into a file" "$("$program" public --key half4.secret --out again.public && cat again.public && stat -c %a again.public)" "$(cat half4.public)
+is "public into a file" "$(umask 022 && "$program" public --key half4.secret --out again.public && cat again.public && stat -c %a again.public)" "$(cat half4.public)
 644"
 refuses "public over a file" 3 "" "again.public: $exists" public --key half4.secret --out again.public
 refuses "the public half of a local key" 1 "" "v4.local: The key is one for local tokens" public --key v4.local
@@ -366,8 +366,8 @@ for claim in exp=never nbf:=null iat=now; do
     refuses "the claim $claim" 2 "" "$time_claim" issue --key v4.local --claim $claim
 done
 for time in "" h 1 1y -1h 1.5h 5000000000s tomorrow 2026-11-22; do
-    refuses "the time '$time'" 2 "" "$bad_time" issue --key v4.local --expires "$time"
-    refuses "the time '$time' of check" 2 "" "$bad_time" check --key v4.local --at "$time"
+    refuses "the time '$time'" 2 "" "$bad_time" issue --key v4.local --expires="$time"
+    refuses "the time '$time' of check" 2 "" "$bad_time" check --key v4.local --at="$time"
 done
 refuses "a claim twice" 1 "" "The claim 'a' appears more than once in the top level payload json" issue --key v4.local --claim a=1 --claim a=2
 refuses "a claim that is no whole number" 1 "" "Could not convert claim 'a' to the expected data type" issue --key v4.local --claim a:=1.5

@@ -4,7 +4,7 @@ use Rattle.std.specs.declared.io.ErrorKind.{ErrorKind}
 use Rattle.std.specs.declared.io.ErrorKind.TheVariants.{AlreadyExists, InvalidData, NotFound, OutOfMemory}
 use Rattle.rusty_paseto_parts.specs.Error.{error_text}
 use Rattle.rusty_paseto_parts.specs.declared.error.PasetoError.{PasetoError}
-use Rattle.rusty_paseto_parts.specs.declared.error.PasetoError.TheVariants.{ChaChaCipherError, Cipher, Cryption, InvalidSignature, Memory as NoMemory, WrongHeader}
+use Rattle.rusty_paseto_parts.specs.declared.error.PasetoError.TheVariants.{ChaChaCipherError, Cipher, Cryption, InvalidSignature, Memory as NoMemory, WrongHeader, Signature, KeyRejected}
 use Rattle.rusty_paseto_paserk.specs.Error.{error_text as key_error_text}
 use Rattle.rusty_paseto_paserk.specs.declared.error.PaserkError.{PaserkError}
 use Rattle.rusty_paseto_paserk.specs.declared.error.PaserkError.TheVariants.{Memory as NoKeyMemory}
@@ -42,6 +42,8 @@ refusal_text Cryption = codes "wrong key, wrong footer or assertion, or the toke
 refusal_text ChaChaCipherError = codes "wrong key, wrong footer or assertion, or the token was changed"
 refusal_text InvalidSignature = codes "wrong key, wrong footer or assertion, or the token was changed"
 refusal_text WrongHeader = codes "the token is of another kind than the key"
+refusal_text Signature = codes "the halves of the private key are of two keys"
+refusal_text KeyRejected = codes "no private key of its kind"
 refusal_text error = error_text error
 
 -- what each error says, which is the same whatever the words and the input are, but for what tells of a token
@@ -67,6 +69,12 @@ text_of Random = codes "the system gave no random bytes"
 text_of InputOrOutput = codes "a read or a write failed"
 text_of (Memory _) = codes "no memory was found"
 
+-- the name of what was refused: the key file where the private key is none, and else the input
+abbrev pub refusal_about : Names → PasetoError → List ℕ
+refusal_about names Signature = names.key.now
+refusal_about names KeyRejected = names.key.now
+refusal_about names error = names.input.now
+
 -- the name of what each error is about, which is empty where it is about no file and no word
 abbrev pub about_of : Names → ProgramError → List ℕ
 about_of names (Key _) = names.key.now
@@ -76,7 +84,7 @@ about_of names NoHalf = names.key.now
 about_of names NoFile = names.key.now
 about_of names NoAccess = names.key.now
 about_of names FileExists = names.key.now
-about_of names (Refused _) = names.input.now
+about_of names (Refused error) = refusal_about names error
 about_of names OtherFooter = names.input.now
 about_of names (Unfit _) = names.input.now
 about_of names _ = []

@@ -7,7 +7,7 @@ ghost use Rattle.std.specs.Io.KnownBytes.{Appends};
 ghost use Rattle.std.specs.IoError.{error_kind};
 ghost use Rattle.rusty_paseto_parts.specs.declared.error.PasetoError.TheVariants.{Utf8Error as NotUtf8};
 ghost use Rattle.paseto_tasks.specs.declared.error.ProgramError.TheVariants.{InputOrOutput, Memory, Refused};
-ghost use Rattle.paseto_tasks.specs.Error.{about_of, colon_behind, file_error, joined, key_error_of, line_of, program_error_of, refusal_text, status_of, text_of, words_error};
+ghost use Rattle.paseto_tasks.specs.Error.{about_of, colon_behind, file_error, joined, key_error_of, line_of, program_error_of, refusal_about, refusal_text, status_of, text_of, words_error};
 
 use crate::output::write_whole;
 use rusty_paseto_core::PasetoError;
@@ -119,8 +119,8 @@ impl ProgramError {
             | ProgramError::NoFile
             | ProgramError::NoAccess
             | ProgramError::FileExists => names.key,
-            ProgramError::Refused(_) | ProgramError::OtherFooter | ProgramError::Unfit(_) =>
-                names.input,
+            ProgramError::Refused(source) => refusal_about(source, names),
+            ProgramError::OtherFooter | ProgramError::Unfit(_) => names.input,
             _ => "",
         }
     }
@@ -204,7 +204,19 @@ fn refusal_text(source: &PasetoError) -> &'static str
         PasetoError::Cryption | PasetoError::ChaChaCipherError | PasetoError::InvalidSignature =>
             "wrong key, wrong footer or assertion, or the token was changed",
         PasetoError::WrongHeader => "the token is of another kind than the key",
+        PasetoError::Signature => "the halves of the private key are of two keys",
+        PasetoError::KeyRejected => "no private key of its kind",
         _ => source.text(),
+    }
+}
+
+/// The name of what was refused: the key file where the private key is none, and else the input.
+fn refusal_about<'n>(source: &PasetoError, names: &Names<'n>) -> &'n str
+    ensures { result.now ≡ refusal_about names.now source.now }
+{
+    match source {
+        PasetoError::Signature | PasetoError::KeyRejected => names.key,
+        _ => names.input,
     }
 }
 

@@ -1,6 +1,6 @@
 //! The command `public`: the half of a private key that verifies.
 
-ghost use Rattle.std.specs.Prelude.{◌≡◌, ◌⊎◌, ℕ, List, IfErr, IfOk, IsTrue, length, string_bytes};
+ghost use Rattle.std.specs.Prelude.{◌≡◌, ◌⊎◌, ℕ, List, IfErr, IfOk, string_bytes};
 ghost use Rattle.paseto_tasks.specs.Error.{IsNoUsage, IsOutside};
 ghost use Rattle.paseto_tasks.specs.Half.{Ed25519Half, HasHalf, HasHalfIn, HasNoHalf, IsNoWritingOf, P384Half};
 ghost use Rattle.paseto_ed25519.specs.Ed25519.{IsOwn};
@@ -11,8 +11,9 @@ use crate::error::ProgramError;
 use crate::output::with_line_feed;
 use paseto_ed25519::Ed25519;
 use paseto_p384::P384;
-use rusty_paseto_core::{CompressedKey, V2, V3, V4};
-use rusty_paseto_parts::PublicKey;
+use rusty_paseto_core::{
+    CompressedKey, Key, PasetoAsymmetricPublicKey, Public, V2, V2orV4, V3, V4,
+};
 use rusty_paseto_paserk::{
     KeyPairVersion, PaserkError, PaserkType, PaserkVersion, header_of, public_to_paserk,
     secret_from_paserk,
@@ -50,9 +51,11 @@ fn half_in(alloc: Global, version: PaserkVersion, key: &str) -> Result<String, P
     }
 }
 
-fn half_of_ed25519<V: KeyPairVersion>(alloc: Global, key: &str) -> Result<String, ProgramError>
-    requires private { 64 ≡ V.secret_length }
-    requires public { (half : List ℕ) → length half ≡ 32 → IsTrue (V.is_public_key half) }
+fn half_of_ed25519<V: KeyPairVersion + V2orV4>(
+    alloc: Global,
+    key: &str,
+) -> Result<String, ProgramError>
+    requires { 64 ≡ V.secret_length }
     ensures printed { IfOk result (λ line. Ed25519Half V.paserk key.now (string_bytes line)) }
     ensures refused { IfErr result (λ error. IsOutside error
         ⊎ IsNoWritingOf V.paserk 64 IsOwn key.now) }
@@ -62,9 +65,9 @@ fn half_of_ed25519<V: KeyPairVersion>(alloc: Global, key: &str) -> Result<String
     let Ok(_signer) = Ed25519::with_key(&private) else {
         return Err(ProgramError::Key(PaserkError::InvalidKey));
     };
-    let half = Vec::from_slice(alloc, &private.as_bytes()[32..])?;
-    let half = PublicKey::<V>::from_vec(half);
-    with_line_feed(public_to_paserk(alloc, &half.lend())?)
+    let half = Key::<32>::from_slice(&private.as_bytes()[32..]);
+    let half = PasetoAsymmetricPublicKey::<V, Public>::from(&half);
+    with_line_feed(public_to_paserk(alloc, &half)?)
 }
 
 fn half_of_p384(alloc: Global, key: &str) -> Result<String, ProgramError>
@@ -77,6 +80,7 @@ fn half_of_p384(alloc: Global, key: &str) -> Result<String, ProgramError>
     let Ok(half) = P384.public_key(alloc, private.as_bytes()) else {
         return Err(ProgramError::Key(PaserkError::InvalidKey));
     };
-    let half = PublicKey::<V3>::from_vec(Vec::from_slice(alloc, &half)?);
-    with_line_feed(public_to_paserk(alloc, &half.lend())?)
+    let half = Key::from(half);
+    let half = PasetoAsymmetricPublicKey::<V3, Public>::try_from(&half)?;
+    with_line_feed(public_to_paserk(alloc, &half)?)
 }

@@ -1,4 +1,4 @@
-use Rattle.std.proofs.Common.{rules, ◌≡◌, [], ◌∷◌, ◌++◌, List, ℕ, take, drop, ap, ◌∙◌}
+use Rattle.std.proofs.Common.{◌≡◌, [], ◌∷◌, ◌++◌, List, ℕ, take, drop, ap, ◌∙◌}
 use Rattle.std.proofs.lemmas.Result.{IfOk-weaker, err_from_is_err_and}
 use Rattle.paseto_ed25519.specs.Ed25519.{IsOwn, partner}
 use Rattle.paseto_tasks.proofs.Halves.{no_writing, rest_of}
@@ -8,9 +8,8 @@ pub returns-clause-printed : goal.returns-clause-printed
 returns-clause-printed g c =
     let key = c.in_ok-private.ensures in
     let rest : take 32 (drop 32 c.in_ok-private.private) ≡ partner c.in_ok-private.private = rest_of c.in_ok-private.private key.form in
-    let items : c.in_ok-half.half.items ≡ partner c.in_ok-private.private =
-    c.in_ok-half.ensures.items ∙ ap (λ (l : List ℕ). take 32 (drop 32 l)) c.as_bytes.ensures.bytes ∙ rest in
-    let half : c.lend.result ≡ partner c.in_ok-private.private = search (rules, items) in
+    let half : c.from-half.result ≡ partner c.in_ok-private.private =
+    c.from-half.ensures ∙ c.from_slice-half.ensures ∙ ap (λ (l : List ℕ). take 32 (drop 32 l)) c.as_bytes.ensures.bytes ∙ rest in
     IfOk-weaker c.with_line_feed.result _ _ (λ line is. record {
       private = c.in_ok-private.private;
       bytes = key.bytes;
