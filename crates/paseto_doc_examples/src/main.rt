@@ -9,6 +9,7 @@ mod causes;
 mod collisions;
 mod custom_claims;
 mod default_tokens;
+mod der_sequence;
 mod digests;
 mod encrypting;
 mod even;
@@ -31,6 +32,7 @@ mod owned_key_ring;
 mod p384_signature;
 mod paseto_builder;
 mod paseto_parser;
+mod password_key;
 mod poly1305_pieces;
 mod poly1305_tag;
 mod public_key_ring;
@@ -72,6 +74,13 @@ fn show_primitives(rt: &HostRuntime) -> Result<()> {
     let whole = poly1305_tag::tag(&one_time_key, b"a message");
     let pieces = poly1305_pieces::tag_of_pieces(&one_time_key, b"a mess", b"age");
     println!(rt; "tag in pieces: {}", whole == pieces)?;
+    let password_key = password_key::key_of("a password", &[7u8; 32]);
+    println!(rt;
+        "key of a password: {} and {}",
+        password_key[0], password_key[47]
+    )?;
+    let contents = der_sequence::sequence(&[0x30, 3, 2, 1, 4]);
+    println!(rt; "contents of a SEQUENCE: {contents:?}")?;
     Ok(())
 }
 
