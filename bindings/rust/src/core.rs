@@ -16,5 +16,5 @@ pub use paseto::Paseto;
 pub use texts::{Footer, ImplicitAssertion, Payload};
 pub use untrusted_token::UntrustedToken;
 pub use versions::{
-    ImplicitAssertionCapable, Local, Public, PurposeTrait, V1, V2, V2orV4, V3, V4, VersionTrait,
+    ImplicitAssertionCapable, Local, Public, PurposeTrait, V2orV4, VersionTrait, V1, V2, V3, V4,
 };

@@ -1,7 +1,7 @@
 //! The calls of `libpaseto.a`, as `paseto.h` declares them, each behind a function that is safe: the one file with `unsafe`.
 
 use crate::core::PasetoError;
-use std::sync::atomic::{Ordering, compiler_fence};
+use std::sync::atomic::{compiler_fence, Ordering};
 
 type Status = u8;
 
@@ -106,7 +106,8 @@ pub(crate) fn fill_random(bytes: &mut [u8]) -> bool {
         let drawn = unsafe { getrandom(rest.as_mut_ptr(), rest.len(), 0) };
         match usize::try_from(drawn) {
             Ok(count) => filled += count,
-            Err(_) if std::io::Error::last_os_error().kind() == std::io::ErrorKind::Interrupted => {}
+            Err(_) if std::io::Error::last_os_error().kind() == std::io::ErrorKind::Interrupted => {
+            }
             Err(_) => return false,
         }
     }

@@ -46,8 +46,14 @@ fn verified(token: &str) -> Result<String, PasetoError> {
 fn a_token_opens_under_its_key_footer_and_assertion() -> Outcome {
     let token = encrypted("a text", "a footer", "an assertion")?;
     assert_eq!(decrypted(&token, "a footer", "an assertion")?, "a text");
-    assert_eq!(decrypted(&token, "another", "an assertion"), Err(PasetoError::FooterInvalid));
-    assert_eq!(decrypted(&token, "a footer", "another"), Err(PasetoError::Cryption));
+    assert_eq!(
+        decrypted(&token, "another", "an assertion"),
+        Err(PasetoError::FooterInvalid)
+    );
+    assert_eq!(
+        decrypted(&token, "a footer", "another"),
+        Err(PasetoError::Cryption)
+    );
     Ok(())
 }
 
@@ -83,7 +89,10 @@ fn refusals_of_local_tokens() -> Outcome {
     let cases = [
         ("v4.local".to_owned(), PasetoError::IncorrectSize),
         (token.replacen("v4.", "v3.", 1), PasetoError::WrongHeader),
-        (token.replacen("v4.local.", "v4.local.!", 1), PasetoError::PayloadBase64Decode),
+        (
+            token.replacen("v4.local.", "v4.local.!", 1),
+            PasetoError::PayloadBase64Decode,
+        ),
         (with_another_nonce(&token), PasetoError::Cryption),
     ];
     for (case, error) in cases {
@@ -99,7 +108,10 @@ fn refusals_of_public_tokens() -> Outcome {
     let other = signed("another")?;
     let (front, _) = token.split_at(token.len() - 86);
     let (_, signature) = other.split_at(other.len() - 86);
-    assert_eq!(verified(&format!("{front}{signature}")), Err(PasetoError::InvalidSignature));
+    assert_eq!(
+        verified(&format!("{front}{signature}")),
+        Err(PasetoError::InvalidSignature)
+    );
     Ok(())
 }
 
@@ -112,7 +124,8 @@ fn private_keys_are_asked() -> Outcome {
     assert_eq!(of(short), Err(PasetoError::InvalidKey));
     assert_eq!(of(&[0; 64]), Err(PasetoError::Signature));
     let zero = Key::<48>::default();
-    let refused = Paseto::<V3, Public>::builder().try_sign(&PasetoAsymmetricPrivateKey::from(&zero));
+    let refused =
+        Paseto::<V3, Public>::builder().try_sign(&PasetoAsymmetricPrivateKey::from(&zero));
     assert_eq!(refused, Err(PasetoError::KeyRejected));
     Ok(())
 }
@@ -120,14 +133,26 @@ fn private_keys_are_asked() -> Outcome {
 #[test]
 fn keys_are_read_from_digits() {
     assert!(Key::<32>::try_from(DIGITS).is_ok());
-    assert_eq!(Key::<32>::try_from("70").err(), Some(PasetoError::InvalidKey));
-    assert_eq!(Key::<1>::try_from("7g").err(), Some(PasetoError::InvalidKey));
-    assert_eq!(PasetoAsymmetricPublicKey::<V3, Public>::try_from(&Key::<49>::default()).err(), Some(PasetoError::InvalidKey));
+    assert_eq!(
+        Key::<32>::try_from("70").err(),
+        Some(PasetoError::InvalidKey)
+    );
+    assert_eq!(
+        Key::<1>::try_from("7g").err(),
+        Some(PasetoError::InvalidKey)
+    );
+    assert_eq!(
+        PasetoAsymmetricPublicKey::<V3, Public>::try_from(&Key::<49>::default()).err(),
+        Some(PasetoError::InvalidKey)
+    );
 }
 
 #[test]
 fn keys_are_not_shown() -> Outcome {
-    assert_eq!(format!("{:?}", Key::<32>::try_from(DIGITS)?), "!!! KEY IS PRIVATE !!!");
+    assert_eq!(
+        format!("{:?}", Key::<32>::try_from(DIGITS)?),
+        "!!! KEY IS PRIVATE !!!"
+    );
     Ok(())
 }
 
@@ -152,7 +177,10 @@ fn a_wrong_key_of_version_2_says_so() -> Outcome {
     let (one, other) = (Key::<32>::try_new_random()?, Key::<32>::try_new_random()?);
     let token = Paseto::<V2, Local>::builder()
         .set_payload(Payload::from("a text"))
-        .try_encrypt(&PasetoSymmetricKey::from(one.clone()), &PasetoNonce::from(&other))?;
+        .try_encrypt(
+            &PasetoSymmetricKey::from(one.clone()),
+            &PasetoNonce::from(&other),
+        )?;
     let opened = Paseto::<V2, Local>::try_decrypt(&token, &PasetoSymmetricKey::from(other), None);
     assert_eq!(opened, Err(PasetoError::ChaChaCipherError));
     Ok(())
@@ -164,7 +192,10 @@ fn untrusted_tokens_are_read() -> Outcome {
     let untrusted = UntrustedToken::try_parse(&token)?;
     assert_eq!((untrusted.version(), untrusted.purpose()), ("v4", "local"));
     assert_eq!(untrusted.footer_base64(), Some("eyJraWQiOiJrZXktMSJ9"));
-    assert_eq!(Footer::try_from_token(&token)?.as_deref(), Some("{\"kid\":\"key-1\"}"));
+    assert_eq!(
+        Footer::try_from_token(&token)?.as_deref(),
+        Some("{\"kid\":\"key-1\"}")
+    );
     assert_eq!(Footer::try_from_token("v4.local.payload")?, None);
     Ok(())
 }

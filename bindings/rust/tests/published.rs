@@ -22,16 +22,33 @@ struct Row<'r> {
 
 fn text_of(field: &str) -> Result<String, Box<dyn Error>> {
     let digits = if field == "-" { "" } else { field };
-    let bytes = (0..digits.len()).step_by(2).map(|at| u8::from_str_radix(&digits[at..at + 2], 16));
+    let bytes = (0..digits.len())
+        .step_by(2)
+        .map(|at| u8::from_str_radix(&digits[at..at + 2], 16));
     Ok(String::from_utf8(bytes.collect::<Result<_, _>>()?)?)
 }
 
 impl<'r> Row<'r> {
     fn parse(line: &'r str) -> Result<Row<'r>, Box<dyn Error>> {
-        let fields: [&str; 8] = line.split(' ').collect::<Vec<_>>().try_into().map_err(|_| "eight fields")?;
+        let fields: [&str; 8] = line
+            .split(' ')
+            .collect::<Vec<_>>()
+            .try_into()
+            .map_err(|_| "eight fields")?;
         let [kind, _name, first, second, text, footer, assertion, token] = fields;
-        let footer = if footer == "none" { None } else { Some(text_of(footer)?) };
-        Ok(Row { kind, keys: [first, second], text: text_of(text)?, footer, assertion: text_of(assertion)?, token })
+        let footer = if footer == "none" {
+            None
+        } else {
+            Some(text_of(footer)?)
+        };
+        Ok(Row {
+            kind,
+            keys: [first, second],
+            text: text_of(text)?,
+            footer,
+            assertion: text_of(assertion)?,
+            token,
+        })
     }
 
     fn footer(&self) -> Option<Footer<'_>> {
@@ -80,7 +97,8 @@ fn check(row: &Row<'_>) -> Outcome {
         "v3.public" => {
             let public = Key::<49>::try_from(row.keys[1])?;
             let public = PasetoAsymmetricPublicKey::<V3, Public>::try_from(&public)?;
-            let text = Paseto::<V3, Public>::try_verify(row.token, &public, row.footer(), assertion)?;
+            let text =
+                Paseto::<V3, Public>::try_verify(row.token, &public, row.footer(), assertion)?;
             assert_eq!(text, row.text);
         }
         other => return Err(format!("no such kind: {other}").into()),
@@ -90,7 +108,10 @@ fn check(row: &Row<'_>) -> Outcome {
 
 #[test]
 fn published_tokens() -> Outcome {
-    let lines = ROWS.lines().filter(|line| !line.starts_with('#')).collect::<Vec<_>>();
+    let lines = ROWS
+        .lines()
+        .filter(|line| !line.starts_with('#'))
+        .collect::<Vec<_>>();
     assert_eq!(lines.len(), 27);
     for line in lines {
         check(&Row::parse(line)?).map_err(|error| format!("{line}: {error}"))?;

@@ -19,7 +19,10 @@ fn decode_group(group: &[u8]) -> Option<Vec<u8>> {
     };
     let mut bits = 0u32;
     for index in 0..4 {
-        bits = bits << 6 | group.get(index).map_or(Some(0), |&letter| value_of(letter))?;
+        bits = bits << 6
+            | group
+                .get(index)
+                .map_or(Some(0), |&letter| value_of(letter))?;
     }
     let [_, bytes @ ..] = bits.to_be_bytes();
     let (found, behind) = bytes.split_at(byte_count);

@@ -1,6 +1,6 @@
 //! Keys and nonces, each with the version and the purpose that it is for.
 
-use crate::core::{Local, PasetoError, Public, V1, V2, V3, V4, V2orV4};
+use crate::core::{Local, PasetoError, Public, V2orV4, V1, V2, V3, V4};
 use crate::library;
 use std::fmt;
 use std::marker::PhantomData;
@@ -112,7 +112,10 @@ pub struct PasetoSymmetricKey<Version, Purpose> {
 
 impl<Version> From<Key<32>> for PasetoSymmetricKey<Version, Local> {
     fn from(key: Key<32>) -> Self {
-        PasetoSymmetricKey { kind: PhantomData, key }
+        PasetoSymmetricKey {
+            kind: PhantomData,
+            key,
+        }
     }
 }
 

@@ -3,7 +3,7 @@
 use crate::core::{
     Footer, ImplicitAssertion, ImplicitAssertionCapable, Local, PasetoAsymmetricPrivateKey,
     PasetoAsymmetricPublicKey, PasetoError, PasetoNonce, PasetoSymmetricKey, Payload, Public,
-    PurposeTrait, V1, V2, V3, V4, VersionTrait,
+    PurposeTrait, VersionTrait, V1, V2, V3, V4,
 };
 use crate::library;
 use std::marker::PhantomData;

@@ -31,7 +31,11 @@ impl<'a> UntrustedToken<'a> {
         let (version, purpose, _payload) = (next()?, next()?, next()?);
         let footer = sections.next();
         match sections.next() {
-            None => Ok(UntrustedToken { version, purpose, footer }),
+            None => Ok(UntrustedToken {
+                version,
+                purpose,
+                footer,
+            }),
             Some(_) => Err(PasetoError::IncorrectSize),
         }
     }
