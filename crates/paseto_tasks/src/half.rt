@@ -63,7 +63,7 @@ fn half_of_ed25519<V: KeyPairVersion>(alloc: Global, key: &str) -> Result<String
         return Err(ProgramError::Key(PaserkError::InvalidKey));
     };
     let half = Vec::from_slice(alloc, &private.as_bytes()[32..])?;
-    let half = PublicKey::<V>::from_vec(half);
+    let half = PublicKey::<V>::try_from(half)?;
     with_line_feed(public_to_paserk(alloc, &half.lend())?)
 }
 
@@ -77,6 +77,6 @@ fn half_of_p384(alloc: Global, key: &str) -> Result<String, ProgramError>
     let Ok(half) = P384.public_key(alloc, private.as_bytes()) else {
         return Err(ProgramError::Key(PaserkError::InvalidKey));
     };
-    let half = PublicKey::<V3>::from_vec(Vec::from_slice(alloc, &half)?);
+    let half = PublicKey::<V3>::try_from(Vec::from_slice(alloc, &half)?)?;
     with_line_feed(public_to_paserk(alloc, &half.lend())?)
 }
