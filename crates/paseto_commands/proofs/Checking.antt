@@ -1,10 +1,8 @@
 -- What is answered for the claims of a token.
-use Rattle.std.proofs.Common.{◌≡◌, ◌⊎◌, ℕ, List, Result, Ok, Err, IsErrAnd, IsOk, true, inl, inr, sym, ◌∙◌}
+use Rattle.std.proofs.Common.{◌≡◌, ◌⊎◌, ℕ, List, Result, Ok, Err, IsErrAnd, IsOk, true, inl, inr, sym}
 use Rattle.std.specs.Bool.{⊤}
 use Rattle.std.proofs.lemmas.Bool.{false≢true}
 use Rattle.serde_json.specs.Data.{Data}
-use Rattle.serde_json.specs.View.{view}
-use Rattle.serde_json.specs.declared.value.Value.{Value}
 use Rattle.rusty_paseto_generic.specs.Error.Parser.{IsMemory}
 use Rattle.rusty_paseto_generic.specs.Parsers.Parsing.{IsCheckAnswer}
 use Rattle.rusty_paseto_generic.specs.Parsers.Rules.{Rules}

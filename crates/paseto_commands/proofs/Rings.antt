@@ -6,9 +6,7 @@ use Rattle.rusty_paseto_parts.specs.Section.{base64url}
 use Rattle.rusty_paseto.specs.KeyRing.{AreSame, IsMemory, Keys, with_key}
 use Rattle.rusty_paseto.specs.declared.error.KeyRingError.{KeyRingError}
 use Rattle.rusty_paseto_paserk.specs.declared.header.PaserkVersion.{PaserkVersion}
-use Rattle.rusty_paseto_paserk.specs.declared.header.PaserkVersion.TheVariants.{V3}
 use Rattle.rusty_paseto_paserk.specs.declared.header.PaserkType.{PaserkType}
-use Rattle.rusty_paseto_paserk.specs.declared.header.PaserkType.TheVariants.{Public}
 use Rattle.rusty_paseto_paserk.specs.declared.error.PaserkError.{PaserkError}
 use Rattle.rusty_paseto_paserk.specs.declared.error.PaserkError.TheVariants.{NoKey, OtherVersion, OtherType, InvalidKey, Memory}
 use Rattle.rusty_paseto_paserk.specs.Id.{id_of}

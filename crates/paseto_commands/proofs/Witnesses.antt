@@ -1,5 +1,5 @@
 -- What is printed of what was parsed from words and input, or issued of words.
-use Rattle.std.proofs.Common.{◌≡◌, ◌⊎◌, ℕ, List, Option, None, Some, IfSome, Result, Ok, Err, IfErr, IfOk, String, Global, string_bytes, IsUtf8, inl, inr, sym, subst, subst₂, ◌∙◌}
+use Rattle.std.proofs.Common.{◌≡◌, ◌⊎◌, ℕ, List, Option, None, Some, IfSome, Result, Ok, Err, IfErr, IfOk, IsOkAnd, String, Global, string_bytes, IsUtf8, inl, inr, sym, subst, subst₂, ◌∙◌}
 use Rattle.std.specs.Bool.{⊤}
 use Rattle.jiff.specs.Types.{Timestamp}
 use Rattle.paseto_tasks.specs.declared.arguments.Options.{Options}
@@ -11,6 +11,8 @@ use Rattle.paseto_tasks.specs.declared.error.ProgramError.{ProgramError}
 use Rattle.paseto_commands.specs.Issue.{AreNever, IsOrder, Issues, IssuesNone, IssuesNothing, Ordered, OrdersNothing}
 use Rattle.paseto_commands.proofs.Words.{same_demands, same_order}
 use Rattle.paseto_tasks.specs.Input.{line_of_input}
+use Rattle.paseto_tasks.specs.Output.{IsLeftOf}
+use Rattle.paseto_tasks.proofs.Outputs.{left_of_made}
 
 -- what each value that is answered is, it is in other words
 pub in_other_words : {T E : Type 0} (result : Result T E) (A B : T → Type 0) → ((t : T) → A t → B t) → IfOk result A → IfOk result B
@@ -21,6 +23,13 @@ in_other_words (Err e) A B step a = tt
 pub known_for : {T : Type 0} (result : Result T ProgramError) (P : ProgramError → Type 0) (X : Type 0) → X → IfErr result (λ error. P error ⊎ X)
 known_for (Ok value) P X x = tt
 known_for (Err error) P X x = inr x
+
+-- what is left of what was made is left of the output that it is for the known input
+pub left_of_known : {E : Type 0} (made : Result (String Global) E) (known : Option (List ℕ)) (Printed : List ℕ → List ℕ → Type 0) (left : List ℕ)
+    → IfOk made (λ text. IfSome known (λ bytes. Printed bytes (string_bytes text)))
+    → IsLeftOf (λ line. IsOkAnd made (λ text. string_bytes text ≡ line)) left → IfSome known (λ bytes. IsLeftOf (Printed bytes) left)
+left_of_known made None Printed left printed is = tt
+left_of_known made (Some bytes) Printed left printed is = left_of_made made (Printed bytes) left printed is
 
 -- a token that is checked is the line of the input
 pub checks_for : {E : Type 0} (known : Option (List ℕ)) (result : Result (String Global) E) (line text : List ℕ)

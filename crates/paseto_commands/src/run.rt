@@ -10,6 +10,7 @@ ghost use Rattle.paseto_commands.specs.Issue.{IsOrder, IssuesFor, IssuesNothing,
 ghost use Rattle.paseto_tasks.specs.declared.error.ProgramError.{ProgramError};
 ghost use Rattle.paseto_tasks.specs.Error.{IsNoRefusal, IsNoUsage, IsOutside, line_of, status_of};
 ghost use Rattle.paseto_tasks.specs.Input.{line_of_input};
+ghost use Rattle.paseto_tasks.specs.Output.{IsLeftOf};
 
 use crate::check::{Demands, Keys, check};
 use crate::issue::{Order, issue};
@@ -37,6 +38,10 @@ pub fn run_issue<G: TryRng, W: Write, E: Write>(
         × Appends (W.contents output.old) (W.contents output.new) written
         × IssuesFor (texts claims.now) options.now now key.now
         (λ nonce. G.may_fill generator.old nonce generator.new) written }
+    ensures cut { result ≢ 0 → (written : List ℕ)
+        × Appends (W.contents output.old) (W.contents output.new) written
+        × IsLeftOf (λ line. IssuesFor (texts claims.now) options.now now key.now
+        (λ nonce. G.may_fill generator.old nonce generator.new) line) written }
     ensures refused { (result ≡ 1) ⊎ (result ≡ 2) → (output.new ≡ output.old)
         × IssuesNothing (texts claims.now) options.now now key.now }
     ensures usage { result ≡ 2 → OrdersNothing
@@ -93,6 +98,10 @@ pub fn run_check<R: Read, W: Write, E: Write>(
         × IfSome (R.remaining input.old)
         (λ bytes. ChecksFor (texts claims.now) options.now now keys.now
         (line_of_input bytes) written) }
+    ensures cut { result ≢ 0 → (written : List ℕ)
+        × Appends (W.contents output.old) (W.contents output.new) written
+        × IfSome (R.remaining input.old) (λ bytes. IsLeftOf (λ line. ChecksFor (texts claims.now)
+        options.now now keys.now (line_of_input bytes) line) written) }
     ensures refused { (result ≡ 1) ⊎ (result ≡ 2) → (output.new ≡ output.old)
         × IfSome (R.remaining input.old)
         (λ bytes. ChecksNothing (texts claims.now) options.now now keys.now

@@ -1,5 +1,5 @@
 -- A key that has no public half.
-use Rattle.std.proofs.Common.{◌≡◌, ◌⊎◌, ℕ, ◌+◌, ◌%◌, ◌<◌, ◌==◌, ◌||◌, zero, suc, List, ◌∷◌, ◌++◌, length, ◌-◌, take, drop, IsTrue, rules, slice_index, inl, inr, refl, sym, ap, subst, ◌∙◌, arith}
+use Rattle.std.proofs.Common.{◌≡◌, ◌⊎◌, ℕ, ◌+◌, ◌%◌, ◌<◌, ◌==◌, ◌||◌, zero, suc, List, ◌++◌, length, ◌-◌, take, drop, IsTrue, rules, slice_index, inl, inr, refl, sym, ap, subst, ◌∙◌, arith}
 use Rattle.std.proofs.lemmas.List.{take_rest}
 use Rattle.std.proofs.Math.Nat.{mod-lt}
 use Rattle.rusty_paseto_parts.specs.PublicKey.{is_compressed}
@@ -21,7 +21,7 @@ use Rattle.rusty_paseto_paserk.specs.Error.{IsMemory as IsKeyMemory}
 use Rattle.rusty_paseto_paserk.specs.Text.{writing}
 use Rattle.rusty_paseto_paserk.specs.declared.error.PaserkError.{PaserkError}
 use Rattle.rusty_paseto_paserk.specs.declared.error.PaserkError.TheVariants.{Memory as NoKeyMemory}
-use Rattle.paseto_tasks.specs.Half.{Ed25519Half, HasHalf, HasHalfIn, HasNoHalf, IsNoWritingOf, P384Half}
+use Rattle.paseto_tasks.specs.Half.{Ed25519Half, HasHalfIn, HasNoHalf, IsNoWritingOf, P384Half}
 use Rattle.paseto_tasks.proofs.Ids.{same_header}
 
 -- a key with a half begins as a private key of a version

@@ -1,5 +1,5 @@
 -- What is written of an output.
-use Rattle.std.proofs.Common.{◌≡◌, ℕ, ◌<◌, ◌==◌, List, [], ◌∷◌, ◌++◌, length, length-append, Bool, false, Option, None, Some, IfSome, Result, Ok, Err, OnOk, OnErr, is_ok, inl, inr, refl, ap, arith}
+use Rattle.std.proofs.Common.{◌≡◌, ℕ, ◌<◌, ◌==◌, List, [], ◌∷◌, ◌++◌, length, length-append, Bool, false, Option, None, Some, IfSome, Result, Ok, Err, IfOk, IsOkAnd, OnOk, OnErr, is_ok, String, Global, string_bytes, inl, inr, refl, ap, subst, arith}
 use Rattle.std.specs.Io.{StartsWith}
 use Rattle.std.specs.Io.KnownBytes.{Appends, Keeps}
 use Rattle.std.proofs.KnownBytes.{Appends-kept, Appends-nil}
@@ -9,7 +9,7 @@ use Rattle.paseto_tasks.specs.declared.arguments.Task.{Task}
 use Rattle.paseto_tasks.specs.declared.error.ProgramError.{ProgramError}
 use Rattle.paseto_tasks.specs.declared.error.ProgramError.TheVariants.{Usage, NoKind, NoHalf, NoKey, OneInput, Claim, TimeClaim, Time, Key, TooLong, Refused, OtherFooter, Unfit, NoFile, NoAccess, FileExists, Clock, Random, InputOrOutput, Memory}
 use Rattle.paseto_tasks.specs.Error.{status_of}
-use Rattle.paseto_tasks.specs.Output.{IsCutShort}
+use Rattle.paseto_tasks.specs.Output.{IsCutShort, IsLeftOf}
 use Rattle.paseto_tasks.specs.Run.{Prints, Writes}
 
 front_of_all : (front rest : List ℕ) → StartsWith (front ++ rest) front
@@ -27,6 +27,14 @@ cut_short (Err error) bytes written rest a b c whole same more kept =
 pub IfSome-all : {X : Type 0} (known : Option X) (P : X → Type 0) → ((x : X) → P x) → IfSome known P
 IfSome-all None P h = tt
 IfSome-all (Some x) P h = h x
+
+-- what is left of what was made is left of the output that it is
+pub left_of_made : {E : Type 0} (made : Result (String Global) E) (IsOutput : List ℕ → Type 0) (left : List ℕ)
+    → IfOk made (λ text. IsOutput (string_bytes text))
+    → IsLeftOf (λ line. IsOkAnd made (λ text. string_bytes text ≡ line)) left → IsLeftOf IsOutput left
+left_of_made made IsOutput left printed (inl nothing) = inl nothing
+left_of_made (Ok text) IsOutput left printed (inr cut) = inr (cut.0, subst IsOutput cut.1 printed, cut.2)
+left_of_made (Err error) IsOutput left printed (inr cut) = absurd cut.1
 
 -- no error ends the program with the status of success
 pub status_of-some : (error : ProgramError) → (status_of error == 0) ≡ false

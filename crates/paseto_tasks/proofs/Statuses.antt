@@ -1,10 +1,10 @@
 -- Which errors end the program with which status.
-use Rattle.std.proofs.Common.{◌≡◌, ◌≢◌, ◌⊎◌, ℕ, ◌==◌, false, Result, Ok, Err, IfErr, IsErrAnd, inl, inr, refl, sym, ap, ◌∙◌}
+use Rattle.std.proofs.Common.{◌≡◌, ◌≢◌, ◌⊎◌, ℕ, ◌==◌, false, Result, Ok, Err, IfErr, IsErrAnd, inl, inr, refl, sym, ap, subst, ◌∙◌}
 use Rattle.std.proofs.lemmas.Bool.{false≢true}
 use Rattle.rusty_paseto_paserk.specs.declared.error.PaserkError.TheVariants.{Memory as NoKeyMemory}
 use Rattle.paseto_tasks.specs.declared.error.ProgramError.{ProgramError}
-use Rattle.paseto_tasks.specs.declared.error.ProgramError.TheVariants.{Usage, NoKind, NoHalf, NoKey, OneInput, Claim, TimeClaim, Time, Key, Clock, Random, InputOrOutput, Memory}
-use Rattle.paseto_tasks.specs.Error.{IsNoRefusal, IsNoUsage, IsOutside, status_of}
+use Rattle.paseto_tasks.specs.declared.error.ProgramError.TheVariants.{Usage, NoKind, NoHalf, NoKey, OneInput, Claim, TimeClaim, Time, Key, Unfit, Clock, Random, InputOrOutput, Memory}
+use Rattle.paseto_tasks.specs.Error.{IsCauseOf, IsFixed, IsNoRefusal, IsNoUsage, IsOutside, status_of}
 
 -- ---- 2
 
@@ -24,11 +24,23 @@ no_2 error none = refl
 pub not_2 : (error : ProgramError) (status : ℕ) → status ≡ status_of error → IsNoUsage error → status ≢ 2
 not_2 error status is none two = false≢true (sym (no_2 error none) ∙ ap (λ n. n == 2) (sym is ∙ two))
 
+-- an error that has no text of its own says nothing of the words
+pub fixed_no_usage : (error : ProgramError) → IsFixed error → IsNoUsage error
+fixed_no_usage (Unfit text) fixed = absurd fixed
+fixed_no_usage error fixed = fixed
+
 -- the same of the status of what was made
-pub not_2_made : {T : Type 0} (made : Result T ProgramError) (status : ℕ) → IsErrAnd made (λ error. status_of error ≡ status) → IfErr made IsNoUsage
+pub not_2_made : {T : Type 0} (made : Result T ProgramError) (status : ℕ) → IsErrAnd made (λ error. status_of error ≡ status) → IfErr made IsFixed
     → status ≢ 2
-not_2_made (Ok value) status is none = absurd is
-not_2_made (Err error) status is none = not_2 error status (sym is) none
+not_2_made (Ok value) status is fixed = absurd is
+not_2_made (Err error) status is fixed = not_2 error status (sym is) (fixed_no_usage error fixed)
+
+-- where what was made has no text of its own, the error that ends the program has none
+pub fixed_cause : {T : Type 0} (made : Result T ProgramError) (error : ProgramError) → IsCauseOf made error → IfErr made IsFixed → IsFixed error
+fixed_cause (Ok value) error (inl is) fixed = absurd is
+fixed_cause (Ok value) error (inr is) fixed = subst IsFixed (sym is) tt
+fixed_cause (Err cause) error (inl is) fixed = subst IsFixed is fixed
+fixed_cause (Err cause) error (inr is) fixed = subst IsFixed (sym is) tt
 
 -- what is so unless the error says nothing of the words
 pub usage_says : {T : Type 0} (made : Result T ProgramError) (status : ℕ) (X : Type 0) → IsErrAnd made (λ error. status_of error ≡ status)

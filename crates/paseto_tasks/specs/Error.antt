@@ -1,5 +1,5 @@
 -- What the program says of an error, and the status that it ends with.
-use Rattle.std.specs.Prelude.{◌⊎◌, ℕ, ⊤, List, [], ◌∷◌, ◌++◌, alloc_error, codes, string_bytes}
+use Rattle.std.specs.Prelude.{◌≡◌, ◌⊎◌, ℕ, ⊤, List, [], ◌∷◌, ◌++◌, Result, IsErrAnd, alloc_error, codes, string_bytes}
 use Rattle.std.specs.declared.io.ErrorKind.{ErrorKind}
 use Rattle.std.specs.declared.io.ErrorKind.TheVariants.{AlreadyExists, InvalidData, NotFound, OutOfMemory}
 use Rattle.rusty_paseto_parts.specs.Error.{error_text}
@@ -152,6 +152,10 @@ IsNoUsage _ = ⊤
 abbrev pub IsFixed : ProgramError → Type 0
 IsFixed (Unfit _) = ⊥
 IsFixed error = IsNoUsage error
+
+-- the error that ends the program: why nothing was made, or a write that failed
+abbrev pub IsCauseOf : {T : Type 0} → Result T ProgramError → ProgramError → Type 0
+IsCauseOf made error = IsErrAnd made (λ cause. cause ≡ error) ⊎ (error ≡ InputOrOutput)
 
 -- an error of the words or from outside, which refuses no key, text or token, so that the program does not end with status 1
 abbrev pub IsNoRefusal : ProgramError → Type 0

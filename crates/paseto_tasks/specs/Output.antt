@@ -1,5 +1,5 @@
 -- The line that is printed, and what a write that fails leaves of it.
-use Rattle.std.specs.Prelude.{◌≡◌, ℕ, ◌<◌, List, [], ◌∷◌, ◌++◌, length}
+use Rattle.std.specs.Prelude.{◌≡◌, ◌⊎◌, ℕ, ◌<◌, List, [], ◌∷◌, ◌++◌, length}
 use Rattle.std.specs.Io.{StartsWith}
 
 -- the line is that of a text
@@ -10,3 +10,7 @@ IsLineOf text line = line ≡ text ++ (10 ∷ [])
 pub record IsCutShort (output written : List ℕ) : Type 0 where
   pub beginning : StartsWith output written
   pub shorter : length written < length output
+
+-- what is written of an output that is not written whole: nothing, or the output cut short
+abbrev pub IsLeftOf : (List ℕ → Type 0) → List ℕ → Type 0
+IsLeftOf IsOutput written = (written ≡ []) ⊎ ((output : List ℕ) × IsOutput output × IsCutShort output written)

@@ -1,10 +1,10 @@
 -- What the program prints for a task, its options, its key file and its input.
-use Rattle.std.specs.Prelude.{◌≡◌, ◌⊎◌, ℕ, List, [], Bool, true, false}
+use Rattle.std.specs.Prelude.{◌⊎◌, ℕ, List, Bool, true, false}
 use Rattle.paseto_tasks.specs.declared.arguments.Options.{Options}
 use Rattle.paseto_tasks.specs.declared.arguments.Task.{Task}
 use Rattle.paseto_tasks.specs.declared.arguments.Task.TheVariants.{Encrypt, Decrypt, Sign, Verify}
 use Rattle.paseto_tasks.specs.Input.{IsNoKeyFile, line_of_input}
-use Rattle.paseto_tasks.specs.Output.{IsCutShort}
+use Rattle.paseto_tasks.specs.Output.{IsLeftOf}
 use Rattle.paseto_tasks.specs.Local.{Decrypts, DecryptsNothing, Encrypts, EncryptsNothing}
 use Rattle.paseto_tasks.specs.Public.{SignsBy, SignsNothing, VerifiesBy, VerifiesNothing}
 
@@ -29,5 +29,4 @@ IsRefused task options IsDrawn file input = IsNoKeyFile file ⊎ PrintsNothing t
 -- what the program has written when it ends: its output where it is done, else nothing, or the output cut short
 abbrev pub Writes : Task → Options → (List ℕ → Type 0) → List ℕ → List ℕ → Bool → List ℕ → Type 0
 Writes task options IsDrawn file input true written = Prints task options IsDrawn file input written
-Writes task options IsDrawn file input false written =
-    (written ≡ []) ⊎ ((output : List ℕ) × Prints task options IsDrawn file input output × IsCutShort output written)
+Writes task options IsDrawn file input false written = IsLeftOf (Prints task options IsDrawn file input) written

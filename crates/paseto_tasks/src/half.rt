@@ -1,7 +1,7 @@
 //! The command `public`: the half of a private key that verifies.
 
 ghost use Rattle.std.specs.Prelude.{◌≡◌, ◌⊎◌, ℕ, List, IfErr, IfOk, string_bytes};
-ghost use Rattle.paseto_tasks.specs.Error.{IsNoUsage, IsOutside};
+ghost use Rattle.paseto_tasks.specs.Error.{IsFixed, IsOutside};
 ghost use Rattle.paseto_tasks.specs.Half.{Ed25519Half, HasHalf, HasHalfIn, HasNoHalf, IsNoWritingOf, P384Half};
 ghost use Rattle.paseto_ed25519.specs.Ed25519.{IsOwn};
 ghost use Rattle.paseto_p384.specs.P384.{IsPrivate};
@@ -28,7 +28,7 @@ use std::alloc::Global;
 pub fn public(alloc: Global, key: &str) -> Result<String, ProgramError>
     ensures printed { IfOk result (λ line. HasHalf key.now (string_bytes line)) }
     ensures refused { IfErr result (λ error. IsOutside error ⊎ HasNoHalf key.now) }
-    ensures no_usage { IfErr result IsNoUsage }
+    ensures fixed { IfErr result IsFixed }
 {
     match header_of(key) {
         Some((version, PaserkType::Secret, _)) => half_in(alloc, version, key),
@@ -41,7 +41,7 @@ fn half_in(alloc: Global, version: PaserkVersion, key: &str) -> Result<String, P
     ensures printed { IfOk result (λ line. HasHalfIn version key.now (string_bytes line)) }
     ensures refused { IfErr result (λ error. IsOutside error
         ⊎ ((line : List ℕ) → ¬ HasHalfIn version key.now line)) }
-    ensures no_usage { IfErr result IsNoUsage }
+    ensures fixed { IfErr result IsFixed }
 {
     match version {
         PaserkVersion::V1 => Err(ProgramError::Key(PaserkError::OtherVersion(version))),
@@ -59,7 +59,7 @@ fn half_of_ed25519<V: KeyPairVersion + V2orV4>(
     ensures printed { IfOk result (λ line. Ed25519Half V.paserk key.now (string_bytes line)) }
     ensures refused { IfErr result (λ error. IsOutside error
         ⊎ IsNoWritingOf V.paserk 64 IsOwn key.now) }
-    ensures no_usage { IfErr result IsNoUsage }
+    ensures fixed { IfErr result IsFixed }
 {
     let private = secret_from_paserk::<V, 64>(alloc, key)?;
     let Ok(_signer) = Ed25519::with_key(&private) else {
@@ -74,7 +74,7 @@ fn half_of_p384(alloc: Global, key: &str) -> Result<String, ProgramError>
     ensures printed { IfOk result (λ line. P384Half key.now (string_bytes line)) }
     ensures refused { IfErr result (λ error. IsOutside error
         ⊎ IsNoWritingOf K3 48 IsPrivate key.now) }
-    ensures no_usage { IfErr result IsNoUsage }
+    ensures fixed { IfErr result IsFixed }
 {
     let private = secret_from_paserk::<V3, 48>(alloc, key)?;
     let Ok(half) = P384.public_key(alloc, private.as_bytes()) else {

@@ -2,7 +2,7 @@
 
 ghost use Rattle.std.specs.Prelude.{◌⊎◌, IfErr, IfOk, string_bytes};
 ghost use Rattle.rusty_paseto_paserk.specs.declared.header.PaserkType.TheVariants.{Local as LocalKey, Public as PublicKey, Secret};
-ghost use Rattle.paseto_tasks.specs.Error.{IsNoUsage, IsOutside};
+ghost use Rattle.paseto_tasks.specs.Error.{IsFixed, IsOutside};
 ghost use Rattle.paseto_tasks.specs.Id.{Identifies, IdentifiesNothing, IsIdOf, IsNoKeyOf};
 
 use crate::error::ProgramError;
@@ -19,7 +19,7 @@ use std::alloc::Global;
 pub fn id(alloc: Global, key: &str) -> Result<String, ProgramError>
     ensures printed { IfOk result (λ line. Identifies key.now (string_bytes line)) }
     ensures refused { IfErr result (λ error. IsOutside error ⊎ IdentifiesNothing key.now) }
-    ensures no_usage { IfErr result IsNoUsage }
+    ensures fixed { IfErr result IsFixed }
 {
     let id = match header_of(key) {
         Some((version, PaserkType::Local, _)) => id_of_local(alloc, version, key)?,
@@ -33,7 +33,7 @@ pub fn id(alloc: Global, key: &str) -> Result<String, ProgramError>
 fn id_of_local(alloc: Global, version: PaserkVersion, key: &str) -> Result<String, ProgramError>
     ensures printed { IfOk result (λ id. IsIdOf key.now (string_bytes id)) }
     ensures refused { IfErr result (λ error. IsOutside error ⊎ IsNoKeyOf version LocalKey key.now) }
-    ensures no_usage { IfErr result IsNoUsage }
+    ensures fixed { IfErr result IsFixed }
 {
     match version {
         PaserkVersion::V1 => id_of_symmetric::<V1>(alloc, key),
@@ -47,7 +47,7 @@ fn id_of_local(alloc: Global, version: PaserkVersion, key: &str) -> Result<Strin
 fn id_of_symmetric<V: KeyVersion>(alloc: Global, key: &str) -> Result<String, ProgramError>
     ensures printed { IfOk result (λ id. IsIdOf key.now (string_bytes id)) }
     ensures refused { IfErr result (λ error. IsOutside error ⊎ IsNoKeyOf V.paserk LocalKey key.now) }
-    ensures no_usage { IfErr result IsNoUsage }
+    ensures fixed { IfErr result IsFixed }
 {
     let symmetric = local_from_paserk::<V>(alloc, key)?;
     Ok(local_id(alloc, &symmetric)?)
@@ -56,7 +56,7 @@ fn id_of_symmetric<V: KeyVersion>(alloc: Global, key: &str) -> Result<String, Pr
 fn id_of_secret(alloc: Global, version: PaserkVersion, key: &str) -> Result<String, ProgramError>
     ensures printed { IfOk result (λ id. IsIdOf key.now (string_bytes id)) }
     ensures refused { IfErr result (λ error. IsOutside error ⊎ IsNoKeyOf version Secret key.now) }
-    ensures no_usage { IfErr result IsNoUsage }
+    ensures fixed { IfErr result IsFixed }
 {
     match version {
         PaserkVersion::V1 => Err(ProgramError::Key(PaserkError::OtherVersion(version))),
@@ -70,7 +70,7 @@ fn id_of_secret(alloc: Global, version: PaserkVersion, key: &str) -> Result<Stri
 fn id_of_private<V: Suite>(alloc: Global, key: &str) -> Result<String, ProgramError>
     ensures printed { IfOk result (λ id. IsIdOf key.now (string_bytes id)) }
     ensures refused { IfErr result (λ error. IsOutside error ⊎ IsNoKeyOf V.paserk Secret key.now) }
-    ensures no_usage { IfErr result IsNoUsage }
+    ensures fixed { IfErr result IsFixed }
 {
     let private = private_key_from_paserk::<V>(alloc, key)?;
     Ok(secret_id(alloc, &private.lend())?)
@@ -80,7 +80,7 @@ fn id_of_public(alloc: Global, version: PaserkVersion, key: &str) -> Result<Stri
     ensures printed { IfOk result (λ id. IsIdOf key.now (string_bytes id)) }
     ensures refused { IfErr result (λ error. IsOutside error
         ⊎ IsNoKeyOf version PublicKey key.now) }
-    ensures no_usage { IfErr result IsNoUsage }
+    ensures fixed { IfErr result IsFixed }
 {
     match version {
         PaserkVersion::V1 => Err(ProgramError::Key(PaserkError::OtherVersion(version))),
@@ -95,7 +95,7 @@ fn id_of_verifying<V: Suite>(alloc: Global, key: &str) -> Result<String, Program
     ensures printed { IfOk result (λ id. IsIdOf key.now (string_bytes id)) }
     ensures refused { IfErr result (λ error. IsOutside error
         ⊎ IsNoKeyOf V.paserk PublicKey key.now) }
-    ensures no_usage { IfErr result IsNoUsage }
+    ensures fixed { IfErr result IsFixed }
 {
     let public = public_key_from_paserk::<V>(alloc, key)?;
     Ok(public_id(alloc, &public.lend())?)

@@ -2,7 +2,7 @@
 
 ghost use Rattle.std.specs.Prelude.{◌≡◌, ◌<◌, ◌⊎◌, IfOk, IfErr, IfSome, OnOk, length, string_bytes, IsUtf8};
 ghost use Rattle.std.specs.Io.KnownBytes.{IsAtEnd};
-ghost use Rattle.paseto_tasks.specs.Error.{IsNoUsage, IsOutside};
+ghost use Rattle.paseto_tasks.specs.Error.{IsFixed, IsNoUsage, IsOutside};
 ghost use Rattle.paseto_tasks.specs.Input.{IsInput, IsNoKeyFile, line_of_input};
 
 use crate::error::ProgramError;
@@ -47,7 +47,7 @@ pub fn read_text<R: Read>(alloc: Global, input: &mut R) -> Result<String, Progra
         (λ bytes. bytes ≡ string_bytes text)) }
     ensures refused { IfErr result (λ error. IfSome (R.remaining input.old)
         (λ bytes. IsOutside error ⊎ (¬ IsUtf8 bytes))) }
-    ensures no_usage { IfErr result IsNoUsage }
+    ensures fixed { IfErr result IsFixed }
 {
     let bytes = read_whole(alloc, input)?;
     match String::from_utf8(bytes) {
@@ -64,6 +64,7 @@ pub fn read_line<R: Read>(alloc: Global, input: &mut R) -> Result<String, Progra
     ensures refused { IfErr result (λ error. IfSome (R.remaining input.old)
         (λ bytes. IsOutside error ⊎ (¬ IsUtf8 (line_of_input bytes)))) }
     ensures no_usage { IfErr result IsNoUsage }
+    ensures fixed { IfErr result IsFixed }
 {
     let bytes = read_whole(alloc, input)?;
     let line = str::from_utf8(without_line_feed(&bytes))?;
@@ -78,6 +79,7 @@ pub fn read_key_line<K: Read>(alloc: Global, file: &mut K) -> Result<String, Pro
     ensures refused { IfErr result (λ error. IfSome (K.remaining file.old)
         (λ bytes. IsOutside error ⊎ IsNoKeyFile bytes)) }
     ensures no_usage { IfErr result IsNoUsage }
+    ensures fixed { IfErr result IsFixed }
 {
     let bytes = read_short(alloc, file)?;
     let Ok(line) = str::from_utf8(without_line_feed(&bytes)) else {
@@ -91,7 +93,7 @@ fn read_short<K: Read>(alloc: Global, file: &mut K) -> Result<Vec<u8>, ProgramEr
     ensures whole { IfOk result (λ bytes. IsInput (K.remaining file.old) bytes.items) }
     ensures failed { IfErr result (λ error. IfSome (K.remaining file.old)
         (λ bytes. IsOutside error ⊎ (1024 < length bytes))) }
-    ensures no_usage { IfErr result IsNoUsage }
+    ensures fixed { IfErr result IsFixed }
 {
     let mut bytes = Vec::new(alloc);
     let mut space = [0u8; LIMIT];

@@ -4,7 +4,7 @@ ghost use Rattle.std.specs.Prelude.{◌≡◌, ◌⊎◌, ◌++◌, ℕ, List, I
 ghost use Rattle.std.specs.List.{slice_get};
 ghost use Rattle.std.specs.Cmp.Lexicographic.{pointwise};
 ghost use Rattle.rusty_paseto_parts.specs.Section.{HasCount, sections};
-ghost use Rattle.paseto_tasks.specs.Error.{IsNoUsage, IsOutside};
+ghost use Rattle.paseto_tasks.specs.Error.{IsFixed, IsOutside};
 ghost use Rattle.paseto_tasks.specs.Inspect.{Inspects, InspectsNothing, IsTextLine, SaysText, footer_line, line, signature_length};
 
 use crate::error::ProgramError;
@@ -16,7 +16,7 @@ use std::str;
 pub fn inspect(alloc: Global, token: &str) -> Result<String, ProgramError>
     ensures printed { IfOk result (λ lines. Inspects token.now (string_bytes lines)) }
     ensures refused { IfErr result (λ error. IsOutside error ⊎ InspectsNothing token.now) }
-    ensures no_usage { IfErr result IsNoUsage }
+    ensures fixed { IfErr result IsFixed }
 {
     let untrusted = UntrustedToken::try_parse(token)?;
     let (version, purpose) = (untrusted.version(), untrusted.purpose());
@@ -77,7 +77,7 @@ fn push_text_line(
     ensures refused { IfErr result (λ error. IsOutside error ⊎ ((added : List ℕ)
         → ¬ IsTextLine (pointwise nat_eq purpose.now (codes "public")) version.now section.now
         added)) }
-    ensures no_usage { IfErr result IsNoUsage }
+    ensures fixed { IfErr result IsFixed }
 {
     if purpose == "public" {
         push_text(alloc, lines, version, section)
@@ -98,7 +98,7 @@ fn push_text(
         × (string_bytes lines.new ≡ string_bytes lines.old ++ added)) }
     ensures refused { IfErr result (λ error. IsOutside error
         ⊎ ((added : List ℕ) → ¬ SaysText version.now section.now added)) }
-    ensures no_usage { IfErr result IsNoUsage }
+    ensures fixed { IfErr result IsFixed }
 {
     let payload = from_section(alloc, section)?;
     let length = signature_length(version);

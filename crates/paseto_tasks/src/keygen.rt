@@ -3,7 +3,7 @@
 ghost use Rattle.std.specs.Prelude.{◌≡◌, ◌⊎◌, ◌++◌, ◌∷◌, [], length, IfErr, IfOk, IsErrAnd, IsOkAnd, option_map, string_bytes};
 ghost use Rattle.rusty_paseto_paserk.specs.declared.header.PaserkVersion.TheVariants.{V2 as K2, V4 as K4};
 ghost use Rattle.paseto_tasks.specs.declared.arguments.Kind.TheVariants.{V3Public};
-ghost use Rattle.paseto_tasks.specs.Error.{IsNoUsage, IsOutside, key_error_of};
+ghost use Rattle.paseto_tasks.specs.Error.{IsFixed, IsNoUsage, IsOutside, key_error_of};
 ghost use Rattle.paseto_tasks.specs.Keygen.{ArePair, IsGenerated, IsNewLocalKey, IsPairOfEd25519, IsPairOfV3};
 
 use crate::arguments::Kind;
@@ -38,6 +38,7 @@ pub fn keygen<G: TryRng>(
 ) -> Result<NewKey, ProgramError>
     ensures refused { IfErr result (λ error. IsOutside error ⊎ (kind ≡ V3Public)) }
     ensures no_usage { IfErr result IsNoUsage }
+    ensures fixed { IfErr result IsFixed }
     ensures made { IfOk result (λ made. IsGenerated kind
         (λ drawn. G.may_fill generator.old drawn generator.new)
         (string_bytes made.secret) (option_map string_bytes made.public)) }
@@ -82,7 +83,7 @@ fn pair_of_v2<G: TryRng>(alloc: Global, generator: &mut G) -> Result<NewKey, Pro
 }
 
 fn pair_of_v3<G: TryRng>(alloc: Global, generator: &mut G) -> Result<NewKey, ProgramError>
-    ensures no_usage { IfErr result IsNoUsage }
+    ensures fixed { IfErr result IsFixed }
     ensures made { IfOk result (λ made. IsPairOfV3
         (λ drawn. G.may_fill generator.old drawn generator.new)
         (string_bytes made.secret) (option_map string_bytes made.public)) }
@@ -115,7 +116,7 @@ fn pair<V: KeyPairVersion>(
     public: &PasetoAsymmetricPublicKey<'_, V, Public>,
 ) -> Result<NewKey, ProgramError>
     ensures refused { length private.now ≡ V.secret_length → IfErr result IsOutside }
-    ensures no_usage { IfErr result IsNoUsage }
+    ensures fixed { IfErr result IsFixed }
     ensures made { IfOk result (λ made. ArePair V.paserk private.now public.now
         (string_bytes made.secret) (option_map string_bytes made.public)) }
 {
@@ -131,7 +132,7 @@ fn pair<V: KeyPairVersion>(
 fn with_line_feed(text: Result<String, PaserkError>) -> Result<String, ProgramError>
     ensures refused { IfErr result (λ error. IsErrAnd text (λ source. error ≡ key_error_of source)
         ⊎ IsOutside error) }
-    ensures no_usage { IfErr result IsNoUsage }
+    ensures fixed { IfErr result IsFixed }
     ensures line { IfOk result (λ line. IsOkAnd text
         (λ text. string_bytes line ≡ string_bytes text ++ (10 ∷ []))) }
 {

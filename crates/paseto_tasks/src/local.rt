@@ -1,7 +1,7 @@
 //! The commands `encrypt` and `decrypt`, with the key that a line is.
 
 ghost use Rattle.std.specs.Prelude.{◌⊎◌, ℕ, List, IfErr, IfOk, IfSome, string_bytes};
-ghost use Rattle.paseto_tasks.specs.Error.{IsNoUsage, IsOutside};
+ghost use Rattle.paseto_tasks.specs.Error.{IsFixed, IsOutside};
 ghost use Rattle.paseto_tasks.specs.Local.{Decrypts, DecryptsNothing, Encrypts, EncryptsNothing, IsSealedLine, Opens, Seals};
 ghost use Rattle.paseto_tasks.specs.Input.{line_of_input};
 
@@ -32,7 +32,7 @@ pub fn encrypt<R: Read, G: TryRng>(
     ensures refused { IfErr result (λ error. IfSome (R.remaining input.old) (λ text.
         IsOutside error ⊎ EncryptsNothing key.now options.now
         (λ nonce. G.may_fill generator.old nonce generator.new) text)) }
-    ensures no_usage { IfErr result IsNoUsage }
+    ensures fixed { IfErr result IsFixed }
 {
     if is_of_version_3(key) {
         sealed::<V3, R, G>(alloc, key, options, generator, input)
@@ -55,7 +55,7 @@ fn sealed<V: AssertionVersion + KeyVersion, R: Read, G: TryRng>(
         (λ text. IsOutside error ⊎ ((line : List ℕ)
         → ¬ Seals V.paserk V.design key.now options.now
         (λ nonce. G.may_fill generator.old nonce generator.new) text line))) }
-    ensures no_usage { IfErr result IsNoUsage }
+    ensures fixed { IfErr result IsFixed }
 {
     let key = local_from_paserk::<V>(alloc, key)?;
     let text = read_text(alloc, input)?;
@@ -97,7 +97,7 @@ pub fn decrypt<R: Read>(
         Decrypts key.now options.now bytes (string_bytes text))) }
     ensures refused { IfErr result (λ error. IfSome (R.remaining input.old) (λ bytes.
         IsOutside error ⊎ DecryptsNothing key.now options.now bytes)) }
-    ensures no_usage { IfErr result IsNoUsage }
+    ensures fixed { IfErr result IsFixed }
 {
     if is_of_version_3(key) {
         opened::<V3, R>(alloc, key, options, input)
@@ -117,7 +117,7 @@ fn opened<V: AssertionVersion + KeyVersion, R: Read>(
     ensures refused { IfErr result (λ error. IfSome (R.remaining input.old)
         (λ bytes. IsOutside error ⊎ ((text : List ℕ)
         → ¬ Opens V.paserk V.design key.now options.now (line_of_input bytes) text))) }
-    ensures no_usage { IfErr result IsNoUsage }
+    ensures fixed { IfErr result IsFixed }
 {
     let key = local_from_paserk::<V>(alloc, key)?;
     let token = read_line(alloc, input)?;

@@ -3,7 +3,7 @@
 ghost use Rattle.std.specs.Prelude.{◌⊎◌, ℕ, List, IfErr, IfOk, IfSome, string_bytes};
 ghost use Rattle.rusty_paseto_parts.specs.declared.error.PasetoError.{PasetoError};
 ghost use Rattle.rusty_paseto_core.specs.Public.{HasPrivateLength};
-ghost use Rattle.paseto_tasks.specs.Error.{IsNoUsage, IsOutside};
+ghost use Rattle.paseto_tasks.specs.Error.{IsFixed, IsOutside};
 ghost use Rattle.paseto_tasks.specs.Public.{DeclinesKey, DeclinesText, IsSigned, IsVerified, SignsBy, SignsNothing, SignsText, VerifiesBy, VerifiesNothing, VerifiesText};
 ghost use Rattle.paseto_tasks.specs.Input.{line_of_input};
 
@@ -31,7 +31,7 @@ pub fn sign<R: Read>(
         SignsBy key.now options.now text (string_bytes line))) }
     ensures refused { IfErr result (λ error. IfSome (R.remaining input.old) (λ text.
         IsOutside error ⊎ SignsNothing key.now options.now text)) }
-    ensures no_usage { IfErr result IsNoUsage }
+    ensures fixed { IfErr result IsFixed }
 {
     if is_of_version_3(key) {
         sign_by::<V3, R>(alloc, key, options, input)
@@ -54,7 +54,7 @@ fn sign_by<V: Suite + AssertionVersion + Signs<V::Scheme>, R: Read>(
         key.now options.now text line)
         ⊎ DeclinesKey V.paserk V.secret_length (DeclinesText V.declined V.partner
         V.public_design options.now text) key.now))) }
-    ensures no_usage { IfErr result IsNoUsage }
+    ensures fixed { IfErr result IsFixed }
 {
     let key = private_key_from_paserk::<V>(alloc, key)?;
     let text = read_text(alloc, input)?;
@@ -75,7 +75,7 @@ fn signed<V: AssertionVersion + Signs<S>, S>(
         → IfErr result (λ error. IsOutside error
         ⊎ ((source : PasetoError) × DeclinesText V.declined V.partner V.public_design options.now
         text.now key.now source)) }
-    ensures no_usage { IfErr result IsNoUsage }
+    ensures fixed { IfErr result IsFixed }
 {
     let assertion = V::signed_assertion(options.assertion);
     let payload = Payload::from(text);
@@ -95,7 +95,7 @@ pub fn verify<R: Read>(
         VerifiesBy key.now options.now bytes (string_bytes text))) }
     ensures refused { IfErr result (λ error. IfSome (R.remaining input.old) (λ bytes.
         IsOutside error ⊎ VerifiesNothing key.now options.now bytes)) }
-    ensures no_usage { IfErr result IsNoUsage }
+    ensures fixed { IfErr result IsFixed }
 {
     if is_of_version_3(key) {
         verify_by::<V3, R>(alloc, key, options, input)
@@ -117,7 +117,7 @@ fn verify_by<V: Suite + AssertionVersion + Verifies<V::Scheme>, R: Read>(
         (λ bytes. IsOutside error
         ⊎ ((text : List ℕ) → ¬ VerifiesText V.paserk V.valid V.refused V.public_design key.now
         options.now (line_of_input bytes) text))) }
-    ensures no_usage { IfErr result IsNoUsage }
+    ensures fixed { IfErr result IsFixed }
 {
     let key = public_key_from_paserk::<V>(alloc, key)?;
     let token = read_line(alloc, input)?;
@@ -136,7 +136,7 @@ fn verified<V: AssertionVersion + Verifies<S>, S>(
         (string_bytes text)) }
     ensures refused { IfErr result (λ error. IsOutside error ⊎ ((text : List ℕ)
         → ¬ IsVerified V.valid V.refused V.public_design key.now options.now token.now text)) }
-    ensures no_usage { IfErr result IsNoUsage }
+    ensures fixed { IfErr result IsFixed }
 {
     let (footer, assertion) = (options.footer, options.assertion);
     let text = Paseto::<V, Public>::try_verify(alloc, scheme, token, key, footer, assertion)?;

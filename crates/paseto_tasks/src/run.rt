@@ -1,14 +1,15 @@
 //! The program, over any key file, generator, input and outputs.
 
-ghost use Rattle.std.specs.Prelude.{◌≡◌, ◌≢◌, ◌≤◌, ◌==◌, ◌⊎◌, ℕ, List, IfOk, IfErr, IfSome, IsErrAnd, IsOkAnd, OnOk, is_ok, string_bytes};
+ghost use Rattle.std.specs.Prelude.{◌≡◌, ◌≢◌, ◌≤◌, ◌==◌, ◌⊎◌, ℕ, List, IfOk, IfErr, IfSome, IsErrAnd, IsOkAnd, OnErr, OnOk, is_ok, string_bytes};
 ghost use Rattle.std.specs.Io.{StartsWith};
 ghost use Rattle.std.specs.Io.KnownBytes.{Appends};
 ghost use Rattle.paseto_tasks.specs.Half.{HasHalf, HasNoHalf};
 ghost use Rattle.paseto_tasks.specs.Id.{Identifies, IdentifiesNothing};
 ghost use Rattle.paseto_tasks.specs.declared.error.ProgramError.{ProgramError};
-ghost use Rattle.paseto_tasks.specs.Error.{IsNoUsage, IsOutside, line_of, status_of};
+ghost use Rattle.paseto_tasks.specs.Error.{IsCauseOf, IsFixed, IsOutside, line_of, status_of};
 ghost use Rattle.paseto_tasks.specs.Input.{line_of_input};
 ghost use Rattle.paseto_tasks.specs.Inspect.{Inspects, InspectsNothing};
+ghost use Rattle.paseto_tasks.specs.Output.{IsLeftOf};
 ghost use Rattle.paseto_tasks.specs.Run.{IsRefused, Prints, Writes};
 
 use crate::arguments::{Options, Task};
@@ -28,8 +29,8 @@ use std::io::{Read, Write};
 ///
 /// It is 0 where the whole output was written, 1 where the key, the text or the token was refused, and 3 where memory
 /// or random bytes were, or a read or a write failed; then the error's text and a line feed go to `errors`, or a
-/// beginning of them where a write fails there, which changes no status. What is refused writes nothing to `output`,
-/// and a write that fails leaves a beginning of the output there.
+/// beginning of them where a write fails there, which changes no status. Such a text holds nothing of the key or of the
+/// input. What is refused writes nothing to `output`, and a write that fails leaves a beginning of the output there.
 pub fn run<K: Read, G: TryRng, R: Read, W: Write, E: Write>(
     alloc: Global,
     task: Task,
@@ -53,7 +54,7 @@ pub fn run<K: Read, G: TryRng, R: Read, W: Write, E: Write>(
         IsRefused task options.now (λ drawn. G.may_fill generator.old drawn generator.new) file
         bytes)) }
     ensures quiet { result ≡ 0 → errors.new ≡ errors.old }
-    ensures said { result ≢ 0 → (error : ProgramError) × (status_of error ≡ result)
+    ensures said { result ≢ 0 → (error : ProgramError) × (status_of error ≡ result) × IsFixed error
         × ((said : List ℕ) × StartsWith (line_of names.now error) said × Appends (E.contents errors.old)
         (E.contents errors.new) said) }
 {
@@ -81,7 +82,7 @@ fn print<K: Read, G: TryRng, R: Read, W: Write>(
         × IfSome (K.remaining key_file.old) (λ file. IfSome (R.remaining input.old) (λ bytes.
         Writes task options.now (λ drawn. G.may_fill generator.old drawn generator.new) file bytes
         (is_ok result) written)) }
-    ensures no_usage { IfErr result IsNoUsage }
+    ensures fixed { IfErr result IsFixed }
     ensures untouched { IfErr result (λ error. (status_of error ≡ 3) ⊎ (output.new ≡ output.old)) }
     ensures refused { IfErr result (λ error. IfSome (K.remaining key_file.old)
         (λ file. IfSome (R.remaining input.old) (λ bytes.
@@ -105,10 +106,14 @@ pub fn run_inspect<R: Read, W: Write, E: Write>(
     ensures written { result ≡ 0 → (written : List ℕ)
         × Appends (W.contents output.old) (W.contents output.new) written
         × IfSome (R.remaining input.old) (λ bytes. Inspects (line_of_input bytes) written) }
+    ensures cut { result ≢ 0 → (written : List ℕ)
+        × Appends (W.contents output.old) (W.contents output.new) written
+        × IfSome (R.remaining input.old) (λ bytes.
+        IsLeftOf (λ lines. Inspects (line_of_input bytes) lines) written) }
     ensures refused { result ≡ 1 → (output.new ≡ output.old)
         × IfSome (R.remaining input.old) (λ bytes. InspectsNothing (line_of_input bytes)) }
     ensures quiet { result ≡ 0 → errors.new ≡ errors.old }
-    ensures said { result ≢ 0 → (error : ProgramError) × (status_of error ≡ result)
+    ensures said { result ≢ 0 → (error : ProgramError) × (status_of error ≡ result) × IsFixed error
         × ((said : List ℕ) × StartsWith (line_of names.now error) said × Appends (E.contents errors.old)
         (E.contents errors.new) said) }
 {
@@ -130,10 +135,14 @@ fn print_inspection<R: Read, W: Write>(
     ensures written { OnOk result ((written : List ℕ)
         × Appends (W.contents output.old) (W.contents output.new) written
         × IfSome (R.remaining input.old) (λ bytes. Inspects (line_of_input bytes) written)) }
+    ensures cut { OnErr result ((written : List ℕ)
+        × Appends (W.contents output.old) (W.contents output.new) written
+        × IfSome (R.remaining input.old) (λ bytes.
+        IsLeftOf (λ lines. Inspects (line_of_input bytes) lines) written)) }
     ensures refused { IfErr result (λ error. (status_of error ≡ 3) ⊎ (output.new ≡ output.old)) }
     ensures nothing { IfErr result (λ error. IfSome (R.remaining input.old)
         (λ bytes. IsOutside error ⊎ InspectsNothing (line_of_input bytes))) }
-    ensures no_usage { IfErr result IsNoUsage }
+    ensures fixed { IfErr result IsFixed }
 {
     let token = read_line(alloc, input)?;
     let made = inspect(alloc, token.as_str())?;
@@ -153,7 +162,7 @@ fn make<K: Read, G: TryRng, R: Read>(
         (λ file. IfSome (R.remaining input.old) (λ bytes.
         Prints task options.now (λ drawn. G.may_fill generator.old drawn generator.new) file bytes
         (string_bytes made)))) }
-    ensures no_usage { IfErr result IsNoUsage }
+    ensures fixed { IfErr result IsFixed }
     ensures refused { IfErr result (λ error. IfSome (K.remaining key_file.old)
         (λ file. IfSome (R.remaining input.old) (λ bytes.
         IsOutside error ⊎ IsRefused task options.now
@@ -182,9 +191,12 @@ pub fn run_id<W: Write, E: Write>(
     ensures written { result ≡ 0 → (written : List ℕ)
         × Appends (W.contents output.old) (W.contents output.new) written
         × Identifies key.now written }
+    ensures cut { result ≢ 0 → (written : List ℕ)
+        × Appends (W.contents output.old) (W.contents output.new) written
+        × IsLeftOf (Identifies key.now) written }
     ensures refused { result ≡ 1 → (output.new ≡ output.old) × IdentifiesNothing key.now }
     ensures quiet { result ≡ 0 → errors.new ≡ errors.old }
-    ensures said { result ≢ 0 → (error : ProgramError) × (status_of error ≡ result)
+    ensures said { result ≢ 0 → (error : ProgramError) × (status_of error ≡ result) × IsFixed error
         × ((said : List ℕ) × StartsWith (line_of names.now error) said × Appends (E.contents errors.old)
         (E.contents errors.new) said) }
 {
@@ -204,9 +216,12 @@ pub fn run_public<W: Write, E: Write>(
     ensures written { result ≡ 0 → (written : List ℕ)
         × Appends (W.contents output.old) (W.contents output.new) written
         × HasHalf key.now written }
+    ensures cut { result ≢ 0 → (written : List ℕ)
+        × Appends (W.contents output.old) (W.contents output.new) written
+        × IsLeftOf (HasHalf key.now) written }
     ensures refused { result ≡ 1 → (output.new ≡ output.old) × HasNoHalf key.now }
     ensures quiet { result ≡ 0 → errors.new ≡ errors.old }
-    ensures said { result ≢ 0 → (error : ProgramError) × (status_of error ≡ result)
+    ensures said { result ≢ 0 → (error : ProgramError) × (status_of error ≡ result) × IsFixed error
         × ((said : List ℕ) × StartsWith (line_of names.now error) said × Appends (E.contents errors.old)
         (E.contents errors.new) said) }
 {
@@ -223,10 +238,13 @@ pub fn finish<W: Write, E: Write>(
     ensures status { result ≤ 3 }
     ensures written { result ≡ 0 → IsOkAnd made
         (λ text. Appends (W.contents output.old) (W.contents output.new) (string_bytes text)) }
+    ensures cut { result ≢ 0 → (left : List ℕ)
+        × Appends (W.contents output.old) (W.contents output.new) left
+        × IsLeftOf (λ line. IsOkAnd made (λ text. string_bytes text ≡ line)) left }
     ensures refused { (result ≡ 1) ⊎ (result ≡ 2) → (output.new ≡ output.old)
         × IsErrAnd made (λ error. status_of error ≡ result) }
     ensures quiet { result ≡ 0 → errors.new ≡ errors.old }
-    ensures said { result ≢ 0 → (error : ProgramError) × (status_of error ≡ result)
+    ensures said { result ≢ 0 → (error : ProgramError) × (status_of error ≡ result) × IsCauseOf made error
         × ((said : List ℕ) × StartsWith (line_of names.now error) said × Appends (E.contents errors.old)
         (E.contents errors.new) said) }
 {
@@ -243,8 +261,12 @@ pub fn finish<W: Write, E: Write>(
 fn written<W: Write>(made: Result<String, ProgramError>, output: &mut W) -> Result<(), ProgramError>
     ensures written { OnOk result (IsOkAnd made
         (λ text. Appends (W.contents output.old) (W.contents output.new) (string_bytes text))) }
+    ensures cut { OnErr result ((left : List ℕ)
+        × Appends (W.contents output.old) (W.contents output.new) left
+        × IsLeftOf (λ line. IsOkAnd made (λ text. string_bytes text ≡ line)) left) }
     ensures refused { IfErr result (λ error. (status_of error ≡ 3)
         ⊎ ((output.new ≡ output.old) × IsErrAnd made (λ cause. cause ≡ error))) }
+    ensures cause { IfErr result (λ error. IsCauseOf made error) }
 {
     write_whole(output, made?.as_str().as_bytes())
 }

@@ -4,6 +4,7 @@ use Rattle.rusty_paseto_parts.specs.PublicKey.{is_compressed}
 use Rattle.paseto_tasks.proofs.Halves.{compressed}
 use Rattle.paseto_tasks.proofs.half.half_of_p384.Goals as goal
 
+-- the public key of a private key is one, so that none is refused
 pub returns-in_err-half-clause-refused : goal.returns-in_err-half-clause-refused
 returns-in_err-half-clause-refused c =
     let point : IsTrue (is_compressed c.from-half.result) =
