@@ -8,7 +8,7 @@ use crate::expect::{expect_refusal, expect_text, expect_that};
 use crate::kinds::{Binding, Kind, SECRET, symmetric_key};
 use jiff::Timestamp;
 use paseto_toys::generators::Counting;
-use rusty_paseto::prelude::{CountingSetter, Local, PasetoBuilder, V4, fits_default};
+use rusty_paseto::prelude::{CountingSetter, Local, PasetoBuilder, PasetoParser, V4, fits_default};
 use serde_json::Value;
 use std::alloc::Global;
 use std::process::Abort;
@@ -149,10 +149,8 @@ fn end_of(rt: &impl Abort, alloc: Global, now: Timestamp, seconds: u32) -> Strin
     let token = builder
         .build(&mut Counting::new(), &key)
         .expect(rt, "a token");
-    let text = Kind::V4Local
-        .read(alloc, token.as_str(), Binding::NONE)
-        .expect(rt, "a text");
-    let claims = value_of(rt, alloc, text.as_str());
+    let parser = PasetoParser::<V4, Local>::new(alloc);
+    let claims = parser.parse(token.as_str(), &key).expect(rt, "claims");
     let end = claims.get("exp").expect(rt, "an expiration");
     String::from_str(alloc, end.as_str().expect(rt, "a text")).expect(rt, "memory")
 }
