@@ -105,7 +105,7 @@ fn refusals_of_local_tokens() -> Outcome {
 fn refusals_of_public_tokens() -> Outcome {
     let token = signed("a text")?;
     assert_eq!(verified(&token)?, "a text");
-    let other = signed("another")?;
+    let other = signed("b text")?;
     let (front, _) = token.split_at(token.len() - 86);
     let (_, signature) = other.split_at(other.len() - 86);
     assert_eq!(
