@@ -13,6 +13,6 @@ unfoldable pub mixed : List ℕ → List ℕ → ℕ → List ℕ
 mixed password salt zero = output password salt zero
 mixed password salt (suc j) = xored (slice_index (output password salt (suc j))) (mixed password salt j)
 
--- T_1, by so many iterations
+-- T_1, by so many iterations, of which there is always one
 abbrev pub derived_key : List ℕ → List ℕ → ℕ → List ℕ
 derived_key password salt iterations = mixed password salt (iterations - 1)

@@ -1,6 +1,6 @@
 //! PBKDF2 (RFC 8018 section 5.2) with HMAC-SHA384.
 
-ghost use Rattle.std.specs.Prelude.{◌≡◌, ◌≤◌, slice_index};
+ghost use Rattle.std.specs.Prelude.{◌≡◌, slice_index};
 ghost use Rattle.rusty_paseto_primitives.specs.Keystream.{xored};
 ghost use Rattle.paseto_pbkdf2.specs.Pbkdf2.{derived_key, output};
 
@@ -9,19 +9,19 @@ use rusty_paseto_primitives::{HmacSha384, hmac_sha384};
 // The length in bytes of a block of the key, which is that of a code.
 const BLOCK_LEN: usize = 48;
 
-/// The key that a password and a salt, each of any length, give by at least one iteration: the first block of PBKDF2,
-/// 48 bytes. A shorter key is what it begins with.
+/// The key that a password and a salt, each of any length, give by so many iterations: the first block of PBKDF2, 48
+/// bytes. A shorter key is what it begins with.
 ///
-/// Each iteration costs an attacker who guesses passwords as much as it costs here. No memory is taken.
+/// Each iteration costs an attacker who guesses passwords as much as it costs here. There is always one: 0 gives what 1
+/// gives. No memory is taken.
 ///
 /// Source: RFC 8018, section 5.2.
 pub fn pbkdf2_sha384(password: &[u8], salt: &[u8], iterations: u32) -> [u8; 48]
-    requires { 1 ≤ iterations }
     ensures { result ≡ derived_key password.now salt.now iterations }
 {
     let mut output = first_output(password, salt);
     let mut key = output;
-    'iterations: for _done in 1..iterations {
+    'iterations: for _done in 1..iterations.max(1) {
         output = hmac_sha384(password, &output);
         mix(&mut key, &output);
     }

@@ -29,7 +29,9 @@ fn text<'a>(matches: &ArgMatches<'a>, id: &str) -> Option<&'a str>
 }
 
 /// Whether an option stands among the words.
-pub fn has(matches: &ArgMatches<'_>, id: &str) -> bool {
+pub fn has(matches: &ArgMatches<'_>, id: &str) -> bool
+    ensures { result ≡ is_some (first_of id.now (rows_in matches.now)) }
+{
     text(matches, id).is_some()
 }
 

@@ -19,5 +19,5 @@ iterations-preserved c =
 
 pub returns : goal.returns
 returns c =
-    let all : c.iterations._done ≡ c.args.iterations = omega arith in
-    c.iterations.invariant.1 ∙ ap (λ (n : ℕ). mixed c.args.password.now c.args.salt.now (n - 1)) all
+    let all : c.iterations._done - 1 ≡ c.args.iterations - 1 = omega arith in
+    c.iterations.invariant.1 ∙ ap (λ (n : ℕ). mixed c.args.password.now c.args.salt.now n) all
