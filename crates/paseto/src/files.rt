@@ -1,6 +1,7 @@
 //! The files and streams that words name.
 
 use crate::fault::Fault;
+use crate::folder;
 use paseto_tasks::{ProgramError, write_whole};
 use std::fs::File;
 use std::os::unix::fs::OpenOptionsExt;
@@ -23,7 +24,7 @@ pub fn name_of(input: Option<&str>) -> &str {
 
 /// The file that is named.
 pub fn opened<'a>(rt: &HostRuntime, path: &'a str) -> Result<File, Fault<'a>> {
-    match paseto_commands::opened(File::open(rt, path)) {
+    match folder::opened(File::open(rt, path)) {
         Ok(file) => Ok(file),
         Err(error) => Err(Fault::about(path, error)),
     }
@@ -48,7 +49,7 @@ fn new_file(rt: &HostRuntime, path: &str, mode: u32) -> Result<File, ProgramErro
         .create_new(true)
         .mode(mode)
         .open(rt, path);
-    paseto_commands::opened(file)
+    folder::opened(file)
 }
 
 /// Writes what was made to a new file, which its owner alone may read, or to standard output.

@@ -1,8 +1,10 @@
 //! Makes keys in files, and PASETO tokens by them: issues and checks claims, encrypts, decrypts, signs and verifies.
 #![tactic(auto)]
 
+mod commands;
 mod fault;
 mod files;
+mod folder;
 mod half;
 mod keys;
 mod new_key;

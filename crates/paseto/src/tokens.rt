@@ -1,11 +1,12 @@
 //! The commands `issue` and `check`.
 
+use crate::commands::check::Keys;
+use crate::commands::run::{run_check, run_issue};
 use crate::fault::Fault;
 use crate::files::{is_standard, name_of, opened, write_new};
+use crate::folder::key_lines;
 use crate::keys::{key_line, key_name};
 use jiff::Timestamp;
-use paseto_commands::run::{run_check, run_issue};
-use paseto_commands::{Keys, key_lines};
 use paseto_tasks::{Names, Options, ProgramError};
 use paseto_words::{Check, Foot, Issue, Keys as KeyWords};
 use rand::rngs::SysRng;

@@ -1,0 +1,94 @@
+-- What is parsed under the keys of lines.
+use Rattle.std.proofs.Common.{◌≡◌, ◌⊎◌, ℕ, List, [], Bool, true, false, Option, None, Some, option_map, Result, Ok, Err, IfOk, IfErr, IsErrAnd, inl, inr, refl, sym, ap, subst₂, ◌∙◌}
+use Rattle.std.proofs.lemmas.List.{append_cancel_left}
+use Rattle.serde_json.specs.Data.{Data}
+use Rattle.serde_json.specs.View.{view}
+use Rattle.serde_json.specs.declared.value.Value.{Value}
+use Rattle.rusty_paseto_parts.proofs.SectionLemmas.{base64url-injective}
+use Rattle.rusty_paseto_parts.specs.Footer.{footer_text}
+use Rattle.rusty_paseto_parts.specs.declared.texts.footer.Footer.{Footer}
+use Rattle.rusty_paseto_parts.specs.declared.texts.implicit_assertion.ImplicitAssertion.{ImplicitAssertion}
+use Rattle.rusty_paseto_core.specs.Context.{Binding, binding_of}
+use Rattle.rusty_paseto_core.specs.Reading.{Reading}
+use Rattle.rusty_paseto_generic.specs.Error.Parser.{IsMemory}
+use Rattle.rusty_paseto_generic.specs.Parsers.Parsing.{IsParseAnswer, IsParsed, assertion_in}
+use Rattle.rusty_paseto_generic.specs.Parsers.Rules.{Rules, no_rule}
+use Rattle.rusty_paseto_generic.specs.Validator.{Verdict}
+use Rattle.rusty_paseto_generic.specs.declared.error.GenericParserError.{GenericParserError}
+use Rattle.rusty_paseto_paserk.specs.Header.{header}
+use Rattle.rusty_paseto_paserk.specs.declared.header.PaserkVersion.{PaserkVersion}
+use Rattle.rusty_paseto_paserk.specs.declared.header.PaserkType.{PaserkType}
+use Rattle.paseto_tasks.specs.declared.error.ProgramError.{ProgramError}
+use Rattle.paseto.specs.Check.{IsTheValue, ParsesWith, bound_to}
+use Rattle.paseto_tasks.specs.Error.{IsOutside, Lacks}
+use Rattle.paseto_tasks.specs.Id.{IsKeyLine, IsKeyOf}
+
+-- ---- parsed
+
+-- a line writes one key
+pub same_key : (IsKey : List ℕ → Type 0) (kind : PaserkType) (version : PaserkVersion) (line one two : List ℕ)
+    → IsKeyLine IsKey kind version line one → IsKeyLine IsKey kind version line two → one ≡ two
+same_key IsKey kind version line one two a b =
+    base64url-injective one two a.bytes b.bytes (append_cancel_left (header version kind) _ _ (sym a.is_writing ∙ b.is_writing))
+
+-- what a token is bound to with a footer and no assertion
+plain : (key : List ℕ) (footer : Option Footer) (binds : Bool) → binding_of key footer (assertion_in binds None) ≡ bound_to key (option_map footer_text footer) []
+plain key None true = refl
+plain key None false = refl
+plain key (Some footer) true = refl
+plain key (Some footer) false = refl
+
+pub same_binding : (key : List ℕ) (footer : Option Footer) (assertion : Option ImplicitAssertion) (binds : Bool) (text : Option (List ℕ)) → assertion ≡ None
+    → option_map footer_text footer ≡ text → binding_of key footer (assertion_in binds assertion) ≡ bound_to key text []
+same_binding key footer assertion binds text none same =
+    ap (λ (a : Option ImplicitAssertion). binding_of key footer (assertion_in binds a)) none ∙ plain key footer binds ∙ ap (λ (t : Option (List ℕ)). bound_to key t []) same
+
+-- ---- the one value
+
+-- there is none
+pub no_value : (Is : Data → Type 0) (error : ProgramError) → Lacks Is error → IsTheValue Is (Err error)
+no_value Is error none = record { found = tt; one = tt; none = none }
+
+-- what is so in other words
+pub in_words_of : (A B : Data → Type 0) → ((value : Data) → A value → B value) → ((value : Data) → B value → A value)
+    → (result : Result Value ProgramError) → IsTheValue A result → IsTheValue B result
+in_words_of A B into back (Ok value) is = record {
+  found = into (view value) is.found;
+  one = λ other so. is.one other (back other so);
+  none = tt;
+}
+in_words_of A B into back (Err error) is = no_value B error (elim is.none [
+  | inl outside ↦ inl outside
+  | inr none ↦ inr (λ value so. none value (back value so))
+])
+
+-- where something is known beside
+pub beside : (result : Result Value ProgramError) (R : Type 0) (P : Data → Type 0) → R → IsTheValue P result → IsTheValue (λ value. R × P value) result
+beside result R P r = in_words_of P (λ value. R × P value) (λ value is. (r, is)) (λ value both. both.1) result
+
+module _ (reading : Binding → Reading) (kind : PaserkType) (version : PaserkVersion) (line : List ℕ) (footer : Option (List ℕ)) (token key : List ℕ)
+    (is_key : IsKeyLine (IsKeyOf kind version) kind version line key) (binding : Binding) (rules : Rules Verdict)
+    (bound : binding ≡ bound_to key footer []) (unruled : rules ≡ (λ key. no_rule)) where
+  parsed_with : (value : Data) → IsParsed (reading binding) rules token value → ParsesWith kind version reading line footer token value
+  parsed_with value parsed = record {
+    key = key;
+    is_key = is_key;
+    is_parsed = subst₂ (λ (b : Binding) (r : Rules Verdict). IsParsed (reading b) r token value) bound unruled parsed;
+  }
+
+  parsed_so : (value : Data) → ParsesWith kind version reading line footer token value → IsParsed (reading binding) rules token value
+  parsed_so value is = subst₂ (λ (b : Binding) (r : Rules Verdict). IsParsed (reading b) r token value)
+      (ap (λ (k : List ℕ). bound_to k footer []) (same_key (IsKeyOf kind version) kind version line is.key key is.is_key is_key) ∙ sym bound) (sym unruled) is.is_parsed
+
+  pub parses : (parsed : Result Value ProgramError) (answer : Result Value GenericParserError) → IfOk parsed (λ value. answer ≡ Ok value)
+      → IfErr parsed (λ error. IsErrAnd answer (λ source. IsOutside error ⊎ (¬ IsMemory source)))
+      → IsParseAnswer (reading binding) rules token answer
+      → IsTheValue (λ value. ParsesWith kind version reading line footer token value) parsed
+  parses (Ok value) answer is refused answered =
+      let parsed : IsParsed (reading binding) rules token (view value) = rw is at answered.parsed in
+      let one : (other : Data) → IsParsed (reading binding) rules token other → view value ≡ other = rw is at answered.complete in
+      record { found = parsed_with (view value) parsed; one = λ other so. sym (one other (parsed_so other so)); none = tt }
+  parses (Err error) (Ok value) is refused answered = absurd refused
+  parses (Err error) (Err source) is (inl outside) answered = no_value _ error (inl outside)
+  parses (Err error) (Err source) is (inr none) answered =
+      no_value _ error (inr (λ value so. none (answered.complete value (parsed_so value so))))

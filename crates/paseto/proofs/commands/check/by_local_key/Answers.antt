@@ -1,0 +1,15 @@
+use Rattle.std.specs.Prelude.{⊤}
+use Rattle.paseto.proofs.Parsed.{beside}
+use Rattle.paseto.proofs.commands.check.by_local_key.Goals as goal
+
+pub returns-in-V1-clause-answer : goal.returns-in-V1-clause-answer
+returns-in-V1-clause-answer c = rw c.in-V1.is (beside c.opened.result ⊤ _ tt c.opened.ensures.answer)
+
+pub returns-in-V2-clause-answer : goal.returns-in-V2-clause-answer
+returns-in-V2-clause-answer c = rw c.in-V2.is (beside c.unboxed.result ⊤ _ tt c.unboxed.ensures.answer)
+
+pub returns-in-V3-clause-answer : goal.returns-in-V3-clause-answer
+returns-in-V3-clause-answer c = rw c.in-V3.is (beside c.opened-in-V3.result ⊤ _ tt c.opened-in-V3.ensures.answer)
+
+pub returns-in-V4-clause-answer : goal.returns-in-V4-clause-answer
+returns-in-V4-clause-answer c = rw c.in-V4.is (beside c.opened-in-V4.result ⊤ _ tt c.opened-in-V4.ensures.answer)

@@ -1,0 +1,12 @@
+use Rattle.std.specs.Prelude.{⊤}
+use Rattle.paseto.proofs.Parsed.{beside}
+use Rattle.paseto.proofs.commands.check.by_public_key.Goals as goal
+
+pub returns-in-V2-clause-answer : goal.returns-in-V2-clause-answer
+returns-in-V2-clause-answer c = rw c.in-V2.is (beside c.verified.result ⊤ _ tt c.verified.ensures.answer)
+
+pub returns-in-V3-clause-answer : goal.returns-in-V3-clause-answer
+returns-in-V3-clause-answer c = rw c.in-V3.is (beside c.verified-in-V3.result ⊤ _ tt c.verified-in-V3.ensures.answer)
+
+pub returns-in-V4-clause-answer : goal.returns-in-V4-clause-answer
+returns-in-V4-clause-answer c = rw c.in-V4.is (beside c.verified-in-V4.result ⊤ _ tt c.verified-in-V4.ensures.answer)

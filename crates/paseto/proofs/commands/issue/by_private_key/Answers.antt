@@ -1,0 +1,19 @@
+use Rattle.paseto.proofs.commands.issue.by_private_key.Goals as goal
+
+pub returns-in-V2-clause-found : goal.returns-in-V2-clause-found
+returns-in-V2-clause-found c = rw c.in-V2.is c.signed.ensures.found
+
+pub returns-in-V2-clause-none : goal.returns-in-V2-clause-none
+returns-in-V2-clause-none c = rw c.in-V2.is c.signed.ensures.none
+
+pub returns-in-V3-clause-found : goal.returns-in-V3-clause-found
+returns-in-V3-clause-found c = rw c.in-V3.is c.signed-in-V3.ensures.found
+
+pub returns-in-V3-clause-none : goal.returns-in-V3-clause-none
+returns-in-V3-clause-none c = rw c.in-V3.is c.signed-in-V3.ensures.none
+
+pub returns-in-V4-clause-found : goal.returns-in-V4-clause-found
+returns-in-V4-clause-found c = rw c.in-V4.is c.signed-in-V4.ensures.found
+
+pub returns-in-V4-clause-none : goal.returns-in-V4-clause-none
+returns-in-V4-clause-none c = rw c.in-V4.is c.signed-in-V4.ensures.none

@@ -1,0 +1,30 @@
+use Rattle.std.proofs.lemmas.Result.{err_from_is_err_and}
+use Rattle.rusty_paseto.specs.Held.{counting}
+use Rattle.rusty_paseto_generic.specs.Builders.Held.{held}
+use Rattle.paseto.specs.Issue.{ordered}
+use Rattle.paseto.proofs.Issued.{seals_found, seals_never, seals_none}
+use Rattle.paseto.proofs.commands.issue.sealed.Goals as goal
+
+pub returns-clause-found : goal.returns-clause-found
+returns-clause-found g c =
+    let key = c.in_ok-key.ensures in
+    let builder = c.in_ok-builder.builder in
+    let made = c.in_ok-builder.ensures in
+    seals_found (ordered c.args.order.now) (held builder.builder.claims) (counting builder.keys) builder.builder.paseto.footer builder.builder.paseto.implicit_assertion
+    made.claims made.keys made.footer made.assertion g.V.KeyVersion.paserk g.V.LocalSuite.design c.args.key.now _ c.with_line_feed.result c.build.result c.in_ok-built.field-0 c.in_ok-key.key
+    (record { size = key.form; bytes = key.bytes; is_writing = key.written })
+    c.in_ok-built.ensures.value c.build.ensures.repeated.ok c.build.ensures.ok c.with_line_feed.ensures.line
+
+pub returns-in_err-builder-clause-none : goal.returns-in_err-builder-clause-none
+returns-in_err-builder-clause-none g c =
+    let p = err_from_is_err_and c.from_residual-in_err-builder.result c.from_residual-in_err-builder.ensures.1 in
+    rw (p.1, p.2) (seals_never (ordered c.args.order.now) g.V.KeyVersion.paserk g.V.LocalSuite.design c.args.key.now c.in_err-builder.field-0.0 c.in_err-builder.ensures.never)
+
+pub returns-in_err-built-clause-none : goal.returns-in_err-built-clause-none
+returns-in_err-built-clause-none g c =
+    let p = err_from_is_err_and c.from_residual-in_err-built.result c.from_residual-in_err-built.ensures.1 in
+    let builder = c.in_ok-builder.builder in
+    let made = c.in_ok-builder.ensures in
+    rw (p.1, p.2) (seals_none (ordered c.args.order.now) (held builder.builder.claims) (counting builder.keys) builder.builder.paseto.footer builder.builder.paseto.implicit_assertion
+    made.claims made.keys made.footer made.assertion g.V.KeyVersion.paserk g.V.LocalSuite.design c.args.key.now c.build.result c.in_err-built.field-0.0 _
+    c.in_err-built.ensures.refused c.build.ensures.err)

@@ -1,0 +1,13 @@
+use Rattle.paseto.specs.Issue.{DeclinesOrder, ordered}
+use Rattle.paseto.proofs.Issued.{signs_by}
+use Rattle.paseto.proofs.commands.issue.signed.Goals as goal
+
+pub returns-clause-none : goal.returns-clause-none
+returns-clause-none g c =
+    let key = c.in_ok-key.ensures in
+    signs_by g.V.KeyVersion.paserk g.V.KeyPairVersion.secret_length g.V.Signs.valid
+    (DeclinesOrder g.V.Signs.declined g.V.Signs.partner g.V.PublicSuite.public_design (ordered c.args.order.now)) g.V.PublicSuite.public_design g.V.Signs.partner
+    c.args.key.now (ordered c.args.order.now) c.in_ok-key.key c.lend.result c.signed_by.result
+    (record { has_size = key.form; bytes = key.bytes; is_writing = key.written }) c.lend.ensures
+    (λ other bytes size is. key.read other bytes size is)
+    (c.signed_by.ensures.none (rw c.lend.ensures (g.met.V.Suite.has_private_length c.in_ok-key.key key.form)))

@@ -1,0 +1,28 @@
+use Rattle.std.proofs.Common.{string_bytes}
+use Rattle.paseto_tasks.specs.Error.{IsNoRefusal}
+use Rattle.paseto_tasks.specs.Arguments.{texts}
+use Rattle.paseto.specs.Check.{AreDemands, Demanded, demanded}
+use Rattle.paseto.proofs.Witnesses.{checks_for, checks_none, known_for}
+use Rattle.paseto.proofs.commands.run.claims_line.Goals as goal
+
+pub returns-clause-found : goal.returns-clause-found
+returns-clause-found g c =
+    checks_for (g.R.Read.remaining c.args.input.now) c.check.result (string_bytes c.in_ok-token.token) c.as_str.result.now
+    (texts c.args.claims.now) c.args.options.now c.args.now c.args.keys.now (demanded c.in_ok-demands.demands)
+    c.in_ok-token.ensures.line c.as_str.ensures.value c.as_str.utf8 c.in_ok-demands.ensures.found c.check.ensures.found
+
+pub returns-clause-none : goal.returns-clause-none
+returns-clause-none g c =
+    checks_none (g.R.Read.remaining c.args.input.now) c.check.result (string_bytes c.in_ok-token.token) c.as_str.result.now
+    (texts c.args.claims.now) c.args.options.now c.args.now c.args.keys.now (demanded c.in_ok-demands.demands)
+    c.in_ok-token.ensures.line c.as_str.ensures.value c.in_ok-demands.ensures.found c.check.ensures.none
+
+pub returns-in_err-token-clause-demanded : goal.returns-in_err-token-clause-demanded
+returns-in_err-token-clause-demanded g c =
+    known_for c.from_residual-in_err-token.result IsNoRefusal ((demands : Demanded) × AreDemands (texts c.args.claims.now) c.args.options.now c.args.now demands)
+    (demanded c.in_ok-demands.demands, c.in_ok-demands.ensures.found)
+
+pub returns-clause-demanded : goal.returns-clause-demanded
+returns-clause-demanded g c =
+    known_for c.check.result IsNoRefusal ((demands : Demanded) × AreDemands (texts c.args.claims.now) c.args.options.now c.args.now demands)
+    (demanded c.in_ok-demands.demands, c.in_ok-demands.ensures.found)

@@ -1,0 +1,94 @@
+-- The command `check`.
+use Rattle.std.specs.Prelude.{◌≡◌, ℕ, List, [], true, Option, None, Some, Result, IfErr, IfOk, codes, option_map, string_bytes, unwrap_or}
+use Rattle.jiff.specs.Types.{Timestamp}
+use Rattle.serde_json.specs.Data.{Data}
+use Rattle.serde_json.specs.View.{view}
+use Rattle.serde_json.specs.declared.value.Value.{Value}
+use Rattle.rusty_paseto_core.specs.Context.{Binding}
+use Rattle.rusty_paseto_core.specs.Reading.{Reading}
+use Rattle.rusty_paseto_generic.specs.Parsers.Held.{default_date}
+use Rattle.rusty_paseto_generic.specs.Parsers.Parsing.{IsParsed}
+use Rattle.rusty_paseto_generic.specs.Parsers.Rules.{Rules, edited, no_rule, with_both}
+use Rattle.rusty_paseto_generic.specs.Parsers.Times.{expiry, not_before, times_at}
+use Rattle.rusty_paseto_generic.specs.Parsers.Verdicts.{PassesAll}
+use Rattle.rusty_paseto_generic.specs.Validator.{Verdict}
+use Rattle.rusty_paseto_paserk.specs.declared.header.PaserkVersion.{PaserkVersion}
+use Rattle.rusty_paseto_paserk.specs.declared.header.PaserkType.{PaserkType}
+use Rattle.paseto_tasks.specs.declared.arguments.Options.{Options}
+use Rattle.paseto_tasks.specs.declared.error.ProgramError.{ProgramError}
+use Rattle.paseto.specs.declared.commands.check.Demands.{Demands}
+use Rattle.paseto.specs.Claims.{AreClaims, Named, all_demanded, all_named, are_whole}
+use Rattle.paseto.specs.Footers.{IsFooter}
+use Rattle.paseto_tasks.specs.Error.{Lacks}
+use Rattle.paseto_tasks.specs.Id.{IsKeyLine, IsKeyOf}
+use Rattle.paseto.specs.Readers.{IsReader, reading_of}
+use Rattle.paseto.specs.Times.{SaysMoment}
+
+-- what is demanded of a token: the moment at which it is checked, its claims, and its footer or none
+pub record Demanded : Type 0 where
+  pub at : Timestamp
+  pub claims : List Named
+  pub footer : Option (List ℕ)
+
+abbrev pub demanded : Demands → Demanded
+demanded demands = record {
+  at = demands.at;
+  claims = all_named demands.claims.items;
+  footer = option_map string_bytes demands.footer;
+}
+
+-- the moment of checking: that of the word, or else the present one
+abbrev pub IsCheckedAt : Option (List ℕ) → Timestamp → Timestamp → Type 0
+IsCheckedAt (Some word) now moment = SaysMoment word now moment
+IsCheckedAt None now moment = moment ≡ now
+
+-- what words demand at a moment
+pub record AreDemands (claims : List (List ℕ)) (options : Options) (now : Timestamp) (demands : Demanded) : Type 0 where
+  pub moment : IsCheckedAt (option_map (λ word. word.now) options.at) now demands.at
+  pub are_claims : AreClaims claims demands.claims
+  pub footer : IsFooter options demands.footer
+
+-- the words demand nothing
+abbrev pub DemandsNothing : List (List ℕ) → Options → Timestamp → Type 0
+DemandsNothing claims options now = (demands : Demanded) → ¬ AreDemands claims options now demands
+
+-- `exp` and `nbf` are checked at a moment, before the claims that are demanded
+abbrev pub first_rules : Timestamp → Rules Verdict
+first_rules moment =
+    edited (codes "nbf") (with_both (not_before (times_at moment 0)) (default_date (codes "nbf")))
+    (edited (codes "exp") (with_both (expiry (times_at moment 0)) (default_date (codes "exp"))) (λ key. no_rule))
+
+-- what is checked under each key
+abbrev pub demanded_rules : Demanded → Rules Verdict
+demanded_rules demands = all_demanded demands.claims (first_rules demands.at)
+
+-- the value is what is demanded
+pub record IsDemanded (demands : Demanded) (value : Data) : Type 0 where
+  pub whole : are_whole demands.claims ≡ true
+  pub passes : PassesAll (demanded_rules demands) value
+
+-- what a token is bound to under a key, which has this footer of its own: the footer that is demanded, or else its own,
+-- and no assertion
+abbrev pub bound_to : List ℕ → Option (List ℕ) → List ℕ → Binding
+bound_to key footer own = record { key = key; footer = unwrap_or footer own; assertion = [] }
+
+-- the answer is the one value that is so, or there is none, or the error came from outside
+pub record IsTheValue (Is : Data → Type 0) (result : Result Value ProgramError) : Type 0 where
+  pub found : IfOk result (λ value. Is (view value))
+  pub one : IfOk result (λ value. (other : Data) → Is other → other ≡ view value)
+  pub none : IfErr result (Lacks Is)
+
+-- the value is that of the token, read under the key of the line and the footer that is demanded; where none is demanded,
+-- the token has no footer, or the empty one
+pub record ParsesWith (kind : PaserkType) (version : PaserkVersion) (reading : Binding → Reading)
+    (line : List ℕ) (footer : Option (List ℕ)) (token : List ℕ) (value : Data) : Type 0 where
+  pub key : List ℕ
+  pub is_key : IsKeyLine (IsKeyOf kind version) kind version line key
+  pub is_parsed : IsParsed (reading (bound_to key footer [])) (λ key. no_rule) token value
+
+-- the same for a key of whatever type and version reads tokens
+pub record ParsesByKey (line : List ℕ) (footer : Option (List ℕ)) (token : List ℕ) (value : Data) : Type 0 where
+  pub kind : PaserkType
+  pub version : PaserkVersion
+  pub is_reader : IsReader kind version
+  pub parses : ParsesWith kind version (reading_of kind version) line footer token value

@@ -1,0 +1,36 @@
+-- What `check` prints.
+use Rattle.std.specs.Prelude.{◌≡◌, ℕ, List, [], ◌∷◌, ◌++◌, Option, false, IsUtf8}
+use Rattle.jiff.specs.Types.{Timestamp}
+use Rattle.serde_json.specs.Data.{Data}
+use Rattle.serde_json.specs.Written.{compact_text, has_float}
+use Rattle.paseto_tasks.specs.declared.arguments.Options.{Options}
+use Rattle.paseto.specs.declared.commands.check.Keys.{Keys}
+use Rattle.paseto.specs.declared.commands.check.Keys.TheVariants.{One, Ring}
+use Rattle.paseto_tasks.specs.Arguments.{words_of}
+use Rattle.paseto.specs.Check.{AreDemands, Demanded, IsDemanded, ParsesByKey}
+use Rattle.paseto.specs.Ring.{ParsesByRing}
+
+-- the value is that of the token under the key of the line, or the one of the lines that its footer names
+abbrev pub ParsesBy : Keys → Option (List ℕ) → List ℕ → Data → Type 0
+ParsesBy (One key) footer token value = ParsesByKey key.now footer token value
+ParsesBy (Ring lines) footer token value = ParsesByRing (words_of lines.now) footer token value
+
+-- the line is the JSON of the value, with no space
+abbrev pub IsJsonLine : Data → List ℕ → Type 0
+IsJsonLine value line = has_float value ≡ false → line ≡ compact_text value ++ (10 ∷ [])
+
+-- the line is that of the claims of a token that is what is demanded
+abbrev pub ChecksBy : Keys → Demanded → List ℕ → List ℕ → Type 0
+ChecksBy keys demands token line =
+    (value : Data) × ParsesBy keys demands.footer token value × IsDemanded demands value × IsJsonLine value line
+
+-- the same of what words demand at a moment
+pub record ChecksFor (claims : List (List ℕ)) (options : Options) (now : Timestamp) (keys : Keys) (token line : List ℕ) : Type 0 where
+  pub demands : Demanded
+  pub are_demands : AreDemands claims options now demands
+  pub utf8 : IsUtf8 token
+  pub checks : ChecksBy keys demands token line
+
+-- no line is printed for the token: it is none of the keys', or another one than the words demand
+abbrev pub ChecksNothing : List (List ℕ) → Options → Timestamp → Keys → List ℕ → Type 0
+ChecksNothing claims options now keys token = (line : List ℕ) → ¬ ChecksFor claims options now keys token line

@@ -1,0 +1,10 @@
+//! The commands that go by claims, `issue` and `check`, over any generator, input and outputs.
+
+pub mod answers;
+pub mod check;
+pub mod claims;
+pub mod footer;
+pub mod issue;
+pub mod ring;
+pub mod run;
+pub mod times;

@@ -1,0 +1,305 @@
+//! The command `check`: the claims of a token, by the default parser.
+
+ghost use Rattle.std.specs.Prelude.{◌≡◌, ◌⊎◌, None, IfErr, IfOk, OnOk, false, option_map, string_bytes, true};
+ghost use Rattle.serde_json.specs.View.{view};
+ghost use Rattle.rusty_paseto_core.specs.Local.Opening.{opening};
+ghost use Rattle.rusty_paseto_core.specs.Public.Verifying.{verification};
+ghost use Rattle.rusty_paseto_parts.specs.Footer.{footer_text};
+ghost use Rattle.rusty_paseto_paserk.specs.declared.header.PaserkVersion.TheVariants.{V2 as K2};
+ghost use Rattle.rusty_paseto_paserk.specs.declared.header.PaserkType.TheVariants.{Local as LocalKey, Public as PublicKey};
+ghost use Rattle.rusty_paseto_generic.specs.Parsers.Held.{rules_of, verdicts_of};
+ghost use Rattle.rusty_paseto_generic.specs.Parsers.Rules.{no_rule};
+ghost use Rattle.rusty_paseto_generic.specs.Parsers.Times.{times_at};
+ghost use Rattle.paseto_tasks.specs.Arguments.{texts};
+ghost use Rattle.paseto.specs.Check.{AreDemands, IsCheckedAt, IsTheValue, ParsesByKey, ParsesWith, demanded, demanded_rules};
+ghost use Rattle.paseto.specs.Checked.{ChecksBy, IsJsonLine, ParsesBy};
+ghost use Rattle.paseto.specs.Claims.{all_demanded, all_named, are_whole};
+ghost use Rattle.paseto_tasks.specs.Error.{IsNoRefusal, IsNoUsage, IsOutside, Lacks};
+ghost use Rattle.paseto.specs.Readers.{IsReader, reading_of};
+
+use crate::commands::answers::{checked, parsed};
+use crate::commands::claims::{NamedClaim, claims_of};
+use crate::commands::footer::footer_of;
+use crate::commands::ring::claims_by_ring;
+use crate::commands::times::moment_of;
+use jiff::Timestamp;
+use paseto_tasks::{Options, ProgramError, Suite};
+use paseto_xchacha20poly1305::XChaCha20Poly1305;
+use rusty_paseto::DefaultParser;
+use rusty_paseto::prelude::{
+    CheckSetter, DefaultLocalVersion, Footer, Local, PasetoParser, Public, PurposeTrait, V1, V2,
+    V3, V4, Verifies, VersionTrait,
+};
+use rusty_paseto_paserk::{
+    KeyVersion, PaserkError, PaserkType, PaserkVersion, header_of, local_from_paserk,
+    public_key_from_paserk,
+};
+use serde_json::Value;
+use std::alloc::Global;
+
+/// The keys under which a token may be: that of a line, or those of a ring's lines.
+#[derive(Clone, Copy)]
+pub enum Keys<'k> {
+    /// The line of a key file.
+    One(&'k str),
+    /// The lines of a folder's key files.
+    Ring(&'k [String]),
+}
+
+/// What a token has to be.
+#[derive(Drop)]
+pub struct Demands {
+    at: Timestamp,
+    claims: Vec<NamedClaim>,
+    footer: Option<String>,
+}
+
+impl Demands {
+    /// What the words of a command demand.
+    pub fn parse(
+        alloc: Global,
+        words: &[&str],
+        options: &Options<'_>,
+        now: Timestamp,
+    ) -> Result<Demands, ProgramError>
+        ensures found { IfOk result (λ demands. AreDemands
+            (texts words.now) options.now now (demanded demands)) }
+        ensures none { IfErr result (Lacks (λ demands. AreDemands
+            (texts words.now) options.now now demands)) }
+        ensures no_refusal { IfErr result IsNoRefusal }
+    {
+        Ok(Demands {
+            at: checked_at(options.at, now)?,
+            claims: claims_of(alloc, words)?,
+            footer: footer_of(alloc, options)?,
+        })
+    }
+
+    /// The parser under whose footer a token is read, which checks no claim.
+    pub fn reader<V: VersionTrait, P: PurposeTrait>(&self, alloc: Global) -> PasetoParser<'_, V, P>
+        ensures rules { verdicts_of (λ b. verdict b)
+            (times_at result.parser.moment result.parser.leeway) result.parser.checks
+            ≡ (λ key. no_rule) }
+        ensures footer { option_map footer_text result.parser.footer
+            ≡ option_map string_bytes self.now.footer }
+        ensures assertion { result.parser.implicit_assertion ≡ None }
+    {
+        let mut parser = PasetoParser::new(alloc);
+        if let Some(footer) = &self.footer {
+            parser.set_footer(Footer::from(footer.as_str()));
+        }
+        parser
+    }
+
+    /// The parser that checks the claims of what was read, whatever the token's version and purpose.
+    fn checker(&self, alloc: Global) -> Result<PasetoParser<'static, V4, Local>, ProgramError>
+        ensures rules { IfOk result (λ made. verdicts_of (λ b. verdict b)
+            (times_at made.parser.moment made.parser.leeway) made.parser.checks
+            ≡ demanded_rules (demanded self.now)) }
+        ensures whole { OnOk result (are_whole (all_named self.now.claims.items) ≡ true) }
+        ensures refused { IfErr result (λ error. IsOutside error
+            ⊎ (are_whole (all_named self.now.claims.items) ≡ false)) }
+        ensures no_usage { IfErr result IsNoUsage }
+    {
+        let mut parser = parsed(alloc, PasetoParser::default(alloc, self.at))?;
+        put_checks(alloc, &mut parser, &self.claims)?;
+        Ok(parser)
+    }
+}
+
+/// The moment at which a token is checked.
+fn checked_at(word: Option<&str>, now: Timestamp) -> Result<Timestamp, ProgramError>
+    ensures found { IfOk result (λ at. IsCheckedAt
+        (option_map (λ text. text.now) word.entry) now at) }
+    ensures none { IfErr result (Lacks (λ at. IsCheckedAt
+        (option_map (λ text. text.now) word.entry) now at)) }
+    ensures no_refusal { IfErr result IsNoRefusal }
+{
+    let Some(word) = word else {
+        return Ok(now);
+    };
+    match moment_of(word, now) {
+        Some(moment) => Ok(moment),
+        None => Err(ProgramError::Time),
+    }
+}
+
+fn put_checks<V: VersionTrait, P: PurposeTrait, B: Drop>(
+    alloc: Global,
+    parser: &mut DefaultParser<'_, V, P, B>,
+    claims: &[NamedClaim],
+) -> Result<(), ProgramError>
+    ensures set { OnOk result (rules_of parser.new.parser.checks
+        ≡ all_demanded (all_named claims.now) (rules_of parser.old.parser.checks)) }
+    ensures whole { OnOk result (are_whole (all_named claims.now) ≡ true) }
+    ensures refused { IfErr result (λ error. IsOutside error
+        ⊎ (are_whole (all_named claims.now) ≡ false)) }
+    ensures times { (parser.new.parser.moment ≡ parser.old.parser.moment)
+        × (parser.new.parser.leeway ≡ parser.old.parser.leeway) }
+    ensures footer { parser.new.parser.footer ≡ parser.old.parser.footer }
+    ensures assertion { parser.new.parser.implicit_assertion
+        ≡ parser.old.parser.implicit_assertion }
+    ensures no_usage { IfErr result IsNoUsage }
+{
+    let [claim, rest @ ..] = claims else {
+        return Ok(());
+    };
+    match parsed(alloc, parser.put_check(claim)) {
+        Ok(()) => put_checks(alloc, parser, rest),
+        Err(error) => Err(error),
+    }
+}
+
+/// The line of the claims of a token that is what is demanded.
+pub fn check(
+    alloc: Global,
+    keys: &Keys<'_>,
+    demands: &Demands,
+    token: &str,
+) -> Result<String, ProgramError>
+    ensures found { IfOk result (λ line. ChecksBy keys.now (demanded demands.now) token.now
+        (string_bytes line)) }
+    ensures none { IfErr result (Lacks (λ line. ChecksBy keys.now (demanded demands.now) token.now
+        line)) }
+    ensures no_usage { IfErr result IsNoUsage }
+{
+    let checker = demands.checker(alloc)?;
+    let claims = claims_by(alloc, keys, demands, token)?;
+    checked(alloc, &claims, demands.at, checker.check(&claims))?;
+    json_line(alloc, &claims)
+}
+
+/// The line of a value as JSON.
+fn json_line(alloc: Global, value: &Value) -> Result<String, ProgramError>
+    ensures line { IfOk result (λ line. IsJsonLine (view value.now) (string_bytes line)) }
+    ensures memory { IfErr result IsOutside }
+{
+    let mut line = value.to_string(alloc)?;
+    line.push('\n')?;
+    Ok(line)
+}
+
+fn claims_by(
+    alloc: Global,
+    keys: &Keys<'_>,
+    demands: &Demands,
+    token: &str,
+) -> Result<Value, ProgramError>
+    ensures answer { IsTheValue (λ value. ParsesBy keys.now (demanded demands.now).footer
+        token.now value) result }
+    ensures no_usage { IfErr result IsNoUsage }
+{
+    match keys {
+        Keys::One(key) => claims_by_key(alloc, key, demands, token),
+        Keys::Ring(lines) => claims_by_ring(alloc, lines, demands, token),
+    }
+}
+
+/// The claims of a token under the key of a line.
+fn claims_by_key(
+    alloc: Global,
+    key: &str,
+    demands: &Demands,
+    token: &str,
+) -> Result<Value, ProgramError>
+    ensures answer { IsTheValue (λ value. ParsesByKey key.now (demanded demands.now).footer
+        token.now value) result }
+    ensures no_usage { IfErr result IsNoUsage }
+{
+    match header_of(key) {
+        Some((version, PaserkType::Local, _)) => by_local_key(alloc, version, key, demands, token),
+        Some((version, PaserkType::Public, _)) => by_public_key(
+            alloc, version, key, demands, token,
+        ),
+        Some((version, PaserkType::Secret, _)) => Err(ProgramError::Key(no_reader(version))),
+        None => Err(ProgramError::Key(PaserkError::NoKey)),
+    }
+}
+
+/// Why a private key reads no token: it is of a version that has none here, or of another type.
+fn no_reader(version: PaserkVersion) -> PaserkError {
+    match version {
+        PaserkVersion::V1 => PaserkError::OtherVersion(version),
+        _ => PaserkError::OtherType(PaserkType::Secret),
+    }
+}
+
+fn by_local_key(
+    alloc: Global,
+    version: PaserkVersion,
+    key: &str,
+    demands: &Demands,
+    token: &str,
+) -> Result<Value, ProgramError>
+    ensures answer { IsTheValue (λ value. IsReader LocalKey version × ParsesWith LocalKey version
+        (reading_of LocalKey version) key.now (demanded demands.now).footer token.now value)
+        result }
+    ensures no_usage { IfErr result IsNoUsage }
+{
+    match version {
+        PaserkVersion::V1 => opened::<V1>(alloc, key, demands, token),
+        PaserkVersion::V2 => unboxed(alloc, key, demands, token),
+        PaserkVersion::V3 => opened::<V3>(alloc, key, demands, token),
+        PaserkVersion::V4 => opened::<V4>(alloc, key, demands, token),
+    }
+}
+
+fn by_public_key(
+    alloc: Global,
+    version: PaserkVersion,
+    key: &str,
+    demands: &Demands,
+    token: &str,
+) -> Result<Value, ProgramError>
+    ensures answer { IsTheValue (λ value. IsReader PublicKey version × ParsesWith PublicKey
+        version (reading_of PublicKey version) key.now (demanded demands.now).footer token.now
+        value) result }
+    ensures no_usage { IfErr result IsNoUsage }
+{
+    match version {
+        PaserkVersion::V1 => Err(ProgramError::Key(PaserkError::OtherVersion(version))),
+        PaserkVersion::V2 => verified::<V2>(alloc, key, demands, token),
+        PaserkVersion::V3 => verified::<V3>(alloc, key, demands, token),
+        PaserkVersion::V4 => verified::<V4>(alloc, key, demands, token),
+    }
+}
+
+fn opened<V: DefaultLocalVersion + KeyVersion>(
+    alloc: Global,
+    key: &str,
+    demands: &Demands,
+    token: &str,
+) -> Result<Value, ProgramError>
+    ensures answer { IsTheValue (λ value. ParsesWith LocalKey V.paserk (opening V.design) key.now
+        (demanded demands.now).footer token.now value) result }
+    ensures no_usage { IfErr result IsNoUsage }
+{
+    let key = local_from_paserk::<V>(alloc, key)?;
+    let parser = demands.reader::<V, Local>(alloc);
+    parsed(alloc, parser.parse(token, &key))
+}
+
+fn unboxed(alloc: Global, key: &str, demands: &Demands, token: &str) -> Result<Value, ProgramError>
+    ensures answer { IsTheValue (λ value. ParsesWith LocalKey K2 (reading_of LocalKey K2) key.now
+        (demanded demands.now).footer token.now value) result }
+    ensures no_usage { IfErr result IsNoUsage }
+{
+    let key = local_from_paserk::<V2>(alloc, key)?;
+    let parser = demands.reader::<V2, Local>(alloc);
+    parsed(alloc, parser.parse(&XChaCha20Poly1305, token, &key))
+}
+
+fn verified<V: Suite + Verifies<V::Scheme>>(
+    alloc: Global,
+    key: &str,
+    demands: &Demands,
+    token: &str,
+) -> Result<Value, ProgramError>
+    ensures answer { IsTheValue (λ value. ParsesWith PublicKey V.paserk (verification V.valid
+        V.refused V.public_design) key.now (demanded demands.now).footer token.now value) result }
+    ensures no_usage { IfErr result IsNoUsage }
+{
+    let key = public_key_from_paserk::<V>(alloc, key)?;
+    let parser = demands.reader::<V, Public>(alloc);
+    parsed(alloc, parser.parse(&V::scheme(), token, &key.lend()))
+}

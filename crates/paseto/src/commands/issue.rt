@@ -1,0 +1,324 @@
+//! The command `issue`: a token of claims, by the default builder.
+
+ghost use Rattle.std.specs.Prelude.{◌≡◌, ◌⊎◌, ⊤, ◌++◌, ◌∷◌, ℕ, List, [], None, IfErr, IfOk, OnOk, codes, option_map, string_bytes};
+ghost use Rattle.rusty_paseto_generic.specs.Builders.Held.{held};
+ghost use Rattle.rusty_paseto_parts.specs.Footer.{footer_text};
+ghost use Rattle.rusty_paseto_core.specs.Public.{HasPrivateLength};
+ghost use Rattle.rusty_paseto_core.specs.declared.PasetoError.{PasetoError as TokenError};
+ghost use Rattle.rusty_paseto.specs.Held.{counting};
+ghost use Rattle.rusty_paseto.specs.PasetoBuilder.{IsSame};
+ghost use Rattle.paseto_tasks.specs.Arguments.{texts};
+ghost use Rattle.paseto.specs.Claims.{AreNeverSet, AreSet, all_counted, all_named};
+ghost use Rattle.paseto_tasks.specs.Error.{IsNoRefusal, IsNoUsage, IsOutside, Lacks};
+ghost use Rattle.paseto_tasks.specs.Public.{DeclinesKey};
+ghost use Rattle.paseto.specs.Issue.{AreNever, AreOrdered, BoxesClaims, DeclinesOrder, IsOrder, Issues, IssuesNone, SealsClaims, SealsIn, SignsClaims, SignsIn, SignsNone, SignsOrder, keys_set, ordered};
+ghost use Rattle.paseto.specs.Times.{IsNeverSet, IsTimeSet, SaysTime, time_counted};
+
+use crate::commands::answers::{built, dated};
+use crate::commands::claims::{NamedClaim, claims_of};
+use crate::commands::footer::footer_of;
+use crate::commands::times::moment_of;
+use jiff::Timestamp;
+use paseto_tasks::{Options, ProgramError, Suite, with_line_feed};
+use paseto_xchacha20poly1305::XChaCha20Poly1305;
+use rand_core::TryRng;
+use rusty_paseto::prelude::{
+    CountingSetter, DefaultLocalVersion, ExpirationClaim, Footer, Local, NotBeforeClaim,
+    PasetoAsymmetricPrivateKey, PasetoBuilder, Public, PurposeTrait, Signs, V1, V2, V3, V4,
+    VersionTrait, fits_default,
+};
+use rusty_paseto_claims::moment_text;
+use rusty_paseto_paserk::{
+    KeyVersion, PaserkError, PaserkType, PaserkVersion, header_of, local_from_paserk,
+    private_key_from_paserk,
+};
+use std::alloc::Global;
+
+/// What a token is to say, beside what a default builder says at a moment.
+#[derive(Drop)]
+pub struct Order {
+    moment: Timestamp,
+    claims: Vec<NamedClaim>,
+    expires: Option<Timestamp>,
+    not_before: Option<Timestamp>,
+    footer: Option<String>,
+}
+
+impl Order {
+    /// What the words of a command say.
+    pub fn parse(
+        alloc: Global,
+        words: &[&str],
+        options: &Options<'_>,
+        now: Timestamp,
+    ) -> Result<Order, ProgramError>
+        ensures found { IfOk result (λ order. IsOrder
+            (texts words.now) options.now now (ordered order)) }
+        ensures none { IfErr result (Lacks (λ order. IsOrder
+            (texts words.now) options.now now order)) }
+        ensures no_refusal { IfErr result IsNoRefusal }
+    {
+        Ok(Order {
+            moment: now,
+            claims: claims_of(alloc, words)?,
+            expires: time_of(options.expires, now)?,
+            not_before: time_of(options.not_before, now)?,
+            footer: footer_of(alloc, options)?,
+        })
+    }
+}
+
+/// The moment that a word says, where there is one.
+fn time_of(word: Option<&str>, now: Timestamp) -> Result<Option<Timestamp>, ProgramError>
+    ensures found { IfOk result (λ moment. SaysTime
+        (option_map (λ text. text.now) word.entry) now moment) }
+    ensures none { IfErr result (Lacks (λ moment. SaysTime
+        (option_map (λ text. text.now) word.entry) now moment)) }
+    ensures no_refusal { IfErr result IsNoRefusal }
+{
+    let Some(word) = word else {
+        return Ok(None);
+    };
+    match moment_of(word, now) {
+        Some(moment) => Ok(Some(moment)),
+        None => Err(ProgramError::Time),
+    }
+}
+
+/// The line of the token that is ordered, under the key of a line.
+pub fn issue<G: TryRng>(
+    alloc: Global,
+    key: &str,
+    order: &Order,
+    generator: &mut G,
+) -> Result<String, ProgramError>
+    ensures found { IfOk result (λ line. Issues key.now (ordered order.now)
+        (λ nonce. G.may_fill generator.old nonce generator.new) (string_bytes line)) }
+    ensures none { IfErr result (λ error. IsOutside error
+        ⊎ IssuesNone key.now (ordered order.now)) }
+    ensures usage { IfErr result (λ error. IsNoUsage error ⊎ AreNever (ordered order.now)) }
+{
+    match header_of(key) {
+        Some((version, PaserkType::Local, _)) => by_local_key(
+            alloc, version, key, order, generator,
+        ),
+        Some((version, PaserkType::Secret, _)) => by_private_key(alloc, version, key, order),
+        Some((version, PaserkType::Public, _)) => Err(ProgramError::Key(no_issuer(version))),
+        None => Err(ProgramError::Key(PaserkError::NoKey)),
+    }
+}
+
+/// Why a public key issues no token: it is of a version that has none here, or of another type.
+fn no_issuer(version: PaserkVersion) -> PaserkError {
+    match version {
+        PaserkVersion::V1 => PaserkError::OtherVersion(version),
+        _ => PaserkError::OtherType(PaserkType::Public),
+    }
+}
+
+fn by_local_key<G: TryRng>(
+    alloc: Global,
+    version: PaserkVersion,
+    key: &str,
+    order: &Order,
+    generator: &mut G,
+) -> Result<String, ProgramError>
+    ensures found { IfOk result (λ line. SealsIn version key.now (ordered order.now)
+        (λ nonce. G.may_fill generator.old nonce generator.new) (string_bytes line)) }
+    ensures none { IfErr result (Lacks (λ line. SealsIn version key.now (ordered order.now)
+        (λ nonce. ⊤) line)) }
+    ensures usage { IfErr result (λ error. IsNoUsage error ⊎ AreNever (ordered order.now)) }
+{
+    match version {
+        PaserkVersion::V1 => sealed::<V1, G>(alloc, key, order, generator),
+        PaserkVersion::V2 => boxed(alloc, key, order, generator),
+        PaserkVersion::V3 => sealed::<V3, G>(alloc, key, order, generator),
+        PaserkVersion::V4 => sealed::<V4, G>(alloc, key, order, generator),
+    }
+}
+
+fn by_private_key(
+    alloc: Global,
+    version: PaserkVersion,
+    key: &str,
+    order: &Order,
+) -> Result<String, ProgramError>
+    ensures found { IfOk result (λ line. SignsIn version key.now (ordered order.now)
+        (string_bytes line)) }
+    ensures none { IfErr result (λ error. IsOutside error
+        ⊎ SignsNone version key.now (ordered order.now)) }
+    ensures usage { IfErr result (λ error. IsNoUsage error ⊎ AreNever (ordered order.now)) }
+{
+    match version {
+        PaserkVersion::V1 => Err(ProgramError::Key(PaserkError::OtherVersion(version))),
+        PaserkVersion::V2 => signed::<V2>(alloc, key, order),
+        PaserkVersion::V3 => signed::<V3>(alloc, key, order),
+        PaserkVersion::V4 => signed::<V4>(alloc, key, order),
+    }
+}
+
+fn sealed<V: DefaultLocalVersion + KeyVersion, G: TryRng>(
+    alloc: Global,
+    key: &str,
+    order: &Order,
+    generator: &mut G,
+) -> Result<String, ProgramError>
+    ensures found { IfOk result (λ line. SealsClaims V.paserk V.design key.now (ordered order.now)
+        (λ nonce. G.may_fill generator.old nonce generator.new) (string_bytes line)) }
+    ensures none { IfErr result (Lacks (λ line.
+        SealsClaims V.paserk V.design key.now (ordered order.now) (λ nonce. ⊤) line)) }
+    ensures usage { IfErr result (λ error. IsNoUsage error ⊎ AreNever (ordered order.now)) }
+{
+    let key = local_from_paserk::<V>(alloc, key)?;
+    let builder = builder_of::<V, Local>(alloc, order)?;
+    with_line_feed(built(alloc, builder.build(generator, &key))?)
+}
+
+fn boxed<G: TryRng>(
+    alloc: Global,
+    key: &str,
+    order: &Order,
+    generator: &mut G,
+) -> Result<String, ProgramError>
+    ensures found { IfOk result (λ line. BoxesClaims key.now (ordered order.now)
+        (λ nonce. G.may_fill generator.old nonce generator.new) (string_bytes line)) }
+    ensures none { IfErr result (Lacks (λ line. BoxesClaims key.now (ordered order.now)
+        (λ nonce. ⊤) line)) }
+    ensures usage { IfErr result (λ error. IsNoUsage error ⊎ AreNever (ordered order.now)) }
+{
+    let key = local_from_paserk::<V2>(alloc, key)?;
+    let builder = builder_of::<V2, Local>(alloc, order)?;
+    let token = builder.build(&XChaCha20Poly1305, generator, &key);
+    with_line_feed(built(alloc, token)?)
+}
+
+fn signed<V: Suite + Signs<V::Scheme>>(
+    alloc: Global,
+    key: &str,
+    order: &Order,
+) -> Result<String, ProgramError>
+    ensures found { IfOk result (λ line. SignsClaims V.paserk V.secret_length V.valid
+        V.public_design V.partner key.now (ordered order.now) (string_bytes line)) }
+    ensures none { IfErr result (λ error. IsOutside error
+        ⊎ (((line : List ℕ) → ¬ SignsClaims V.paserk V.secret_length V.valid
+        V.public_design V.partner key.now (ordered order.now) line)
+        ⊎ DeclinesKey V.paserk V.secret_length (DeclinesOrder V.declined V.partner V.public_design
+        (ordered order.now)) key.now)) }
+    ensures usage { IfErr result (λ error. IsNoUsage error ⊎ AreNever (ordered order.now)) }
+{
+    let key = private_key_from_paserk::<V>(alloc, key)?;
+    signed_by(alloc, &mut V::scheme(), &key.lend(), order)
+}
+
+fn signed_by<V: Signs<S>, S>(
+    alloc: Global,
+    scheme: &mut S,
+    key: &PasetoAsymmetricPrivateKey<'_, V, Public>,
+    order: &Order,
+) -> Result<String, ProgramError>
+    ensures found { IfOk result (λ line.
+        SignsOrder V.valid V.public_design (V.partner key.now) (ordered order.now)
+        (string_bytes line)) }
+    ensures none { HasPrivateLength V.public_design key.now
+        → IfErr result (λ error. IsOutside error
+        ⊎ (((line : List ℕ)
+        → ¬ SignsOrder V.valid V.public_design (V.partner key.now) (ordered order.now) line)
+        ⊎ ((source : TokenError) × DeclinesOrder V.declined V.partner V.public_design
+        (ordered order.now) key.now source))) }
+    ensures usage { IfErr result (λ error. IsNoUsage error ⊎ AreNever (ordered order.now)) }
+{
+    let builder = builder_of::<V, Public>(alloc, order)?;
+    with_line_feed(built(alloc, builder.build(scheme, key))?)
+}
+
+/// A default builder with what is ordered.
+fn builder_of<'o, V: VersionTrait, P: PurposeTrait>(
+    alloc: Global,
+    order: &'o Order,
+) -> Result<PasetoBuilder<'o, V, P>, ProgramError>
+    ensures claims { IfOk result (λ made. AreOrdered (ordered order.now)
+        (held made.builder.claims)) }
+    ensures keys { IfOk result (λ made. IsSame (keys_set (ordered order.now))
+        (counting made.keys)) }
+    ensures footer { IfOk result (λ made. option_map footer_text made.builder.paseto.footer
+        ≡ option_map string_bytes order.now.footer) }
+    ensures assertion { IfOk result (λ made. made.builder.paseto.implicit_assertion ≡ None) }
+    ensures never { IfErr result (λ error. IsOutside error ⊎ AreNever (ordered order.now)) }
+    ensures usage { IfErr result (λ error. IsNoUsage error ⊎ AreNever (ordered order.now)) }
+{
+    if !fits_default(order.moment) {
+        return Err(ProgramError::Clock);
+    }
+    let mut builder = built(alloc, PasetoBuilder::default(alloc, order.moment))?;
+    set_claims(alloc, &mut builder, &order.claims)?;
+    set_expiry(alloc, &mut builder, order.expires)?;
+    set_begin(alloc, &mut builder, order.not_before)?;
+    if let Some(footer) = &order.footer {
+        builder.set_footer(Footer::from(footer.as_str()));
+    }
+    Ok(builder)
+}
+
+fn set_claims<V: VersionTrait, P: PurposeTrait>(
+    alloc: Global,
+    builder: &mut PasetoBuilder<'_, V, P>,
+    claims: &[NamedClaim],
+) -> Result<(), ProgramError>
+    ensures set { OnOk result (AreSet (all_named claims.now) (held builder.old.builder.claims)
+        (held builder.new.builder.claims)) }
+    ensures keys { OnOk result (IsSame
+        (all_counted (all_named claims.now) (counting builder.old.keys))
+        (counting builder.new.keys)) }
+    ensures rest { builder.new.builder.paseto ≡ builder.old.builder.paseto }
+    ensures never { IfErr result (λ error. IsOutside error ⊎ AreNeverSet (all_named claims.now)) }
+{
+    let [claim, rest @ ..] = claims else {
+        return Ok(());
+    };
+    built(alloc, builder.put_claim(claim))?;
+    set_claims(alloc, builder, rest)
+}
+
+fn set_expiry<V: VersionTrait, P: PurposeTrait>(
+    alloc: Global,
+    builder: &mut PasetoBuilder<'_, V, P>,
+    moment: Option<Timestamp>,
+) -> Result<(), ProgramError>
+    ensures set { OnOk result (IsTimeSet (codes "exp") moment (held builder.old.builder.claims)
+        (held builder.new.builder.claims)) }
+    ensures keys { OnOk result (IsSame
+        (time_counted (codes "exp") moment (counting builder.old.keys))
+        (counting builder.new.keys)) }
+    ensures rest { builder.new.builder.paseto ≡ builder.old.builder.paseto }
+    ensures never { IfErr result (λ error. IsOutside error ⊎ IsNeverSet (codes "exp") moment) }
+{
+    let Some(moment) = moment else {
+        return Ok(());
+    };
+    match ExpirationClaim::try_from_string(alloc, moment_text(alloc, moment)?) {
+        Ok(claim) => built(alloc, builder.put_claim(&claim)),
+        Err(source) => Err(dated(source)),
+    }
+}
+
+fn set_begin<V: VersionTrait, P: PurposeTrait>(
+    alloc: Global,
+    builder: &mut PasetoBuilder<'_, V, P>,
+    moment: Option<Timestamp>,
+) -> Result<(), ProgramError>
+    ensures set { OnOk result (IsTimeSet (codes "nbf") moment (held builder.old.builder.claims)
+        (held builder.new.builder.claims)) }
+    ensures keys { OnOk result (IsSame
+        (time_counted (codes "nbf") moment (counting builder.old.keys))
+        (counting builder.new.keys)) }
+    ensures rest { builder.new.builder.paseto ≡ builder.old.builder.paseto }
+    ensures never { IfErr result (λ error. IsOutside error ⊎ IsNeverSet (codes "nbf") moment) }
+{
+    let Some(moment) = moment else {
+        return Ok(());
+    };
+    match NotBeforeClaim::try_from_string(alloc, moment_text(alloc, moment)?) {
+        Ok(claim) => built(alloc, builder.put_claim(&claim)),
+        Err(source) => Err(dated(source)),
+    }
+}

@@ -1,0 +1,113 @@
+//! Moments and lengths of time, as words say them.
+
+ghost use Rattle.std.specs.Prelude.{◌≡◌, ◌≢◌, ◌≤◌, ◌*◌, ◌++◌, ◌+ℤ◌, ℕ, List, pos, IfSome, MatchOption};
+ghost use Rattle.jiff.specs.Words.{IsTimestampNanos};
+ghost use Rattle.paseto.specs.Times.{HasUnit, IsLength, IsNumber, SaysMoment, SaysNone};
+
+use jiff::Timestamp;
+use std::alloc::{AllocError, Global};
+
+/// The nanoseconds of a second.
+const SECOND: i128 = 1_000_000_000;
+
+/// The moment that a word says: a moment of RFC 3339, or a length of time after the present one.
+pub fn moment_of(word: &str, now: Timestamp) -> Option<Timestamp>
+    ensures { MatchOption result (SaysNone word.now now)
+        (λ moment. SaysMoment word.now now moment) }
+{
+    match word.parse::<Timestamp>() {
+        Ok(moment) => Some(moment),
+        Err(_) => match seconds_of(word) {
+            Some(seconds) => moment_after(seconds, now),
+            None => None,
+        },
+    }
+}
+
+/// The moment so many seconds later.
+fn moment_after(seconds: u64, now: Timestamp) -> Option<Timestamp>
+    ensures { MatchOption result
+        (¬ IsTimestampNanos (now.nanosecond +ℤ pos (seconds * 1_000_000_000)))
+        (λ moment. moment.nanosecond ≡ now.nanosecond +ℤ pos (seconds * 1_000_000_000)) }
+{
+    match Timestamp::from_nanosecond(now.as_nanosecond() + seconds as i128 * SECOND) {
+        Ok(moment) => Some(moment),
+        Err(_) => None,
+    }
+}
+
+/// How many seconds a word says: a number and `s`, `m`, `h` or `d`.
+fn seconds_of(word: &str) -> Option<u64>
+    ensures { MatchOption result ((seconds : ℕ) → ¬ IsLength word.now seconds)
+        (λ seconds. IsLength word.now seconds) }
+{
+    let Some((front, unit)) = unit_of(word) else {
+        return None;
+    };
+    match number_of(front) {
+        Some(number) => Some(unit * number),
+        None => None,
+    }
+}
+
+/// What stands in front of the letter of a unit at the end of a word, and the seconds of that unit.
+fn unit_of(word: &str) -> Option<(&str, u64)>
+    ensures small { IfSome result (λ found. found.1 ≤ 86_400) }
+    ensures unit { MatchOption result
+        ((front : List ℕ) (unit : ℕ) → ¬ HasUnit word.now front unit)
+        (λ found. HasUnit word.now found.0.now found.1) }
+{
+    if let Some(front) = before(word, "s") {
+        Some((front, 1))
+    } else if let Some(front) = before(word, "m") {
+        Some((front, 60))
+    } else if let Some(front) = before(word, "h") {
+        Some((front, 3_600))
+    } else if let Some(front) = before(word, "d") {
+        Some((front, 86_400))
+    } else {
+        None
+    }
+}
+
+/// What stands in front of the end of a text, where it ends so.
+fn before<'a>(text: &'a str, end: &str) -> Option<&'a str>
+    ensures { MatchOption result ((front : List ℕ) → text.now ≢ front ++ end.now)
+        (λ front. text.now ≡ front.now ++ end.now) }
+{
+    text.strip_suffix(end)
+}
+
+/// The number that a word is.
+fn number_of(word: &str) -> Option<u64>
+    ensures { MatchOption result ((number : ℕ) → ¬ IsNumber word.now number)
+        (λ number. IsNumber word.now number) }
+{
+    match word.parse::<u32>() {
+        Ok(number) => Some(number as u64),
+        Err(_) => None,
+    }
+}
+
+/// How long it is from one moment to another, in words: `3 minutes`. It is rounded down.
+pub fn between(alloc: Global, one: Timestamp, other: Timestamp) -> Result<String, AllocError> {
+    let seconds = (other.as_second() - one.as_second()).unsigned_abs();
+    if seconds < 120 {
+        count_of(alloc, seconds, "second")
+    } else if seconds < 7_200 {
+        count_of(alloc, seconds / 60, "minute")
+    } else if seconds < 172_800 {
+        count_of(alloc, seconds / 3_600, "hour")
+    } else {
+        count_of(alloc, seconds / 86_400, "day")
+    }
+}
+
+/// A number and what it counts.
+fn count_of(alloc: Global, count: u64, unit: &str) -> Result<String, AllocError> {
+    if count == 1 {
+        format!(in alloc; "{count} {unit}")
+    } else {
+        format!(in alloc; "{count} {unit}s")
+    }
+}

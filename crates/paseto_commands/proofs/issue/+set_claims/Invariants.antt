@@ -1,5 +1,0 @@
-use Rattle.std.proofs.Common.{length}
-use Rattle.paseto_commands.proofs.issue.+set_claims.Given as goal
-
-abbrev pub decreases-set_claims : goal.decreases-set_claims
-decreases-set_claims g l = length l.claims.now
