@@ -47,7 +47,7 @@ wrong='wrong key, wrong footer or assertion, or the token was changed'
 bad_tag=$wrong
 bad_signature=$wrong
 bad_footer='The provided footer is invalid'
-bad_header='the token is of another kind than the key'
+bad_header='no token of a kind that is read here'
 bad_count='This string has an incorrect number of parts and cannot be parsed into a token'
 no_key='The text is no PASERK key'
 bad_key='The key was not in the correct format'
@@ -57,7 +57,9 @@ no_file='no such file'
 exists='the file is there already, and is not written over'
 bad_stream='a read or a write failed'
 bad_claim='--claim: a claim is as aud=customers, or as seats:=4 with a value of JSON'
-bad_time='--expires, --not-before, --at: a time is as 90s, 30m, 12h, 7d or 2026-11-22T10:00:00Z'
+a_time='a time is as 90s, 30m, 12h, 7d or 2026-11-22T10:00:00Z'
+bad_leeway='--leeway: a length of time is as 5s, 30m, 12h or 7d'
+no_assertion='keys of versions 1 and 2 take no implicit assertion: leave --assertion out'
 time_claim='--claim: exp, nbf and iat are set by --expires and --not-before'
 other_footer='another footer: say it by --footer or --footer-kid; paseto inspect shows it'
 no_kind='no kind of key: v1.local, v2.local, v2.public, v3.local, v3.public, v4.local and v4.public are kinds'
@@ -168,9 +170,23 @@ for key in v4.local v3.local; do
 b
 " decrypt --key $key
 done
+for version in 1 2; do
+    sed "s/k4/k$version/" v4.local >v$version.local
+    token=$(made encrypt --key v$version.local --footer id)
+    is "a token of version $version" "${token:0:9}" v$version.local.
+    gives "a token of version $version" "$token" hello decrypt --key v$version.local --footer id
+    refuses "another footer, version $version" 1 "$token" "$input: $bad_footer" decrypt --key v$version.local
+    refuses "a changed token, version $version" 1 "${token:0:60}AAAA${token:64}" "$input: $wrong" decrypt --key v$version.local --footer id
+    [ "$(made encrypt --key v$version.local --footer id)" != "$token" ] && pass || fail "one nonce twice, version $version"
+    refuses "an assertion for version $version" 1 hello "v$version.local: $no_assertion" encrypt --key v$version.local --assertion for
+    refuses "an assertion to open version $version" 1 "$token" "v$version.local: $no_assertion" decrypt --key v$version.local --footer id --assertion for
+    gives "the empty assertion, version $version" "$token" hello decrypt --key v$version.local --footer id --assertion=
+done
 token=$(made encrypt --key v4.local)
 refuses "another key" 1 "$token" "$input: $bad_tag" decrypt --key other.local
-refuses "a key of another version" 1 "$token" "$input: $bad_header" decrypt --key v3.local
+refuses "a key of another version" 1 "$token" "$input: the token is v4.local, and the key is for v3.local" decrypt --key v3.local
+refuses "a token of another purpose" 1 "$(made sign --key v4.secret)" "$input: the token is v4.public, and the key is for v4.local" decrypt --key v4.local
+refuses "a token of no known kind" 1 v5.local.AAAA "$input: the token is of no known kind, and the key is for v4.local" decrypt --key v4.local
 refuses "a private key to decrypt" 1 "$token" "v4.secret: The key is a private one, which signs" decrypt --key v4.secret
 refuses "a public key to encrypt" 1 hello "v4.public: The key is a public one, which verifies" encrypt --key v4.public
 refuses "a token of one section" 1 v4 "$input: $bad_count" decrypt --key v4.local
@@ -200,10 +216,20 @@ for version in 3 4; do
     refuses "another assertion, version $version" 1 "$token" "$input: $bad_signature" verify --key half$version.public --footer id
     refuses "another footer, version $version" 1 "$token" "$input: $bad_footer" verify --key half$version.public --assertion for
 done
+token=$(made sign --key half2.secret --footer id)
+gives "a signed token of version 2" "$token" hello verify --key half2.public --footer id
+refuses "another footer, version 2" 1 "$token" "$input: $bad_footer" verify --key half2.public
+refuses "a changed signature, version 2" 1 "${token:0:30}AAAA${token:34}" "$input: $wrong" verify --key half2.public --footer id
+refuses "an assertion to sign version 2" 1 hello "half2.secret: $no_assertion" sign --key half2.secret --assertion for
+refuses "an assertion to verify version 2" 1 "$token" "half2.public: $no_assertion" verify --key half2.public --footer id --assertion for
+echo "k1.secret.${hex:0:40}" >v1.secret
+refuses "a private key of version 1" 1 hello "v1.secret: The key is one of version 1" sign --key v1.secret
+echo "k1.public.${hex:0:40}" >v1.public
+refuses "a public key of version 1" 1 hello "v1.public: The key is one of version 1" verify --key v1.public
 token=$(made sign --key v4.secret)
 gives "a token under the key of RFC 8032" "$token" hello verify --key v4.public
 refuses "another public key" 1 "$token" "$input: $bad_signature" verify --key half4.public
-refuses "a public key of another version" 1 "$token" "$input: $bad_header" verify --key half3.public
+refuses "a public key of another version" 1 "$token" "$input: the token is v4.public, and the key is for v3.public" verify --key half3.public
 refuses "a private key to verify" 1 "$token" "v4.secret: The key is a private one, which signs" verify --key v4.secret
 refuses "a public key to sign" 1 hello "v4.public: The key is a public one, which verifies" sign --key v4.public
 refuses "a local key to sign" 1 hello "v4.local: The key is one for local tokens" sign --key v4.local
@@ -223,10 +249,6 @@ refuses "an empty key file" 1 hello "empty: $no_key" encrypt --key empty
 cat v4.local v4.local >two
 refuses "two keys in a file" 1 hello "two: $bad_key" encrypt --key two
 refuses "a binary key file" 1 hello "binary: $no_key" encrypt --key binary
-sed 's/k4/k2/' v4.local >v2.local
-refuses "a key of version 2" 1 hello "v2.local: The key is one of version 2" encrypt --key v2.local
-sed 's/k4/k1/' v4.local >v1.local
-refuses "a key of version 1" 1 hello "v1.local: The key is one of version 1" encrypt --key v1.local
 refuses "no key file" 3 hello "nowhere: $no_file" encrypt --key nowhere
 truncate -s 1G huge
 SECONDS=0
@@ -332,6 +354,35 @@ for kind in 1.local 2.local 3.local 4.local 2 3 4; do
     is "a footer that is demanded, $kind" "$("$program" check --key $kind.opens --footer-kid "$id" <token | grep -c '"sub":"me"')" 1
     is "the footer, $kind" "$("$program" inspect token | grep '^footer')" "footer: {\"kid\":\"$id\"}"
 done
+for kind in 3.local 4.local 3 4; do
+    "$program" issue --key $kind.issues --claim sub=me --assertion for >token
+    is "an assertion, $kind" "$("$program" check --key $kind.opens --assertion for token | grep -c '"sub":"me"')" 1
+    refuses "another assertion, $kind" 1 "$(cat token)" "$input: $wrong" check --key $kind.opens --assertion against
+    refuses "no assertion, $kind" 1 "$(cat token)" "$input: $wrong" check --key $kind.opens
+    id=$("$program" id --key $kind.opens)
+    "$program" issue --key $kind.issues --claim sub=me --footer-kid "$id" --assertion for >token
+    is "an assertion for a ring, $kind" "$("$program" check --ring ring --assertion for token | grep -c '"sub":"me"')" 1
+    refuses "another assertion for a ring, $kind" 1 "$(cat token)" "$input: $wrong" check --ring ring --assertion against
+done
+for kind in 1.local 2.local 2; do
+    refuses "an assertion to issue, $kind" 1 "" "$kind.issues: $no_assertion" issue --key $kind.issues --assertion for
+    "$program" issue --key $kind.issues --footer-kid "$("$program" id --key $kind.opens)" >token
+    refuses "an assertion to check, $kind" 1 "$(cat token)" "$kind.opens: $no_assertion" check --key $kind.opens --assertion for
+    refuses "an assertion for a ring, $kind" 1 "$(cat token)" "ring: $no_assertion" check --ring ring --assertion for
+done
+"$program" issue --key v4.local --claim sub=me --claim none:=null >token
+is "claims that are required" "$("$program" check --key v4.local --require sub --require exp token | grep -c '"sub":"me"')" 1
+refuses "a claim that is required" 1 "$(cat token)" "$input: The expected claim 'jti' was not found in the payload" check --key v4.local --require sub --require jti
+refuses "a required claim that is null" 1 "$(cat token)" "$input: The expected claim 'none' was not found in the payload" check --key v4.local --require none
+refuses "a token of another kind than the key" 1 "$(cat token)" "$input: the token is v4.local, and the key is for v4.public" check --key v4.public
+"$program" issue --key v4.local --expires 2026-11-22T10:00:00Z --not-before 2026-11-22T09:00:00Z >token
+for case in "10:00:04Z 5s" "10:29:59Z 30m" "08:59:56Z 5s"; do
+    is "a leeway, ${case}" "$("$program" check --key v4.local --at "2026-11-22T${case% *}" --leeway "${case#* }" token | cut -c 1-7)" '{"exp":'
+done
+refuses "past the leeway" 1 "$(cat token)" "$input: expired 6 seconds ago, at 2026-11-22T10:00:00Z" check --key v4.local --at 2026-11-22T10:00:06Z --leeway 5s
+for length in "" s 5 1y -1s 2026-11-22T10:00:00Z 50000d; do
+    refuses "the leeway '$length'" 2 "" "$bad_leeway" check --key v4.local --leeway="$length"
+done
 "$program" issue --key v4.local --expires 2026-11-22T10:00:00Z --not-before 2026-11-22T09:00:00Z --footer id >token
 for case in "10:00:00Z|expired 0 seconds ago" "10:00:01Z|expired 1 second ago" "10:03:00.5Z|expired 3 minutes ago" "12:00:00Z|expired 2 hours ago"; do
     refuses "at ${case%|*}" 1 "$(cat token)" "$input: ${case#*|}, at 2026-11-22T10:00:00Z" check --key v4.local --footer id --at "2026-11-22T${case%|*}"
@@ -366,8 +417,9 @@ for claim in exp=never nbf:=null iat=now; do
     refuses "the claim $claim" 2 "" "$time_claim" issue --key v4.local --claim $claim
 done
 for time in "" h 1 1y -1h 1.5h 5000000000s tomorrow 2026-11-22; do
-    refuses "the time '$time'" 2 "" "$bad_time" issue --key v4.local --expires="$time"
-    refuses "the time '$time' of check" 2 "" "$bad_time" check --key v4.local --at="$time"
+    refuses "the time '$time'" 2 "" "--expires: $a_time" issue --key v4.local --expires="$time"
+    refuses "the time '$time' to begin" 2 "" "--not-before: $a_time" issue --key v4.local --not-before="$time"
+    refuses "the time '$time' of check" 2 "" "--at: $a_time" check --key v4.local --at="$time"
 done
 refuses "a claim twice" 1 "" "The claim 'a' appears more than once in the top level payload json" issue --key v4.local --claim a=1 --claim a=2
 refuses "a claim that is no whole number" 1 "" "Could not convert claim 'a' to the expected data type" issue --key v4.local --claim a:=1.5

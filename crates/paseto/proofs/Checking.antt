@@ -24,7 +24,7 @@ fit demands value rules (Err source) same answered ok whole = absurd (false≢tr
 module _ (keys : Keys) (demands : Demanded) (token : List ℕ) (error : ProgramError) where
   -- no line is that of a token whose value is another one than is demanded
   pub none_fit : (value : Data) (rules : Rules Verdict) (answer : Result ⊤ GenericParserError)
-      → ((other : Data) → ParsesBy keys demands.footer token other → other ≡ value) → rules ≡ demanded_rules demands
+      → ((other : Data) → ParsesBy keys demands.footer demands.assertion token other → other ≡ value) → rules ≡ demanded_rules demands
       → IsCheckAnswer rules value answer → IsErrAnd answer (λ source. IsOutside error ⊎ (¬ IsMemory source))
       → Lacks (λ line. ChecksBy keys demands token line) error
   none_fit value rules (Ok passed) one same answered refused = absurd refused

@@ -1,5 +1,5 @@
 -- The header of a token that is read under the keys of a ring.
-use Rattle.std.proofs.Common.{◌≡◌, ℕ, List, [], ◌∷◌, ◌++◌, true, Option, Some, None, Result, is_some, append_assoc, refl, sym, ap, subst₂, ◌∙◌}
+use Rattle.std.proofs.Common.{◌≡◌, ℕ, List, [], ◌∷◌, ◌++◌, true, Option, Some, None, Result, is_some, append_assoc, refl, sym, ap, subst, subst₂, ◌∙◌}
 use Rattle.std.proofs.lemmas.Bool.{false≢true}
 use Rattle.std.specs.List.{slice_get}
 use Rattle.std.specs.Option.{unwrap_or}
@@ -19,7 +19,9 @@ use Rattle.rusty_paseto_paserk.specs.declared.header.PaserkVersion.{PaserkVersio
 use Rattle.rusty_paseto_paserk.specs.declared.header.PaserkVersion.TheVariants.{V1, V2, V3, V4}
 use Rattle.rusty_paseto_paserk.specs.declared.header.PaserkType.{PaserkType}
 use Rattle.rusty_paseto_paserk.specs.declared.header.PaserkType.TheVariants.{Local, Secret, Public}
+use Rattle.rusty_paseto_parts.specs.declared.texts.implicit_assertion.ImplicitAssertion.{ImplicitAssertion}
 use Rattle.paseto_tasks.specs.declared.error.ProgramError.{ProgramError}
+use Rattle.paseto_tasks.specs.Arguments.{Takes, assertion_where, binds_in}
 use Rattle.paseto.specs.Check.{IsTheValue, bound_to}
 use Rattle.paseto.specs.Readers.{IsReader, reading_of, type_in, version_in}
 use Rattle.paseto.specs.Ring.{ParsesByRing, ParsesIn}
@@ -66,14 +68,14 @@ known Secret version binding reads = absurd reads
 some_same : {X : Type 0} (x y : X) → Some x ≡ Some y → x ≡ y
 some_same x y e = ap (λ (o : Option _). unwrap_or o x) e
 
-module _ (lines : List (List ℕ)) (footer : Option (List ℕ)) (token first second : List ℕ)
+module _ (lines : List (List ℕ)) (footer : Option (List ℕ)) (assertion : Option ImplicitAssertion) (token first second : List ℕ)
     (is_first : slice_get (sections token) 0 ≡ Some first) (is_second : slice_get (sections token) 1 ≡ Some second) where
   -- the version and the type under whose keys a token is parsed are those that its sections name
-  named : (value : Data) (is : ParsesByRing lines footer token value) → (version_in first ≡ Some is.version) × (type_in second ≡ Some is.kind)
+  named : (value : Data) (is : ParsesByRing lines footer assertion token value) → (version_in first ≡ Some is.version) × (type_in second ≡ Some is.kind)
   named value is =
       let parsed = is.parses.is_parsed in
       let opened = parsed.is_opened in
-      let binding = bound_to opened.key footer opened.footer in
+      let binding = bound_to opened.key footer opened.footer (assertion_where (binds_in is.version) assertion) in
       let reading = reading_of is.kind is.version binding in
       let knows = known is.kind is.version binding is.is_reader in
       let parts = sections_read reading token parsed.text knows.is_version knows.is_purpose opened.is_read in
@@ -84,20 +86,25 @@ module _ (lines : List (List ℕ)) (footer : Option (List ℕ)) (token first sec
   -- by keys of a type and a version that the sections name
   module _ (kind : PaserkType) (version : PaserkVersion) where
     abbrev pub Parses : PaserkVersion → PaserkType → Data → Type 0
-    Parses v k value = IsReader k v × ParsesIn k v (reading_of k v) lines footer token value
+    Parses v k value = IsReader k v × ParsesIn k v (reading_of k v) lines footer assertion token value
 
-    pub by_sections : (result : Result Value ProgramError) → version_in first ≡ Some version → type_in second ≡ Some kind
-        → IsTheValue (λ value. Parses version kind value) result → IsTheValue (λ value. ParsesByRing lines footer token value) result
-    by_sections result v k = in_words_of (λ value. Parses version kind value) (λ value. ParsesByRing lines footer token value)
-        (λ value is. record { kind = kind; version = version; is_reader = is.0; parses = is.1 })
+    pub by_sections : (result : Result Value ProgramError) → Takes version assertion → version_in first ≡ Some version → type_in second ≡ Some kind
+        → IsTheValue (λ value. Parses version kind value) result → IsTheValue (λ value. ParsesByRing lines footer assertion token value) result
+    by_sections result takes v k = in_words_of (λ value. Parses version kind value) (λ value. ParsesByRing lines footer assertion token value)
+        (λ value is. record { kind = kind; version = version; takes = takes; is_reader = is.0; parses = is.1 })
         (λ value is.
         let names = named value is in
         subst₂ (λ (o : PaserkVersion) (t : PaserkType). Parses o t value)
         (some_same _ _ (sym names.0 ∙ v)) (some_same _ _ (sym names.1 ∙ k)) (is.is_reader, is.parses)) result
 
+  -- a version that takes no assertion
+  pub not_taken : (version : PaserkVersion) → version_in first ≡ Some version → ¬ Takes version assertion → (value : Data) → ¬ ParsesByRing lines footer assertion token value
+  not_taken version is none value parses =
+      none (subst (λ (v : PaserkVersion). Takes v assertion) (some_same _ _ (sym (named value parses).0 ∙ is)) parses.takes)
+
   -- the sections name none
-  pub no_version : version_in first ≡ None → (value : Data) → ¬ ParsesByRing lines footer token value
+  pub no_version : version_in first ≡ None → (value : Data) → ¬ ParsesByRing lines footer assertion token value
   no_version none value is = false≢true (ap (λ (o : Option PaserkVersion). is_some o) (sym none ∙ (named value is).0))
 
-  pub no_type : type_in second ≡ None → (value : Data) → ¬ ParsesByRing lines footer token value
+  pub no_type : type_in second ≡ None → (value : Data) → ¬ ParsesByRing lines footer assertion token value
   no_type none value is = false≢true (ap (λ (o : Option PaserkType). is_some o) (sym none ∙ (named value is).1))

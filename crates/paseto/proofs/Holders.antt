@@ -1,35 +1,43 @@
 -- The one type and version of keys under which a token is parsed.
-use Rattle.std.proofs.Common.{◌≡◌, ℕ, List, ◌++◌, Option, Result, subst₂}
+use Rattle.std.proofs.Common.{◌≡◌, ℕ, List, ◌++◌, Option, Result, subst, subst₂}
 use Rattle.rusty_paseto_parts.specs.Section.{base64url}
 use Rattle.serde_json.specs.Data.{Data}
 use Rattle.serde_json.specs.declared.value.Value.{Value}
 use Rattle.rusty_paseto_paserk.specs.declared.header.PaserkVersion.{PaserkVersion}
 use Rattle.rusty_paseto_paserk.specs.declared.header.PaserkType.{PaserkType}
 use Rattle.rusty_paseto_paserk.specs.Header.{HasNoHeader, header}
+use Rattle.rusty_paseto_parts.specs.declared.texts.implicit_assertion.ImplicitAssertion.{ImplicitAssertion}
 use Rattle.paseto_tasks.specs.declared.error.ProgramError.{ProgramError}
+use Rattle.paseto_tasks.specs.Arguments.{Takes}
 use Rattle.paseto.specs.Check.{IsTheValue, ParsesByKey, ParsesWith}
 use Rattle.paseto.specs.Readers.{IsReader, reading_of}
 use Rattle.paseto_tasks.proofs.Ids.{same_header}
 use Rattle.paseto.proofs.Parsed.{in_words_of}
 
-module _ (kind : PaserkType) (version : PaserkVersion) (line rest : List ℕ) (footer : Option (List ℕ)) (token : List ℕ)
+module _ (kind : PaserkType) (version : PaserkVersion) (line rest : List ℕ) (footer : Option (List ℕ)) (assertion : Option ImplicitAssertion) (token : List ℕ)
     (begins : line ≡ header version kind ++ rest) where
   -- by the type and the version of the line
   abbrev Parses : PaserkVersion → PaserkType → Data → Type 0
-  Parses v k value = IsReader k v × ParsesWith k v (reading_of k v) line footer token value
+  Parses v k value = IsReader k v × ParsesWith k v (reading_of k v) line footer assertion token value
 
-  by_header : (value : Data) → ParsesByKey line footer token value → Parses version kind value
+  by_header : (value : Data) → ParsesByKey line footer assertion token value → Parses version kind value
   by_header value is =
       let same = same_header is.version version is.kind kind line (base64url is.parses.key) rest is.parses.is_key.is_writing begins in
       subst₂ (λ (v : PaserkVersion) (k : PaserkType). Parses v k value) same.0 same.1 (is.is_reader, is.parses)
 
-  pub by_this_header : (result : Result Value ProgramError) → IsTheValue (λ value. Parses version kind value) result
-      → IsTheValue (λ value. ParsesByKey line footer token value) result
-  by_this_header = in_words_of (λ value. Parses version kind value) (λ value. ParsesByKey line footer token value)
-      (λ value is. record { kind = kind; version = version; is_reader = is.0; parses = is.1 }) by_header
+  pub by_this_header : (result : Result Value ProgramError) → Takes version assertion → IsTheValue (λ value. Parses version kind value) result
+      → IsTheValue (λ value. ParsesByKey line footer assertion token value) result
+  by_this_header result takes = in_words_of (λ value. Parses version kind value) (λ value. ParsesByKey line footer assertion token value)
+      (λ value is. record { kind = kind; version = version; takes = takes; is_reader = is.0; parses = is.1 }) by_header result
+
+  -- a key whose version takes no assertion
+  pub not_taken_by : ¬ Takes version assertion → (value : Data) → ¬ ParsesByKey line footer assertion token value
+  not_taken_by none value is =
+      let same = same_header is.version version is.kind kind line (base64url is.parses.key) rest is.parses.is_key.is_writing begins in
+      none (subst (λ (v : PaserkVersion). Takes v assertion) same.0 is.takes)
 
 -- a line that begins as no key
-pub no_header_by : (line : List ℕ) (footer : Option (List ℕ)) (token : List ℕ) → HasNoHeader line
-    → (value : Data) → ¬ ParsesByKey line footer token value
-no_header_by line footer token none value is =
+pub no_header_by : (line : List ℕ) (footer : Option (List ℕ)) (assertion : Option ImplicitAssertion) (token : List ℕ) → HasNoHeader line
+    → (value : Data) → ¬ ParsesByKey line footer assertion token value
+no_header_by line footer assertion token none value is =
     none is.version is.kind (base64url is.parses.key, is.parses.is_key.is_writing)

@@ -30,6 +30,7 @@ use Rattle.rusty_paseto_paserk.specs.Header.{HasNoHeader, header}
 use Rattle.rusty_paseto_paserk.specs.Text.{writing}
 use Rattle.paseto_tasks.specs.declared.error.ProgramError.{ProgramError}
 use Rattle.paseto.specs.Check.{bound_to}
+use Rattle.paseto_tasks.specs.Arguments.{Takes, assertion_where}
 use Rattle.paseto_tasks.specs.Error.{IsOutside, Lacks}
 use Rattle.paseto.specs.Issue.{AreNever, AreOrdered, BoxesClaims, DeclinesOrder, IsOnce, IssuesNone, Ordered, SealsClaims, SealsIn, SignsClaims, SignsIn, SignsNone, SignsOrder, keys_set}
 use Rattle.paseto_tasks.specs.Local.{IsLocalKey}
@@ -37,7 +38,8 @@ use Rattle.paseto_tasks.specs.Output.{IsLineOf}
 use Rattle.paseto_tasks.specs.Public.{DeclinesKey, IsHalf}
 use Rattle.paseto_tasks.proofs.Ids.{same_header}
 use Rattle.paseto.proofs.Orders.{same_ordered}
-use Rattle.paseto.proofs.Parsed.{same_binding}
+use Rattle.paseto.proofs.Parsed.{plain}
+use Rattle.paseto_tasks.proofs.Boxes.{has_box}
 
 -- ---- what is bound
 
@@ -49,21 +51,12 @@ written_same (Some footer) = refl
 same_written : (footer : Option Footer) (text : Option (List ℕ)) → option_map footer_text footer ≡ text → is_some footer ≡ is_some text
 same_written footer text same = sym (written_same footer) ∙ ap (λ (t : Option (List ℕ)). is_some t) same
 
-bound_same : (key : List ℕ) (footer : Option Footer) (assertion : Option ImplicitAssertion) (text : Option (List ℕ)) → assertion ≡ None
-    → option_map footer_text footer ≡ text → binding_of key footer assertion ≡ bound_to key text []
-bound_same key footer assertion text none same = same_binding key footer assertion true text none same
+bound_same : (key : List ℕ) (footer : Option Footer) (assertion wanted : Option ImplicitAssertion) (text : Option (List ℕ)) → assertion ≡ wanted
+    → option_map footer_text footer ≡ text → binding_of key footer assertion ≡ bound_to key text [] wanted
+bound_same key footer assertion wanted text is same =
+    ap (λ (a : Option ImplicitAssertion). binding_of key footer a) is ∙ plain key footer wanted ∙ ap (λ (t : Option (List ℕ)). bound_to key t [] wanted) same
 
 -- ---- boxes
-
-some_if : (fits : Bool) (boxed : List ℕ) (f g : List ℕ → List ℕ) → is_some (option_map f (option_map g (if fits then Some boxed else None))) ≡ fits
-some_if true boxed f g = refl
-some_if false boxed f g = refl
-
--- whether there is a box is said of the message's length
-has_box : (binding : Binding) (nonce : List ℕ) (written : Bool) (text : List ℕ)
-    → is_some (boxed_sealing box_sealing binding nonce written text) ≡ nat_le (length text) 274877906880
-unfolding box_sealing
-has_box binding nonce written text = some_if (nat_le (length text) 274877906880) _ _ _
 
 box_apart : (one two : Binding) (first second : Bool) (claims : Members) (IsOne IsTwo : List ℕ → Type 0) (token : List ℕ)
     → IsBoxAnswer box_sealing one first claims IsOne None → IsBoxAnswer box_sealing two second claims IsTwo (Some token) → ⊥
@@ -75,8 +68,8 @@ box_apart one two first second claims IsOne IsTwo token none some =
 
 -- ---- what a builder made
 
-module _ (order : Ordered) (claims : Members) (keys : Counting) (footer : Option Footer) (assertion : Option ImplicitAssertion)
-    (are : AreOrdered order claims) (counted : IsSame (keys_set order) keys) (is_footer : option_map footer_text footer ≡ order.footer) (none : assertion ≡ None) where
+module _ (order : Ordered) (claims : Members) (keys : Counting) (footer : Option Footer) (assertion wanted : Option ImplicitAssertion)
+    (are : AreOrdered order claims) (counted : IsSame (keys_set order) keys) (is_footer : option_map footer_text footer ≡ order.footer) (asserted : assertion ≡ wanted) where
   once_by : keys.repeated ≡ None → IsOnce order
   once_by repeated = sym counted.repeated ∙ repeated
 
@@ -85,21 +78,22 @@ module _ (order : Ordered) (claims : Members) (keys : Counting) (footer : Option
 
   pub seals_found : {E F : Type 0} (version : PaserkVersion) (design : Design) (key : List ℕ) (IsDrawn : List ℕ → Type 0)
       (line : Result (String Global) E) (built : Result (String Global) F) (token : String Global) (key_bytes : List ℕ)
+      → wanted ≡ assertion_where design.binds_assertion order.assertion
       → IsLocalKey version key key_bytes → built ≡ Ok token → OnOk built (keys.repeated ≡ None)
       → IfOk built (λ t. IsSealed design (binding_of key_bytes footer assertion) (is_some footer) claims IsDrawn (string_bytes t))
       → IfOk line (λ l. IsLineOf (string_bytes token) (string_bytes l))
       → IfOk line (λ l. SealsClaims version design key order IsDrawn (string_bytes l))
-  seals_found version design key IsDrawn (Ok l) built token key_bytes is_key is repeated sealed line_is = record {
+  seals_found version design key IsDrawn (Ok l) built token key_bytes wants is_key is repeated sealed line_is = record {
     key_bytes = key_bytes;
     is_key = is_key;
     claims = claims;
     are_ordered = are;
     once = once_by (rw is at repeated);
     token = string_bytes token;
-    is_sealed = rw (bound_same key_bytes footer assertion order.footer none is_footer, same_written footer order.footer is_footer) at (rw is at sealed);
+    is_sealed = rw (bound_same key_bytes footer assertion wanted order.footer asserted is_footer ∙ ap (λ (a : Option ImplicitAssertion). bound_to key_bytes order.footer [] a) wants, same_written footer order.footer is_footer) at (rw is at sealed);
     line_is = line_is;
   }
-  seals_found version design key IsDrawn (Err e) built token key_bytes is_key is repeated sealed line_is = tt
+  seals_found version design key IsDrawn (Err e) built token key_bytes wants is_key is repeated sealed line_is = tt
 
   pub boxes_found : {E F : Type 0} (key : List ℕ) (IsDrawn : List ℕ → Type 0)
       (line : Result (String Global) E) (built : Result (String Global) F) (token : String Global) (key_bytes : List ℕ)
@@ -114,18 +108,18 @@ module _ (order : Ordered) (claims : Members) (keys : Counting) (footer : Option
     are_ordered = are;
     once = once_by (rw is at repeated);
     token = string_bytes token;
-    is_sealed = rw (bound_same key_bytes footer None order.footer refl is_footer, same_written footer order.footer is_footer) at (rw is at sealed);
+    is_sealed = rw (bound_same key_bytes footer None None order.footer refl is_footer, same_written footer order.footer is_footer) at (rw is at sealed);
     line_is = line_is;
   }
   boxes_found key IsDrawn (Err e) built token key_bytes is_key is repeated sealed line_is = tt
 
   pub signs_found : {E : Type 0} (valid : Validity) (Declined : List ℕ → PasetoError → Type 0) (design : PublicDesign) (private public : List ℕ)
       (line : Result (String Global) E) (built : Result (String Global) GenericBuilderError) (token : String Global)
-      → built ≡ Ok token → OnOk built (keys.repeated ≡ None)
+      → wanted ≡ assertion_where design.binds_assertion order.assertion → built ≡ Ok token → OnOk built (keys.repeated ≡ None)
       → (keys.repeated ≡ None → IsSignAnswer valid Declined design private public footer assertion claims built)
       → IfOk line (λ l. IsLineOf (string_bytes token) (string_bytes l))
       → IfOk line (λ l. SignsOrder valid design public order (string_bytes l))
-  signs_found valid Declined design private public (Ok l) built token is repeated signed line_is =
+  signs_found valid Declined design private public (Ok l) built token wants is repeated signed line_is =
       let once : keys.repeated ≡ None = rw is at repeated in
       let signing = (signed once).ok in
       record {
@@ -133,10 +127,10 @@ module _ (order : Ordered) (claims : Members) (keys : Counting) (footer : Option
         are_ordered = are;
         once = once_by once;
         token = string_bytes token;
-        is_signed = rw (bound_same public footer assertion order.footer none is_footer, same_written footer order.footer is_footer) at (rw is at signing);
+        is_signed = rw (bound_same public footer assertion wanted order.footer asserted is_footer ∙ ap (λ (a : Option ImplicitAssertion). bound_to public order.footer [] a) wants, same_written footer order.footer is_footer) at (rw is at signing);
         line_is = line_is;
       }
-  signs_found valid Declined design private public (Err e) built token is repeated signed line_is = tt
+  signs_found valid Declined design private public (Err e) built token wants is repeated signed line_is = tt
 
   -- ---- why it made nothing
 
@@ -188,7 +182,7 @@ module _ (order : Ordered) (claims : Members) (keys : Counting) (footer : Option
       elim (not_built answer error (λ source. Unboxed) built (λ once. by_box answer Failure Unboxed (reason once))) [
         | inl outside ↦ inl outside
         | inr none ↦ inr (λ line is. box_apart _ _ _ _ claims _ _ is.token (none is.once).1
-            (subst (λ (c : Members). IsBoxAnswer box_sealing (bound_to is.key_bytes order.footer []) (is_some order.footer) c (λ nonce. ⊤) (Some is.token))
+            (subst (λ (c : Members). IsBoxAnswer box_sealing (bound_to is.key_bytes order.footer [] None) (is_some order.footer) c (λ nonce. ⊤) (Some is.token))
             (same_ordered order is.claims claims is.are_ordered are) is.is_sealed))
       ]
 
@@ -204,31 +198,34 @@ module _ (order : Ordered) (claims : Members) (keys : Counting) (footer : Option
   once_or_not (Some key) = inr (λ none. false≢true (sym (ap (λ (o : Option (List ℕ)). is_some o) none)))
 
   declined_order : (declined : Declining) (half : List ℕ → List ℕ) (design : PublicDesign) (private : List ℕ)
+      → wanted ≡ assertion_where design.binds_assertion order.assertion
       → (refusal : PasetoError) × declined private (message design (binding_of (half private) footer assertion) (payload claims)) refusal
       → (source : PasetoError) × DeclinesOrder declined half design order private source
-  declined_order declined half design private found = (
+  declined_order declined half design private wants found = (
     found.0,
     record {
       claims = claims;
       are_ordered = are;
       is_declined = subst (λ (b : Binding). declined private (message design b (payload claims)) found.0)
-          (bound_same (half private) footer assertion order.footer none is_footer) found.1;
+          (bound_same (half private) footer assertion wanted order.footer asserted is_footer
+          ∙ ap (λ (a : Option ImplicitAssertion). bound_to (half private) order.footer [] a) wants) found.1;
     },
   )
 
   pub signs_none : (valid : Validity) (declined : Declining) (half : List ℕ → List ℕ) (design : PublicDesign) (private : List ℕ)
       (answer : Result (String Global) GenericBuilderError) (error : ProgramError)
+      → wanted ≡ assertion_where design.binds_assertion order.assertion
       → IsErrAnd answer (λ source. IsOutside error ⊎ ((¬ IsMemory source) × (source ≢ CipherError Cipher)))
       → (keys.repeated ≡ None → IsSignAnswer valid (declined private) design private (half private) footer assertion claims answer)
       → HasPrivateLength design private
       → IsOutside error ⊎ (((line : List ℕ) → ¬ SignsOrder valid design (half private) order line)
       ⊎ ((source : PasetoError) × DeclinesOrder declined half design order private source))
-  signs_none valid declined half design private answer error built reason length =
+  signs_none valid declined half design private answer error wants built reason length =
       let Now : PasetoError → Type 0 = declined private (message design (binding_of (half private) footer assertion) (payload claims)) in
       elim (not_built answer error (λ source. (refusal : PasetoError) × Now refusal) built (λ once. by_scheme answer Now ((reason once).err length))) [
         | inl outside ↦ inl outside
         | inr why ↦ inr (elim (once_or_not (keys_set order).repeated) [
-          | inl once ↦ inr (declined_order declined half design private (why once).1)
+          | inl once ↦ inr (declined_order declined half design private wants (why once).1)
           | inr twice ↦ inl (λ line is. twice is.once)
         ])
       ]
@@ -320,6 +317,17 @@ module _ (key : List ℕ) (order : Ordered) where
   ])
 
   module _ (version : PaserkVersion) (rest : List ℕ) where
+    -- a key of a version that takes no assertion
+    pub not_taken_issues : (kind : PaserkType) → key ≡ header version kind ++ rest → ¬ Takes version order.assertion → IssuesNone key order
+    not_taken_issues kind begins none = inl (λ line both. elim both [
+      | inl seals ↦
+          let begun = seals_begins seals.0 line seals.1 in
+          none (subst (λ (v : PaserkVersion). Takes v order.assertion) (same_header seals.0 version Local kind key begun.0 rest begun.1 begins).0 seals.2)
+      | inr signs ↦
+          let begun = signs_begins signs.0 line signs.1 in
+          none (subst (λ (v : PaserkVersion). Takes v order.assertion) (same_header signs.0 version Secret kind key begun.0 rest begun.1 begins).0 signs.2)
+    ])
+
     pub local_none : {T : Type 0} (result : Result T ProgramError) → key ≡ header version Local ++ rest
         → IfErr result (Lacks (λ line. SealsIn version key order (λ nonce. ⊤) line)) → IfErr result (λ error. IsOutside error ⊎ IssuesNone key order)
     local_none (Ok value) begins none = tt

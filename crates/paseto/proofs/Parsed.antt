@@ -20,6 +20,7 @@ use Rattle.rusty_paseto_paserk.specs.declared.header.PaserkVersion.{PaserkVersio
 use Rattle.rusty_paseto_paserk.specs.declared.header.PaserkType.{PaserkType}
 use Rattle.paseto_tasks.specs.declared.error.ProgramError.{ProgramError}
 use Rattle.paseto.specs.Check.{IsTheValue, ParsesWith, bound_to}
+use Rattle.paseto_tasks.specs.Arguments.{assertion_where, binds_in}
 use Rattle.paseto_tasks.specs.Error.{IsOutside, Lacks}
 use Rattle.paseto_tasks.specs.Id.{IsKeyLine, IsKeyOf}
 
@@ -31,17 +32,24 @@ pub same_key : (IsKey : List ℕ → Type 0) (kind : PaserkType) (version : Pase
 same_key IsKey kind version line one two a b =
     base64url-injective one two a.bytes b.bytes (append_cancel_left (header version kind) _ _ (sym a.is_writing ∙ b.is_writing))
 
--- what a token is bound to with a footer and no assertion
-plain : (key : List ℕ) (footer : Option Footer) (binds : Bool) → binding_of key footer (assertion_in binds None) ≡ bound_to key (option_map footer_text footer) []
-plain key None true = refl
-plain key None false = refl
-plain key (Some footer) true = refl
-plain key (Some footer) false = refl
+-- what a token is bound to with a footer and an assertion
+pub plain : (key : List ℕ) (footer : Option Footer) (assertion : Option ImplicitAssertion)
+    → binding_of key footer assertion ≡ bound_to key (option_map footer_text footer) [] assertion
+plain key None assertion = refl
+plain key (Some footer) assertion = refl
 
-pub same_binding : (key : List ℕ) (footer : Option Footer) (assertion : Option ImplicitAssertion) (binds : Bool) (text : Option (List ℕ)) → assertion ≡ None
-    → option_map footer_text footer ≡ text → binding_of key footer (assertion_in binds assertion) ≡ bound_to key text []
-same_binding key footer assertion binds text none same =
-    ap (λ (a : Option ImplicitAssertion). binding_of key footer (assertion_in binds a)) none ∙ plain key footer binds ∙ ap (λ (t : Option (List ℕ)). bound_to key t []) same
+-- an assertion that is left out where none is bound is left out once
+pub left_out : (binds : Bool) (assertion : Option ImplicitAssertion) → assertion_in binds (assertion_where binds assertion) ≡ assertion_where binds assertion
+left_out true assertion = refl
+left_out false assertion = refl
+
+pub same_binding : (key : List ℕ) (footer : Option Footer) (given wanted : Option ImplicitAssertion) (binds : Bool) (text : Option (List ℕ))
+    → given ≡ assertion_where binds wanted → option_map footer_text footer ≡ text
+    → binding_of key footer (assertion_in binds given) ≡ bound_to key text [] (assertion_where binds wanted)
+same_binding key footer given wanted binds text is same =
+    ap (λ (a : Option ImplicitAssertion). binding_of key footer (assertion_in binds a)) is
+    ∙ ap (λ (a : Option ImplicitAssertion). binding_of key footer a) (left_out binds wanted)
+    ∙ plain key footer (assertion_where binds wanted) ∙ ap (λ (t : Option (List ℕ)). bound_to key t [] (assertion_where binds wanted)) same
 
 -- ---- the one value
 
@@ -66,24 +74,24 @@ in_words_of A B into back (Err error) is = no_value B error (elim is.none [
 pub beside : (result : Result Value ProgramError) (R : Type 0) (P : Data → Type 0) → R → IsTheValue P result → IsTheValue (λ value. R × P value) result
 beside result R P r = in_words_of P (λ value. R × P value) (λ value is. (r, is)) (λ value both. both.1) result
 
-module _ (reading : Binding → Reading) (kind : PaserkType) (version : PaserkVersion) (line : List ℕ) (footer : Option (List ℕ)) (token key : List ℕ)
+module _ (reading : Binding → Reading) (kind : PaserkType) (version : PaserkVersion) (line : List ℕ) (footer : Option (List ℕ)) (assertion : Option ImplicitAssertion) (token key : List ℕ)
     (is_key : IsKeyLine (IsKeyOf kind version) kind version line key) (binding : Binding) (rules : Rules Verdict)
-    (bound : binding ≡ bound_to key footer []) (unruled : rules ≡ (λ key. no_rule)) where
-  parsed_with : (value : Data) → IsParsed (reading binding) rules token value → ParsesWith kind version reading line footer token value
+    (bound : binding ≡ bound_to key footer [] (assertion_where (binds_in version) assertion)) (unruled : rules ≡ (λ key. no_rule)) where
+  parsed_with : (value : Data) → IsParsed (reading binding) rules token value → ParsesWith kind version reading line footer assertion token value
   parsed_with value parsed = record {
     key = key;
     is_key = is_key;
     is_parsed = subst₂ (λ (b : Binding) (r : Rules Verdict). IsParsed (reading b) r token value) bound unruled parsed;
   }
 
-  parsed_so : (value : Data) → ParsesWith kind version reading line footer token value → IsParsed (reading binding) rules token value
+  parsed_so : (value : Data) → ParsesWith kind version reading line footer assertion token value → IsParsed (reading binding) rules token value
   parsed_so value is = subst₂ (λ (b : Binding) (r : Rules Verdict). IsParsed (reading b) r token value)
-      (ap (λ (k : List ℕ). bound_to k footer []) (same_key (IsKeyOf kind version) kind version line is.key key is.is_key is_key) ∙ sym bound) (sym unruled) is.is_parsed
+      (ap (λ (k : List ℕ). bound_to k footer [] (assertion_where (binds_in version) assertion)) (same_key (IsKeyOf kind version) kind version line is.key key is.is_key is_key) ∙ sym bound) (sym unruled) is.is_parsed
 
   pub parses : (parsed : Result Value ProgramError) (answer : Result Value GenericParserError) → IfOk parsed (λ value. answer ≡ Ok value)
       → IfErr parsed (λ error. IsErrAnd answer (λ source. IsOutside error ⊎ (¬ IsMemory source)))
       → IsParseAnswer (reading binding) rules token answer
-      → IsTheValue (λ value. ParsesWith kind version reading line footer token value) parsed
+      → IsTheValue (λ value. ParsesWith kind version reading line footer assertion token value) parsed
   parses (Ok value) answer is refused answered =
       let parsed : IsParsed (reading binding) rules token (view value) = rw is at answered.parsed in
       let one : (other : Data) → IsParsed (reading binding) rules token other → view value ≡ other = rw is at answered.complete in

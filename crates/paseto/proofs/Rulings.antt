@@ -1,5 +1,5 @@
 -- What a parser that checks demands finds.
-use Rattle.std.proofs.Common.{◌≡◌, ◌⊎◌, ◌&&◌, ℕ, List, [], ◌∷◌, Bool, true, false, if◌then◌else◌, Option, None, Some, MatchOption, is_some, Result, Ok, Err, IfErr, IsErrAnd, OnOk, bytes_eq, codes, ◌≤◌, ◌-◌, arith, drop, get_or, length, take, inl, inr, refl, sym, ap, ◌∙◌}
+use Rattle.std.proofs.Common.{◌≡◌, ◌⊎◌, ◌&&◌, ℕ, List, [], ◌∷◌, Bool, true, false, if◌then◌else◌, Option, None, Some, MatchOption, is_some, Result, Ok, Err, IfErr, IsErrAnd, OnOk, bytes_eq, codes, ◌≤◌, ◌-◌, arith, drop, get_or, length, take, inl, inr, refl, sym, ap, ap₂, ◌∙◌}
 use Rattle.std.proofs.lemmas.List.{take_rest}
 use Rattle.std.proofs.Math.Path.{fun_ext}
 use Rattle.std.proofs.lemmas.Bool.{false≢true}
@@ -10,7 +10,7 @@ use Rattle.rusty_paseto_claims.specs.Error.{Fault, fault_of}
 use Rattle.rusty_paseto_claims.specs.Whole.{is_whole}
 use Rattle.rusty_paseto_generic.specs.Error.Parser.{IsMemory, IsRefusal}
 use Rattle.rusty_paseto_generic.specs.Parsers.Held.{checked, default_date, rules_of, verdict_of, verdicts_of, with_times}
-use Rattle.rusty_paseto_generic.specs.Parsers.Rules.{AreSame, IsStored, Rule, Rules, edited, fault_in, no_rule, whole_answer, with_both, with_stored}
+use Rattle.rusty_paseto_generic.specs.Parsers.Rules.{AreSame, IsStored, Rule, Rules, edited, fault_in, no_rule, whole_answer, with_both, with_required, with_stored}
 use Rattle.rusty_paseto_generic.specs.Parsers.Times.{not_before, times_at}
 use Rattle.rusty_paseto_generic.specs.Validator.{Verdict}
 use Rattle.rusty_paseto_generic.specs.declared.error.GenericParserError.{GenericParserError}
@@ -20,16 +20,16 @@ use Rattle.rusty_paseto_generic.specs.declared.parsers.checks.Checker.{Checker}
 use Rattle.rusty_paseto_generic.specs.declared.parsers.checks.Checker.TheVariants.{Expiry, NotBefore}
 use Rattle.paseto_tasks.specs.declared.error.ProgramError.{ProgramError}
 use Rattle.paseto.specs.Check.{Demanded, demanded_rules, first_rules}
-use Rattle.paseto.specs.Claims.{Named, all_demanded, are_whole, json_of}
+use Rattle.paseto.specs.Claims.{Named, all_demanded, all_required, are_whole, json_of}
 use Rattle.paseto_tasks.specs.Error.{IsOutside}
 
-module _ {B : Type 0} (verdict : B → Verdict) (moment : Timestamp) where
+module _ {B : Type 0} (verdict : B → Verdict) (moment : Timestamp) (leeway : ℕ) where
   -- what the checkers of all keys find
   abbrev pub found : Rules (Checker B) → Rules Verdict
-  found rules key = checked verdict (times_at moment 0) (rules key)
+  found rules key = checked verdict (times_at moment leeway) (rules key)
 
   one_stored : (is : Bool) (value : _) (rule : Rule (Checker B))
-      → checked verdict (times_at moment 0) (if is then with_stored value rule else rule) ≡ (if is then with_stored value (checked verdict (times_at moment 0) rule) else checked verdict (times_at moment 0) rule)
+      → checked verdict (times_at moment leeway) (if is then with_stored value rule else rule) ≡ (if is then with_stored value (checked verdict (times_at moment leeway) rule) else checked verdict (times_at moment leeway) rule)
   one_stored true value rule = refl
   one_stored false value rule = refl
 
@@ -39,30 +39,57 @@ module _ {B : Type 0} (verdict : B → Verdict) (moment : Timestamp) where
       found_demanded claims (edited claim.name (with_stored (json_of claim)) rules)
       ∙ ap (λ (r : Rules Verdict). all_demanded claims r) (fun_ext (λ key. one_stored (bytes_eq claim.name key) (json_of claim) (rules key)))
 
+  one_required : (is : Bool) (rule : Rule (Checker B))
+      → checked verdict (times_at moment leeway) (if is then with_required rule else rule)
+      ≡ (if is then with_required (checked verdict (times_at moment leeway) rule) else checked verdict (times_at moment leeway) rule)
+  one_required true rule = refl
+  one_required false rule = refl
+
+  pub found_required : (names : List (List ℕ)) (rules : Rules (Checker B)) → found (all_required names rules) ≡ all_required names (found rules)
+  found_required [] rules = refl
+  found_required (name ∷ names) rules =
+      found_required names (edited name with_required rules)
+      ∙ ap (λ (r : Rules Verdict). all_required names r) (fun_ext (λ key. one_required (bytes_eq name key) (rules key)))
+
   one_checked : (is : Bool) (checker : Checker B) (value : _) (rule : Rule (Checker B))
-      → checked verdict (times_at moment 0) (if is then with_both checker value rule else rule)
-      ≡ (if is then with_both (verdict_of verdict (times_at moment 0) checker) value (checked verdict (times_at moment 0) rule) else checked verdict (times_at moment 0) rule)
+      → checked verdict (times_at moment leeway) (if is then with_both checker value rule else rule)
+      ≡ (if is then with_both (verdict_of verdict (times_at moment leeway) checker) value (checked verdict (times_at moment leeway) rule) else checked verdict (times_at moment leeway) rule)
   one_checked true checker value rule = refl
   one_checked false checker value rule = refl
 
-  found_times : AreSame (found (with_times (λ key. no_rule))) (first_rules moment)
+  found_times : AreSame (found (with_times (λ key. no_rule))) (first_rules moment leeway)
   found_times = λ key.
       one_checked (bytes_eq (codes "nbf") key) NotBefore (default_date (codes "nbf")) (edited (codes "exp") (with_both Expiry (default_date (codes "exp"))) (λ other. no_rule) key)
-      ∙ ap (λ rule. if bytes_eq (codes "nbf") key then with_both (not_before (times_at moment 0)) (default_date (codes "nbf")) rule else rule)
+      ∙ ap (λ rule. if bytes_eq (codes "nbf") key then with_both (not_before (times_at moment leeway)) (default_date (codes "nbf")) rule else rule)
       (one_checked (bytes_eq (codes "exp") key) Expiry (default_date (codes "exp")) no_rule)
 
 -- what a parser with the checks that are demanded finds is what is demanded
-pub are_demanded : {B : Type 0} (verdict : B → Verdict) (demands : Demanded) (begun : Rules (Checker B)) (checks : Checks B)
-    (moment : Timestamp) (leeway : ℕ) → moment ≡ demands.at → leeway ≡ 0 → AreSame begun (with_times (λ key. no_rule))
-    → rules_of checks ≡ all_demanded demands.claims begun
+pub are_demanded : {B : Type 0} (verdict : B → Verdict) (demands : Demanded) (begun put : Rules (Checker B)) (checks : Checks B)
+    (moment : Timestamp) (leeway : ℕ) → moment ≡ demands.at → leeway ≡ demands.leeway → AreSame begun (with_times (λ key. no_rule))
+    → put ≡ all_demanded demands.claims begun → rules_of checks ≡ all_required demands.required put
     → verdicts_of verdict (times_at moment leeway) checks ≡ demanded_rules demands
-are_demanded {B} verdict demands begun checks moment leeway at none is_begun stored =
-    ap (λ (l : ℕ). verdicts_of verdict (times_at moment l) checks) none
-    ∙ ap (λ (r : Rules (Checker B)). found verdict moment r) stored
-    ∙ found_demanded verdict moment demands.claims begun
+are_demanded {B} verdict demands begun put checks moment leeway at far is_begun stored required =
+    ap (λ (r : Rules (Checker B)). found verdict moment leeway r) required
+    ∙ found_required verdict moment leeway demands.required put
+    ∙ ap (λ (r : Rules Verdict). all_required demands.required r)
+    (ap (λ (r : Rules (Checker B)). found verdict moment leeway r) stored
+    ∙ found_demanded verdict moment leeway demands.claims begun
     ∙ ap (λ (r : Rules Verdict). all_demanded demands.claims r)
-    (ap (λ (r : Rules (Checker B)). found verdict moment r) (fun_ext is_begun) ∙ fun_ext (found_times verdict moment))
-    ∙ ap (λ (t : Timestamp). all_demanded demands.claims (first_rules t)) at
+    (ap (λ (r : Rules (Checker B)). found verdict moment leeway r) (fun_ext is_begun) ∙ fun_ext (found_times verdict moment leeway)))
+    ∙ ap₂ (λ (t : Timestamp) (l : ℕ). all_required demands.required (all_demanded demands.claims (first_rules t l))) at far
+
+-- names of claims, one after the other
+pub required_more : {T E : Type 0} {J : Type 0} (result : Result T E) (name : List ℕ) (names : List (List ℕ)) (old next new : Rules J)
+    → AreSame next (edited name with_required old) → OnOk result (new ≡ all_required names next) → OnOk result (new ≡ all_required (name ∷ names) old)
+required_more (Ok value) name names old next new is more = more ∙ ap (λ (r : Rules _). all_required names r) (fun_ext is)
+required_more (Err error) name names old next new is more = tt
+
+-- what only memory refuses
+pub memory_alone : {T : Type 0} (answer : Result T GenericParserError) (error : ProgramError) → IfErr answer IsMemory
+    → IsErrAnd answer (λ source. IsOutside error ⊎ (¬ IsMemory source)) → IsOutside error
+memory_alone (Ok value) error memory refused = absurd refused
+memory_alone (Err source) error memory (inl outside) = outside
+memory_alone (Err source) error memory (inr none) = absurd (none memory)
 
 -- ---- one claim after the other
 

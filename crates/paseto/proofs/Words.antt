@@ -1,5 +1,5 @@
 -- What words say is one thing.
-use Rattle.std.proofs.Common.{◌≡◌, ℕ, ℤ, pos, ◌*◌, ◌+ℤ◌, ◌≤ℤ◌, List, [], ◌∷◌, ◌++◌, length, length-append, drop, get_or, Option, None, Some, Result, Ok, Err, MatchOption, MatchResult, codes, inl, inr, refl, sym, ap, ap₂, subst, ◌∙◌, arith}
+use Rattle.std.proofs.Common.{◌≡◌, ℕ, ℤ, pos, ◌^◌, ◌≤◌, ◌*◌, ◌+ℤ◌, ◌≤ℤ◌, List, [], ◌∷◌, ◌++◌, length, length-append, drop, get_or, Option, None, Some, Result, Ok, Err, MatchOption, MatchResult, codes, inl, inr, refl, sym, ap, ap₂, subst, ◌∙◌, arith}
 use Rattle.std.proofs.Math.Dec.{T_prop}
 use Rattle.std.specs.Option.{unwrap_or}
 use Rattle.std.proofs.lemmas.List.{append_cancel_right}
@@ -11,7 +11,7 @@ use Rattle.paseto_tasks.specs.declared.arguments.Options.{Options}
 use Rattle.paseto.specs.Check.{AreDemands, Demanded, IsCheckedAt}
 use Rattle.paseto.specs.Claims.{AreClaims, IsClaimOf, IsNamed, Named, front}
 use Rattle.paseto.specs.Issue.{IsOrder, Ordered}
-use Rattle.paseto.specs.Times.{HasUnit, IsAfter, IsLength, IsNumber, SaysMoment, SaysNone, SaysTime, unit_of}
+use Rattle.paseto.specs.Times.{HasUnit, IsAfter, IsLeeway, IsLength, IsNumber, SaysMoment, SaysNone, SaysTime, unit_of}
 
 -- ---- moments
 
@@ -88,6 +88,14 @@ same_checked : (word : Option (List ℕ)) (now one two : Timestamp) → IsChecke
 same_checked None now one two a b = a ∙ sym b
 same_checked (Some word) now one two a b = same_moment word now one two a b
 
+same_leeway : (word : Option (List ℕ)) (one two : ℕ) → IsLeeway word one → IsLeeway word two → one ≡ two
+same_leeway None one two a b = a ∙ sym b
+same_leeway (Some word) one two a b = same_length word one two a.0 b.0
+
+-- a length that is too long, and the one of the word, is no leeway
+pub long_leeway : (word : List ℕ) (seconds : ℕ) → IsLength word seconds → 2 ^ 32 ≤ seconds → (other : ℕ) → ¬ IsLeeway (Some word) other
+long_leeway word seconds length long other is = absurd (omega (arith, long, is.1, same_length word seconds other length is.0))
+
 -- ---- claims
 
 same_named : (word first second : List ℕ) (one two : Data) → IsNamed word first one → IsNamed word second two → (first ≡ second) × (one ≡ two)
@@ -118,8 +126,11 @@ pub same_demands : (claims : List (List ℕ)) (options : Options) (now : Timesta
 same_demands claims options now first second a b =
     let at = same_checked _ now first.at second.at a.moment b.moment in
     let named = same_claims claims first.claims second.claims a.are_claims b.are_claims in
+    let leeway = same_leeway _ first.leeway second.leeway a.leeway b.leeway in
+    let required = a.required ∙ sym b.required in
     let footer = a.footer ∙ sym b.footer in
-    λ i. record { at = at i; claims = named i; footer = footer i }
+    let assertion = a.assertion ∙ sym b.assertion in
+    λ i. record { at = at i; leeway = leeway i; claims = named i; required = required i; footer = footer i; assertion = assertion i }
 
 -- ---- orders
 
@@ -137,4 +148,5 @@ same_order claims options now first second a b =
     let expiry = same_time _ now first.expires second.expires a.expires b.expires in
     let begin = same_time _ now first.not_before second.not_before a.not_before b.not_before in
     let footer = a.footer ∙ sym b.footer in
-    λ i. record { moment = at i; claims = named i; expires = expiry i; not_before = begin i; footer = footer i }
+    let assertion = a.assertion ∙ sym b.assertion in
+    λ i. record { moment = at i; claims = named i; expires = expiry i; not_before = begin i; footer = footer i; assertion = assertion i }

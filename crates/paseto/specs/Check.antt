@@ -4,7 +4,7 @@ use Rattle.jiff.specs.Types.{Timestamp}
 use Rattle.serde_json.specs.Data.{Data}
 use Rattle.serde_json.specs.View.{view}
 use Rattle.serde_json.specs.declared.value.Value.{Value}
-use Rattle.rusty_paseto_core.specs.Context.{Binding}
+use Rattle.rusty_paseto_core.specs.Context.{Binding, assertion_of}
 use Rattle.rusty_paseto_core.specs.Reading.{Reading}
 use Rattle.rusty_paseto_generic.specs.Parsers.Held.{default_date}
 use Rattle.rusty_paseto_generic.specs.Parsers.Parsing.{IsParsed}
@@ -12,29 +12,38 @@ use Rattle.rusty_paseto_generic.specs.Parsers.Rules.{Rules, edited, no_rule, wit
 use Rattle.rusty_paseto_generic.specs.Parsers.Times.{expiry, not_before, times_at}
 use Rattle.rusty_paseto_generic.specs.Parsers.Verdicts.{PassesAll}
 use Rattle.rusty_paseto_generic.specs.Validator.{Verdict}
+use Rattle.rusty_paseto_parts.specs.declared.texts.implicit_assertion.ImplicitAssertion.{ImplicitAssertion}
 use Rattle.rusty_paseto_paserk.specs.declared.header.PaserkVersion.{PaserkVersion}
 use Rattle.rusty_paseto_paserk.specs.declared.header.PaserkType.{PaserkType}
 use Rattle.paseto_tasks.specs.declared.arguments.Options.{Options}
 use Rattle.paseto_tasks.specs.declared.error.ProgramError.{ProgramError}
 use Rattle.paseto.specs.declared.commands.check.Demands.{Demands}
-use Rattle.paseto.specs.Claims.{AreClaims, Named, all_demanded, all_named, are_whole}
+use Rattle.paseto.specs.Claims.{AreClaims, Named, all_demanded, all_named, all_required, are_whole}
 use Rattle.paseto.specs.Footers.{IsFooter}
+use Rattle.paseto_tasks.specs.Arguments.{Takes, assertion_where, binds_in, texts}
 use Rattle.paseto_tasks.specs.Error.{Lacks}
 use Rattle.paseto_tasks.specs.Id.{IsKeyLine, IsKeyOf}
 use Rattle.paseto.specs.Readers.{IsReader, reading_of}
-use Rattle.paseto.specs.Times.{SaysMoment}
+use Rattle.paseto.specs.Times.{IsLeeway, SaysMoment}
 
--- what is demanded of a token: the moment at which it is checked, its claims, and its footer or none
+-- what is demanded of a token: the moment at which it is checked, and how many seconds clocks may differ by, its claims,
+-- the names of further ones, and its footer and its assertion or none
 pub record Demanded : Type 0 where
   pub at : Timestamp
+  pub leeway : ℕ
   pub claims : List Named
+  pub required : List (List ℕ)
   pub footer : Option (List ℕ)
+  pub assertion : Option ImplicitAssertion
 
 abbrev pub demanded : Demands → Demanded
 demanded demands = record {
   at = demands.at;
+  leeway = demands.leeway;
   claims = all_named demands.claims.items;
+  required = texts demands.required.now;
   footer = option_map string_bytes demands.footer;
+  assertion = demands.assertion;
 }
 
 -- the moment of checking: that of the word, or else the present one
@@ -45,22 +54,25 @@ IsCheckedAt None now moment = moment ≡ now
 -- what words demand at a moment
 pub record AreDemands (claims : List (List ℕ)) (options : Options) (now : Timestamp) (demands : Demanded) : Type 0 where
   pub moment : IsCheckedAt (option_map (λ word. word.now) options.at) now demands.at
+  pub leeway : IsLeeway (option_map (λ word. word.now) options.leeway) demands.leeway
   pub are_claims : AreClaims claims demands.claims
+  pub required : demands.required ≡ texts options.required.now
   pub footer : IsFooter options demands.footer
+  pub assertion : demands.assertion ≡ options.assertion
 
 -- the words demand nothing
 abbrev pub DemandsNothing : List (List ℕ) → Options → Timestamp → Type 0
 DemandsNothing claims options now = (demands : Demanded) → ¬ AreDemands claims options now demands
 
 -- `exp` and `nbf` are checked at a moment, before the claims that are demanded
-abbrev pub first_rules : Timestamp → Rules Verdict
-first_rules moment =
-    edited (codes "nbf") (with_both (not_before (times_at moment 0)) (default_date (codes "nbf")))
-    (edited (codes "exp") (with_both (expiry (times_at moment 0)) (default_date (codes "exp"))) (λ key. no_rule))
+abbrev pub first_rules : Timestamp → ℕ → Rules Verdict
+first_rules moment leeway =
+    edited (codes "nbf") (with_both (not_before (times_at moment leeway)) (default_date (codes "nbf")))
+    (edited (codes "exp") (with_both (expiry (times_at moment leeway)) (default_date (codes "exp"))) (λ key. no_rule))
 
 -- what is checked under each key
 abbrev pub demanded_rules : Demanded → Rules Verdict
-demanded_rules demands = all_demanded demands.claims (first_rules demands.at)
+demanded_rules demands = all_required demands.required (all_demanded demands.claims (first_rules demands.at demands.leeway))
 
 -- the value is what is demanded
 pub record IsDemanded (demands : Demanded) (value : Data) : Type 0 where
@@ -68,9 +80,9 @@ pub record IsDemanded (demands : Demanded) (value : Data) : Type 0 where
   pub passes : PassesAll (demanded_rules demands) value
 
 -- what a token is bound to under a key, which has this footer of its own: the footer that is demanded, or else its own,
--- and no assertion
-abbrev pub bound_to : List ℕ → Option (List ℕ) → List ℕ → Binding
-bound_to key footer own = record { key = key; footer = unwrap_or footer own; assertion = [] }
+-- and the assertion
+abbrev pub bound_to : List ℕ → Option (List ℕ) → List ℕ → Option ImplicitAssertion → Binding
+bound_to key footer own assertion = record { key = key; footer = unwrap_or footer own; assertion = assertion_of assertion }
 
 -- the answer is the one value that is so, or there is none, or the error came from outside
 pub record IsTheValue (Is : Data → Type 0) (result : Result Value ProgramError) : Type 0 where
@@ -78,17 +90,18 @@ pub record IsTheValue (Is : Data → Type 0) (result : Result Value ProgramError
   pub one : IfOk result (λ value. (other : Data) → Is other → other ≡ view value)
   pub none : IfErr result (Lacks Is)
 
--- the value is that of the token, read under the key of the line and the footer that is demanded; where none is demanded,
--- the token has no footer, or the empty one
+-- the value is that of the token, read under the key of the line, and the footer and the assertion that are demanded; where
+-- no footer is demanded, the token has none, or the empty one
 pub record ParsesWith (kind : PaserkType) (version : PaserkVersion) (reading : Binding → Reading)
-    (line : List ℕ) (footer : Option (List ℕ)) (token : List ℕ) (value : Data) : Type 0 where
+    (line : List ℕ) (footer : Option (List ℕ)) (assertion : Option ImplicitAssertion) (token : List ℕ) (value : Data) : Type 0 where
   pub key : List ℕ
   pub is_key : IsKeyLine (IsKeyOf kind version) kind version line key
-  pub is_parsed : IsParsed (reading (bound_to key footer [])) (λ key. no_rule) token value
+  pub is_parsed : IsParsed (reading (bound_to key footer [] (assertion_where (binds_in version) assertion))) (λ key. no_rule) token value
 
--- the same for a key of whatever type and version reads tokens
-pub record ParsesByKey (line : List ℕ) (footer : Option (List ℕ)) (token : List ℕ) (value : Data) : Type 0 where
+-- the same for a key of whatever type and version reads tokens, and takes the assertion
+pub record ParsesByKey (line : List ℕ) (footer : Option (List ℕ)) (assertion : Option ImplicitAssertion) (token : List ℕ) (value : Data) : Type 0 where
   pub kind : PaserkType
   pub version : PaserkVersion
+  pub takes : Takes version assertion
   pub is_reader : IsReader kind version
-  pub parses : ParsesWith kind version (reading_of kind version) line footer token value
+  pub parses : ParsesWith kind version (reading_of kind version) line footer assertion token value

@@ -2,6 +2,7 @@
 use Rattle.std.specs.Prelude.{◌≡◌, ℕ, List, [], ◌∷◌, ◌++◌, Option, false, IsUtf8}
 use Rattle.jiff.specs.Types.{Timestamp}
 use Rattle.serde_json.specs.Data.{Data}
+use Rattle.rusty_paseto_parts.specs.declared.texts.implicit_assertion.ImplicitAssertion.{ImplicitAssertion}
 use Rattle.serde_json.specs.Written.{compact_text, has_float}
 use Rattle.paseto_tasks.specs.declared.arguments.Options.{Options}
 use Rattle.paseto.specs.declared.commands.check.Keys.{Keys}
@@ -11,9 +12,9 @@ use Rattle.paseto.specs.Check.{AreDemands, Demanded, IsDemanded, ParsesByKey}
 use Rattle.paseto.specs.Ring.{ParsesByRing}
 
 -- the value is that of the token under the key of the line, or the one of the lines that its footer names
-abbrev pub ParsesBy : Keys → Option (List ℕ) → List ℕ → Data → Type 0
-ParsesBy (One key) footer token value = ParsesByKey key.now footer token value
-ParsesBy (Ring lines) footer token value = ParsesByRing (words_of lines.now) footer token value
+abbrev pub ParsesBy : Keys → Option (List ℕ) → Option ImplicitAssertion → List ℕ → Data → Type 0
+ParsesBy (One key) footer assertion token value = ParsesByKey key.now footer assertion token value
+ParsesBy (Ring lines) footer assertion token value = ParsesByRing (words_of lines.now) footer assertion token value
 
 -- the line is the JSON of the value, with no space
 abbrev pub IsJsonLine : Data → List ℕ → Type 0
@@ -22,7 +23,7 @@ IsJsonLine value line = has_float value ≡ false → line ≡ compact_text valu
 -- the line is that of the claims of a token that is what is demanded
 abbrev pub ChecksBy : Keys → Demanded → List ℕ → List ℕ → Type 0
 ChecksBy keys demands token line =
-    (value : Data) × ParsesBy keys demands.footer token value × IsDemanded demands value × IsJsonLine value line
+    (value : Data) × ParsesBy keys demands.footer demands.assertion token value × IsDemanded demands value × IsJsonLine value line
 
 -- the same of what words demand at a moment
 pub record ChecksFor (claims : List (List ℕ)) (options : Options) (now : Timestamp) (keys : Keys) (token line : List ℕ) : Type 0 where

@@ -8,7 +8,7 @@ use Rattle.serde_json.specs.View.{view}
 use Rattle.rusty_paseto_claims.specs.Claim.{gives, one_member}
 use Rattle.rusty_paseto_claims.specs.Whole.{is_whole}
 use Rattle.rusty_paseto_generic.specs.Builders.Claims.{becomes, claim_set}
-use Rattle.rusty_paseto_generic.specs.Parsers.Rules.{Rules, edited, with_stored}
+use Rattle.rusty_paseto_generic.specs.Parsers.Rules.{Rules, edited, with_required, with_stored}
 use Rattle.rusty_paseto.specs.PasetoBuilder.{Counting, counted}
 use Rattle.paseto.specs.declared.commands.claims.NamedClaim.{NamedClaim}
 
@@ -83,3 +83,8 @@ all_counted (claim ∷ claims) old = all_counted claims (counted claim.name old)
 abbrev pub all_demanded : {J : Type 0} → List Named → Rules J → Rules J
 all_demanded [] old = old
 all_demanded (claim ∷ claims) old = all_demanded claims (edited claim.name (with_stored (json_of claim)) old)
+
+-- the same, when values under these names are demanded
+abbrev pub all_required : {J : Type 0} → List (List ℕ) → Rules J → Rules J
+all_required [] old = old
+all_required (name ∷ names) old = all_required names (edited name with_required old)

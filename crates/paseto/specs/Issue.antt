@@ -15,6 +15,7 @@ use Rattle.paseto_p384.specs.P384.{P384Verifies, IsDeclined as IsDeclinedByP384,
 use Rattle.paseto_xchacha20poly1305.specs.Sealing.{box_sealing}
 use Rattle.rusty_paseto_generic.specs.Builders.Claims.{payload}
 use Rattle.rusty_paseto_generic.specs.Builders.GenericBuilder.{IsBoxAnswer, IsSealed}
+use Rattle.rusty_paseto_parts.specs.declared.texts.implicit_assertion.ImplicitAssertion.{ImplicitAssertion}
 use Rattle.rusty_paseto.specs.PasetoBuilder.{Counting, IsDefaultClaims, nothing_counted}
 use Rattle.rusty_paseto_paserk.specs.declared.header.PaserkVersion.{PaserkVersion}
 use Rattle.rusty_paseto_paserk.specs.declared.header.PaserkVersion.TheVariants.{V1, V2, V3, V4}
@@ -24,18 +25,21 @@ use Rattle.paseto.specs.declared.commands.issue.Order.{Order}
 use Rattle.paseto.specs.Check.{bound_to}
 use Rattle.paseto.specs.Claims.{AreClaims, AreSet, Named, all_counted, all_named}
 use Rattle.paseto.specs.Footers.{IsFooter}
+use Rattle.paseto_tasks.specs.Arguments.{Takes, assertion_where}
 use Rattle.paseto_tasks.specs.Local.{IsLocalKey}
 use Rattle.paseto_tasks.specs.Output.{IsLineOf}
 use Rattle.paseto_tasks.specs.Public.{DeclinesKey, IsHalf}
 use Rattle.paseto.specs.Times.{IsTimeSet, SaysTime, time_counted}
 
--- what is ordered: a moment, claims, when the token expires and when it may first be used, and its footer or none
+-- what is ordered: a moment, claims, when the token expires and when it may first be used, and its footer and its assertion
+-- or none
 pub record Ordered : Type 0 where
   pub moment : Timestamp
   pub claims : List Named
   pub expires : Option Timestamp
   pub not_before : Option Timestamp
   pub footer : Option (List ℕ)
+  pub assertion : Option ImplicitAssertion
 
 abbrev pub ordered : Order → Ordered
 ordered order = record {
@@ -44,6 +48,7 @@ ordered order = record {
   expires = order.expires;
   not_before = order.not_before;
   footer = option_map string_bytes order.footer;
+  assertion = order.assertion;
 }
 
 -- what words order at a moment
@@ -53,6 +58,7 @@ pub record IsOrder (claims : List (List ℕ)) (options : Options) (now : Timesta
   pub expires : SaysTime (option_map (λ word. word.now) options.expires) now order.expires
   pub not_before : SaysTime (option_map (λ word. word.now) options.not_before) now order.not_before
   pub footer : IsFooter options order.footer
+  pub assertion : order.assertion ≡ options.assertion
 
 -- the claims of a default builder with what is ordered
 pub record AreOrdered (order : Ordered) (claims : Members) : Type 0 where
@@ -89,7 +95,7 @@ pub record SealsClaims (version : PaserkVersion) (design : Design) (key : List �
   pub are_ordered : AreOrdered order claims
   pub once : IsOnce order
   pub token : List ℕ
-  pub is_sealed : IsSealed design (bound_to key_bytes order.footer []) (is_some order.footer) claims IsDrawn token
+  pub is_sealed : IsSealed design (bound_to key_bytes order.footer [] (assertion_where design.binds_assertion order.assertion)) (is_some order.footer) claims IsDrawn token
   pub line_is : IsLineOf token line
 
 -- the same in version 2, by the box
@@ -100,7 +106,7 @@ pub record BoxesClaims (key : List ℕ) (order : Ordered) (IsDrawn : List ℕ �
   pub are_ordered : AreOrdered order claims
   pub once : IsOnce order
   pub token : List ℕ
-  pub is_sealed : IsBoxAnswer box_sealing (bound_to key_bytes order.footer []) (is_some order.footer) claims IsDrawn (Some token)
+  pub is_sealed : IsBoxAnswer box_sealing (bound_to key_bytes order.footer [] None) (is_some order.footer) claims IsDrawn (Some token)
   pub line_is : IsLineOf token line
 
 -- under a key of local tokens of each version
@@ -116,7 +122,7 @@ pub record SignsOrder (valid : Validity) (design : PublicDesign) (public : List 
   pub are_ordered : AreOrdered order claims
   pub once : IsOnce order
   pub token : List ℕ
-  pub is_signed : IsSigning valid design (bound_to public order.footer []) (is_some order.footer) (payload claims) token
+  pub is_signed : IsSigning valid design (bound_to public order.footer [] (assertion_where design.binds_assertion order.assertion)) (is_some order.footer) (payload claims) token
   pub line_is : IsLineOf token line
 
 -- in a version: the same by the private key of the line
@@ -133,10 +139,11 @@ SignsIn V2 = SignsClaims V2 64 Ed25519Verifies v2_public partner
 SignsIn V3 = SignsClaims V3 48 P384Verifies v3_public p384_public
 SignsIn V4 = SignsClaims V4 64 Ed25519Verifies v4_public partner
 
--- the line is that of a token of what is ordered, under the key of a version
+-- the line is that of a token of what is ordered, under the key of a version that takes the assertion
 abbrev pub Issues : List ℕ → Ordered → (List ℕ → Type 0) → List ℕ → Type 0
 Issues key order IsDrawn line =
-    ((version : PaserkVersion) × SealsIn version key order IsDrawn line) ⊎ ((version : PaserkVersion) × SignsIn version key order line)
+    ((version : PaserkVersion) × SealsIn version key order IsDrawn line × Takes version order.assertion)
+    ⊎ ((version : PaserkVersion) × SignsIn version key order line × Takes version order.assertion)
 
 -- the line is that of a token of what the words order at a moment
 abbrev pub IssuesFor : List (List ℕ) → Options → Timestamp → List ℕ → (List ℕ → Type 0) → List ℕ → Type 0
@@ -147,7 +154,7 @@ pub record DeclinesOrder (declined : Declining) (half : List ℕ → List ℕ) (
     (private : List ℕ) (error : PasetoError) : Type 0 where
   pub claims : Members
   pub are_ordered : AreOrdered order claims
-  pub is_declined : declined private (message design (bound_to (half private) order.footer []) (payload claims)) error
+  pub is_declined : declined private (message design (bound_to (half private) order.footer [] (assertion_where design.binds_assertion order.assertion)) (payload claims)) error
 
 -- the line is the writing of a private key of a version whose scheme declines what is ordered for it
 abbrev pub DeclinesIn : PaserkVersion → List ℕ → Ordered → Type 0

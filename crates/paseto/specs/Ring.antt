@@ -3,6 +3,7 @@ use Rattle.std.specs.Prelude.{◌≡◌, ◌≢◌, ◌⊎◌, ⊤, ℕ, List, [
 use Rattle.serde_json.specs.Data.{Data}
 use Rattle.rusty_paseto_core.specs.Context.{Binding}
 use Rattle.rusty_paseto_core.specs.Reading.{Reading}
+use Rattle.rusty_paseto_parts.specs.declared.texts.implicit_assertion.ImplicitAssertion.{ImplicitAssertion}
 use Rattle.rusty_paseto_generic.specs.Parsers.Rules.{no_rule}
 use Rattle.rusty_paseto.specs.KeyRing.{IsParsed, Keys, with_key}
 use Rattle.rusty_paseto_paserk.specs.declared.header.PaserkVersion.{PaserkVersion}
@@ -12,6 +13,7 @@ use Rattle.rusty_paseto_paserk.specs.declared.error.PaserkError.TheVariants.{Oth
 use Rattle.rusty_paseto_paserk.specs.Header.{HasHeader}
 use Rattle.rusty_paseto_paserk.specs.Id.{id_of}
 use Rattle.paseto.specs.Check.{bound_to}
+use Rattle.paseto_tasks.specs.Arguments.{Takes, assertion_where, binds_in}
 use Rattle.paseto_tasks.specs.Id.{IsKeyLine, IsKeyOf}
 use Rattle.paseto.specs.Readers.{IsReader, reading_of}
 
@@ -32,21 +34,23 @@ abbrev pub ring_of : PaserkType → PaserkVersion → List (List ℕ) → Keys (
 ring_of kind version [] = λ id. None
 ring_of kind version (key ∷ keys) = with_key (id_of version kind key) key (ring_of kind version keys)
 
--- the value is that of the token, read under the key of the lines that its footer names, and under the footer that is
--- demanded, or else its own
+-- the value is that of the token, read under the key of the lines that its footer names, under the footer that is
+-- demanded, or else its own, and under the assertion
 pub record ParsesIn (kind : PaserkType) (version : PaserkVersion) (reading : Binding → Reading)
-    (lines : List (List ℕ)) (footer : Option (List ℕ)) (token : List ℕ) (value : Data) : Type 0 where
+    (lines : List (List ℕ)) (footer : Option (List ℕ)) (assertion : Option ImplicitAssertion) (token : List ℕ) (value : Data) : Type 0 where
   pub keys : List (List ℕ)
   pub are_keys : AreKeysOf (IsKeyOf kind version) kind version lines keys
   pub id : List ℕ
-  pub is_parsed : IsParsed (ring_of kind version keys) (λ key own. reading (bound_to key footer own)) (λ key. no_rule) token id value
+  pub is_parsed : IsParsed (ring_of kind version keys) (λ key own. reading (bound_to key footer own (assertion_where (binds_in version) assertion)))
+      (λ key. no_rule) token id value
 
--- the same by the keys of whatever type and version
-pub record ParsesByRing (lines : List (List ℕ)) (footer : Option (List ℕ)) (token : List ℕ) (value : Data) : Type 0 where
+-- the same by the keys of whatever type and version, which takes the assertion
+pub record ParsesByRing (lines : List (List ℕ)) (footer : Option (List ℕ)) (assertion : Option ImplicitAssertion) (token : List ℕ) (value : Data) : Type 0 where
   pub kind : PaserkType
   pub version : PaserkVersion
+  pub takes : Takes version assertion
   pub is_reader : IsReader kind version
-  pub parses : ParsesIn kind version (reading_of kind version) lines footer token value
+  pub parses : ParsesIn kind version (reading_of kind version) lines footer assertion token value
 
 -- ---- for private clauses
 

@@ -12,6 +12,7 @@ use Rattle.rusty_paseto_claims.specs.declared.error.PasetoClaimError.TheVariants
 use Rattle.rusty_paseto_generic.specs.Builders.Claims.{becomes, claim_set}
 use Rattle.rusty_paseto.specs.PasetoBuilder.{Counting, counted}
 use Rattle.paseto_tasks.specs.declared.error.ProgramError.{ProgramError}
+use Rattle.paseto_tasks.specs.declared.error.TimeOption.{TimeOption}
 use Rattle.paseto_tasks.specs.declared.error.ProgramError.TheVariants.{Memory, Time}
 
 -- the word is this number in decimal digits, behind a plus or none, and it is one of 32 bits
@@ -56,6 +57,11 @@ SaysMoment word now moment = MatchResult (parse_timestamp word) (λ instant. mom
 abbrev pub SaysNone : List ℕ → Timestamp → Type 0
 SaysNone word now = (moment : Timestamp) → ¬ SaysMoment word now moment
 
+-- how many seconds clocks may differ by: as many as the word says, which fit 32 bits, or none where there is no word
+abbrev pub IsLeeway : Option (List ℕ) → ℕ → Type 0
+IsLeeway None seconds = seconds ≡ 0
+IsLeeway (Some word) seconds = IsLength word seconds × (seconds < 2 ^ 32)
+
 -- the moment that a word says, where there is a word
 abbrev pub SaysTime : Option (List ℕ) → Timestamp → Option Timestamp → Type 0
 SaysTime None now moment = moment ≡ None
@@ -77,7 +83,7 @@ abbrev pub time_counted : List ℕ → Option Timestamp → Counting → Countin
 time_counted key None old = old
 time_counted key (Some moment) old = counted key old
 
--- why a text of a moment makes no claim: memory was refused, or the text is no date
-abbrev pub claim_error_of : PasetoClaimError → ProgramError
-claim_error_of (NoClaimMemory source) = Memory source
-claim_error_of _ = Time
+-- why the text of a moment that an option says makes no claim: memory was refused, or the text is no date
+abbrev pub claim_error_of : TimeOption → PasetoClaimError → ProgramError
+claim_error_of option (NoClaimMemory source) = Memory source
+claim_error_of option _ = Time option

@@ -1,6 +1,7 @@
 //! The commands that go by claims, `issue` and `check`, over any generator, input and outputs.
 
 pub mod answers;
+pub mod asserts;
 pub mod check;
 pub mod claims;
 pub mod footer;

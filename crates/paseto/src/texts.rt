@@ -83,6 +83,8 @@ fn done<K: Read, R: Read, W: Write>(
         expires: None,
         not_before: None,
         at: None,
+        leeway: None,
+        required: &[],
     };
     run(
         rt.alloc(),

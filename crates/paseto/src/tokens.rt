@@ -69,6 +69,8 @@ fn options_of<'a>(foot: Foot<'a>, assertion: Option<&'a str>) -> Options<'a> {
         expires: None,
         not_before: None,
         at: None,
+        leeway: None,
+        required: &[],
     }
 }
 
@@ -133,6 +135,8 @@ fn checked<'a, R: Read>(
     };
     let mut options = options_of(words.foot, words.assertion);
     options.at = words.at;
+    options.leeway = words.leeway;
+    options.required = &words.required;
     Ok(run_check(
         rt.alloc(),
         &names,

@@ -3,6 +3,8 @@ pub mod Lines
 pub mod Outputs
 pub mod Inspections
 pub mod Refusals
+pub mod Versions
+pub mod Boxes
 pub mod Statuses
 pub mod Fronts
 pub mod Ids

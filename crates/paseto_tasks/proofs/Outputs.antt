@@ -7,7 +7,7 @@ use Rattle.rusty_paseto_paserk.specs.declared.error.PaserkError.TheVariants.{NoK
 use Rattle.paseto_tasks.specs.declared.arguments.Options.{Options}
 use Rattle.paseto_tasks.specs.declared.arguments.Task.{Task}
 use Rattle.paseto_tasks.specs.declared.error.ProgramError.{ProgramError}
-use Rattle.paseto_tasks.specs.declared.error.ProgramError.TheVariants.{Usage, NoKind, NoHalf, NoKey, OneInput, Claim, TimeClaim, Time, Key, TooLong, Refused, OtherFooter, Unfit, NoFile, NoAccess, FileExists, Clock, Random, InputOrOutput, Memory}
+use Rattle.paseto_tasks.specs.declared.error.ProgramError.TheVariants.{Usage, NoKind, NoHalf, NoKey, OneInput, Claim, TimeClaim, Time, Key, TooLong, Refused, OtherKind, NoAssertion, OtherFooter, Unfit, NoFile, NoAccess, FileExists, Clock, Random, InputOrOutput, Memory}
 use Rattle.paseto_tasks.specs.Error.{status_of}
 use Rattle.paseto_tasks.specs.Output.{IsCutShort, IsLeftOf}
 use Rattle.paseto_tasks.specs.Run.{Prints, Writes}
@@ -45,7 +45,7 @@ status_of-some NoKey = refl
 status_of-some OneInput = refl
 status_of-some Claim = refl
 status_of-some TimeClaim = refl
-status_of-some Time = refl
+status_of-some (Time option) = refl
 status_of-some (Key NoKey) = refl
 status_of-some (Key (OtherVersion version)) = refl
 status_of-some (Key (OtherType kind)) = refl
@@ -53,6 +53,8 @@ status_of-some (Key InvalidKey) = refl
 status_of-some (Key (NoKeyMemory source)) = refl
 status_of-some TooLong = refl
 status_of-some (Refused error) = refl
+status_of-some (OtherKind token key) = refl
+status_of-some NoAssertion = refl
 status_of-some OtherFooter = refl
 status_of-some (Unfit line) = refl
 status_of-some NoFile = refl

@@ -1,130 +1,90 @@
 -- What is refused has no output.
-use Rattle.std.proofs.Common.{◌≡◌, ◌≢◌, ◌⊎◌, ℕ, List, ◌++◌, length, get_or, codes, eqb, append_assoc, Option, None, Some, IfSome, Result, Ok, Err, IfErr, IsErrAnd, inl, inr, refl, sym, ap, subst, subst₂, ◌∙◌}
+use Rattle.std.proofs.Common.{◌≡◌, ◌⊎◌, ℕ, List, length, Bool, true, false, eqb, Option, None, Some, IfSome, Result, Ok, Err, IfErr, IfOk, IsErrAnd, MatchResult, String, Global, string_bytes, inl, inr, refl, sym, ap, subst, subst₂, ◌∙◌}
 use Rattle.std.proofs.lemmas.Bool.{false≢true}
 use Rattle.base64.specs.GeneralPurpose.{IsBytes}
 use Rattle.rusty_paseto_parts.specs.Error.{IsMemory}
 use Rattle.rusty_paseto_parts.specs.Section.{base64url}
 use Rattle.rusty_paseto_parts.specs.declared.error.PasetoError.{PasetoError}
 use Rattle.rusty_paseto_parts.specs.declared.error.PasetoError.TheVariants.{Memory as NoMemory}
-use Rattle.rusty_paseto_core.specs.Context.{binding_of}
-use Rattle.rusty_paseto_core.specs.Local.{Design}
-use Rattle.rusty_paseto_core.specs.Local.Opening.{opening}
-use Rattle.rusty_paseto_core.specs.Reading.{IsRead, Reading}
+use Rattle.rusty_paseto_core.specs.Reading.{IsAnswer, IsRead, Reading}
 use Rattle.rusty_paseto_paserk.specs.Error.{IsMemory as IsKeyMemory}
 use Rattle.rusty_paseto_paserk.specs.declared.error.PaserkError.{PaserkError}
 use Rattle.rusty_paseto_paserk.specs.declared.error.PaserkError.TheVariants.{Memory as NoKeyMemory}
 use Rattle.rusty_paseto_paserk.specs.declared.header.PaserkVersion.{PaserkVersion}
-use Rattle.rusty_paseto_paserk.specs.declared.header.PaserkVersion.TheVariants.{V3, V4}
-use Rattle.rusty_paseto_paserk.specs.declared.header.PaserkType.{PaserkType}
-use Rattle.rusty_paseto_paserk.specs.declared.header.PaserkType.TheVariants.{Local, Secret, Public}
-use Rattle.rusty_paseto_paserk.specs.Header.{word}
+use Rattle.rusty_paseto_paserk.specs.declared.header.PaserkType.TheVariants.{Local, Secret}
 use Rattle.rusty_paseto_paserk.specs.Text.{writing}
 use Rattle.paseto_tasks.specs.declared.arguments.Options.{Options}
+use Rattle.paseto_tasks.specs.declared.token_kind.TokenKind.{TokenKind}
+use Rattle.paseto_tasks.specs.Arguments.{assertion_where}
+use Rattle.rusty_paseto_parts.specs.declared.texts.implicit_assertion.ImplicitAssertion.{ImplicitAssertion}
 use Rattle.paseto_tasks.specs.declared.arguments.Task.{Task}
 use Rattle.paseto_tasks.specs.declared.error.ProgramError.{ProgramError}
 use Rattle.paseto_tasks.specs.declared.error.ProgramError.TheVariants.{Clock, Random, InputOrOutput, Memory}
-use Rattle.paseto_tasks.specs.Error.{IsOutside, key_error_of, program_error_of, status_of}
+use Rattle.paseto_tasks.specs.Error.{IsOutside, IsTokenError, key_error_of, program_error_of, status_of}
 use Rattle.paseto_tasks.specs.Input.{line_of_input}
-use Rattle.paseto_tasks.specs.Local.{Opens}
 use Rattle.paseto_tasks.specs.Public.{DeclinesKey, IsHalf}
 use Rattle.paseto_tasks.specs.Run.{IsRefused, PrintsNothing}
 
--- ---- versions
-
--- a line that begins as a key of version 3 is none of version 4
-pub not_v4 : (line key : List ℕ) (kind : PaserkType) → (rest : List ℕ) × (line ≡ codes "k3." ++ rest) → line ≡ writing V4 kind key → ⊥
-not_v4 line key Local begins is = let digit : 51 ≡ 52 = ap (λ (l : List ℕ). get_or l 1 0) (sym begins.1 ∙ is) in absurd (false≢true (sym (ap (eqb 51) digit)))
-not_v4 line key Secret begins is = let digit : 51 ≡ 52 = ap (λ (l : List ℕ). get_or l 1 0) (sym begins.1 ∙ is) in absurd (false≢true (sym (ap (eqb 51) digit)))
-not_v4 line key Public begins is = let digit : 51 ≡ 52 = ap (λ (l : List ℕ). get_or l 1 0) (sym begins.1 ∙ is) in absurd (false≢true (sym (ap (eqb 51) digit)))
-
-pub not_v3 : (line key : List ℕ) (kind : PaserkType) → ((rest : List ℕ) → line ≢ codes "k3." ++ rest) → line ≡ writing V3 kind key → ⊥
-not_v3 line key kind none is = none (word kind ++ base64url key) (is ∙ append_assoc (codes "k3.") (word kind) (base64url key))
-
--- what is printed for neither of two versions
-module _ (A B : List ℕ → List ℕ → Type 0) where
-  first_known : (error : ProgramError) (known2 : Option (List ℕ)) → ((bytes text : List ℕ) → B bytes text → ⊥)
-      → IfSome known2 (λ bytes. IsOutside error ⊎ ((text : List ℕ) → ¬ A bytes text))
-      → IfSome known2 (λ bytes. IsOutside error ⊎ ((text : List ℕ) → ¬ (A bytes text ⊎ B bytes text)))
-  first_known error None other h = tt
-  first_known error (Some bytes) other (inl outside) = inl outside
-  first_known error (Some bytes) other (inr none) = inr (λ text both. elim both [ inl a ↦ none text a | inr b ↦ other bytes text b ])
-
-  second_known : (error : ProgramError) (known2 : Option (List ℕ)) → ((bytes text : List ℕ) → A bytes text → ⊥)
-      → IfSome known2 (λ bytes. IsOutside error ⊎ ((text : List ℕ) → ¬ B bytes text))
-      → IfSome known2 (λ bytes. IsOutside error ⊎ ((text : List ℕ) → ¬ (A bytes text ⊎ B bytes text)))
-  second_known error None other h = tt
-  second_known error (Some bytes) other (inl outside) = inl outside
-  second_known error (Some bytes) other (inr none) = inr (λ text both. elim both [ inl a ↦ other bytes text a | inr b ↦ none text b ])
-
-pub first_of_two : {T : Type 0} (result : Result T ProgramError) (known : Option (List ℕ)) (A B : List ℕ → List ℕ → Type 0)
-    → ((bytes text : List ℕ) → B bytes text → ⊥)
-    → IfErr result (λ error. IfSome known (λ bytes. IsOutside error ⊎ ((text : List ℕ) → ¬ A bytes text)))
-    → IfErr result (λ error. IfSome known (λ bytes. IsOutside error ⊎ ((text : List ℕ) → ¬ (A bytes text ⊎ B bytes text))))
-first_of_two (Ok value) known A B other h = tt
-first_of_two (Err error) known A B other h = first_known A B error known other h
-
-pub second_of_two : {T : Type 0} (result : Result T ProgramError) (known : Option (List ℕ)) (A B : List ℕ → List ℕ → Type 0)
-    → ((bytes text : List ℕ) → A bytes text → ⊥)
-    → IfErr result (λ error. IfSome known (λ bytes. IsOutside error ⊎ ((text : List ℕ) → ¬ B bytes text)))
-    → IfErr result (λ error. IfSome known (λ bytes. IsOutside error ⊎ ((text : List ℕ) → ¬ (A bytes text ⊎ B bytes text))))
-second_of_two (Ok value) known A B other h = tt
-second_of_two (Err error) known A B other h = second_known A B error known other h
-
--- the same, beside a private key that is declined
-sign_first_known : (error : ProgramError) (known : Option (List ℕ)) (A B : List ℕ → List ℕ → Type 0) (C D : List ℕ → Type 0) → ((bytes text : List ℕ) → B bytes text → ⊥)
-    → IfSome known (λ bytes. IsOutside error ⊎ (((text : List ℕ) → ¬ A bytes text) ⊎ C bytes))
-    → IfSome known (λ bytes. IsOutside error ⊎ (((text : List ℕ) → ¬ (A bytes text ⊎ B bytes text)) ⊎ (C bytes ⊎ D bytes)))
-sign_first_known error None A B C D other h = tt
-sign_first_known error (Some bytes) A B C D other (inl outside) = inl outside
-sign_first_known error (Some bytes) A B C D other (inr (inl none)) = inr (inl (λ text both. elim both [ inl a ↦ none text a | inr b ↦ other bytes text b ]))
-sign_first_known error (Some bytes) A B C D other (inr (inr declined)) = inr (inr (inl declined))
-
-sign_second_known : (error : ProgramError) (known : Option (List ℕ)) (A B : List ℕ → List ℕ → Type 0) (C D : List ℕ → Type 0) → ((bytes text : List ℕ) → A bytes text → ⊥)
-    → IfSome known (λ bytes. IsOutside error ⊎ (((text : List ℕ) → ¬ B bytes text) ⊎ D bytes))
-    → IfSome known (λ bytes. IsOutside error ⊎ (((text : List ℕ) → ¬ (A bytes text ⊎ B bytes text)) ⊎ (C bytes ⊎ D bytes)))
-sign_second_known error None A B C D other h = tt
-sign_second_known error (Some bytes) A B C D other (inl outside) = inl outside
-sign_second_known error (Some bytes) A B C D other (inr (inl none)) = inr (inl (λ text both. elim both [ inl a ↦ other bytes text a | inr b ↦ none text b ]))
-sign_second_known error (Some bytes) A B C D other (inr (inr declined)) = inr (inr (inr declined))
-
-pub sign_first : {T : Type 0} (result : Result T ProgramError) (known : Option (List ℕ)) (A B : List ℕ → List ℕ → Type 0) (C D : List ℕ → Type 0)
-    → ((bytes text : List ℕ) → B bytes text → ⊥)
-    → IfErr result (λ error. IfSome known (λ bytes. IsOutside error ⊎ (((text : List ℕ) → ¬ A bytes text) ⊎ C bytes)))
-    → IfErr result (λ error. IfSome known (λ bytes. IsOutside error ⊎ (((text : List ℕ) → ¬ (A bytes text ⊎ B bytes text)) ⊎ (C bytes ⊎ D bytes))))
-sign_first (Ok value) known A B C D other h = tt
-sign_first (Err error) known A B C D other h = sign_first_known error known A B C D other h
-
-pub sign_second : {T : Type 0} (result : Result T ProgramError) (known : Option (List ℕ)) (A B : List ℕ → List ℕ → Type 0) (C D : List ℕ → Type 0)
-    → ((bytes text : List ℕ) → A bytes text → ⊥)
-    → IfErr result (λ error. IfSome known (λ bytes. IsOutside error ⊎ (((text : List ℕ) → ¬ B bytes text) ⊎ D bytes)))
-    → IfErr result (λ error. IfSome known (λ bytes. IsOutside error ⊎ (((text : List ℕ) → ¬ (A bytes text ⊎ B bytes text)) ⊎ (C bytes ⊎ D bytes))))
-sign_second (Ok value) known A B C D other h = tt
-sign_second (Err error) known A B C D other h = sign_second_known error known A B C D other h
-
 -- ---- tokens
 
--- a token that is not read, as its reading says
-pub not_read : (reading other : Reading) (token : List ℕ) (error : PasetoError) → other ≡ reading
-    → ((text : List ℕ) → IsRead reading token text → IsMemory error)
-    → IsOutside (program_error_of error) ⊎ ((text : List ℕ) → ¬ IsRead other token text)
-not_read reading other token (NoMemory source) same h = inl tt
-not_read reading other token error same h = inr (λ text is. h text (subst (λ (r : Reading). IsRead r token text) same is))
-
--- a token that does not open under the key that a line is
-pub not_opened : (version : PaserkVersion) (design : Design) (line : List ℕ) (options : Options) (key token : List ℕ) (error : PasetoError)
-    → ((other : List ℕ) → IsBytes other → length other ≡ 32 → line ≡ writing version Local other → key ≡ other)
-    → ((text : List ℕ) → IsRead (opening design (binding_of key options.footer options.assertion)) token text → IsMemory error)
-    → IsOutside (program_error_of error) ⊎ ((text : List ℕ) → ¬ Opens version design line options token text)
-not_opened version design line options key token (NoMemory source) same h = inl tt
-not_opened version design line options key token error same h = inr (λ text opens.
-    let is = same opens.key_bytes opens.is_key.bytes opens.is_key.size opens.is_key.is_writing in
-    h text (subst (λ (k : List ℕ). IsRead (opening design (binding_of k options.footer options.assertion)) token text) (sym is) opens.is_read))
+-- the assertion that a version binds its tokens to
+pub bound_is : (binds : Bool) (given found : Option ImplicitAssertion) → (binds ≡ true → found ≡ given) → (binds ≡ false → found ≡ None)
+    → assertion_where binds given ≡ found
+bound_is true given found bound none = sym (bound refl)
+bound_is false given found bound none = sym (none refl)
 
 -- what holds of the line that was read holds of that of the known input
 pub of_line : (known : Option (List ℕ)) (line token : List ℕ) (Q : List ℕ → Type 0) → IfSome known (λ bytes. line_of_input bytes ≡ line) → token ≡ line → Q token
     → IfSome known (λ bytes. Q (line_of_input bytes))
 of_line None line token Q is same h = tt
 of_line (Some bytes) line token Q is same h = subst Q (same ∙ sym is) h
+
+-- what is said of a token that is refused
+abbrev pub IsRefusedBy : List ℕ → TokenKind → Result (String Global) PasetoError → ProgramError → Type 0
+IsRefusedBy token kind answer error = IsErrAnd answer (λ source. IsTokenError token kind source error)
+
+-- a token that is read as no text, where what is so of the token is read
+refused_token : (reading : Reading) (token : List ℕ) (kind : TokenKind) (source : PasetoError) (error : ProgramError) (IsSo : List ℕ → Type 0)
+    → IsTokenError token kind source error → ((text : List ℕ) → IsSo text → IsRead reading token text)
+    → ((text : List ℕ) → IsRead reading token text → IsMemory source) → IsOutside error ⊎ ((text : List ℕ) → ¬ IsSo text)
+refused_token reading token kind (NoMemory memory) error IsSo told reads h = inl (subst IsOutside (sym told) tt)
+refused_token reading token kind source error IsSo told reads h = inr (λ text so. h text (reads text so))
+
+module _ (reading : Reading) (token : List ℕ) (kind : TokenKind) (answer : Result (String Global) PasetoError) (answers : IsAnswer reading token answer) where
+  -- the text of a token that is read
+  pub was_read : {E : Type 0} (result : Result (String Global) E) (IsSo : List ℕ → Type 0) → IfOk result (λ text. answer ≡ Ok text)
+      → ((text : List ℕ) → IsRead reading token text → IsSo text) → IfOk result (λ text. IsSo (string_bytes text))
+  was_read (Ok text) IsSo is so = so (string_bytes text) (rw is at answers.read)
+  was_read (Err error) IsSo is so = tt
+
+  -- and why it is not
+  pub not_read : {T : Type 0} (result : Result T ProgramError) (IsSo : List ℕ → Type 0) → IfErr result (IsRefusedBy token kind answer)
+      → ((text : List ℕ) → IsSo text → IsRead reading token text) → IfErr result (λ error. IsOutside error ⊎ ((text : List ℕ) → ¬ IsSo text))
+  not_read (Ok value) IsSo refused reads = tt
+  not_read (Err error) IsSo refused reads = by_answer answer refused answers.complete
+    where
+      by_answer : (found : Result (String Global) PasetoError) → IsRefusedBy token kind found error
+          → ((text : List ℕ) → IsRead reading token text → MatchResult found (λ other. string_bytes other ≡ text) IsMemory)
+          → IsOutside error ⊎ ((text : List ℕ) → ¬ IsSo text)
+      by_answer (Ok value) told complete = absurd told
+      by_answer (Err source) told complete = refused_token reading token kind source error IsSo told reads complete
+
+  -- the same of the line of the known input
+  module _ (known : Option (List ℕ)) (line : List ℕ) (IsSo : List ℕ → List ℕ → Type 0)
+      (is_line : IfSome known (λ bytes. line_of_input bytes ≡ line)) (same : token ≡ line) where
+    pub line_read : {E : Type 0} (result : Result (String Global) E) → IfOk result (λ text. answer ≡ Ok text)
+        → ((text : List ℕ) → IsRead reading token text → IsSo token text)
+        → IfOk result (λ text. IfSome known (λ bytes. IsSo (line_of_input bytes) (string_bytes text)))
+    line_read (Ok text) is so = of_line known line token (λ t. IsSo t (string_bytes text)) is_line same (so (string_bytes text) (rw is at answers.read))
+    line_read (Err error) is so = tt
+
+    pub line_not_read : {T : Type 0} (result : Result T ProgramError) → IfErr result (IsRefusedBy token kind answer)
+        → ((text : List ℕ) → IsSo token text → IsRead reading token text)
+        → IfErr result (λ error. IfSome known (λ bytes. IsOutside error ⊎ ((text : List ℕ) → ¬ IsSo (line_of_input bytes) text)))
+    line_not_read (Ok value) refused reads = tt
+    line_not_read (Err error) refused reads =
+        of_line known line token (λ t. IsOutside error ⊎ ((text : List ℕ) → ¬ IsSo t text)) is_line same
+        (not_read {T = String Global} (Err error) (IsSo token) refused reads)
 
 not_of_line : (error : ProgramError) (known : Option (List ℕ)) (line token : List ℕ) (V : List ℕ → List ℕ → Type 0) (A : List ℕ → Type 0)
     → IfSome known (λ bytes. line_of_input bytes ≡ line) → token ≡ line → ((text : List ℕ) → V token text → A text)
@@ -133,6 +93,13 @@ not_of_line error None line token V A is same step h = tt
 not_of_line error (Some bytes) line token V A is same step (inl outside) = inl outside
 not_of_line error (Some bytes) line token V A is same step (inr none) =
     inr (λ text v. none text (step text (subst (λ (l : List ℕ). V l text) (is ∙ sym same) v)))
+
+-- what a scheme declines
+pub not_signed : (source : PasetoError) (Declined : PasetoError → Type 0) → IsMemory source ⊎ Declined source
+    → IsOutside (program_error_of source) ⊎ ((refusal : PasetoError) × Declined refusal)
+not_signed (NoMemory memory) Declined refused = inl tt
+not_signed source Declined (inl memory) = absurd memory
+not_signed source Declined (inr declined) = inr (source, declined)
 
 -- what needs a key, where the line was read as none
 pub no_key : (known : Option (List ℕ)) (error : PaserkError) (N : List ℕ → List ℕ → Type 0) → ((bytes text : List ℕ) → N bytes text → IsKeyMemory error)

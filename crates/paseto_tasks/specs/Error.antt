@@ -9,8 +9,12 @@ use Rattle.rusty_paseto_paserk.specs.Error.{error_text as key_error_text}
 use Rattle.rusty_paseto_paserk.specs.declared.error.PaserkError.{PaserkError}
 use Rattle.rusty_paseto_paserk.specs.declared.error.PaserkError.TheVariants.{Memory as NoKeyMemory}
 use Rattle.paseto_tasks.specs.declared.error.Names.{Names}
+use Rattle.paseto_tasks.specs.declared.error.TimeOption.{TimeOption}
+use Rattle.paseto_tasks.specs.declared.error.TimeOption.TheVariants.{Expires, NotBefore, At, Leeway}
+use Rattle.paseto_tasks.specs.declared.token_kind.TokenKind.{TokenKind}
+use Rattle.paseto_tasks.specs.TokenKind.{NamesKind, kind_text}
 use Rattle.paseto_tasks.specs.declared.error.ProgramError.{ProgramError}
-use Rattle.paseto_tasks.specs.declared.error.ProgramError.TheVariants.{Usage, NoKind, NoHalf, NoKey, OneInput, Claim, TimeClaim, Time, Key, TooLong, Refused, OtherFooter, Unfit, NoFile, NoAccess, FileExists, Clock, Random, InputOrOutput, Memory}
+use Rattle.paseto_tasks.specs.declared.error.ProgramError.TheVariants.{Usage, NoKind, NoHalf, NoKey, OneInput, Claim, TimeClaim, Time, Key, TooLong, Refused, OtherKind, NoAssertion, OtherFooter, Unfit, NoFile, NoAccess, FileExists, Clock, Random, InputOrOutput, Memory}
 
 -- 2 for words that ask for nothing, 1 for what is refused, and 3 for what fails outside
 abbrev pub status_of : ProgramError → ℕ
@@ -21,11 +25,13 @@ status_of NoKey = 2
 status_of OneInput = 2
 status_of Claim = 2
 status_of TimeClaim = 2
-status_of Time = 2
+status_of (Time _) = 2
 status_of (Key (NoKeyMemory _)) = 3
 status_of (Key _) = 1
 status_of TooLong = 1
 status_of (Refused _) = 1
+status_of (OtherKind _ _) = 1
+status_of NoAssertion = 1
 status_of OtherFooter = 1
 status_of (Unfit _) = 1
 status_of NoFile = 3
@@ -41,10 +47,17 @@ abbrev pub refusal_text : PasetoError → List ℕ
 refusal_text Cryption = codes "wrong key, wrong footer or assertion, or the token was changed"
 refusal_text ChaChaCipherError = codes "wrong key, wrong footer or assertion, or the token was changed"
 refusal_text InvalidSignature = codes "wrong key, wrong footer or assertion, or the token was changed"
-refusal_text WrongHeader = codes "the token is of another kind than the key"
+refusal_text WrongHeader = codes "no token of a kind that is read here"
 refusal_text Signature = codes "the halves of the private key are of two keys"
 refusal_text KeyRejected = codes "no private key of its kind"
 refusal_text error = error_text error
+
+-- what is said where an option says no time
+abbrev pub time_text : TimeOption → List ℕ
+time_text Expires = codes "--expires: a time is as 90s, 30m, 12h, 7d or 2026-11-22T10:00:00Z"
+time_text NotBefore = codes "--not-before: a time is as 90s, 30m, 12h, 7d or 2026-11-22T10:00:00Z"
+time_text At = codes "--at: a time is as 90s, 30m, 12h, 7d or 2026-11-22T10:00:00Z"
+time_text Leeway = codes "--leeway: a length of time is as 5s, 30m, 12h or 7d"
 
 -- what each error says, which is the same whatever the words and the input are, but for what tells of a token
 abbrev pub text_of : ProgramError → List ℕ
@@ -58,7 +71,9 @@ text_of TooLong = codes "longer than any key: it is no key file"
 text_of (Refused error) = refusal_text error
 text_of Claim = codes "--claim: a claim is as aud=customers, or as seats:=4 with a value of JSON"
 text_of TimeClaim = codes "--claim: exp, nbf and iat are set by --expires and --not-before"
-text_of Time = codes "--expires, --not-before, --at: a time is as 90s, 30m, 12h, 7d or 2026-11-22T10:00:00Z"
+text_of (Time option) = time_text option
+text_of (OtherKind _ _) = codes "the token is "
+text_of NoAssertion = codes "keys of versions 1 and 2 take no implicit assertion: leave --assertion out"
 text_of OtherFooter = codes "another footer: say it by --footer or --footer-kid; paseto inspect shows it"
 text_of (Unfit line) = string_bytes line
 text_of Clock = codes "the system's clock tells no moment of the years 0 to 9999"
@@ -79,6 +94,7 @@ refusal_about names error = names.input.now
 abbrev pub about_of : Names → ProgramError → List ℕ
 about_of names (Key _) = names.key.now
 about_of names TooLong = names.key.now
+about_of names NoAssertion = names.key.now
 about_of names NoKind = names.key.now
 about_of names NoHalf = names.key.now
 about_of names NoFile = names.key.now
@@ -86,6 +102,7 @@ about_of names NoAccess = names.key.now
 about_of names FileExists = names.key.now
 about_of names (Refused error) = refusal_about names error
 about_of names OtherFooter = names.input.now
+about_of names (OtherKind _ _) = names.input.now
 about_of names (Unfit _) = names.input.now
 about_of names _ = []
 
@@ -99,8 +116,10 @@ abbrev pub joined : List (List ℕ) → List ℕ
 joined [] = []
 joined (text ∷ texts) = text ++ joined texts
 
--- the line on standard error, which ends in a line feed
+-- the line on standard error, which ends in a line feed: that on two kinds tells both
 abbrev pub line_of : Names → ProgramError → List ℕ
+line_of names (OtherKind token key) = joined (codes "paseto: " ∷ names.input.now ∷ colon_behind names.input.now ∷ codes "the token is "
+    ∷ kind_text token ∷ codes ", and the key is for " ∷ kind_text key ∷ (10 ∷ []) ∷ [])
 line_of names error = joined (codes "paseto: " ∷ about_of names error ∷ colon_behind (about_of names error) ∷ text_of error ∷ (10 ∷ []) ∷ [])
 
 -- a failed allocation and a want of random bytes are errors of the program, wherever they came
@@ -108,6 +127,11 @@ abbrev pub program_error_of : PasetoError → ProgramError
 program_error_of (NoMemory source) = Memory source
 program_error_of Cipher = Random
 program_error_of error = Refused error
+
+-- why a token was refused that is to be read by a key for tokens of a kind: where it is of another, both are named
+abbrev pub IsTokenError : List ℕ → TokenKind → PasetoError → ProgramError → Type 0
+IsTokenError token key WrongHeader error = (named : TokenKind) × NamesKind named token × (error ≡ OtherKind named key)
+IsTokenError token key source error = error ≡ program_error_of source
 
 abbrev pub key_error_of : PaserkError → ProgramError
 key_error_of (NoKeyMemory source) = Memory source
@@ -144,7 +168,7 @@ IsNoUsage NoKey = ⊥
 IsNoUsage OneInput = ⊥
 IsNoUsage Claim = ⊥
 IsNoUsage TimeClaim = ⊥
-IsNoUsage Time = ⊥
+IsNoUsage (Time _) = ⊥
 IsNoUsage _ = ⊤
 
 -- an error that refuses a key, a text or a token and has no text of its own, or that says nothing of them: what is said of
@@ -166,7 +190,7 @@ IsNoRefusal NoKey = ⊤
 IsNoRefusal OneInput = ⊤
 IsNoRefusal Claim = ⊤
 IsNoRefusal TimeClaim = ⊤
-IsNoRefusal Time = ⊤
+IsNoRefusal (Time _) = ⊤
 IsNoRefusal Clock = ⊤
 IsNoRefusal Random = ⊤
 IsNoRefusal InputOrOutput = ⊤

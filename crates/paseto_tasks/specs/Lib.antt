@@ -1,3 +1,4 @@
+pub mod TokenKind
 pub mod Error
 pub mod Input
 pub mod Output

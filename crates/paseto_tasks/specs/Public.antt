@@ -1,8 +1,7 @@
 -- The commands `sign` and `verify`.
 use Rattle.std.specs.Prelude.{◌≡◌, ◌⊎◌, ℕ, List, [], ◌∷◌, ◌++◌, length, is_some, IsUtf8}
 use Rattle.base64.specs.GeneralPurpose.{IsBytes}
-use Rattle.rusty_paseto_core.specs.Context.{binding_of}
-use Rattle.rusty_paseto_core.specs.Public.{PublicDesign, message, v3_public, v4_public}
+use Rattle.rusty_paseto_core.specs.Public.{PublicDesign, message, v2_public, v3_public, v4_public}
 use Rattle.rusty_paseto_core.specs.Public.Scheme.{Declining, Refusal, Validity}
 use Rattle.rusty_paseto_core.specs.Public.Signing.{IsSigning}
 use Rattle.rusty_paseto_core.specs.Public.Verifying.{verification}
@@ -11,11 +10,12 @@ use Rattle.paseto_ed25519.specs.Ed25519.{Ed25519Verifies, IsDeclined, IsRefused,
 use Rattle.paseto_p384.specs.P384.{P384Verifies, IsDeclined as IsDeclinedByP384, IsRefused as IsRefusedByP384, p384_public}
 use Rattle.rusty_paseto_parts.specs.declared.error.PasetoError.{PasetoError}
 use Rattle.rusty_paseto_paserk.specs.declared.header.PaserkVersion.{PaserkVersion}
-use Rattle.rusty_paseto_paserk.specs.declared.header.PaserkVersion.TheVariants.{V3, V4}
+use Rattle.rusty_paseto_paserk.specs.declared.header.PaserkVersion.TheVariants.{V1, V2, V3, V4}
 use Rattle.rusty_paseto_paserk.specs.declared.header.PaserkType.{PaserkType}
 use Rattle.rusty_paseto_paserk.specs.declared.header.PaserkType.TheVariants.{Secret, Public}
 use Rattle.rusty_paseto_paserk.specs.Text.{writing}
 use Rattle.paseto_tasks.specs.declared.arguments.Options.{Options}
+use Rattle.paseto_tasks.specs.Arguments.{Takes, bound_by}
 use Rattle.paseto_tasks.specs.Id.{IsKeyLine, IsKeyOf}
 use Rattle.paseto_tasks.specs.Input.{line_of_input}
 
@@ -30,7 +30,7 @@ pub record IsHalf (version : PaserkVersion) (kind : PaserkType) (size : ℕ) (li
 pub record IsSigned (valid : Validity) (design : PublicDesign) (public : List ℕ) (options : Options) (text line : List ℕ) : Type 0 where
   pub utf8 : IsUtf8 text
   pub token : List ℕ
-  pub signing : IsSigning valid design (binding_of public options.footer options.assertion) (is_some options.footer) text token
+  pub signing : IsSigning valid design (bound_by design.binds_assertion public options) (is_some options.footer) text token
   pub line_is : line ≡ token ++ (10 ∷ [])
 
 -- in a version: the same by the private key of the line
@@ -40,20 +40,21 @@ pub record SignsText (version : PaserkVersion) (size : ℕ) (valid : Validity) (
   pub is_key : IsHalf version Secret size key key_bytes
   pub signed : IsSigned valid design (half key_bytes) options text line
 
-abbrev pub SignsInV3 : List ℕ → Options → List ℕ → List ℕ → Type 0
-SignsInV3 = SignsText V3 48 P384Verifies v3_public p384_public
+-- in each version that signs here
+abbrev pub SignsIn : PaserkVersion → List ℕ → Options → List ℕ → List ℕ → Type 0
+SignsIn V1 = λ key options text line. ⊥
+SignsIn V2 = SignsText V2 64 Ed25519Verifies v2_public partner
+SignsIn V3 = SignsText V3 48 P384Verifies v3_public p384_public
+SignsIn V4 = SignsText V4 64 Ed25519Verifies v4_public partner
 
-abbrev pub SignsInV4 : List ℕ → Options → List ℕ → List ℕ → Type 0
-SignsInV4 = SignsText V4 64 Ed25519Verifies v4_public partner
-
--- the line is printed for a private key of version 3 or of version 4
+-- the line is printed for a private key of a version, which takes the assertion
 abbrev pub SignsBy : List ℕ → Options → List ℕ → List ℕ → Type 0
-SignsBy key options text line = SignsInV3 key options text line ⊎ SignsInV4 key options text line
+SignsBy key options text line = (version : PaserkVersion) × Takes version options.assertion × SignsIn version key options text line
 
 -- the text is the one as which the token is verified
 abbrev pub IsVerified : Validity → Refusal → PublicDesign → List ℕ → Options → List ℕ → List ℕ → Type 0
 IsVerified valid refused design public options token text =
-    IsRead (verification valid refused design (binding_of public options.footer options.assertion)) token text
+    IsRead (verification valid refused design (bound_by design.binds_assertion public options)) token text
 
 -- in a version: the same by the public key of the line
 pub record VerifiesText (version : PaserkVersion) (valid : Validity) (refused : Refusal) (design : PublicDesign)
@@ -63,16 +64,17 @@ pub record VerifiesText (version : PaserkVersion) (valid : Validity) (refused : 
   pub utf8 : IsUtf8 token
   pub verified : IsVerified valid refused design key_bytes options token text
 
-abbrev pub VerifiesInV3 : List ℕ → Options → List ℕ → List ℕ → Type 0
-VerifiesInV3 = VerifiesText V3 P384Verifies IsRefusedByP384 v3_public
+-- in each version that is verified here
+abbrev pub VerifiesIn : PaserkVersion → List ℕ → Options → List ℕ → List ℕ → Type 0
+VerifiesIn V1 = λ key options token text. ⊥
+VerifiesIn V2 = VerifiesText V2 Ed25519Verifies IsRefused v2_public
+VerifiesIn V3 = VerifiesText V3 P384Verifies IsRefusedByP384 v3_public
+VerifiesIn V4 = VerifiesText V4 Ed25519Verifies IsRefused v4_public
 
-abbrev pub VerifiesInV4 : List ℕ → Options → List ℕ → List ℕ → Type 0
-VerifiesInV4 = VerifiesText V4 Ed25519Verifies IsRefused v4_public
-
--- the text is printed for a public key of version 3 or of version 4, and the token that the input is
+-- the text is printed for a public key of a version, which takes the assertion, and the token that the input is
 abbrev pub VerifiesBy : List ℕ → Options → List ℕ → List ℕ → Type 0
 VerifiesBy key options input text =
-    VerifiesInV3 key options (line_of_input input) text ⊎ VerifiesInV4 key options (line_of_input input) text
+    (version : PaserkVersion) × Takes version options.assertion × VerifiesIn version key options (line_of_input input) text
 
 -- the line is the writing of a private key of a version, for which this error is answered
 pub record DeclinesKey (version : PaserkVersion) (size : ℕ) (Declined : List ℕ → PasetoError → Type 0) (key : List ℕ) : Type 0 where
@@ -84,19 +86,19 @@ pub record DeclinesKey (version : PaserkVersion) (size : ℕ) (Declined : List �
 -- a scheme declines the text for a private key
 abbrev pub DeclinesText : Declining → (List ℕ → List ℕ) → PublicDesign → Options → List ℕ → List ℕ → PasetoError → Type 0
 DeclinesText declined half design options text private error =
-    declined private (message design (binding_of (half private) options.footer options.assertion) text) error
+    declined private (message design (bound_by design.binds_assertion (half private) options) text) error
 
-abbrev pub IsDeclinedInV3 : List ℕ → Options → List ℕ → Type 0
-IsDeclinedInV3 key options text = DeclinesKey V3 48 (DeclinesText IsDeclinedByP384 p384_public v3_public options text) key
+abbrev pub DeclinesIn : PaserkVersion → List ℕ → Options → List ℕ → Type 0
+DeclinesIn V1 = λ key options text. ⊥
+DeclinesIn V2 = λ key options text. DeclinesKey V2 64 (DeclinesText IsDeclined partner v2_public options text) key
+DeclinesIn V3 = λ key options text. DeclinesKey V3 48 (DeclinesText IsDeclinedByP384 p384_public v3_public options text) key
+DeclinesIn V4 = λ key options text. DeclinesKey V4 64 (DeclinesText IsDeclined partner v4_public options text) key
 
-abbrev pub IsDeclinedInV4 : List ℕ → Options → List ℕ → Type 0
-IsDeclinedInV4 key options text = DeclinesKey V4 64 (DeclinesText IsDeclined partner v4_public options text) key
-
--- no line is printed for the key and the text: there is no private key of version 3 or 4, or no text, or the scheme
--- declines the text for the key, as one whose halves do not belong together
+-- no line is printed for the key and the text: there is no private key of version 2, 3 or 4, or no text, or its version
+-- takes no assertion, or the scheme declines the text for the key, as one whose halves do not belong together
 abbrev pub SignsNothing : List ℕ → Options → List ℕ → Type 0
 SignsNothing key options text = ((line : List ℕ) → ¬ SignsBy key options text line)
-    ⊎ (IsDeclinedInV3 key options text ⊎ IsDeclinedInV4 key options text)
+    ⊎ ((version : PaserkVersion) × DeclinesIn version key options text)
 
 -- no text is printed for the key and the input: the token is verified as none
 abbrev pub VerifiesNothing : List ℕ → Options → List ℕ → Type 0

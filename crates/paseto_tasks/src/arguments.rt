@@ -80,4 +80,8 @@ pub struct Options<'a> {
     pub not_before: Option<&'a str>,
     /// At which moment it is checked, in the same words.
     pub at: Option<&'a str>,
+    /// How far clocks may differ then, in the words of a length of time.
+    pub leeway: Option<&'a str>,
+    /// The names of claims that it has to have, whatever their values.
+    pub required: &'a [&'a str],
 }

@@ -1,15 +1,16 @@
 //! Why the program does not do what it was asked.
 
-ghost use Rattle.std.specs.Prelude.{◌≡◌, ◌∷◌, [], ℕ, List, alloc_error};
+ghost use Rattle.std.specs.Prelude.{◌≡◌, ◌∷◌, [], ℕ, List, IfErr, IfOk, IsErrAnd, Ok, alloc_error, codes};
 ghost use Rattle.paseto_tasks.specs.Arguments.{texts};
 ghost use Rattle.std.specs.Io.{StartsWith};
 ghost use Rattle.std.specs.Io.KnownBytes.{Appends};
 ghost use Rattle.std.specs.IoError.{error_kind};
 ghost use Rattle.rusty_paseto_parts.specs.declared.error.PasetoError.TheVariants.{Utf8Error as NotUtf8};
 ghost use Rattle.paseto_tasks.specs.declared.error.ProgramError.TheVariants.{InputOrOutput, Memory, Refused};
-ghost use Rattle.paseto_tasks.specs.Error.{about_of, colon_behind, file_error, joined, key_error_of, line_of, program_error_of, refusal_about, refusal_text, status_of, text_of, words_error};
+ghost use Rattle.paseto_tasks.specs.Error.{IsFixed, IsTokenError, about_of, colon_behind, file_error, joined, key_error_of, line_of, program_error_of, refusal_about, refusal_text, status_of, text_of, time_text, words_error};
 
 use crate::output::write_whole;
+use crate::token_kind::TokenKind;
 use rusty_paseto_core::PasetoError;
 use rusty_paseto_paserk::PaserkError;
 use std::alloc::{AllocError, AllocFailed};
@@ -35,12 +36,16 @@ pub enum ProgramError {
     TooLong,
     /// A text or a token was refused.
     Refused(PasetoError),
+    /// The token is of the first kind, and the key is for tokens of the second.
+    OtherKind(TokenKind, TokenKind),
+    /// Keys of this version take no implicit assertion.
+    NoAssertion,
     /// A claim of the words is none.
     Claim,
     /// A claim of the words is one of the three that are times.
     TimeClaim,
-    /// A time of the words is none.
-    Time,
+    /// What an option says is no time.
+    Time(TimeOption),
     /// The footer of a token is another one than the one that is demanded.
     OtherFooter,
     /// A token, or what is to become one, was refused, as this line says.
@@ -59,6 +64,19 @@ pub enum ProgramError {
     InputOrOutput,
     /// Memory was refused.
     Memory(AllocError),
+}
+
+/// An option that says a time.
+#[derive(Clone, Copy, Debug, PartialEq, Eq)]
+pub enum TimeOption {
+    /// `--expires`
+    Expires,
+    /// `--not-before`
+    NotBefore,
+    /// `--at`
+    At,
+    /// `--leeway`
+    Leeway,
 }
 
 /// What the files are called by which a command goes, in its lines on standard error.
@@ -91,8 +109,10 @@ impl ProgramError {
                 "--claim: a claim is as aud=customers, or as seats:=4 with a value of JSON",
             ProgramError::TimeClaim =>
                 "--claim: exp, nbf and iat are set by --expires and --not-before",
-            ProgramError::Time =>
-                "--expires, --not-before, --at: a time is as 90s, 30m, 12h, 7d or 2026-11-22T10:00:00Z",
+            ProgramError::Time(option) => time_text(*option),
+            ProgramError::OtherKind(_, _) => "the token is ",
+            ProgramError::NoAssertion =>
+                "keys of versions 1 and 2 take no implicit assertion: leave --assertion out",
             ProgramError::OtherFooter =>
                 "another footer: say it by --footer or --footer-kid; paseto inspect shows it",
             ProgramError::Unfit(text) => text.as_str(),
@@ -114,13 +134,15 @@ impl ProgramError {
         match self {
             ProgramError::Key(_)
             | ProgramError::TooLong
+            | ProgramError::NoAssertion
             | ProgramError::NoKind
             | ProgramError::NoHalf
             | ProgramError::NoFile
             | ProgramError::NoAccess
             | ProgramError::FileExists => names.key,
             ProgramError::Refused(source) => refusal_about(source, names),
-            ProgramError::OtherFooter | ProgramError::Unfit(_) => names.input,
+            ProgramError::OtherFooter | ProgramError::OtherKind(_, _) | ProgramError::Unfit(_) =>
+                names.input,
             _ => "",
         }
     }
@@ -132,14 +154,19 @@ impl ProgramError {
             (E.contents errors.old) (E.contents errors.new) said }
     {
         let about = self.about(names);
-        write_line(
-            errors,
-            "paseto: ",
-            about,
-            colon_behind(about),
-            self.text(),
-            "\n",
-        );
+        match self {
+            ProgramError::OtherKind(token, key) => {
+                write_kinds(errors, about, colon_behind(about), token.text(), key.text());
+            }
+            _ => write_line(
+                errors,
+                "paseto: ",
+                about,
+                colon_behind(about),
+                self.text(),
+                "\n",
+            ),
+        }
     }
 
     /// The status that the program ends with.
@@ -154,11 +181,13 @@ impl ProgramError {
             | ProgramError::OneInput
             | ProgramError::Claim
             | ProgramError::TimeClaim
-            | ProgramError::Time => 2,
+            | ProgramError::Time(_) => 2,
             ProgramError::Key(PaserkError::Memory(_)) => 3,
             ProgramError::Key(_)
             | ProgramError::TooLong
             | ProgramError::Refused(_)
+            | ProgramError::OtherKind(_, _)
+            | ProgramError::NoAssertion
             | ProgramError::OtherFooter
             | ProgramError::Unfit(_) => 1,
             ProgramError::NoFile
@@ -196,6 +225,37 @@ impl ProgramError {
     }
 }
 
+/// The answer of opening or verifying a token by a key for tokens of a kind.
+pub fn answered(
+    answer: Result<String, PasetoError>,
+    token: &str,
+    key: TokenKind,
+) -> Result<String, ProgramError>
+    ensures read { IfOk result (λ text. answer ≡ Ok text) }
+    ensures refused { IfErr result (λ error. IsErrAnd answer
+        (λ source. IsTokenError token.now key source error)) }
+    ensures fixed { IfErr result IsFixed }
+{
+    match answer {
+        Ok(text) => Ok(text),
+        Err(PasetoError::WrongHeader) => Err(ProgramError::OtherKind(TokenKind::of(token), key)),
+        Err(source) => Err(ProgramError::from(source)),
+    }
+}
+
+/// What is said where an option says no time.
+fn time_text(option: TimeOption) -> &'static str
+    ensures { result.now ≡ time_text option }
+{
+    match option {
+        TimeOption::Expires => "--expires: a time is as 90s, 30m, 12h, 7d or 2026-11-22T10:00:00Z",
+        TimeOption::NotBefore =>
+            "--not-before: a time is as 90s, 30m, 12h, 7d or 2026-11-22T10:00:00Z",
+        TimeOption::At => "--at: a time is as 90s, 30m, 12h, 7d or 2026-11-22T10:00:00Z",
+        TimeOption::Leeway => "--leeway: a length of time is as 5s, 30m, 12h or 7d",
+    }
+}
+
 /// What is said of a text or a token that was refused: the text of the error, but where that leaves open what to do.
 fn refusal_text(source: &PasetoError) -> &'static str
     ensures { result.now ≡ refusal_text source.now }
@@ -203,7 +263,7 @@ fn refusal_text(source: &PasetoError) -> &'static str
     match source {
         PasetoError::Cryption | PasetoError::ChaChaCipherError | PasetoError::InvalidSignature =>
             "wrong key, wrong footer or assertion, or the token was changed",
-        PasetoError::WrongHeader => "the token is of another kind than the key",
+        PasetoError::WrongHeader => "no token of a kind that is read here",
         PasetoError::Signature => "the halves of the private key are of two keys",
         PasetoError::KeyRejected => "no private key of its kind",
         _ => source.text(),
@@ -241,6 +301,33 @@ fn write_line<'p, E: Write>(
         (E.contents errors.old) (E.contents errors.new) said }
 {
     write_pieces(errors, &[program, about, colon, text, end]);
+}
+
+/// Writes a line on a token of one kind and a key for tokens of another, or a beginning of it.
+fn write_kinds<'p, E: Write>(
+    errors: &mut E,
+    about: &'p str,
+    colon: &'p str,
+    token: &'p str,
+    key: &'p str,
+)
+    ensures { (said : List ℕ) × StartsWith (joined (codes "paseto: " ∷ about.now ∷ colon.now
+        ∷ codes "the token is " ∷ token.now ∷ codes ", and the key is for " ∷ key.now
+        ∷ (10 ∷ []) ∷ [])) said × Appends (E.contents errors.old) (E.contents errors.new) said }
+{
+    write_pieces(
+        errors,
+        &[
+            "paseto: ",
+            about,
+            colon,
+            "the token is ",
+            token,
+            ", and the key is for ",
+            key,
+            "\n",
+        ],
+    );
 }
 
 /// Writes texts one behind the other, or a beginning of them where a write fails.

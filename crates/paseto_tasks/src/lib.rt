@@ -14,10 +14,13 @@ mod output;
 mod public;
 pub mod run;
 mod suite;
+mod token_kind;
 mod version;
 
 pub use arguments::{Kind, Options, Task};
-pub use error::{Names, ProgramError};
+pub use error::{Names, ProgramError, TimeOption};
 pub use input::{read_key_line, read_line};
 pub use output::{with_line_feed, write_whole};
 pub use suite::Suite;
+pub use token_kind::TokenKind;
+pub use version::takes;

@@ -1,20 +1,28 @@
 //! The commands `encrypt` and `decrypt`, with the key that a line is.
 
-ghost use Rattle.std.specs.Prelude.{◌⊎◌, ℕ, List, IfErr, IfOk, IfSome, string_bytes};
+ghost use Rattle.std.specs.Prelude.{◌≡◌, ◌⊎◌, ℕ, List, IfErr, IfOk, IfSome, None, Some, is_some, string_bytes};
+ghost use Rattle.rusty_paseto_parts.specs.Error.{IsMemory};
+ghost use Rattle.rusty_paseto_core.specs.Context.{binding_of};
+ghost use Rattle.rusty_paseto_core.specs.Local.Boxed.{boxed_sealing, token_nonce};
+ghost use Rattle.paseto_xchacha20poly1305.specs.Sealing.{box_sealing};
+ghost use Rattle.rusty_paseto_paserk.specs.Header.{HasHeader};
 ghost use Rattle.paseto_tasks.specs.Error.{IsFixed, IsOutside};
-ghost use Rattle.paseto_tasks.specs.Local.{Decrypts, DecryptsNothing, Encrypts, EncryptsNothing, IsSealedLine, Opens, Seals};
+ghost use Rattle.paseto_tasks.specs.Local.{Decrypts, DecryptsNothing, Encrypts, EncryptsNothing, IsSealedLine, Opens, OpensIn, OpensBox, Seals, SealsBox, SealsIn};
 ghost use Rattle.paseto_tasks.specs.Input.{line_of_input};
 
 use crate::arguments::Options;
-use crate::error::ProgramError;
+use crate::error::{ProgramError, answered};
 use crate::input::{read_line, read_text};
 use crate::output::with_line_feed;
-use crate::version::is_of_version_3;
+use crate::token_kind::TokenKind;
+use crate::version::{takes, version_of};
+use paseto_xchacha20poly1305::XChaCha20Poly1305;
 use rand_core::TryRng;
 use rusty_paseto_core::{
-    AssertionVersion, Key, Local, Paseto, PasetoNonce, PasetoSymmetricKey, Payload, V3, V4,
+    Footer, Key, Local, LocalVersion, Paseto, PasetoError, PasetoNonce, PasetoSymmetricKey,
+    Payload, V1, V2, V3, V4,
 };
-use rusty_paseto_paserk::{KeyVersion, local_from_paserk};
+use rusty_paseto_paserk::{KeyVersion, PaserkType, PaserkVersion, local_from_paserk};
 use std::alloc::Global;
 use std::io::Read;
 
@@ -34,14 +42,36 @@ pub fn encrypt<R: Read, G: TryRng>(
         (λ nonce. G.may_fill generator.old nonce generator.new) text)) }
     ensures fixed { IfErr result IsFixed }
 {
-    if is_of_version_3(key) {
-        sealed::<V3, R, G>(alloc, key, options, generator, input)
-    } else {
-        sealed::<V4, R, G>(alloc, key, options, generator, input)
+    let version = version_of(key, PaserkType::Local)?;
+    takes(version, options.assertion)?;
+    sealed_in(alloc, version, key, options, generator, input)
+}
+
+fn sealed_in<R: Read, G: TryRng>(
+    alloc: Global,
+    version: PaserkVersion,
+    key: &str,
+    options: &Options<'_>,
+    generator: &mut G,
+    input: &mut R,
+) -> Result<String, ProgramError>
+    ensures printed { IfOk result (λ line. IfSome (R.remaining input.old) (λ text.
+        SealsIn version key.now options.now
+        (λ nonce. G.may_fill generator.old nonce generator.new) text (string_bytes line))) }
+    ensures refused { IfErr result (λ error. IfSome (R.remaining input.old) (λ text.
+        IsOutside error ⊎ ((line : List ℕ) → ¬ SealsIn version key.now options.now
+        (λ nonce. G.may_fill generator.old nonce generator.new) text line))) }
+    ensures fixed { IfErr result IsFixed }
+{
+    match version {
+        PaserkVersion::V1 => sealed::<V1, R, G>(alloc, key, options, generator, input),
+        PaserkVersion::V2 => boxed(alloc, key, options, generator, input),
+        PaserkVersion::V3 => sealed::<V3, R, G>(alloc, key, options, generator, input),
+        PaserkVersion::V4 => sealed::<V4, R, G>(alloc, key, options, generator, input),
     }
 }
 
-fn sealed<V: AssertionVersion + KeyVersion, R: Read, G: TryRng>(
+fn sealed<V: LocalVersion + KeyVersion, R: Read, G: TryRng>(
     alloc: Global,
     key: &str,
     options: &Options<'_>,
@@ -70,7 +100,7 @@ fn sealed<V: AssertionVersion + KeyVersion, R: Read, G: TryRng>(
 }
 
 /// The line of the token of a text.
-fn sealed_text<V: AssertionVersion>(
+fn sealed_text<V: LocalVersion>(
     alloc: Global,
     key: &PasetoSymmetricKey<V, Local>,
     nonce: &PasetoNonce<'_, V, Local>,
@@ -86,6 +116,53 @@ fn sealed_text<V: AssertionVersion>(
     with_line_feed(V::seal(alloc, key, nonce, payload, options.footer, assertion)?)
 }
 
+/// The same in version 2, by the box.
+fn boxed<R: Read, G: TryRng>(
+    alloc: Global,
+    key: &str,
+    options: &Options<'_>,
+    generator: &mut G,
+    input: &mut R,
+) -> Result<String, ProgramError>
+    ensures printed { IfOk result (λ line. IfSome (R.remaining input.old) (λ text.
+        SealsBox key.now options.now
+        (λ nonce. G.may_fill generator.old nonce generator.new) text (string_bytes line))) }
+    ensures refused { IfErr result (λ error. IfSome (R.remaining input.old)
+        (λ text. IsOutside error ⊎ ((line : List ℕ) → ¬ SealsBox key.now options.now
+        (λ nonce. G.may_fill generator.old nonce generator.new) text line))) }
+    ensures fixed { IfErr result IsFixed }
+{
+    let key = local_from_paserk::<V2>(alloc, key)?;
+    let text = read_text(alloc, input)?;
+    let drawn = Key::<24>::try_new_random(generator)?;
+    let nonce = PasetoNonce::from(&drawn);
+    with_line_feed(boxed_text(alloc, &key, &nonce, text.as_str(), options.footer)?)
+}
+
+/// The token of a text in version 2.
+fn boxed_text(
+    alloc: Global,
+    key: &PasetoSymmetricKey<V2, Local>,
+    nonce: &PasetoNonce<'_, V2, Local>,
+    text: &str,
+    footer: Option<Footer<'_>>,
+) -> Result<String, PasetoError>
+    ensures ok { let binding = binding_of key.now footer.entry None in
+        IfOk result (λ token. boxed_sealing box_sealing binding (token_nonce nonce.now text.now)
+        (is_some footer.entry) text.now ≡ Some (string_bytes token)) }
+    ensures err { let binding = binding_of key.now footer.entry None in
+        IfErr result (λ error. IsMemory error ⊎ ((error ≡ PasetoError.ChaChaCipherError)
+        × (boxed_sealing box_sealing binding (token_nonce nonce.now text.now)
+        (is_some footer.entry) text.now ≡ None))) }
+{
+    let mut paseto = Paseto::<V2, Local>::builder();
+    paseto.set_payload(Payload::from(text));
+    if let Some(footer) = footer {
+        paseto.set_footer(footer);
+    }
+    paseto.try_encrypt(alloc, &XChaCha20Poly1305, key, nonce)
+}
+
 /// The text of the token that the input is, with or without a line feed behind it.
 pub fn decrypt<R: Read>(
     alloc: Global,
@@ -99,15 +176,36 @@ pub fn decrypt<R: Read>(
         IsOutside error ⊎ DecryptsNothing key.now options.now bytes)) }
     ensures fixed { IfErr result IsFixed }
 {
-    if is_of_version_3(key) {
-        opened::<V3, R>(alloc, key, options, input)
-    } else {
-        opened::<V4, R>(alloc, key, options, input)
+    let version = version_of(key, PaserkType::Local)?;
+    takes(version, options.assertion)?;
+    opened_in(alloc, version, key, options, input)
+}
+
+fn opened_in<R: Read>(
+    alloc: Global,
+    version: PaserkVersion,
+    key: &str,
+    options: &Options<'_>,
+    input: &mut R,
+) -> Result<String, ProgramError>
+    ensures printed { IfOk result (λ text. IfSome (R.remaining input.old) (λ bytes.
+        OpensIn version key.now options.now (line_of_input bytes) (string_bytes text))) }
+    ensures refused { IfErr result (λ error. IfSome (R.remaining input.old)
+        (λ bytes. IsOutside error ⊎ ((text : List ℕ)
+        → ¬ OpensIn version key.now options.now (line_of_input bytes) text))) }
+    ensures fixed { IfErr result IsFixed }
+{
+    match version {
+        PaserkVersion::V1 => opened::<V1, R>(alloc, TokenKind::V1Local, key, options, input),
+        PaserkVersion::V2 => unboxed(alloc, key, options, input),
+        PaserkVersion::V3 => opened::<V3, R>(alloc, TokenKind::V3Local, key, options, input),
+        PaserkVersion::V4 => opened::<V4, R>(alloc, TokenKind::V4Local, key, options, input),
     }
 }
 
-fn opened<V: AssertionVersion + KeyVersion, R: Read>(
+fn opened<V: LocalVersion + KeyVersion, R: Read>(
     alloc: Global,
+    kind: TokenKind,
     key: &str,
     options: &Options<'_>,
     input: &mut R,
@@ -121,7 +219,29 @@ fn opened<V: AssertionVersion + KeyVersion, R: Read>(
 {
     let key = local_from_paserk::<V>(alloc, key)?;
     let token = read_line(alloc, input)?;
-    let (footer, assertion) = (options.footer, options.assertion);
-    let text = Paseto::<V, Local>::try_decrypt(alloc, token.as_str(), &key, footer, assertion)?;
-    Ok(text)
+    let assertion = V::bound_assertion(options.assertion);
+    let (text, footer) = (token.as_str(), options.footer);
+    let answer = V::open(alloc, text, &key, footer, assertion);
+    answered(answer, text, kind)
+}
+
+/// The same in version 2, by the box.
+fn unboxed<R: Read>(
+    alloc: Global,
+    key: &str,
+    options: &Options<'_>,
+    input: &mut R,
+) -> Result<String, ProgramError>
+    ensures printed { IfOk result (λ text. IfSome (R.remaining input.old) (λ bytes.
+        OpensBox key.now options.now (line_of_input bytes) (string_bytes text))) }
+    ensures refused { IfErr result (λ error. IfSome (R.remaining input.old)
+        (λ bytes. IsOutside error ⊎ ((text : List ℕ)
+        → ¬ OpensBox key.now options.now (line_of_input bytes) text))) }
+    ensures fixed { IfErr result IsFixed }
+{
+    let key = local_from_paserk::<V2>(alloc, key)?;
+    let token = read_line(alloc, input)?;
+    let (text, footer) = (token.as_str(), options.footer);
+    let answer = Paseto::<V2, Local>::try_decrypt(alloc, &XChaCha20Poly1305, text, &key, footer);
+    answered(answer, text, TokenKind::V2Local)
 }

@@ -4,19 +4,22 @@ ghost use Rattle.std.specs.Prelude.{◌⊎◌, ℕ, List, IfErr, IfOk, IfSome, s
 ghost use Rattle.rusty_paseto_parts.specs.declared.error.PasetoError.{PasetoError};
 ghost use Rattle.rusty_paseto_core.specs.Public.{HasPrivateLength};
 ghost use Rattle.paseto_tasks.specs.Error.{IsFixed, IsOutside};
-ghost use Rattle.paseto_tasks.specs.Public.{DeclinesKey, DeclinesText, IsSigned, IsVerified, SignsBy, SignsNothing, SignsText, VerifiesBy, VerifiesNothing, VerifiesText};
+ghost use Rattle.paseto_tasks.specs.Public.{DeclinesIn, DeclinesKey, DeclinesText, IsSigned, IsVerified, SignsBy, SignsIn, SignsNothing, SignsText, VerifiesBy, VerifiesIn, VerifiesNothing, VerifiesText};
 ghost use Rattle.paseto_tasks.specs.Input.{line_of_input};
 
 use crate::arguments::Options;
-use crate::error::ProgramError;
+use crate::error::{ProgramError, answered};
 use crate::input::{read_line, read_text};
 use crate::suite::Suite;
-use crate::version::is_of_version_3;
+use crate::token_kind::TokenKind;
+use crate::version::{takes, version_of};
 use rusty_paseto_core::{
-    AssertionVersion, Paseto, PasetoAsymmetricPrivateKey, PasetoAsymmetricPublicKey, Payload,
-    Public, Signs, V3, V4, Verifies,
+    PasetoAsymmetricPrivateKey, PasetoAsymmetricPublicKey, Payload, Public, Signs, V2, V3, V4,
+    Verifies,
 };
-use rusty_paseto_paserk::{private_key_from_paserk, public_key_from_paserk};
+use rusty_paseto_paserk::{
+    PaserkError, PaserkType, PaserkVersion, private_key_from_paserk, public_key_from_paserk,
+};
 use std::alloc::Global;
 use std::io::Read;
 
@@ -33,14 +36,34 @@ pub fn sign<R: Read>(
         IsOutside error ⊎ SignsNothing key.now options.now text)) }
     ensures fixed { IfErr result IsFixed }
 {
-    if is_of_version_3(key) {
-        sign_by::<V3, R>(alloc, key, options, input)
-    } else {
-        sign_by::<V4, R>(alloc, key, options, input)
+    let version = version_of(key, PaserkType::Secret)?;
+    takes(version, options.assertion)?;
+    sign_in(alloc, version, key, options, input)
+}
+
+fn sign_in<R: Read>(
+    alloc: Global,
+    version: PaserkVersion,
+    key: &str,
+    options: &Options<'_>,
+    input: &mut R,
+) -> Result<String, ProgramError>
+    ensures printed { IfOk result (λ line. IfSome (R.remaining input.old) (λ text.
+        SignsIn version key.now options.now text (string_bytes line))) }
+    ensures refused { IfErr result (λ error. IfSome (R.remaining input.old) (λ text. IsOutside error
+        ⊎ (((line : List ℕ) → ¬ SignsIn version key.now options.now text line)
+        ⊎ DeclinesIn version key.now options.now text))) }
+    ensures fixed { IfErr result IsFixed }
+{
+    match version {
+        PaserkVersion::V1 => Err(ProgramError::Key(PaserkError::OtherVersion(version))),
+        PaserkVersion::V2 => sign_by::<V2, R>(alloc, key, options, input),
+        PaserkVersion::V3 => sign_by::<V3, R>(alloc, key, options, input),
+        PaserkVersion::V4 => sign_by::<V4, R>(alloc, key, options, input),
     }
 }
 
-fn sign_by<V: Suite + AssertionVersion + Signs<V::Scheme>, R: Read>(
+fn sign_by<V: Suite + Signs<V::Scheme>, R: Read>(
     alloc: Global,
     key: &str,
     options: &Options<'_>,
@@ -61,7 +84,7 @@ fn sign_by<V: Suite + AssertionVersion + Signs<V::Scheme>, R: Read>(
     signed(alloc, &mut V::scheme(), &key.lend(), text.as_str(), options)
 }
 
-fn signed<V: AssertionVersion + Signs<S>, S>(
+fn signed<V: Signs<S>, S>(
     alloc: Global,
     scheme: &mut S,
     key: &PasetoAsymmetricPrivateKey<'_, V, Public>,
@@ -97,15 +120,36 @@ pub fn verify<R: Read>(
         IsOutside error ⊎ VerifiesNothing key.now options.now bytes)) }
     ensures fixed { IfErr result IsFixed }
 {
-    if is_of_version_3(key) {
-        verify_by::<V3, R>(alloc, key, options, input)
-    } else {
-        verify_by::<V4, R>(alloc, key, options, input)
+    let version = version_of(key, PaserkType::Public)?;
+    takes(version, options.assertion)?;
+    verify_in(alloc, version, key, options, input)
+}
+
+fn verify_in<R: Read>(
+    alloc: Global,
+    version: PaserkVersion,
+    key: &str,
+    options: &Options<'_>,
+    input: &mut R,
+) -> Result<String, ProgramError>
+    ensures printed { IfOk result (λ text. IfSome (R.remaining input.old) (λ bytes.
+        VerifiesIn version key.now options.now (line_of_input bytes) (string_bytes text))) }
+    ensures refused { IfErr result (λ error. IfSome (R.remaining input.old)
+        (λ bytes. IsOutside error ⊎ ((text : List ℕ)
+        → ¬ VerifiesIn version key.now options.now (line_of_input bytes) text))) }
+    ensures fixed { IfErr result IsFixed }
+{
+    match version {
+        PaserkVersion::V1 => Err(ProgramError::Key(PaserkError::OtherVersion(version))),
+        PaserkVersion::V2 => verify_by::<V2, R>(alloc, TokenKind::V2Public, key, options, input),
+        PaserkVersion::V3 => verify_by::<V3, R>(alloc, TokenKind::V3Public, key, options, input),
+        PaserkVersion::V4 => verify_by::<V4, R>(alloc, TokenKind::V4Public, key, options, input),
     }
 }
 
-fn verify_by<V: Suite + AssertionVersion + Verifies<V::Scheme>, R: Read>(
+fn verify_by<V: Suite + Verifies<V::Scheme>, R: Read>(
     alloc: Global,
+    kind: TokenKind,
     key: &str,
     options: &Options<'_>,
     input: &mut R,
@@ -121,11 +165,13 @@ fn verify_by<V: Suite + AssertionVersion + Verifies<V::Scheme>, R: Read>(
 {
     let key = public_key_from_paserk::<V>(alloc, key)?;
     let token = read_line(alloc, input)?;
-    verified(alloc, &V::scheme(), &key.lend(), token.as_str(), options)
+    let (key, token) = (key.lend(), token.as_str());
+    verified(alloc, kind, &V::scheme(), &key, token, options)
 }
 
-fn verified<V: AssertionVersion + Verifies<S>, S>(
+fn verified<V: Verifies<S>, S>(
     alloc: Global,
+    kind: TokenKind,
     scheme: &S,
     key: &PasetoAsymmetricPublicKey<'_, V, Public>,
     token: &str,
@@ -138,7 +184,7 @@ fn verified<V: AssertionVersion + Verifies<S>, S>(
         → ¬ IsVerified V.valid V.refused V.public_design key.now options.now token.now text)) }
     ensures fixed { IfErr result IsFixed }
 {
-    let (footer, assertion) = (options.footer, options.assertion);
-    let text = Paseto::<V, Public>::try_verify(alloc, scheme, token, key, footer, assertion)?;
-    Ok(text)
+    let assertion = V::signed_assertion(options.assertion);
+    let answer = V::verify(alloc, scheme, token, key, options.footer, assertion);
+    answered(answer, token, kind)
 }

@@ -1,12 +1,39 @@
-//! The version of a key, by which the commands go.
+//! The version of a key, by which the commands go, and what it takes.
 
-ghost use Rattle.std.specs.Prelude.{◌≡◌, ◌≢◌, ◌++◌, ℕ, List, MatchBool, codes};
+ghost use Rattle.std.specs.Prelude.{◌≡◌, IfErr, IfOk, OnErr, OnOk};
+ghost use Rattle.rusty_paseto_paserk.specs.Header.{HasHeader};
+ghost use Rattle.paseto_tasks.specs.Arguments.{Takes};
+ghost use Rattle.paseto_tasks.specs.Error.{IsFixed};
 
-/// Whether a line begins as a key of version 3. The commands take all others for keys of version 4, and so tell what
-/// they are where they are none.
-pub fn is_of_version_3(line: &str) -> bool
-    ensures { MatchBool result ((rest : List ℕ) × (line.now ≡ codes "k3." ++ rest))
-        ((rest : List ℕ) → line.now ≢ codes "k3." ++ rest) }
+use crate::error::ProgramError;
+use rusty_paseto_core::ImplicitAssertion;
+use rusty_paseto_paserk::{PaserkError, PaserkType, PaserkVersion, header_of};
+
+/// The version of the key of a type that a line begins as.
+pub fn version_of(line: &str, kind: PaserkType) -> Result<PaserkVersion, ProgramError>
+    ensures begins { IfOk result (λ version. HasHeader version kind line.now) }
+    ensures none { OnErr result ((version : PaserkVersion) → ¬ HasHeader version kind line.now) }
+    ensures fixed { IfErr result IsFixed }
 {
-    line.starts_with("k3.")
+    match header_of(line) {
+        Some((version, found, _)) if found == kind => Ok(version),
+        Some((_, found, _)) => Err(ProgramError::Key(PaserkError::OtherType(found))),
+        None => Err(ProgramError::Key(PaserkError::NoKey)),
+    }
+}
+
+/// Refuses an assertion that is not empty in the versions 1 and 2, which bind their tokens to none.
+pub fn takes(
+    version: PaserkVersion,
+    assertion: Option<ImplicitAssertion<'_>>,
+) -> Result<(), ProgramError>
+    ensures taken { OnOk result (Takes version assertion.entry) }
+    ensures refused { IfErr result (λ error. (error ≡ ProgramError.NoAssertion)
+        × ¬ Takes version assertion.entry) }
+{
+    match (version, assertion) {
+        (PaserkVersion::V1 | PaserkVersion::V2, Some(assertion))
+            if !assertion.as_str().is_empty() => Err(ProgramError::NoAssertion),
+        _ => Ok(()),
+    }
 }

@@ -37,16 +37,16 @@ abbrev pub id_app : App
 id_app = with_rule (new_app (codes "id")) (option_rule (codes "key"))
 
 abbrev pub issue_app : App
-issue_app = with_rule (with_rule (with_rule (with_rule (with_rule (with_rule (with_rule (new_app (codes "issue"))
+issue_app = with_rule (with_rule (with_rule (with_rule (with_rule (with_rule (with_rule (with_rule (new_app (codes "issue"))
     (option_rule (codes "key"))) (many_rule (codes "claim"))) (option_rule (codes "expires")))
     (option_rule (codes "not-before"))) (option_rule (codes "footer"))) (option_rule (codes "footer-kid")))
-    (option_rule (codes "out"))
+    (option_rule (codes "assertion"))) (option_rule (codes "out"))
 
 abbrev pub check_app : App
-check_app = with_rule (with_rule (with_rule (with_rule (with_rule (with_rule (with_rule (new_app (codes "check"))
-    (option_rule (codes "key"))) (option_rule (codes "ring"))) (many_rule (codes "claim")))
-    (option_rule (codes "at"))) (option_rule (codes "footer")))
-    (option_rule (codes "footer-kid"))) (place_rule (codes "input"))
+check_app = with_rule (with_rule (with_rule (with_rule (with_rule (with_rule (with_rule (with_rule (with_rule (with_rule
+    (new_app (codes "check")) (option_rule (codes "key"))) (option_rule (codes "ring"))) (many_rule (codes "claim")))
+    (many_rule (codes "require"))) (option_rule (codes "at"))) (option_rule (codes "leeway"))) (option_rule (codes "footer")))
+    (option_rule (codes "footer-kid"))) (option_rule (codes "assertion"))) (place_rule (codes "input"))
 
 -- a command that takes a token
 abbrev pub opening_app : Text → App

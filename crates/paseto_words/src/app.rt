@@ -192,6 +192,7 @@ fn with_issue<'a>(alloc: Global) -> Result<Command<'a>, AllocError>
         ))?
         .arg(footer(alloc))?
         .arg(kid(alloc))?
+        .arg(assertion(alloc))?
         .arg(out(alloc))
 }
 
@@ -210,14 +211,27 @@ fn with_check<'a>(alloc: Global) -> Result<Command<'a>, AllocError>
             "A folder of key files, of which the footer names one by its id",
         ))?
         .arg(claim(alloc))?
+        .arg(options(
+            alloc,
+            "require",
+            "NAME",
+            "A claim that has to be there, whatever its value; may stand many times",
+        ))?
         .arg(option(
             alloc,
             "at",
             "TIME",
             "The moment of checking, in place of the present one",
         ))?
+        .arg(option(
+            alloc,
+            "leeway",
+            "LENGTH",
+            "How far the clocks of issuer and reader may differ: 5s, 1m",
+        ))?
         .arg(footer(alloc))?
         .arg(kid(alloc))?
+        .arg(assertion(alloc))?
         .arg(input(alloc))
 }
 

@@ -11,7 +11,7 @@ ghost use Rattle.paseto.specs.Times.{claim_error_of};
 
 use crate::commands::times::between;
 use jiff::Timestamp;
-use paseto_tasks::ProgramError;
+use paseto_tasks::{ProgramError, TimeOption};
 use rusty_paseto::prelude::{
     GenericBuilderError, GenericParserError, KeyRingError, KeyRingParserError, PasetoClaimError,
     PasetoError,
@@ -38,13 +38,13 @@ pub fn built<T: Drop>(
     }
 }
 
-/// Why a text of a moment makes no claim.
-pub fn dated(source: PasetoClaimError) -> ProgramError
-    ensures { result ≡ claim_error_of source }
+/// Why the text of a moment that an option says makes no claim.
+pub fn dated(option: TimeOption, source: PasetoClaimError) -> ProgramError
+    ensures { result ≡ claim_error_of option source }
 {
     match source {
         PasetoClaimError::Memory(source) => ProgramError::Memory(source),
-        _ => ProgramError::Time,
+        _ => ProgramError::Time(option),
     }
 }
 

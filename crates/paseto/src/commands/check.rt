@@ -10,29 +10,29 @@ ghost use Rattle.rusty_paseto_paserk.specs.declared.header.PaserkType.TheVariant
 ghost use Rattle.rusty_paseto_generic.specs.Parsers.Held.{rules_of, verdicts_of};
 ghost use Rattle.rusty_paseto_generic.specs.Parsers.Rules.{no_rule};
 ghost use Rattle.rusty_paseto_generic.specs.Parsers.Times.{times_at};
-ghost use Rattle.paseto_tasks.specs.Arguments.{texts};
+ghost use Rattle.paseto_tasks.specs.Arguments.{assertion_where, binds_in, texts};
 ghost use Rattle.paseto.specs.Check.{AreDemands, IsCheckedAt, IsTheValue, ParsesByKey, ParsesWith, demanded, demanded_rules};
 ghost use Rattle.paseto.specs.Checked.{ChecksBy, IsJsonLine, ParsesBy};
-ghost use Rattle.paseto.specs.Claims.{all_demanded, all_named, are_whole};
+ghost use Rattle.paseto.specs.Claims.{all_demanded, all_named, all_required, are_whole};
 ghost use Rattle.paseto_tasks.specs.Error.{IsNoRefusal, IsNoUsage, IsOutside, Lacks};
 ghost use Rattle.paseto.specs.Readers.{IsReader, reading_of};
 
 use crate::commands::answers::{checked, parsed};
+use crate::commands::asserts::Asserts;
 use crate::commands::claims::{NamedClaim, claims_of};
 use crate::commands::footer::footer_of;
 use crate::commands::ring::claims_by_ring;
-use crate::commands::times::moment_of;
+use crate::commands::times::{leeway_of, moment_of};
 use jiff::Timestamp;
-use paseto_tasks::{Options, ProgramError, Suite};
+use paseto_tasks::{Options, ProgramError, Suite, TimeOption, takes};
 use paseto_xchacha20poly1305::XChaCha20Poly1305;
 use rusty_paseto::DefaultParser;
 use rusty_paseto::prelude::{
-    CheckSetter, DefaultLocalVersion, Footer, Local, PasetoParser, Public, PurposeTrait, V1, V2,
-    V3, V4, Verifies, VersionTrait,
+    CheckSetter, DefaultLocalVersion, Footer, ImplicitAssertion, Local, PasetoParser, Public,
+    PurposeTrait, V1, V2, V3, V4, Verifies, VersionTrait,
 };
 use rusty_paseto_paserk::{
-    KeyVersion, PaserkError, PaserkType, PaserkVersion, header_of, local_from_paserk,
-    public_key_from_paserk,
+    PaserkError, PaserkType, PaserkVersion, header_of, local_from_paserk, public_key_from_paserk,
 };
 use serde_json::Value;
 use std::alloc::Global;
@@ -48,20 +48,23 @@ pub enum Keys<'k> {
 
 /// What a token has to be.
 #[derive(Drop)]
-pub struct Demands {
+pub struct Demands<'w> {
     at: Timestamp,
+    leeway: u32,
     claims: Vec<NamedClaim>,
+    required: &'w [&'w str],
     footer: Option<String>,
+    pub(crate) assertion: Option<ImplicitAssertion<'w>>,
 }
 
-impl Demands {
+impl<'w> Demands<'w> {
     /// What the words of a command demand.
     pub fn parse(
         alloc: Global,
         words: &[&str],
-        options: &Options<'_>,
+        options: &Options<'w>,
         now: Timestamp,
-    ) -> Result<Demands, ProgramError>
+    ) -> Result<Demands<'w>, ProgramError>
         ensures found { IfOk result (λ demands. AreDemands
             (texts words.now) options.now now (demanded demands)) }
         ensures none { IfErr result (Lacks (λ demands. AreDemands
@@ -70,24 +73,29 @@ impl Demands {
     {
         Ok(Demands {
             at: checked_at(options.at, now)?,
+            leeway: leeway_of(options.leeway)?,
             claims: claims_of(alloc, words)?,
+            required: options.required,
             footer: footer_of(alloc, options)?,
+            assertion: options.assertion,
         })
     }
 
-    /// The parser under whose footer a token is read, which checks no claim.
-    pub fn reader<V: VersionTrait, P: PurposeTrait>(&self, alloc: Global) -> PasetoParser<'_, V, P>
+    /// The parser under whose footer and assertion a token is read, which checks no claim.
+    pub fn reader<V: Asserts, P: PurposeTrait>(&self, alloc: Global) -> PasetoParser<'_, V, P>
         ensures rules { verdicts_of (λ b. verdict b)
             (times_at result.parser.moment result.parser.leeway) result.parser.checks
             ≡ (λ key. no_rule) }
         ensures footer { option_map footer_text result.parser.footer
             ≡ option_map string_bytes self.now.footer }
-        ensures assertion { result.parser.implicit_assertion ≡ None }
+        ensures assertion { result.parser.implicit_assertion
+            ≡ assertion_where (binds_in V.paserk) self.now.assertion }
     {
         let mut parser = PasetoParser::new(alloc);
         if let Some(footer) = &self.footer {
             parser.set_footer(Footer::from(footer.as_str()));
         }
+        V::give_parser(&mut parser, self.assertion);
         parser
     }
 
@@ -102,7 +110,9 @@ impl Demands {
         ensures no_usage { IfErr result IsNoUsage }
     {
         let mut parser = parsed(alloc, PasetoParser::default(alloc, self.at))?;
+        parser.set_leeway(self.leeway);
         put_checks(alloc, &mut parser, &self.claims)?;
+        put_requirements(alloc, &mut parser, self.required)?;
         Ok(parser)
     }
 }
@@ -120,7 +130,7 @@ fn checked_at(word: Option<&str>, now: Timestamp) -> Result<Timestamp, ProgramEr
     };
     match moment_of(word, now) {
         Some(moment) => Ok(moment),
-        None => Err(ProgramError::Time),
+        None => Err(ProgramError::Time(TimeOption::At)),
     }
 }
 
@@ -150,11 +160,31 @@ fn put_checks<V: VersionTrait, P: PurposeTrait, B: Drop>(
     }
 }
 
+fn put_requirements<V: VersionTrait, P: PurposeTrait, B: Drop>(
+    alloc: Global,
+    parser: &mut DefaultParser<'_, V, P, B>,
+    names: &[&str],
+) -> Result<(), ProgramError>
+    ensures set { OnOk result (rules_of parser.new.parser.checks
+        ≡ all_required (texts names.now) (rules_of parser.old.parser.checks)) }
+    ensures refused { IfErr result IsOutside }
+    ensures times { (parser.new.parser.moment ≡ parser.old.parser.moment)
+        × (parser.new.parser.leeway ≡ parser.old.parser.leeway) }
+{
+    let [name, rest @ ..] = names else {
+        return Ok(());
+    };
+    match parsed(alloc, parser.put_required(name)) {
+        Ok(()) => put_requirements(alloc, parser, rest),
+        Err(error) => Err(error),
+    }
+}
+
 /// The line of the claims of a token that is what is demanded.
 pub fn check(
     alloc: Global,
     keys: &Keys<'_>,
-    demands: &Demands,
+    demands: &Demands<'_>,
     token: &str,
 ) -> Result<String, ProgramError>
     ensures found { IfOk result (λ line. ChecksBy keys.now (demanded demands.now) token.now
@@ -182,10 +212,10 @@ fn json_line(alloc: Global, value: &Value) -> Result<String, ProgramError>
 fn claims_by(
     alloc: Global,
     keys: &Keys<'_>,
-    demands: &Demands,
+    demands: &Demands<'_>,
     token: &str,
 ) -> Result<Value, ProgramError>
-    ensures answer { IsTheValue (λ value. ParsesBy keys.now (demanded demands.now).footer
+    ensures answer { IsTheValue (λ value. ParsesBy keys.now (demanded demands.now).footer (demanded demands.now).assertion
         token.now value) result }
     ensures no_usage { IfErr result IsNoUsage }
 {
@@ -199,20 +229,21 @@ fn claims_by(
 fn claims_by_key(
     alloc: Global,
     key: &str,
-    demands: &Demands,
+    demands: &Demands<'_>,
     token: &str,
 ) -> Result<Value, ProgramError>
-    ensures answer { IsTheValue (λ value. ParsesByKey key.now (demanded demands.now).footer
+    ensures answer { IsTheValue (λ value. ParsesByKey key.now (demanded demands.now).footer (demanded demands.now).assertion
         token.now value) result }
     ensures no_usage { IfErr result IsNoUsage }
 {
-    match header_of(key) {
-        Some((version, PaserkType::Local, _)) => by_local_key(alloc, version, key, demands, token),
-        Some((version, PaserkType::Public, _)) => by_public_key(
-            alloc, version, key, demands, token,
-        ),
-        Some((version, PaserkType::Secret, _)) => Err(ProgramError::Key(no_reader(version))),
-        None => Err(ProgramError::Key(PaserkError::NoKey)),
+    let Some((version, kind, _)) = header_of(key) else {
+        return Err(ProgramError::Key(PaserkError::NoKey));
+    };
+    takes(version, demands.assertion)?;
+    match kind {
+        PaserkType::Local => by_local_key(alloc, version, key, demands, token),
+        PaserkType::Public => by_public_key(alloc, version, key, demands, token),
+        PaserkType::Secret => Err(ProgramError::Key(no_reader(version))),
     }
 }
 
@@ -228,11 +259,11 @@ fn by_local_key(
     alloc: Global,
     version: PaserkVersion,
     key: &str,
-    demands: &Demands,
+    demands: &Demands<'_>,
     token: &str,
 ) -> Result<Value, ProgramError>
     ensures answer { IsTheValue (λ value. IsReader LocalKey version × ParsesWith LocalKey version
-        (reading_of LocalKey version) key.now (demanded demands.now).footer token.now value)
+        (reading_of LocalKey version) key.now (demanded demands.now).footer (demanded demands.now).assertion token.now value)
         result }
     ensures no_usage { IfErr result IsNoUsage }
 {
@@ -248,11 +279,11 @@ fn by_public_key(
     alloc: Global,
     version: PaserkVersion,
     key: &str,
-    demands: &Demands,
+    demands: &Demands<'_>,
     token: &str,
 ) -> Result<Value, ProgramError>
     ensures answer { IsTheValue (λ value. IsReader PublicKey version × ParsesWith PublicKey
-        version (reading_of PublicKey version) key.now (demanded demands.now).footer token.now
+        version (reading_of PublicKey version) key.now (demanded demands.now).footer (demanded demands.now).assertion token.now
         value) result }
     ensures no_usage { IfErr result IsNoUsage }
 {
@@ -264,14 +295,15 @@ fn by_public_key(
     }
 }
 
-fn opened<V: DefaultLocalVersion + KeyVersion>(
+fn opened<V: DefaultLocalVersion + Asserts>(
     alloc: Global,
     key: &str,
-    demands: &Demands,
+    demands: &Demands<'_>,
     token: &str,
 ) -> Result<Value, ProgramError>
+    requires { V.design.binds_assertion ≡ binds_in V.paserk }
     ensures answer { IsTheValue (λ value. ParsesWith LocalKey V.paserk (opening V.design) key.now
-        (demanded demands.now).footer token.now value) result }
+        (demanded demands.now).footer (demanded demands.now).assertion token.now value) result }
     ensures no_usage { IfErr result IsNoUsage }
 {
     let key = local_from_paserk::<V>(alloc, key)?;
@@ -279,9 +311,14 @@ fn opened<V: DefaultLocalVersion + KeyVersion>(
     parsed(alloc, parser.parse(token, &key))
 }
 
-fn unboxed(alloc: Global, key: &str, demands: &Demands, token: &str) -> Result<Value, ProgramError>
+fn unboxed(
+    alloc: Global,
+    key: &str,
+    demands: &Demands<'_>,
+    token: &str,
+) -> Result<Value, ProgramError>
     ensures answer { IsTheValue (λ value. ParsesWith LocalKey K2 (reading_of LocalKey K2) key.now
-        (demanded demands.now).footer token.now value) result }
+        (demanded demands.now).footer (demanded demands.now).assertion token.now value) result }
     ensures no_usage { IfErr result IsNoUsage }
 {
     let key = local_from_paserk::<V2>(alloc, key)?;
@@ -289,14 +326,15 @@ fn unboxed(alloc: Global, key: &str, demands: &Demands, token: &str) -> Result<V
     parsed(alloc, parser.parse(&XChaCha20Poly1305, token, &key))
 }
 
-fn verified<V: Suite + Verifies<V::Scheme>>(
+fn verified<V: Suite + Asserts + Verifies<V::Scheme>>(
     alloc: Global,
     key: &str,
-    demands: &Demands,
+    demands: &Demands<'_>,
     token: &str,
 ) -> Result<Value, ProgramError>
+    requires { V.public_design.binds_assertion ≡ binds_in V.paserk }
     ensures answer { IsTheValue (λ value. ParsesWith PublicKey V.paserk (verification V.valid
-        V.refused V.public_design) key.now (demanded demands.now).footer token.now value) result }
+        V.refused V.public_design) key.now (demanded demands.now).footer (demanded demands.now).assertion token.now value) result }
     ensures no_usage { IfErr result IsNoUsage }
 {
     let key = public_key_from_paserk::<V>(alloc, key)?;

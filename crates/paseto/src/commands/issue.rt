@@ -7,7 +7,7 @@ ghost use Rattle.rusty_paseto_core.specs.Public.{HasPrivateLength};
 ghost use Rattle.rusty_paseto_core.specs.declared.PasetoError.{PasetoError as TokenError};
 ghost use Rattle.rusty_paseto.specs.Held.{counting};
 ghost use Rattle.rusty_paseto.specs.PasetoBuilder.{IsSame};
-ghost use Rattle.paseto_tasks.specs.Arguments.{texts};
+ghost use Rattle.paseto_tasks.specs.Arguments.{assertion_where, binds_in, texts};
 ghost use Rattle.paseto.specs.Claims.{AreNeverSet, AreSet, all_counted, all_named};
 ghost use Rattle.paseto_tasks.specs.Error.{IsNoRefusal, IsNoUsage, IsOutside, Lacks};
 ghost use Rattle.paseto_tasks.specs.Public.{DeclinesKey};
@@ -15,43 +15,44 @@ ghost use Rattle.paseto.specs.Issue.{AreNever, AreOrdered, BoxesClaims, Declines
 ghost use Rattle.paseto.specs.Times.{IsNeverSet, IsTimeSet, SaysTime, time_counted};
 
 use crate::commands::answers::{built, dated};
+use crate::commands::asserts::Asserts;
 use crate::commands::claims::{NamedClaim, claims_of};
 use crate::commands::footer::footer_of;
 use crate::commands::times::moment_of;
 use jiff::Timestamp;
-use paseto_tasks::{Options, ProgramError, Suite, with_line_feed};
+use paseto_tasks::{Options, ProgramError, Suite, TimeOption, takes, with_line_feed};
 use paseto_xchacha20poly1305::XChaCha20Poly1305;
 use rand_core::TryRng;
 use rusty_paseto::prelude::{
-    CountingSetter, DefaultLocalVersion, ExpirationClaim, Footer, Local, NotBeforeClaim,
-    PasetoAsymmetricPrivateKey, PasetoBuilder, Public, PurposeTrait, Signs, V1, V2, V3, V4,
-    VersionTrait, fits_default,
+    CountingSetter, DefaultLocalVersion, ExpirationClaim, Footer, ImplicitAssertion, Local,
+    NotBeforeClaim, PasetoAsymmetricPrivateKey, PasetoBuilder, Public, PurposeTrait, Signs, V1, V2,
+    V3, V4, VersionTrait, fits_default,
 };
 use rusty_paseto_claims::moment_text;
 use rusty_paseto_paserk::{
-    KeyVersion, PaserkError, PaserkType, PaserkVersion, header_of, local_from_paserk,
-    private_key_from_paserk,
+    PaserkError, PaserkType, PaserkVersion, header_of, local_from_paserk, private_key_from_paserk,
 };
 use std::alloc::Global;
 
 /// What a token is to say, beside what a default builder says at a moment.
 #[derive(Drop)]
-pub struct Order {
+pub struct Order<'w> {
     moment: Timestamp,
     claims: Vec<NamedClaim>,
     expires: Option<Timestamp>,
     not_before: Option<Timestamp>,
     footer: Option<String>,
+    assertion: Option<ImplicitAssertion<'w>>,
 }
 
-impl Order {
+impl<'w> Order<'w> {
     /// What the words of a command say.
     pub fn parse(
         alloc: Global,
         words: &[&str],
-        options: &Options<'_>,
+        options: &Options<'w>,
         now: Timestamp,
-    ) -> Result<Order, ProgramError>
+    ) -> Result<Order<'w>, ProgramError>
         ensures found { IfOk result (λ order. IsOrder
             (texts words.now) options.now now (ordered order)) }
         ensures none { IfErr result (Lacks (λ order. IsOrder
@@ -61,15 +62,20 @@ impl Order {
         Ok(Order {
             moment: now,
             claims: claims_of(alloc, words)?,
-            expires: time_of(options.expires, now)?,
-            not_before: time_of(options.not_before, now)?,
+            expires: time_of(TimeOption::Expires, options.expires, now)?,
+            not_before: time_of(TimeOption::NotBefore, options.not_before, now)?,
             footer: footer_of(alloc, options)?,
+            assertion: options.assertion,
         })
     }
 }
 
-/// The moment that a word says, where there is one.
-fn time_of(word: Option<&str>, now: Timestamp) -> Result<Option<Timestamp>, ProgramError>
+/// The moment that the word of an option says, where there is one.
+fn time_of(
+    option: TimeOption,
+    word: Option<&str>,
+    now: Timestamp,
+) -> Result<Option<Timestamp>, ProgramError>
     ensures found { IfOk result (λ moment. SaysTime
         (option_map (λ text. text.now) word.entry) now moment) }
     ensures none { IfErr result (Lacks (λ moment. SaysTime
@@ -81,7 +87,7 @@ fn time_of(word: Option<&str>, now: Timestamp) -> Result<Option<Timestamp>, Prog
     };
     match moment_of(word, now) {
         Some(moment) => Ok(Some(moment)),
-        None => Err(ProgramError::Time),
+        None => Err(ProgramError::Time(option)),
     }
 }
 
@@ -89,7 +95,7 @@ fn time_of(word: Option<&str>, now: Timestamp) -> Result<Option<Timestamp>, Prog
 pub fn issue<G: TryRng>(
     alloc: Global,
     key: &str,
-    order: &Order,
+    order: &Order<'_>,
     generator: &mut G,
 ) -> Result<String, ProgramError>
     ensures found { IfOk result (λ line. Issues key.now (ordered order.now)
@@ -98,13 +104,14 @@ pub fn issue<G: TryRng>(
         ⊎ IssuesNone key.now (ordered order.now)) }
     ensures usage { IfErr result (λ error. IsNoUsage error ⊎ AreNever (ordered order.now)) }
 {
-    match header_of(key) {
-        Some((version, PaserkType::Local, _)) => by_local_key(
-            alloc, version, key, order, generator,
-        ),
-        Some((version, PaserkType::Secret, _)) => by_private_key(alloc, version, key, order),
-        Some((version, PaserkType::Public, _)) => Err(ProgramError::Key(no_issuer(version))),
-        None => Err(ProgramError::Key(PaserkError::NoKey)),
+    let Some((version, kind, _)) = header_of(key) else {
+        return Err(ProgramError::Key(PaserkError::NoKey));
+    };
+    takes(version, order.assertion)?;
+    match kind {
+        PaserkType::Local => by_local_key(alloc, version, key, order, generator),
+        PaserkType::Secret => by_private_key(alloc, version, key, order),
+        PaserkType::Public => Err(ProgramError::Key(no_issuer(version))),
     }
 }
 
@@ -120,7 +127,7 @@ fn by_local_key<G: TryRng>(
     alloc: Global,
     version: PaserkVersion,
     key: &str,
-    order: &Order,
+    order: &Order<'_>,
     generator: &mut G,
 ) -> Result<String, ProgramError>
     ensures found { IfOk result (λ line. SealsIn version key.now (ordered order.now)
@@ -141,7 +148,7 @@ fn by_private_key(
     alloc: Global,
     version: PaserkVersion,
     key: &str,
-    order: &Order,
+    order: &Order<'_>,
 ) -> Result<String, ProgramError>
     ensures found { IfOk result (λ line. SignsIn version key.now (ordered order.now)
         (string_bytes line)) }
@@ -157,12 +164,13 @@ fn by_private_key(
     }
 }
 
-fn sealed<V: DefaultLocalVersion + KeyVersion, G: TryRng>(
+fn sealed<V: DefaultLocalVersion + Asserts, G: TryRng>(
     alloc: Global,
     key: &str,
-    order: &Order,
+    order: &Order<'_>,
     generator: &mut G,
 ) -> Result<String, ProgramError>
+    requires { V.design.binds_assertion ≡ binds_in V.paserk }
     ensures found { IfOk result (λ line. SealsClaims V.paserk V.design key.now (ordered order.now)
         (λ nonce. G.may_fill generator.old nonce generator.new) (string_bytes line)) }
     ensures none { IfErr result (Lacks (λ line.
@@ -177,7 +185,7 @@ fn sealed<V: DefaultLocalVersion + KeyVersion, G: TryRng>(
 fn boxed<G: TryRng>(
     alloc: Global,
     key: &str,
-    order: &Order,
+    order: &Order<'_>,
     generator: &mut G,
 ) -> Result<String, ProgramError>
     ensures found { IfOk result (λ line. BoxesClaims key.now (ordered order.now)
@@ -192,11 +200,12 @@ fn boxed<G: TryRng>(
     with_line_feed(built(alloc, token)?)
 }
 
-fn signed<V: Suite + Signs<V::Scheme>>(
+fn signed<V: Suite + Asserts + Signs<V::Scheme>>(
     alloc: Global,
     key: &str,
-    order: &Order,
+    order: &Order<'_>,
 ) -> Result<String, ProgramError>
+    requires { V.public_design.binds_assertion ≡ binds_in V.paserk }
     ensures found { IfOk result (λ line. SignsClaims V.paserk V.secret_length V.valid
         V.public_design V.partner key.now (ordered order.now) (string_bytes line)) }
     ensures none { IfErr result (λ error. IsOutside error
@@ -210,12 +219,13 @@ fn signed<V: Suite + Signs<V::Scheme>>(
     signed_by(alloc, &mut V::scheme(), &key.lend(), order)
 }
 
-fn signed_by<V: Signs<S>, S>(
+fn signed_by<V: Asserts + Signs<S>, S>(
     alloc: Global,
     scheme: &mut S,
     key: &PasetoAsymmetricPrivateKey<'_, V, Public>,
-    order: &Order,
+    order: &Order<'_>,
 ) -> Result<String, ProgramError>
+    requires { V.public_design.binds_assertion ≡ binds_in V.paserk }
     ensures found { IfOk result (λ line.
         SignsOrder V.valid V.public_design (V.partner key.now) (ordered order.now)
         (string_bytes line)) }
@@ -232,9 +242,9 @@ fn signed_by<V: Signs<S>, S>(
 }
 
 /// A default builder with what is ordered.
-fn builder_of<'o, V: VersionTrait, P: PurposeTrait>(
+fn builder_of<'o, V: Asserts, P: PurposeTrait>(
     alloc: Global,
-    order: &'o Order,
+    order: &'o Order<'_>,
 ) -> Result<PasetoBuilder<'o, V, P>, ProgramError>
     ensures claims { IfOk result (λ made. AreOrdered (ordered order.now)
         (held made.builder.claims)) }
@@ -242,7 +252,8 @@ fn builder_of<'o, V: VersionTrait, P: PurposeTrait>(
         (counting made.keys)) }
     ensures footer { IfOk result (λ made. option_map footer_text made.builder.paseto.footer
         ≡ option_map string_bytes order.now.footer) }
-    ensures assertion { IfOk result (λ made. made.builder.paseto.implicit_assertion ≡ None) }
+    ensures assertion { IfOk result (λ made. made.builder.paseto.implicit_assertion
+        ≡ assertion_where (binds_in V.paserk) order.now.assertion) }
     ensures never { IfErr result (λ error. IsOutside error ⊎ AreNever (ordered order.now)) }
     ensures usage { IfErr result (λ error. IsNoUsage error ⊎ AreNever (ordered order.now)) }
 {
@@ -256,6 +267,7 @@ fn builder_of<'o, V: VersionTrait, P: PurposeTrait>(
     if let Some(footer) = &order.footer {
         builder.set_footer(Footer::from(footer.as_str()));
     }
+    V::give_builder(&mut builder, order.assertion);
     Ok(builder)
 }
 
@@ -297,7 +309,7 @@ fn set_expiry<V: VersionTrait, P: PurposeTrait>(
     };
     match ExpirationClaim::try_from_string(alloc, moment_text(alloc, moment)?) {
         Ok(claim) => built(alloc, builder.put_claim(&claim)),
-        Err(source) => Err(dated(source)),
+        Err(source) => Err(dated(TimeOption::Expires, source)),
     }
 }
 
@@ -319,6 +331,6 @@ fn set_begin<V: VersionTrait, P: PurposeTrait>(
     };
     match NotBeforeClaim::try_from_string(alloc, moment_text(alloc, moment)?) {
         Ok(claim) => built(alloc, builder.put_claim(&claim)),
-        Err(source) => Err(dated(source)),
+        Err(source) => Err(dated(TimeOption::NotBefore, source)),
     }
 }

@@ -9,7 +9,7 @@ ghost use Rattle.rusty_paseto.specs.KeyRing.{with_key};
 ghost use Rattle.rusty_paseto_paserk.specs.Id.{id_of};
 ghost use Rattle.rusty_paseto_paserk.specs.declared.header.PaserkVersion.TheVariants.{V2 as K2};
 ghost use Rattle.rusty_paseto_paserk.specs.declared.header.PaserkType.TheVariants.{Local as LocalKey, Public as PublicKeys};
-ghost use Rattle.paseto_tasks.specs.Arguments.{words_of};
+ghost use Rattle.paseto_tasks.specs.Arguments.{binds_in, words_of};
 ghost use Rattle.paseto.specs.Check.{IsTheValue, demanded};
 ghost use Rattle.paseto_tasks.specs.Error.{IsNoUsage, IsOutside, Lacks, key_error_of};
 ghost use Rattle.paseto_tasks.specs.Id.{IsKeyOf};
@@ -17,8 +17,9 @@ ghost use Rattle.paseto.specs.Readers.{IsReader, reading_of, type_in, version_in
 ghost use Rattle.paseto.specs.Ring.{AreKeysOf, IsAdded, IsInserted, IsNoLine, IsPassedOver, IsRingOf, ParsesByRing, ParsesIn, ring_of};
 
 use crate::commands::answers::{found, put};
+use crate::commands::asserts::Asserts;
 use crate::commands::check::Demands;
-use paseto_tasks::{ProgramError, Suite};
+use paseto_tasks::{ProgramError, Suite, takes};
 use paseto_xchacha20poly1305::XChaCha20Poly1305;
 use rusty_paseto::prelude::{
     DefaultLocalVersion, KeyRing, Local, PasetoError, Public, PublicKeyRing, UntrustedToken, V1,
@@ -37,11 +38,10 @@ use std::alloc::Global;
 pub fn claims_by_ring(
     alloc: Global,
     lines: &[String],
-    demands: &Demands,
+    demands: &Demands<'_>,
     token: &str,
 ) -> Result<Value, ProgramError>
-    ensures answer { IsTheValue (λ value. ParsesByRing (words_of lines.now) (demanded
-        demands.now).footer token.now value) result }
+    ensures answer { IsTheValue (λ value. ParsesByRing (words_of lines.now) (demanded demands.now).footer (demanded demands.now).assertion token.now value) result }
     ensures no_usage { IfErr result IsNoUsage }
 {
     let untrusted = UntrustedToken::try_parse(token)?;
@@ -51,6 +51,7 @@ pub fn claims_by_ring(
     let Some(kind) = type_of(untrusted.purpose()) else {
         return Err(ProgramError::Refused(PasetoError::WrongHeader));
     };
+    takes(version, demands.assertion)?;
     match kind {
         PaserkType::Local => by_local_keys(alloc, version, lines, demands, token),
         PaserkType::Public => by_public_keys(alloc, version, lines, demands, token),
@@ -86,11 +87,11 @@ fn by_local_keys(
     alloc: Global,
     version: PaserkVersion,
     lines: &[String],
-    demands: &Demands,
+    demands: &Demands<'_>,
     token: &str,
 ) -> Result<Value, ProgramError>
     ensures answer { IsTheValue (λ value. IsReader LocalKey version × ParsesIn LocalKey version
-        (reading_of LocalKey version) (words_of lines.now) (demanded demands.now).footer token.now
+        (reading_of LocalKey version) (words_of lines.now) (demanded demands.now).footer (demanded demands.now).assertion token.now
         value) result }
     ensures no_usage { IfErr result IsNoUsage }
 {
@@ -106,12 +107,11 @@ fn by_public_keys(
     alloc: Global,
     version: PaserkVersion,
     lines: &[String],
-    demands: &Demands,
+    demands: &Demands<'_>,
     token: &str,
 ) -> Result<Value, ProgramError>
     ensures answer { IsTheValue (λ value. IsReader PublicKeys version × ParsesIn PublicKeys
-        version (reading_of PublicKeys version) (words_of lines.now) (demanded demands.now).footer
-        token.now value) result }
+        version (reading_of PublicKeys version) (words_of lines.now) (demanded demands.now).footer (demanded demands.now).assertion token.now value) result }
     ensures no_usage { IfErr result IsNoUsage }
 {
     match version {
@@ -122,14 +122,15 @@ fn by_public_keys(
     }
 }
 
-fn opened<V: DefaultLocalVersion + KeyVersion>(
+fn opened<V: DefaultLocalVersion + Asserts>(
     alloc: Global,
     lines: &[String],
-    demands: &Demands,
+    demands: &Demands<'_>,
     token: &str,
 ) -> Result<Value, ProgramError>
+    requires { V.design.binds_assertion ≡ binds_in V.paserk }
     ensures answer { IsTheValue (λ value. ParsesIn LocalKey V.paserk (opening V.design) (words_of
-        lines.now) (demanded demands.now).footer token.now value) result }
+        lines.now) (demanded demands.now).footer (demanded demands.now).assertion token.now value) result }
     ensures no_usage { IfErr result IsNoUsage }
 {
     let ring = local_ring::<V>(alloc, lines)?;
@@ -140,11 +141,11 @@ fn opened<V: DefaultLocalVersion + KeyVersion>(
 fn unboxed(
     alloc: Global,
     lines: &[String],
-    demands: &Demands,
+    demands: &Demands<'_>,
     token: &str,
 ) -> Result<Value, ProgramError>
     ensures answer { IsTheValue (λ value. ParsesIn LocalKey K2 (reading_of LocalKey K2) (words_of
-        lines.now) (demanded demands.now).footer token.now value) result }
+        lines.now) (demanded demands.now).footer (demanded demands.now).assertion token.now value) result }
     ensures no_usage { IfErr result IsNoUsage }
 {
     let ring = local_ring::<V2>(alloc, lines)?;
@@ -152,14 +153,15 @@ fn unboxed(
     found(alloc, ring.parse(&XChaCha20Poly1305, &parser, token))
 }
 
-fn verified<V: Suite + Verifies<V::Scheme>>(
+fn verified<V: Suite + Asserts + Verifies<V::Scheme>>(
     alloc: Global,
     lines: &[String],
-    demands: &Demands,
+    demands: &Demands<'_>,
     token: &str,
 ) -> Result<Value, ProgramError>
+    requires { V.public_design.binds_assertion ≡ binds_in V.paserk }
     ensures answer { IsTheValue (λ value. ParsesIn PublicKeys V.paserk (verification V.valid
-        V.refused V.public_design) (words_of lines.now) (demanded demands.now).footer token.now
+        V.refused V.public_design) (words_of lines.now) (demanded demands.now).footer (demanded demands.now).assertion token.now
         value) result }
     ensures no_usage { IfErr result IsNoUsage }
 {

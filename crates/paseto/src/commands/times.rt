@@ -1,10 +1,12 @@
 //! Moments and lengths of time, as words say them.
 
-ghost use Rattle.std.specs.Prelude.{◌≡◌, ◌≢◌, ◌≤◌, ◌*◌, ◌++◌, ◌+ℤ◌, ℕ, List, pos, IfSome, MatchOption};
+ghost use Rattle.std.specs.Prelude.{◌≡◌, ◌≢◌, ◌≤◌, ◌*◌, ◌++◌, ◌+ℤ◌, ℕ, List, pos, IfErr, IfOk, IfSome, MatchOption, option_map};
 ghost use Rattle.jiff.specs.Words.{IsTimestampNanos};
-ghost use Rattle.paseto.specs.Times.{HasUnit, IsLength, IsNumber, SaysMoment, SaysNone};
+ghost use Rattle.paseto.specs.Times.{HasUnit, IsLeeway, IsLength, IsNumber, SaysMoment, SaysNone};
+ghost use Rattle.paseto_tasks.specs.Error.{IsNoRefusal, Lacks};
 
 use jiff::Timestamp;
+use paseto_tasks::{ProgramError, TimeOption};
 use std::alloc::{AllocError, Global};
 
 /// The nanoseconds of a second.
@@ -21,6 +23,23 @@ pub fn moment_of(word: &str, now: Timestamp) -> Option<Timestamp>
             Some(seconds) => moment_after(seconds, now),
             None => None,
         },
+    }
+}
+
+/// How many seconds clocks may differ by, as a word says.
+pub fn leeway_of(word: Option<&str>) -> Result<u32, ProgramError>
+    ensures found { IfOk result (λ seconds. IsLeeway
+        (option_map (λ text. text.now) word.entry) seconds) }
+    ensures none { IfErr result (Lacks (λ seconds. IsLeeway
+        (option_map (λ text. text.now) word.entry) seconds)) }
+    ensures no_refusal { IfErr result IsNoRefusal }
+{
+    let Some(word) = word else {
+        return Ok(0);
+    };
+    match seconds_of(word) {
+        Some(seconds) if seconds <= u32::MAX as u64 => Ok(seconds as u32),
+        _ => Err(ProgramError::Time(TimeOption::Leeway)),
     }
 }
 

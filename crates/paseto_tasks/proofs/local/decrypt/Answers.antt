@@ -1,22 +1,36 @@
-use Rattle.rusty_paseto_core.specs.Local.V3.{v3}
-use Rattle.rusty_paseto_core.specs.Local.V4.{v4}
-use Rattle.rusty_paseto_paserk.specs.declared.header.PaserkVersion.TheVariants.{V3, V4}
+use Rattle.std.proofs.lemmas.Result.{err_from_is_err_and}
 use Rattle.rusty_paseto_paserk.specs.declared.header.PaserkType.TheVariants.{Local}
 use Rattle.paseto_tasks.specs.Input.{line_of_input}
-use Rattle.paseto_tasks.specs.Local.{Opens}
-use Rattle.paseto_tasks.proofs.Refusals.{first_of_two, not_v3, not_v4, second_of_two}
+use Rattle.paseto_tasks.specs.Local.{OpensIn}
+use Rattle.paseto_tasks.proofs.Versions.{made_by, nothing_begun, nothing_by, nothing_taken, opens_begins}
 use Rattle.paseto_tasks.proofs.local.decrypt.Goals as goal
 
-pub returns-then-is_of_version_3-clause-refused : goal.returns-then-is_of_version_3-clause-refused
-returns-then-is_of_version_3-clause-refused g c =
-    let begins = rw c.if-is_of_version_3.true at c.is_of_version_3.ensures in
-    first_of_two c.opened.result _ (λ bytes text. Opens V3 v3 c.args.key.now c.args.options.now (line_of_input bytes) text)
-    (λ bytes text. Opens V4 v4 c.args.key.now c.args.options.now (line_of_input bytes) text)
-    (λ bytes text o. not_v4 c.args.key.now o.key_bytes Local begins o.is_key.is_writing) c.opened.ensures.refused
+pub returns-clause-printed : goal.returns-clause-printed
+returns-clause-printed g c =
+    made_by Local c.args.key.now c.args.options.now.assertion
+    (λ v bytes text. OpensIn v c.args.key.now c.args.options.now (line_of_input bytes) text)
+    (λ v bytes text is. opens_begins c.args.options.now c.args.key.now v (line_of_input bytes) text is)
+    c.opened_in.result _ c.in_ok-version.version c.in_ok-takes.ensures.taken c.opened_in.ensures.printed
 
-pub returns-else-is_of_version_3-clause-refused : goal.returns-else-is_of_version_3-clause-refused
-returns-else-is_of_version_3-clause-refused g c =
-    let none = rw c.if-is_of_version_3.false at c.is_of_version_3.ensures in
-    second_of_two c.opened-else-is_of_version_3.result _ (λ bytes text. Opens V3 v3 c.args.key.now c.args.options.now (line_of_input bytes) text)
-    (λ bytes text. Opens V4 v4 c.args.key.now c.args.options.now (line_of_input bytes) text)
-    (λ bytes text o. not_v3 c.args.key.now o.key_bytes Local none o.is_key.is_writing) c.opened-else-is_of_version_3.ensures.refused
+pub returns-clause-refused : goal.returns-clause-refused
+returns-clause-refused g c =
+    nothing_by Local c.args.key.now c.args.options.now.assertion
+    (λ v bytes text. OpensIn v c.args.key.now c.args.options.now (line_of_input bytes) text)
+    (λ v bytes text is. opens_begins c.args.options.now c.args.key.now v (line_of_input bytes) text is)
+    c.opened_in.result _ c.in_ok-version.version c.in_ok-version.ensures.begins c.opened_in.ensures.refused
+
+pub returns-in_err-version-clause-refused : goal.returns-in_err-version-clause-refused
+returns-in_err-version-clause-refused g c =
+    let p = err_from_is_err_and c.from_residual.result c.from_residual.ensures.1 in
+    rw (p.1, p.2) (nothing_begun Local c.args.key.now c.args.options.now.assertion
+    (λ v bytes text. OpensIn v c.args.key.now c.args.options.now (line_of_input bytes) text)
+    (λ v bytes text is. opens_begins c.args.options.now c.args.key.now v (line_of_input bytes) text is)
+    c.in_err-version.field-0.0 _ c.in_err-version.ensures.none)
+
+pub returns-in_err-takes-clause-refused : goal.returns-in_err-takes-clause-refused
+returns-in_err-takes-clause-refused g c =
+    let p = err_from_is_err_and c.from_residual-in_err-takes.result c.from_residual-in_err-takes.ensures.1 in
+    rw (p.1, p.2) (nothing_taken Local c.args.key.now c.args.options.now.assertion
+    (λ v bytes text. OpensIn v c.args.key.now c.args.options.now (line_of_input bytes) text)
+    (λ v bytes text is. opens_begins c.args.options.now c.args.key.now v (line_of_input bytes) text is)
+    c.in_err-takes.field-0.0 _ c.in_ok-version.version c.in_ok-version.ensures.begins c.in_err-takes.ensures.refused.1)

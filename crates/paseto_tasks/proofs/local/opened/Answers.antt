@@ -1,24 +1,34 @@
-use Rattle.std.proofs.Common.{rules, ◌⊎◌, ℕ, List, IsUtf8, string_bytes}
+use Rattle.std.proofs.Common.{IsUtf8, string_bytes}
 use Rattle.std.proofs.lemmas.Result.{err_from_is_err_and}
-use Rattle.paseto_tasks.specs.Error.{IsOutside, program_error_of}
 use Rattle.paseto_tasks.specs.Input.{line_of_input}
 use Rattle.paseto_tasks.specs.Local.{Opens}
-use Rattle.paseto_tasks.proofs.Refusals.{no_input, no_key, not_opened, of_line}
+use Rattle.paseto_tasks.proofs.Refusals.{bound_is, line_not_read, line_read, no_input, no_key}
 use Rattle.paseto_tasks.proofs.local.opened.Goals as goal
 
-pub returns-in_err-text-clause-refused : goal.returns-in_err-text-clause-refused
-returns-in_err-text-clause-refused g c =
-    let p = err_from_is_err_and c.from_residual-in_err-text.result c.from_residual-in_err-text.ensures.1 in
-    let paserk = g.V.KeyVersion.paserk in
-    let design = g.V.LocalSuite.design in
-    rw (p.1, p.2) (of_line (g.R.Read.remaining c.args.input.now) (string_bytes c.in_ok-token.token) c.as_str.result.now
-    (λ token. IsOutside (program_error_of c.in_err-text.field-0.0) ⊎ ((text : List ℕ) → ¬ Opens paserk design c.args.key.now c.args.options.now token text))
-    c.in_ok-token.ensures.line c.as_str.ensures.value
-    (not_opened paserk design c.args.key.now c.args.options.now c.in_ok-key.key c.as_str.result.now c.in_err-text.field-0.0
-    (λ other bytes size is. c.in_ok-key.ensures.read other bytes size is) c.in_err-text.ensures.complete))
-
 pub returns-clause-printed : goal.returns-clause-printed
-returns-clause-printed g c = search rules
+returns-clause-printed g c =
+    let design = g.V.LocalSuite.design in
+    let options = c.args.options.now in
+    let key = c.in_ok-key.ensures in
+    let bound = bound_is design.binds_assertion options.assertion _ c.bound_assertion-assertion.ensures.bound c.bound_assertion-assertion.ensures.none in
+    line_read _ c.as_str-text.result.now c.args.kind c.open-answer.result c.open-answer.ensures (g.R.Read.remaining c.args.input.now) (string_bytes c.in_ok-token.token)
+    (λ token text. Opens g.V.KeyVersion.paserk design c.args.key.now options token text) c.in_ok-token.ensures.line c.as_str-text.ensures.value
+    c.answered.result c.answered.ensures.read (λ text is. record {
+      key_bytes = c.in_ok-key.key;
+      is_key = record { size = key.form; bytes = key.bytes; is_writing = key.written };
+      utf8 = c.as_str-text.utf8;
+      is_read = rw bound is;
+    })
+
+pub returns-clause-refused : goal.returns-clause-refused
+returns-clause-refused g c =
+    let design = g.V.LocalSuite.design in
+    let options = c.args.options.now in
+    let bound = bound_is design.binds_assertion options.assertion _ c.bound_assertion-assertion.ensures.bound c.bound_assertion-assertion.ensures.none in
+    line_not_read _ c.as_str-text.result.now c.args.kind c.open-answer.result c.open-answer.ensures (g.R.Read.remaining c.args.input.now) (string_bytes c.in_ok-token.token)
+    (λ token text. Opens g.V.KeyVersion.paserk design c.args.key.now options token text) c.in_ok-token.ensures.line c.as_str-text.ensures.value
+    c.answered.result c.answered.ensures.refused
+    (λ text o. rw (c.in_ok-key.ensures.read o.key_bytes o.is_key.bytes o.is_key.size o.is_key.is_writing) (rw bound at o.is_read))
 
 pub returns-in_err-key-clause-printed : goal.returns-in_err-key-clause-printed
 returns-in_err-key-clause-printed g c =

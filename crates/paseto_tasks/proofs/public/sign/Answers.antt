@@ -1,20 +1,44 @@
+use Rattle.std.proofs.lemmas.Result.{err_from_is_err_and}
 use Rattle.rusty_paseto_paserk.specs.declared.header.PaserkType.TheVariants.{Secret}
-use Rattle.paseto_tasks.specs.Public.{IsDeclinedInV3, IsDeclinedInV4, SignsInV3, SignsInV4}
-use Rattle.paseto_tasks.proofs.Refusals.{not_v3, not_v4, sign_first, sign_second}
+use Rattle.paseto_tasks.specs.Public.{DeclinesIn, SignsIn}
+use Rattle.paseto_tasks.proofs.Versions.{made_by, more_than, nothing_begun, nothing_or_declined, nothing_taken, signs_begins}
 use Rattle.paseto_tasks.proofs.public.sign.Goals as goal
 
-pub returns-then-is_of_version_3-clause-refused : goal.returns-then-is_of_version_3-clause-refused
-returns-then-is_of_version_3-clause-refused g c =
-    let begins = rw c.if-is_of_version_3.true at c.is_of_version_3.ensures in
-    sign_first c.sign_by.result _ (λ text line. SignsInV3 c.args.key.now c.args.options.now text line)
-    (λ text line. SignsInV4 c.args.key.now c.args.options.now text line) (λ text. IsDeclinedInV3 c.args.key.now c.args.options.now text)
-    (λ text. IsDeclinedInV4 c.args.key.now c.args.options.now text)
-    (λ text line o. not_v4 c.args.key.now o.key_bytes Secret begins o.is_key.is_writing) c.sign_by.ensures.refused
+pub returns-clause-printed : goal.returns-clause-printed
+returns-clause-printed g c =
+    made_by Secret c.args.key.now c.args.options.now.assertion
+    (λ v text line. SignsIn v c.args.key.now c.args.options.now text line)
+    (signs_begins c.args.options.now c.args.key.now)
+    c.sign_in.result _ c.in_ok-version.version c.in_ok-takes.ensures.taken c.sign_in.ensures.printed
 
-pub returns-else-is_of_version_3-clause-refused : goal.returns-else-is_of_version_3-clause-refused
-returns-else-is_of_version_3-clause-refused g c =
-    let none = rw c.if-is_of_version_3.false at c.is_of_version_3.ensures in
-    sign_second c.sign_by-else-is_of_version_3.result _ (λ text line. SignsInV3 c.args.key.now c.args.options.now text line)
-    (λ text line. SignsInV4 c.args.key.now c.args.options.now text line) (λ text. IsDeclinedInV3 c.args.key.now c.args.options.now text)
-    (λ text. IsDeclinedInV4 c.args.key.now c.args.options.now text)
-    (λ text line o. not_v3 c.args.key.now o.key_bytes Secret none o.is_key.is_writing) c.sign_by-else-is_of_version_3.ensures.refused
+pub returns-clause-refused : goal.returns-clause-refused
+returns-clause-refused g c =
+    nothing_or_declined Secret c.args.key.now c.args.options.now.assertion
+    (λ v text line. SignsIn v c.args.key.now c.args.options.now text line)
+    (signs_begins c.args.options.now c.args.key.now)
+    (λ v text. DeclinesIn v c.args.key.now c.args.options.now text)
+    c.sign_in.result _ c.in_ok-version.version c.in_ok-version.ensures.begins c.sign_in.ensures.refused
+
+pub returns-in_err-version-clause-refused : goal.returns-in_err-version-clause-refused
+returns-in_err-version-clause-refused g c =
+    let p = err_from_is_err_and c.from_residual.result c.from_residual.ensures.1 in
+    rw (p.1, p.2) (more_than Secret c.args.key.now c.args.options.now.assertion
+    (λ v text line. SignsIn v c.args.key.now c.args.options.now text line)
+    (signs_begins c.args.options.now c.args.key.now)
+    (λ v text. DeclinesIn v c.args.key.now c.args.options.now text) c.in_err-version.field-0.0 _
+    (nothing_begun Secret c.args.key.now c.args.options.now.assertion
+    (λ v text line. SignsIn v c.args.key.now c.args.options.now text line)
+    (signs_begins c.args.options.now c.args.key.now)
+    c.in_err-version.field-0.0 _ c.in_err-version.ensures.none))
+
+pub returns-in_err-takes-clause-refused : goal.returns-in_err-takes-clause-refused
+returns-in_err-takes-clause-refused g c =
+    let p = err_from_is_err_and c.from_residual-in_err-takes.result c.from_residual-in_err-takes.ensures.1 in
+    rw (p.1, p.2) (more_than Secret c.args.key.now c.args.options.now.assertion
+    (λ v text line. SignsIn v c.args.key.now c.args.options.now text line)
+    (signs_begins c.args.options.now c.args.key.now)
+    (λ v text. DeclinesIn v c.args.key.now c.args.options.now text) c.in_err-takes.field-0.0 _
+    (nothing_taken Secret c.args.key.now c.args.options.now.assertion
+    (λ v text line. SignsIn v c.args.key.now c.args.options.now text line)
+    (signs_begins c.args.options.now c.args.key.now)
+    c.in_err-takes.field-0.0 _ c.in_ok-version.version c.in_ok-version.ensures.begins c.in_err-takes.ensures.refused.1))

@@ -1,12 +1,19 @@
-use Rattle.std.proofs.Common.{refl}
-use Rattle.std.proofs.lemmas.Result.{err_from_is_err_and}
-use Rattle.rusty_paseto_core.specs.Context.{binding_of}
-use Rattle.rusty_paseto_core.specs.Public.Verifying.{verification}
-use Rattle.paseto_tasks.proofs.Refusals.{not_read}
+use Rattle.paseto_tasks.specs.Public.{IsVerified}
+use Rattle.paseto_tasks.proofs.Refusals.{bound_is, not_read, was_read}
 use Rattle.paseto_tasks.proofs.public.verified.Goals as goal
 
-pub returns-in_err-text-clause-refused : goal.returns-in_err-text-clause-refused
-returns-in_err-text-clause-refused g c =
-    let p = err_from_is_err_and c.from_residual.result c.from_residual.ensures.1 in
-    rw (p.1, p.2) (not_read (verification g.V.Verifies.valid g.V.Verifies.refused g.V.PublicSuite.public_design
-    (binding_of c.args.key.now c.args.options.now.footer c.args.options.now.assertion)) _ c.args.token.now c.in_err-text.field-0.0 refl c.in_err-text.ensures.complete)
+pub returns-clause-printed : goal.returns-clause-printed
+returns-clause-printed g c =
+    let design = g.V.PublicSuite.public_design in
+    let bound = bound_is design.binds_assertion c.args.options.now.assertion _ c.signed_assertion-assertion.ensures.bound c.signed_assertion-assertion.ensures.none in
+    was_read _ c.args.token.now c.args.kind c.verify-answer.result c.verify-answer.ensures c.answered.result
+    (λ text. IsVerified g.V.Verifies.valid g.V.Verifies.refused design c.args.key.now c.args.options.now c.args.token.now text)
+    c.answered.ensures.read (λ text is. rw bound is)
+
+pub returns-clause-refused : goal.returns-clause-refused
+returns-clause-refused g c =
+    let design = g.V.PublicSuite.public_design in
+    let bound = bound_is design.binds_assertion c.args.options.now.assertion _ c.signed_assertion-assertion.ensures.bound c.signed_assertion-assertion.ensures.none in
+    not_read _ c.args.token.now c.args.kind c.verify-answer.result c.verify-answer.ensures c.answered.result
+    (λ text. IsVerified g.V.Verifies.valid g.V.Verifies.refused design c.args.key.now c.args.options.now c.args.token.now text)
+    c.answered.ensures.refused (λ text is. rw bound at is)

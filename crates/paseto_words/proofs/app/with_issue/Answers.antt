@@ -16,4 +16,5 @@ returns c =
     let four = adds _ _ _ _ _ three c.option-2.ensures.rule c.option-2.ensures.local c.in_ok-arg-4.ensures in
     let five = adds _ _ _ _ _ four c.footer.ensures.rule c.footer.ensures.local c.in_ok-arg-5.ensures in
     let six = adds _ _ _ _ _ five c.kid.ensures.rule c.kid.ensures.local c.in_ok-arg-6.ensures in
-    IfOk-weaker c.arg-7.result _ _ (λ new h. adds _ _ _ _ new six c.out.ensures.rule c.out.ensures.local h) c.arg-7.ensures
+    let seven = adds _ _ _ _ _ six c.assertion.ensures.rule c.assertion.ensures.local c.in_ok-arg-7.ensures in
+    IfOk-weaker c.arg-8.result _ _ (λ new h. adds _ _ _ _ new seven c.out.ensures.rule c.out.ensures.local h) c.arg-8.ensures

@@ -1,22 +1,31 @@
 use Rattle.std.proofs.Common.{inr, refl}
+use Rattle.std.proofs.lemmas.Result.{err_from_is_err_and}
 use Rattle.rusty_paseto_paserk.specs.declared.header.PaserkType.TheVariants.{Local, Public}
 use Rattle.paseto.specs.Check.{demanded}
-use Rattle.paseto.proofs.Holders.{by_this_header, no_header_by}
+use Rattle.paseto.proofs.Holders.{by_this_header, no_header_by, not_taken_by}
 use Rattle.paseto.proofs.Parsed.{no_value}
 use Rattle.paseto.proofs.commands.check.claims_by_key.Goals as goal
 
-pub returns-in-Some-default-Local-default-clause-answer : goal.returns-in-Some-default-Local-default-clause-answer
-returns-in-Some-default-Local-default-clause-answer c =
-    let arm = c.in-Some-default-Local-default in
-    by_this_header Local arm.version c.args.key.now arm.field-0-2.now (demanded c.args.demands.now).footer c.args.token.now
-    (rw arm.field-0-1-is at arm.ensures.found) c.by_local_key.result c.by_local_key.ensures.answer
+pub returns-in-Local-clause-answer : goal.returns-in-Local-clause-answer
+returns-in-Local-clause-answer c =
+    let demands = demanded c.args.demands.now in
+    by_this_header Local c.in-Some.version c.args.key.now c.in-Some.field-0-2.now demands.footer demands.assertion c.args.token.now
+    (rw c.in-Local.is at c.in-Some.ensures.found) c.by_local_key.result c.in_ok-takes.ensures.taken c.by_local_key.ensures.answer
 
-pub returns-in-Some-default-Public-default-clause-answer : goal.returns-in-Some-default-Public-default-clause-answer
-returns-in-Some-default-Public-default-clause-answer c =
-    let arm = c.in-Some-default-Public-default in
-    by_this_header Public arm.version c.args.key.now arm.field-0-2.now (demanded c.args.demands.now).footer c.args.token.now
-    (rw arm.field-0-1-is at arm.ensures.found) c.by_public_key.result c.by_public_key.ensures.answer
+pub returns-in-Public-clause-answer : goal.returns-in-Public-clause-answer
+returns-in-Public-clause-answer c =
+    let demands = demanded c.args.demands.now in
+    by_this_header Public c.in-Some.version c.args.key.now c.in-Some.field-0-2.now demands.footer demands.assertion c.args.token.now
+    (rw c.in-Public.is at c.in-Some.ensures.found) c.by_public_key.result c.in_ok-takes.ensures.taken c.by_public_key.ensures.answer
 
-pub returns-in-None-clause-answer : goal.returns-in-None-clause-answer
-returns-in-None-clause-answer c =
-    no_value _ _ (inr (no_header_by c.args.key.now (demanded c.args.demands.now).footer c.args.token.now (c.in-None.ensures.none refl)))
+pub returns-in_err-takes-clause-answer : goal.returns-in_err-takes-clause-answer
+returns-in_err-takes-clause-answer c =
+    let p = err_from_is_err_and c.from_residual.result c.from_residual.ensures.1 in
+    let demands = demanded c.args.demands.now in
+    rw (p.1, p.2) (no_value _ _ (inr (not_taken_by c.in-Some.kind c.in-Some.version c.args.key.now c.in-Some.field-0-2.now demands.footer demands.assertion c.args.token.now
+    c.in-Some.ensures.found c.in_err-takes.ensures.refused.1)))
+
+pub returns-in_default-clause-answer : goal.returns-in_default-clause-answer
+returns-in_default-clause-answer c =
+    let demands = demanded c.args.demands.now in
+    no_value _ _ (inr (no_header_by c.args.key.now demands.footer demands.assertion c.args.token.now (c.in_default.ensures.none refl)))

@@ -1,8 +1,8 @@
-use Rattle.paseto_xchacha20poly1305.specs.Sealing.{box_sealing}
+use Rattle.std.proofs.Common.{None, false, refl}
 use Rattle.rusty_paseto_core.specs.Local.Boxed.{box_opening}
-use Rattle.std.proofs.Common.{false, refl}
 use Rattle.rusty_paseto_paserk.specs.declared.header.PaserkVersion.TheVariants.{V2}
 use Rattle.rusty_paseto_paserk.specs.declared.header.PaserkType.TheVariants.{Local}
+use Rattle.paseto_xchacha20poly1305.specs.Sealing.{box_sealing}
 use Rattle.paseto.specs.Check.{demanded}
 use Rattle.paseto.proofs.Parsed.{parses, same_binding}
 use Rattle.paseto.proofs.commands.check.unboxed.Goals as goal
@@ -11,7 +11,8 @@ pub returns-clause-answer : goal.returns-clause-answer
 returns-clause-answer c =
     let key = c.in_ok-key.ensures in
     let made = c.reader-parser.ensures in
-    parses (box_opening box_sealing) Local V2 c.args.key.now (demanded c.args.demands.now).footer c.args.token.now c.in_ok-key.key
+    let demands = demanded c.args.demands.now in
+    parses (box_opening box_sealing) Local V2 c.args.key.now demands.footer demands.assertion c.args.token.now c.in_ok-key.key
     (record { bytes = key.bytes; is_key = key.form; is_writing = key.written }) _ _
-    (same_binding _ c.reader-parser.result.parser.footer _ false _ refl made.footer) made.rules
+    (same_binding _ c.reader-parser.result.parser.footer None demands.assertion false _ refl made.footer) made.rules
     c.parsed.result c.parse.result c.parsed.ensures.value c.parsed.ensures.refused c.parse.ensures

@@ -10,7 +10,7 @@ returns-clause-found g c =
     let key = c.in_ok-key.ensures in
     let builder = c.in_ok-builder.builder in
     let made = c.in_ok-builder.ensures in
-    boxes_found (ordered c.args.order.now) (held builder.builder.claims) (counting builder.keys) builder.builder.paseto.footer builder.builder.paseto.implicit_assertion
+    boxes_found (ordered c.args.order.now) (held builder.builder.claims) (counting builder.keys) builder.builder.paseto.footer builder.builder.paseto.implicit_assertion _
     made.claims made.keys made.footer made.assertion c.args.key.now _ c.with_line_feed.result c.build-token.result c.in_ok-built.field-0 c.in_ok-key.key
     (record { size = key.form; bytes = key.bytes; is_writing = key.written })
     c.in_ok-built.ensures.value c.build-token.ensures.repeated.ok c.build-token.ensures.ok c.with_line_feed.ensures.line
@@ -25,6 +25,6 @@ returns-in_err-built-clause-none g c =
     let p = err_from_is_err_and c.from_residual-in_err-built.result c.from_residual-in_err-built.ensures.1 in
     let builder = c.in_ok-builder.builder in
     let made = c.in_ok-builder.ensures in
-    rw (p.1, p.2) (boxes_none (ordered c.args.order.now) (held builder.builder.claims) (counting builder.keys) builder.builder.paseto.footer builder.builder.paseto.implicit_assertion
+    rw (p.1, p.2) (boxes_none (ordered c.args.order.now) (held builder.builder.claims) (counting builder.keys) builder.builder.paseto.footer builder.builder.paseto.implicit_assertion _
     made.claims made.keys made.footer made.assertion c.args.key.now _ c.build-token.result c.in_err-built.field-0.0 _ _
     c.in_err-built.ensures.refused c.build-token.ensures.err)

@@ -1,24 +1,28 @@
 use Rattle.std.proofs.Common.{inr, refl}
+use Rattle.std.proofs.lemmas.Result.{err_from_is_err_and}
 use Rattle.paseto.specs.Issue.{ordered}
-use Rattle.paseto.proofs.Issued.{local_none, no_header_issues, private_none, public_none}
+use Rattle.paseto.proofs.Issued.{local_none, no_header_issues, not_taken_issues, private_none, public_none}
 use Rattle.paseto.proofs.commands.issue.issue.Goals as goal
 
-pub returns-in-Some-default-Local-default-clause-none : goal.returns-in-Some-default-Local-default-clause-none
-returns-in-Some-default-Local-default-clause-none g c =
-    let arm = c.in-Some-default-Local-default in
-    local_none c.args.key.now (ordered c.args.order.now) arm.version arm.field-0-2.now c.by_local_key.result
-    (rw arm.field-0-1-is at arm.ensures.found) c.by_local_key.ensures.none
+pub returns-in-Local-clause-none : goal.returns-in-Local-clause-none
+returns-in-Local-clause-none g c =
+    local_none c.args.key.now (ordered c.args.order.now) c.in-Some.version c.in-Some.field-0-2.now c.by_local_key.result
+    (rw c.in-Local.is at c.in-Some.ensures.found) c.by_local_key.ensures.none
 
-pub returns-in-Some-default-Secret-default-clause-none : goal.returns-in-Some-default-Secret-default-clause-none
-returns-in-Some-default-Secret-default-clause-none g c =
-    let arm = c.in-Some-default-Secret-default in
-    private_none c.args.key.now (ordered c.args.order.now) arm.version arm.field-0-2.now c.by_private_key.result
-    (rw arm.field-0-1-is at arm.ensures.found) c.by_private_key.ensures.none
+pub returns-in-Secret-clause-none : goal.returns-in-Secret-clause-none
+returns-in-Secret-clause-none g c =
+    private_none c.args.key.now (ordered c.args.order.now) c.in-Some.version c.in-Some.field-0-2.now c.by_private_key.result
+    (rw c.in-Secret.is at c.in-Some.ensures.found) c.by_private_key.ensures.none
 
-pub returns-in-Some-default-Public-default-clause-none : goal.returns-in-Some-default-Public-default-clause-none
-returns-in-Some-default-Public-default-clause-none g c =
-    let arm = c.in-Some-default-Public-default in
-    inr (public_none c.args.key.now (ordered c.args.order.now) arm.version arm.field-0-2.now (rw arm.field-0-1-is at arm.ensures.found))
+pub returns-in-Public-clause-none : goal.returns-in-Public-clause-none
+returns-in-Public-clause-none g c =
+    inr (public_none c.args.key.now (ordered c.args.order.now) c.in-Some.version c.in-Some.field-0-2.now (rw c.in-Public.is at c.in-Some.ensures.found))
 
-pub returns-in-None-clause-none : goal.returns-in-None-clause-none
-returns-in-None-clause-none g c = inr (no_header_issues c.args.key.now (ordered c.args.order.now) (c.in-None.ensures.none refl))
+pub returns-in_err-takes-clause-none : goal.returns-in_err-takes-clause-none
+returns-in_err-takes-clause-none g c =
+    let p = err_from_is_err_and c.from_residual.result c.from_residual.ensures.1 in
+    rw (p.1, p.2) (inr (not_taken_issues c.args.key.now (ordered c.args.order.now) c.in-Some.version c.in-Some.field-0-2.now c.in-Some.kind
+    c.in-Some.ensures.found c.in_err-takes.ensures.refused.1))
+
+pub returns-in_default-clause-none : goal.returns-in_default-clause-none
+returns-in_default-clause-none g c = inr (no_header_issues c.args.key.now (ordered c.args.order.now) (c.in_default.ensures.none refl))

@@ -1,4 +1,6 @@
+use Rattle.std.proofs.Common.{Bool, ap, sym}
 use Rattle.std.proofs.lemmas.Result.{err_from_is_err_and}
+use Rattle.paseto_tasks.specs.Arguments.{assertion_where, binds_in}
 use Rattle.rusty_paseto.specs.Held.{counting}
 use Rattle.rusty_paseto_generic.specs.Builders.Held.{held}
 use Rattle.paseto.specs.Issue.{ordered}
@@ -11,7 +13,9 @@ returns-clause-found g c =
     let builder = c.in_ok-builder.builder in
     let made = c.in_ok-builder.ensures in
     seals_found (ordered c.args.order.now) (held builder.builder.claims) (counting builder.keys) builder.builder.paseto.footer builder.builder.paseto.implicit_assertion
-    made.claims made.keys made.footer made.assertion g.V.KeyVersion.paserk g.V.LocalSuite.design c.args.key.now _ c.with_line_feed.result c.build.result c.in_ok-built.field-0 c.in_ok-key.key
+    (assertion_where (binds_in g.V.KeyVersion.paserk) (ordered c.args.order.now).assertion) made.claims made.keys made.footer made.assertion g.V.KeyVersion.paserk g.V.LocalSuite.design c.args.key.now _
+    c.with_line_feed.result c.build.result c.in_ok-built.field-0 c.in_ok-key.key
+    (ap (λ (b : Bool). assertion_where b (ordered c.args.order.now).assertion) (sym c.requires))
     (record { size = key.form; bytes = key.bytes; is_writing = key.written })
     c.in_ok-built.ensures.value c.build.ensures.repeated.ok c.build.ensures.ok c.with_line_feed.ensures.line
 
@@ -26,5 +30,5 @@ returns-in_err-built-clause-none g c =
     let builder = c.in_ok-builder.builder in
     let made = c.in_ok-builder.ensures in
     rw (p.1, p.2) (seals_none (ordered c.args.order.now) (held builder.builder.claims) (counting builder.keys) builder.builder.paseto.footer builder.builder.paseto.implicit_assertion
-    made.claims made.keys made.footer made.assertion g.V.KeyVersion.paserk g.V.LocalSuite.design c.args.key.now c.build.result c.in_err-built.field-0.0 _
+    (assertion_where (binds_in g.V.KeyVersion.paserk) (ordered c.args.order.now).assertion) made.claims made.keys made.footer made.assertion g.V.KeyVersion.paserk g.V.LocalSuite.design c.args.key.now c.build.result c.in_err-built.field-0.0 _
     c.in_err-built.ensures.refused c.build.ensures.err)

@@ -1,4 +1,6 @@
+use Rattle.std.proofs.Common.{Bool, ap, sym}
 use Rattle.std.proofs.lemmas.Result.{err_from_is_err_and}
+use Rattle.paseto_tasks.specs.Arguments.{assertion_where, binds_in}
 use Rattle.rusty_paseto.specs.Held.{counting}
 use Rattle.rusty_paseto_core.specs.declared.PasetoError.{PasetoError}
 use Rattle.rusty_paseto_generic.specs.Builders.Held.{held}
@@ -11,8 +13,9 @@ returns-clause-found g c =
     let builder = c.in_ok-builder.builder in
     let made = c.in_ok-builder.ensures in
     signs_found (ordered c.args.order.now) (held builder.builder.claims) (counting builder.keys) builder.builder.paseto.footer builder.builder.paseto.implicit_assertion
-    made.claims made.keys made.footer made.assertion g.V.Signs.valid (g.V.Signs.declined c.args.key.now) g.V.PublicSuite.public_design c.args.key.now
-    (g.V.Signs.partner c.args.key.now) c.with_line_feed.result c.build.result c.in_ok-built.field-0
+    (assertion_where (binds_in g.V.KeyVersion.paserk) (ordered c.args.order.now).assertion) made.claims made.keys made.footer made.assertion g.V.Signs.valid
+    (g.V.Signs.declined c.args.key.now) g.V.PublicSuite.public_design c.args.key.now (g.V.Signs.partner c.args.key.now)
+    c.with_line_feed.result c.build.result c.in_ok-built.field-0 (ap (λ (b : Bool). assertion_where b (ordered c.args.order.now).assertion) (sym c.requires))
     c.in_ok-built.ensures.value c.build.ensures.repeated.ok c.build.ensures.answer c.with_line_feed.ensures.line
 
 pub returns-in_err-builder-clause-none : goal.returns-in_err-builder-clause-none
@@ -27,5 +30,6 @@ returns-in_err-built-clause-none g c = λ length.
     let builder = c.in_ok-builder.builder in
     let made = c.in_ok-builder.ensures in
     rw (p.1, p.2) (signs_none (ordered c.args.order.now) (held builder.builder.claims) (counting builder.keys) builder.builder.paseto.footer builder.builder.paseto.implicit_assertion
-    made.claims made.keys made.footer made.assertion g.V.Signs.valid g.V.Signs.declined g.V.Signs.partner g.V.PublicSuite.public_design c.args.key.now
-    c.build.result c.in_err-built.field-0.0 c.in_err-built.ensures.refused c.build.ensures.answer length)
+    (assertion_where (binds_in g.V.KeyVersion.paserk) (ordered c.args.order.now).assertion) made.claims made.keys made.footer made.assertion g.V.Signs.valid g.V.Signs.declined g.V.Signs.partner g.V.PublicSuite.public_design c.args.key.now
+    c.build.result c.in_err-built.field-0.0 (ap (λ (b : Bool). assertion_where b (ordered c.args.order.now).assertion) (sym c.requires))
+    c.in_err-built.ensures.refused c.build.ensures.answer length)

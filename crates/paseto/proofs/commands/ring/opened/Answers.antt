@@ -13,12 +13,12 @@ pub returns-in_err-ring-clause-answer : goal.returns-in_err-ring-clause-answer
 returns-in_err-ring-clause-answer g c =
     let p = err_from_is_err_and c.from_residual.result c.from_residual.ensures.1 in
     rw (p.1, p.2) (no_value _ _ (no_keys (IsKeyOf Local g.V.KeyVersion.paserk) Local g.V.KeyVersion.paserk (opening g.V.LocalSuite.design) (words_of c.args.lines.now)
-    (demanded c.args.demands.now).footer c.args.token.now c.in_err-ring.field-0.0 (λ key is. is) c.in_err-ring.ensures.none))
+    (demanded c.args.demands.now).footer (demanded c.args.demands.now).assertion c.args.token.now c.in_err-ring.field-0.0 (λ key is. is) c.in_err-ring.ensures.none))
 
 pub returns-clause-answer : goal.returns-clause-answer
 returns-clause-answer g c =
     let made = c.reader-parser.ensures in
     let held = c.reader-parser.result.parser in
-    ring_parses (opening g.V.LocalSuite.design) Local g.V.KeyVersion.paserk (words_of c.args.lines.now) (demanded c.args.demands.now).footer c.args.token.now
-    c.in_ok-ring.ensures.found.0 (keys_of c.in_ok-ring.ring) held.footer g.V.LocalSuite.design.binds_assertion held.implicit_assertion _ c.in_ok-ring.ensures.found.1 c.in_ok-ring.ensures.found.2 made.assertion made.footer made.rules
+    ring_parses (opening g.V.LocalSuite.design) Local g.V.KeyVersion.paserk (words_of c.args.lines.now) (demanded c.args.demands.now).footer (demanded c.args.demands.now).assertion c.args.token.now
+    c.in_ok-ring.ensures.found.0 (keys_of c.in_ok-ring.ring) held.footer g.V.LocalSuite.design.binds_assertion held.implicit_assertion _ c.in_ok-ring.ensures.found.1 c.in_ok-ring.ensures.found.2 c.requires made.assertion made.footer made.rules
     c.found.result c.parse.result c.found.ensures.value c.found.ensures.refused c.parse.ensures

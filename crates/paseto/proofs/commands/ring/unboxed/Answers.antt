@@ -13,6 +13,6 @@ pub returns-clause-answer : goal.returns-clause-answer
 returns-clause-answer c =
     let made = c.reader-parser.ensures in
     let held = c.reader-parser.result.parser in
-    ring_parses (box_opening box_sealing) Local V2 (words_of c.args.lines.now) (demanded c.args.demands.now).footer c.args.token.now
-    c.in_ok-ring.ensures.found.0 (keys_of c.in_ok-ring.ring) held.footer false None _ c.in_ok-ring.ensures.found.1 c.in_ok-ring.ensures.found.2 refl made.footer made.rules
+    ring_parses (box_opening box_sealing) Local V2 (words_of c.args.lines.now) (demanded c.args.demands.now).footer (demanded c.args.demands.now).assertion c.args.token.now
+    c.in_ok-ring.ensures.found.0 (keys_of c.in_ok-ring.ring) held.footer false None _ c.in_ok-ring.ensures.found.1 c.in_ok-ring.ensures.found.2 refl refl made.footer made.rules
     c.found.result c.parse.result c.found.ensures.value c.found.ensures.refused c.parse.ensures

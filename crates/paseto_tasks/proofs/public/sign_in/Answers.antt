@@ -1,0 +1,19 @@
+use Rattle.paseto_tasks.proofs.public.sign_in.Goals as goal
+
+pub returns-in-V2-clause-printed : goal.returns-in-V2-clause-printed
+returns-in-V2-clause-printed g c = rw c.in-V2.is c.sign_by.ensures.printed
+
+pub returns-in-V2-clause-refused : goal.returns-in-V2-clause-refused
+returns-in-V2-clause-refused g c = rw c.in-V2.is c.sign_by.ensures.refused
+
+pub returns-in-V3-clause-printed : goal.returns-in-V3-clause-printed
+returns-in-V3-clause-printed g c = rw c.in-V3.is c.sign_by-in-V3.ensures.printed
+
+pub returns-in-V3-clause-refused : goal.returns-in-V3-clause-refused
+returns-in-V3-clause-refused g c = rw c.in-V3.is c.sign_by-in-V3.ensures.refused
+
+pub returns-in-V4-clause-printed : goal.returns-in-V4-clause-printed
+returns-in-V4-clause-printed g c = rw c.in-V4.is c.sign_by-in-V4.ensures.printed
+
+pub returns-in-V4-clause-refused : goal.returns-in-V4-clause-refused
+returns-in-V4-clause-refused g c = rw c.in-V4.is c.sign_by-in-V4.ensures.refused
