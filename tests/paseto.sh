@@ -303,6 +303,16 @@ refuses "the public half of halves of two keys" 1 "" "mixed.secret: $bad_key" pu
 echo k3.secret.AAAAAAAAAAAAAAAAAAAAAAAAAAAAAAAAAAAAAAAAAAAAAAAAAAAAAAAAAAAAAAAAAAAA >zero.secret
 refuses "the public half of 0" 1 "" "zero.secret: $bad_key" public --key zero.secret
 
+# -- keys among the words
+
+key_word='a key is among the words, where others can see it: name the file that holds it'
+for words in "encrypt --key $(cat v4.local)" "sign --key $(cat v4.secret)" "keygen $(cat v4.local)" "$(cat v4.secret)" \
+    "check --ring $(cat v4.local)" "encrypt --key v4.local $(cat v4.local)" "nothing $(cat v4.secret)"; do
+    # shellcheck disable=SC2086
+    refuses "the words ${words:0:20}" 2 hello "$key_word" $words
+done
+refuses "a public key in place of its file" 3 hello "$(cat v4.public): $no_file" verify --key "$(cat v4.public)"
+
 # -- keys from elsewhere
 
 is "a key of the environment" "$(printf hello | PASETO_KEY=$(cat v4.local) "$program" encrypt | "$program" decrypt --key v4.local)" hello

@@ -70,6 +70,16 @@ in_words_of A B into back (Err error) is = no_value B error (elim is.none [
   | inr none ↦ inr (λ value so. none value (back value so))
 ])
 
+-- the same answer, but for an error that is told in other words
+pub in_other_error : (Is : Data → Type 0) (answer result : Result Value ProgramError) → IfOk result (λ value. answer ≡ Ok value)
+    → IfErr result (λ error. IsErrAnd answer (λ source. IsOutside source → IsOutside error)) → IsTheValue Is answer → IsTheValue Is result
+in_other_error Is answer (Ok value) same kept is = rw same at is
+in_other_error Is (Ok value) (Err error) same kept is = absurd kept
+in_other_error Is (Err source) (Err error) same kept is = no_value Is error (elim is.none [
+  | inl outside ↦ inl (kept outside)
+  | inr none ↦ inr none
+])
+
 -- where something is known beside
 pub beside : (result : Result Value ProgramError) (R : Type 0) (P : Data → Type 0) → R → IsTheValue P result → IsTheValue (λ value. R × P value) result
 beside result R P r = in_words_of P (λ value. R × P value) (λ value is. (r, is)) (λ value both. both.1) result

@@ -18,6 +18,7 @@ use keys::{key_line, key_name};
 use paseto_tasks::run::{run_id, run_inspect};
 use paseto_tasks::{Names, ProgramError, Task};
 use paseto_words::{Action, parse, status};
+use rusty_paseto_paserk::{PaserkType, header_of};
 use std::env;
 use std::process::ExitCode;
 
@@ -37,8 +38,11 @@ fn words(rt: &HostRuntime) -> Result<Vec<String>, ProgramError> {
     }
 }
 
-/// Does what the words ask for, and returns the status.
+/// Does what the words ask for, and returns the status. No line repeats a key that stands among them by mistake.
 fn serve(rt: &HostRuntime, words: &[String]) -> u8 {
+    if words.iter().any(|word| is_secret(word.as_str())) {
+        return Fault::from(ProgramError::KeyWord).report(rt);
+    }
     match parse(rt.alloc(), words) {
         Ok(action) => match done(rt, &action) {
             Ok(status) => status,
@@ -46,6 +50,14 @@ fn serve(rt: &HostRuntime, words: &[String]) -> u8 {
         },
         Err(error) => shown(rt, &error),
     }
+}
+
+/// Whether a word begins as a key that is to be kept secret.
+fn is_secret(word: &str) -> bool {
+    matches!(
+        header_of(word),
+        Some((_, PaserkType::Local | PaserkType::Secret, _))
+    )
 }
 
 /// Shows help, the version, or why the words are refused, and returns the status.

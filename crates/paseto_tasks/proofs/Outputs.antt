@@ -7,21 +7,11 @@ use Rattle.rusty_paseto_paserk.specs.declared.error.PaserkError.TheVariants.{NoK
 use Rattle.paseto_tasks.specs.declared.arguments.Options.{Options}
 use Rattle.paseto_tasks.specs.declared.arguments.Task.{Task}
 use Rattle.paseto_tasks.specs.declared.error.ProgramError.{ProgramError}
-use Rattle.paseto_tasks.specs.declared.error.ProgramError.TheVariants.{Usage, NoKind, NoHalf, NoKey, OneInput, Claim, TimeClaim, Time, Key, TooLong, Refused, OtherKind, NoAssertion, OtherFooter, Unfit, NoFile, NoAccess, FileExists, Clock, Random, InputOrOutput, Memory}
+use Rattle.paseto_tasks.specs.declared.error.ProgramError.TheVariants.{Usage, KeyWord, NoKind, NoHalf, NoKey, OneInput, Claim, TimeClaim, Time, Key, TooLong, Refused, OtherKind, NoAssertion, OtherFooter, Unfit, NoFile, NoAccess, FileExists, Clock, Random, InputOrOutput, Memory}
 use Rattle.paseto_tasks.specs.Error.{status_of}
-use Rattle.paseto_tasks.specs.Output.{IsCutShort, IsLeftOf}
+use Rattle.paseto_streams.specs.Output.{IsCutShort}
+use Rattle.paseto_tasks.specs.Output.{IsLeftOf}
 use Rattle.paseto_tasks.specs.Run.{Prints, Writes}
-
-front_of_all : (front rest : List ℕ) → StartsWith (front ++ rest) front
-front_of_all [] rest = refl
-front_of_all (b ∷ front) rest = ap (λ (bytes : List ℕ). b ∷ bytes) (front_of_all front rest)
-
--- what was written before a write that took nothing
-pub cut_short : {T E : Type 0} (result : Result T E) (bytes written rest : List ℕ) (a b c : Option (List ℕ)) → Appends a b written
-    → bytes ≡ written ++ rest → 0 < length rest → Keeps b c → OnErr result ((x : List ℕ) × IsCutShort bytes x × Appends a c x)
-cut_short (Ok value) bytes written rest a b c whole same more kept = tt
-cut_short (Err error) bytes written rest a b c whole same more kept =
-    (written, record { beginning = rw same (front_of_all written rest); shorter = rw (same, length-append) (omega arith) }, Appends-kept a b c written whole kept)
 
 -- what holds of every value holds of the one that is known
 pub IfSome-all : {X : Type 0} (known : Option X) (P : X → Type 0) → ((x : X) → P x) → IfSome known P
@@ -39,6 +29,7 @@ left_of_made (Err error) IsOutput left printed (inr cut) = absurd cut.1
 -- no error ends the program with the status of success
 pub status_of-some : (error : ProgramError) → (status_of error == 0) ≡ false
 status_of-some Usage = refl
+status_of-some KeyWord = refl
 status_of-some NoKind = refl
 status_of-some NoHalf = refl
 status_of-some NoKey = refl

@@ -3,13 +3,14 @@ use Rattle.std.proofs.Common.{◌≡◌, ◌≢◌, ◌⊎◌, ℕ, ◌==◌, fa
 use Rattle.std.proofs.lemmas.Bool.{false≢true}
 use Rattle.rusty_paseto_paserk.specs.declared.error.PaserkError.TheVariants.{Memory as NoKeyMemory}
 use Rattle.paseto_tasks.specs.declared.error.ProgramError.{ProgramError}
-use Rattle.paseto_tasks.specs.declared.error.ProgramError.TheVariants.{Usage, NoKind, NoHalf, NoKey, OneInput, Claim, TimeClaim, Time, Key, Unfit, Clock, Random, InputOrOutput, Memory}
+use Rattle.paseto_tasks.specs.declared.error.ProgramError.TheVariants.{Usage, KeyWord, NoKind, NoHalf, NoKey, OneInput, Claim, TimeClaim, Time, Key, Unfit, Clock, Random, InputOrOutput, Memory}
 use Rattle.paseto_tasks.specs.Error.{IsCauseOf, IsFixed, IsNoRefusal, IsNoUsage, IsOutside, status_of}
 
 -- ---- 2
 
 no_2 : (error : ProgramError) → IsNoUsage error → (status_of error == 2) ≡ false
 no_2 Usage none = absurd none
+no_2 KeyWord none = absurd none
 no_2 NoKind none = absurd none
 no_2 NoHalf none = absurd none
 no_2 NoKey none = absurd none
@@ -65,6 +66,7 @@ no_usage_or error (inr x) = inr x
 
 no_1 : (error : ProgramError) → IsNoRefusal error → (status_of error == 1) ≡ false
 no_1 Usage none = refl
+no_1 KeyWord none = refl
 no_1 NoKind none = refl
 no_1 NoHalf none = refl
 no_1 NoKey none = refl

@@ -14,11 +14,12 @@ use Rattle.paseto_tasks.specs.declared.error.TimeOption.TheVariants.{Expires, No
 use Rattle.paseto_tasks.specs.declared.token_kind.TokenKind.{TokenKind}
 use Rattle.paseto_tasks.specs.TokenKind.{NamesKind, kind_text}
 use Rattle.paseto_tasks.specs.declared.error.ProgramError.{ProgramError}
-use Rattle.paseto_tasks.specs.declared.error.ProgramError.TheVariants.{Usage, NoKind, NoHalf, NoKey, OneInput, Claim, TimeClaim, Time, Key, TooLong, Refused, OtherKind, NoAssertion, OtherFooter, Unfit, NoFile, NoAccess, FileExists, Clock, Random, InputOrOutput, Memory}
+use Rattle.paseto_tasks.specs.declared.error.ProgramError.TheVariants.{Usage, KeyWord, NoKind, NoHalf, NoKey, OneInput, Claim, TimeClaim, Time, Key, TooLong, Refused, OtherKind, NoAssertion, OtherFooter, Unfit, NoFile, NoAccess, FileExists, Clock, Random, InputOrOutput, Memory}
 
 -- 2 for words that ask for nothing, 1 for what is refused, and 3 for what fails outside
 abbrev pub status_of : ProgramError → ℕ
 status_of Usage = 2
+status_of KeyWord = 2
 status_of NoKind = 2
 status_of NoHalf = 2
 status_of NoKey = 2
@@ -62,6 +63,7 @@ time_text Leeway = codes "--leeway: a length of time is as 5s, 30m, 12h or 7d"
 -- what each error says, which is the same whatever the words and the input are, but for what tells of a token
 abbrev pub text_of : ProgramError → List ℕ
 text_of Usage = codes "a word is no text: paseto --help tells what paseto does"
+text_of KeyWord = codes "a key is among the words, where others can see it: name the file that holds it"
 text_of NoKind = codes "no kind of key: v1.local, v2.local, v2.public, v3.local, v3.public, v4.local and v4.public are kinds"
 text_of NoHalf = codes "keys of this kind have no public half: leave --public out"
 text_of NoKey = codes "no key is named: give --key FILE, or the text of the key in PASETO_KEY"
@@ -162,6 +164,7 @@ IsOutside _ = ⊥
 -- an error that says nothing of the words, so that the program does not end with status 2
 abbrev pub IsNoUsage : ProgramError → Type 0
 IsNoUsage Usage = ⊥
+IsNoUsage KeyWord = ⊥
 IsNoUsage NoKind = ⊥
 IsNoUsage NoHalf = ⊥
 IsNoUsage NoKey = ⊥
@@ -184,6 +187,7 @@ IsCauseOf made error = IsErrAnd made (λ cause. cause ≡ error) ⊎ (error ≡ 
 -- an error of the words or from outside, which refuses no key, text or token, so that the program does not end with status 1
 abbrev pub IsNoRefusal : ProgramError → Type 0
 IsNoRefusal Usage = ⊤
+IsNoRefusal KeyWord = ⊤
 IsNoRefusal NoKind = ⊤
 IsNoRefusal NoHalf = ⊤
 IsNoRefusal NoKey = ⊤

@@ -1,10 +1,6 @@
--- What is known of an input that was read to its end.
-use Rattle.std.specs.Prelude.{◌≡◌, ℕ, ◌<◌, ◌⊎◌, List, length, Option, IfSome, IsUtf8}
+-- The line of an input.
+use Rattle.std.specs.Prelude.{ℕ, ◌<◌, ◌⊎◌, List, length, IsUtf8}
 use Rattle.std.specs.Io.BufRead.{strip_last}
-
--- where the bytes of the input are known, they are these
-abbrev pub IsInput : Option (List ℕ) → List ℕ → Type 0
-IsInput known bytes = IfSome known (λ all. bytes ≡ all)
 
 -- the line that an input is: without the line feed at its end, where it has one
 abbrev pub line_of_input : List ℕ → List ℕ

@@ -1,15 +1,10 @@
 -- The line that is printed, and what a write that fails leaves of it.
-use Rattle.std.specs.Prelude.{◌≡◌, ◌⊎◌, ℕ, ◌<◌, List, [], ◌∷◌, ◌++◌, length}
-use Rattle.std.specs.Io.{StartsWith}
+use Rattle.std.specs.Prelude.{◌≡◌, ◌⊎◌, ℕ, List, [], ◌∷◌, ◌++◌}
+use Rattle.paseto_streams.specs.Output.{IsCutShort}
 
 -- the line is that of a text
 abbrev pub IsLineOf : List ℕ → List ℕ → Type 0
 IsLineOf text line = line ≡ text ++ (10 ∷ [])
-
--- a beginning of the output, and not all of it
-pub record IsCutShort (output written : List ℕ) : Type 0 where
-  pub beginning : StartsWith output written
-  pub shorter : length written < length output
 
 -- what is written of an output that is not written whole: nothing, or the output cut short
 abbrev pub IsLeftOf : (List ℕ → Type 0) → List ℕ → Type 0

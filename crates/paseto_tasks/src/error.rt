@@ -7,10 +7,11 @@ ghost use Rattle.std.specs.Io.KnownBytes.{Appends};
 ghost use Rattle.std.specs.IoError.{error_kind};
 ghost use Rattle.rusty_paseto_parts.specs.declared.error.PasetoError.TheVariants.{Utf8Error as NotUtf8};
 ghost use Rattle.paseto_tasks.specs.declared.error.ProgramError.TheVariants.{InputOrOutput, Memory, Refused};
-ghost use Rattle.paseto_tasks.specs.Error.{IsFixed, IsTokenError, about_of, colon_behind, file_error, joined, key_error_of, line_of, program_error_of, refusal_about, refusal_text, status_of, text_of, time_text, words_error};
+ghost use Rattle.paseto_tasks.specs.Error.{IsFixed, IsOutside, IsTokenError, about_of, colon_behind, file_error, joined, key_error_of, line_of, program_error_of, refusal_about, refusal_text, status_of, text_of, time_text, words_error};
 
 use crate::output::write_whole;
 use crate::token_kind::TokenKind;
+use paseto_streams::StreamError;
 use rusty_paseto_core::PasetoError;
 use rusty_paseto_paserk::PaserkError;
 use std::alloc::{AllocError, AllocFailed};
@@ -22,6 +23,8 @@ use std::str::Utf8Error;
 pub enum ProgramError {
     /// A word is no text.
     Usage,
+    /// A word is a key.
+    KeyWord,
     /// A word names no kind of key.
     NoKind,
     /// Keys of the kind that is named have no public half.
@@ -95,6 +98,8 @@ impl ProgramError {
     {
         match self {
             ProgramError::Usage => "a word is no text: paseto --help tells what paseto does",
+            ProgramError::KeyWord =>
+                "a key is among the words, where others can see it: name the file that holds it",
             ProgramError::NoKind =>
                 "no kind of key: v1.local, v2.local, v2.public, v3.local, v3.public, v4.local and v4.public are kinds",
             ProgramError::NoHalf => "keys of this kind have no public half: leave --public out",
@@ -175,6 +180,7 @@ impl ProgramError {
     {
         match self {
             ProgramError::Usage
+            | ProgramError::KeyWord
             | ProgramError::NoKind
             | ProgramError::NoHalf
             | ProgramError::NoKey
@@ -371,6 +377,17 @@ impl From<io::Error> for ProgramError {
 
     fn from(_source: io::Error) -> ProgramError {
         ProgramError::InputOrOutput
+    }
+}
+
+impl From<StreamError> for ProgramError {
+    ghost from_gives = { λ _ error. IsOutside error × IsFixed error };
+
+    fn from(source: StreamError) -> ProgramError {
+        match source {
+            StreamError::InputOrOutput => ProgramError::InputOrOutput,
+            StreamError::Memory(source) => ProgramError::Memory(source),
+        }
     }
 }
 

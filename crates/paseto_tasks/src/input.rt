@@ -1,45 +1,19 @@
-//! Reading the whole input, and the text of a key file.
+//! The text of the input, and that of a key file.
 
 ghost use Rattle.std.specs.Prelude.{◌≡◌, ◌<◌, ◌⊎◌, IfOk, IfErr, IfSome, OnOk, length, string_bytes, IsUtf8};
-ghost use Rattle.std.specs.Io.KnownBytes.{IsAtEnd};
 ghost use Rattle.paseto_tasks.specs.Error.{IsFixed, IsNoUsage, IsOutside};
-ghost use Rattle.paseto_tasks.specs.Input.{IsInput, IsNoKeyFile, line_of_input};
+ghost use Rattle.paseto_tasks.specs.Input.{IsNoKeyFile, line_of_input};
+ghost use Rattle.paseto_streams.specs.Input.{IsInput};
 
 use crate::error::ProgramError;
+use paseto_streams::read_whole;
 use rusty_paseto_paserk::PaserkError;
 use std::alloc::Global;
 use std::io::Read;
 use std::str;
 
-/// How many bytes are asked for at first, and at most. Each read asks for twice as many as the one
-/// before, so that a long input takes few reads.
-const SHORTEST: usize = 4096;
-
-const LONGEST: usize = 65536;
-
 /// How many bytes a key file has at most. The longest line of a key has fewer than 100.
 const LIMIT: usize = 1024;
-
-/// The bytes of the input, up to its end, which is the first read that gives none.
-///
-/// Each other read lengthens the bytes that are kept, so this ends for every reader.
-fn read_whole<R: Read>(alloc: Global, input: &mut R) -> Result<Vec<u8>, ProgramError>
-    ensures whole { IfOk result (λ bytes. IsInput (R.remaining input.old) bytes.items) }
-    ensures ended { OnOk result (IsAtEnd (R.remaining input.new)) }
-    ensures failed { IfErr result IsOutside }
-{
-    let mut bytes = Vec::new(alloc);
-    let mut space = [0u8; LONGEST];
-    let mut asked = SHORTEST;
-    'reads: loop {
-        let count = input.read(&mut space[..asked])?;
-        if count == 0 {
-            return Ok(bytes);
-        }
-        bytes.extend_from_slice(&space[..count])?;
-        asked = LONGEST.min(2 * asked);
-    }
-}
 
 /// The text that the input is. One that is not UTF-8 is refused.
 pub fn read_text<R: Read>(alloc: Global, input: &mut R) -> Result<String, ProgramError>

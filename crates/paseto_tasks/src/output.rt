@@ -3,7 +3,8 @@
 ghost use Rattle.std.specs.Prelude.{◌≡◌, ℕ, List, IfErr, IfOk, OnErr, OnOk, string_bytes};
 ghost use Rattle.std.specs.Io.KnownBytes.{Appends};
 ghost use Rattle.paseto_tasks.specs.Error.{IsOutside};
-ghost use Rattle.paseto_tasks.specs.Output.{IsCutShort, IsLineOf};
+ghost use Rattle.paseto_tasks.specs.Output.{IsLineOf};
+ghost use Rattle.paseto_streams.specs.Output.{IsCutShort};
 
 use crate::error::ProgramError;
 use std::io::Write;
@@ -17,15 +18,10 @@ pub fn write_whole<W: Write>(output: &mut W, bytes: &[u8]) -> Result<(), Program
         × Appends (W.contents output.old) (W.contents output.new) written) }
     ensures failed { IfErr result (λ error. error ≡ ProgramError.InputOrOutput) }
 {
-    let mut rest = bytes;
-    'writes: while !rest.is_empty() {
-        let count = output.write(rest)?;
-        if count == 0 {
-            return Err(ProgramError::InputOrOutput);
-        }
-        rest = &rest[count..];
+    match paseto_streams::write_whole(output, bytes) {
+        Ok(()) => Ok(()),
+        Err(_) => Err(ProgramError::InputOrOutput),
     }
-    Ok(())
 }
 
 /// A text and a line feed.

@@ -8,7 +8,7 @@ use Rattle.paseto_tool.specs.declared.version.Version.{Version}
 use Rattle.paseto_tool.specs.Version.{design_of}
 use Rattle.paseto_tool.specs.Arguments.{IsDigits}
 use Rattle.paseto_tool.specs.Arguments.{AsksToInspect, AsksToSeal, AsksToOpen, IsUsageFault}
-use Rattle.paseto_tool.specs.Output.{IsCutShort}
+use Rattle.paseto_streams.specs.Output.{IsCutShort}
 use Rattle.paseto_tool.specs.Inspect.{Inspects, IsInspectionReason}
 use Rattle.paseto_tool.specs.Seal.{IsSealingReason}
 use Rattle.paseto_tool.specs.Open.{IsOpeningReason}

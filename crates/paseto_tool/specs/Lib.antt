@@ -1,6 +1,4 @@
 pub mod Error
-pub mod Input
-pub mod Output
 pub mod Inspect
 pub mod Version
 pub mod Arguments

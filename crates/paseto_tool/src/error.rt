@@ -6,9 +6,10 @@ ghost use Rattle.rusty_paseto_parts.specs.declared.error.PasetoError.TheVariants
 ghost use Rattle.std.specs.IoError.{error_kind};
 ghost use Rattle.std.specs.Io.{StartsWith};
 ghost use Rattle.std.specs.Io.KnownBytes.{Appends};
-ghost use Rattle.paseto_tool.specs.Error.{line_of, status_of, text_of, tool_error_of, words_error};
+ghost use Rattle.paseto_tool.specs.Error.{IsOutside, line_of, status_of, text_of, tool_error_of, words_error};
 
 use crate::output::write_whole;
+use paseto_streams::StreamError;
 use rusty_paseto::paseto_core::PasetoError;
 use std::alloc::AllocError;
 use std::io::{self, Write};
@@ -93,6 +94,17 @@ impl From<io::Error> for ToolError {
 
     fn from(_source: io::Error) -> ToolError {
         ToolError::InputOrOutput
+    }
+}
+
+impl From<StreamError> for ToolError {
+    ghost from_gives = { λ _ error. IsOutside error };
+
+    fn from(source: StreamError) -> ToolError {
+        match source {
+            StreamError::InputOrOutput => ToolError::InputOrOutput,
+            StreamError::Memory(source) => ToolError::Memory(source),
+        }
     }
 }
 

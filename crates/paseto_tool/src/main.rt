@@ -5,7 +5,6 @@ ghost use Rattle.std.specs.Prelude.{◌≡◌, drop};
 
 mod arguments;
 mod error;
-mod input;
 mod inspect;
 mod local_tokens;
 mod open;

@@ -7,9 +7,9 @@ ghost use Rattle.paseto_tool.specs.Open.{OpensTo, IsOpeningReason, token_of};
 
 use crate::arguments::Attachments;
 use crate::error::ToolError;
-use crate::input::read_whole;
 use crate::local_tokens::open;
 use crate::version::Version;
+use paseto_streams::read_whole;
 use rusty_paseto::paseto_core::{Key, Local, LocalVersion, PasetoSymmetricKey, V1, V3, V4};
 use std::alloc::Global;
 use std::io::Read;

@@ -2,7 +2,7 @@
 
 ghost use Rattle.std.specs.Prelude.{◌≡◌, ℕ, List, IfErr, OnErr, OnOk};
 ghost use Rattle.std.specs.Io.KnownBytes.{Appends};
-ghost use Rattle.paseto_tool.specs.Output.{IsCutShort};
+ghost use Rattle.paseto_streams.specs.Output.{IsCutShort};
 
 use crate::error::ToolError;
 use std::io::Write;
@@ -16,13 +16,8 @@ pub fn write_whole<W: Write>(output: &mut W, bytes: &[u8]) -> Result<(), ToolErr
         × Appends (W.contents output.old) (W.contents output.new) written) }
     ensures failed { IfErr result (λ error. error ≡ ToolError.InputOrOutput) }
 {
-    let mut rest = bytes;
-    'writes: while !rest.is_empty() {
-        let count = output.write(rest)?;
-        if count == 0 {
-            return Err(ToolError::InputOrOutput);
-        }
-        rest = &rest[count..];
+    match paseto_streams::write_whole(output, bytes) {
+        Ok(()) => Ok(()),
+        Err(_) => Err(ToolError::InputOrOutput),
     }
-    Ok(())
 }

@@ -7,9 +7,9 @@ ghost use Rattle.paseto_tool.specs.Seal.{Seals, IsSealingReason};
 
 use crate::arguments::Attachments;
 use crate::error::ToolError;
-use crate::input::read_whole;
 use crate::local_tokens::seal;
 use crate::version::Version;
+use paseto_streams::read_whole;
 use rusty_paseto::paseto_core::{
     Key, Local, LocalVersion, PasetoNonce, PasetoSymmetricKey, V1, V3, V4,
 };

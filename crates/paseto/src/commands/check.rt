@@ -1,6 +1,6 @@
 //! The command `check`: the claims of a token, by the default parser.
 
-ghost use Rattle.std.specs.Prelude.{◌≡◌, ◌⊎◌, None, IfErr, IfOk, OnOk, false, option_map, string_bytes, true};
+ghost use Rattle.std.specs.Prelude.{◌≡◌, ◌⊎◌, None, IfErr, IfOk, IsErrAnd, Ok, OnOk, false, option_map, string_bytes, true};
 ghost use Rattle.serde_json.specs.View.{view};
 ghost use Rattle.rusty_paseto_core.specs.Local.Opening.{opening};
 ghost use Rattle.rusty_paseto_core.specs.Public.Verifying.{verification};
@@ -24,12 +24,12 @@ use crate::commands::footer::footer_of;
 use crate::commands::ring::claims_by_ring;
 use crate::commands::times::{leeway_of, moment_of};
 use jiff::Timestamp;
-use paseto_tasks::{Options, ProgramError, Suite, TimeOption, takes};
+use paseto_tasks::{Options, ProgramError, Suite, TimeOption, TokenKind, takes};
 use paseto_xchacha20poly1305::XChaCha20Poly1305;
 use rusty_paseto::DefaultParser;
 use rusty_paseto::prelude::{
-    CheckSetter, DefaultLocalVersion, Footer, ImplicitAssertion, Local, PasetoParser, Public,
-    PurposeTrait, V1, V2, V3, V4, Verifies, VersionTrait,
+    CheckSetter, DefaultLocalVersion, Footer, ImplicitAssertion, Local, PasetoError, PasetoParser,
+    Public, PurposeTrait, V1, V2, V3, V4, Verifies, VersionTrait,
 };
 use rusty_paseto_paserk::{
     PaserkError, PaserkType, PaserkVersion, header_of, local_from_paserk, public_key_from_paserk,
@@ -220,8 +220,31 @@ fn claims_by(
     ensures no_usage { IfErr result IsNoUsage }
 {
     match keys {
-        Keys::One(key) => claims_by_key(alloc, key, demands, token),
+        Keys::One(key) => with_kinds(claims_by_key(alloc, key, demands, token), token, key),
         Keys::Ring(lines) => claims_by_ring(alloc, lines, demands, token),
+    }
+}
+
+/// The answer for a token under the key of a line. Where the token is of another kind than the key is for, it names both.
+fn with_kinds(
+    answer: Result<Value, ProgramError>,
+    token: &str,
+    key: &str,
+) -> Result<Value, ProgramError>
+    ensures value { IfOk result (λ value. answer ≡ Ok value) }
+    ensures refused { IfErr result (λ error. IsErrAnd answer
+        (λ source. IsOutside source → IsOutside error)) }
+    ensures no_usage { IfErr answer IsNoUsage → IfErr result IsNoUsage }
+{
+    let Some((version, kind, _)) = header_of(key) else {
+        return answer;
+    };
+    match answer {
+        Err(ProgramError::Refused(PasetoError::WrongHeader)) => Err(ProgramError::OtherKind(
+            TokenKind::of(token),
+            TokenKind::read_by(version, kind),
+        )),
+        answer => answer,
     }
 }
 

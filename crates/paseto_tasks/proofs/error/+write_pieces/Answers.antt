@@ -1,7 +1,7 @@
 use Rattle.std.proofs.Common.{◌≡◌, ◌∷◌, ◌-◌, length, take, drop, sym, ◌∙◌}
 use Rattle.paseto_tasks.specs.Arguments.{texts}
 use Rattle.paseto_tasks.proofs.Fronts.{front_and_rest}
-use Rattle.paseto_tasks.proofs.Lines.{said_line, when_ok}
+use Rattle.paseto_streams.proofs.Lines.{said_line, when_ok}
 use Rattle.paseto_tasks.proofs.error.+write_pieces.Goals as goal
 
 pub returns-then-is_ok : goal.returns-then-is_ok

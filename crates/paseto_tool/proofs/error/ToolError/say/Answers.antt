@@ -1,6 +1,6 @@
 use Rattle.std.proofs.Common.{◌≡◌, [], ◌∷◌, sym, ◌∙◌}
 use Rattle.paseto_tool.specs.Error.{text_of}
-use Rattle.paseto_tool.proofs.Lines.{said_by, said_line, when_ok}
+use Rattle.paseto_streams.proofs.Lines.{said_by, said_line, when_ok}
 use Rattle.paseto_tool.proofs.error.ToolError.say.Goals as goal
 
 pub returns-then-is_ok : goal.returns-then-is_ok

@@ -1,6 +1,6 @@
 use Rattle.std.proofs.Common.{◌≡◌, ℕ, List, ◌++◌, length}
 use Rattle.std.specs.Io.KnownBytes.{Appends}
-use Rattle.paseto_tool.proofs.output.write_whole.Given as goal
+use Rattle.paseto_streams.proofs.output.write_whole.Given as goal
 
 -- what was written and what is left are the bytes
 abbrev pub invariant-writes : goal.invariant-writes

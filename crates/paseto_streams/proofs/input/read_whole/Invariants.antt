@@ -1,6 +1,6 @@
 use Rattle.std.proofs.Common.{◌-◌, ◌^◌, ◌<◌, ◌≤◌, vec_len}
 use Rattle.std.specs.Io.KnownBytes.{Consumes}
-use Rattle.paseto_tasks.proofs.input.read_whole.Given as goal
+use Rattle.paseto_streams.proofs.input.read_whole.Given as goal
 
 -- what was read is kept, and some bytes are asked for
 abbrev pub invariant-reads : goal.invariant-reads

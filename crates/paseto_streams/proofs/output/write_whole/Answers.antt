@@ -1,8 +1,7 @@
 use Rattle.std.proofs.Common.{◌++◌, arith, take}
 use Rattle.std.proofs.KnownBytes.{Appends-trans}
-use Rattle.paseto_tasks.proofs.Transfers.{written_more}
-use Rattle.paseto_tasks.proofs.Outputs.{cut_short}
-use Rattle.paseto_tasks.proofs.output.write_whole.Goals as goal
+use Rattle.paseto_streams.proofs.Transfers.{cut_short, written_more}
+use Rattle.paseto_streams.proofs.output.write_whole.Goals as goal
 
 pub writes-preserved : goal.writes-preserved
 writes-preserved g c =

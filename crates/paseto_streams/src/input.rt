@@ -1,11 +1,10 @@
 //! Reading the whole input.
 
-ghost use Rattle.std.specs.Prelude.{IfOk, IfErr, OnOk};
+ghost use Rattle.std.specs.Prelude.{IfOk, OnOk};
 ghost use Rattle.std.specs.Io.KnownBytes.{IsAtEnd};
-ghost use Rattle.paseto_tool.specs.Error.{IsOutside};
-ghost use Rattle.paseto_tool.specs.Input.{IsInput};
+ghost use Rattle.paseto_streams.specs.Input.{IsInput};
 
-use crate::error::ToolError;
+use crate::error::StreamError;
 use std::alloc::Global;
 use std::io::Read;
 
@@ -17,11 +16,11 @@ const LONGEST: usize = 65536;
 
 /// The bytes of the input, up to its end, which is the first read that gives none.
 ///
-/// Each other read lengthens the bytes that are kept, so this ends for every reader.
-pub fn read_whole<R: Read>(alloc: Global, input: &mut R) -> Result<Vec<u8>, ToolError>
+/// Each other read lengthens the bytes that are kept, so this ends for every reader. A read that fails is
+/// `InputOrOutput`, and `Memory` comes where the bytes find no room.
+pub fn read_whole<R: Read>(alloc: Global, input: &mut R) -> Result<Vec<u8>, StreamError>
     ensures whole { IfOk result (λ bytes. IsInput (R.remaining input.old) bytes.items) }
     ensures ended { OnOk result (IsAtEnd (R.remaining input.new)) }
-    ensures failed { IfErr result IsOutside }
 {
     let mut bytes = Vec::new(alloc);
     let mut space = [0u8; LONGEST];
