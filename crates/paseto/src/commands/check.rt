@@ -83,6 +83,7 @@ impl Demands {
         ensures footer { option_map footer_text result.parser.footer
             ≡ option_map string_bytes self.now.footer }
         ensures assertion { result.parser.implicit_assertion ≡ None }
+        ensures longest { result.parser.longest ≡ None }
     {
         let mut parser = PasetoParser::new(alloc);
         if let Some(footer) = &self.footer {

@@ -5,6 +5,7 @@ use Rattle.rusty_paseto_generic.specs.Parsers.Parsing.{assertion_in}
 use Rattle.rusty_paseto_paserk.specs.declared.header.PaserkType.TheVariants.{Public}
 use Rattle.paseto.specs.Check.{demanded}
 use Rattle.paseto.proofs.Parsed.{parses, same_binding}
+use Rattle.rusty_paseto_parts.proofs.LimitLemmas.{unlimited}
 use Rattle.paseto.proofs.commands.check.verified.Goals as goal
 
 pub returns-clause-answer : goal.returns-clause-answer
@@ -16,4 +17,4 @@ returns-clause-answer g c =
     (record { bytes = key.bytes; is_key = g.met.V.Suite.writes_public c.in_ok-key.key key.form; is_writing = key.written }) _ _
     (ap (λ (k : List ℕ). binding_of k c.reader-parser.result.parser.footer (assertion_in g.V.PublicSuite.public_design.binds_assertion c.reader-parser.result.parser.implicit_assertion)) c.lend.ensures
     ∙ same_binding _ c.reader-parser.result.parser.footer _ g.V.PublicSuite.public_design.binds_assertion _ made.assertion made.footer) made.rules
-    c.parsed.result c.parse.result c.parsed.ensures.value c.parsed.ensures.refused c.parse.ensures
+    c.parsed.result c.parse.result c.parsed.ensures.value c.parsed.ensures.refused (c.parse.ensures.answer (unlimited _ _ made.longest))
