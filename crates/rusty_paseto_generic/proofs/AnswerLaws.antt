@@ -18,7 +18,7 @@ use Rattle.rusty_paseto_core.proofs.Unboxed.{box_opening-lawful}
 use Rattle.rusty_paseto_core.proofs.Verified.{verification-lawful}
 use Rattle.rusty_paseto_generic.specs.Builders.Claims.{payload}
 use Rattle.rusty_paseto_generic.specs.Error.Parser.{IsMemory}
-use Rattle.rusty_paseto_generic.specs.Laws.{AnswersText, AnswersUnlimited, BoxedAnswersText, BoxedClaimsParse, IsWritten, OpenedAnswersText, OpenedUnlimited, SealedClaimsParse, SignedClaimsParse, VerifiedAnswersText, VerifiedUnlimited}
+use Rattle.rusty_paseto_generic.specs.Laws.{AnswersText, BoxedAnswersText, BoxedClaimsParse, IsWritten, OpenedAnswersText, OpenedUnlimited, SealedClaimsParse, SignedClaimsParse, VerifiedAnswersText, VerifiedUnlimited}
 use Rattle.rusty_paseto_generic.specs.Parsers.Parsing.{IsFirstFault, IsParseAnswer, IsParsed, IsTextFault, IsValueOf}
 use Rattle.rusty_paseto_generic.specs.Parsers.Rules.{Rules}
 use Rattle.rusty_paseto_generic.specs.Validator.{Verdict}

@@ -161,9 +161,7 @@ impl<'a, V: VersionTrait, P: PurposeTrait, B: Drop> TokenParser<'a, V, P, B> {
     /// There is none until it is set. No memory is taken.
     ///
     /// ```rust
-    /// use rusty_paseto_generic::{
-    ///     GenericParser, GenericParserError, Local, PasetoError, PasetoSymmetricKey, V4,
-    /// };
+    /// use rusty_paseto_generic::{GenericParser, Local, PasetoError, PasetoSymmetricKey, V4};
     /// use std::alloc::Global;
     ///
     /// /// Whether a token has more than 64 KiB, so that it was not read.

@@ -19,7 +19,7 @@ returns-in_err-footer g c =
     record {
       long = λ is. absurd (cc (is, c.in_ok-admit.ensures.ok));
       answer = λ is. rw (p.1, p.2) (unfound _ _ _ c.in_err-footer.field-0.0 c.in_err-footer.ensures.complete
-      (λ none. cc (c.in_err-footer.ensures.count none)) c.in_err-footer.ensures.err);
+          (λ none. cc (c.in_err-footer.ensures.count none)) c.in_err-footer.ensures.err);
     }
 
 pub returns : goal.returns
@@ -30,5 +30,5 @@ returns g c =
     record {
       long = λ is. absurd (cc (is, c.in_ok-admit.ensures.ok));
       answer = λ is. answered _ _ _ c.in_ok-footer.field-0.footer c.in_ok-footer.field-0.id c.in_ok-footer.field-0.key.now c.in_ok-footer.ensures.ok c.in_ok-footer.ensures.complete
-      c.verify-verified.result c.answer.result (rw (bound, c.lend.ensures) at c.verify-verified.ensures) c.answer.ensures;
+          c.verify-verified.result c.answer.result (rw (bound, c.lend.ensures) at c.verify-verified.ensures) c.answer.ensures;
     }
