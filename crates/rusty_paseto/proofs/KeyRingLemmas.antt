@@ -1,5 +1,5 @@
 -- What a ring answers for a token.
-use Rattle.std.proofs.Common.{◌≡◌, ◌⊎◌, inl, inr, ⊎_elim, ℕ, List, Bool, false, Option, Some, None, refl, unwrap_or, Result, Ok, Err, String, Global, string_bytes, sym, ap, subst}
+use Rattle.std.proofs.Common.{◌≡◌, ◌⊎◌, inl, inr, ⊎_elim, ℕ, List, false, Option, Some, None, refl, unwrap_or, Result, Ok, Err, String, Global, string_bytes, sym, ap, subst}
 use Rattle.rusty_paseto_core.specs.Reading.{IsAnswer, IsFault, IsRead}
 use Rattle.rusty_paseto_parts.specs.Error.{IsMemory as IsMemoryOfCipher}
 use Rattle.rusty_paseto_parts.specs.Footer.{footer_text}
