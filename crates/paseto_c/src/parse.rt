@@ -104,7 +104,8 @@ fn begin<'a, P: PurposeTrait, B: Drop>(
         (λ made. IsTimestampNanos (nanoseconds now)
         × (made.parser.moment.nanosecond ≡ nanoseconds now) × (made.parser.leeway ≡ 0)
         × AreSame (rules_of made.parser.checks) (with_times (λ key. no_rule))
-        × (made.parser.footer ≡ None) × (made.parser.implicit_assertion ≡ None))
+        × (made.parser.footer ≡ None) × (made.parser.implicit_assertion ≡ None)
+        × (made.parser.longest ≡ None))
         (λ refusal. (refusal ≡ Refusal.Memory)
         ⊎ ((refusal ≡ Refusal.InvalidMoment) × ¬ IsTimestampNanos (nanoseconds now))) }
 {
@@ -128,6 +129,7 @@ fn expect_members<'a, P: PurposeTrait, B: Drop>(
     ensures footer { OnOk result (parser.new.parser.footer ≡ parser.old.parser.footer) }
     ensures assertion { OnOk result
         (parser.new.parser.implicit_assertion ≡ parser.old.parser.implicit_assertion) }
+    ensures longest { OnOk result (parser.new.parser.longest ≡ parser.old.parser.longest) }
     ensures err { IfErr result (λ refusal. (refusal ≡ Refusal.Memory)
         ⊎ IsMemberFault (members_view members.entries) refusal) }
 {
@@ -154,6 +156,7 @@ fn attach<'a, P: PurposeTrait, B: Drop>(
     ensures checks { parser.new.parser.checks ≡ parser.old.parser.checks }
     ensures moment { parser.new.parser.moment ≡ parser.old.parser.moment }
     ensures leeway { parser.new.parser.leeway ≡ parser.old.parser.leeway }
+    ensures longest { parser.new.parser.longest ≡ parser.old.parser.longest }
 {
     if let Some(footer) = footer {
         parser.set_footer(footer);
@@ -177,7 +180,7 @@ fn ready<'a, P: PurposeTrait, B: Drop>(
         × AreSame (rules_of made.parser.checks)
         (all_expected (members_view members.entries) (with_times (λ key. no_rule)))
         × (made.parser.footer ≡ footer.entry)
-        × (made.parser.implicit_assertion ≡ assertion.entry)) }
+        × (made.parser.implicit_assertion ≡ assertion.entry) × (made.parser.longest ≡ None)) }
     ensures err { IfErr result (λ refusal. (refusal ≡ Refusal.Memory)
         ⊎ IsReadyFault (members_view members.entries) now refusal) }
 {
@@ -194,6 +197,7 @@ fn open(
     key: &PasetoSymmetricKey<V4, Local>,
 ) -> Result<Value, GenericParserError>
     ensures { (members : Members) → parser.now.parser.leeway ≡ 0
+        → parser.now.parser.longest ≡ None
         → AreSame (rules_of parser.now.parser.checks)
         (all_expected members (with_times (λ key. no_rule)))
         → IsParseAnswer (opening v4 (binding_of key.now parser.now.parser.footer
@@ -210,6 +214,7 @@ fn verify(
     key: &PasetoAsymmetricPublicKey<'_, V4, Public>,
 ) -> Result<Value, GenericParserError>
     ensures { (members : Members) → parser.now.parser.leeway ≡ 0
+        → parser.now.parser.longest ≡ None
         → AreSame (rules_of parser.now.parser.checks)
         (all_expected members (with_times (λ key. no_rule)))
         → IsParseAnswer (verification Ed25519Verifies IsRefused v4_public

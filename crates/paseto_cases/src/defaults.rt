@@ -7,6 +7,7 @@ mod examples;
 mod key_rings;
 mod kinds;
 mod limited_seats;
+mod limits;
 mod moments;
 mod primes;
 mod public_rings;

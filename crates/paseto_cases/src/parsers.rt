@@ -4,6 +4,7 @@ mod errors;
 mod footers;
 mod generated;
 mod kinds;
+mod limits;
 mod nesting;
 mod refusals;
 mod rows;

@@ -24,6 +24,7 @@ mod keys_as_text;
 mod leeway;
 mod lifetime;
 mod local_tokens;
+mod longest;
 mod moment_claims;
 mod named_key;
 mod new_key;
@@ -39,9 +40,11 @@ mod public_key_ring;
 mod required_claims;
 mod ring_blame;
 mod ring_causes;
+mod ring_limits;
 mod rsa_public_key;
 mod rsa_signature;
 mod sections;
+mod short_footer;
 mod toy_tokens;
 
 use anyhow::Result;
@@ -106,6 +109,8 @@ fn show_sections(
     if let Some(footer) = footer_text::footer_of(alloc, token.as_str())? {
         println!(rt; "footer: {footer}")?;
     }
+    let footer = short_footer::short_footer(alloc, token.as_str())?;
+    println!(rt; "short footer: {}", footer.is_some())?;
     println!(rt; "v4.local: {}", sections::is_v4_local(token.as_str())?)?;
     Ok(())
 }
@@ -178,6 +183,10 @@ fn show_demands(rt: &HostRuntime, token: &str, key: &PasetoSymmetricKey<V4, Loca
     if let Err(error) = parser.parse(token, key) {
         println!(rt; "demanding: {error}")?;
     }
+    println!(rt;
+        "too long: {}",
+        longest::is_too_long(rt.alloc(), token, key)
+    )?;
     Ok(())
 }
 
@@ -210,6 +219,7 @@ fn show_rings(
     let alloc = rt.alloc();
     let (id, _claims) = key_ring::admit(alloc, soon, token, key)?;
     println!(rt; "by a ring: {id}")?;
+    println!(rt; "keys with limits: {}", ring_limits::open_ring(alloc).len())?;
     let parser = PasetoParser::<V4, Local>::default(alloc, soon)?;
     if let Err(error) = KeyRing::<V4>::new(alloc).parse(&parser, token) {
         println!(rt; "by an empty ring: {}", ring_blame::status(&error))?;

@@ -1,6 +1,6 @@
 //! A ticket office, as a program over the library would be written: it issues tickets and sessions, lets them in,
-//! changes its keys, and refuses what has expired, what is under a retired key or another one, and what another key
-//! signed.
+//! changes its keys, ends a session, and refuses what has expired, what is under a retired key or another one, what is too
+//! long, and what another key signed.
 #![tactic(auto)]
 
 mod boxed;
@@ -20,6 +20,10 @@ use rusty_paseto::prelude::{
 };
 use serde_json::Value;
 use sessions::Sessions;
+
+/// A token whose footer has 66 bytes.
+const LONG_FOOTER: &str = "v4.local.AAAA.\
+    eyJraWQiOiJ4eHh4eHh4eHh4eHh4eHh4eHh4eHh4eHh4eHh4eHh4eHh4eHh4eHh4eHh4eHh4eHh4eHh4eHh4eCJ9";
 
 fn main(rt: HostRuntime) -> Result<()> {
     let now = Timestamp::now(&rt)?;
@@ -67,9 +71,20 @@ fn show_sessions(rt: &HostRuntime, now: Timestamp) -> Result<()> {
     show_session(rt, &sessions, now, new.as_str())?;
     show_session(rt, &sessions, now, crowded.as_str())?;
     show_session(rt, &sessions, a_day_after(now)?, new.as_str())?;
+    end_session(&mut sessions, now, new.as_str())?;
+    show_session(rt, &sessions, now, new.as_str())?;
     println!(rt; "retired: {}", sessions.retire("2026-10"))?;
     show_session(rt, &sessions, now, old.as_str())?;
-    show_session(rt, &sessions, now, "v4.local.AAAA.e30")
+    show_session(rt, &sessions, now, "v4.local.AAAA.e30")?;
+    show_session(rt, &sessions, now, LONG_FOOTER)
+}
+
+/// Ends the session of a token, as its user asks.
+fn end_session(sessions: &mut Sessions, now: Timestamp, token: &str) -> Result<()> {
+    if let Ok(session) = sessions.admit(now, token) {
+        sessions.end(session.jti.as_str())?;
+    }
+    Ok(())
 }
 
 /// What the service makes of a token, and what it would answer over HTTP.

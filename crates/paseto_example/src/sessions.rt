@@ -1,18 +1,20 @@
 //! The sessions of a service, under keys that change: issued under the newest key, admitted under each that is not
-//! retired, and refused with a status that says whose fault it is.
+//! retired, where the session was not ended, and refused with a status that says whose fault it is.
 
 use anyhow::{Context, Result};
 use jiff::Timestamp;
 use rand_core::TryRng;
 use rusty_paseto::prelude::{
-    Blame, CheckSetter, CountingSetter, CustomClaim, Footer, GenericParserError, KeyRing,
-    KeyRingParserError, Local, PasetoBuilder, PasetoParser, PasetoSymmetricKey, SubjectClaim, V4,
-    key_footer,
+    Blame, CheckSetter, CountingSetter, CustomClaim, Footer, GenericParserError, Key, KeyRing,
+    KeyRingParserError, Local, PasetoBuilder, PasetoParser, PasetoSymmetricKey, SubjectClaim,
+    TokenIdentifierClaim, V4, key_footer, to_section,
 };
 use rusty_paseto::validators::AtMost;
 use serde::Deserialize;
 use serde_json::Value;
 use std::alloc::{AllocError, Global};
+use std::collections::BTreeSet;
+use thiserror::Error;
 
 /// How many seconds the clocks of our machines may differ by.
 const LEEWAY: u32 = 5;
@@ -23,40 +25,63 @@ const LIFETIME: u32 = 600;
 /// How many seats a session may have.
 const SEATS: i64 = 8;
 
-/// What the claims of a session say.
+/// How many bytes a token may have, and its footer, which anybody may have written.
+const LONGEST: usize = 4_096;
+
+const LONGEST_FOOTER: usize = 64;
+
+/// What the claims of a session say. The id is another one in each token.
 #[derive(Debug, Deserialize, Drop)]
 pub struct Session {
+    pub jti: String,
     pub sub: String,
     pub seats: u64,
 }
 
+/// Why a token is not admitted.
+#[derive(Debug, Drop, Error)]
+pub enum Refusal {
+    /// The ring opened no token, or its claims are not good at the moment, or not what is asked.
+    #[error("{0}")]
+    Token(KeyRingParserError),
+    /// The session was ended before its token expires.
+    #[error("The session was ended")]
+    Ended,
+}
+
 /// The status that the service would answer over HTTP for a refused token.
-pub fn status(refusal: &KeyRingParserError) -> u16 {
-    match refusal.blame() {
-        Blame::Foreign | Blame::Untimely => 401,
-        Blame::Unfit => 403,
-        Blame::Memory => 503,
+pub fn status(refusal: &Refusal) -> u16 {
+    match refusal {
+        Refusal::Token(source) => match source.blame() {
+            Blame::Foreign | Blame::Untimely => 401,
+            Blame::Unfit => 403,
+            Blame::Memory => 503,
+        },
+        Refusal::Ended => 401,
     }
 }
 
-/// The keys of the service, of which the newest seals.
+/// The keys of the service, of which the newest seals, and the ids of the sessions that were ended.
 #[derive(Drop)]
 pub struct Sessions {
     alloc: Global,
     keys: KeyRing<V4>,
     newest: String,
+    ended: BTreeSet<String>,
 }
 
 impl Sessions {
     /// A service with its first key.
     pub fn new(alloc: Global, id: &str, key: PasetoSymmetricKey<V4, Local>) -> Result<Sessions> {
         let mut keys = KeyRing::new(alloc);
+        keys.set_longest(LONGEST).set_longest_footer(LONGEST_FOOTER);
         keys.add(id, key)?;
         let newest = String::from_str(alloc, id)?;
         Ok(Sessions {
             alloc,
             keys,
             newest,
+            ended: BTreeSet::new(alloc),
         })
     }
 
@@ -73,6 +98,13 @@ impl Sessions {
         self.keys.remove(id)
     }
 
+    /// Admits the session of this id no more. It is known by its id and not by the text of its token, since a token may
+    /// have two texts. Once the token has expired, the id may be forgotten.
+    pub fn end(&mut self, id: &str) -> Result<()> {
+        self.ended.insert(String::from_str(self.alloc, id)?)?;
+        Ok(())
+    }
+
     /// The token of a session, which lives ten minutes.
     pub fn issue<R: TryRng>(
         &self,
@@ -84,8 +116,10 @@ impl Sessions {
         let newest = self.newest.as_str();
         let key = self.keys.key(newest).context("the newest key is retired")?;
         let footer = key_footer(self.alloc, newest)?;
+        let id = to_section(self.alloc, Key::<16>::try_new_random(rng)?.as_bytes())?;
         let mut builder = PasetoBuilder::<V4, Local>::try_default(self.alloc, now)?;
         builder
+            .set_claim(&TokenIdentifierClaim::from(id.as_str()))?
             .set_claim(&SubjectClaim::from(subject))?
             .set_claim(&CustomClaim::try_from_str(self.alloc, "seats", seats)?)?
             .set_lifetime(LIFETIME)?
@@ -93,13 +127,23 @@ impl Sessions {
         Ok(builder.build(rng, key)?)
     }
 
-    /// The session of a token that is good at the moment.
-    pub fn admit(&self, now: Timestamp, token: &str) -> Result<Session, KeyRingParserError> {
+    /// The session of a token that is good at the moment, where it was not ended.
+    pub fn admit(&self, now: Timestamp, token: &str) -> Result<Session, Refusal> {
+        match self.parse(now, token) {
+            Ok(session) if self.ended.contains(session.jti.as_str()) => Err(Refusal::Ended),
+            Ok(session) => Ok(session),
+            Err(source) => Err(Refusal::Token(source)),
+        }
+    }
+
+    // The session of a token that is good at the moment.
+    fn parse(&self, now: Timestamp, token: &str) -> Result<Session, KeyRingParserError> {
         let mut parser = PasetoParser::<V4, Local>::default(self.alloc, now)?;
         let bounded = Box::new(self.alloc, AtMost(SEATS)).map_err(AllocError::from)?;
         parser
             .validate_key("seats", bounded)?
             .require_claim("exp")?
+            .require_claim("jti")?
             .set_leeway(LEEWAY);
         let (_id, claims) = self.keys.parse(&parser, token)?;
         self.session_of(claims)

@@ -19,6 +19,7 @@ pub fn ask(run: &mut Run<'_>) -> Result<()> {
     ask_keys(run)?;
     ask_owned_keys(run)?;
     ask_texts(run)?;
+    ask_limits(run)?;
     ask_values(run)?;
     ask_claims(run)?;
     ask_objects(run)?;
@@ -90,11 +91,37 @@ fn ask_texts(run: &mut Run<'_>) -> Result<()> {
         "UntrustedToken::try_parse of a token, with no memory" => UntrustedToken::try_parse(token);
         "UntrustedToken::try_parse of two sections, with no memory, refused"
             => UntrustedToken::try_parse("v4.local");
+        "UntrustedToken::try_parse_within of a token, with no memory"
+            => UntrustedToken::try_parse_within(token, token.len());
+        "UntrustedToken::try_parse_within of a longer token, with no memory, refused"
+            => UntrustedToken::try_parse_within(token, 8);
         "the parts of a token of its text, with no memory" => UntrustedToken::try_parse(token).map(|parts| (
             (parts.version(), parts.purpose(), parts.footer_base64()), split_token(token),
             is_section_of(parts.footer_base64().unwrap_or(""), b"key-1"),
         ));
         "texts, keys and Paseto of a text, with no memory" => texts_of(text);
+    }
+}
+
+// What is refused for its length takes no memory.
+fn ask_limits(run: &mut Run<'_>) -> Result<()> {
+    let alloc = run.alloc;
+    let token = format!(in alloc; "v4.local.{}.a2V5LTE", run.text)?;
+    let (token, key) = (
+        token.as_str(),
+        PasetoSymmetricKey::<V4, Local>::from(Key::default()),
+    );
+    let mut parser = GenericParser::<V4, Local>::new(alloc);
+    parser.set_longest(8);
+    let (mut ring, mut footers) = (KeyRing::<V4>::new(alloc), KeyRing::<V4>::new(alloc));
+    ring.set_longest(8);
+    footers.set_longest_footer(4);
+    calls! { run;
+        "TokenParser::parse of a longer token, with no memory, refused" => parser.parse(token, &key);
+        "Ring::open of a longer token, with no memory, refused" => ring.open(token, None);
+        "Ring::open of a longer footer, with no memory, refused" => footers.open(token, None);
+        "Ring::key_of of a longer footer, with no memory, refused"
+            => footers.key_of("key-1").map(|key| *key.as_bytes());
     }
 }
 

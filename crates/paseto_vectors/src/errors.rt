@@ -48,6 +48,8 @@ fn of_keys_and_memory(rt: HostRuntime) {
     check(&rt, alloc, PasetoError::TryFromSlice, text);
     let error = PasetoError::from(AllocError);
     check(&rt, alloc, error, "No memory was found");
+    let text = "The token or its footer is longer than allowed";
+    check(&rt, alloc, PasetoError::TooLong, text);
 }
 
 #[test]

@@ -50,6 +50,21 @@ fn sections_of_a_token(rt: HostRuntime) {
     expect_text(&rt, untrusted.footer_base64().unwrap_or(""), "Zm9vdGVy");
 }
 
+// A token of as many bytes as the limit has sections, and one of a byte more is refused, whatever it is.
+#[test]
+fn a_token_at_its_limit(rt: HostRuntime) {
+    let token = "v4.local.payload.Zm9vdGVy";
+    let untrusted = UntrustedToken::try_parse_within(token, 25).expect(&rt, "a token");
+    expect_text(&rt, untrusted.version(), "v4");
+    expect_text(&rt, untrusted.footer_base64().unwrap_or(""), "Zm9vdGVy");
+    let refused = UntrustedToken::try_parse_within(token, 24);
+    expect_that(&rt, matches!(refused, Err(PasetoError::TooLong)), &24);
+    let refused = UntrustedToken::try_parse_within("v4.local", 7);
+    expect_that(&rt, matches!(refused, Err(PasetoError::TooLong)), &7);
+    let refused = UntrustedToken::try_parse_within("v4.local", 8);
+    expect_that(&rt, matches!(refused, Err(PasetoError::IncorrectSize)), &8);
+}
+
 #[test]
 fn empty_sections(rt: HostRuntime) {
     let untrusted = UntrustedToken::try_parse("..").expect(&rt, "a token");

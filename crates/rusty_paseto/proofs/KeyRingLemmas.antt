@@ -1,5 +1,5 @@
 -- What a ring answers for a token.
-use Rattle.std.proofs.Common.{◌≡◌, ◌⊎◌, inl, inr, ⊎_elim, ℕ, List, Option, Some, None, refl, unwrap_or, Result, Ok, Err, String, Global, string_bytes, sym, ap, subst}
+use Rattle.std.proofs.Common.{◌≡◌, ◌⊎◌, inl, inr, ⊎_elim, ℕ, List, false, Option, Some, None, refl, unwrap_or, Result, Ok, Err, String, Global, string_bytes, sym, ap, subst}
 use Rattle.rusty_paseto_core.specs.Reading.{IsAnswer, IsFault, IsRead}
 use Rattle.rusty_paseto_parts.specs.Error.{IsMemory as IsMemoryOfCipher}
 use Rattle.rusty_paseto_parts.specs.Footer.{footer_text}
@@ -7,13 +7,18 @@ use Rattle.rusty_paseto_parts.specs.declared.texts.footer.Footer.{Footer}
 use Rattle.rusty_paseto_parts.specs.declared.error.PasetoError.{PasetoError}
 use Rattle.rusty_paseto_parts.specs.Section.{HasCount, sections}
 use Rattle.rusty_paseto_parts.specs.declared.error.PasetoError.TheVariants.{IncorrectSize}
-use Rattle.rusty_paseto.specs.KeyRing.{HasFooter, IsFindingFault, IsFirstFault, IsFound, IsHandedOn, IsMemory, IsNamingFault, IsOpened, IsOpenedUnder, IsRingAnswer, IsUntrustedFault, Keys, Names, Readings, read_under}
+use Rattle.rusty_paseto.specs.KeyRing.{HasFooter, IsFindingFault, IsFirstFault, IsFound, IsHandedOn, IsMemory, IsNamingFault, IsOpened, IsOpenedUnder, IsRingAnswer, IsUntrustedFault, Keys, Names, Readings, is_too_long, no_limits, read_under}
+use Rattle.rusty_paseto.specs.declared.key_ring.limits.Limits.{Limits}
 use Rattle.rusty_paseto.specs.declared.error.KeyRingError.{KeyRingError}
 use Rattle.rusty_paseto.specs.declared.error.KeyRingError.TheVariants.{Untrusted, NoFooter, NotAnObject, NoKeyId, UnknownKey, Token, Memory}
 
 stays_memory : (source : PasetoError) (handed error : KeyRingError) → IsHandedOn source handed error → IsMemoryOfCipher source → IsMemory error
 stays_memory source handed error (inl both) memory = both.1
 stays_memory source handed error (inr other) memory = absurd (other.0 memory)
+
+-- where neither the parser nor the ring has a limit, no token is too long
+pub unlimited : (longest : Option ℕ) (limits : Limits) (token : List ℕ) → longest ≡ None → limits ≡ no_limits → is_too_long longest limits token ≡ false
+unlimited longest limits token none free = rw (none, free) refl
 
 -- the footer under which a token is read, as a text
 pub bound_text : (expected : Option Footer) (own : Footer) → footer_text (unwrap_or expected own) ≡ read_under expected (footer_text own)

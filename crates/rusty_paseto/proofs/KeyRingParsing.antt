@@ -9,7 +9,8 @@ use Rattle.rusty_paseto_generic.specs.declared.error.GenericParserError.{Generic
 use Rattle.rusty_paseto_generic.specs.declared.error.GenericParserError.TheVariants.{ClaimError, CipherError, PayloadJsonError, Memory as OutOfMemory}
 use Rattle.rusty_paseto_core.specs.declared.ImplicitAssertion.{ImplicitAssertion}
 use Rattle.rusty_paseto_parts.specs.declared.error.PasetoError.TheVariants.{IncorrectSize}
-use Rattle.rusty_paseto.specs.KeyRing.{IsClaimsAnswer, IsFirstFault, IsFirstParsingFault, IsMemory, IsNoMemory, IsParsed, IsParsingAnswer, IsRingAnswer, Keys, Readings, of_parser, of_ring}
+use Rattle.rusty_paseto.specs.KeyRing.{IsClaimsAnswer, IsFirstFault, IsFirstParsingFault, IsMemory, IsNoMemory, IsParsed, IsParsingAnswer, IsParsingAnswerWithin, IsRingAnswer, IsRingAnswerWithin, Keys, Readings, of_parser, of_ring}
+use Rattle.rusty_paseto.specs.declared.key_ring.limits.Limits.{Limits}
 use Rattle.rusty_paseto.specs.declared.error.KeyRingError.{KeyRingError}
 use Rattle.rusty_paseto.specs.declared.error.KeyRingError.TheVariants.{Untrusted, NoFooter, NotAnObject, NoKeyId, UnknownKey, Token, Memory}
 use Rattle.rusty_paseto.specs.declared.error.KeyRingParserError.{KeyRingParserError}
@@ -91,3 +92,12 @@ module _ (keys : Keys (List ℕ)) (reading : Readings) (rules : Rules Verdict) (
   claims_answer (Ok opened) (Ok found) answer is =
       subst (λ id. IsParsingAnswer keys reading rules token (Ok (id, found.1))) (sym is.0) (read_as opened.0 opened.1 answer found.1 is.1)
   claims_answer (Ok opened) (Err error) answer is = rw is.1 (refused opened.0 opened.1 answer is.0 is.2)
+
+  -- and where there are limits
+  pub claims_within : (longest : Option ℕ) (limits : Limits) (opened : Result (String Global × String Global) KeyRingError)
+      (result : Result (String Global × Value) KeyRingParserError) → IsRingAnswerWithin longest limits keys reading token opened
+      → IsClaimsAnswer rules opened result → IsParsingAnswerWithin longest limits keys reading rules token result
+  claims_within longest limits opened result answer is = record {
+    long = λ so. rw (answer.long so) at is;
+    answer = λ so. claims_answer opened result (answer.answer so) is;
+  }

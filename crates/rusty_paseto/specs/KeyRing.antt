@@ -1,5 +1,5 @@
 -- Rings of keys, and what they answer for a token, whose footer names the key.
-use Rattle.std.specs.Prelude.{◌≡◌, ◌⊎◌, ⊤, ℕ, List, if◌then◌else◌, Option, Some, None, bytes_eq, codes, IsSome, Result, Ok, Err, IfOk, IfErr, MatchResult, String, string_bytes}
+use Rattle.std.specs.Prelude.{◌≡◌, ◌⊎◌, ⊤, ℕ, Bool, true, false, ◌||◌, List, length, if◌then◌else◌, Option, Some, None, bytes_eq, codes, IsSome, Result, Ok, Err, IfOk, IfErr, MatchResult, String, string_bytes}
 use Rattle.std.specs.Global.{Global}
 use Rattle.std.specs.List.{slice_get}
 use Rattle.serde_json.specs.Data.{Data, member, no_members, object, string}
@@ -12,11 +12,13 @@ use Rattle.rusty_paseto_core.specs.Reading.{IsFault, IsRead, Reading}
 use Rattle.rusty_paseto_parts.specs.Footer.{footer_text}
 use Rattle.rusty_paseto_parts.specs.declared.texts.footer.Footer.{Footer}
 use Rattle.rusty_paseto_parts.specs.Error.{IsMemory as IsMemoryOfCipher}
+use Rattle.rusty_paseto_parts.specs.Limit.{has_long_footer, is_beyond}
 use Rattle.rusty_paseto_parts.specs.Section.{HasCount, sections}
 use Rattle.rusty_paseto_parts.specs.UntrustedToken.{HasFooterText, IsTokenFooterFault}
 use Rattle.rusty_paseto_parts.specs.declared.error.PasetoError.{PasetoError}
 use Rattle.rusty_paseto_parts.specs.declared.error.PasetoError.TheVariants as Cipher
 use Rattle.rusty_paseto.specs.declared.error.KeyRingError.{KeyRingError}
+use Rattle.rusty_paseto.specs.declared.key_ring.limits.Limits.{Limits}
 use Rattle.rusty_paseto_generic.specs.Parsers.Parsing.{IsTextAnswer, IsTextFault, IsValueOf}
 use Rattle.rusty_paseto_generic.specs.Parsers.Rules.{Rules}
 use Rattle.rusty_paseto_generic.specs.Validator.{Verdict}
@@ -134,6 +136,23 @@ pub record IsRingAnswer (keys : Keys (List ℕ)) (reading : Readings) (token : L
   pub count : ¬ HasCount (sections token) → result ≡ Err (Untrusted Cipher.IncorrectSize)
   pub fault : IfErr result (λ error. IsMemory error ⊎ IsFirstFault keys reading token error)
 
+-- ---- limits
+
+-- of neither the token nor its footer
+abbrev pub no_limits : Limits
+no_limits = record { token = None; footer = None }
+
+-- the token has more bytes than a parser's limit, or than the ring's, or its footer has more than the ring's limit of footers
+abbrev pub is_too_long : Option ℕ → Limits → List ℕ → Bool
+is_too_long longest limits token =
+    is_beyond longest (length token) || (is_beyond limits.token (length token) || has_long_footer limits.footer (sections token))
+
+-- the answer of a ring with limits: that a token beyond them is too long, whatever memory there is, and else that for the token
+pub record IsRingAnswerWithin (longest : Option ℕ) (limits : Limits) (keys : Keys (List ℕ)) (reading : Readings) (token : List ℕ)
+    (result : Result (String Global × String Global) KeyRingError) : Type 0 where
+  pub long : is_too_long longest limits token ≡ true → result ≡ Err (Untrusted Cipher.TooLong)
+  pub answer : is_too_long longest limits token ≡ false → IsRingAnswer keys reading token result
+
 -- ---- the claims
 
 -- the token opens as a text, and that is read as the value, which passes what is checked under every key
@@ -167,6 +186,13 @@ pub record IsParsingAnswer (keys : Keys (List ℕ)) (reading : Readings) (rules 
       → MatchResult result (IsIdAndValue id value) IsNoMemory
   pub count : ¬ HasCount (sections token) → result ≡ Err (Ring (Untrusted Cipher.IncorrectSize))
   pub fault : IfErr result (λ error. IsNoMemory error ⊎ IsFirstParsingFault keys reading rules token error)
+
+-- the answer of a ring and a parser with limits: that a token beyond them is too long, whatever memory there is, and else that
+-- for the token
+pub record IsParsingAnswerWithin (longest : Option ℕ) (limits : Limits) (keys : Keys (List ℕ)) (reading : Readings) (rules : Rules Verdict)
+    (token : List ℕ) (result : Result (String Global × Value) KeyRingParserError) : Type 0 where
+  pub long : is_too_long longest limits token ≡ true → result ≡ Err (Ring (Untrusted Cipher.TooLong))
+  pub answer : is_too_long longest limits token ≡ false → IsParsingAnswer keys reading rules token result
 
 -- ---- for private clauses
 

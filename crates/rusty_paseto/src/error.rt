@@ -33,7 +33,7 @@ pub enum GeneralPasetoError {
 /// token itself.
 #[derive(Debug, Drop, Error)]
 pub enum KeyRingError {
-    /// The footer could not be read from the token.
+    /// The footer could not be read from the token, or the token is beyond a limit: `TooLong`.
     #[error("{0}")]
     Untrusted(PasetoError),
     /// The token has no fourth section.

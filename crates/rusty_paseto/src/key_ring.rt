@@ -1,23 +1,29 @@
 //! Rings of keys, in which a token's footer picks the key.
 
-ghost use Rattle.std.specs.Prelude.{◌≡◌, ◌⊎◌, ℕ, List, length, map, Some, None, String, Err, IfOk, IfErr, OnOk, OnErr, MatchResult, is_some, option_map, string_bytes};
+ghost use Rattle.std.specs.Prelude.{◌≡◌, ◌⊎◌, ℕ, List, length, map, true, false, Some, None, String, Err, IfOk, IfErr, OnOk, OnErr, MatchResult, is_some, option_map, string_bytes};
+ghost use Rattle.rusty_paseto_parts.specs.Limit.{is_beyond};
 ghost use Rattle.rusty_paseto_parts.specs.Section.{HasCount, sections};
-ghost use Rattle.rusty_paseto_parts.specs.declared.error.PasetoError.TheVariants.{IncorrectSize};
+ghost use Rattle.rusty_paseto_parts.specs.declared.error.PasetoError.TheVariants.{IncorrectSize, TooLong};
 ghost use Rattle.std.specs.Map.Iter.{ShowsInOrder, deref};
 ghost use Rattle.std.specs.Global.{Global};
 ghost use Rattle.rusty_paseto.specs.Held.{ids_of, keys_of};
-ghost use Rattle.rusty_paseto.specs.KeyRing.{AreSame, IsFindingFault, IsFound, IsKeyFault, IsMemory, Names, with_key, without_key};
+ghost use Rattle.rusty_paseto.specs.KeyRing.{AreSame, IsFindingFault, IsFound, IsKeyFault, IsMemory, Names, is_too_long, no_limits, with_key, without_key};
 ghost use Rattle.rusty_paseto.specs.declared.error.KeyRingError.TheVariants.{Untrusted};
 
 use crate::error::KeyRingError;
+use crate::key_ring::limits::Limits;
 use crate::key_ring::naming::{footer_of, key_id};
-use rusty_paseto_core::{Local, PasetoAsymmetricPublicKey, PasetoSymmetricKey, Public, PublicKey};
+use rusty_paseto_core::{
+    Local, PasetoAsymmetricPublicKey, PasetoError, PasetoSymmetricKey, Public, PublicKey,
+};
+use rusty_paseto_parts::is_longer;
 use std::alloc::{AllocError, Global};
 use std::collections::BTreeMap;
 use std::collections::btree_map::Keys;
 
 mod boxed;
 mod claims;
+mod limits;
 mod local;
 mod naming;
 mod opened;
@@ -117,11 +123,13 @@ pub type OwnedPublicKeyRing<V> = Ring<PublicKey<V>>;
 /// the footer. Tokens of both open until the old key is removed from the ring.
 ///
 /// The footer is not to be trusted before the token is opened. It picks one key of this ring, and the token must open
-/// under that key, with that footer as it stands; no other key is tried. Ids are compared by their bytes.
+/// under that key, with that footer as it stands; no other key is tried. Ids are compared by their bytes. A service on
+/// the open net sets `set_longest` and `set_longest_footer`, since a footer is read before anybody has vouched for it.
 #[derive(Drop)]
 pub struct Ring<K> {
     alloc: Global,
     keys: BTreeMap<String, K>,
+    limits: Limits,
 }
 
 // What was found of a token in a ring.
@@ -135,14 +143,51 @@ struct Found<'r, K> {
 }
 
 impl<K: Drop> Ring<K> {
-    /// A ring with no keys. All its memory is asked of the allocator, and none is taken yet.
+    /// A ring with no keys and no limits. All its memory is asked of the allocator, and none is taken yet.
     pub fn new(alloc: Global) -> Self
-        ensures { AreSame (keys_of result) (λ id. None) }
+        ensures keys { AreSame (keys_of result) (λ id. None) }
+        ensures limits { result.limits ≡ no_limits }
     {
         Ring {
             alloc,
             keys: BTreeMap::new(alloc),
+            limits: Limits::none(),
         }
+    }
+
+    /// Sets how many bytes a token may have, and keeps the rest. A longer one is refused before anything of it is decoded,
+    /// by `Untrusted` of `TooLong`. There is no limit until it is set; where a parser has one too, both are kept. No memory
+    /// is taken.
+    ///
+    /// ```rust
+    /// use rusty_paseto::prelude::*;
+    /// use std::alloc::Global;
+    ///
+    /// /// A ring for a service on the open net, which reads no token of more than 64 KiB, and no footer of more than 1 KiB.
+    /// pub fn open_ring(alloc: Global) -> KeyRing<V4> {
+    ///     let mut ring = KeyRing::<V4>::new(alloc);
+    ///     ring.set_longest(65_536).set_longest_footer(1_024);
+    ///     ring
+    /// }
+    /// ```
+    pub fn set_longest(&mut self, bytes: usize) -> &mut Self
+        ensures lent { result.ghost_name ≡ self.entry.ghost_name }
+        ensures change { result.now ≡ record self.entry.now
+            { limits = record self.entry.now.limits { token = Some bytes } } }
+    {
+        self.limits.token = Some(bytes);
+        self
+    }
+
+    /// Sets how many bytes the footer of a token may have, and keeps the rest. A longer one is refused as a longer token is:
+    /// its section tells its length before it is decoded. There is no limit until it is set. No memory is taken.
+    pub fn set_longest_footer(&mut self, bytes: usize) -> &mut Self
+        ensures lent { result.ghost_name ≡ self.entry.ghost_name }
+        ensures change { result.now ≡ record self.entry.now
+            { limits = record self.entry.now.limits { footer = Some bytes } } }
+    {
+        self.limits.footer = Some(bytes);
+        self
     }
 
     /// Puts a key under its id. An id that is there gets the new key.
@@ -152,6 +197,7 @@ impl<K: Drop> Ring<K> {
         ensures ok { OnOk result (AreSame (keys_of self.new)
             (with_key id.now key (keys_of self.old))) }
         ensures err { OnErr result (AreSame (keys_of self.new) (keys_of self.old)) }
+        ensures limits { self.new.limits ≡ self.old.limits }
         ensures fault { IfErr result IsMemory }
     {
         self.put(String::from_str(self.alloc, id)?, key)?;
@@ -163,6 +209,7 @@ impl<K: Drop> Ring<K> {
     pub fn remove(&mut self, id: &str) -> bool
         ensures change { AreSame (keys_of self.new) (without_key id.now (keys_of self.old)) }
         ensures found { result ≡ is_some (keys_of self.old id.now) }
+        ensures limits { self.new.limits ≡ self.old.limits }
     {
         self.keys.remove(id).is_some()
     }
@@ -192,14 +239,20 @@ impl<K: Drop> Ring<K> {
     /// The key that a footer names, for a parser that is to open the token under it: the footer is that of
     /// `Footer::try_from_token`, and the parser's has to be the same. `parse` does all of it.
     ///
-    /// Else it answers the first of these: `NotAnObject`; `NoKeyId`; `UnknownKey` with the id. `Memory` may come in
-    /// place of any answer.
+    /// Else it answers the first of these: `Untrusted` of `TooLong` for a footer beyond the limit of footers, where one was
+    /// set; `NotAnObject`; `NoKeyId`; `UnknownKey` with the id. `Memory` may come in place of any answer but the first.
     pub fn key_of(&self, footer: &str) -> Result<&K, KeyRingError>
         ensures ok { IfOk result (λ key. (id : List ℕ) × Names footer.now id
             × (keys_of self.now id ≡ Some key.now)) }
-        ensures err { IfErr result (λ error. IsMemory error
+        ensures long { is_beyond self.now.limits.footer (length footer.now) ≡ true
+            → result ≡ Err (Untrusted TooLong) }
+        ensures err { is_beyond self.now.limits.footer (length footer.now) ≡ false
+            → IfErr result (λ error. IsMemory error
             ⊎ IsKeyFault (keys_of self.now) footer.now error) }
     {
+        if is_longer(footer, self.limits.footer) {
+            return Err(KeyRingError::Untrusted(PasetoError::TooLong));
+        }
         let id = key_id(self.alloc, footer)?;
         match self.keys.get(id.as_str()) {
             Some(key) => Ok(key),
@@ -212,8 +265,21 @@ impl<K: Drop> Ring<K> {
         ensures ok { OnOk result (AreSame (keys_of self.new)
             (with_key (string_bytes id) key (keys_of self.old))) }
         ensures err { OnErr result (AreSame (keys_of self.new) (keys_of self.old)) }
+        ensures limits { self.new.limits ≡ self.old.limits }
     {
         drop(self.keys.insert(id, key)?);
+        Ok(())
+    }
+
+    // Refuses a token that is beyond the ring's limits, or beyond that of a parser.
+    fn admit(&self, token: &str, longest: Option<usize>) -> Result<(), KeyRingError>
+        ensures ok { OnOk result (is_too_long longest self.now.limits token.now ≡ false) }
+        ensures err { IfErr result (λ error. (error ≡ Untrusted TooLong)
+            × (is_too_long longest self.now.limits token.now ≡ true)) }
+    {
+        if self.limits.are_exceeded(token, longest) {
+            return Err(KeyRingError::Untrusted(PasetoError::TooLong));
+        }
         Ok(())
     }
 

@@ -9,7 +9,7 @@ ghost use Rattle.rusty_paseto_core.specs.Public.Verifying.{verification};
 ghost use Rattle.rusty_paseto_generic.specs.Error.Parser.{IsMemory};
 ghost use Rattle.rusty_paseto_generic.specs.Parsers.Held.{checkers_of, rules_of, verdicts_of, with_times};
 ghost use Rattle.rusty_paseto_generic.specs.Parsers.Times.{times_at};
-ghost use Rattle.rusty_paseto_generic.specs.Parsers.Parsing.{IsCheckAnswer, IsParseAnswer, assertion_in};
+ghost use Rattle.rusty_paseto_generic.specs.Parsers.Parsing.{IsAnswerWithin, IsCheckAnswer, assertion_in};
 ghost use Rattle.rusty_paseto_generic.specs.Parsers.Rules.{AreSame, all_with_checkers, no_rule};
 
 use crate::version::DefaultLocalVersion;
@@ -29,7 +29,8 @@ use std::collections::BTreeMap;
 /// `default`: the usual parser beside a [`PasetoBuilder`](crate::PasetoBuilder).
 ///
 /// The moment of both is the one that the parser was made with, or that `set_now` brought since. `set_leeway` allows
-/// for clocks that differ. A token without `exp` never expires: `require_claim("exp")` demands it. A claim that is to
+/// for clocks that differ. A token without `exp` never expires: `require_claim("exp")` demands it. A service on the open
+/// net sets `set_longest`, which refuses a longer token before anything of it is decoded. A claim that is to
 /// be checked beyond that comes with `check_claim`, or with `validate_key` and one of the crate's
 /// [`validators`](crate::validators), or the caller's own.
 ///
@@ -68,13 +69,14 @@ pub struct DefaultParser<'a, V, P, B> {
 }
 
 impl<'a, V: VersionTrait, P: PurposeTrait, B: Drop> DefaultParser<'a, V, P, B> {
-    /// A parser with no checks, not even of times, no footer and no implicit assertion. All its memory is asked
-    /// of the allocator, and none is taken yet.
+    /// A parser with no checks, not even of times, no footer, no implicit assertion and no limit. All its memory is
+    /// asked of the allocator, and none is taken yet.
     pub fn new(alloc: Global) -> Self
         ensures checks { AreSame (rules_of result.parser.checks) (λ key. no_rule) }
         ensures leeway { result.parser.leeway ≡ 0 }
         ensures footer { result.parser.footer ≡ None }
         ensures implicit_assertion { result.parser.implicit_assertion ≡ None }
+        ensures longest { result.parser.longest ≡ None }
     {
         DefaultParser {
             parser: TokenParser::new(alloc),
@@ -82,7 +84,7 @@ impl<'a, V: VersionTrait, P: PurposeTrait, B: Drop> DefaultParser<'a, V, P, B> {
     }
 
     /// A parser that checks the times at a moment, as `check_times` of a `GenericParser` does, with no other
-    /// check, no footer and no implicit assertion. Nothing but memory is refused.
+    /// check, no footer, no implicit assertion and no limit. Nothing but memory is refused.
     pub fn default(alloc: Global, now: Timestamp) -> Result<Self, GenericParserError>
         ensures checks { IfOk result (λ made. AreSame (rules_of made.parser.checks)
             (with_times (λ key. no_rule))) }
@@ -90,6 +92,7 @@ impl<'a, V: VersionTrait, P: PurposeTrait, B: Drop> DefaultParser<'a, V, P, B> {
             × (made.parser.leeway ≡ 0)) }
         ensures footer { IfOk result (λ made. made.parser.footer ≡ None) }
         ensures implicit_assertion { IfOk result (λ made. made.parser.implicit_assertion ≡ None) }
+        ensures longest { IfOk result (λ made. made.parser.longest ≡ None) }
         ensures fault { IfErr result IsMemory }
     {
         let mut parser = TokenParser::new(alloc);
@@ -117,6 +120,16 @@ impl<'a, V: VersionTrait, P: PurposeTrait, B: Drop> DefaultParser<'a, V, P, B> {
         self
     }
 
+    /// Sets how many bytes a token may have, as `set_longest` of a `GenericParser` does, and keeps the rest: a longer one is
+    /// refused before anything of it is decoded. There is no limit until it is set. No memory is taken.
+    pub fn set_longest(&mut self, bytes: usize) -> &mut Self
+        ensures lent { result.ghost_name ≡ self.entry.ghost_name }
+        ensures change { result.now.parser ≡ record self.entry.now.parser { longest = Some bytes } }
+    {
+        self.parser.set_longest(bytes);
+        self
+    }
+
     /// Sets the footer, the empty one too, and keeps the rest. No memory is taken.
     pub fn set_footer(&mut self, footer: Footer<'a>) -> &mut Self
         ensures lent { result.ghost_name ≡ self.entry.ghost_name }
@@ -135,7 +148,8 @@ impl<'a, V: VersionTrait, P: PurposeTrait, B: Drop> CheckSetter<B> for DefaultPa
 
     ghost is_rest = { λ made other. (made.parser.footer ≡ other.parser.footer)
         × (made.parser.implicit_assertion ≡ other.parser.implicit_assertion)
-        × (made.parser.leeway ≡ other.parser.leeway) };
+        × (made.parser.leeway ≡ other.parser.leeway)
+        × (made.parser.longest ≡ other.parser.longest) };
 
     fn put_check<C: PasetoClaim>(&mut self, claim: &C) -> Result<(), GenericParserError> {
         self.parser.put_check(claim)
@@ -160,7 +174,8 @@ impl<'a, V: VersionTrait, P: PurposeTrait, B: Drop> CheckSetter<B> for DefaultPa
         ensures moment { self.new.parser.moment ≡ self.old.parser.moment }
         ensures rest { (self.new.parser.footer ≡ self.old.parser.footer)
             × (self.new.parser.implicit_assertion ≡ self.old.parser.implicit_assertion)
-            × (self.new.parser.leeway ≡ self.old.parser.leeway) }
+            × (self.new.parser.leeway ≡ self.old.parser.leeway)
+            × (self.new.parser.longest ≡ self.old.parser.longest) }
         ensures err { OnErr result (AreSame (rules_of self.new.parser.checks)
             (rules_of self.old.parser.checks)) }
         ensures fault { IfErr result IsMemory }
@@ -221,7 +236,7 @@ impl<V: DefaultLocalVersion> DefaultParser<'_, V, Local, ValidatorFn> {
         ensures { let parser = self.now.parser in
             let binding = binding_of key.now parser.footer
             (assertion_in V.design.binds_assertion parser.implicit_assertion) in
-            IsParseAnswer (opening V.design binding)
+            IsAnswerWithin parser.longest (opening V.design binding)
             (verdicts_of (λ b. verdict b) (times_at parser.moment parser.leeway) parser.checks)
             token.now result }
     {
@@ -241,7 +256,7 @@ impl DefaultParser<'_, V2, Local, ValidatorFn> {
         key: &PasetoSymmetricKey<V2, Local>,
     ) -> Result<Value, GenericParserError>
         ensures { let parser = self.now.parser in
-            IsParseAnswer (box_opening S.sealing (binding_of key.now parser.footer None))
+            IsAnswerWithin parser.longest (box_opening S.sealing (binding_of key.now parser.footer None))
             (verdicts_of (λ b. verdict b) (times_at parser.moment parser.leeway) parser.checks)
             token.now result }
     {
@@ -265,7 +280,7 @@ impl<V> DefaultParser<'_, V, Public, ValidatorFn> {
         ensures { let parser = self.now.parser in
             let binding = binding_of key.now parser.footer
             (assertion_in V.public_design.binds_assertion parser.implicit_assertion) in
-            IsParseAnswer (verification V.valid V.refused V.public_design binding)
+            IsAnswerWithin parser.longest (verification V.valid V.refused V.public_design binding)
             (verdicts_of (λ b. verdict b) (times_at parser.moment parser.leeway) parser.checks)
             token.now result }
     {

@@ -1,5 +1,5 @@
 -- The laws of builders and parsers.
-use Rattle.std.proofs.Common.{◌⊎◌, inl, inr, ℕ, List, Result, Ok, Err, IfOk, IfErr}
+use Rattle.std.proofs.Common.{◌⊎◌, inl, inr, ℕ, List, Result, Ok, Err, IfOk, IfErr, refl}
 use Rattle.serde_json.specs.Data.{Members, object}
 use Rattle.serde_json.specs.View.{view}
 use Rattle.serde_json.specs.declared.value.Value.{Value}
@@ -7,7 +7,10 @@ use Rattle.rusty_paseto_core.specs.Framing.{IsHeader}
 use Rattle.rusty_paseto_core.specs.Local.{Design, IsLawful}
 use Rattle.rusty_paseto_core.specs.Public.{PublicDesign, header, public}
 use Rattle.rusty_paseto_core.specs.Public.Scheme.{Refusal, Validity}
+use Rattle.rusty_paseto_core.specs.Context.{Binding}
+use Rattle.rusty_paseto_core.specs.Local.Opening.{opening}
 use Rattle.rusty_paseto_core.specs.Reading.{IsRead, Reading}
+use Rattle.rusty_paseto_core.specs.declared.PasetoError.TheVariants.{TooLong}
 use Rattle.rusty_paseto_core.proofs.Opened.{opening-lawful}
 use Rattle.rusty_paseto_core.proofs.ReadingLaws.{IsLawfulReading, IsRead-fault, IsRead-text}
 use Rattle.rusty_paseto_core.proofs.SealingLaws.{boxed_sealings_open, sealings_open, signings_verify}
@@ -15,8 +18,8 @@ use Rattle.rusty_paseto_core.proofs.Unboxed.{box_opening-lawful}
 use Rattle.rusty_paseto_core.proofs.Verified.{verification-lawful}
 use Rattle.rusty_paseto_generic.specs.Builders.Claims.{payload}
 use Rattle.rusty_paseto_generic.specs.Error.Parser.{IsMemory}
-use Rattle.rusty_paseto_generic.specs.Laws.{AnswersText, BoxedAnswersText, BoxedClaimsParse, IsWritten, OpenedAnswersText, SealedClaimsParse, SignedClaimsParse, VerifiedAnswersText}
-use Rattle.rusty_paseto_generic.specs.Parsers.Parsing.{IsFirstFault, IsParsed, IsTextFault, IsValueOf}
+use Rattle.rusty_paseto_generic.specs.Laws.{AnswersText, BoxedAnswersText, BoxedClaimsParse, IsWritten, OpenedAnswersText, OpenedUnlimited, SealedClaimsParse, SignedClaimsParse, VerifiedAnswersText, VerifiedUnlimited}
+use Rattle.rusty_paseto_generic.specs.Parsers.Parsing.{IsFirstFault, IsParseAnswer, IsParsed, IsTextFault, IsValueOf}
 use Rattle.rusty_paseto_generic.specs.Parsers.Rules.{Rules}
 use Rattle.rusty_paseto_generic.specs.Validator.{Verdict}
 use Rattle.rusty_paseto_generic.specs.declared.error.GenericParserError.{GenericParserError}
@@ -86,3 +89,20 @@ boxed_answers_text box law binding size key footer = answers_text _ (box_opening
 pub verified_answers_text : (valid : Validity) (refused : Refusal) (design : PublicDesign)
     → IsHeader design.version public (header design) → VerifiedAnswersText valid refused design
 verified_answers_text valid refused design is binding bytes = answers_text _ (verification-lawful valid refused design binding is bytes)
+
+-- ---- without a limit
+
+-- local tokens: no fault of the framing is that the token is too long, and none of a sealed payload
+never_too_long : (design : Design) (binding : Binding) (rules : Rules Verdict) (token : List ℕ)
+    → IsParseAnswer (opening design binding) rules token (Err (CipherError TooLong)) → ⊥
+never_too_long design binding rules token answer = elim answer.fault [
+  | inl memory ↦ memory
+  | inr fault ↦ elim fault [ inl framing ↦ framing | inr payload ↦ payload.2 ]
+]
+
+pub opened_unlimited : (design : Design) → OpenedUnlimited design
+opened_unlimited design binding =
+    (λ rules token result within. within.answer refl, λ rules token within. never_too_long design binding rules token (within.answer refl))
+
+pub verified_unlimited : (valid : Validity) (refused : Refusal) (design : PublicDesign) → VerifiedUnlimited valid refused design
+verified_unlimited valid refused design binding rules token result within = within.answer refl

@@ -170,6 +170,7 @@ of_cipher-cases (Cipher.Utf8Error _) = inr (λ memory. memory, refl)
 of_cipher-cases Cipher.ChaChaCipherError = inr (λ memory. memory, refl)
 of_cipher-cases Cipher.Infallibale = inr (λ memory. memory, refl)
 of_cipher-cases Cipher.FromUtf8Error = inr (λ memory. memory, refl)
+of_cipher-cases Cipher.TooLong = inr (λ memory. memory, refl)
 
 of_cipher-memory : (error : PasetoError) → IsMemoryOfCipher error → IsMemory (of_cipher error)
 of_cipher-memory error memory = ⊎_elim (λ is. is) (λ other. absurd (other.0 memory)) (of_cipher-cases error)

@@ -1,5 +1,5 @@
 -- Laws of builders and parsers.
-use Rattle.std.specs.Prelude.{◌≡◌, ◌≤◌, ℕ, Bool, List, Some, Result, length}
+use Rattle.std.specs.Prelude.{◌≡◌, ◌≤◌, ℕ, Bool, List, Some, None, Result, Err, length}
 use Rattle.serde_json.specs.Data.{Members, members_depth, object}
 use Rattle.serde_json.specs.declared.value.Value.{Value}
 use Rattle.rusty_paseto_core.specs.Context.{Binding}
@@ -14,12 +14,14 @@ use Rattle.rusty_paseto_core.specs.Public.Scheme.{Refusal, Validity}
 use Rattle.rusty_paseto_core.specs.Public.Signing.{IsSigning}
 use Rattle.rusty_paseto_core.specs.Public.Verifying.{verification}
 use Rattle.rusty_paseto_core.specs.Reading.{IsForm, IsRead, Reading}
+use Rattle.rusty_paseto_core.specs.declared.PasetoError.TheVariants.{TooLong}
 use Rattle.rusty_paseto_generic.specs.Builders.Claims.{IsReadBack, payload}
-use Rattle.rusty_paseto_generic.specs.Parsers.Parsing.{IsParseAnswer, IsParsed, IsTextAnswer}
+use Rattle.rusty_paseto_generic.specs.Parsers.Parsing.{IsAnswerWithin, IsParseAnswer, IsParsed, IsTextAnswer}
 use Rattle.rusty_paseto_generic.specs.Parsers.Rules.{Rules}
 use Rattle.rusty_paseto_generic.specs.Parsers.Verdicts.{PassesAll}
 use Rattle.rusty_paseto_generic.specs.Validator.{Verdict}
 use Rattle.rusty_paseto_generic.specs.declared.error.GenericParserError.{GenericParserError}
+use Rattle.rusty_paseto_generic.specs.declared.error.GenericParserError.TheVariants.{CipherError}
 
 -- ---- what a builder wrote is read back as its claims
 
@@ -66,3 +68,18 @@ BoxedAnswersText = (box : BoxSealing) → IsLawfulBox box → (binding : Binding
 
 abbrev pub VerifiedAnswersText : Validity → Refusal → PublicDesign → Type 0
 VerifiedAnswersText valid refused design = (binding : Binding) → IsBytes binding.footer → AnswersText (verification valid refused design binding)
+
+-- ---- without a limit, nothing is too long
+
+-- a parser with no limit answers what parsing the token answers
+abbrev pub AnswersUnlimited : Reading → Type 0
+AnswersUnlimited reading = (rules : Rules Verdict) (token : List ℕ) (result : Result Value GenericParserError)
+    → IsAnswerWithin None reading rules token result → IsParseAnswer reading rules token result
+
+-- where it opens tokens itself, that is never that one is too long
+abbrev pub OpenedUnlimited : Design → Type 0
+OpenedUnlimited design = (binding : Binding) → AnswersUnlimited (opening design binding)
+    × ((rules : Rules Verdict) (token : List ℕ) → ¬ IsAnswerWithin None (opening design binding) rules token (Err (CipherError TooLong)))
+
+abbrev pub VerifiedUnlimited : Validity → Refusal → PublicDesign → Type 0
+VerifiedUnlimited valid refused design = (binding : Binding) → AnswersUnlimited (verification valid refused design binding)

@@ -1,7 +1,7 @@
 //! Laws of builders and parsers. Each is the contract of a function that does nothing, over the definitions
 //! that the contracts of `try_encrypt`, `try_sign` and `parse` name.
 
-ghost use Rattle.rusty_paseto_generic.specs.Laws.{BoxedAnswersText, BoxedClaimsParse, OpenedAnswersText, SealedClaimsParse, SignedClaimsParse, VerifiedAnswersText};
+ghost use Rattle.rusty_paseto_generic.specs.Laws.{BoxedAnswersText, BoxedClaimsParse, OpenedAnswersText, OpenedUnlimited, SealedClaimsParse, SignedClaimsParse, VerifiedAnswersText, VerifiedUnlimited};
 
 use crate::builders::GenericLocalVersion;
 use rusty_paseto_core::Verifies;
@@ -36,4 +36,15 @@ pub fn boxed_answers_text()
 /// What `parse` answers for a token that verifies depends on the token's text and the checks alone.
 pub fn verified_answers_text<V: Verifies<S>, S>()
     ensures { VerifiedAnswersText V.valid V.refused V.public_design }
+{}
+
+/// A parser of local tokens with no limit answers what parsing the token answers, and no token is too long for it: the
+/// limit is off until `set_longest` sets it.
+pub fn opened_unlimited<V: GenericLocalVersion>()
+    ensures { OpenedUnlimited V.design }
+{}
+
+/// A parser of public tokens with no limit answers what parsing the token answers.
+pub fn verified_unlimited<V: Verifies<S>, S>()
+    ensures { VerifiedUnlimited V.valid V.refused V.public_design }
 {}

@@ -1,4 +1,5 @@
 pub mod HeaderLemmas
+pub mod LimitLemmas
 pub mod PaeLemmas
 pub mod PublicKeyFacts
 pub mod SectionLemmas

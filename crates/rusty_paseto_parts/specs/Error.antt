@@ -4,7 +4,7 @@ use Rattle.std.specs.declared.str.Utf8Error.{Utf8Error as Utf8Fault}
 use Rattle.std.specs.Str.{error_len, valid_up_to}
 use Rattle.std.specs.Str.Lossy.{utf8_error_len, utf8_valid_len}
 use Rattle.rusty_paseto_parts.specs.declared.error.PasetoError.{PasetoError}
-use Rattle.rusty_paseto_parts.specs.declared.error.PasetoError.TheVariants.{PasetoCipherError', Cryption, InvalidKey, Signature, KeyRejected, Cipher, RsaCipher, ECSDAError, InvalidLength, InvalidSignature, TryFromSlice, IncorrectSize, WrongHeader, FooterInvalid, PayloadBase64Decode, Utf8Error, ChaChaCipherError, Infallibale, FromUtf8Error, Memory}
+use Rattle.rusty_paseto_parts.specs.declared.error.PasetoError.TheVariants.{PasetoCipherError', Cryption, InvalidKey, Signature, KeyRejected, Cipher, RsaCipher, ECSDAError, InvalidLength, InvalidSignature, TryFromSlice, IncorrectSize, WrongHeader, FooterInvalid, PayloadBase64Decode, Utf8Error, ChaChaCipherError, Infallibale, FromUtf8Error, Memory, TooLong}
 
 -- memory was refused
 abbrev pub IsMemory : PasetoError → Type 0
@@ -38,3 +38,4 @@ error_text ChaChaCipherError = codes "An unspecified cipher error occurred"
 error_text Infallibale = codes "A Utf8 parsing error occurred"
 error_text FromUtf8Error = codes "A Utf8 parsing error occurred"
 error_text (Memory _) = codes "No memory was found"
+error_text TooLong = codes "The token or its footer is longer than allowed"

@@ -8,5 +8,6 @@ pub mod OwnedKeys
 pub mod PublicKey
 pub mod PreAuthenticationEncoding
 pub mod Section
+pub mod Limit
 pub mod UntrustedToken
 pub mod Sixteen

@@ -67,6 +67,10 @@ pub enum PasetoError {
     FromUtf8Error,
     /// Memory was refused. From every call that takes memory, in place of its answer.
     Memory(AllocError),
+    /// A token has more bytes than a limit that was set, or its footer has: nothing of it was decoded. From
+    /// `try_parse_within` of `UntrustedToken`, and from parsers and key rings where `set_longest` or
+    /// `set_longest_footer` set a limit: they have none before. A scheme may answer it.
+    TooLong,
 }
 
 impl PasetoError {
@@ -95,6 +99,7 @@ impl PasetoError {
             PasetoError::Utf8Error { .. } | PasetoError::Infallibale | PasetoError::FromUtf8Error =>
                 "A Utf8 parsing error occurred",
             PasetoError::Memory(_) => "No memory was found",
+            PasetoError::TooLong => "The token or its footer is longer than allowed",
         }
     }
 }

@@ -1,6 +1,7 @@
 //! Laws of the definitions that the contracts of this crate cite. A call of one does nothing.
 
 ghost use Rattle.std.specs.Prelude.{◌≡◌, ◌↔◌, ◌<◌, ◌^◌, ℕ, List, length, map, All};
+ghost use Rattle.rusty_paseto_parts.specs.Limit.{spelled};
 ghost use Rattle.rusty_paseto_parts.specs.PreAuthenticationEncoding.{pae};
 ghost use Rattle.rusty_paseto_parts.specs.Section.{AreSections, sections, base64url};
 
@@ -37,4 +38,9 @@ pub fn equal_base64url(first: &[u8], second: &[u8])
 /// which dots join to the text.
 pub fn unique_sections(text: &str)
     ensures { (parts : List (List ℕ)) → (parts ≡ sections text.now) ↔ AreSections text.now parts }
+{}
+
+/// A limit on a footer counts its bytes: a section of so many characters as spell some bytes spells so many.
+pub fn spelled_lengths(bytes: &[u8])
+    ensures { spelled (length (base64url bytes.now)) ≡ length bytes.now }
 {}

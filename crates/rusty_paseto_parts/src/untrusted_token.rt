@@ -1,12 +1,14 @@
 //! A token's sections, before the token is opened.
 
-ghost use Rattle.std.specs.Prelude.{◌≡◌, ◌↔◌, ℕ, List, Option, Some, option_map, IsOk, IfOk, IfErr, MatchResult};
+ghost use Rattle.std.specs.Prelude.{◌≡◌, ◌↔◌, ℕ, List, Option, Some, Err, length, true, false, option_map, IsOk, IfOk, IfErr, MatchResult};
 ghost use Rattle.std.specs.String.{string_bytes};
 ghost use Rattle.rusty_paseto_parts.specs.Error.{IsMemory};
+ghost use Rattle.rusty_paseto_parts.specs.Limit.{is_beyond};
 ghost use Rattle.rusty_paseto_parts.specs.Section.{HasCount, sections};
 ghost use Rattle.rusty_paseto_parts.specs.UntrustedToken.{AreKept, HasFooterBytes, HasFooterText, IsFooterFault, IsFooterTextFault, footer_section, purpose_section, version_section};
 
 use crate::error::PasetoError;
+use crate::limit::is_longer;
 use crate::section::{from_section, split_token};
 use std::alloc::Global;
 
@@ -50,6 +52,38 @@ impl<'a> UntrustedToken<'a> {
             purpose: required[1],
             footer: parts.1,
         })
+    }
+
+    /// The same for a token of at most so many bytes, as a service on the open net asks it: `footer_decoded` and
+    /// `footer_str` take memory for the footer, and anybody may have written it. No memory is taken here.
+    ///
+    /// `TooLong` comes exactly where the token has more bytes, whatever it is, and else the answer of `try_parse`.
+    ///
+    /// ```rust
+    /// use rusty_paseto_parts::{PasetoError, UntrustedToken};
+    /// use std::alloc::Global;
+    ///
+    /// /// The footer of a token, of which no more than 4,096 bytes are read.
+    /// pub fn short_footer(alloc: Global, token: &str) -> Result<Option<String>, PasetoError> {
+    ///     UntrustedToken::try_parse_within(token, 4_096)?.footer_str(alloc)
+    /// }
+    /// ```
+    pub fn try_parse_within(
+        token: &'a str,
+        longest: usize,
+    ) -> Result<UntrustedToken<'a>, PasetoError>
+        ensures long { is_beyond (Some longest) (length token.now) ≡ true
+            → result ≡ Err PasetoError.TooLong }
+        ensures kept { IfOk result (AreKept (sections token.now)) }
+        ensures count { is_beyond (Some longest) (length token.now) ≡ false
+            → (IsOk result ↔ HasCount (sections token.now)) }
+        ensures err { is_beyond (Some longest) (length token.now) ≡ false
+            → IfErr result (λ error. error ≡ PasetoError.IncorrectSize) }
+    {
+        if is_longer(token, Some(longest)) {
+            return Err(PasetoError::TooLong);
+        }
+        UntrustedToken::try_parse(token)
     }
 
     /// The first section, whatever it is. In a token it is the version's text, as `v4`.

@@ -36,7 +36,8 @@ pub trait Asserts: VersionTrait + KeyVersion {
         ensures footer { parser.new.parser.footer ≡ parser.old.parser.footer }
         ensures checks { parser.new.parser.checks ≡ parser.old.parser.checks }
         ensures moment { parser.new.parser.moment ≡ parser.old.parser.moment }
-        ensures leeway { parser.new.parser.leeway ≡ parser.old.parser.leeway };
+        ensures leeway { parser.new.parser.leeway ≡ parser.old.parser.leeway }
+        ensures longest { parser.new.parser.longest ≡ parser.old.parser.longest };
 }
 
 impl Asserts for V1 {

@@ -90,6 +90,7 @@ impl<'w> Demands<'w> {
             ≡ option_map string_bytes self.now.footer }
         ensures assertion { result.parser.implicit_assertion
             ≡ assertion_where (binds_in V.paserk) self.now.assertion }
+        ensures longest { result.parser.longest ≡ None }
     {
         let mut parser = PasetoParser::new(alloc);
         if let Some(footer) = &self.footer {

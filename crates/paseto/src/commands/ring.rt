@@ -5,7 +5,7 @@ ghost use Rattle.serde_json.specs.View.{view};
 ghost use Rattle.rusty_paseto_core.specs.Local.Opening.{opening};
 ghost use Rattle.rusty_paseto_core.specs.Public.Verifying.{verification};
 ghost use Rattle.rusty_paseto.specs.Held.{keys_of};
-ghost use Rattle.rusty_paseto.specs.KeyRing.{with_key};
+ghost use Rattle.rusty_paseto.specs.KeyRing.{no_limits, with_key};
 ghost use Rattle.rusty_paseto_paserk.specs.Id.{id_of};
 ghost use Rattle.rusty_paseto_paserk.specs.declared.header.PaserkVersion.TheVariants.{V2 as K2};
 ghost use Rattle.rusty_paseto_paserk.specs.declared.header.PaserkType.TheVariants.{Local as LocalKey, Public as PublicKeys};
@@ -177,6 +177,7 @@ fn local_ring<V: KeyVersion>(alloc: Global, lines: &[String]) -> Result<KeyRing<
         (keys_of ring)) }
     ensures none { IfErr result (Lacks (λ keys. AreKeysOf (IsKeyOf LocalKey V.paserk) LocalKey
         V.paserk (words_of lines.now) keys)) }
+    ensures limits { IfOk result (λ ring. ring.limits ≡ no_limits) }
     ensures no_usage { IfErr result IsNoUsage }
 {
     let [line, rest @ ..] = lines else {
@@ -197,6 +198,7 @@ fn add_line<V: KeyVersion>(
         (keys_of ring.new)) }
     ensures none { IfErr result (λ error. IsOutside error
         ⊎ IsNoLine (IsKeyOf LocalKey V.paserk) LocalKey V.paserk line.now) }
+    ensures limits { ring.new.limits ≡ ring.old.limits }
     ensures no_usage { IfErr result IsNoUsage }
 {
     match local_from_paserk::<V>(alloc, line) {
@@ -211,6 +213,7 @@ fn public_ring<'k, V: KeyPairVersion>(
     keys: &'k [PublicKey<V>],
 ) -> Result<PublicKeyRing<'k, V>, ProgramError>
     ensures ring { IfOk result (λ ring. keys_of ring ≡ ring_of PublicKeys V.paserk keys.now) }
+    ensures limits { IfOk result (λ ring. ring.limits ≡ no_limits) }
     ensures memory { IfErr result IsOutside }
 {
     let [key, rest @ ..] = keys else {

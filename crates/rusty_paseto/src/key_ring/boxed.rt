@@ -5,7 +5,7 @@ ghost use Rattle.rusty_paseto_core.specs.Local.Boxed.{box_opening};
 ghost use Rattle.rusty_paseto_generic.specs.Parsers.Held.{verdicts_of};
 ghost use Rattle.rusty_paseto_generic.specs.Parsers.Times.{times_at};
 ghost use Rattle.rusty_paseto.specs.Held.{keys_of};
-ghost use Rattle.rusty_paseto.specs.KeyRing.{IsParsingAnswer, IsRingAnswer, read_under};
+ghost use Rattle.rusty_paseto.specs.KeyRing.{IsParsingAnswerWithin, IsRingAnswerWithin, read_under};
 
 use crate::error::{KeyRingError, KeyRingParserError};
 use crate::key_ring::claims::claims_of;
@@ -24,11 +24,11 @@ impl Ring<PasetoSymmetricKey<V2, Local>> {
         sealed_box: &S,
         token: &str,
     ) -> Result<(String, String), KeyRingError>
-        ensures { IsRingAnswer (keys_of self.now)
+        ensures { IsRingAnswerWithin None self.now.limits (keys_of self.now)
             (λ key footer. box_opening S.sealing
             (record { key = key; footer = footer; assertion = [] })) token.now result }
     {
-        self.open_bound(sealed_box, token, None)
+        self.open_bound(sealed_box, token, None, None)
     }
 
     /// Opens a token by the caller's box, and answers the id and the value of its text, which passes the parser's
@@ -40,7 +40,7 @@ impl Ring<PasetoSymmetricKey<V2, Local>> {
         token: &str,
     ) -> Result<(String, Value), KeyRingParserError>
         ensures { let held = parser.now.parser in
-            IsParsingAnswer (keys_of self.now)
+            IsParsingAnswerWithin held.longest self.now.limits (keys_of self.now)
             (λ key footer. box_opening S.sealing
             (record { key = key; footer = read_under held.footer footer; assertion = [] }))
             (verdicts_of (λ b. verdict b) (times_at held.moment held.leeway) held.checks) token.now
@@ -57,13 +57,18 @@ impl Ring<PasetoSymmetricKey<V2, Local>> {
         token: &str,
     ) -> Result<(String, Value), KeyRingParserError>
         ensures { let held = parser.now in
-            IsParsingAnswer (keys_of self.now)
+            IsParsingAnswerWithin held.longest self.now.limits (keys_of self.now)
             (λ key footer. box_opening S.sealing
             (record { key = key; footer = read_under held.footer footer; assertion = [] }))
             (verdicts_of (λ b. verdict b) (times_at held.moment held.leeway) held.checks) token.now
             result }
     {
-        let opened = self.open_bound(sealed_box, token, parser.expected_footer());
+        let opened = self.open_bound(
+            sealed_box,
+            token,
+            parser.longest(),
+            parser.expected_footer(),
+        );
         claims_of(parser, opened)
     }
 
@@ -72,13 +77,15 @@ impl Ring<PasetoSymmetricKey<V2, Local>> {
         &self,
         sealed_box: &S,
         token: &str,
+        longest: Option<usize>,
         expected: Option<Footer<'_>>,
     ) -> Result<(String, String), KeyRingError>
-        ensures { IsRingAnswer (keys_of self.now)
+        ensures { IsRingAnswerWithin longest self.now.limits (keys_of self.now)
             (λ key footer. box_opening S.sealing
             (record { key = key; footer = read_under expected.entry footer; assertion = [] }))
             token.now result }
     {
+        self.admit(token, longest)?;
         let Found { footer, id, key } = self.find(token)?;
         let bound = expected.unwrap_or(Footer::from(footer.as_str()));
         let opened = Paseto::<V2, Local>::try_decrypt(

@@ -8,7 +8,7 @@ ghost use Rattle.rusty_paseto_generic.specs.Parsers.Held.{verdicts_of};
 ghost use Rattle.rusty_paseto_generic.specs.Parsers.Times.{times_at};
 ghost use Rattle.rusty_paseto_generic.specs.Parsers.Parsing.{assertion_in};
 ghost use Rattle.rusty_paseto.specs.Held.{keys_of};
-ghost use Rattle.rusty_paseto.specs.KeyRing.{IsParsingAnswer, IsRingAnswer, read_under};
+ghost use Rattle.rusty_paseto.specs.KeyRing.{IsParsingAnswerWithin, IsRingAnswerWithin, read_under};
 
 use crate::error::{KeyRingError, KeyRingParserError};
 use crate::key_ring::claims::claims_of;
@@ -26,8 +26,8 @@ impl<V: DefaultLocalVersion> Ring<PasetoSymmetricKey<V, Local>> {
     /// in the parser, the token's has to be that one.
     ///
     /// Else it answers the first of these: `Ring` with the fault of `open`, where `Token` of `FooterInvalid` tells of
-    /// another footer than the parser's; `Parser` with the fault of the text, as `parse` of the parser answers it.
-    /// `Memory` may come in place of any answer but that of a wrong number of sections.
+    /// another footer than the parser's, and `Untrusted` of `TooLong` also of a token beyond the parser's limit; `Parser` with the fault of the text, as `parse` of the parser answers it.
+    /// `Memory` may come in place of any answer but those of a token that is too long and of a wrong number of sections.
     pub fn parse(
         &self,
         parser: &PasetoParser<'_, V, Local>,
@@ -36,7 +36,7 @@ impl<V: DefaultLocalVersion> Ring<PasetoSymmetricKey<V, Local>> {
         ensures { let held = parser.now.parser in
             let assertion = assertion_of (assertion_in V.design.binds_assertion
             held.implicit_assertion) in
-            IsParsingAnswer (keys_of self.now)
+            IsParsingAnswerWithin held.longest self.now.limits (keys_of self.now)
             (λ key footer. opening V.design
             (record { key = key; footer = read_under held.footer footer; assertion = assertion }))
             (verdicts_of (λ b. verdict b) (times_at held.moment held.leeway) held.checks) token.now
@@ -54,14 +54,14 @@ impl<V: DefaultLocalVersion> Ring<PasetoSymmetricKey<V, Local>> {
         ensures { let held = parser.now in
             let assertion = assertion_of (assertion_in V.design.binds_assertion
             held.implicit_assertion) in
-            IsParsingAnswer (keys_of self.now)
+            IsParsingAnswerWithin held.longest self.now.limits (keys_of self.now)
             (λ key footer. opening V.design
             (record { key = key; footer = read_under held.footer footer; assertion = assertion }))
             (verdicts_of (λ b. verdict b) (times_at held.moment held.leeway) held.checks) token.now
             result }
     {
         let assertion = V::bound_assertion(parser.expected_assertion());
-        let opened = self.open_bound(token, parser.expected_footer(), assertion);
+        let opened = self.open_bound(token, parser.longest(), parser.expected_footer(), assertion);
         claims_of(parser, opened)
     }
 
@@ -70,12 +70,13 @@ impl<V: DefaultLocalVersion> Ring<PasetoSymmetricKey<V, Local>> {
     fn open_bound(
         &self,
         token: &str,
+        longest: Option<usize>,
         expected: Option<Footer<'_>>,
         implicit_assertion: Option<ImplicitAssertion<'_>>,
     ) -> Result<(String, String), KeyRingError>
         requires { V.design.binds_assertion ≡ false → implicit_assertion ≡ None }
         ensures { let assertion = assertion_of implicit_assertion.entry in
-            IsRingAnswer (keys_of self.now)
+            IsRingAnswerWithin longest self.now.limits (keys_of self.now)
             (λ key footer. opening V.design
             (record {
               key = key;
@@ -83,6 +84,7 @@ impl<V: DefaultLocalVersion> Ring<PasetoSymmetricKey<V, Local>> {
               assertion = assertion;
             })) token.now result }
     {
+        self.admit(token, longest)?;
         let Found { footer, id, key } = self.find(token)?;
         let bound = expected.unwrap_or(Footer::from(footer.as_str()));
         let opened = V::open(self.alloc, token, key, Some(bound), implicit_assertion);
@@ -93,16 +95,17 @@ impl<V: DefaultLocalVersion> Ring<PasetoSymmetricKey<V, Local>> {
 impl Ring<PasetoSymmetricKey<V1, Local>> {
     /// Opens a token under the key that its footer names, and checks no claim: the id, and the text that was sealed.
     ///
-    /// Else it answers the first of these: `Untrusted` of `IncorrectSize` for a number of sections other than three
-    /// or four, and of `PayloadBase64Decode` or `Utf8Error` for a fourth section that holds no text; `NoFooter`;
+    /// Else it answers the first of these: `Untrusted` of `TooLong` for a token beyond the ring's limits, where it has
+    /// any, of `IncorrectSize` for a number of sections other than three or four, and of `PayloadBase64Decode` or
+    /// `Utf8Error` for a fourth section that holds no text; `NoFooter`;
     /// `NotAnObject`; `NoKeyId`; `UnknownKey` with the id; `Token` with the fault of `try_decrypt` under that key
-    /// and that footer. `Memory` may come in place of any answer but the first.
+    /// and that footer. `Memory` may come in place of any answer but the first two.
     pub fn open(&self, token: &str) -> Result<(String, String), KeyRingError>
-        ensures { IsRingAnswer (keys_of self.now)
+        ensures { IsRingAnswerWithin None self.now.limits (keys_of self.now)
             (λ key footer. opening v1 (record { key = key; footer = footer; assertion = [] }))
             token.now result }
     {
-        self.open_bound(token, None, None)
+        self.open_bound(token, None, None, None)
     }
 }
 
@@ -116,10 +119,10 @@ impl<V: DefaultAssertionVersion> Ring<PasetoSymmetricKey<V, Local>> {
         implicit_assertion: Option<ImplicitAssertion<'_>>,
     ) -> Result<(String, String), KeyRingError>
         ensures { let assertion = assertion_of implicit_assertion.entry in
-            IsRingAnswer (keys_of self.now)
+            IsRingAnswerWithin None self.now.limits (keys_of self.now)
             (λ key footer. opening V.design
             (record { key = key; footer = footer; assertion = assertion })) token.now result }
     {
-        self.open_bound(token, None, implicit_assertion)
+        self.open_bound(token, None, None, implicit_assertion)
     }
 }

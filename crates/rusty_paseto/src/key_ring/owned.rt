@@ -7,7 +7,7 @@ ghost use Rattle.rusty_paseto_generic.specs.Parsers.Held.{verdicts_of};
 ghost use Rattle.rusty_paseto_generic.specs.Parsers.Times.{times_at};
 ghost use Rattle.rusty_paseto_generic.specs.Parsers.Parsing.{assertion_in};
 ghost use Rattle.rusty_paseto.specs.Held.{keys_of};
-ghost use Rattle.rusty_paseto.specs.KeyRing.{IsParsingAnswer, IsRingAnswer, read_under};
+ghost use Rattle.rusty_paseto.specs.KeyRing.{IsParsingAnswerWithin, IsRingAnswerWithin, read_under};
 
 use crate::error::{KeyRingError, KeyRingParserError};
 use crate::key_ring::claims::claims_of;
@@ -33,7 +33,7 @@ impl<V: PublicVersion> Ring<PublicKey<V>> {
         ensures { let held = parser.now.parser in
             let assertion = assertion_of (assertion_in V.public_design.binds_assertion
             held.implicit_assertion) in
-            IsParsingAnswer (keys_of self.now)
+            IsParsingAnswerWithin held.longest self.now.limits (keys_of self.now)
             (λ key footer. verification V.valid V.refused V.public_design
             (record { key = key; footer = read_under held.footer footer; assertion = assertion }))
             (verdicts_of (λ b. verdict b) (times_at held.moment held.leeway) held.checks) token.now
@@ -54,14 +54,20 @@ impl<V: PublicVersion> Ring<PublicKey<V>> {
         ensures { let held = parser.now in
             let assertion = assertion_of (assertion_in V.public_design.binds_assertion
             held.implicit_assertion) in
-            IsParsingAnswer (keys_of self.now)
+            IsParsingAnswerWithin held.longest self.now.limits (keys_of self.now)
             (λ key footer. verification V.valid V.refused V.public_design
             (record { key = key; footer = read_under held.footer footer; assertion = assertion }))
             (verdicts_of (λ b. verdict b) (times_at held.moment held.leeway) held.checks) token.now
             result }
     {
         let assertion = V::signed_assertion(parser.expected_assertion());
-        let opened = self.verify_bound(scheme, token, parser.expected_footer(), assertion);
+        let opened = self.verify_bound(
+            scheme,
+            token,
+            parser.longest(),
+            parser.expected_footer(),
+            assertion,
+        );
         claims_of(parser, opened)
     }
 
@@ -71,6 +77,7 @@ impl<V: PublicVersion> Ring<PublicKey<V>> {
         &self,
         scheme: &S,
         token: &str,
+        longest: Option<usize>,
         expected: Option<Footer<'_>>,
         implicit_assertion: Option<ImplicitAssertion<'_>>,
     ) -> Result<(String, String), KeyRingError>
@@ -78,7 +85,7 @@ impl<V: PublicVersion> Ring<PublicKey<V>> {
         V: Verifies<S>,
         requires { V.public_design.binds_assertion ≡ false → implicit_assertion ≡ None }
         ensures { let assertion = assertion_of implicit_assertion.entry in
-            IsRingAnswer (keys_of self.now)
+            IsRingAnswerWithin longest self.now.limits (keys_of self.now)
             (λ key footer. verification V.valid V.refused V.public_design
             (record {
               key = key;
@@ -86,6 +93,7 @@ impl<V: PublicVersion> Ring<PublicKey<V>> {
               assertion = assertion;
             })) token.now result }
     {
+        self.admit(token, longest)?;
         let Found { footer, id, key } = self.find(token)?;
         let bound = expected.unwrap_or(Footer::from(footer.as_str()));
         let verified = V::verify(

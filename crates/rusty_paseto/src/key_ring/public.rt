@@ -8,7 +8,7 @@ ghost use Rattle.rusty_paseto_generic.specs.Parsers.Held.{verdicts_of};
 ghost use Rattle.rusty_paseto_generic.specs.Parsers.Times.{times_at};
 ghost use Rattle.rusty_paseto_generic.specs.Parsers.Parsing.{assertion_in};
 ghost use Rattle.rusty_paseto.specs.Held.{keys_of};
-ghost use Rattle.rusty_paseto.specs.KeyRing.{IsParsingAnswer, IsRingAnswer, read_under};
+ghost use Rattle.rusty_paseto.specs.KeyRing.{IsParsingAnswerWithin, IsRingAnswerWithin, read_under};
 
 use crate::error::{KeyRingError, KeyRingParserError};
 use crate::key_ring::claims::claims_of;
@@ -38,7 +38,7 @@ impl<V: PublicVersion> Ring<PasetoAsymmetricPublicKey<'_, V, Public>> {
         ensures { let held = parser.now.parser in
             let assertion = assertion_of (assertion_in V.public_design.binds_assertion
             held.implicit_assertion) in
-            IsParsingAnswer (keys_of self.now)
+            IsParsingAnswerWithin held.longest self.now.limits (keys_of self.now)
             (λ key footer. verification V.valid V.refused V.public_design
             (record { key = key; footer = read_under held.footer footer; assertion = assertion }))
             (verdicts_of (λ b. verdict b) (times_at held.moment held.leeway) held.checks) token.now
@@ -59,14 +59,20 @@ impl<V: PublicVersion> Ring<PasetoAsymmetricPublicKey<'_, V, Public>> {
         ensures { let held = parser.now in
             let assertion = assertion_of (assertion_in V.public_design.binds_assertion
             held.implicit_assertion) in
-            IsParsingAnswer (keys_of self.now)
+            IsParsingAnswerWithin held.longest self.now.limits (keys_of self.now)
             (λ key footer. verification V.valid V.refused V.public_design
             (record { key = key; footer = read_under held.footer footer; assertion = assertion }))
             (verdicts_of (λ b. verdict b) (times_at held.moment held.leeway) held.checks) token.now
             result }
     {
         let assertion = V::signed_assertion(parser.expected_assertion());
-        let opened = self.verify_bound(scheme, token, parser.expected_footer(), assertion);
+        let opened = self.verify_bound(
+            scheme,
+            token,
+            parser.longest(),
+            parser.expected_footer(),
+            assertion,
+        );
         claims_of(parser, opened)
     }
 
@@ -76,6 +82,7 @@ impl<V: PublicVersion> Ring<PasetoAsymmetricPublicKey<'_, V, Public>> {
         &self,
         scheme: &S,
         token: &str,
+        longest: Option<usize>,
         expected: Option<Footer<'_>>,
         implicit_assertion: Option<ImplicitAssertion<'_>>,
     ) -> Result<(String, String), KeyRingError>
@@ -83,7 +90,7 @@ impl<V: PublicVersion> Ring<PasetoAsymmetricPublicKey<'_, V, Public>> {
         V: Verifies<S>,
         requires { V.public_design.binds_assertion ≡ false → implicit_assertion ≡ None }
         ensures { let assertion = assertion_of implicit_assertion.entry in
-            IsRingAnswer (keys_of self.now)
+            IsRingAnswerWithin longest self.now.limits (keys_of self.now)
             (λ key footer. verification V.valid V.refused V.public_design
             (record {
               key = key;
@@ -91,6 +98,7 @@ impl<V: PublicVersion> Ring<PasetoAsymmetricPublicKey<'_, V, Public>> {
               assertion = assertion;
             })) token.now result }
     {
+        self.admit(token, longest)?;
         let Found { footer, id, key } = self.find(token)?;
         let bound = expected.unwrap_or(Footer::from(footer.as_str()));
         let verified = V::verify(
@@ -109,20 +117,21 @@ impl Ring<PasetoAsymmetricPublicKey<'_, V1, Public>> {
     /// Verifies a token by the caller's scheme under the key that its footer names, and checks no claim: the id, and
     /// the text that was signed.
     ///
-    /// Else it answers the first of these: `Untrusted` of `IncorrectSize` for a number of sections other than three
-    /// or four, and of `PayloadBase64Decode` or `Utf8Error` for a fourth section that holds no text; `NoFooter`;
+    /// Else it answers the first of these: `Untrusted` of `TooLong` for a token beyond the ring's limits, where it has
+    /// any, of `IncorrectSize` for a number of sections other than three or four, and of `PayloadBase64Decode` or
+    /// `Utf8Error` for a fourth section that holds no text; `NoFooter`;
     /// `NotAnObject`; `NoKeyId`; `UnknownKey` with the id; `Token` with the fault of `try_verify` under that key
-    /// and that footer. `Memory` may come in place of any answer but the first.
+    /// and that footer. `Memory` may come in place of any answer but the first two.
     pub fn verify<S: SignatureScheme<256>>(
         &self,
         scheme: &S,
         token: &str,
     ) -> Result<(String, String), KeyRingError>
-        ensures { IsRingAnswer (keys_of self.now)
+        ensures { IsRingAnswerWithin None self.now.limits (keys_of self.now)
             (λ key footer. verification S.valid S.refused v1_public
             (record { key = key; footer = footer; assertion = [] })) token.now result }
     {
-        self.verify_bound(scheme, token, None, None)
+        self.verify_bound(scheme, token, None, None, None)
     }
 }
 
@@ -134,11 +143,11 @@ impl Ring<PasetoAsymmetricPublicKey<'_, V2, Public>> {
         scheme: &S,
         token: &str,
     ) -> Result<(String, String), KeyRingError>
-        ensures { IsRingAnswer (keys_of self.now)
+        ensures { IsRingAnswerWithin None self.now.limits (keys_of self.now)
             (λ key footer. verification S.valid S.refused v2_public
             (record { key = key; footer = footer; assertion = [] })) token.now result }
     {
-        self.verify_bound(scheme, token, None, None)
+        self.verify_bound(scheme, token, None, None, None)
     }
 }
 
@@ -155,10 +164,10 @@ impl<V: DefaultAssertionVersion> Ring<PasetoAsymmetricPublicKey<'_, V, Public>> 
     where
         V: Verifies<S>,
         ensures { let assertion = assertion_of implicit_assertion.entry in
-            IsRingAnswer (keys_of self.now)
+            IsRingAnswerWithin None self.now.limits (keys_of self.now)
             (λ key footer. verification V.valid V.refused V.public_design
             (record { key = key; footer = footer; assertion = assertion })) token.now result }
     {
-        self.verify_bound(scheme, token, None, implicit_assertion)
+        self.verify_bound(scheme, token, None, None, implicit_assertion)
     }
 }

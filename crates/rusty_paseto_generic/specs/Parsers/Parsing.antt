@@ -1,5 +1,5 @@
 -- What a parser answers for a token.
-use Rattle.std.specs.Prelude.{◌≡◌, ◌⊎◌, ⊤, true, ℕ, Bool, List, if◌then◌else◌, Option, Some, None, Result, Err, IfOk, IfErr, OnOk, MatchResult, String, string_bytes}
+use Rattle.std.specs.Prelude.{◌≡◌, ◌⊎◌, ⊤, true, false, ℕ, Bool, List, length, if◌then◌else◌, Option, Some, None, Result, Err, IfOk, IfErr, OnOk, MatchResult, String, string_bytes}
 use Rattle.std.specs.Global.{Global}
 use Rattle.serde_json.specs.Data.{Data}
 use Rattle.serde_json.specs.Read.{read}
@@ -11,7 +11,8 @@ use Rattle.rusty_paseto_core.specs.Reading.{IsFault, IsRead, Reading}
 use Rattle.rusty_paseto_core.specs.Section.{HasCount, sections}
 use Rattle.rusty_paseto_core.specs.declared.ImplicitAssertion.{ImplicitAssertion}
 use Rattle.rusty_paseto_core.specs.declared.PasetoError.{PasetoError}
-use Rattle.rusty_paseto_core.specs.declared.PasetoError.TheVariants.{IncorrectSize}
+use Rattle.rusty_paseto_core.specs.declared.PasetoError.TheVariants.{IncorrectSize, TooLong}
+use Rattle.rusty_paseto_parts.specs.Limit.{is_beyond}
 use Rattle.rusty_paseto_generic.specs.Error.Parser.{IsMemory, of_cipher}
 use Rattle.rusty_paseto_generic.specs.Parsers.Rules.{Rules}
 use Rattle.rusty_paseto_generic.specs.Parsers.Verdicts.{IsFirstFailing, PassesAll}
@@ -90,6 +91,12 @@ pub record IsParseAnswer (reading : Reading) (rules : Rules Verdict) (token : Li
   pub complete : (value : Data) → IsParsed reading rules token value → MatchResult result (λ found. view found ≡ value) IsMemory
   pub count : ¬ HasCount (sections token) → result ≡ Err (CipherError IncorrectSize)
   pub fault : IfErr result (λ error. IsMemory error ⊎ IsFirstFault reading rules token error)
+
+-- the answer of a parser that reads tokens of at most so many bytes, where it has a limit: that a longer one is too long,
+-- whatever memory there is, and else that of parsing the token
+pub record IsAnswerWithin (longest : Option ℕ) (reading : Reading) (rules : Rules Verdict) (token : List ℕ) (result : Result Value GenericParserError) : Type 0 where
+  pub long : is_beyond longest (length token) ≡ true → result ≡ Err (CipherError TooLong)
+  pub answer : is_beyond longest (length token) ≡ false → IsParseAnswer reading rules token result
 
 -- the implicit assertion, in a version whose tokens are bound to one
 abbrev pub assertion_in : Bool → Option ImplicitAssertion → Option ImplicitAssertion

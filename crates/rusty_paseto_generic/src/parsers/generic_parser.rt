@@ -12,7 +12,7 @@ ghost use Rattle.rusty_paseto_core.specs.Public.Verifying.{verification};
 ghost use Rattle.rusty_paseto_generic.specs.Error.Parser.{IsMemory, IsRefusal};
 ghost use Rattle.rusty_paseto_generic.specs.Parsers.Held.{checkers_of, rules_of, verdicts_of, with_times};
 ghost use Rattle.rusty_paseto_generic.specs.Parsers.Times.{times_at};
-ghost use Rattle.rusty_paseto_generic.specs.Parsers.Parsing.{IsCheckAnswer, IsParseAnswer, IsTextAnswer, assertion_in};
+ghost use Rattle.rusty_paseto_generic.specs.Parsers.Parsing.{IsAnswerWithin, IsCheckAnswer, IsTextAnswer, assertion_in};
 ghost use Rattle.rusty_paseto_generic.specs.Parsers.Rules.{AreSame, IsStored, all_with_checkers, all_stored, edited, fault_in, no_rule, odd_fault, whole_answer, with_both, with_required, with_stored};
 
 use crate::builders::GenericLocalVersion;
@@ -26,8 +26,9 @@ use jiff::Timestamp;
 use rusty_paseto_claims::PasetoClaim;
 use rusty_paseto_core::{
     Footer, ImplicitAssertion, ImplicitAssertionCapable, Local, Paseto, PasetoAsymmetricPublicKey,
-    PasetoSymmetricKey, Public, PurposeTrait, SealedBox, V2, Verifies, VersionTrait,
+    PasetoError, PasetoSymmetricKey, Public, PurposeTrait, SealedBox, V2, Verifies, VersionTrait,
 };
+use rusty_paseto_parts::is_longer;
 use serde_json::Value;
 use std::alloc::Global;
 use std::collections::BTreeMap;
@@ -81,16 +82,19 @@ pub struct TokenParser<'a, V, P, B> {
     leeway: u32,
     footer: Option<Footer<'a>>,
     implicit_assertion: Option<ImplicitAssertion<'a>>,
+    // The most bytes of a token that is read, where there is a limit.
+    longest: Option<usize>,
 }
 
 impl<'a, V: VersionTrait, P: PurposeTrait, B: Drop> TokenParser<'a, V, P, B> {
-    /// A parser with no checks, no footer and no implicit assertion. All its memory is asked of the
+    /// A parser with no checks, no footer, no implicit assertion and no limit. All its memory is asked of the
     /// allocator, and none is taken yet.
     pub fn new(alloc: Global) -> Self
         ensures checks { (key : List ℕ) → rules_of result.checks key ≡ no_rule }
         ensures leeway { result.leeway ≡ 0 }
         ensures footer { result.footer ≡ None }
         ensures implicit_assertion { result.implicit_assertion ≡ None }
+        ensures longest { result.longest ≡ None }
     {
         TokenParser {
             version: PhantomData,
@@ -100,6 +104,7 @@ impl<'a, V: VersionTrait, P: PurposeTrait, B: Drop> TokenParser<'a, V, P, B> {
             leeway: 0,
             footer: None,
             implicit_assertion: None,
+            longest: None,
         }
     }
 
@@ -109,6 +114,7 @@ impl<'a, V: VersionTrait, P: PurposeTrait, B: Drop> TokenParser<'a, V, P, B> {
         ensures leeway { result.leeway ≡ 0 }
         ensures footer { result.footer ≡ None }
         ensures implicit_assertion { result.implicit_assertion ≡ None }
+        ensures longest { result.longest ≡ None }
     {
         TokenParser::new(alloc)
     }
@@ -148,6 +154,39 @@ impl<'a, V: VersionTrait, P: PurposeTrait, B: Drop> TokenParser<'a, V, P, B> {
     {
         self.leeway = seconds;
         self
+    }
+
+    /// Sets how many bytes a token may have, and keeps the rest. `parse` refuses a longer one before anything of it is
+    /// decoded, by `CipherError` of `TooLong`: without a limit, whoever sends a token says how much memory is asked for it.
+    /// There is none until it is set. No memory is taken.
+    ///
+    /// ```rust
+    /// use rusty_paseto_generic::{GenericParser, Local, PasetoError, PasetoSymmetricKey, V4};
+    /// use std::alloc::Global;
+    ///
+    /// /// Whether a token has more than 64 KiB, so that it was not read.
+    /// pub fn is_too_long(alloc: Global, token: &str, key: &PasetoSymmetricKey<V4, Local>) -> bool {
+    ///     let mut parser = GenericParser::<V4, Local>::new(alloc);
+    ///     parser.set_longest(65_536);
+    ///     match parser.parse(token, key) {
+    ///         Err(refusal) => matches!(refusal.cause(), Some(PasetoError::TooLong)),
+    ///         Ok(_) => false,
+    ///     }
+    /// }
+    /// ```
+    pub fn set_longest(&mut self, bytes: usize) -> &mut Self
+        ensures lent { result.ghost_name ≡ self.entry.ghost_name }
+        ensures change { result.now ≡ record self.entry.now { longest = Some bytes } }
+    {
+        self.longest = Some(bytes);
+        self
+    }
+
+    /// How many bytes a token may have, or `None` where no limit was set. No memory is taken.
+    pub fn longest(&self) -> Option<usize>
+        ensures { result ≡ self.now.longest }
+    {
+        self.longest
     }
 
     // When the times are checked.
@@ -198,7 +237,8 @@ impl<'a, V: VersionTrait, P: PurposeTrait, B: Drop> CheckSetter<B> for TokenPars
     ghost moment = { λ parser. parser.moment };
 
     ghost is_rest = { λ parser other. (parser.footer ≡ other.footer)
-        × (parser.implicit_assertion ≡ other.implicit_assertion) × (parser.leeway ≡ other.leeway) };
+        × (parser.implicit_assertion ≡ other.implicit_assertion) × (parser.leeway ≡ other.leeway)
+        × (parser.longest ≡ other.longest) };
 
     fn put_check<C: PasetoClaim>(&mut self, claim: &C) -> Result<(), GenericParserError> {
         self.checks.store(claim)
@@ -222,7 +262,7 @@ impl<'a, V: VersionTrait, P: PurposeTrait, B: Drop> CheckSetter<B> for TokenPars
         ensures moment { self.new.moment ≡ self.old.moment }
         ensures rest { (self.new.footer ≡ self.old.footer)
             × (self.new.implicit_assertion ≡ self.old.implicit_assertion)
-            × (self.new.leeway ≡ self.old.leeway) }
+            × (self.new.leeway ≡ self.old.leeway) × (self.new.longest ≡ self.old.longest) }
         ensures err { OnErr result (AreSame (rules_of self.new.checks) (rules_of self.old.checks)) }
         ensures fault { IfErr result IsMemory }
     {
@@ -294,11 +334,13 @@ impl<V: GenericLocalVersion> TokenParser<'_, V, Local, ValidatorFn> {
     /// Opens a token under the parser's footer and, in the versions 3 and 4, its implicit assertion, and answers
     /// the value of its text, which passes all checks.
     ///
-    /// Else it answers the first of these: `CipherError` of what `try_decrypt` of `Paseto` answers;
+    /// Else it answers the first of these: `CipherError` of `TooLong` for a token beyond the limit, where one was set;
+    /// `CipherError` of what `try_decrypt` of `Paseto` answers;
     /// `PayloadJsonError` for a text that is no JSON, nested at most 127 deep; `ClaimError` of `Unexpected` for a
     /// number that is not a whole number of 64 bits, with the first key in byte order whose value holds one, the
     /// empty text where the value is no object; `ClaimError` for the first key in byte order that fails its
-    /// check. `Memory` may come in place of any answer but that of a wrong number of sections.
+    /// check. `Memory` may come in place of any answer but those of a token that is too long and of a wrong number of
+    /// sections.
     ///
     /// Source: PASETO specification, "Version 1", "Version 3" and "Version 4", "Decrypt".
     pub fn parse(
@@ -308,10 +350,15 @@ impl<V: GenericLocalVersion> TokenParser<'_, V, Local, ValidatorFn> {
     ) -> Result<Value, GenericParserError>
         ensures { let binding = binding_of key.now self.now.footer
             (assertion_in V.design.binds_assertion self.now.implicit_assertion) in
-            IsParseAnswer (opening V.design binding)
+            IsAnswerWithin self.now.longest (opening V.design binding)
             (verdicts_of (λ b. verdict b) (times_at self.now.moment self.now.leeway)
             self.now.checks) token.now result }
     {
+        if is_longer(token, self.longest) {
+            return Err(GenericParserError::CipherError {
+                source: PasetoError::TooLong,
+            });
+        }
         let assertion = V::bound_assertion(self.implicit_assertion);
         let alloc = self.checks.allocator();
         let opened = V::open(alloc, token, key, self.footer, assertion);
@@ -331,10 +378,15 @@ impl TokenParser<'_, V2, Local, ValidatorFn> {
         key: &PasetoSymmetricKey<V2, Local>,
     ) -> Result<Value, GenericParserError>
         ensures { let binding = binding_of key.now self.now.footer None in
-            IsParseAnswer (box_opening S.sealing binding)
+            IsAnswerWithin self.now.longest (box_opening S.sealing binding)
             (verdicts_of (λ b. verdict b) (times_at self.now.moment self.now.leeway)
             self.now.checks) token.now result }
     {
+        if is_longer(token, self.longest) {
+            return Err(GenericParserError::CipherError {
+                source: PasetoError::TooLong,
+            });
+        }
         let alloc = self.checks.allocator();
         let opened = Paseto::<V2, Local>::try_decrypt(alloc, sealed_box, token, key, self.footer);
         parse_opened(&self.checks, &self.times(), opened)
@@ -359,10 +411,15 @@ impl<V> TokenParser<'_, V, Public, ValidatorFn> {
         V: Verifies<S>,
         ensures { let binding = binding_of key.now self.now.footer
             (assertion_in V.public_design.binds_assertion self.now.implicit_assertion) in
-            IsParseAnswer (verification V.valid V.refused V.public_design binding)
+            IsAnswerWithin self.now.longest (verification V.valid V.refused V.public_design binding)
             (verdicts_of (λ b. verdict b) (times_at self.now.moment self.now.leeway)
             self.now.checks) token.now result }
     {
+        if is_longer(token, self.longest) {
+            return Err(GenericParserError::CipherError {
+                source: PasetoError::TooLong,
+            });
+        }
         let assertion = V::signed_assertion(self.implicit_assertion);
         let alloc = self.checks.allocator();
         let opened = V::verify(alloc, scheme, token, key, self.footer, assertion);

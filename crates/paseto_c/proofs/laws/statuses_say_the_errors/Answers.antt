@@ -28,6 +28,7 @@ said Token.ChaChaCipherError known = refl
 said Token.Infallibale known = absurd (known refl)
 said Token.FromUtf8Error known = refl
 said (Token.Memory _) known = refl
+said Token.TooLong known = absurd (known refl)
 
 pub returns : goal.returns
 returns c = said

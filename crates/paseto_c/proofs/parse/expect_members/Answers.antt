@@ -29,4 +29,5 @@ loop-key-preserved g c =
       footer = c.in_ok-put_check.ensures.rest.0 ∙ invariant.footer;
       assertion = c.in_ok-put_check.ensures.rest.1 ∙ invariant.assertion;
       leeway = c.in_ok-put_check.ensures.rest.2 ∙ invariant.leeway;
+      longest = c.in_ok-put_check.ensures.rest.3 ∙ invariant.longest;
     }

@@ -14,5 +14,6 @@ invariant-loop-key g l = record {
   moment : l.parser.parser.moment ≡ l.fn.parser.parser.moment;
   leeway : l.parser.parser.leeway ≡ l.fn.parser.parser.leeway;
   footer : l.parser.parser.footer ≡ l.fn.parser.parser.footer;
+  longest : l.parser.parser.longest ≡ l.fn.parser.parser.longest;
   assertion : l.parser.parser.implicit_assertion ≡ l.fn.parser.parser.implicit_assertion;
 }

@@ -40,7 +40,7 @@ returns-clause-made c =
     let ready = rw (to_z-of_z _ _ c.ranges.now) at c.in_ok-parser.ensures.ok in
     let found = members_view c.in_ok-members.members.entries in
     let object = rw c.in_ok-expected.ensures.0 at c.in_ok-members.ensures in
-    let answer = c.open.ensures found ready.3 ready.4 in
+    let answer = c.open.ensures found ready.3 ready.7 ready.4 in
     let bound = rw (c.from-key.ensures, c.in_ok-key_of.ensures.0, ap footer_of ready.5 ∙ lent.1, ap assertion_of ready.6 ∙ lent.3, lent.0) at answer in
     answer_made _ _ _ _ _ _ _ (record { key = c.in_ok-key_of.ensures.1; nonce = tt; texts = (c.in_ok-expected.ensures.1, lent.5) })
     found c.in_ok-parser.parser.parser.moment (record { is_object = object; is_moment = ready.2; whole = ready.1 }) c.open.result c.text_of.result bound (c.text_of.ensures.ok, c.text_of.ensures.err)
@@ -51,7 +51,7 @@ returns-clause-whole c =
     let ready = rw (to_z-of_z _ _ c.ranges.now) at c.in_ok-parser.ensures.ok in
     let found = members_view c.in_ok-members.members.entries in
     let object = rw c.in_ok-expected.ensures.0 at c.in_ok-members.ensures in
-    let answer = c.open.ensures found ready.3 ready.4 in
+    let answer = c.open.ensures found ready.3 ready.7 ready.4 in
     let bound = rw (c.from-key.ensures, c.in_ok-key_of.ensures.0, ap footer_of ready.5 ∙ lent.1, ap assertion_of ready.6 ∙ lent.3, lent.0) at answer in
     answer_whole _ _ _ _ _ _ _ (record { key = c.in_ok-key_of.ensures.1; nonce = tt; texts = (c.in_ok-expected.ensures.1, lent.5) })
     found c.in_ok-parser.parser.parser.moment (record { is_object = object; is_moment = ready.2; whole = ready.1 }) c.open.result c.text_of.result bound (c.text_of.ensures.ok, c.text_of.ensures.err)

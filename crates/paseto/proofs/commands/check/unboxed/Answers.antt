@@ -5,6 +5,7 @@ use Rattle.rusty_paseto_paserk.specs.declared.header.PaserkType.TheVariants.{Loc
 use Rattle.paseto_xchacha20poly1305.specs.Sealing.{box_sealing}
 use Rattle.paseto.specs.Check.{demanded}
 use Rattle.paseto.proofs.Parsed.{parses, same_binding}
+use Rattle.rusty_paseto_parts.proofs.LimitLemmas.{unlimited}
 use Rattle.paseto.proofs.commands.check.unboxed.Goals as goal
 
 pub returns-clause-answer : goal.returns-clause-answer
@@ -15,4 +16,4 @@ returns-clause-answer c =
     parses (box_opening box_sealing) Local V2 c.args.key.now demands.footer demands.assertion c.args.token.now c.in_ok-key.key
     (record { bytes = key.bytes; is_key = key.form; is_writing = key.written }) _ _
     (same_binding _ c.reader-parser.result.parser.footer None demands.assertion false _ refl made.footer) made.rules
-    c.parsed.result c.parse.result c.parsed.ensures.value c.parsed.ensures.refused c.parse.ensures
+    c.parsed.result c.parse.result c.parsed.ensures.value c.parsed.ensures.refused (c.parse.ensures.answer (unlimited _ _ made.longest))

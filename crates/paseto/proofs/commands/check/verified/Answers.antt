@@ -6,6 +6,7 @@ use Rattle.rusty_paseto_paserk.specs.declared.header.PaserkType.TheVariants.{Pub
 use Rattle.paseto_tasks.specs.Arguments.{binds_in}
 use Rattle.paseto.specs.Check.{demanded}
 use Rattle.paseto.proofs.Parsed.{parses, same_binding}
+use Rattle.rusty_paseto_parts.proofs.LimitLemmas.{unlimited}
 use Rattle.paseto.proofs.commands.check.verified.Goals as goal
 
 pub returns-clause-answer : goal.returns-clause-answer
@@ -20,4 +21,4 @@ returns-clause-answer g c =
     (ap (λ (k : List ℕ). binding_of k held.footer (assertion_in g.V.PublicSuite.public_design.binds_assertion held.implicit_assertion)) c.lend.ensures
     ∙ ap (λ (b : Bool). binding_of c.in_ok-key.key held.footer (assertion_in b held.implicit_assertion)) c.requires
     ∙ same_binding _ held.footer held.implicit_assertion demands.assertion (binds_in g.V.KeyVersion.paserk) _ made.assertion made.footer) made.rules
-    c.parsed.result c.parse.result c.parsed.ensures.value c.parsed.ensures.refused c.parse.ensures
+    c.parsed.result c.parse.result c.parsed.ensures.value c.parsed.ensures.refused (c.parse.ensures.answer (unlimited _ _ made.longest))

@@ -27,4 +27,4 @@ returns-in_err-add_line-clause-none g t c =
     (rw c.deref.ensures at c.in_err-add_line.ensures.none))
 
 pub returns-in_default-clause-found : goal.returns-in_default-clause-found
-returns-in_default-clause-found g t c = rw (no_words c.args.lines.now c.in_default.len_below) ([], refl, fun_ext c.new.ensures)
+returns-in_default-clause-found g t c = rw (no_words c.args.lines.now c.in_default.len_below) ([], refl, fun_ext c.new.ensures.keys)

@@ -7,6 +7,7 @@ use Rattle.paseto.specs.Check.{demanded}
 use Rattle.paseto_tasks.specs.Id.{IsKeyOf}
 use Rattle.paseto.proofs.Parsed.{no_value}
 use Rattle.paseto.proofs.RingParsing.{no_keys, ring_parses}
+use Rattle.rusty_paseto.proofs.KeyRingLemmas.{unlimited}
 use Rattle.paseto.proofs.commands.ring.opened.Goals as goal
 
 pub returns-in_err-ring-clause-answer : goal.returns-in_err-ring-clause-answer
@@ -21,4 +22,4 @@ returns-clause-answer g c =
     let held = c.reader-parser.result.parser in
     ring_parses (opening g.V.LocalSuite.design) Local g.V.KeyVersion.paserk (words_of c.args.lines.now) (demanded c.args.demands.now).footer (demanded c.args.demands.now).assertion c.args.token.now
     c.in_ok-ring.ensures.found.0 (keys_of c.in_ok-ring.ring) held.footer g.V.LocalSuite.design.binds_assertion held.implicit_assertion _ c.in_ok-ring.ensures.found.1 c.in_ok-ring.ensures.found.2 c.requires made.assertion made.footer made.rules
-    c.found.result c.parse.result c.found.ensures.value c.found.ensures.refused c.parse.ensures
+    c.found.result c.parse.result c.found.ensures.value c.found.ensures.refused (c.parse.ensures.answer (unlimited _ _ _ made.longest c.in_ok-ring.ensures.limits))

@@ -7,6 +7,7 @@ use Rattle.rusty_paseto_paserk.specs.declared.header.PaserkType.TheVariants.{Loc
 use Rattle.paseto_tasks.specs.Arguments.{words_of}
 use Rattle.paseto.specs.Check.{demanded}
 use Rattle.paseto.proofs.RingParsing.{ring_parses}
+use Rattle.rusty_paseto.proofs.KeyRingLemmas.{unlimited}
 use Rattle.paseto.proofs.commands.ring.unboxed.Goals as goal
 
 pub returns-clause-answer : goal.returns-clause-answer
@@ -15,4 +16,4 @@ returns-clause-answer c =
     let held = c.reader-parser.result.parser in
     ring_parses (box_opening box_sealing) Local V2 (words_of c.args.lines.now) (demanded c.args.demands.now).footer (demanded c.args.demands.now).assertion c.args.token.now
     c.in_ok-ring.ensures.found.0 (keys_of c.in_ok-ring.ring) held.footer false None _ c.in_ok-ring.ensures.found.1 c.in_ok-ring.ensures.found.2 refl refl made.footer made.rules
-    c.found.result c.parse.result c.found.ensures.value c.found.ensures.refused c.parse.ensures
+    c.found.result c.parse.result c.found.ensures.value c.found.ensures.refused (c.parse.ensures.answer (unlimited _ _ _ made.longest c.in_ok-ring.ensures.limits))

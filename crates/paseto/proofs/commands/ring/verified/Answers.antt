@@ -8,6 +8,7 @@ use Rattle.paseto_tasks.specs.Id.{IsKeyOf}
 use Rattle.paseto.proofs.Parsed.{no_value}
 use Rattle.paseto.proofs.RingParsing.{no_keys, ring_parses}
 use Rattle.paseto.proofs.Rings.{in_words}
+use Rattle.rusty_paseto.proofs.KeyRingLemmas.{unlimited}
 use Rattle.paseto.proofs.commands.ring.verified.Goals as goal
 
 pub returns-in_err-keys-clause-answer : goal.returns-in_err-keys-clause-answer
@@ -26,4 +27,4 @@ returns-clause-answer g c =
     c.in_ok-keys.keys.items (keys_of c.in_ok-ring.ring) held.footer g.V.PublicSuite.public_design.binds_assertion held.implicit_assertion _ (in_words _ (IsKeyOf Public g.V.KeyVersion.paserk) Public g.V.KeyVersion.paserk (λ key is. g.met.V.Suite.writes_public key is)
     (words_of c.args.lines.now) c.in_ok-keys.keys.items c.in_ok-keys.ensures.found)
     (rw c.deref.ensures.value at c.in_ok-ring.ensures.ring) c.requires made.assertion made.footer made.rules
-    c.found.result c.parse.result c.found.ensures.value c.found.ensures.refused c.parse.ensures
+    c.found.result c.parse.result c.found.ensures.value c.found.ensures.refused (c.parse.ensures.answer (unlimited _ _ _ made.longest c.in_ok-ring.ensures.limits))

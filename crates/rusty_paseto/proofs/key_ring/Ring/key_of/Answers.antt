@@ -6,4 +6,4 @@ pub returns-clause-err : goal.returns-clause-err
 returns-clause-err g c =
     let asked : c.as_str.result.now ≡ string_bytes c.in_ok-id.id = c.as_str.ensures.value in
     let none : keys_of c.args.self.now (string_bytes c.in_ok-id.id) ≡ None = rw (← asked) (sym c.in-None.ensures.value) in
-    inr (c.in_ok-id.ensures.ok, none)
+    λ is. inr (c.in_ok-id.ensures.ok, none)
