@@ -33,7 +33,7 @@ OTHERS = 60
 SECONDS = {
     "paseto": 300, "paseto_bench": 60, "paseto_c": 275, "paseto_ed25519": 45, "paseto_edwards": 24, "paseto_edwards25519": 100,
     "paseto_montgomery": 100, "paseto_p384": 60, "paseto_polynomials": 35, "paseto_primes": 45, "paseto_tasks": 240,
-    "paseto_tool": 150, "paseto_weierstrass": 14, "paseto_words": 30, "paseto_xchacha20poly1305": 25, "rusty_paseto": 200,
+    "paseto_streams": 15, "paseto_tool": 150, "paseto_weierstrass": 14, "paseto_words": 200, "paseto_xchacha20poly1305": 25, "rusty_paseto": 200,
     "rusty_paseto_claims": 130, "rusty_paseto_core": 246, "rusty_paseto_generic": 290, "rusty_paseto_parts": 120,
     "rusty_paseto_paserk": 130, "rusty_paseto_primitives": 180,
 }
