@@ -8,4 +8,4 @@ pub mod Holders
 pub mod RingParsing
 pub mod Headers
 pub mod Checking
-pub mod Words
+pub mod SameWords

@@ -9,7 +9,7 @@ use Rattle.paseto.specs.Checked.{ChecksBy, ChecksFor, ChecksNothing}
 use Rattle.paseto_tasks.specs.Error.{IsNoUsage, IsOutside, Lacks}
 use Rattle.paseto_tasks.specs.declared.error.ProgramError.{ProgramError}
 use Rattle.paseto.specs.Issue.{AreNever, IsOrder, Issues, IssuesNone, IssuesNothing, Ordered, OrdersNothing}
-use Rattle.paseto.proofs.Words.{same_demands, same_order}
+use Rattle.paseto.proofs.SameWords.{same_demands, same_order}
 use Rattle.paseto_tasks.specs.Input.{line_of_input}
 use Rattle.paseto_tasks.specs.Output.{IsLeftOf}
 use Rattle.paseto_tasks.proofs.Outputs.{left_of_made}

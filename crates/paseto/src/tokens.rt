@@ -39,7 +39,7 @@ fn issued<W: Write>(
         key: key_name(words.key),
         input: "",
     };
-    let mut options = options_of(words.foot, words.assertion);
+    let mut options = options_of(words.foot, words.assertion, &[]);
     options.expires = words.expires;
     options.not_before = words.not_before;
     run_issue(
@@ -56,7 +56,11 @@ fn issued<W: Write>(
 }
 
 /// What words say of a token.
-fn options_of<'a>(foot: Foot<'a>, assertion: Option<&'a str>) -> Options<'a> {
+fn options_of<'a>(
+    foot: Foot<'a>,
+    assertion: Option<&'a str>,
+    required: &'a [&'a str],
+) -> Options<'a> {
     let (footer, kid) = match foot {
         Foot::Unsaid => (None, None),
         Foot::Text(text) => (Some(Footer::from(text)), None),
@@ -70,7 +74,7 @@ fn options_of<'a>(foot: Foot<'a>, assertion: Option<&'a str>) -> Options<'a> {
         not_before: None,
         at: None,
         leeway: None,
-        required: &[],
+        required,
     }
 }
 
@@ -133,10 +137,9 @@ fn checked<'a, R: Read>(
         key: name,
         input: name_of(words.input),
     };
-    let mut options = options_of(words.foot, words.assertion);
+    let mut options = options_of(words.foot, words.assertion, &words.required);
     options.at = words.at;
     options.leeway = words.leeway;
-    options.required = &words.required;
     Ok(run_check(
         rt.alloc(),
         &names,

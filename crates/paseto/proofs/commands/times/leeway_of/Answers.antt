@@ -1,4 +1,4 @@
-use Rattle.paseto.proofs.Words.{long_leeway}
+use Rattle.paseto.proofs.SameWords.{long_leeway}
 use Rattle.paseto.proofs.commands.times.leeway_of.Goals as goal
 
 pub returns-in_default-clause-none : goal.returns-in_default-clause-none

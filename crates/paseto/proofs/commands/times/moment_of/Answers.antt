@@ -1,4 +1,4 @@
-use Rattle.paseto.proofs.Words.{says_after, says_none}
+use Rattle.paseto.proofs.SameWords.{says_after, says_none}
 use Rattle.paseto.proofs.commands.times.moment_of.Goals as goal
 
 pub returns-in-Some : goal.returns-in-Some

@@ -1,4 +1,4 @@
-use Rattle.paseto.proofs.Words.{no_length, no_number}
+use Rattle.paseto.proofs.SameWords.{no_length, no_number}
 use Rattle.paseto.proofs.commands.times.seconds_of.Goals as goal
 
 pub returns-in_default : goal.returns-in_default
