@@ -2,7 +2,7 @@
 use Rattle.std.proofs.Common.{◌≡◌, ℕ, zero, suc, ◌+◌, ◌*◌, ◌/◌, ◌%◌, ◌^◌, ◌<◌, List, [], ◌∷◌, slice_index, slice_index_or, refl, ap, ◌∙◌, arith}
 use Rattle.rusty_paseto_primitives.specs.Blake2.Block.{word_at}
 use Rattle.rusty_paseto_primitives.proofs.Below.{below_eight}
-use Rattle.paseto_argon2.specs.Block.{registers, rows}
+use Rattle.paseto_argon2.specs.Block.{registers, row_words, rows, transposed}
 use Rattle.paseto_argon2.specs.Permutation.{register, row}
 
 -- the sum of four numbers, of which two are equal
@@ -32,6 +32,22 @@ word_in_registers block a k e lt =
     ∙ ap (λ (r : List ℕ). slice_index r (k % 2)) (row-at (λ n. f (16 * (k / 16) + n)) (k % 16 / 2) (omega arith))
     ∙ register-at (λ n. f (16 * (k / 16) + n)) (k % 16 / 2) (k % 2) (omega arith)
     ∙ ap f place
+
+-- register j of each row
+abbrev pub column_of : List (List (List ℕ)) → ℕ → List (List ℕ)
+column_of block j =
+    slice_index_or (slice_index_or block 0 []) j [] ∷ slice_index_or (slice_index_or block 1 []) j []
+    ∷ slice_index_or (slice_index_or block 2 []) j [] ∷ slice_index_or (slice_index_or block 3 []) j []
+    ∷ slice_index_or (slice_index_or block 4 []) j [] ∷ slice_index_or (slice_index_or block 5 []) j []
+    ∷ slice_index_or (slice_index_or block 6 []) j [] ∷ slice_index_or (slice_index_or block 7 []) j [] ∷ []
+
+pub column_in_registers : (block : List (List (List ℕ))) (a : List ℕ) (j : ℕ) → block ≡ registers a → j < 8
+    → column_of block j ≡ row (slice_index (row_words (transposed a) j))
+unfolding registers transposed
+column_in_registers block a j e lt =
+    ap (λ (b : List (List (List ℕ))). column_of b j) e
+    ∙ below_eight (λ (k : ℕ). column_of (rows (slice_index a)) k ≡ row (slice_index (row_words (transposed a) k)))
+    refl refl refl refl refl refl refl refl j lt
 
 -- two words, told by other numbers for their places
 pub words_elsewhere : (b v : List ℕ) (n k l : ℕ) → v ≡ word_at b n ∷ word_at b (n + 1) ∷ [] → n ≡ k → n + 1 ≡ l

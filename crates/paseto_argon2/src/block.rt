@@ -2,7 +2,7 @@
 
 ghost use Rattle.std.specs.Prelude.{◌≡◌, ℕ, ◌<◌, ◌≤◌, ◌+◌, ◌*◌, List, [], ◌∷◌, bit_xor, length, slice_index};
 ghost use Rattle.rusty_paseto_primitives.specs.Blake2.Block.{word_at};
-ghost use Rattle.paseto_argon2.specs.Block.{block_bytes, block_of, columns_permuted, compressed, registers, rows_permuted, transposed, xored, zero_block};
+ghost use Rattle.paseto_argon2.specs.Block.{block_bytes, block_of, compressed, registers, row_words, rows_permuted, transposed, xored, zero_block};
 ghost use Rattle.paseto_argon2.specs.Permutation.{row};
 
 use crate::permutation::permuted;
@@ -60,8 +60,8 @@ pub(crate) fn xored(x: &Block, y: &Block) -> Block
 }
 
 #[inline(always)]
-fn rows_permuted(x: Block) -> Block
-    ensures { (a : List ℕ) → x ≡ registers a → result ≡ registers (rows_permuted a) }
+fn rows_permuted(x: &Block) -> Block
+    ensures { (a : List ℕ) → x.now ≡ registers a → result ≡ registers (rows_permuted a) }
 {
     [
         permuted(x[0]),
@@ -75,28 +75,56 @@ fn rows_permuted(x: Block) -> Block
     ]
 }
 
+// The registers in column `j`, which the caller gives as a constant.
 #[inline(always)]
-fn transposed(x: Block) -> Block
-    ensures { (a : List ℕ) → x ≡ registers a → result ≡ registers (transposed a) }
+fn column_of(x: &Block, j: usize) -> [u64x2; 8]
+    requires { j < 8 }
+    ensures { (a : List ℕ) → x.now ≡ registers a → result ≡ row (slice_index (row_words (transposed a) j)) }
 {
-    let [a, b, c, d, e, f, g, h] = x;
     [
-        [a[0], b[0], c[0], d[0], e[0], f[0], g[0], h[0]],
-        [a[1], b[1], c[1], d[1], e[1], f[1], g[1], h[1]],
-        [a[2], b[2], c[2], d[2], e[2], f[2], g[2], h[2]],
-        [a[3], b[3], c[3], d[3], e[3], f[3], g[3], h[3]],
-        [a[4], b[4], c[4], d[4], e[4], f[4], g[4], h[4]],
-        [a[5], b[5], c[5], d[5], e[5], f[5], g[5], h[5]],
-        [a[6], b[6], c[6], d[6], e[6], f[6], g[6], h[6]],
-        [a[7], b[7], c[7], d[7], e[7], f[7], g[7], h[7]],
+        x[0][j],
+        x[1][j],
+        x[2][j],
+        x[3][j],
+        x[4][j],
+        x[5][j],
+        x[6][j],
+        x[7][j],
     ]
 }
 
+// The rows and columns of registers exchanged.
 #[inline(always)]
-fn columns_permuted(x: Block) -> Block
-    ensures { (a : List ℕ) → x ≡ registers a → result ≡ registers (columns_permuted a) }
+fn transposed(x: &Block) -> Block
+    ensures { (a : List ℕ) → x.now ≡ registers a → result ≡ registers (transposed a) }
 {
-    transposed(rows_permuted(transposed(x)))
+    [
+        column_of(x, 0),
+        column_of(x, 1),
+        column_of(x, 2),
+        column_of(x, 3),
+        column_of(x, 4),
+        column_of(x, 5),
+        column_of(x, 6),
+        column_of(x, 7),
+    ]
+}
+
+// P on each column, which is left as a row.
+#[inline(always)]
+fn columns_permuted(x: &Block) -> Block
+    ensures { (a : List ℕ) → x.now ≡ registers a → result ≡ registers (rows_permuted (transposed a)) }
+{
+    [
+        permuted(column_of(x, 0)),
+        permuted(column_of(x, 1)),
+        permuted(column_of(x, 2)),
+        permuted(column_of(x, 3)),
+        permuted(column_of(x, 4)),
+        permuted(column_of(x, 5)),
+        permuted(column_of(x, 6)),
+        permuted(column_of(x, 7)),
+    ]
 }
 
 // G of two blocks.
@@ -106,7 +134,8 @@ pub(crate) fn compressed(x: &Block, y: &Block) -> Block
         → result ≡ registers (compressed a b) }
 {
     let r = xored(x, y);
-    xored(&columns_permuted(rows_permuted(r)), &r)
+    let columns = columns_permuted(&rows_permuted(&r));
+    xored(&transposed(&columns), &r)
 }
 
 // Register `k` of bytes.
