@@ -19,7 +19,7 @@ pub struct Parameters {
     pub lanes: u32,
 }
 
-// Twice 2^31, from which on a length does not fit its four bytes.
+// The first length that four bytes do not hold.
 const TOO_LONG: usize = 1 << 32;
 
 const TOO_MANY_LANES: u32 = 1 << 24;

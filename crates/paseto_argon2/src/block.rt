@@ -138,7 +138,7 @@ pub(crate) fn compressed(x: &Block, y: &Block) -> Block
     xored(&transposed(&columns), &r)
 }
 
-// Register `k` of bytes.
+// Register `k` of a block's bytes.
 #[inline(always)]
 fn register_at(bytes: &[u8], k: usize) -> u64x2
     requires { 16 * k + 16 ≤ length bytes.now }
