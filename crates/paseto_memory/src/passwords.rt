@@ -29,6 +29,14 @@ fn key_of(alloc: Global, password: &[u8]) -> Result<[u8; 32], Argon2Error> {
 
 fn key_with_secret(alloc: Global, password: &[u8]) -> Result<[u8; 32], Argon2Error> {
     let mut key = [0; 32];
-    argon2id_with(alloc, password, b"somesalt", b"a secret", b"data", COST, &mut key)?;
+    argon2id_with(
+        alloc,
+        password,
+        b"somesalt",
+        b"a secret",
+        b"data",
+        COST,
+        &mut key,
+    )?;
     Ok(key)
 }
