@@ -81,10 +81,7 @@ fn show_primitives(rt: &HostRuntime) -> Result<()> {
         password_key[0], password_key[47]
     )?;
     let argon2_key = argon2_key::key_of(rt.alloc(), "a password", &[7u8; 16])?;
-    println!(rt;
-        "key by Argon2id: {} and {}",
-        argon2_key[0], argon2_key[31]
-    )?;
+    println!(rt; "key by Argon2id: {} and {}", argon2_key[0], argon2_key[31])?;
     let contents = der_sequence::sequence(&[0x30, 3, 2, 1, 4]);
     println!(rt; "contents of a SEQUENCE: {contents:?}")?;
     Ok(())
