@@ -1,5 +1,5 @@
 -- How the memory grows, block by block.
-use Rattle.std.proofs.Common.{◌≡◌, ◌≢◌, ℕ, zero, suc, ◌+◌, ◌-◌, ◌*◌, ◌/◌, ◌%◌, ◌^◌, ◌<◌, ◌≤◌, ◌==◌, Bool, true, false, ◌&&◌, IsTrue, not, nat_lt, List, [], ◌∷◌, map, slice_index, slice_index_or, slice_set, refl, sym, ap, ◌∙◌, arith, add-one}
+use Rattle.std.proofs.Common.{◌≡◌, ℕ, ◌+◌, ◌-◌, ◌/◌, ◌%◌, ◌<◌, ◌≤◌, ◌==◌, true, false, IsTrue, not, nat_lt, List, [], map, slice_index, slice_index_or, slice_set, refl, ap, ◌∙◌, arith, add-one}
 use Rattle.std.proofs.lemmas.Bool.Decides.{nat_tests}
 use Rattle.paseto_argon2.specs.Block.{compressed, registers, xored}
 use Rattle.paseto_argon2.specs.Filling.{Setting, address_block, after_blocks, after_lanes, after_passes, after_slices, area, block_at, column, column_before, columns, first_block, is_independent, last_blocks, made, next_block, place, random_word, reference_column, reference_lane, with_block}

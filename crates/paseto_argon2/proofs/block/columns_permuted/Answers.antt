@@ -1,4 +1,4 @@
-use Rattle.std.proofs.Common.{List, ℕ, refl}
+use Rattle.std.proofs.Common.{refl}
 use Rattle.paseto_argon2.specs.Block.{registers, row_words, rows_permuted, transposed}
 use Rattle.paseto_argon2.proofs.block.columns_permuted.Goals as goal
 

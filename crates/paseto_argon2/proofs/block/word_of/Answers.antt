@@ -1,4 +1,3 @@
-use Rattle.std.proofs.Common.{arith}
 use Rattle.paseto_argon2.proofs.Registers.{word_in_registers}
 use Rattle.paseto_argon2.proofs.block.word_of.Goals as goal
 

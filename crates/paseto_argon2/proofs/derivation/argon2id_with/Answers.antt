@@ -1,4 +1,4 @@
-use Rattle.std.proofs.Common.{◌≡◌, ℕ, List, [], length, ap, ◌∙◌, rules}
+use Rattle.std.proofs.Common.{ℕ, List, length, ap, ◌∙◌, rules}
 use Rattle.std.proofs.lemmas.List.{append-nil}
 use Rattle.paseto_argon2.specs.Block.{block_bytes}
 use Rattle.paseto_argon2.specs.Derivation.{argon2id, setting}

@@ -1,5 +1,4 @@
-use Rattle.std.proofs.Common.{[], ◌∙◌, ◌≡◌, length, ap, ℕ, List}
-use Rattle.paseto_argon2.specs.VariableHash.{hash}
+use Rattle.std.proofs.Common.{[]}
 use Rattle.paseto_argon2.proofs.variable_hash.hash_into.Goals as goal
 
 pub returns : goal.returns

@@ -1,4 +1,4 @@
-use Rattle.std.proofs.Common.{◌≡◌, ◌-◌, ◌*◌, length, take}
+use Rattle.std.proofs.Common.{◌≡◌, ◌-◌, ◌*◌, take}
 use Rattle.paseto_argon2.specs.VariableHash.{fronts, linked}
 use Rattle.paseto_argon2.proofs.variable_hash.long_output.Given as goal
 

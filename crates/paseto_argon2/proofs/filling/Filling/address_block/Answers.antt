@@ -1,4 +1,4 @@
-use Rattle.std.proofs.Common.{◌≡◌, ℕ, ◌+◌, ◌*◌, List, [], ◌∷◌, replicate, slice_set, refl}
+use Rattle.std.proofs.Common.{ℕ, ◌+◌, ◌*◌, List, ◌∷◌, replicate, refl}
 use Rattle.paseto_argon2.specs.Block.{compressed, registers, zero_block}
 use Rattle.paseto_argon2.specs.Filling.{address_block}
 use Rattle.paseto_argon2.proofs.filling.Filling.address_block.Goals as goal

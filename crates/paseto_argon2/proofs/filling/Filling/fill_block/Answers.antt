@@ -1,4 +1,4 @@
-use Rattle.std.proofs.Common.{◌≡◌, ℕ, ◌<◌, ◌≤◌, List, [], slice_index_or, refl, ap, ◌∙◌, arith}
+use Rattle.std.proofs.Common.{ℕ, ◌≤◌, List, [], slice_index_or, refl, ap, ◌∙◌, arith}
 use Rattle.paseto_argon2.specs.Block.{xored}
 use Rattle.paseto_argon2.specs.Filling.{Setting, column, made}
 use Rattle.paseto_argon2.specs.Settings.{setting_of}

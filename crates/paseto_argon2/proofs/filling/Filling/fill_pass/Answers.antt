@@ -1,4 +1,4 @@
-use Rattle.std.proofs.Common.{◌≡◌, ℕ, List, map, ap, ◌∙◌, arith}
+use Rattle.std.proofs.Common.{◌≡◌, ℕ, map, ap, ◌∙◌, arith}
 use Rattle.paseto_argon2.specs.Block.{registers}
 use Rattle.paseto_argon2.specs.Filling.{after_slices}
 use Rattle.paseto_argon2.specs.Settings.{setting_of}

@@ -1,4 +1,4 @@
-use Rattle.std.proofs.Common.{◌≡◌, ℕ, ◌-◌, ◌*◌, List, [], slice_index_or, ap, ◌∙◌, arith}
+use Rattle.std.proofs.Common.{◌≡◌, ℕ, ◌-◌, [], slice_index_or, ap, ◌∙◌, arith}
 use Rattle.paseto_argon2.specs.Block.{registers, xored}
 use Rattle.paseto_argon2.specs.Filling.{Setting, last_blocks, place}
 use Rattle.paseto_argon2.specs.Settings.{setting_of}
