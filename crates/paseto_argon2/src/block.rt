@@ -82,14 +82,7 @@ fn column_of(x: &Block, j: usize) -> [u64x2; 8]
     ensures { (a : List ℕ) → x.now ≡ registers a → result ≡ row (slice_index (row_words (transposed a) j)) }
 {
     [
-        x[0][j],
-        x[1][j],
-        x[2][j],
-        x[3][j],
-        x[4][j],
-        x[5][j],
-        x[6][j],
-        x[7][j],
+        x[0][j], x[1][j], x[2][j], x[3][j], x[4][j], x[5][j], x[6][j], x[7][j],
     ]
 }
 
