@@ -1,5 +1,5 @@
--- Blocks of 1024 bytes, and the compression function G (RFC 9106, section 3.5). A block is the list of its 128 words. It
--- is also a matrix of eight rows of eight registers, of two words each.
+-- Blocks of 1024 bytes, and the compression function G (RFC 9106, section 3.5). A block is the list of its 128 words.
+-- It is also a matrix of eight rows of eight registers, of two words each.
 use Rattle.std.specs.Prelude.{ℕ, ◌+◌, ◌*◌, ◌/◌, ◌%◌, List, [], ◌∷◌, map, replicate, bit_xor, slice_index}
 use Rattle.std.specs.List.{range_with_len}
 use Rattle.rusty_paseto_primitives.specs.Blake2.Block.{word_at}

@@ -5,8 +5,8 @@ use Rattle.paseto_argon2.specs.Filling.{Setting, final_block}
 use Rattle.paseto_argon2.specs.VariableHash.{hash, le32, variable_hash}
 use Rattle.paseto_argon2.specs.declared.allowed.Parameters.{Parameters}
 
--- H_0, of the password P, the salt S, the secret K, the associated data X, the parameters, and the length t of the output. 0x13 is
--- the version, and 2 says that this is Argon2id
+-- H_0, of the password P, the salt S, the secret K, the associated data X, the parameters, and the length t of the
+-- output. 0x13 is the version, and 2 says that this is Argon2id
 unfoldable pub seed : List ℕ → List ℕ → List ℕ → List ℕ → Parameters → ℕ → List ℕ
 seed password salt secret associated parameters t =
     hash 64 (le32 parameters.lanes ++ le32 t ++ le32 parameters.memory ++ le32 parameters.passes ++ le32 0x13 ++ le32 2

@@ -1,11 +1,12 @@
--- How the memory is filled (RFC 9106, sections 3.2 and 3.4), for Argon2id. The memory is the matrix of blocks, row after row:
--- a row is a lane, and four segments side by side make it up. The segments of all lanes in one place are a slice.
+-- How the memory is filled (RFC 9106, sections 3.2 and 3.4), for Argon2id. The memory is the matrix of blocks, row
+-- after row: a row is a lane, and four segments side by side make it up. The segments of all lanes in one place are a
+-- slice.
 use Rattle.std.specs.Prelude.{ℕ, zero, suc, ◌+◌, ◌-◌, ◌*◌, ◌/◌, ◌%◌, ◌^◌, ◌==◌, Bool, ◌&&◌, nat_lt, if◌then◌else◌, List, [], ◌∷◌, ◌++◌, replicate, slice_index, slice_index_or, slice_set}
 use Rattle.paseto_argon2.specs.Block.{block_of, compressed, xored, zero_block}
 use Rattle.paseto_argon2.specs.VariableHash.{le32, variable_hash}
 
--- what the filling depends on: H_0, the number of lanes p, the number of blocks in a segment, which is a quarter of the columns
--- q, and the number of passes t
+-- what the filling depends on: H_0, the number of lanes p, the number of blocks in a segment, which is a quarter of
+-- the columns q, and the number of passes t
 pub record Setting : Type 0 where
   pub seed : List ℕ
   pub lanes : ℕ
@@ -35,8 +36,8 @@ column_before s j = (j + columns s - 1) % columns s
 unfoldable pub first_block : Setting → ℕ → ℕ → List ℕ
 first_block s i j = block_of (variable_hash 1024 (s.seed ++ le32 j ++ le32 i))
 
--- block k of the numbers J_1 and J_2 of a segment, of pass r, lane i and slice sl, where they depend on no data: 2 says that
--- this is Argon2id (3.4.1.2)
+-- block k of the numbers J_1 and J_2 of a segment, of pass r, lane i and slice sl, where they depend on no data: 2
+-- says that this is Argon2id (3.4.1.2)
 unfoldable pub address_block : Setting → ℕ → ℕ → ℕ → ℕ → List ℕ
 address_block s r i sl k =
     compressed zero_block (compressed zero_block
@@ -49,18 +50,22 @@ is_independent r sl = r == 0 && nat_lt sl 2
 -- J_1 and J_2 for block n of a segment, as one word, in which J_1 is the lower half (3.4.1)
 unfoldable pub random_word : Setting → List (List ℕ) → ℕ → ℕ → ℕ → ℕ → ℕ
 random_word s m r i sl n =
-    if is_independent r sl then slice_index (address_block s r i sl (n / 128)) (n % 128) else slice_index (block_at s m i (column_before s (column s sl n))) 0
+    if is_independent r sl
+    then slice_index (address_block s r i sl (n / 128)) (n % 128)
+    else slice_index (block_at s m i (column_before s (column s sl n))) 0
 
 -- the lane l that the word x refers to: in the first slice of the first pass the current one (3.4.2)
 unfoldable pub reference_lane : Setting → ℕ → ℕ → ℕ → ℕ → ℕ
 reference_lane s r i sl x = if (r == 0 && sl == 0) then i else x / 2 ^ 32 % s.lanes
 
--- the number of blocks of a lane in finished segments: in the first pass all earlier ones, and then the last three (3.4.2)
+-- the number of blocks of a lane in finished segments: in the first pass all earlier ones, and then the last three
+-- (3.4.2)
 unfoldable pub finished : Setting → ℕ → ℕ → ℕ
 finished s r sl = if r == 0 then sl * s.segment else 3 * s.segment
 
--- the number of blocks that block n of a segment may refer to, |W|: the finished ones, in the own lane also those of this segment
--- but the one before, and in another lane, for the first block of a segment, all but the very last (3.4.2)
+-- the number of blocks that block n of a segment may refer to, |W|: the finished ones, in the own lane also those of
+-- this segment but the one before, and in another lane, for the first block of a segment, all but the very last
+-- (3.4.2)
 unfoldable pub area : Setting → ℕ → ℕ → ℕ → Bool → ℕ
 area s r sl n is_own =
     if is_own then finished s r sl + n - 1 else (if n == 0 then finished s r sl - 1 else finished s r sl)
@@ -91,7 +96,9 @@ made s m r i sl n x =
 unfoldable pub next_block : Setting → List (List ℕ) → ℕ → ℕ → ℕ → ℕ → ℕ → List ℕ
 next_block s m r i sl n x =
     let j = column s sl n in
-    if r == 0 then (if nat_lt j 2 then first_block s i j else made s m r i sl n x) else xored (made s m r i sl n x) (block_at s m i j)
+    if r == 0
+    then (if nat_lt j 2 then first_block s i j else made s m r i sl n x)
+    else xored (made s m r i sl n x) (block_at s m i j)
 
 -- the memory with block n of a segment made
 unfoldable pub with_block : Setting → List (List ℕ) → ℕ → ℕ → ℕ → ℕ → ℕ → List (List ℕ)

@@ -7,15 +7,16 @@ use crate::error::Argon2Error;
 
 /// What Argon2id costs, who makes a key and who guesses passwords alike.
 ///
-/// RFC 9106, section 4, recommends 2 GiB with one pass and 4 lanes, and where there is less memory 64 MiB with three passes
-/// and 4 lanes.
+/// RFC 9106, section 4, recommends 2 GiB with one pass and 4 lanes, and where there is less memory 64 MiB with three
+/// passes and 4 lanes.
 #[derive(Debug, Clone, Copy, PartialEq, Eq)]
 pub struct Parameters {
     /// The memory in KiB, at least 8 for each lane.
     pub memory: u32,
     /// How often all of the memory is filled, at least once.
     pub passes: u32,
-    /// How many threads could fill the memory at once, 1 to 16,777,215. Here one does, so that more lanes cost the same.
+    /// How many threads could fill the memory at once, 1 to 16,777,215. Here one does, so that more lanes cost the
+    /// same.
     pub lanes: u32,
 }
 

@@ -20,8 +20,8 @@ const VERSION: u32 = 0x13;
 // The type of Argon2 that Argon2id is.
 const TYPE: u32 = 2;
 
-/// Fills `output` with the key that Argon2id makes of a password and a salt. See `argon2id_with`, whose secret and associated
-/// data are empty here.
+/// Fills `output` with the key that Argon2id makes of a password and a salt. See `argon2id_with`, whose secret and
+/// associated data are empty here.
 pub fn argon2id(
     alloc: Global,
     password: &[u8],
@@ -29,9 +29,11 @@ pub fn argon2id(
     parameters: Parameters,
     output: &mut [u8],
 ) -> Result<(), Argon2Error>
-    ensures ok { IfOk result (λ _. (fault (length password.now) (length salt.now) 0 0 parameters (length output.old) ≡ None)
+    ensures ok { IfOk result
+        (λ _. (fault (length password.now) (length salt.now) 0 0 parameters (length output.old) ≡ None)
         × (output.new ≡ argon2id password.now salt.now [] [] parameters (length output.old))) }
-    ensures err { IfErr result (λ error. IsRefusal (fault (length password.now) (length salt.now) 0 0 parameters (length output.old)) error) }
+    ensures err { IfErr result (λ error. IsRefusal
+        (fault (length password.now) (length salt.now) 0 0 parameters (length output.old)) error) }
     ensures unchanged { OnErr result (output.new ≡ output.old) }
 {
     argon2id_with(alloc, password, salt, &[], &[], parameters, output)
@@ -40,13 +42,14 @@ pub fn argon2id(
 /// Fills `output` with the key that Argon2id makes of a password, a salt, a secret that is kept apart from both, and
 /// associated data.
 ///
-/// The salt has at least 8 bytes, best 16 that were drawn for this password; the secret and the associated data may be empty.
-/// The output has at least 4 bytes. As much memory is taken as the parameters say, and given back without being wiped. One
-/// thread fills it. Which places of it are read depends on the password from the second half of the first pass on.
+/// The salt has at least 8 bytes, best 16 that were drawn for this password; the secret and the associated data may
+/// be empty. The output has at least 4 bytes. As much memory is taken as the parameters say, and given back without
+/// being wiped. One thread fills it. Which places of it are read depends on the password from the second half of the
+/// first pass on.
 ///
-/// What is not allowed is refused by name (`Argon2Error`), and where there is less memory, `Memory` is told. The output is then as
-/// it was. Parameters that somebody else chose may ask for all memory and for hours: compare them with bounds of your own
-/// first.
+/// What is not allowed is refused by name (`Argon2Error`), and where there is less memory, `Memory` is told. The
+/// output is then as it was. Parameters that somebody else chose may ask for all memory and for hours: compare them
+/// with bounds of your own first.
 ///
 /// Source: RFC 9106, section 3.
 pub fn argon2id_with(
@@ -58,7 +61,8 @@ pub fn argon2id_with(
     parameters: Parameters,
     output: &mut [u8],
 ) -> Result<(), Argon2Error>
-    ensures ok { IfOk result (λ _. (fault (length password.now) (length salt.now) (length secret.now) (length associated_data.now)
+    ensures ok { IfOk result
+        (λ _. (fault (length password.now) (length salt.now) (length secret.now) (length associated_data.now)
         parameters (length output.old) ≡ None)
         × (output.new ≡ argon2id password.now salt.now secret.now associated_data.now parameters (length output.old))) }
     ensures err { IfErr result (λ error. IsRefusal (fault (length password.now) (length salt.now) (length secret.now)

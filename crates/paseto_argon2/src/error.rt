@@ -6,8 +6,8 @@ ghost use Rattle.std.specs.Prelude.{◌≡◌};
 use std::alloc::AllocError;
 use thiserror::Error;
 
-/// Why Argon2id made no key. All but `Memory` say that the RFC, or this crate, does not allow what was given; of several, the
-/// first in this order is told.
+/// Why Argon2id made no key. All but `Memory` say that the RFC, or this crate, does not allow what was given; of
+/// several, the first in this order is told.
 #[derive(Debug, Drop, Error)]
 pub enum Argon2Error {
     /// There is no lane.

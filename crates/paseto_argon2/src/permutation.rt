@@ -1,5 +1,5 @@
-//! The permutation P on eight registers (RFC 9106, section 3.6). A register is a vector of two words, and GB works on two
-//! columns or diagonals at once, in the lanes of vectors.
+//! The permutation P on eight registers (RFC 9106, section 3.6). A register is a vector of two words, and GB works on
+//! two columns or diagonals at once, in the lanes of vectors.
 
 ghost use Rattle.std.specs.Prelude.{◌≡◌, ℕ, ◌%◌, ◌^◌, ◌<◌, List, [], ◌∷◌, bit_xor, slice_index};
 ghost use Rattle.std.specs.Int.{w64, rotate_right};
