@@ -579,6 +579,25 @@ static bool prepare_p384(void)
            && ours_p384_verify(NULL, NULL, 1) == 1;
 }
 
+static uint64_t ours_argon2id(const struct subject *subject, uint8_t *out, uint32_t reps)
+{
+    (void)subject;
+    return paseto_bench_argon2id(key, 32, nonce, 16, out, 32, reps);
+}
+
+static uint64_t peer_argon2id(const struct subject *subject, uint8_t *out, uint32_t reps)
+{
+    (void)subject;
+    uint64_t sum = 0;
+    for (uint32_t repetition = 0; repetition < reps; repetition++) {
+        if (crypto_pwhash(out, 32, (const char *)key, 32, nonce, 2, 64 << 20, crypto_pwhash_ALG_ARGON2ID13) != 0) {
+            return FAILED;
+        }
+        sum += out[31];
+    }
+    return sum;
+}
+
 /* The keys of RSA in their encodings, and the peer's signature of the row's text. */
 static struct peer_bytes rsa_private, rsa_public;
 static uint8_t rsa_signature[256];
@@ -823,7 +842,7 @@ static struct peer_bytes claims_prepared(const struct subject *subject)
     return made;
 }
 
-#define SUBJECTS 34
+#define SUBJECTS 35
 static const struct subject subjects[SUBJECTS] = {
     TOKENS(4),
     TOKENS(3),
@@ -852,6 +871,7 @@ static const struct subject subjects[SUBJECTS] = {
     {.name = "XChaCha20", .ours = ours_xchacha20, .peer = peer_xchacha20, .out_length = plain_size},
     {.name = "AES-256-CTR", .ours = ours_aes256_ctr, .peer = peer_aes256, .out_length = plain_size},
     {.name = "HMAC-SHA384", .ours = ours_hmac, .peer = peer_hmac, .out_length = hmac_size},
+    {.name = "Argon2id", .has_one_row = true, .ours = ours_argon2id, .peer = peer_argon2id, .out_length = digest_size},
     {.name = "P-384 key", .has_one_row = true, .ours = ours_p384_key, .peer = peer_p384_key,
      .out_length = point_size},
     {.name = "P-384 sign", .ours = ours_p384_sign, .peer = peer_p384_signs, .out_length = nothing},

@@ -67,6 +67,9 @@ typedef uint64_t paseto_bench_rsa_verifying(const uint8_t *public, size_t public
                                             uint32_t reps);
 paseto_bench_rsa_verifying paseto_bench_rsa_verify, paseto_bench_rsa_verify_read;
 
+uint64_t paseto_bench_argon2id(const uint8_t *password, size_t password_length, const uint8_t *salt,
+                               size_t salt_length, uint8_t *key, size_t key_length, uint32_t reps);
+
 uint64_t paseto_bench_json_read(const uint8_t *text, size_t text_length, uint32_t reps);
 
 #endif

@@ -29,6 +29,7 @@ CRATES = [
     "paseto_p384",
     "paseto_rsa",
     "rusty_paseto_paserk",
+    "paseto_argon2",
 ]
 
 # The versions for which a block is that is bound by one of these traits.

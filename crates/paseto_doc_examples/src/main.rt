@@ -2,6 +2,7 @@
 //! proved here, and most are run.
 #![tactic(auto)]
 
+mod argon2_key;
 mod blame;
 mod boxed_decrypting;
 mod boxed_tokens;
@@ -82,6 +83,8 @@ fn show_primitives(rt: &HostRuntime) -> Result<()> {
         "key of a password: {} and {}",
         password_key[0], password_key[47]
     )?;
+    let argon2_key = argon2_key::key_of(rt.alloc(), "a password", &[7u8; 16])?;
+    println!(rt; "key by Argon2id: {} and {}", argon2_key[0], argon2_key[31])?;
     let contents = der_sequence::sequence(&[0x30, 3, 2, 1, 4]);
     println!(rt; "contents of a SEQUENCE: {contents:?}")?;
     Ok(())

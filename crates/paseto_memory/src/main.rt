@@ -11,6 +11,7 @@ mod kinds;
 mod no_memory;
 mod parsers;
 mod paserk;
+mod passwords;
 mod primitives;
 mod rsa_key;
 mod run;
@@ -65,5 +66,6 @@ fn ask(run: &mut Run<'_>) -> Result<()> {
     key_rings::ask(run)?;
     schemes::ask(run)?;
     paserk::ask(run)?;
+    passwords::ask(run)?;
     no_memory::ask(run)
 }

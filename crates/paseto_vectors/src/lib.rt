@@ -6,6 +6,8 @@
 #![tactic(auto)]
 
 #[cfg(test)]
+mod argon2;
+#[cfg(test)]
 mod boxes;
 #[cfg(test)]
 mod counted;

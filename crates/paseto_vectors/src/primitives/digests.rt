@@ -3,6 +3,7 @@
 use crate::counted::counted_bytes;
 use crate::expect::{expect_bytes, expect_digits};
 use rusty_paseto_primitives::{Blake2b, blake2b_keyed, blake2b_keyed_pair};
+use std::alloc::Global;
 use std::process::Abort;
 
 // RFC 7693, appendix A.
@@ -18,6 +19,85 @@ fn digest_of_abc(rt: HostRuntime) {
             "7d87c5392aab792dc252d5de4533cc9518d38aa8dbf1925ab92386edd4009923",
         ),
     );
+}
+
+// The lengths of a key, of a digest and of a message, and the digest, as CPython's hashlib gives it. The bytes of the key
+// and of the message count up from 0.
+const DIGESTS: &[(usize, usize, usize, &str)] = &[
+    (0, 1, 0, "2e"),
+    (0, 24, 3, "369857c269fb76833b9d8988c5ab554775be0c7022ab179f"),
+    (
+        0,
+        24,
+        80,
+        "7bf0d43c779d9c813a526beadb29e4f5d8031501e67bd935",
+    ),
+    (
+        0,
+        32,
+        129,
+        "f7f3c46ba2564ff4c4c162da1f5b605f9f1c4aa6a20652a9f9a337c1a2f5b9c9",
+    ),
+    (1, 20, 3, "908301ce1129083e34be0f8e17ef57701aa35e31"),
+    (
+        32,
+        56,
+        33,
+        "521c639fc291f5509568de60704b5a84fdccd04a64a462f3b9ca87f19de8f5f51011d52fc04183510aecd3065050b340b0da312fb89cfbf6",
+    ),
+    (
+        32,
+        32,
+        65,
+        "22111bcd342824a749da73e21ca988495214710c81bb4a05ebf3c443e17be8c5",
+    ),
+    (
+        33,
+        48,
+        127,
+        "7cbf1516ee64f7a4135dd0af46e2cc7195d7029bd51411b77e1e2d0e181494e7344beb1273b6eba826a2ee467b4a3c46",
+    ),
+    (
+        64,
+        33,
+        128,
+        "259f20cc3be29c153e8b09d7943750e2a6ab2a109798faa25d2544c6e073dd9f4b",
+    ),
+    (
+        64,
+        64,
+        250,
+        "1085d78307b1c4b008c57a2e7e5b234658a0a82e4ff1e4aaac72b312fda0fe27d233bc5b10e9cc17fdc7697b540c7d95eb215a19a1a0e20e1abfa126efd568c7",
+    ),
+];
+
+fn check_digest(
+    rt: &impl Abort,
+    alloc: Global,
+    key: &[u8],
+    message: &[u8],
+    length: usize,
+    wanted: &str,
+) {
+    assert!(rt; key.len() <= 64);
+    assert!(rt; 1 <= length);
+    assert!(rt; length <= 64);
+    let mut hasher = Blake2b::new(key, length);
+    hasher.update(message);
+    let mut room = [0u8; 64];
+    let digest = &mut room[..length];
+    hasher.finalize_into(digest);
+    expect_digits(rt, alloc, digest, wanted);
+}
+
+#[test]
+fn digests_of_all_lengths(rt: HostRuntime) {
+    let bytes: [u8; 250] = counted_bytes();
+    'rows: for &(key, length, message, wanted) in DIGESTS {
+        let key = bytes.get(..key).expect(&rt, "a key");
+        let message = bytes.get(..message).expect(&rt, "a message");
+        check_digest(&rt, rt.alloc(), key, message, length, wanted);
+    }
 }
 
 // The digests of two messages at once, as CPython's hashlib gives them: digests that had changed places

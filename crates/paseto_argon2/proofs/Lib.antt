@@ -1,0 +1,4 @@
+pub mod Registers
+pub mod Links
+pub mod Memory
+pub mod Filled

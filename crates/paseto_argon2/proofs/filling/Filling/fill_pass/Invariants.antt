@@ -1,0 +1,9 @@
+use Rattle.std.proofs.Common.{◌≡◌, ℕ, List, map}
+use Rattle.paseto_argon2.specs.Block.{registers}
+use Rattle.paseto_argon2.specs.Filling.{after_slices}
+use Rattle.paseto_argon2.specs.Settings.{setting_of}
+use Rattle.paseto_argon2.proofs.filling.Filling.fill_pass.Given as goal
+
+abbrev pub invariant-slices : goal.invariant-slices
+invariant-slices l = (m : List (List ℕ)) → l.fn.memory ≡ map registers m
+    → l.memory ≡ map registers (after_slices (setting_of l.self) m l.pass l.slice)
