@@ -1,0 +1,5 @@
+pub mod Label
+pub mod Text
+pub mod Error
+pub mod Info
+pub mod Key
