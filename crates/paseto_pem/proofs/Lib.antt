@@ -3,3 +3,5 @@ pub mod InfoLaws
 pub mod LabelLaws
 pub mod FormLaws
 pub mod OctetLaws
+pub mod KeyLaws
+pub mod Ed25519Laws

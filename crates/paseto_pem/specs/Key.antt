@@ -9,7 +9,8 @@ use Rattle.paseto_pem.specs.declared.label.Label.{Label}
 use Rattle.paseto_pem.specs.declared.text.Form.{Form}
 use Rattle.paseto_pem.specs.declared.text.LineEnd.TheVariants.{LineFeed}
 use Rattle.paseto_pem.specs.declared.error.PemError.{PemError}
-use Rattle.paseto_pem.specs.declared.error.PemError.TheVariants.{NotPem, InvalidKey, Memory}
+use Rattle.paseto_pem.specs.declared.error.PemError.TheVariants.{NotPem, Encrypted, OtherLabel, InvalidKey, Memory}
+use Rattle.paseto_pem.specs.declared.label.Label.TheVariants.{EncryptedPrivateKey}
 use Rattle.paseto_pem.specs.Error.{IsMemory}
 use Rattle.paseto_pem.specs.Text.{IsPem, pem}
 
@@ -44,6 +45,12 @@ pub record ReadsContents (IsKeyOf : Contents) (IsFaultOf : Faults) (label : Labe
   pub found : IfOk answer (λ key. IsKeyOf label contents key.items)
   pub read : (key : List ℕ) → IsKeyOf label contents key → MatchResult answer (λ found. found.items ≡ key) IsMemory
   pub refused : IfErr answer (λ error. IsMemory error ⊎ IsFaultOf label contents error)
+
+-- what stands under the label is none of the keys that were asked for
+abbrev pub IsOtherLabel : Label → PemError → Type 0
+IsOtherLabel label Encrypted = label ≡ EncryptedPrivateKey
+IsOtherLabel label (OtherLabel other) = other ≡ label
+IsOtherLabel label _ = ⊥
 
 -- the text is a key
 pub record IsText (IsKeyOf : Contents) (key text : List ℕ) : Type 0 where

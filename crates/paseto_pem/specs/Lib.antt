@@ -3,3 +3,4 @@ pub mod Text
 pub mod Error
 pub mod Info
 pub mod Key
+pub mod Ed25519

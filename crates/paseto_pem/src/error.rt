@@ -2,6 +2,7 @@
 
 ghost use Rattle.std.specs.Prelude.{◌≡◌, Some};
 ghost use Rattle.paseto_pem.specs.Error.{error_text};
+ghost use Rattle.paseto_pem.specs.Key.{IsOtherLabel};
 ghost use Rattle.paseto_pem.specs.declared.error.PemError.TheVariants.{Memory};
 
 use crate::label::Label;
@@ -50,6 +51,18 @@ impl PemError {
             PemError::OtherSize => "The key has another size",
             PemError::InvalidKey => "The key was not in the correct format",
             PemError::Memory(_) => "No memory was found",
+        }
+    }
+}
+
+impl PemError {
+    // Why a text with a label is not read that no key has which was asked for.
+    pub(crate) fn other_label(label: Label) -> PemError
+        ensures { IsOtherLabel label result }
+    {
+        match label {
+            Label::EncryptedPrivateKey => PemError::Encrypted,
+            _ => PemError::OtherLabel(label),
         }
     }
 }
