@@ -5,3 +5,4 @@ pub mod FormLaws
 pub mod OctetLaws
 pub mod KeyLaws
 pub mod Ed25519Laws
+pub mod RsaLaws

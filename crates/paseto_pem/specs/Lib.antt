@@ -4,3 +4,4 @@ pub mod Error
 pub mod Info
 pub mod Key
 pub mod Ed25519
+pub mod Rsa

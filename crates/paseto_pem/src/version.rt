@@ -2,16 +2,18 @@
 
 ghost use Rattle.std.specs.Prelude.{IfOk, IsTrue};
 ghost use Rattle.paseto_pem.specs.Ed25519.{IsPrivateFault, IsPrivateOf, IsPublicFault, IsPublicOf};
+ghost use Rattle.paseto_pem.specs.Rsa.{IsPrivateFault as IsRsaPrivateFault, IsPrivateOf as IsRsaPrivateOf, IsPublicFault as IsRsaPublicFault, IsPublicOf as IsRsaPublicOf};
 ghost use Rattle.paseto_pem.specs.Key.{Contents, Faults, ReadsContents, WritesContents};
 ghost use Rattle.paseto_pem.specs.declared.label.Label.TheVariants.{PrivateKey, PublicKey};
 
 use crate::ed25519;
 use crate::error::PemError;
 use crate::label::Label;
-use rusty_paseto_parts::{V2, V4, VersionTrait};
+use crate::rsa;
+use rusty_paseto_parts::{V1, V2, V4, VersionTrait};
 use std::alloc::Global;
 
-/// A version whose keys have texts: 2 and 4.
+/// A version whose keys have texts: 1, 2 and 4.
 pub trait PemVersion: VersionTrait {
     // Which contents under which label are which private key.
     ghost is_private_of: { Contents };
@@ -42,6 +44,32 @@ pub trait PemVersion: VersionTrait {
     /// The contents of the text of a public key, whose label is `PublicKey`.
     fn write_public(alloc: Global, key: &[u8]) -> Result<Vec<u8>, PemError>
         ensures { WritesContents is_public_of PublicKey key.now result };
+}
+
+impl PemVersion for V1 {
+    ghost is_private_of = { IsRsaPrivateOf };
+
+    ghost is_private_fault = { IsRsaPrivateFault };
+
+    ghost is_public_of = { IsRsaPublicOf };
+
+    ghost is_public_fault = { IsRsaPublicFault };
+
+    fn read_private(alloc: Global, label: Label, contents: &[u8]) -> Result<Vec<u8>, PemError> {
+        rsa::read_private(alloc, label, contents)
+    }
+
+    fn read_public(alloc: Global, label: Label, contents: &[u8]) -> Result<Vec<u8>, PemError> {
+        rsa::read_public(alloc, label, contents)
+    }
+
+    fn write_private(alloc: Global, key: &[u8]) -> Result<Vec<u8>, PemError> {
+        rsa::write_private(alloc, key)
+    }
+
+    fn write_public(alloc: Global, key: &[u8]) -> Result<Vec<u8>, PemError> {
+        rsa::write_public(alloc, key)
+    }
 }
 
 impl PemVersion for V2 {
