@@ -6,3 +6,4 @@ pub mod OctetLaws
 pub mod KeyLaws
 pub mod Ed25519Laws
 pub mod RsaLaws
+pub mod P384Laws

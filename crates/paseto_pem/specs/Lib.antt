@@ -4,4 +4,5 @@ pub mod Error
 pub mod Info
 pub mod Key
 pub mod Ed25519
+pub mod P384
 pub mod Rsa

@@ -6,6 +6,7 @@ mod error;
 mod info;
 mod keys;
 mod label;
+mod p384;
 mod rsa;
 mod text;
 mod version;

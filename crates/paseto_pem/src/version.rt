@@ -2,6 +2,7 @@
 
 ghost use Rattle.std.specs.Prelude.{IfOk, IsTrue};
 ghost use Rattle.paseto_pem.specs.Ed25519.{IsPrivateFault, IsPrivateOf, IsPublicFault, IsPublicOf};
+ghost use Rattle.paseto_pem.specs.P384.{IsPrivateFault as IsCurvePrivateFault, IsPrivateOf as IsCurvePrivateOf, IsPublicFault as IsCurvePublicFault, IsPublicOf as IsCurvePublicOf};
 ghost use Rattle.paseto_pem.specs.Rsa.{IsPrivateFault as IsRsaPrivateFault, IsPrivateOf as IsRsaPrivateOf, IsPublicFault as IsRsaPublicFault, IsPublicOf as IsRsaPublicOf};
 ghost use Rattle.paseto_pem.specs.Key.{Contents, Faults, ReadsContents, WritesContents};
 ghost use Rattle.paseto_pem.specs.declared.label.Label.TheVariants.{PrivateKey, PublicKey};
@@ -9,11 +10,12 @@ ghost use Rattle.paseto_pem.specs.declared.label.Label.TheVariants.{PrivateKey, 
 use crate::ed25519;
 use crate::error::PemError;
 use crate::label::Label;
+use crate::p384;
 use crate::rsa;
-use rusty_paseto_parts::{V1, V2, V4, VersionTrait};
+use rusty_paseto_parts::{V1, V2, V3, V4, VersionTrait};
 use std::alloc::Global;
 
-/// A version whose keys have texts: 1, 2 and 4.
+/// A version whose keys have texts: 1 to 4.
 pub trait PemVersion: VersionTrait {
     // Which contents under which label are which private key.
     ghost is_private_of: { Contents };
@@ -95,6 +97,32 @@ impl PemVersion for V2 {
 
     fn write_public(alloc: Global, key: &[u8]) -> Result<Vec<u8>, PemError> {
         ed25519::write_public(alloc, key)
+    }
+}
+
+impl PemVersion for V3 {
+    ghost is_private_of = { IsCurvePrivateOf };
+
+    ghost is_private_fault = { IsCurvePrivateFault };
+
+    ghost is_public_of = { IsCurvePublicOf };
+
+    ghost is_public_fault = { IsCurvePublicFault };
+
+    fn read_private(alloc: Global, label: Label, contents: &[u8]) -> Result<Vec<u8>, PemError> {
+        p384::read_private(alloc, label, contents)
+    }
+
+    fn read_public(alloc: Global, label: Label, contents: &[u8]) -> Result<Vec<u8>, PemError> {
+        p384::read_public(alloc, label, contents)
+    }
+
+    fn write_private(alloc: Global, key: &[u8]) -> Result<Vec<u8>, PemError> {
+        p384::write_private(alloc, key)
+    }
+
+    fn write_public(alloc: Global, key: &[u8]) -> Result<Vec<u8>, PemError> {
+        p384::write_public(alloc, key)
     }
 }
 
