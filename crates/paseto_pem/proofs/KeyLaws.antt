@@ -1,6 +1,7 @@
 -- What follows from the reading of contents for that of a text.
 use Rattle.std.proofs.Common.{◌≡◌, ◌⊎◌, ℕ, List, inl, inr, refl, sym, ap, subst, ◌∙◌}
-use Rattle.std.specs.Prelude.{Result, Ok, Err, IsErrAnd}
+use Rattle.std.specs.Prelude.{Result, Ok, Err, IfErr, IfOk, IsErrAnd, string_bytes}
+use Rattle.std.specs.declared.string.String.{String}
 use Rattle.std.specs.declared.alloc.Global.{Global}
 use Rattle.std.specs.declared.vec.Vec.{Vec}
 use Rattle.base64.specs.GeneralPurpose.{IsBytes}
@@ -8,8 +9,8 @@ use Rattle.paseto_pem.specs.declared.label.Label.{Label}
 use Rattle.paseto_pem.specs.declared.error.PemError.{PemError}
 use Rattle.paseto_pem.specs.declared.error.PemError.TheVariants.{NotPem, Encrypted, OtherLabel, OtherAlgorithm, OtherCurve, OtherSize, InvalidKey, Memory}
 use Rattle.paseto_pem.specs.Error.{IsMemory}
-use Rattle.paseto_pem.specs.Key.{Contents, Faults, IsKeyFault, IsText, IsTextFault, ReadsContents, ReadsKey, ReadsText}
-use Rattle.paseto_pem.specs.Text.{IsPem}
+use Rattle.paseto_pem.specs.Key.{Contents, Faults, IsKeyFault, IsText, IsTextFault, ReadsContents, ReadsKey, ReadsText, WritesKey, written_form}
+use Rattle.paseto_pem.specs.Text.{IsPem, pem}
 
 memory-fault : (text : List ℕ) (error : PemError) → IsMemory error → IsTextFault text error
 memory-fault text NotPem h = absurd h
@@ -30,6 +31,17 @@ module _ (IsKeyOf : Contents) (IsFaultOf : Faults) where
   refused-contents label contents error (Err e) is fault none =
       subst (λ (x : PemError). ReadsContents IsKeyOf IsFaultOf label contents (Err x)) (sym is)
       (record { found = tt; read = none; refused = fault })
+
+  -- the text of contents that are a key
+  pub written-key : (label : Label) (key given octets held : List ℕ) (answer : Result (String Global) PemError) → IsBytes octets
+      → IsKeyOf label held given → octets ≡ held → given ≡ key
+      → IfOk answer (λ text. string_bytes text ≡ pem written_form label octets) → IfErr answer IsMemory
+      → WritesKey IsKeyOf label key answer
+  written-key label key given octets held (Ok text) bytes is are same ok err =
+      let octets_are : IsKeyOf label octets key =
+      subst (λ (k : List ℕ). IsKeyOf label octets k) same (subst (λ (o : List ℕ). IsKeyOf label o given) (sym are) is) in
+      record { ok = record { contents = octets; bytes = bytes; held = octets_are; written = ok }; refused = tt }
+  written-key label key given octets held (Err e) bytes is are same ok err = record { ok = tt; refused = inl err }
 
   module _ (text : List ℕ) where
     -- a text that is none

@@ -76,9 +76,16 @@ pub record ReadsKey (IsKeyOf : Contents) (IsFaultOf : Faults) (text : List ℕ) 
 abbrev pub written_form : Form
 written_form = record { ends = LineFeed; closed = true }
 
--- the answer for a private key is its text, or `InvalidKey` where none has these bytes
+-- the text is the one that `openssl pkey` writes of a key
+pub record IsWritten (IsKeyOf : Contents) (label : Label) (key text : List ℕ) : Type 0 where
+  pub contents : List ℕ
+  pub bytes : IsBytes contents
+  pub held : IsKeyOf label contents key
+  pub written : text ≡ pem written_form label contents
+
+-- the answer for a key is its text, or `InvalidKey` where none has these bytes
 pub record WritesKey (IsKeyOf : Contents) (label : Label) (key : List ℕ) (answer : Result (String Global) PemError) : Type 0 where
-  pub ok : IfOk answer (λ text. (contents : List ℕ) × IsKeyOf label contents key × (string_bytes text ≡ pem written_form label contents))
+  pub ok : IfOk answer (λ text. IsWritten IsKeyOf label key (string_bytes text))
   pub refused : IfErr answer (λ error. IsMemory error ⊎ ((error ≡ InvalidKey) × ((contents : List ℕ) → ¬ IsKeyOf label contents key)))
 
 -- the answer for a key are the contents of its text

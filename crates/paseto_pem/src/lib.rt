@@ -6,6 +6,7 @@ mod error;
 mod info;
 mod keys;
 mod label;
+pub mod laws;
 mod p384;
 mod rsa;
 mod text;

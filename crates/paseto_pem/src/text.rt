@@ -198,6 +198,7 @@ pub(crate) fn write_text(
 ) -> Result<String, PemError>
     ensures ok { IfOk result (λ text. string_bytes text ≡ pem written_form label contents.now) }
     ensures err { IfErr result IsMemory }
+    ensures bytes { IsBytes contents.now }
 {
     let form = Form {
         ends: LineEnd::LineFeed,

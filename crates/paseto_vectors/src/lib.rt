@@ -26,6 +26,8 @@ mod paserk;
 #[cfg(test)]
 mod pbkdf2;
 #[cfg(test)]
+mod pem;
+#[cfg(test)]
 mod primitives;
 #[cfg(test)]
 mod schemes;
