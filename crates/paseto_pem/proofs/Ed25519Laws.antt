@@ -1,10 +1,9 @@
 -- Keys of Ed25519.
-use Rattle.std.proofs.Common.{◌≡◌, ◌≢◌, ℕ, ◌+◌, ◌≤◌, List, [], ◌∷◌, ◌++◌, length, take, drop, refl, sym, ap, ◌∙◌, length-append, arith}
+use Rattle.std.proofs.Common.{◌≡◌, ℕ, List, [], ◌∷◌, ◌++◌, length, take, drop, refl, sym, ap, ◌∙◌}
 use Rattle.std.proofs.lemmas.List.{drop_at, take_at}
 use Rattle.paseto_der.specs.Element.{der_length, element}
 use Rattle.paseto_ed25519.specs.Ed25519.{ed25519_public}
 use Rattle.paseto_pem.specs.declared.label.Label.{Label}
-use Rattle.paseto_pem.specs.declared.label.Label.TheVariants.{PrivateKey, PublicKey}
 use Rattle.paseto_pem.specs.declared.error.PemError.{PemError}
 use Rattle.paseto_pem.specs.declared.error.PemError.TheVariants.{NotPem, Encrypted, OtherLabel, OtherAlgorithm, OtherCurve, OtherSize, InvalidKey, Memory}
 use Rattle.paseto_pem.specs.Ed25519.{IsPrivateOf, IsPrivateRefusal, IsPublicOf, IsPublicRefusal, ed25519, private_contents}

@@ -37,8 +37,7 @@ open-last ends label contents =
     let word : List ℕ = codes "-----END " ++ (label_text label ++ codes "----") in
     let split : end_boundary label ≡ word ++ 45 ∷ [] =
     ap (λ l. codes "-----END " ++ l) (sym (append_assoc (label_text label) (codes "----") (45 ∷ [])))
-    ∙ sym (append_assoc (codes "-----END ") (label_text label ++ codes "----") (45 ∷ [])) in
-    (
+    ∙ sym (append_assoc (codes "-----END ") (label_text label ++ codes "----") (45 ∷ [])) in (
       front ++ word,
       ap (λ l. front ++ l) (append-nil (end_boundary label) ∙ split) ∙ sym (append_assoc front word (45 ∷ [])),
     )

@@ -1,10 +1,9 @@
 -- Keys with their algorithm, in DER.
 use Rattle.std.proofs.Common.{◌≡◌, ℕ, ◌+◌, ◌<◌, ◌≤◌, List, [], ◌∷◌, ◌++◌, length, drop, refl, sym, ap, ◌∙◌, append_assoc, length-append, arith}
 use Rattle.std.proofs.lemmas.Bool.Decides.{nat_tests}
-use Rattle.std.proofs.lemmas.Bool.{cases_lt}
-use Rattle.std.proofs.lemmas.List.{append-nil, append_cancel_left}
+use Rattle.std.proofs.lemmas.List.{append_cancel_left}
 use Rattle.paseto_der.specs.Element.{der_length, element}
-use Rattle.paseto_der.proofs.ElementLaws.{element-unique, element-whole}
+use Rattle.paseto_der.proofs.ElementLaws.{element-unique}
 use Rattle.paseto_pem.specs.Info.{private_key_info, public_key_info}
 
 pub element-same : (tag : ℕ) (a b : List ℕ) → element tag a ≡ element tag b → a ≡ b

@@ -1,6 +1,6 @@
 -- Keys of P-384.
-use Rattle.std.proofs.Common.{◌≡◌, ◌≢◌, ◌⊎◌, ℕ, ◌+◌, ◌<◌, ◌≤◌, inl, inr, List, [], ◌∷◌, ◌++◌, length, slice_index, ◌%◌, Some, subst, take, drop, refl, sym, ap, ◌∙◌, append_assoc, length-append, arith}
-use Rattle.std.proofs.lemmas.List.{append-nil, append_cancel_left}
+use Rattle.std.proofs.Common.{◌≡◌, ◌≢◌, ℕ, ◌+◌, ◌<◌, ◌≤◌, inl, inr, List, [], ◌∷◌, ◌++◌, length, slice_index, ◌%◌, subst, take, drop, refl, sym, ap, ◌∙◌, append_assoc, length-append, arith}
+use Rattle.std.proofs.lemmas.List.{append_cancel_left}
 use Rattle.paseto_der.specs.Element.{der_length, element}
 use Rattle.paseto_der.proofs.ElementLaws.{element-unique}
 use Rattle.paseto_pem.specs.declared.label.Label.{Label}
@@ -171,8 +171,12 @@ pub ec-most : (number part contents : List ℕ) → contents ≡ (element 0x02 (
 ec-most number part contents e =
     let version : length (element 0x02 (1 ∷ [])) ≡ 3 = ap length (sym version-octets) in
     omega (
-      arith, ap length e, length-append (element 0x02 (1 ∷ []) ++ element 0x04 number) part,
-      length-append (element 0x02 (1 ∷ [])) (element 0x04 number), version, element-most 0x04 number,
+      arith,
+      ap length e,
+      length-append (element 0x02 (1 ∷ []) ++ element 0x04 number) part,
+      length-append (element 0x02 (1 ∷ [])) (element 0x04 number),
+      version,
+      element-most 0x04 number,
     )
 
 is-48 : (n : ℕ) → n ≡ 48 → IsTrue (n == 48)

@@ -4,7 +4,7 @@ use Rattle.paseto_der.specs.Element.{element}
 use Rattle.paseto_p384.specs.Encoding.{coordinates_of}
 use Rattle.paseto_p384.specs.P384.{IsPrivate, p384_public}
 use Rattle.paseto_pem.specs.declared.label.Label.{Label}
-use Rattle.paseto_pem.specs.declared.label.Label.TheVariants.{PrivateKey, EncryptedPrivateKey, PublicKey, EcPrivateKey, RsaPrivateKey, RsaPublicKey}
+use Rattle.paseto_pem.specs.declared.label.Label.TheVariants.{PrivateKey, PublicKey, EcPrivateKey}
 use Rattle.paseto_pem.specs.declared.error.PemError.{PemError}
 use Rattle.paseto_pem.specs.declared.error.PemError.TheVariants.{OtherAlgorithm, OtherCurve, InvalidKey}
 use Rattle.paseto_pem.specs.Info.{private_key_info, public_key_info}

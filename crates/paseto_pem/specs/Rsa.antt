@@ -3,7 +3,7 @@ use Rattle.std.specs.Prelude.{◌≡◌, ◌≢◌, ◌⊎◌, ⊤, ℕ, List, [
 use Rattle.paseto_der.specs.Element.{element}
 use Rattle.paseto_rsa.specs.Keys.{IsInRange, IsPrivate, IsPublicKey}
 use Rattle.paseto_pem.specs.declared.label.Label.{Label}
-use Rattle.paseto_pem.specs.declared.label.Label.TheVariants.{PrivateKey, EncryptedPrivateKey, PublicKey, EcPrivateKey, RsaPrivateKey, RsaPublicKey}
+use Rattle.paseto_pem.specs.declared.label.Label.TheVariants.{PrivateKey, PublicKey, RsaPublicKey}
 use Rattle.paseto_pem.specs.declared.error.PemError.{PemError}
 use Rattle.paseto_pem.specs.declared.error.PemError.TheVariants.{OtherAlgorithm, OtherSize, InvalidKey}
 use Rattle.paseto_pem.specs.Info.{private_key_info, public_key_info}

@@ -90,11 +90,7 @@ fn push_length(length: usize, out: &mut Vec<u8>) -> Result<(), AllocError>
 }
 
 /// Appends an element.
-pub(crate) fn push_element(
-    tag: u8,
-    contents: &[u8],
-    out: &mut Vec<u8>,
-) -> Result<(), AllocError>
+pub(crate) fn push_element(tag: u8, contents: &[u8], out: &mut Vec<u8>) -> Result<(), AllocError>
     requires { length contents.now < 65536 }
     ensures { OnOk result (out.new.items ≡ out.old.items ++ element tag contents.now) }
 {

@@ -55,7 +55,8 @@ impl Label {
 fn has_label(label: Label, text: &str) -> bool
     ensures { IsTrue result ↔ HasLabel label text.now }
 {
-    text.as_bytes().starts_with(label.begin_boundary().as_bytes())
+    text.as_bytes()
+        .starts_with(label.begin_boundary().as_bytes())
 }
 
 /// The label with whose line a text begins.

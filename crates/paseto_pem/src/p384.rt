@@ -305,11 +305,7 @@ fn public_of(octets: &[u8]) -> Option<[u8; 49]>
 }
 
 /// The public key that contents are.
-pub(crate) fn read_public(
-    alloc: Global,
-    label: Label,
-    contents: &[u8],
-) -> Result<Vec<u8>, PemError>
+pub(crate) fn read_public(alloc: Global, label: Label, contents: &[u8]) -> Result<Vec<u8>, PemError>
     ensures { ReadsContents IsPublicOf IsPublicFault label contents.now result }
 {
     let Label::PublicKey = label else {

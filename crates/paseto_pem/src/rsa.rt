@@ -146,11 +146,7 @@ fn public_refusal(key: &[u8]) -> PemError
 }
 
 /// The public key that contents are.
-pub(crate) fn read_public(
-    alloc: Global,
-    label: Label,
-    contents: &[u8],
-) -> Result<Vec<u8>, PemError>
+pub(crate) fn read_public(alloc: Global, label: Label, contents: &[u8]) -> Result<Vec<u8>, PemError>
     ensures { ReadsContents IsPublicOf IsPublicFault label contents.now result }
 {
     let key = held(label, contents)?;

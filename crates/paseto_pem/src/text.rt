@@ -191,11 +191,7 @@ fn characters_of(alloc: Global, end: usize, body: &[u8]) -> Result<Vec<u8>, Allo
 }
 
 /// The text of contents, as `openssl` writes it.
-pub(crate) fn write_text(
-    alloc: Global,
-    label: Label,
-    contents: &[u8],
-) -> Result<String, PemError>
+pub(crate) fn write_text(alloc: Global, label: Label, contents: &[u8]) -> Result<String, PemError>
     ensures ok { IfOk result (λ text. string_bytes text ≡ pem written_form label contents.now) }
     ensures err { IfErr result IsMemory }
     ensures bytes { IsBytes contents.now }

@@ -7,11 +7,9 @@ ghost use Rattle.paseto_pem.specs.Rsa.{IsPrivateFault as IsRsaPrivateFault, IsPr
 ghost use Rattle.paseto_pem.specs.Key.{Contents, Faults, ReadsContents, WritesContents};
 ghost use Rattle.paseto_pem.specs.declared.label.Label.TheVariants.{PrivateKey, PublicKey};
 
-use crate::ed25519;
 use crate::error::PemError;
 use crate::label::Label;
-use crate::p384;
-use crate::rsa;
+use crate::{ed25519, p384, rsa};
 use rusty_paseto_parts::{V1, V2, V3, V4, VersionTrait};
 use std::alloc::Global;
 

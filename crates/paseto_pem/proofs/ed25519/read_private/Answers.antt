@@ -1,4 +1,4 @@
-use Rattle.std.proofs.Common.{◌≡◌, ◌++◌, length, inl, inr, refl, sym, ap, ◌∙◌, length-append, rules, arith}
+use Rattle.std.proofs.Common.{◌≡◌, ◌++◌, length, inr, ap, ◌∙◌, length-append, rules, arith}
 use Rattle.paseto_ed25519.specs.Ed25519.{ed25519_public}
 use Rattle.paseto_pem.specs.Ed25519.{IsPrivateFault, IsPrivateOf}
 use Rattle.paseto_pem.proofs.Ed25519Laws.{private-one, refused-private}

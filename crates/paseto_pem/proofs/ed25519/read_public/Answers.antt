@@ -1,4 +1,4 @@
-use Rattle.std.proofs.Common.{◌≡◌, length, inl, inr, refl, sym, ap, ◌∙◌}
+use Rattle.std.proofs.Common.{length, inr, sym, ap, ◌∙◌}
 use Rattle.paseto_pem.specs.Info.{public_key_info}
 use Rattle.paseto_pem.specs.Ed25519.{IsPublicFault, IsPublicOf, ed25519}
 use Rattle.paseto_pem.proofs.Ed25519Laws.{public-one, refused-public}

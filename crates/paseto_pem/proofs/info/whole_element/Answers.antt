@@ -1,7 +1,6 @@
-use Rattle.std.proofs.Common.{◌≡◌, ℕ, [], length, sym, ap, ◌∙◌, arith}
+use Rattle.std.proofs.Common.{◌≡◌, [], length, sym, ap, ◌∙◌, arith}
 use Rattle.std.proofs.lemmas.Bool.Decides.{nat_tests}
-use Rattle.std.proofs.lemmas.List.{nil_from_length}
-use Rattle.paseto_der.proofs.ElementLaws.{element-exact, element-unique, element-whole}
+use Rattle.paseto_der.proofs.ElementLaws.{element-unique, element-whole}
 use Rattle.paseto_pem.proofs.info.whole_element.Goals as goal
 
 pub returns-in_err-element : goal.returns-in_err-element

@@ -1,4 +1,4 @@
-use Rattle.std.proofs.Common.{◌≡◌, ◌++◌, ◌<◌, length, refl, sym, ap, ◌∙◌, append_assoc, arith}
+use Rattle.std.proofs.Common.{◌++◌, length, sym, ap, ◌∙◌, append_assoc, arith}
 use Rattle.paseto_der.specs.Element.{element}
 use Rattle.paseto_pem.proofs.InfoLaws.{private-is, two-elements, version-length}
 use Rattle.paseto_pem.proofs.info.write_private_info.Goals as goal

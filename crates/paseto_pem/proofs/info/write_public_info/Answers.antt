@@ -1,4 +1,4 @@
-use Rattle.std.proofs.Common.{◌≡◌, ◌++◌, ◌∷◌, [], ◌<◌, length, refl, sym, ap, ◌∙◌, append_assoc, arith}
+use Rattle.std.proofs.Common.{◌++◌, ◌∷◌, [], sym, ap, ◌∙◌, arith}
 use Rattle.paseto_der.specs.Element.{element}
 use Rattle.paseto_pem.proofs.InfoLaws.{public-is, two-elements}
 use Rattle.paseto_pem.proofs.info.write_public_info.Goals as goal

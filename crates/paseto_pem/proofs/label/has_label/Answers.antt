@@ -1,7 +1,6 @@
-use Rattle.std.proofs.Common.{◌≡◌, List, ℕ, ◌++◌, length, drop, ◌∙◌, sym, ap, refl}
+use Rattle.std.proofs.Common.{◌++◌, length, drop, ◌∙◌, sym, ap}
 use Rattle.std.proofs.lemmas.Bool.Decides.{Decides-eqb}
 use Rattle.std.proofs.lemmas.Slice.Eq.{starts_is}
-use Rattle.paseto_pem.specs.Label.{begin_boundary}
 use Rattle.paseto_pem.proofs.label.has_label.Goals as goal
 
 pub returns : goal.returns

@@ -1,4 +1,4 @@
-use Rattle.std.proofs.Common.{◌≡◌, List, ℕ, inl, inr, refl, sym, subst, ◌∙◌}
+use Rattle.std.proofs.Common.{List, ℕ, inl, inr, refl, sym, subst, ◌∙◌}
 use Rattle.paseto_pem.specs.P384.{IsPoint, IsPublicFault, IsPublicOf, IsSpelled, p384}
 use Rattle.paseto_pem.proofs.InfoLaws.{public-unique}
 use Rattle.paseto_pem.proofs.KeyLaws.{refused-contents}

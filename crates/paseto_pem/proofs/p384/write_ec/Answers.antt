@@ -1,4 +1,4 @@
-use Rattle.std.proofs.Common.{◌≡◌, ◌∷◌, [], ◌++◌, length, sym, ap, ◌∙◌, rules, arith}
+use Rattle.std.proofs.Common.{◌≡◌, ◌∷◌, [], ◌++◌, length, ap, ◌∙◌, rules, arith}
 use Rattle.paseto_der.specs.Element.{element}
 use Rattle.paseto_pem.specs.P384.{public_part}
 use Rattle.paseto_pem.proofs.InfoLaws.{element-most}
@@ -27,7 +27,13 @@ returns c =
     let made = c.in_ok-push_element-2.ensures ∙ ap (λ l. l ++ element 0x30 c.deref-2.result.now) c.new-key.ensures.items in (
       made ∙ ec-written number (public_part xy) c.deref-2.result.now spelled,
       omega (
-        arith, ap length made, element-most 0x30 c.deref-2.result.now,
-        ec-most number c.deref.result.now c.deref-2.result.now contents, ap length part, part-most xy, size, c.requires,
+        arith,
+        ap length made,
+        element-most 0x30 c.deref-2.result.now,
+        ec-most number c.deref.result.now c.deref-2.result.now contents,
+        ap length part,
+        part-most xy,
+        size,
+        c.requires,
       ),
     )

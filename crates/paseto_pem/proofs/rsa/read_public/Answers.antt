@@ -1,4 +1,4 @@
-use Rattle.std.proofs.Common.{◌≡◌, inl, inr, refl, sym, subst, ◌∙◌}
+use Rattle.std.proofs.Common.{inl, inr, refl, sym, subst, ◌∙◌}
 use Rattle.std.proofs.lemmas.Bool.{false≢true}
 use Rattle.paseto_pem.specs.Rsa.{IsHeld, IsPublic, IsPublicFault, IsPublicOf}
 use Rattle.paseto_pem.proofs.KeyLaws.{refused-contents}

@@ -1,4 +1,4 @@
-use Rattle.std.proofs.Common.{◌≡◌, ℕ, List, ◌+◌, ◌++◌, length, refl, sym, ap, ◌∙◌, length-append}
+use Rattle.std.proofs.Common.{◌++◌, length, refl, sym, ap, ◌∙◌}
 use Rattle.paseto_pem.specs.Label.{begin_boundary, end_boundary}
 use Rattle.paseto_pem.specs.Text.{base64, last_end, line_end, lines}
 use Rattle.paseto_pem.proofs.LineLaws.{joined-length}

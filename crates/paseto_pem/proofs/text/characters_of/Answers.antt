@@ -1,7 +1,6 @@
-use Rattle.std.proofs.Common.{◌≡◌, List, ℕ, ◌+◌, ◌-◌, ◌<◌, min, ◌++◌, length, take, drop, refl, sym, ap, ◌∙◌, append_assoc, arith, rules}
+use Rattle.std.proofs.Common.{◌≡◌, ◌+◌, ◌-◌, ◌<◌, min, ◌++◌, length, take, drop, sym, ap, ◌∙◌, append_assoc, rules}
 use Rattle.std.specs.Slice.Iter.{chunks_rest}
 use Rattle.std.proofs.lemmas.List.{append-nil, nil_from_length, take-append-drop}
-use Rattle.paseto_pem.specs.Text.{lines}
 use Rattle.paseto_pem.proofs.LineLaws.{line-is, lines-empty}
 use Rattle.paseto_pem.proofs.text.characters_of.Goals as goal
 

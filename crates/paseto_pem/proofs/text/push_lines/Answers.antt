@@ -1,9 +1,9 @@
-use Rattle.std.proofs.Common.{◌≡◌, List, [], ℕ, ◌++◌, length, refl, sym, ap, ◌∙◌, append_assoc, arith, rules}
+use Rattle.std.proofs.Common.{◌≡◌, [], ◌++◌, sym, ap, ◌∙◌, rules}
 use Rattle.std.specs.String.{string_bytes}
 use Rattle.std.specs.Slice.Iter.{chunks_rest}
 use Rattle.std.proofs.lemmas.List.{append-nil, nil_from_length}
 use Rattle.paseto_pem.specs.Text.{base64, lines}
-use Rattle.paseto_pem.proofs.LineLaws.{base64-nil, lines-none, lines-octets, pushed-line}
+use Rattle.paseto_pem.proofs.LineLaws.{base64-nil, lines-none, pushed-line}
 use Rattle.paseto_pem.proofs.text.push_lines.Goals as goal
 
 pub pieces-init : goal.pieces-init
@@ -18,8 +18,8 @@ pieces-preserved c =
       tt,
       steps.0 ∙ size,
       pushed-line c.args.end.now (chunks_rest c.pieces.piece-iterator) c.in-Some.piece.now (chunks_rest c.next.new.self)
-      (string_bytes c.pieces.text) (string_bytes c.encode_string.new.output) (string_bytes c.push_str.new.self) _
-      steps.1.0 (rw size at steps.1.1) steps.1.2 c.in_ok-encode_string.ensures.ok c.in_ok-push_str.ensures.bytes c.pieces.invariant.3,
+          (string_bytes c.pieces.text) (string_bytes c.encode_string.new.output) (string_bytes c.push_str.new.self) _
+          steps.1.0 (rw size at steps.1.1) steps.1.2 c.in_ok-encode_string.ensures.ok c.in_ok-push_str.ensures.bytes c.pieces.invariant.3,
     )
 
 pub returns : goal.returns

@@ -1,7 +1,6 @@
-use Rattle.std.proofs.Common.{◌≡◌, List, ℕ, refl, sym, ap, ◌∙◌}
+use Rattle.std.proofs.Common.{◌≡◌, sym, ap, ◌∙◌}
 use Rattle.std.specs.Prelude.{not}
 use Rattle.std.proofs.lemmas.Bool.{false≢true}
-use Rattle.std.specs.String.{string_bytes}
 use Rattle.paseto_pem.specs.Text.{pem}
 use Rattle.paseto_pem.proofs.OctetLaws.{equal-octets, same-octets}
 use Rattle.paseto_pem.proofs.text.read.Goals as goal

@@ -1,5 +1,4 @@
-use Rattle.std.proofs.Common.{◌≡◌, sym, ap, ◌∙◌}
-use Rattle.paseto_pem.proofs.LabelLaws.{one-label, pem-label}
+use Rattle.paseto_pem.proofs.LabelLaws.{pem-label}
 use Rattle.paseto_pem.proofs.text.read_text.Goals as goal
 
 pub returns-in_default : goal.returns-in_default
