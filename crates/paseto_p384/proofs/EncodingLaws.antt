@@ -1,10 +1,10 @@
 -- The cases of decoding.
-use Rattle.std.proofs.Common.{◌≡◌, ◌≢◌, ◌≤◌, ℕ, ◌+◌, ◌/◌, ◌%◌, ◌<◌, List, ◌∷◌, drop, slice_index, ap₂, arith}
+use Rattle.std.proofs.Common.{◌≡◌, ◌≢◌, ◌≤◌, ℕ, ◌+◌, ◌/◌, ◌%◌, ◌<◌, List, ◌∷◌, ◌++◌, drop, slice_index, ap₂, arith}
 use Rattle.std.specs.Prelude.{None, Some, IsTrue, ◌==◌, ◌||◌}
 use Rattle.std.proofs.lemmas.Bool.Decides.{nat_tests}
 use Rattle.rusty_paseto_parts.specs.PublicKey.{is_compressed}
 use Rattle.paseto_montgomery.specs.Octets.{i2osp, os2ip}
-use Rattle.paseto_p384.specs.Encoding.{decoded, encoded, point_at, right_side, signed}
+use Rattle.paseto_p384.specs.Encoding.{affine, decoded, encoded, point_at, right_side, signed}
 use Rattle.paseto_weierstrass.specs.Field.{inverse, minus, power, prime, times}
 use Rattle.paseto_weierstrass.specs.Group.{IsPoint, Same}
 use Rattle.paseto_weierstrass.specs.Point.{Point}
@@ -14,6 +14,11 @@ pub encoded-is : (p : Point) (x y z : ℕ) → z ≡ inverse p.z → x ≡ times
     → (2 + y % 2) ∷ i2osp x 48 ≡ encoded p
 unfolding encoded
 encoded-is p x y z e f g = cc
+
+pub affine-is : (p : Point) (x y z : ℕ) → z ≡ inverse p.z → x ≡ times p.x z → y ≡ times p.y z
+    → i2osp x 48 ++ i2osp y 48 ≡ affine p
+unfolding affine
+affine-is p x y z e f g = cc
 
 -- coordinates of the same point have one encoding
 pub same-encoded : (p q : Point) → IsPoint p → Same p q → encoded q ≡ encoded p

@@ -3,10 +3,11 @@
 ghost use Rattle.std.specs.Prelude.{◌≡◌, ◌<◌, ◌%◌, length, option_map};
 ghost use Rattle.paseto_montgomery.specs.Words.{value};
 ghost use Rattle.paseto_p384.specs.Element.{number};
-ghost use Rattle.paseto_p384.specs.Encoding.{decoded, encoded, point_at, right_side, signed};
+ghost use Rattle.paseto_p384.specs.Encoding.{affine, decoded, encoded, point_at, right_side, signed};
 ghost use Rattle.paseto_weierstrass.specs.Field.{prime};
 ghost use Rattle.paseto_p384.specs.Point.{coordinates};
 
+use crate::ecdsa::halves;
 use crate::field::constants::{curve_b, one, zero};
 use crate::field::powers::{inverse, root};
 use crate::field::{
@@ -27,6 +28,16 @@ pub(crate) fn encode(p: ProjectivePoint) -> [u8; 49]
     first[0] = 2 + bit(&y, 0) as u8;
     to_octets(&x, rest);
     octets
+}
+
+/// The coordinates of a point, the greatest octet of each first.
+pub(crate) fn affine_octets(p: ProjectivePoint) -> [u8; 96]
+    ensures { result ≡ affine (coordinates p) }
+{
+    let z_inverse = inverse(p.z);
+    let x = to_words(mul(p.x, z_inverse));
+    let y = to_words(mul(p.y, z_inverse));
+    halves(&x, &y)
 }
 
 // What y^2 has to be.

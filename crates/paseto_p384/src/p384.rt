@@ -6,10 +6,11 @@ ghost use Rattle.rusty_paseto_parts.specs.declared.error.PasetoError.TheVariants
 ghost use Rattle.paseto_montgomery.specs.Octets.{os2ip};
 ghost use Rattle.paseto_montgomery.specs.Words.{value};
 ghost use Rattle.paseto_weierstrass.specs.Curve.{order};
+ghost use Rattle.paseto_p384.specs.Encoding.{coordinates_of};
 ghost use Rattle.paseto_p384.specs.P384.{IsDeclined, IsPrivate, IsRefused, P384Verifies, first_candidate, hash_number, p384_public, p384_sign, signed_by};
 
 use crate::ecdsa::{accepts, attempt};
-use crate::encoding::{decode, encode};
+use crate::encoding::{affine_octets, decode, encode};
 use crate::laws::signatures_are_valid;
 use crate::nonce::NonceGenerator;
 use crate::point::multiply_base;
@@ -145,6 +146,19 @@ impl P384 {
         match private_number(private.as_bytes()) {
             Some(d) => Ok((private, Key::from(public_octets(&d)))),
             None => Err(PasetoError::KeyRejected),
+        }
+    }
+
+    /// The coordinates of the point that a public key is, x and y of 48 bytes each, the greatest byte first, or `None`
+    /// where it is no point. No memory is taken.
+    ///
+    /// Source: SEC 1, sections 2.3.3 and 2.3.4.
+    pub fn coordinates(public: &[u8; 49]) -> Option<[u8; 96]>
+        ensures { result ≡ coordinates_of public.now }
+    {
+        match decode(public) {
+            Some(point) => Some(affine_octets(point)),
+            None => None,
         }
     }
 

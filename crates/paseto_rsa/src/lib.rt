@@ -12,5 +12,6 @@ mod rsa_pss;
 mod signing;
 mod verifying;
 
+pub use private_reading::is_private_key;
 pub use public_key::PublicKey;
 pub use rsa_pss::RsaPss;

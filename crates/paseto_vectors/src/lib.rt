@@ -28,6 +28,8 @@ mod paserk;
 #[cfg(test)]
 mod pbkdf2;
 #[cfg(test)]
+mod pem;
+#[cfg(test)]
 mod primitives;
 #[cfg(test)]
 mod schemes;

@@ -2,7 +2,7 @@
 
 mod ed25519;
 mod p384;
-mod rsa;
+pub(crate) mod rsa;
 mod toys;
 
 use rand_core::{Infallible, TryRng};

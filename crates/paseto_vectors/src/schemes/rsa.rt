@@ -10,7 +10,7 @@ use rusty_paseto_core::{
 };
 
 // A private key of OpenSSL in PKCS #8.
-const PRIVATE: &str = concat!(
+pub(crate) const PRIVATE: &str = concat!(
     "308204be020100300d06092a864886f70d0101010500048204a8308204a40201000282010100a771b4c3a8860a31a6ea62a3",
     "eb9dd21a0afef065bcfbe310a2a51cac1d315a06de7fc81a482dfaa6902d6639d02bacc3ed5b51396e7fdeac7851030b3d94",
     "95d9076e101bc01500f8a751a3fe2af79d63c70eb161ed64e3ed98380d78b469154c10434711c81cb85bd27e389270811c32",
@@ -39,7 +39,7 @@ const PRIVATE: &str = concat!(
 );
 
 // Its public key in PKCS #1.
-const PUBLIC: &str = concat!(
+pub(crate) const PUBLIC: &str = concat!(
     "3082010a0282010100a771b4c3a8860a31a6ea62a3eb9dd21a0afef065bcfbe310a2a51cac1d315a06de7fc81a482dfaa690",
     "2d6639d02bacc3ed5b51396e7fdeac7851030b3d9495d9076e101bc01500f8a751a3fe2af79d63c70eb161ed64e3ed98380d",
     "78b469154c10434711c81cb85bd27e389270811c321d44ddb151032ca17135ca573e59d2819f9be6f278f9e42226108a7200",

@@ -1,0 +1,33 @@
+//! Keys in PEM (RFC 7468), as `openssl pkey` writes and reads them: private keys in PKCS #8 and public keys as
+//! SubjectPublicKeyInfo, of Ed25519 for the versions 2 and 4, of P-384 for version 3, and of RSA for version 1.
+//!
+//! ```rust
+//! use paseto_pem::{PemError, private_key_from_pem, private_key_to_pem};
+//! use rusty_paseto_parts::V4;
+//! use std::alloc::Global;
+//!
+//! /// Reads a key that `openssl genpkey -algorithm ed25519` made, and writes it again.
+//! pub fn read_and_write(alloc: Global, text: &str) -> Result<String, PemError> {
+//!     let key = private_key_from_pem::<V4>(alloc, text)?;
+//!     private_key_to_pem(alloc, &key.lend())
+//! }
+//! ```
+//!
+//! `EC PRIVATE KEY` of SEC 1 and `RSA PUBLIC KEY` of PKCS #1 are read too. What is no such key is refused by its name.
+#![tactic(auto)]
+
+mod ed25519;
+mod error;
+mod info;
+mod keys;
+mod label;
+pub mod laws;
+mod p384;
+mod rsa;
+mod text;
+mod version;
+
+pub use error::PemError;
+pub use keys::{private_key_from_pem, private_key_to_pem, public_key_from_pem, public_key_to_pem};
+pub use label::Label;
+pub use version::PemVersion;
