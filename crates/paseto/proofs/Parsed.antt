@@ -21,7 +21,10 @@ use Rattle.rusty_paseto_paserk.specs.declared.header.PaserkType.{PaserkType}
 use Rattle.paseto_tasks.specs.declared.error.ProgramError.{ProgramError}
 use Rattle.paseto.specs.Check.{IsTheValue, ParsesWith, bound_to}
 use Rattle.paseto_tasks.specs.Arguments.{assertion_where, binds_in}
-use Rattle.paseto_tasks.specs.Error.{IsOutside, Lacks}
+use Rattle.paseto_tasks.specs.Error.{IsOutside, Lacks, key_error_of}
+use Rattle.rusty_paseto_paserk.specs.Error.{IsMemory as IsKeyMemory}
+use Rattle.rusty_paseto_paserk.specs.declared.error.PaserkError.{PaserkError}
+use Rattle.rusty_paseto_paserk.specs.declared.error.PaserkError.TheVariants.{Memory as NoKeyMemory}
 use Rattle.paseto_tasks.specs.Id.{IsKeyLine, IsKeyOf}
 
 -- ---- parsed
@@ -56,6 +59,11 @@ same_binding key footer given wanted binds text is same =
 -- there is none
 pub no_value : (Is : Data → Type 0) (error : ProgramError) → Lacks Is error → IsTheValue Is (Err error)
 no_value Is error none = record { found = tt; one = tt; none = none }
+
+-- a line that was read as no key
+pub no_key_value : (error : PaserkError) (Is : Data → Type 0) → ((value : Data) → Is value → IsKeyMemory error) → Lacks Is (key_error_of error)
+no_key_value (NoKeyMemory source) Is none = inl tt
+no_key_value error Is none = inr none
 
 -- what is so in other words
 pub in_words_of : (A B : Data → Type 0) → ((value : Data) → A value → B value) → ((value : Data) → B value → A value)

@@ -3,6 +3,7 @@ use Rattle.std.proofs.Common.{◌≡◌, ◌⊎◌, ◌&&◌, ℕ, List, [], ◌
 use Rattle.std.proofs.lemmas.List.{take_rest}
 use Rattle.std.proofs.Math.Path.{fun_ext}
 use Rattle.std.proofs.lemmas.Bool.{false≢true}
+use Rattle.std.specs.Borrow.{Bor}
 use Rattle.jiff.specs.Types.{Timestamp}
 use Rattle.serde_json.specs.Data.{Data}
 use Rattle.rusty_paseto_claims.specs.Claim.{Answer, gives, refuses}
@@ -21,7 +22,9 @@ use Rattle.rusty_paseto_generic.specs.declared.parsers.checks.Checker.TheVariant
 use Rattle.paseto_tasks.specs.declared.error.ProgramError.{ProgramError}
 use Rattle.paseto.specs.Check.{Demanded, demanded_rules, first_rules}
 use Rattle.paseto.specs.Claims.{Named, all_demanded, all_required, are_whole, json_of}
+use Rattle.paseto_tasks.specs.Arguments.{texts}
 use Rattle.paseto_tasks.specs.Error.{IsOutside}
+use Rattle.paseto_tasks.proofs.Fronts.{front_and_rest}
 
 module _ {B : Type 0} (verdict : B → Verdict) (moment : Timestamp) (leeway : ℕ) where
   -- what the checkers of all keys find
@@ -79,10 +82,16 @@ are_demanded {B} verdict demands begun put checks moment leeway at far is_begun 
     ∙ ap₂ (λ (t : Timestamp) (l : ℕ). all_required demands.required (all_demanded demands.claims (first_rules t l))) at far
 
 -- names of claims, one after the other
-pub required_more : {T E : Type 0} {J : Type 0} (result : Result T E) (name : List ℕ) (names : List (List ℕ)) (old next new : Rules J)
+required_more : {T E : Type 0} {J : Type 0} (result : Result T E) (name : List ℕ) (names : List (List ℕ)) (old next new : Rules J)
     → AreSame next (edited name with_required old) → OnOk result (new ≡ all_required names next) → OnOk result (new ≡ all_required (name ∷ names) old)
 required_more (Ok value) name names old next new is more = more ∙ ap (λ (r : Rules _). all_required names r) (fun_ext is)
 required_more (Err error) name names old next new is more = tt
+
+pub required_front : {T E : Type 0} {J : Type 0} (result : Result T E) (names : List (Bor (List ℕ))) (other : Bor (List ℕ)) (front : List ℕ) (old next new : Rules J)
+    → 1 ≤ length names → front ≡ (get_or names 0 other).now → AreSame next (edited front with_required old)
+    → OnOk result (new ≡ all_required (texts (take (length names - 1) (drop 1 names))) next) → OnOk result (new ≡ all_required (texts names) old)
+required_front result names other front old next new some first is more =
+    rw (front_and_rest names other front some first) (required_more result front (texts (take (length names - 1) (drop 1 names))) old next new is more)
 
 -- what only memory refuses
 pub memory_alone : {T : Type 0} (answer : Result T GenericParserError) (error : ProgramError) → IfErr answer IsMemory

@@ -7,8 +7,8 @@ ghost use Rattle.rusty_paseto_core.specs.Public.Verifying.{verification};
 ghost use Rattle.rusty_paseto_parts.specs.Footer.{footer_text};
 ghost use Rattle.rusty_paseto_paserk.specs.declared.header.PaserkVersion.TheVariants.{V2 as K2};
 ghost use Rattle.rusty_paseto_paserk.specs.declared.header.PaserkType.TheVariants.{Local as LocalKey, Public as PublicKey};
-ghost use Rattle.rusty_paseto_generic.specs.Parsers.Held.{rules_of, verdicts_of};
-ghost use Rattle.rusty_paseto_generic.specs.Parsers.Rules.{no_rule};
+ghost use Rattle.rusty_paseto_generic.specs.Parsers.Held.{rules_of, verdicts_of, with_times};
+ghost use Rattle.rusty_paseto_generic.specs.Parsers.Rules.{AreSame, no_rule};
 ghost use Rattle.rusty_paseto_generic.specs.Parsers.Times.{times_at};
 ghost use Rattle.paseto_tasks.specs.Arguments.{assertion_where, binds_in, texts};
 ghost use Rattle.paseto.specs.Check.{AreDemands, IsCheckedAt, IsTheValue, ParsesByKey, ParsesWith, demanded, demanded_rules};
@@ -110,12 +110,28 @@ impl<'w> Demands<'w> {
             ⊎ (are_whole (all_named self.now.claims.items) ≡ false)) }
         ensures no_usage { IfErr result IsNoUsage }
     {
-        let mut parser = parsed(alloc, PasetoParser::default(alloc, self.at))?;
-        parser.set_leeway(self.leeway);
+        let mut parser = timed(alloc, self.at, self.leeway)?;
         put_checks(alloc, &mut parser, &self.claims)?;
         put_requirements(alloc, &mut parser, self.required)?;
         Ok(parser)
     }
+}
+
+/// A parser that checks the times at a moment.
+fn timed(
+    alloc: Global,
+    at: Timestamp,
+    leeway: u32,
+) -> Result<PasetoParser<'static, V4, Local>, ProgramError>
+    ensures checks { IfOk result (λ made. AreSame (rules_of made.parser.checks)
+        (with_times (λ key. no_rule))) }
+    ensures times { IfOk result (λ made. (made.parser.moment ≡ at)
+        × (made.parser.leeway ≡ leeway)) }
+    ensures refused { IfErr result IsOutside }
+{
+    let mut parser = parsed(alloc, PasetoParser::default(alloc, at))?;
+    parser.set_leeway(leeway);
+    Ok(parser)
 }
 
 /// The moment at which a token is checked.

@@ -27,6 +27,7 @@ pub fn moment_of(word: &str, now: Timestamp) -> Option<Timestamp>
 }
 
 /// How many seconds clocks may differ by, as a word says.
+#[tactic(auto, using(crate::proofs::SameWords::long_leeway))]
 pub fn leeway_of(word: Option<&str>) -> Result<u32, ProgramError>
     ensures found { IfOk result (λ seconds. IsLeeway
         (option_map (λ text. text.now) word.entry) seconds) }
@@ -37,10 +38,13 @@ pub fn leeway_of(word: Option<&str>) -> Result<u32, ProgramError>
     let Some(word) = word else {
         return Ok(0);
     };
-    match seconds_of(word) {
-        Some(seconds) if seconds <= u32::MAX as u64 => Ok(seconds as u32),
-        _ => Err(ProgramError::Time(TimeOption::Leeway)),
+    let Some(seconds) = seconds_of(word) else {
+        return Err(ProgramError::Time(TimeOption::Leeway));
+    };
+    if seconds > u32::MAX as u64 {
+        return Err(ProgramError::Time(TimeOption::Leeway));
     }
+    Ok(seconds as u32)
 }
 
 /// The moment so many seconds later.

@@ -1,11 +1,12 @@
 use Rattle.std.proofs.Common.{ℕ, List, Bool, ap, ◌∙◌}
+use Rattle.std.proofs.lemmas.Result.{err_from_is_err_and}
 use Rattle.rusty_paseto_core.specs.Context.{binding_of}
 use Rattle.rusty_paseto_core.specs.Public.Verifying.{verification}
 use Rattle.rusty_paseto_generic.specs.Parsers.Parsing.{assertion_in}
 use Rattle.rusty_paseto_paserk.specs.declared.header.PaserkType.TheVariants.{Public}
 use Rattle.paseto_tasks.specs.Arguments.{binds_in}
 use Rattle.paseto.specs.Check.{demanded}
-use Rattle.paseto.proofs.Parsed.{parses, same_binding}
+use Rattle.paseto.proofs.Parsed.{no_key_value, no_value, parses, same_binding}
 use Rattle.rusty_paseto_parts.proofs.LimitLemmas.{unlimited}
 use Rattle.paseto.proofs.commands.check.verified.Goals as goal
 
@@ -22,3 +23,9 @@ returns-clause-answer g c =
     ∙ ap (λ (b : Bool). binding_of c.in_ok-key.key held.footer (assertion_in b held.implicit_assertion)) c.requires
     ∙ same_binding _ held.footer held.implicit_assertion demands.assertion (binds_in g.V.KeyVersion.paserk) _ made.assertion made.footer) made.rules
     c.parsed.result c.parse.result c.parsed.ensures.value c.parsed.ensures.refused (c.parse.ensures.answer (unlimited _ _ made.longest))
+
+pub returns-in_err-key-clause-answer : goal.returns-in_err-key-clause-answer
+returns-in_err-key-clause-answer g c =
+    let p = err_from_is_err_and c.from_residual.result c.from_residual.ensures.1 in
+    rw (p.1, p.2) (no_value _ _ (no_key_value c.in_err-key.field-0.0 _
+    (λ value is. c.in_err-key.ensures.read is.key is.is_key.bytes (g.met.V.Suite.reads_public is.key is.is_key.is_key) is.is_key.is_writing)))
