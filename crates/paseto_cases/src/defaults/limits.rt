@@ -64,11 +64,15 @@ fn is_too_long(answer: &Opened) -> bool {
     matches!(answer, Err(KeyRingError::Untrusted(PasetoError::TooLong)))
 }
 
+fn is_for_its_length(refusal: &KeyRingError) -> bool {
+    matches!(refusal, KeyRingError::Untrusted(PasetoError::TooLong))
+}
+
 fn is_refused(answer: &Answer) -> bool {
-    matches!(
-        answer,
-        Err(KeyRingParserError::Ring(KeyRingError::Untrusted(PasetoError::TooLong)))
-    )
+    match answer {
+        Err(KeyRingParserError::Ring(refusal)) => is_for_its_length(refusal),
+        _ => false,
+    }
 }
 
 // A token of as many bytes as the limit is opened, and one of a byte more is refused.
