@@ -98,28 +98,17 @@ fn the_length_comes_first(rt: HostRuntime) {
     }
 }
 
-// The limit of a new parser.
-fn first_limit<V: VersionTrait>(alloc: Global) -> Option<usize> {
-    let parser = GenericParser::<V, Local>::new(alloc);
-    parser.longest()
-}
-
-// The limit that is told where one was set, and then another.
-fn last_limit<V: VersionTrait>(alloc: Global, first: usize, last: usize) -> Option<usize> {
-    let mut parser = parser_within::<V, Local>(alloc, first);
-    parser.set_longest(last);
-    parser.longest()
+fn check_limit(rt: &impl Abort, parser: &GenericParser<'_, V4, Local>, limit: Option<usize>) {
+    expect_that(rt, parser.longest() == limit, "the limit");
 }
 
 #[test]
 fn the_limit_is_told(rt: HostRuntime) {
-    let alloc = rt.alloc();
-    expect_that(&rt, first_limit::<V4>(alloc).is_none(), "no limit");
-    expect_that(
-        &rt,
-        last_limit::<V4>(alloc, 5, 6) == Some(6),
-        "the last limit",
-    );
+    let mut parser = GenericParser::<V4, Local>::new(rt.alloc());
+    check_limit(&rt, &parser, None);
+    parser.set_longest(5);
+    parser.set_longest(6);
+    check_limit(&rt, &parser, Some(6));
 }
 
 #[test]
