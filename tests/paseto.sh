@@ -306,7 +306,7 @@ refuses "the public half of 0" 1 "" "zero.secret: $bad_key" public --key zero.se
 # -- keys among the words
 
 key_word='a key is among the words, where others can see it: name the file that holds it'
-for words in "encrypt --key $(cat v4.local)" "sign --key $(cat v4.secret)" "keygen $(cat v4.local)" "$(cat v4.secret)" \
+for words in "encrypt --key $(cat v4.local)" "encrypt --key=$(cat v4.local)" "check --ring=$(cat v4.secret)" "sign --key $(cat v4.secret)" "keygen $(cat v4.local)" "$(cat v4.secret)" \
     "check --ring $(cat v4.local)" "encrypt --key v4.local $(cat v4.local)" "nothing $(cat v4.secret)"; do
     # shellcheck disable=SC2086
     refuses "the words ${words:0:20}" 2 hello "$key_word" $words

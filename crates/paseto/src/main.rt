@@ -52,10 +52,18 @@ fn serve(rt: &HostRuntime, words: &[String]) -> u8 {
     }
 }
 
-/// Whether a word begins as a key that is to be kept secret.
+/// Whether a word is a key that is to be kept secret, or gives one to an option: `--key=k4.local..`.
 fn is_secret(word: &str) -> bool {
+    match word.split_once('=') {
+        Some((_, value)) => is_secret_key(word) || is_secret_key(value),
+        None => is_secret_key(word),
+    }
+}
+
+/// Whether a text begins as a key that is to be kept secret.
+fn is_secret_key(text: &str) -> bool {
     matches!(
-        header_of(word),
+        header_of(text),
         Some((_, PaserkType::Local | PaserkType::Secret, _))
     )
 }
