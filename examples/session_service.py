@@ -1,15 +1,17 @@
 #!/usr/bin/env python3
 """A session service over tokens of version 4: whoever logs in gets a cookie that is a token, and no session is stored.
 
-    PYTHONPATH=c PASETO_LIBRARY=PREFIX/lib/libpaseto.so examples/session_service.py --port 8000
+    PYTHONPATH=c PASETO_LIBRARY=PREFIX/lib/libpaseto.so examples/session_service.py --port 8000 --database sessions.db
 
     curl -c jar -d 'user=ada&password=lovelace' http://127.0.0.1:8000/login
     curl -b jar http://127.0.0.1:8000/me
     curl -b jar -c jar -X POST http://127.0.0.1:8000/logout
 
 The keys rotate: a new one issues every so many seconds, the footer of a token names its key, and a key goes once all its
-tokens have expired. What is logged out is refused until it would have expired. The service listens on the loopback alone,
-where a proxy in front of it brings TLS: a cookie is ``Secure`` with ``--secure``.
+tokens have expired. Who logs out ends the session by the ``jti`` of its token, which is refused until it would have
+expired. Keys and ended sessions stand in a file of SQLite, which its owner alone may read: they outlive the service, and
+a session that was ended before a crash is ended after it. The service listens on the loopback alone, where a proxy in
+front of it brings TLS: a cookie is ``Secure`` with ``--secure``.
 """
 
 from __future__ import annotations
@@ -20,6 +22,8 @@ import hmac
 import json
 import os
 import secrets
+import sqlite3
+import tempfile
 import threading
 import time
 from http.cookies import CookieError, SimpleCookie
@@ -32,31 +36,49 @@ AUDIENCE = "session"
 LONGEST_FORM = 1000
 
 
-class Keys:
-    """The keys of the sessions by their ids: one issues, and those before it admit while their tokens last."""
+class Store:
+    """The keys of the sessions by their ids, and the sessions that were ended, in a file."""
 
-    def __init__(self, lifetime: int, rotate_every: int) -> None:
+    def __init__(self, path: str, lifetime: int, rotate_every: int) -> None:
         self._lifetime, self._rotate_every = lifetime, rotate_every
-        self._keys: dict[str, tuple[paseto.LocalKey, float]] = {}
         self._lock = threading.Lock()
+        os.close(os.open(path, os.O_RDWR | os.O_CREAT, 0o600))
+        # Each statement is a transaction of its own, which stands in the file before the call returns.
+        self._base = sqlite3.connect(path, check_same_thread=False, isolation_level=None)
+        self._base.execute("PRAGMA journal_mode = WAL")
+        self._base.execute("PRAGMA synchronous = FULL")
+        self._base.execute("CREATE TABLE IF NOT EXISTS keys (kid TEXT PRIMARY KEY, key BLOB NOT NULL, made REAL NOT NULL)")
+        self._base.execute("CREATE TABLE IF NOT EXISTS ended (jti TEXT PRIMARY KEY, until REAL NOT NULL)")
 
     def issuing(self) -> tuple[str, paseto.LocalKey]:
-        """The key that issues, and its id."""
-        now = time.monotonic()
+        """The key that issues, and its id: the newest, or a new one where that has issued for long enough."""
+        now = time.time()
         with self._lock:
-            oldest = now - self._rotate_every - self._lifetime
-            self._keys = {kid: kept for kid, kept in self._keys.items() if kept[1] > oldest}
-            kid, (key, made) = next(reversed(self._keys.items()), ("", (None, 0.0)))
-            if key is None or made <= now - self._rotate_every:
-                kid, key = secrets.token_hex(8), paseto.LocalKey.generate()
-                self._keys[kid] = (key, now)
+            self._base.execute("DELETE FROM keys WHERE made <= ?", (now - self._rotate_every - self._lifetime,))
+            found = self._base.execute("SELECT kid, key, made FROM keys ORDER BY made DESC LIMIT 1").fetchone()
+            if found is not None and found[2] > now - self._rotate_every:
+                return found[0], paseto.LocalKey(found[1])
+            kid, key = secrets.token_hex(8), paseto.LocalKey.generate()
+            self._base.execute("INSERT INTO keys VALUES (?, ?, ?)", (kid, key.to_bytes(), now))
             return kid, key
 
     def admitting(self, kid: str) -> paseto.LocalKey | None:
         """The key with this id."""
         with self._lock:
-            kept = self._keys.get(kid)
-        return kept[0] if kept else None
+            found = self._base.execute("SELECT key FROM keys WHERE kid = ?", (kid,)).fetchone()
+        return paseto.LocalKey(found[0]) if found else None
+
+    def end(self, jti: str) -> None:
+        """Ends a session, and forgets those that have expired meanwhile."""
+        now = time.time()
+        with self._lock:
+            self._base.execute("DELETE FROM ended WHERE until <= ?", (now,))
+            self._base.execute("INSERT OR REPLACE INTO ended VALUES (?, ?)", (jti, now + self._lifetime))
+
+    def is_ended(self, jti: str) -> bool:
+        """Whether the session was ended."""
+        with self._lock:
+            return self._base.execute("SELECT 1 FROM ended WHERE jti = ?", (jti,)).fetchone() is not None
 
 
 class Users:
@@ -83,15 +105,12 @@ class Users:
 class Sessions:
     """Cookies that are tokens: made, read, and refused once they are logged out."""
 
-    def __init__(self, lifetime: int, rotate_every: int) -> None:
-        self._lifetime = lifetime
-        self._keys = Keys(lifetime, rotate_every)
-        self._ended: dict[str, float] = {}
-        self._lock = threading.Lock()
+    def __init__(self, store: Store, lifetime: int) -> None:
+        self._store, self._lifetime = store, lifetime
 
     def begin(self, user: str) -> str:
         """A token for the user."""
-        kid, key = self._keys.issuing()
+        kid, key = self._store.issuing()
         claims = {"sub": user, "aud": AUDIENCE, "jti": secrets.token_hex(16)}
         return paseto.issue(key, claims, expires_in=self._lifetime, footer=json.dumps({"kid": kid}))
 
@@ -99,21 +118,17 @@ class Sessions:
         """The claims of a token that is one of this service, and was not logged out."""
         try:
             footer = paseto.footer_of(token)
-            key = self._keys.admitting(kid_of(footer))
+            key = self._store.admitting(kid_of(footer))
             if key is None:
                 return None
             claims = paseto.admit(token, key, aud=AUDIENCE, footer=footer)
         except paseto.Refused:
             return None
-        with self._lock:
-            return None if claims["jti"] in self._ended else claims
+        return None if self._store.is_ended(claims["jti"]) else claims
 
     def end(self, claims: dict) -> None:
-        """Logs the session out, and forgets those that have expired meanwhile."""
-        now = time.monotonic()
-        with self._lock:
-            self._ended = {jti: until for jti, until in self._ended.items() if until > now}
-            self._ended[claims["jti"]] = now + self._lifetime
+        """Logs the session out."""
+        self._store.end(claims["jti"])
 
 
 def kid_of(footer: str) -> str:
@@ -221,11 +236,13 @@ def main() -> None:
     words.add_argument("--port", type=int, default=0, help="0 takes a free one; the first line of output names it")
     words.add_argument("--lifetime", type=int, default=3600, help="how many seconds a session lasts")
     words.add_argument("--rotate-every", type=int, default=86400, help="how many seconds a key issues")
+    words.add_argument("--database", help="the file of keys and ended sessions; without it a new one in a folder of its own")
     words.add_argument("--stop-after", type=float, help="how many seconds the service runs; else for ever")
     words.add_argument("--secure", action="store_true", help="let cookies go over TLS alone")
     given = words.parse_args()
     users = Users({"ada": "lovelace", "alan": "turing"})
-    sessions = Sessions(given.lifetime, given.rotate_every)
+    path = given.database or os.path.join(tempfile.mkdtemp(prefix="sessions-"), "sessions.db")
+    sessions = Sessions(Store(path, given.lifetime, given.rotate_every), given.lifetime)
     with Service(given.port, users, sessions, given.secure) as service:
         print(f"http://127.0.0.1:{service.server_port}", flush=True)
         if given.stop_after is not None:

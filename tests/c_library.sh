@@ -128,6 +128,15 @@ export PASETO_LIBRARY=$prefix/lib/libpaseto.so PYTHONPATH=$root/c PYTHONDONTWRIT
 counted 'a program in Python' timeout 120 python3 "$here/client.py"
 check 'the example of paseto.py' python3 -c 'import doctest, paseto, sys; sys.exit(doctest.testmod(paseto).failed)'
 
+# ---- Go
+
+if command -v go >/dev/null && command -v pkg-config >/dev/null; then
+    check 'the example in Go' env PKG_CONFIG_PATH="$prefix/lib/pkgconfig" GOCACHE="$work/go" go run "$root/examples/go/token.go"
+    if grep -q '"sub":"ada"' "$work/log"; then pass; else fail "the example in Go prints $(cat "$work/log")"; fi
+else
+    echo 'there is no Go or no pkg-config: examples/go/token.go is not run'
+fi
+
 # ---- the session service
 
 # serve NAME OPTION..: starts the service, and sets its address under the name.
@@ -207,4 +216,15 @@ fi
 answers 200 'logging out' -b "$work/new_jar" -X POST "$service/logout"
 answers 401 'a cookie that was logged out' -b "$work/new_jar" "$service/me"
 answers 200 'another session goes on' -b "$work/jar" "$service/me"
+
+# What was ended before the service is killed is ended when it runs again, and the others go on.
+serve killed --database "$work/sessions.db"
+answers 200 'logging in before the end' -c "$work/kept_jar" -d "$ada" "$killed/login"
+answers 200 'logging in twice' -c "$work/ended_jar" -d "$ada" "$killed/login"
+answers 200 'logging out before the end' -b "$work/ended_jar" -X POST "$killed/logout"
+pkill -KILL -P "${services[-1]}"
+serve again --database "$work/sessions.db"
+answers 200 'a session after the end' -b "$work/kept_jar" "$again/me"
+answers 401 'a session that was logged out before the end' -b "$work/ended_jar" "$again/me"
+if [ "$(stat -c %a "$work/sessions.db")" = 600 ]; then pass; else fail 'others can read the keys of the sessions'; fi
 finish
