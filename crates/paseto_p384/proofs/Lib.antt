@@ -1,3 +1,4 @@
+pub mod AgreementLaws
 pub mod DecodingLaws
 pub mod EcdsaLaws
 pub mod EncodingLaws
