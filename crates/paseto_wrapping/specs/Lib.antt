@@ -1,0 +1,5 @@
+pub mod Header
+pub mod Error
+pub mod Text
+pub mod Reading
+pub mod Family

@@ -1,0 +1,12 @@
+//! Wrapped keys of PASERK.
+#![tactic(auto)]
+
+mod error;
+mod family;
+mod header;
+mod keys;
+mod text;
+
+pub use error::WrapError;
+pub use header::{WrappedType, wrapped_header_of};
+pub use keys::WrappingKey;
