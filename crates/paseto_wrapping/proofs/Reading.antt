@@ -7,7 +7,7 @@ use Rattle.rusty_paseto_parts.specs.Section.{base64url}
 use Rattle.rusty_paseto_paserk.specs.declared.header.PaserkVersion.{PaserkVersion}
 use Rattle.paseto_wrapping.specs.declared.header.WrappedType.{WrappedType}
 use Rattle.paseto_wrapping.specs.declared.error.WrapError.{WrapError}
-use Rattle.paseto_wrapping.specs.declared.error.WrapError.TheVariants.{NoWrappedKey, OtherVersion, OtherType, InvalidText, InvalidCost, TooCostly, WrongKey, InvalidKey, Memory}
+use Rattle.paseto_wrapping.specs.declared.error.WrapError.TheVariants.{NoWrappedKey, OtherVersion, OtherType, InvalidText, InvalidCost, TooCostly, InvalidPrivateKey, InvalidPoint, SmallOrder, WrongKey, InvalidKey, Memory}
 use Rattle.paseto_wrapping.specs.Error.{IsMemory}
 use Rattle.paseto_wrapping.specs.Text.{IsTextFault, ReadsPayload}
 use Rattle.paseto_wrapping.specs.Reading.{Faults, InText, IsOfPayload, KeyFaults, TextFaults, Unwraps, UnwrapsKey, Wraps}
@@ -21,6 +21,9 @@ module _ (version : PaserkVersion) (kind : WrappedType) (IsWrapped : Wraps) (IsF
   text_fault InvalidText h = inr (h.0, λ payload is. absurd (h.1 payload is.0 is.1))
   text_fault InvalidCost h = absurd h
   text_fault TooCostly h = absurd h
+  text_fault InvalidPrivateKey h = absurd h
+  text_fault InvalidPoint h = absurd h
+  text_fault SmallOrder h = absurd h
   text_fault WrongKey h = absurd h
   text_fault InvalidKey h = absurd h
   text_fault (Memory source) h = inl tt
@@ -45,6 +48,9 @@ module _ (version : PaserkVersion) (kind : WrappedType) (IsWrapped : Wraps) (IsF
   )
   payload_fault payload reads InvalidCost own h = (payload.items, (reads.bytes, reads.written), h)
   payload_fault payload reads TooCostly own h = (payload.items, (reads.bytes, reads.written), h)
+  payload_fault payload reads InvalidPrivateKey own h = (payload.items, (reads.bytes, reads.written), h)
+  payload_fault payload reads InvalidPoint own h = (payload.items, (reads.bytes, reads.written), h)
+  payload_fault payload reads SmallOrder own h = (payload.items, (reads.bytes, reads.written), h)
   payload_fault payload reads WrongKey own h = (payload.items, (reads.bytes, reads.written), h)
   payload_fault payload reads InvalidKey own h = absurd own
   payload_fault payload reads (Memory source) own h = absurd own
@@ -88,6 +94,12 @@ module _ (version : PaserkVersion) (kind : WrappedType) (IsWrapped : Wraps) (IsF
   key_fault InvalidCost (inr h) = h
   key_fault TooCostly (inl h) = absurd h
   key_fault TooCostly (inr h) = h
+  key_fault InvalidPrivateKey (inl h) = absurd h
+  key_fault InvalidPrivateKey (inr h) = h
+  key_fault InvalidPoint (inl h) = absurd h
+  key_fault InvalidPoint (inr h) = h
+  key_fault SmallOrder (inl h) = absurd h
+  key_fault SmallOrder (inr h) = h
   key_fault WrongKey (inl h) = absurd h
   key_fault WrongKey (inr h) = h
   key_fault InvalidKey (inl h) = absurd h

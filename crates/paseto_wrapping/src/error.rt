@@ -31,6 +31,17 @@ pub enum WrapError {
     /// The text asks for more iterations, memory, passes or lanes than the caller's bound.
     #[error("the text asks for a costlier password than the bound allows")]
     TooCostly,
+    /// The private key is none of the version: in version 3 another length than 48 bytes, 0 or a number from n on; in versions
+    /// 2 and 4 another length than 64 bytes, or a public half that is no point or of small order. From sealing, the ephemeral
+    /// one.
+    #[error("the private key is none of the version")]
+    InvalidPrivateKey,
+    /// The public key to which a key is to be sealed, or the ephemeral one of a sealed key, is no point of the curve.
+    #[error("the public key is no point of the curve")]
+    InvalidPoint,
+    /// No secret can be shared with a public key: it is of small order.
+    #[error("the public key is of small order")]
+    SmallOrder,
     /// The tag is another one.
     #[error("wrong wrapping key or password, or the text was changed")]
     WrongKey,
