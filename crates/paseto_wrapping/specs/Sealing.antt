@@ -142,19 +142,22 @@ abbrev pub sealed_length : Family → ℕ
 sealed_length Nist = 129
 sealed_length Sodium = 96
 
--- epk and c of a payload
+-- t, epk and c of a payload
+abbrev pub t_of : Family → List ℕ → List ℕ
+t_of family sealed = take (tag_length family) sealed
+
 abbrev pub epk_of : Family → List ℕ → List ℕ
 epk_of family sealed = take (point_length family) (drop (tag_length family) sealed)
 
 abbrev pub c_of : Family → List ℕ → List ℕ
 c_of family sealed = drop (point_length family) (drop (tag_length family) sealed)
 
--- the payload seals a key of 32 bytes for whoever has a private key: under some ephemeral public key
+-- the payload seals a key of 32 bytes for whoever has a private key: under some ephemeral public key epk, with xk shared
 abbrev pub SealsFor : Family → PaserkVersion → List ℕ → List ℕ → List ℕ → Type 0
 SealsFor family version private sealed key =
-    IsOpener family private × (length key ≡ 32)
-    × ((epk xk : List ℕ) × (length epk ≡ point_length family) × IsShared family (own_secret family private) epk xk
-    × (sealed ≡ payload version xk epk (own_public family private) key))
+    (epk : List ℕ) × (xk : List ℕ) × IsOpener family private × (length key ≡ 32) × (length epk ≡ point_length family)
+    × IsShared family (own_secret family private) epk xk
+    × (sealed ≡ payload version xk epk (own_public family private) key)
 
 -- an ephemeral public key is a point: of X25519 any bytes are
 abbrev pub IsPeer : Family → List ℕ → Type 0
@@ -172,7 +175,7 @@ IsOpenFault family version private sealed SmallOrder =
     (length sealed ≡ sealed_length family) × IsOpener family private × IsPeer family (epk_of family sealed)
     × ((xk : List ℕ) → ¬ IsShared family (own_secret family private) (epk_of family sealed) xk)
 IsOpenFault family version private sealed WrongKey =
-    (length sealed ≡ sealed_length family) × IsOpener family private
-    × ((xk : List ℕ) × IsShared family (own_secret family private) (epk_of family sealed) xk
-    × (sealed ≢ with_tag version xk (epk_of family sealed) (own_public family private) (c_of family sealed)))
+    (xk : List ℕ) × (length sealed ≡ sealed_length family) × IsOpener family private
+    × IsShared family (own_secret family private) (epk_of family sealed) xk
+    × (t_of family sealed ≢ tag_of version xk (epk_of family sealed) (own_public family private) (c_of family sealed))
 IsOpenFault family version private sealed _ = ⊥

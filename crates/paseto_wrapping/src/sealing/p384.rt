@@ -2,6 +2,7 @@
 
 ghost use Rattle.std.specs.Prelude.{◌≡◌, IfOk, IfErr};
 ghost use Rattle.paseto_wrapping.specs.declared.family.Family.TheVariants.{Nist};
+ghost use Rattle.paseto_wrapping.specs.Family.{family_of};
 ghost use Rattle.paseto_wrapping.specs.Reading.{Unwraps};
 ghost use Rattle.paseto_wrapping.specs.Sealing.{IsOpenFault, IsSealFault, IsSealing, SealsFor};
 
@@ -52,6 +53,7 @@ pub(crate) fn open(
     private: &[u8],
     payload: &[u8],
 ) -> Result<Vec<u8>, WrapError>
+    requires { family_of version ≡ Nist }
     ensures { Unwraps (SealsFor Nist version private.now) (IsOpenFault Nist version private.now)
         payload.now result }
 {

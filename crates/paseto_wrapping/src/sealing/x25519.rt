@@ -2,6 +2,7 @@
 
 ghost use Rattle.std.specs.Prelude.{◌≡◌, length, IfOk, IfErr};
 ghost use Rattle.paseto_wrapping.specs.declared.family.Family.TheVariants.{Sodium};
+ghost use Rattle.paseto_wrapping.specs.Family.{family_of};
 ghost use Rattle.paseto_wrapping.specs.Reading.{Unwraps};
 ghost use Rattle.paseto_wrapping.specs.Sealing.{IsOpenFault, IsSealFault, IsSealing, SealsFor};
 
@@ -53,6 +54,7 @@ pub(crate) fn open(
     private: &[u8],
     payload: &[u8],
 ) -> Result<Vec<u8>, WrapError>
+    requires { family_of version ≡ Sodium }
     ensures { Unwraps (SealsFor Sodium version private.now) (IsOpenFault Sodium version private.now)
         payload.now result }
 {
