@@ -1,6 +1,7 @@
-//! The law of signing. The function does nothing: its contract is the law.
+//! The laws of signing and of agreement. Each function does nothing: its contract is the law.
 
-ghost use Rattle.std.specs.Prelude.{◌≡◌, ℕ, List, Some};
+ghost use Rattle.std.specs.Prelude.{◌≡◌, ◌≢◌, ℕ, List, None, Some};
+ghost use Rattle.paseto_p384.specs.Agreement.{p384_shared};
 ghost use Rattle.paseto_p384.specs.P384.{IsPrivate, P384Verifies, p384_public, p384_sign};
 
 /// What is signed under a private key is valid under its public key, for any message (FIPS 186-5, sections 6.4.1 and
@@ -9,4 +10,13 @@ pub fn signatures_are_valid()
     ensures { (private message made : List ℕ) → IsPrivate private
         → p384_sign private message ≡ Some made
         → P384Verifies (p384_public private) message made }
+{}
+
+/// Two parties share one secret, whichever of them makes it (SEC 1, section 3.3.1): [d]([e]G) is [e]([d]G), and never the
+/// point at infinity, since n is prime.
+pub fn shared_secret_is_common()
+    ensures same { (own other : List ℕ) → IsPrivate own → IsPrivate other
+        → p384_shared own (p384_public other) ≡ p384_shared other (p384_public own) }
+    ensures some { (own other : List ℕ) → IsPrivate own → IsPrivate other
+        → p384_shared own (p384_public other) ≢ None }
 {}

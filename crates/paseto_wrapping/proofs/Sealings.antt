@@ -1,6 +1,6 @@
 -- The parts of the payload of a sealed key.
 use Rattle.std.proofs.Common.{◌≡◌, ◌≢◌, ◌⊎◌, ℕ, ◌+◌, ◌<◌, ◌≤◌, List, ◌∷◌, ◌++◌, length, take, drop, Result, Ok, Err, IfOk, IfErr, inl, inr, refl, sym, ap, subst, ◌∙◌, arith, append_assoc, length-append, length-drop}
-use Rattle.std.specs.Prelude.{None, Some}
+use Rattle.std.specs.Prelude.{None, Option, Some}
 use Rattle.std.proofs.lemmas.List.{take_at, drop_at, take-append-drop, length-take-le}
 use Rattle.std.specs.declared.alloc.Global.{Global}
 use Rattle.std.specs.declared.vec.Vec.{Vec}
@@ -13,7 +13,8 @@ use Rattle.paseto_p384.specs.declared.agreement.AgreementError.{AgreementError}
 use Rattle.paseto_p384.specs.declared.agreement.AgreementError.TheVariants.{Infinity, InvalidPoint as NoPoint}
 use Rattle.paseto_p384.specs.Agreement.{IsAgreementFault, p384_shared, x_of_multiple}
 use Rattle.paseto_p384.specs.Encoding.{decoded as decoded384}
-use Rattle.paseto_p384.specs.P384.{IsPrivate}
+use Rattle.paseto_p384.specs.P384.{IsPrivate, p384_public}
+use Rattle.paseto_p384.proofs.AgreementLaws.{public-length, public-point, shared-same, shared-some}
 use Rattle.paseto_p384.proofs.OptionLaws.{none-some, some-same}
 use Rattle.paseto_wrapping.specs.declared.family.Family.{Family}
 use Rattle.paseto_wrapping.specs.declared.family.Family.TheVariants.{Nist, Sodium}
@@ -22,7 +23,7 @@ use Rattle.paseto_wrapping.specs.declared.error.WrapError.TheVariants.{NoWrapped
 use Rattle.paseto_wrapping.specs.Error.{IsMemory}
 use Rattle.paseto_wrapping.specs.Family.{family_of, tag_length}
 use Rattle.paseto_wrapping.specs.Reading.{IsOfPayload, Unwraps}
-use Rattle.paseto_wrapping.specs.Sealing.{IsOpenFault, IsOpener, IsPeer, IsShared, SealsFor, c_of, crypted, encryption_of, epk_of, own_public, own_secret, point_length, sealed_length, t_of, tag_of}
+use Rattle.paseto_wrapping.specs.Sealing.{IsOpenFault, IsOpener, IsPeer, IsSealFault, IsSealing, IsShared, SealsFor, c_of, crypted, encryption_of, epk_of, own_public, own_secret, point_length, sealed_length, t_of, tag_of}
 use Rattle.paseto_wrapping.proofs.Families.{encrypted-encrypted, length-encrypted, length-tag, IsBytes-encrypted}
 
 -- ---- ciphertexts and tags
@@ -261,3 +262,34 @@ module _ (version : PaserkVersion) (same : family_of version ≡ Nist) (private 
       → Unwraps (SealsFor Nist version private) (IsOpenFault Nist version private) input (Err SmallOrder)
   open_infinite h =
       open_unshared Nist version same private input epk e long h.0 h.1 (λ xk shared. none-some xk (sym h.2 ∙ shared))
+
+-- ---- sealing and opening in version 3
+
+pub sealed-unsealed : (version : PaserkVersion) (private ephemeral key sealed : List ℕ) → IsPrivate private → length key ≡ 32
+    → IsSealing Nist version (p384_public private) ephemeral key sealed → SealsFor Nist version private sealed key
+sealed-unsealed version private ephemeral key sealed own size h =
+    (p384_public ephemeral, h.3.0, own, size, public-length ephemeral, shared-same private ephemeral own h.0 ∙ h.3.1, h.3.2)
+
+some-of : (o : Option (List ℕ)) → o ≢ None → (x : List ℕ) × (o ≡ Some x)
+some-of None h = absurd (h refl)
+some-of (Some x) h = (x, refl)
+
+pub seal-memory : (private ephemeral : List ℕ) (error : WrapError) → IsPrivate private → IsPrivate ephemeral
+    → IsSealFault Nist (p384_public private) ephemeral error → IsMemory error
+seal-memory private ephemeral NoWrappedKey own secret h = h
+seal-memory private ephemeral (OtherVersion found) own secret h = h
+seal-memory private ephemeral (OtherType found) own secret h = h
+seal-memory private ephemeral InvalidText own secret h = h
+seal-memory private ephemeral InvalidCost own secret h = h
+seal-memory private ephemeral TooCostly own secret h = h
+seal-memory private ephemeral InvalidPrivateKey own secret h = h secret
+seal-memory private ephemeral InvalidPoint own secret h = h.1 (public-length private, public-point private own)
+seal-memory private ephemeral SmallOrder own secret h = elim h.2 [
+  | inl small ↦ small
+  | inr none ↦
+      let some = some-of (p384_shared ephemeral (p384_public private)) (shared-some ephemeral private secret own) in
+      none some.0 some.1
+]
+seal-memory private ephemeral WrongKey own secret h = h
+seal-memory private ephemeral InvalidKey own secret h = h
+seal-memory private ephemeral (Memory source) own secret h = tt

@@ -11,4 +11,4 @@ mod text;
 pub use error::WrapError;
 pub use header::{WrappedType, wrapped_header_of};
 pub use keys::WrappingKey;
-pub use sealing::{seal, unseal};
+pub use sealing::{seal, sealed_is_unsealed, unseal};

@@ -8,6 +8,7 @@ ghost use Rattle.paseto_wrapping.specs.Reading.{InText, TextFaults, Unwraps, Unw
 ghost use Rattle.paseto_wrapping.specs.Sealing.{IsOpenFault, IsSealFault, IsSealed, IsSealing, SealsFor, secret_length};
 
 mod derivation;
+mod laws;
 mod p384;
 mod payload;
 mod x25519;
@@ -17,6 +18,7 @@ use crate::family::{Family, array_of};
 use crate::header::WrappedType;
 use crate::keys::local_key;
 use crate::text::{read_payload, write_text};
+pub use laws::sealed_is_unsealed;
 use rusty_paseto_parts::{
     Key, Local, PasetoAsymmetricPrivateKey, PasetoAsymmetricPublicKey, PasetoSymmetricKey, Public,
 };
