@@ -3,3 +3,4 @@ pub mod Error
 pub mod Text
 pub mod Reading
 pub mod Family
+pub mod Pie
