@@ -1,3 +1,4 @@
 pub mod Reading
 pub mod Families
 pub mod Pies
+pub mod Protected

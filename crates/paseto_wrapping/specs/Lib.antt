@@ -4,3 +4,4 @@ pub mod Text
 pub mod Reading
 pub mod Family
 pub mod Pie
+pub mod Password
