@@ -3,11 +3,12 @@ use Rattle.std.proofs.Common.{◌≡◌, ◌⊎◌, ℕ, ◌+◌, ◌<◌, ◌�
 use Rattle.std.proofs.lemmas.List.{take_at, drop_at}
 use Rattle.std.specs.declared.alloc.Global.{Global}
 use Rattle.std.specs.declared.vec.Vec.{Vec}
+use Rattle.std.specs.Int.{w32, w64, to_be_bytes}
 use Rattle.sha2.specs.Sha512.{sha384}
 use Rattle.rusty_paseto_primitives.specs.Bytes.{IsBytes}
 use Rattle.rusty_paseto_primitives.proofs.Blake2Lengths.{IsBytes-blake2b}
 use Rattle.rusty_paseto_primitives.proofs.ByteLists.{IsBytes-append, IsBytes-drop, IsBytes-take}
-use Rattle.rusty_paseto_primitives.proofs.HmacLengths.{IsBytes-sha384}
+use Rattle.rusty_paseto_primitives.proofs.HmacLengths.{IsBytes-bytes_high_first, IsBytes-sha384}
 use Rattle.rusty_paseto_paserk.specs.declared.header.PaserkVersion.{PaserkVersion}
 use Rattle.paseto_wrapping.specs.declared.cost.PasswordCost.{PasswordCost}
 use Rattle.paseto_wrapping.specs.declared.header.WrappedType.{WrappedType}
@@ -290,3 +291,26 @@ module _ (version : PaserkVersion) (kind : WrappedType) (password : List ℕ) (m
         fault WrongKey h = inr ((cost, tells, granted), λ ptk is. h (own_tag ptk is))
         fault InvalidKey h = absurd h
         fault (Memory source) h = inl tt
+
+-- ---- what is written is bytes
+
+IsBytes-cost_bytes : (family : Family) (cost : PasswordCost) → IsBytes (cost_bytes family cost)
+unfolding cost_bytes
+IsBytes-cost_bytes Nist cost = IsBytes-bytes_high_first 4 cost.iterations
+IsBytes-cost_bytes Sodium cost =
+    IsBytes-append (to_be_bytes w64 cost.memory ++ to_be_bytes w32 cost.passes) (to_be_bytes w32 cost.lanes)
+    (IsBytes-append (to_be_bytes w64 cost.memory) (to_be_bytes w32 cost.passes) (IsBytes-bytes_high_first 8 cost.memory) (IsBytes-bytes_high_first 4 cost.passes))
+    (IsBytes-bytes_high_first 4 cost.lanes)
+
+pub IsBytes-protected : (version : PaserkVersion) (kind : WrappedType) (password : List ℕ) (cost : PasswordCost) (s n ptk : List ℕ)
+    → IsBytes s → IsBytes n → IsBytes ptk → IsBytes (payload version kind password cost s n ptk)
+unfolding payload
+IsBytes-protected version kind password cost s n ptk of_salt of_nonce of_key =
+    let family = family_of version in
+    let key = k family password s cost in
+    let body : List ℕ = encrypted family (ek family key) n ptk in
+    IsBytes-append (untagged family s cost n key ptk) _
+    (IsBytes-append (s ++ cost_bytes family cost ++ n) body
+    (IsBytes-append (s ++ cost_bytes family cost) n (IsBytes-append s (cost_bytes family cost) of_salt (IsBytes-cost_bytes family cost)) of_nonce)
+    (IsBytes-encrypted family _ n ptk (IsBytes-ek family key) of_key))
+    (IsBytes-tag family _ _)

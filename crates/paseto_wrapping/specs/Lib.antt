@@ -5,3 +5,4 @@ pub mod Reading
 pub mod Family
 pub mod Pie
 pub mod Password
+pub mod Laws

@@ -6,6 +6,7 @@ mod error;
 mod family;
 mod header;
 mod keys;
+pub mod laws;
 mod password;
 mod pie;
 mod text;
