@@ -1,11 +1,13 @@
 -- The coordinate x of a multiple, and elements that are 0.
-use Rattle.std.proofs.Common.{◌≡◌, ◌≢◌, ℕ, suc, ◌*◌, ◌%◌, ◌^◌, ◌<◌, inl, inr, List, length, refl, sym, ◌∙◌, ap, subst, arith, mod-eq_of_lt}
+use Rattle.std.proofs.Common.{◌≡◌, ◌≢◌, ℕ, zero, suc, ◌*◌, ◌/◌, ◌%◌, ◌^◌, ◌<◌, inl, inr, List, length, refl, sym, ◌∙◌, ap, subst, arith, mod-eq_of_lt, mod-lt}
 use Rattle.std.specs.Prelude.{None, Some, replicate}
 use Rattle.std.proofs.lemmas.Bool.Decides.{nat_tests}
 use Rattle.paseto_montgomery.specs.Octets.{i2osp, os2ip}
 use Rattle.paseto_montgomery.proofs.OctetsLaws.{length-i2osp}
 use Rattle.paseto_primes.proofs.DivisorLaws.{euclid}
 use Rattle.paseto_primes.proofs.OrderOfP384.{is-prime}
+use Rattle.rusty_paseto_primitives.specs.Bytes.{IsBytes}
+use Rattle.rusty_paseto_primitives.proofs.ByteLists.{IsBytes_cons, IsBytes-nil}
 use Rattle.paseto_weierstrass.specs.Curve.{order}
 use Rattle.paseto_weierstrass.specs.Field.{inverse, prime, times}
 use Rattle.paseto_weierstrass.specs.Group.{IsPoint, Same}
@@ -108,3 +110,12 @@ public-point own h none =
     let a = (private-parts own h).1 in
     let key = decoded-public (os2ip own) a.1 (positive-ne (os2ip own) a.0) in
     none-some key.point (sym none ∙ key.is_decoded)
+
+IsBytes-i2osp : (x n : ℕ) → IsBytes (i2osp x n)
+unfolding i2osp
+IsBytes-i2osp x zero = IsBytes-nil
+IsBytes-i2osp x (suc n) = IsBytes_cons (x / 256 ^ n % 256) (i2osp x n) (mod-lt (x / 256 ^ n) (omega arith)) (IsBytes-i2osp x n)
+
+pub public-bytes : (own : List ℕ) → IsBytes (p384_public own)
+unfolding p384_public encoded
+public-bytes own = IsBytes_cons _ (i2osp _ 48) (omega arith) (IsBytes-i2osp _ 48)

@@ -1,5 +1,6 @@
 -- From payloads to texts.
 use Rattle.std.proofs.Common.{◌≡◌, ◌⊎◌, ℕ, List, Result, Ok, Err, IfOk, IfErr, inl, inr, subst, sym, ◌∙◌}
+use Rattle.std.specs.Result.{IsErrAnd}
 use Rattle.std.specs.declared.alloc.Global.{Global}
 use Rattle.std.specs.declared.vec.Vec.{Vec}
 use Rattle.base64.specs.GeneralPurpose.{IsBytes}
@@ -108,13 +109,15 @@ module _ (version : PaserkVersion) (kind : WrappedType) (IsWrapped : Wraps) (IsF
 
   -- a text that is not unwrapped gives no key
   pub key_refused : (error : WrapError) → Unwraps (InText version kind IsWrapped) (TextFaults version kind IsFault) text (Err error)
-      → UnwrapsKey IsKey (InText version kind IsWrapped) (TextFaults version kind IsFault) text (Err error)
-  key_refused error unwraps = record {
+      → (answer : Result (List ℕ) WrapError) → IsErrAnd answer (λ told. told ≡ error)
+      → UnwrapsKey IsKey (InText version kind IsWrapped) (TextFaults version kind IsFault) text answer
+  key_refused error unwraps (Ok key) is = absurd is
+  key_refused error unwraps (Err told) is = record {
     bytes = tt;
     form = tt;
     found = tt;
-    read = λ key bytes is wrapped. unwraps.read key bytes wrapped;
-    refused = key_fault error unwraps.refused;
+    read = λ key bytes form wrapped. subst IsMemory (sym is) (unwraps.read key bytes wrapped);
+    refused = subst (KeyFaults IsKey (InText version kind IsWrapped) (TextFaults version kind IsFault) text) (sym is) (key_fault error unwraps.refused);
   }
 
   -- what a text wraps is the key, or is none

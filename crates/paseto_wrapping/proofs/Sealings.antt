@@ -9,12 +9,14 @@ use Rattle.rusty_paseto_primitives.proofs.Blake2Lengths.{IsBytes-blake2b}
 use Rattle.rusty_paseto_primitives.proofs.ByteLists.{IsBytes-append, IsBytes-drop, IsBytes-take}
 use Rattle.rusty_paseto_primitives.proofs.HmacLengths.{IsBytes-sha384}
 use Rattle.rusty_paseto_paserk.specs.declared.header.PaserkVersion.{PaserkVersion}
+use Rattle.rusty_paseto_paserk.specs.declared.header.PaserkVersion.TheVariants.{V3}
+use Rattle.paseto_wrapping.specs.declared.header.WrappedType.TheVariants.{Seal}
 use Rattle.paseto_p384.specs.declared.agreement.AgreementError.{AgreementError}
 use Rattle.paseto_p384.specs.declared.agreement.AgreementError.TheVariants.{Infinity, InvalidPoint as NoPoint}
 use Rattle.paseto_p384.specs.Agreement.{IsAgreementFault, p384_shared, x_of_multiple}
 use Rattle.paseto_p384.specs.Encoding.{decoded as decoded384}
 use Rattle.paseto_p384.specs.P384.{IsPrivate, p384_public}
-use Rattle.paseto_p384.proofs.AgreementLaws.{public-length, public-point, shared-same, shared-some}
+use Rattle.paseto_p384.proofs.AgreementLaws.{public-bytes, public-length, public-point, shared-same, shared-some}
 use Rattle.paseto_p384.proofs.OptionLaws.{none-some, some-same}
 use Rattle.paseto_wrapping.specs.declared.family.Family.{Family}
 use Rattle.paseto_wrapping.specs.declared.family.Family.TheVariants.{Nist, Sodium}
@@ -22,9 +24,9 @@ use Rattle.paseto_wrapping.specs.declared.error.WrapError.{WrapError}
 use Rattle.paseto_wrapping.specs.declared.error.WrapError.TheVariants.{NoWrappedKey, OtherVersion, OtherType, InvalidText, InvalidCost, TooCostly, InvalidPrivateKey, InvalidPoint, SmallOrder, WrongKey, InvalidKey, Memory}
 use Rattle.paseto_wrapping.specs.Error.{IsMemory}
 use Rattle.paseto_wrapping.specs.Family.{family_of, tag_length}
-use Rattle.paseto_wrapping.specs.Reading.{IsOfPayload, Unwraps}
-use Rattle.paseto_wrapping.specs.Sealing.{IsOpenFault, IsOpener, IsPeer, IsSealFault, IsSealing, IsShared, SealsFor, c_of, crypted, encryption_of, epk_of, own_public, own_secret, point_length, sealed_length, t_of, tag_of}
-use Rattle.paseto_wrapping.proofs.Families.{encrypted-encrypted, length-encrypted, length-tag, IsBytes-encrypted}
+use Rattle.paseto_wrapping.specs.Reading.{InText, IsOfPayload, Unwraps}
+use Rattle.paseto_wrapping.specs.Sealing.{IsOpenFault, IsOpener, IsPeer, IsSealFault, IsSealed, IsShared, SealsFor, c_of, crypted, encryption_of, epk_of, own_public, own_secret, payload, point_length, sealed_length, t_of, tag_of}
+use Rattle.paseto_wrapping.proofs.Families.{encrypted-encrypted, length-encrypted, length-tag, IsBytes-encrypted, IsBytes-tag}
 
 -- ---- ciphertexts and tags
 
@@ -265,10 +267,20 @@ module _ (version : PaserkVersion) (same : family_of version ≡ Nist) (private 
 
 -- ---- sealing and opening in version 3
 
-pub sealed-unsealed : (version : PaserkVersion) (private ephemeral key sealed : List ℕ) → IsPrivate private → length key ≡ 32
-    → IsSealing Nist version (p384_public private) ephemeral key sealed → SealsFor Nist version private sealed key
-sealed-unsealed version private ephemeral key sealed own size h =
-    (p384_public ephemeral, h.3.0, own, size, public-length ephemeral, shared-same private ephemeral own h.0 ∙ h.3.1, h.3.2)
+IsBytes-payload : (version : PaserkVersion) (xk epk public key : List ℕ) → IsBytes epk → IsBytes key → IsBytes (payload version xk epk public key)
+unfolding tag_of
+IsBytes-payload version xk epk public key of_epk of_key =
+    let c : List ℕ = crypted version xk epk public key in
+    IsBytes-append (tag_of version xk epk public c ++ epk) c (IsBytes-append (tag_of version xk epk public c) epk (IsBytes-tag _ _ _) of_epk)
+    (IsBytes-crypted version xk epk public key of_key)
+
+pub sealed-unsealed : (private ephemeral key text : List ℕ) → IsPrivate private → IsBytes key × (length key ≡ 32)
+    → IsSealed V3 (p384_public private) ephemeral key text → InText V3 Seal (SealsFor Nist V3 private) text key
+sealed-unsealed private ephemeral key text own of_key h =
+    let made = h.1.3 in
+    let epk : List ℕ = p384_public ephemeral in
+    let bytes = subst IsBytes (sym made.2) (IsBytes-payload V3 made.0 epk (p384_public private) key (public-bytes ephemeral) of_key.0) in
+    (h.0, (bytes, h.2), (epk, made.0, own, of_key.1, public-length ephemeral, shared-same private ephemeral own h.1.0 ∙ made.1, made.2))
 
 some-of : (o : Option (List ℕ)) → o ≢ None → (x : List ℕ) × (o ≡ Some x)
 some-of None h = absurd (h refl)

@@ -31,6 +31,12 @@ IsOfPayload SmallOrder = ⊤
 IsOfPayload WrongKey = ⊤
 IsOfPayload _ = ⊥
 
+-- why the parts of a payload are not unwrapped: the tag is not the one that was found (HasTag does not hold)
+abbrev pub IsTagFault : Type 0 → WrapError → Type 0
+IsTagFault HasTag WrongKey = ¬ HasTag
+IsTagFault HasTag (Memory _) = ⊤
+IsTagFault HasTag _ = ⊥
+
 -- the answer for a payload, or for a text, is the bytes that it wraps
 pub record Unwraps (IsWrapped : Wraps) (IsFault : Faults) (input : List ℕ) (answer : Result (Vec ℕ Global) WrapError) : Type 0 where
   pub bytes : IfOk answer (λ key. IsBytes key.items)

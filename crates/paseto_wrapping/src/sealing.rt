@@ -8,7 +8,6 @@ ghost use Rattle.paseto_wrapping.specs.Reading.{InText, TextFaults, Unwraps, Unw
 ghost use Rattle.paseto_wrapping.specs.Sealing.{IsOpenFault, IsSealFault, IsSealed, IsSealing, SealsFor, secret_length};
 
 mod derivation;
-mod laws;
 mod p384;
 mod payload;
 mod x25519;
@@ -18,7 +17,6 @@ use crate::family::{Family, array_of};
 use crate::header::WrappedType;
 use crate::keys::local_key;
 use crate::text::{read_payload, write_text};
-pub use laws::sealed_is_unsealed;
 use rusty_paseto_parts::{
     Key, Local, PasetoAsymmetricPrivateKey, PasetoAsymmetricPublicKey, PasetoSymmetricKey, Public,
 };
@@ -93,10 +91,8 @@ pub fn unseal<V: KeyPairVersion>(
         (InText V.paserk Seal (SealsFor family V.paserk private.now))
         (TextFaults V.paserk Seal (IsOpenFault family V.paserk private.now)) text.now result }
 {
-    match unsealed_text(alloc, V::paserk_version(), private.as_bytes(), text) {
-        Ok(bytes) => local_key(bytes),
-        Err(error) => Err(error),
-    }
+    let bytes = unsealed_text(alloc, V::paserk_version(), private.as_bytes(), text)?;
+    local_key(bytes)
 }
 
 // The bytes of the key that a text seals.
