@@ -165,12 +165,12 @@ impl P384 {
     }
 
     /// What two parties share, of the own private key and the other's public key: the coordinate x of [d]Q, in 48 bytes,
-    /// the greatest first. No memory is taken, and no branch and no address depends on the private key, but for the
-    /// answers `InvalidPrivateKey` and `Infinity`. Hash the secret together with both public keys before it serves as a key.
+    /// the greatest first. [d]Q is never the point at infinity, by the law `shared_point_is_finite`. No memory is taken, and
+    /// no branch and no address depends on the private key, but for the answer `InvalidPrivateKey`. Hash the secret together
+    /// with both public keys before it serves as a key.
     ///
-    /// `InvalidPrivateKey` comes exactly where the private key is none, `InvalidPoint` where it is one and the public key
-    /// is no point, and `Infinity` where [d]Q is the point at infinity. The curve has as many points as G has multiples,
-    /// so that there is no such public key; but that is not proved here.
+    /// `InvalidPrivateKey` comes exactly where the private key is none, and `InvalidPoint` exactly where it is one and the
+    /// public key is no point.
     ///
     /// Source: SEC 1, section 3.3.1; SP 800-56A, section 5.7.1.2.
     pub fn shared_secret(private: &[u8], public: &[u8; 49]) -> Result<[u8; 48], AgreementError>
@@ -184,10 +184,7 @@ impl P384 {
         let Some(q) = decode(public) else {
             return Err(AgreementError::InvalidPoint);
         };
-        match agreed(&d, q) {
-            Some(shared) => Ok(shared),
-            None => Err(AgreementError::Infinity),
-        }
+        Ok(agreed(&d, q))
     }
 
     /// A new pair of keys of version 3, which owns its bytes: they are those that `key_pair` makes.

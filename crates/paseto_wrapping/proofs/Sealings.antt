@@ -1,6 +1,6 @@
 -- The parts of the payload of a sealed key.
 use Rattle.std.proofs.Common.{◌≡◌, ◌≢◌, ◌⊎◌, ℕ, ◌+◌, List, ◌++◌, length, take, drop, Result, Ok, Err, IfOk, IfErr, inl, inr, refl, sym, ap, subst, ◌∙◌, arith, append_assoc, length-append, length-drop}
-use Rattle.std.specs.Prelude.{None, Option, Some}
+use Rattle.std.specs.Prelude.{None, option_map}
 use Rattle.std.proofs.lemmas.List.{take_at, drop_at, take-append-drop, length-take-le}
 use Rattle.std.specs.declared.alloc.Global.{Global}
 use Rattle.std.specs.declared.vec.Vec.{Vec}
@@ -12,8 +12,8 @@ use Rattle.rusty_paseto_paserk.specs.declared.header.PaserkVersion.{PaserkVersio
 use Rattle.rusty_paseto_paserk.specs.declared.header.PaserkVersion.TheVariants.{V3}
 use Rattle.paseto_wrapping.specs.declared.header.WrappedType.TheVariants.{Seal}
 use Rattle.paseto_p384.specs.declared.agreement.AgreementError.{AgreementError}
-use Rattle.paseto_p384.specs.declared.agreement.AgreementError.TheVariants.{Infinity, InvalidPoint as NoPoint}
-use Rattle.paseto_p384.specs.Agreement.{IsAgreementFault, p384_shared, x_of_multiple}
+use Rattle.paseto_p384.specs.declared.agreement.AgreementError.TheVariants.{InvalidPoint as NoPoint}
+use Rattle.paseto_p384.specs.Agreement.{IsAgreementFault, p384_shared}
 use Rattle.paseto_p384.specs.Encoding.{decoded as decoded384}
 use Rattle.paseto_p384.specs.P384.{IsPrivate, p384_public}
 use Rattle.paseto_p384.proofs.AgreementLaws.{public-bytes, public-length, public-point, shared-same, shared-some}
@@ -63,7 +63,7 @@ shared-one Sodium secret public x y h k = h.0 ∙ sym k.0
 -- nothing is shared with what is no point
 shared-point : (secret public xk : List ℕ) → decoded384 public ≡ None → IsShared Nist secret public xk → ⊥
 shared-point secret public xk none h =
-    let lost : p384_shared secret public ≡ None = ap (x_of_multiple _) none in
+    let lost : p384_shared secret public ≡ None = ap (option_map _) none in
     none-some xk (sym lost ∙ h)
 
 -- the errors are a payload's
@@ -248,10 +248,6 @@ pub point_fault : (private epk : List ℕ) (error : AgreementError) → error �
     → IsPrivate private × (decoded384 epk ≡ None)
 point_fault private epk error e h = subst (λ (x : AgreementError). IsAgreementFault private epk x) e h
 
-pub infinity_fault : (private epk : List ℕ) (error : AgreementError) → error ≡ Infinity → IsAgreementFault private epk error
-    → IsPrivate private × (decoded384 epk ≢ None) × (p384_shared private epk ≡ None)
-infinity_fault private epk error e h = subst (λ (x : AgreementError). IsAgreementFault private epk x) e h
-
 module _ (version : PaserkVersion) (same : family_of version ≡ Nist) (private input epk : List ℕ) (e : epk ≡ epk_of Nist input) (long : length input ≡ 129) where
   pub open_pointless : IsPrivate private × (decoded384 epk ≡ None)
       → Unwraps (SealsFor Nist version private) (IsOpenFault Nist version private) input (Err InvalidPoint)
@@ -259,11 +255,6 @@ module _ (version : PaserkVersion) (same : family_of version ≡ Nist) (private 
       let lost : decoded384 (epk_of Nist input) ≡ None = ap decoded384 (sym e) ∙ h.1 in
       open_refused Nist version same private input InvalidPoint (long, h.0, λ peer. peer lost)
       (λ key is. shared-point private is.0 is.1 (ap decoded384 (sym (parts_of Nist version same private input key is).epk_is) ∙ lost) is.5)
-
-  pub open_infinite : IsPrivate private × (decoded384 epk ≢ None) × (p384_shared private epk ≡ None)
-      → Unwraps (SealsFor Nist version private) (IsOpenFault Nist version private) input (Err SmallOrder)
-  open_infinite h =
-      open_unshared Nist version same private input epk e long h.0 h.1 (λ xk shared. none-some xk (sym h.2 ∙ shared))
 
 -- ---- sealing and opening in version 3
 
@@ -282,10 +273,6 @@ sealed-unsealed private ephemeral key text own of_key h =
     let bytes = subst IsBytes (sym made.2) (IsBytes-payload V3 made.0 epk (p384_public private) key (public-bytes ephemeral) of_key.0) in
     (h.0, (bytes, h.2), (epk, made.0, own, of_key.1, public-length ephemeral, shared-same private ephemeral own h.1.0 ∙ made.1, made.2))
 
-some-of : (o : Option (List ℕ)) → o ≢ None → (x : List ℕ) × (o ≡ Some x)
-some-of None h = absurd (h refl)
-some-of (Some x) h = (x, refl)
-
 pub seal-memory : (private ephemeral : List ℕ) (error : WrapError) → IsPrivate private → IsPrivate ephemeral
     → IsSealFault Nist (p384_public private) ephemeral error → IsMemory error
 seal-memory private ephemeral NoWrappedKey own secret h = h
@@ -299,7 +286,7 @@ seal-memory private ephemeral InvalidPoint own secret h = h.1 (public-length pri
 seal-memory private ephemeral SmallOrder own secret h = elim h.2 [
   | inl small ↦ small
   | inr none ↦
-      let some = some-of (p384_shared ephemeral (p384_public private)) (shared-some ephemeral private secret own) in
+      let some = shared-some ephemeral (p384_public private) (public-point private own) in
       none some.0 some.1
 ]
 seal-memory private ephemeral WrongKey own secret h = h

@@ -30,7 +30,7 @@ use std::alloc::Global;
 ///
 /// `InvalidPrivateKey` comes exactly where the ephemeral key is none, which in version 3 is 0 or a number from n on and
 /// never in the others; `InvalidPoint` where the public key is no point; and `SmallOrder` where no secret can be shared
-/// with it. Nothing else is refused but memory.
+/// with it, which is never so in version 3. Nothing else is refused but memory.
 ///
 /// Source: PASERK specification, type `seal`.
 pub fn seal<V: KeyPairVersion, const N: usize>(
@@ -76,9 +76,9 @@ fn sealed_payload(
 ///
 /// The reading is exact: `NoWrappedKey`, `OtherVersion` and `OtherType` come where the text begins as no sealed key of the
 /// version, `InvalidText` where what follows is not the base64url encoding of 96 bytes, or of 129 in version 3,
-/// `InvalidPrivateKey` where the private key is none, `InvalidPoint` and `SmallOrder` where no secret can be shared with the
-/// ephemeral public key, and `WrongKey` where the text was sealed to another public key or was changed. The tag is
-/// compared in one step, before anything is decrypted.
+/// `InvalidPrivateKey` where the private key is none, `InvalidPoint` in version 3 and `SmallOrder` in the others where no
+/// secret can be shared with the ephemeral public key, and `WrongKey` where the text was sealed to another public key or
+/// was changed. The tag is compared in one step, before anything is decrypted.
 ///
 /// Source: PASERK specification, type `seal`.
 pub fn unseal<V: KeyPairVersion>(

@@ -42,7 +42,6 @@ pub(crate) fn seal(
         Ok(xk) => sealed(alloc, version, &xk, &epk, public, key),
         Err(AgreementError::InvalidPrivateKey) => Err(WrapError::InvalidPrivateKey),
         Err(AgreementError::InvalidPoint) => Err(WrapError::InvalidPoint),
-        Err(AgreementError::Infinity) => Err(WrapError::SmallOrder),
     }
 }
 
@@ -69,6 +68,5 @@ pub(crate) fn open(
         Ok(xk) => opened(alloc, version, &xk, epk, &public, tag, ciphertext),
         Err(AgreementError::InvalidPrivateKey) => Err(WrapError::InvalidPrivateKey),
         Err(AgreementError::InvalidPoint) => Err(WrapError::InvalidPoint),
-        Err(AgreementError::Infinity) => Err(WrapError::SmallOrder),
     }
 }

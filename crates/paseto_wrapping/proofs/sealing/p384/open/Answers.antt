@@ -1,6 +1,6 @@
 use Rattle.std.proofs.Common.{sym, ◌∙◌, arith}
 use Rattle.paseto_wrapping.specs.declared.family.Family.TheVariants.{Nist}
-use Rattle.paseto_wrapping.proofs.Sealings.{infinity_fault, open_cut, open_infinite, open_length, open_pointless, point_fault}
+use Rattle.paseto_wrapping.proofs.Sealings.{open_cut, open_length, open_pointless, point_fault}
 use Rattle.paseto_wrapping.proofs.sealing.p384.open.Goals as goal
 
 pub returns-then-payload-ne-SEALED_LENGTH : goal.returns-then-payload-ne-SEALED_LENGTH
@@ -22,9 +22,3 @@ returns-in-Err-InvalidPoint c =
     let epk = c.array_of.ensures ∙ rw c.split_at.ensures.back at c.split_at-2.ensures.front in
     open_pointless c.args.version c.requires c.args.private.now c.args.payload.now _ epk c.if-payload-ne-SEALED_LENGTH.false
     (point_fault _ _ _ c.in-Err-InvalidPoint.field-0-is c.in-Err-InvalidPoint.ensures.err)
-
-pub returns-in-Err-Infinity : goal.returns-in-Err-Infinity
-returns-in-Err-Infinity c =
-    let epk = c.array_of.ensures ∙ rw c.split_at.ensures.back at c.split_at-2.ensures.front in
-    open_infinite c.args.version c.requires c.args.private.now c.args.payload.now _ epk c.if-payload-ne-SEALED_LENGTH.false
-    (infinity_fault _ _ _ c.in-Err-Infinity.field-0-is c.in-Err-Infinity.ensures.err)
