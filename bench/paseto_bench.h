@@ -51,6 +51,9 @@ paseto_bench_verify paseto_bench_ed25519_verify;
 
 uint64_t paseto_bench_p384_public_key(const uint8_t *private, size_t private_length, uint8_t *public,
                                       size_t public_length, uint32_t reps);
+uint64_t paseto_bench_p384_shared_secret(const uint8_t *private, size_t private_length, const uint8_t *public,
+                                         size_t public_length, uint8_t *shared, size_t shared_length,
+                                         uint32_t reps);
 uint64_t paseto_bench_p384_sign(const uint8_t *private, size_t private_length, const uint8_t *message,
                                 size_t message_length, uint8_t *signature, size_t signature_length,
                                 uint32_t reps);

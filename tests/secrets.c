@@ -11,6 +11,7 @@
      secrets ed25519 signer     the same, under a key whose halves are asked once
      secrets p384 key           private keys are undefined, and their public keys are made
      secrets p384 sign          private keys are undefined, and texts of each length are signed
+     secrets p384 agree         private keys are undefined, and what each shares with a public key is made
      secrets rsa sign           private keys are read from standard input, a line of hexadecimal digits each; the numbers
                                 that only a private key has are undefined, and texts of each length are signed
      secrets control control    no call: a jump and an address of this file itself, which have to be reported
@@ -183,6 +184,20 @@ static int p384_all(bool sign) {
     return right;
 }
 
+/* The other party's public key is that of a private key that is defined. */
+static int p384_agree_all(void) {
+    uint8_t key[48], point[49], shared[48];
+    int right = 0;
+    private_key(key, 1);
+    if (!done(paseto_bench_p384_public_key(key, 48, point, 49, 1))) return 0;
+    for (size_t i = 0; i < LENGTH_COUNT; i++) {
+        private_key(key, i);
+        VALGRIND_MAKE_MEM_UNDEFINED(key, sizeof key);
+        right += done(paseto_bench_p384_shared_secret(key, 48, point, 49, shared, 48, 1));
+    }
+    return right;
+}
+
 /* Reads a key of hexadecimal digits, and gives how many bytes it has. */
 static size_t read_rsa_key(uint8_t *key) {
     char line[2 * LONGEST_RSA_KEY + 2];
@@ -244,7 +259,8 @@ int main(int argc, char **argv) {
         right = sign_all(paseto_bench_ed25519_sign_with_key);
     }
     if (strcmp(argv[1], "rsa") == 0 && strcmp(argv[2], "sign") == 0) right = rsa_sign_all();
-    if (strcmp(argv[1], "p384") == 0) right = p384_all(strcmp(argv[2], "sign") == 0);
+    if (strcmp(argv[1], "p384") == 0 && strcmp(argv[2], "agree") == 0) right = p384_agree_all();
+    else if (strcmp(argv[1], "p384") == 0) right = p384_all(strcmp(argv[2], "sign") == 0);
     for (size_t i = 0; i < sizeof VERSIONS / sizeof *VERSIONS; i++) {
         const version *v = &VERSIONS[i];
         if (strcmp(argv[1], v->name) != 0) continue;

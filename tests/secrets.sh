@@ -104,5 +104,6 @@ for call in key sign signer; do
 done
 check p384 key
 check p384 sign
+check p384 agree
 check rsa sign
 finish

@@ -28,7 +28,10 @@ pub use boxed::{
     paseto_bench_xchacha20poly1305_seal,
 };
 pub use json::paseto_bench_json_read;
-pub use p384::{paseto_bench_p384_public_key, paseto_bench_p384_sign, paseto_bench_p384_verify};
+pub use p384::{
+    paseto_bench_p384_public_key, paseto_bench_p384_shared_secret, paseto_bench_p384_sign,
+    paseto_bench_p384_verify,
+};
 pub use passwords::paseto_bench_argon2id;
 pub use primitives::{
     paseto_bench_aes256_ctr, paseto_bench_blake2b, paseto_bench_hmac_sha384, paseto_bench_xchacha20,

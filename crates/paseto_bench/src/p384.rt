@@ -1,8 +1,9 @@
-//! Signatures of version 3, each call many times over.
+//! Signatures of version 3, and secrets that are shared by its keys, each call many times over.
 //!
 //! Each call answers 2^64 - 1 where a length is not one that it has, or the scheme refused.
 
 ghost use Rattle.std.specs.Prelude.{◌≡◌, ◌≢◌, ◌^◌, ◌-◌, Some};
+ghost use Rattle.paseto_p384.specs.Agreement.{p384_shared};
 ghost use Rattle.paseto_p384.specs.P384.{P384Verifies, p384_public, p384_sign};
 
 use paseto_p384::P384;
@@ -72,6 +73,42 @@ pub extern "C" fn paseto_bench_p384_sign(
         Ok(last) => {
             signature.copy_from_slice(&last);
             0
+        }
+        Err(_) => FAILED,
+    }
+}
+
+/// Makes the secret of 48 bytes that a private key of 48 and a public key of 49 share, `reps` times and at least once, as
+/// `paseto_bench_p384_public_key` makes its keys. The answer is the sum of the secrets' last bytes.
+#[unsafe(no_mangle)]
+pub extern "C" fn paseto_bench_p384_shared_secret(
+    private: &[u8],
+    public: &[u8],
+    shared: &mut [u8],
+    reps: u32,
+) -> u64
+    ensures { result ≢ 2 ^ 64 - 1 → p384_shared private.now public.now ≡ Some shared.new }
+{
+    let (Some(private), Some(public), 48) = (
+        private.as_array::<48>(),
+        public.as_array::<49>(),
+        shared.len(),
+    ) else {
+        return FAILED;
+    };
+    let mut sum = 0u64;
+    let mut numbered = *private;
+    'repetitions: for repetition in 1..reps {
+        numbered[44..].copy_from_slice(&repetition.to_le_bytes());
+        match P384::shared_secret(&numbered, public) {
+            Ok(made) => sum = sum.wrapping_add(made[47] as u64),
+            Err(_) => return FAILED,
+        }
+    }
+    match P384::shared_secret(private, public) {
+        Ok(last) => {
+            shared.copy_from_slice(&last);
+            sum.wrapping_add(last[47] as u64) % FAILED
         }
         Err(_) => FAILED,
     }

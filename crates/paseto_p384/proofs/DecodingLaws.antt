@@ -1,5 +1,5 @@
 -- A public key is decoded to its point.
-use Rattle.std.proofs.Common.{◌≡◌, ◌≢◌, ℕ, zero, suc, ◌+◌, ◌*◌, ◌-◌, ◌/◌, ◌%◌, ◌^◌, ◌<◌, ◌≤◌, ◌⊎◌, inl, inr, List, [], ◌∷◌, refl, sym, ◌∙◌, ap, ap₂, subst, arith, mod-lt, mod-eq_of_lt, pow-add, pow-suc, div-add-mod', mul-le-mul_right}
+use Rattle.std.proofs.Common.{◌≡◌, ◌≢◌, ℕ, zero, suc, ◌+◌, ◌*◌, ◌-◌, ◌/◌, ◌%◌, ◌^◌, ◌<◌, ◌≤◌, ◌⊎◌, inl, inr, List, [], ◌∷◌, refl, sym, ◌∙◌, ap, ap₂, subst, arith, mod-lt, mod-eq_of_lt, pow-add, pow-suc, div-add-mod', mul-le-mul_right, suc-ne-zero}
 use Rattle.std.specs.Prelude.{Some, drop, slice_index}
 use Rattle.std.proofs.lemmas.Bool.{cases_eq, cases_lt}
 use Rattle.std.proofs.Math.Nat.{add-mul-mod_self_right, pow-zero}
@@ -229,5 +229,28 @@ decoded-is_point octets q e =
       | inl two ↦ elim (cases_lt x prime) [
         | inr above ↦ absurd (none-some q (decoded-above octets x two refl above ∙ e))
         | inl low ↦ point_at-is_point (first % 2) x q low (decoded-at octets x two refl low ∙ e)
+      ]
+    ]
+
+-- and not the point at infinity
+point_at-finite : (odd x : ℕ) (q : Point) → point_at odd x ≡ Some q → q.z ≢ 0
+point_at-finite odd x q e none =
+    let y = power (right_side x) ((prime + 1) / 4) in
+    elim (cases_eq (times y y) (right_side x)) [
+      | inl root ↦
+          let is : plane_point x (signed odd y) ≡ q = some-same (plane_point x (signed odd y)) q (point_at-some odd x y refl root ∙ e) in
+          suc-ne-zero 0 (ap (λ p. p.z) is ∙ none)
+      | inr apart ↦ none-some q (point_at-none odd x y refl apart ∙ e)
+    ]
+
+pub decoded-finite : (octets : List ℕ) (q : Point) → decoded octets ≡ Some q → q.z ≢ 0
+decoded-finite octets q e =
+    let first : ℕ = slice_index octets 0 in
+    let x = os2ip (drop 1 octets) in
+    elim (cases_eq (first / 2) 1) [
+      | inr other ↦ absurd (none-some q (decoded-first octets other ∙ e))
+      | inl two ↦ elim (cases_lt x prime) [
+        | inr above ↦ absurd (none-some q (decoded-above octets x two refl above ∙ e))
+        | inl low ↦ point_at-finite (first % 2) x q (decoded-at octets x two refl low ∙ e)
       ]
     ]

@@ -1,3 +1,5 @@
+pub mod AgreementLaws
+pub mod CofactorLaws
 pub mod DecodingLaws
 pub mod EcdsaLaws
 pub mod EncodingLaws

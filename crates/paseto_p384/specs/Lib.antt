@@ -1,3 +1,4 @@
+pub mod Agreement
 pub mod Ecdsa
 pub mod Element
 pub mod Encoding

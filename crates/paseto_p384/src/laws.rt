@@ -1,6 +1,11 @@
-//! The law of signing. The function does nothing: its contract is the law.
+//! The laws of signing and of agreement. Each function does nothing: its contract is the law.
 
-ghost use Rattle.std.specs.Prelude.{◌≡◌, ℕ, List, Some};
+ghost use Rattle.std.specs.Prelude.{◌≡◌, ◌≢◌, ℕ, List, Some};
+ghost use Rattle.paseto_montgomery.specs.Octets.{os2ip};
+ghost use Rattle.paseto_weierstrass.specs.Multiples.{multiple_of};
+ghost use Rattle.paseto_weierstrass.specs.Point.{Point};
+ghost use Rattle.paseto_p384.specs.Encoding.{decoded};
+ghost use Rattle.paseto_p384.specs.Agreement.{p384_shared};
 ghost use Rattle.paseto_p384.specs.P384.{IsPrivate, P384Verifies, p384_public, p384_sign};
 
 /// What is signed under a private key is valid under its public key, for any message (FIPS 186-5, sections 6.4.1 and
@@ -9,4 +14,18 @@ pub fn signatures_are_valid()
     ensures { (private message made : List ℕ) → IsPrivate private
         → p384_sign private message ≡ Some made
         → P384Verifies (p384_public private) message made }
+{}
+
+/// Two parties share one secret, whichever of them makes it (SEC 1, section 3.3.1): [d]([e]G) is [e]([d]G).
+pub fn shared_secret_is_common()
+    ensures { (own other : List ℕ) → IsPrivate own → IsPrivate other
+        → p384_shared own (p384_public other) ≡ p384_shared other (p384_public own) }
+{}
+
+/// The product of a private key and the point that a public key is, is not the point at infinity: it has an x. Else the
+/// sums of the n multiples of G and of three multiples of that point were 3 * n points, and for each of the p numbers x the
+/// curve has at most two, and one at infinity.
+pub fn shared_point_is_finite()
+    ensures { (private public : List ℕ) (q : Point) → IsPrivate private
+        → decoded public ≡ Some q → (multiple_of (os2ip private) q).z ≢ 0 }
 {}

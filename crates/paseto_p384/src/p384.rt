@@ -6,9 +6,11 @@ ghost use Rattle.rusty_paseto_parts.specs.declared.error.PasetoError.TheVariants
 ghost use Rattle.paseto_montgomery.specs.Octets.{os2ip};
 ghost use Rattle.paseto_montgomery.specs.Words.{value};
 ghost use Rattle.paseto_weierstrass.specs.Curve.{order};
+ghost use Rattle.paseto_p384.specs.Agreement.{IsAgreementFault, p384_shared};
 ghost use Rattle.paseto_p384.specs.Encoding.{coordinates_of};
 ghost use Rattle.paseto_p384.specs.P384.{IsDeclined, IsPrivate, IsRefused, P384Verifies, first_candidate, hash_number, p384_public, p384_sign, signed_by};
 
+use crate::agreement::{AgreementError, agreed};
 use crate::ecdsa::{accepts, attempt};
 use crate::encoding::{affine_octets, decode, encode};
 use crate::laws::signatures_are_valid;
@@ -160,6 +162,29 @@ impl P384 {
             Some(point) => Some(affine_octets(point)),
             None => None,
         }
+    }
+
+    /// What two parties share, of the own private key and the other's public key: the coordinate x of [d]Q, in 48 bytes,
+    /// the greatest first. [d]Q is never the point at infinity, by the law `shared_point_is_finite`. No memory is taken, and
+    /// no branch and no address depends on the private key, but for the answer `InvalidPrivateKey`. Hash the secret together
+    /// with both public keys before it serves as a key.
+    ///
+    /// `InvalidPrivateKey` comes exactly where the private key is none, and `InvalidPoint` exactly where it is one and the
+    /// public key is no point.
+    ///
+    /// Source: SEC 1, section 3.3.1; SP 800-56A, section 5.7.1.2.
+    pub fn shared_secret(private: &[u8], public: &[u8; 49]) -> Result<[u8; 48], AgreementError>
+        ensures ok { IfOk result (λ shared. IsPrivate private.now
+            × (p384_shared private.now public.now ≡ Some shared)) }
+        ensures err { IfErr result (λ error. IsAgreementFault private.now public.now error) }
+    {
+        let Some(d) = private_number(private) else {
+            return Err(AgreementError::InvalidPrivateKey);
+        };
+        let Some(q) = decode(public) else {
+            return Err(AgreementError::InvalidPoint);
+        };
+        Ok(agreed(&d, q))
     }
 
     /// A new pair of keys of version 3, which owns its bytes: they are those that `key_pair` makes.

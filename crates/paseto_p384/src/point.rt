@@ -1,14 +1,17 @@
 //! Points of the curve: sums, doubles and multiples, by complete formulas.
 
-ghost use Rattle.std.specs.Prelude.{◌≡◌, ◌<◌};
+ghost use Rattle.std.specs.Prelude.{◌≡◌, ℕ, ◌*◌, ◌<◌};
 ghost use Rattle.paseto_p384.specs.Element.{number};
 ghost use Rattle.paseto_p384.specs.Point.{AreProducts, coordinates, plane};
+ghost use Rattle.paseto_weierstrass.specs.Group.{IsPoint};
+ghost use Rattle.paseto_weierstrass.specs.Multiples.{IsMultiple};
 ghost use Rattle.paseto_weierstrass.specs.Point.{Point, cross, neutral, point_add, point_double};
 
 mod comb;
 mod plane;
 mod products;
 mod projective;
+mod secret_windows;
 mod table;
 mod windows;
 
@@ -19,6 +22,7 @@ pub(crate) use comb::multiply_base;
 pub(crate) use plane::PlanePoint;
 use products::Products;
 pub(crate) use projective::ProjectivePoint;
+pub(crate) use secret_windows::multiply_secret;
 pub(crate) use windows::multiply;
 
 /// The neutral point.
@@ -141,6 +145,14 @@ pub(crate) fn double(p: ProjectivePoint) -> ProjectivePoint
         y: field::add(mul(low, high), mul(outer, inner)),
         z: field::add(half, half),
     }
+}
+
+/// Sixteen times a point, with no branch.
+pub(crate) fn sixteen_times(p: ProjectivePoint) -> ProjectivePoint
+    ensures { (q : Point) (n : ℕ) → IsPoint q → IsMultiple q (coordinates p) n
+        → IsMultiple q (coordinates result) (16 * n) }
+{
+    double(double(double(double(p))))
 }
 
 /// The first point where `choice` is 1, and the second where it is 0, with no branch.

@@ -34,6 +34,8 @@ mod primitives;
 #[cfg(test)]
 mod schemes;
 #[cfg(test)]
+mod sealing;
+#[cfg(test)]
 mod sections;
 #[cfg(test)]
 mod texts;

@@ -1,8 +1,11 @@
-//! Values of RFC 7748, sections 5.2 and 6.1, and what is refused.
+//! Values of RFC 7748, sections 5.2 and 6.1, those of libsodium for keys of Ed25519, and what is refused.
 
 use crate::expect::expect_digits;
 use crate::hexadecimal::array_of;
-use paseto_x25519::{AgreementError, public_key, shared_secret, x25519};
+use paseto_x25519::{
+    AgreementError, ConversionError, public_from_ed25519, public_key, secret_from_ed25519,
+    shared_secret, x25519,
+};
 use std::alloc::Global;
 use std::process::Abort;
 
@@ -83,6 +86,76 @@ fn small_orders_are_refused(rt: HostRuntime) {
         match shared_secret(&array_of(&rt, SECRET), &array_of(&rt, u)) {
             Err(AgreementError::SmallOrder) => {}
             Ok(_) => panic!(rt; "taken"),
+        }
+    }
+}
+
+// The seed and the public key of RFC 8032, section 7.1, tests 1 and 2, and the public key and the clamped secret key of
+// X25519 that libsodium makes of them.
+const CONVERTED: &[(&str, &str, &str, &str)] = &[
+    (
+        "9d61b19deffd5a60ba844af492ec2cc44449c5697b326919703bac031cae7f60",
+        "d75a980182b10ab7d54bfed3c964073a0ee172f3daa62325af021a68f707511a",
+        "d85e07ec22b0ad881537c2f44d662d1a143cf830c57aca4305d85c7a90f6b62e",
+        "357c83864f2833cb427a2ef1c00a013cfdff2768d980c0a3a520f006904de90f",
+    ),
+    (
+        "4ccd089b28ff96da9db6c346ec114e0f5b8a319f35aba624da8cf6ed4fb8a6fb",
+        "3d4017c3e843895a92b70aa74d1b7ebc9c982ccf2ec4968cc0cd55f12af4660c",
+        "25c704c594b88afc00a76b69d1ed2b984d7e22550f3ed0802d04fbcd07d38d47",
+        "6ebd9ed75882d52815a97585caf4790a7f6c6b3b7f821c5e259a24b02e502e11",
+    ),
+];
+
+#[test]
+fn public_keys_of_ed25519(rt: HostRuntime) {
+    'rows: for &(_, public, wanted, _) in CONVERTED {
+        let made = public_from_ed25519(&array_of(&rt, public)).expect(&rt, "a public key");
+        expect_digits(&rt, rt.alloc(), &made, wanted);
+    }
+}
+
+#[test]
+fn secret_keys_of_ed25519(rt: HostRuntime) {
+    'rows: for &(seed, _, public, clamped) in CONVERTED {
+        let secret = secret_from_ed25519(&array_of(&rt, seed));
+        expect_digits(&rt, rt.alloc(), &secret[1..31], &clamped[2..62]);
+        expect_digits(&rt, rt.alloc(), &public_key(&secret), public);
+    }
+}
+
+// The eight points of small order of edwards25519, of which the first has y = 1. libsodium refuses each.
+const SMALL_POINTS: &[&str] = &[
+    "0100000000000000000000000000000000000000000000000000000000000000",
+    "0000000000000000000000000000000000000000000000000000000000000000",
+    "0000000000000000000000000000000000000000000000000000000000000080",
+    "ecffffffffffffffffffffffffffffffffffffffffffffffffffffffffffff7f",
+    "c7176a703d4dd84fba3c0b760d10670f2a2053fa2c39ccc64ec7fd7792ac037a",
+    "c7176a703d4dd84fba3c0b760d10670f2a2053fa2c39ccc64ec7fd7792ac03fa",
+    "26e8958fc2b227b045c3f489f2ef98f0d5dfac05d3c63339b13802886d53fc05",
+    "26e8958fc2b227b045c3f489f2ef98f0d5dfac05d3c63339b13802886d53fc85",
+];
+
+#[test]
+fn points_of_small_order_are_refused(rt: HostRuntime) {
+    'points: for &public in SMALL_POINTS {
+        match public_from_ed25519(&array_of(&rt, public)) {
+            Err(ConversionError::SmallOrder) => {}
+            _ => panic!(rt; "not refused by its name"),
+        }
+    }
+}
+
+#[test]
+fn what_is_no_point_is_refused(rt: HostRuntime) {
+    // y = 2 is no point's, and the other is the spelling p + 1 of y = 1.
+    'texts: for &public in &[
+        "0200000000000000000000000000000000000000000000000000000000000000",
+        "eeffffffffffffffffffffffffffffffffffffffffffffffffffffffffffff7f",
+    ] {
+        match public_from_ed25519(&array_of(&rt, public)) {
+            Err(ConversionError::InvalidPoint) => {}
+            _ => panic!(rt; "not refused by its name"),
         }
     }
 }

@@ -66,3 +66,7 @@ bit-high low high at bound above =
     sym (ap (λ n. (low + 2 ^ 128 * high) / n % 2) parts
     ∙ ap (λ n. n % 2) (sym (div-div-eq-div-mul (low + 2 ^ 128 * high) (2 ^ 128) (2 ^ (at - 128))))
     ∙ ap (λ n. n / 2 ^ (at - 128) % 2) upper)
+
+-- the halves of a number, of which the highest bit is not read
+pub masked-is : (low high n : ℕ) → low < 2 ^ 128 → low + 2 ^ 128 * high ≡ n → low + 2 ^ 128 * (high % 2 ^ 127) ≡ n % 2 ^ 255
+masked-is low high n bound e = omega (arith, e)

@@ -1,3 +1,4 @@
 pub mod Agreement
+pub mod Conversion
 pub mod Ladder
 pub mod Numbers

@@ -2,6 +2,8 @@
 #![tactic(auto)]
 
 mod agreement;
+mod conversion;
 mod ladder;
 
 pub use agreement::{AgreementError, public_key, shared_secret, x25519};
+pub use conversion::{ConversionError, public_from_ed25519, secret_from_ed25519};

@@ -8,7 +8,7 @@ ghost use Rattle.paseto_weierstrass.specs.Point.{base};
 ghost use Rattle.paseto_p384.specs.Point.{coordinates, plane};
 
 use super::table::{ROWS, entry};
-use super::{PlanePoint, ProjectivePoint, add_plane, choose_point, double, neutral};
+use super::{PlanePoint, ProjectivePoint, add_plane, choose_point, neutral, sixteen_times};
 use crate::field::{FieldElement, choose};
 use paseto_montgomery::{is_different, window};
 
@@ -79,14 +79,6 @@ fn add_rows(p: ProjectivePoint, k: &[u64; 6], turn: usize) -> ProjectivePoint
         sum = add_digit(sum, i, window(k, TURNS * i + turn));
     }
     sum
-}
-
-// Sixteen times a point.
-fn sixteen_times(p: ProjectivePoint) -> ProjectivePoint
-    ensures { (n : ℕ) → IsMultiple base (coordinates p) n
-        → IsMultiple base (coordinates result) (16 * n) }
-{
-    double(double(double(double(p))))
 }
 
 /// The multiple of the base point by a number, in a fixed number of steps. No branch and no address depends on the

@@ -12,11 +12,11 @@ use crate::field::constants::zero;
 use crate::field::{self, is_equal, mul, sub, triple};
 use paseto_montgomery::window;
 
-// How many multiples of the point are made: one for each window of 4 bits.
-const MULTIPLES: usize = 16;
+/// How many multiples of the point are made: one for each window of 4 bits.
+pub(super) const MULTIPLES: usize = 16;
 
-// How many windows a number has.
-const WINDOWS: usize = 96;
+/// How many windows a number has.
+pub(super) const WINDOWS: usize = 96;
 
 // The double of a point, by fewer products: as J. Renes, C. Costello and L. Batina have it where Z is not 0, times Z^2.
 fn double_known(p: ProjectivePoint) -> ProjectivePoint
@@ -53,8 +53,8 @@ fn sixteen_times(p: ProjectivePoint) -> ProjectivePoint
     double_known(eight_times)
 }
 
-// The multiples of a point by 0 to 15.
-fn multiples(p: ProjectivePoint) -> [ProjectivePoint; 16]
+/// The multiples of a point by 0 to 15.
+pub(super) fn multiples(p: ProjectivePoint) -> [ProjectivePoint; 16]
     requires { IsPoint (coordinates p) }
     ensures { AreMultiples (coordinates p) 16 result }
 {

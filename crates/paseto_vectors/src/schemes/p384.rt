@@ -3,7 +3,7 @@
 use super::Repeated;
 use crate::expect::{expect_bytes, expect_digits, expect_text, expect_that};
 use crate::hexadecimal::array_of;
-use paseto_p384::P384;
+use paseto_p384::{AgreementError, P384};
 use rusty_paseto_core::{
     CompressedKey, Footer, Key, Paseto, PasetoAsymmetricPublicKey, PasetoError, Public,
     SignatureScheme, V3,
@@ -213,4 +213,97 @@ fn a_generator_that_gives_no_private_key(rt: HostRuntime) {
     let answer = P384::try_new_pair(rt.alloc(), &mut Repeated { byte: 0 });
     let is_named = matches!(&answer, Err(PasetoError::KeyRejected));
     expect_that(&rt, is_named, "zeros in a pair");
+}
+
+// A public key and a private key of NIST's vectors of ECDH (CAVS 14.1, P-384, the first), and what OpenSSL derives by them,
+// as they say, and by the private keys n - 1 and 15.
+const PEER: &str = concat!(
+    "02a7c76b970c3b5fe8b05d2838ae04ab47697b9eaf52e76459",
+    "2efda27fe7513272734466b400091adbf2d68c58e0c50066",
+);
+
+const AGREEMENTS: &[(&str, &str)] = &[
+    (
+        concat!(
+            "3cc3122a68f0d95027ad38c067916ba0eb8c38894d22e1b1",
+            "5618b6818a661774ad463b205da88cf699ab4d43c9cf98a1",
+        ),
+        concat!(
+            "5f9d29dc5e31a163060356213669c8ce132e22f57c9a04f4",
+            "0ba7fcead493b457e5621e766c40a2e3d4d6a04b25e533f1",
+        ),
+    ),
+    (
+        concat!(
+            "ffffffffffffffffffffffffffffffffffffffffffffffff",
+            "c7634d81f4372ddf581a0db248b0a77aecec196accc52972",
+        ),
+        concat!(
+            "a7c76b970c3b5fe8b05d2838ae04ab47697b9eaf52e76459",
+            "2efda27fe7513272734466b400091adbf2d68c58e0c50066",
+        ),
+    ),
+    (
+        concat!(
+            "000000000000000000000000000000000000000000000000",
+            "00000000000000000000000000000000000000000000000f",
+        ),
+        concat!(
+            "eb6d34e4abbc53ffd4cc87ecc5f5842beb2e1e8a41581ed4",
+            "afbcc4d4a8f131a313cfa1f95b150699a91c4bc0d29b1461",
+        ),
+    ),
+];
+
+#[test]
+fn agreements(rt: HostRuntime) {
+    'rows: for &(private, shared) in AGREEMENTS {
+        let made = P384::shared_secret(&array_of::<48>(&rt, private), &array_of(&rt, PEER)).expect(
+            &rt,
+            "a shared secret",
+        );
+        expect_digits(&rt, rt.alloc(), &made, shared);
+    }
+}
+
+#[test]
+fn private_keys_that_agree_on_nothing(rt: HostRuntime) {
+    let zero = concat!(
+        "000000000000000000000000000000000000000000000000",
+        "000000000000000000000000000000000000000000000000",
+    );
+    let order = concat!(
+        "ffffffffffffffffffffffffffffffffffffffffffffffff",
+        "c7634d81f4372ddf581a0db248b0a77aecec196accc52973",
+    );
+    let peer = array_of(&rt, PEER);
+    'keys: for &private in &[zero, order] {
+        match P384::shared_secret(&array_of::<48>(&rt, private), &peer) {
+            Err(AgreementError::InvalidPrivateKey) => {}
+            _ => panic!(rt; "not refused by its name"),
+        }
+    }
+    match P384::shared_secret(&[1; 47], &peer) {
+        Err(AgreementError::InvalidPrivateKey) => {}
+        _ => panic!(rt; "not refused by its name"),
+    }
+}
+
+#[test]
+fn public_keys_that_agree_on_nothing(rt: HostRuntime) {
+    let private: [u8; 48] = array_of(&rt, PRIVATE);
+    // x = 1 is no point's.
+    let mut public = [0; 49];
+    public[0] = 2;
+    public[48] = 1;
+    match P384::shared_secret(&private, &public) {
+        Err(AgreementError::InvalidPoint) => {}
+        _ => panic!(rt; "not refused by its name"),
+    }
+    let mut public: [u8; 49] = array_of(&rt, PEER);
+    public[0] = 4;
+    match P384::shared_secret(&private, &public) {
+        Err(AgreementError::InvalidPoint) => {}
+        _ => panic!(rt; "not refused by its name"),
+    }
 }

@@ -1,7 +1,8 @@
-use Rattle.std.proofs.Common.{◌≡◌, ℕ, ◌+◌, ◌*◌, ◌%◌, ◌^◌, ◌<◌, ◌∙◌, ap, ap₂, arith}
+use Rattle.std.proofs.Common.{◌%◌, ◌∙◌, ap, ap₂, arith}
 use Rattle.paseto_edwards.specs.Edwards25519.{prime}
 use Rattle.paseto_edwards25519.specs.Scalar.{bytes32, number32}
 use Rattle.paseto_x25519.specs.Ladder.{ladder}
+use Rattle.paseto_x25519.proofs.LadderLaws.{masked-is}
 use Rattle.paseto_x25519.proofs.agreement.x25519.Goals as goal
 
 pub returns : goal.returns
@@ -11,6 +12,3 @@ returns c =
     c.bytes32.ensures
     ∙ ap (λ n. bytes32 n) (c.to_halves-low.ensures.value ∙ c.ladder.ensures.value
     ∙ ap₂ (λ k u. ladder k u) scalar (c.from_halves-x1.ensures.value ∙ ap (λ n. n % prime) masked))
-  where
-    masked-is : (low high n : ℕ) → low < 2 ^ 128 → low + 2 ^ 128 * high ≡ n → low + 2 ^ 128 * (high % 2 ^ 127) ≡ n % 2 ^ 255
-    masked-is low high n bound e = omega (arith, e)

@@ -6,6 +6,7 @@ use Rattle.paseto_primes.proofs.DigitLaws.{turn-first, turn-more, turns_number}
 use Rattle.paseto_weierstrass.specs.Multiples.{IsMultiple}
 use Rattle.paseto_weierstrass.specs.Point.{base}
 use Rattle.paseto_weierstrass.proofs.MultipleLaws.{multiple-neutral}
+use Rattle.paseto_weierstrass.proofs.PointLaws.{base-is_point}
 use Rattle.paseto_p384.specs.Point.{coordinates}
 use Rattle.paseto_p384.proofs.point.comb.multiply_base.Goals as goal
 
@@ -19,7 +20,7 @@ pub turns-preserved : goal.turns-preserved
 turns-preserved c =
     let v : ℕ = value c.args.k.now 6 in
     let i : ℕ = c.turns.i in
-    let shifted = c.sixteen_times.ensures (turn_sum v 24 i) c.turns.invariant in
+    let shifted = c.sixteen_times.ensures base (turn_sum v 24 i) base-is_point c.turns.invariant in
     subst (IsMultiple base (coordinates c.add_rows-sum-in-turns.result)) (turn-more v 24 i ∙ ap (turn_sum v 24) (sym (add-one i)))
     (c.add_rows-sum-in-turns.ensures (16 * turn_sum v 24 i) shifted)
 

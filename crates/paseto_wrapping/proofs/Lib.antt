@@ -1,0 +1,5 @@
+pub mod Reading
+pub mod Families
+pub mod Pies
+pub mod Protected
+pub mod Sealings

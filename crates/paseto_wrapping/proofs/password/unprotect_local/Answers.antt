@@ -1,0 +1,19 @@
+use Rattle.std.proofs.Common.{◌≡◌, ℕ, List, length}
+use Rattle.paseto_wrapping.specs.declared.header.WrappedType.TheVariants.{LocalPassword}
+use Rattle.paseto_wrapping.specs.Password.{IsPasswordFault, IsProtected}
+use Rattle.paseto_wrapping.proofs.Reading.{key_refused, key_unwrapped}
+use Rattle.paseto_wrapping.proofs.password.unprotect_local.Goals as goal
+
+pub returns-in_err-bytes : goal.returns-in_err-bytes
+returns-in_err-bytes g c =
+    let version = g.V.KeyVersion.paserk in
+    let password = c.args.password.now in
+    key_refused version LocalPassword (IsProtected version LocalPassword password c.args.most) (IsPasswordFault version LocalPassword password c.args.most) (λ (key : List ℕ). length key ≡ 32) c.args.text.now
+    c.in_err-bytes.field-0.0 (rw c.paserk_version.ensures at c.in_err-bytes.ensures) c.from_residual.result c.from_residual.ensures.1
+
+pub returns : goal.returns
+returns g c =
+    let version = g.V.KeyVersion.paserk in
+    let password = c.args.password.now in
+    key_unwrapped version LocalPassword (IsProtected version LocalPassword password c.args.most) (IsPasswordFault version LocalPassword password c.args.most) (λ (key : List ℕ). length key ≡ 32) c.args.text.now
+    c.in_ok-bytes.bytes (rw c.paserk_version.ensures at c.in_ok-bytes.ensures) c.local_key.result c.local_key.ensures.ok c.local_key.ensures.err

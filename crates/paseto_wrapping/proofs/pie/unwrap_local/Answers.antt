@@ -1,0 +1,19 @@
+use Rattle.std.proofs.Common.{◌≡◌, ℕ, List, length}
+use Rattle.paseto_wrapping.specs.declared.header.WrappedType.TheVariants.{LocalWrap}
+use Rattle.paseto_wrapping.specs.Pie.{IsPie, IsPieFault}
+use Rattle.paseto_wrapping.proofs.Reading.{key_refused, key_unwrapped}
+use Rattle.paseto_wrapping.proofs.pie.unwrap_local.Goals as goal
+
+pub returns-in_err-bytes : goal.returns-in_err-bytes
+returns-in_err-bytes g c =
+    let version = g.V.KeyVersion.paserk in
+    let wk = c.args.wrapping_key.now in
+    key_refused version LocalWrap (IsPie version LocalWrap wk) (IsPieFault version LocalWrap wk) (λ (key : List ℕ). length key ≡ 32) c.args.text.now
+    c.in_err-bytes.field-0.0 (rw (c.paserk_version.ensures, c.as_bytes.ensures.bytes) at c.in_err-bytes.ensures) c.from_residual.result c.from_residual.ensures.1
+
+pub returns : goal.returns
+returns g c =
+    let version = g.V.KeyVersion.paserk in
+    let wk = c.args.wrapping_key.now in
+    key_unwrapped version LocalWrap (IsPie version LocalWrap wk) (IsPieFault version LocalWrap wk) (λ (key : List ℕ). length key ≡ 32) c.args.text.now
+    c.in_ok-bytes.bytes (rw (c.paserk_version.ensures, c.as_bytes.ensures.bytes) at c.in_ok-bytes.ensures) c.local_key.result c.local_key.ensures.ok c.local_key.ensures.err

@@ -1,0 +1,40 @@
+-- What is wrapped is unwrapped: the text of a key holds that key. The contracts of reading answer whatever a text holds.
+use Rattle.std.specs.Prelude.{◌≡◌, ℕ, List, length}
+use Rattle.base64.specs.GeneralPurpose.{IsBytes}
+use Rattle.rusty_paseto_paserk.specs.declared.header.PaserkVersion.{PaserkVersion}
+use Rattle.rusty_paseto_paserk.specs.declared.header.PaserkVersion.TheVariants.{V3}
+use Rattle.paseto_p384.specs.P384.{IsPrivate, p384_public}
+use Rattle.paseto_wrapping.specs.declared.error.WrapError.{WrapError}
+use Rattle.paseto_wrapping.specs.declared.family.Family.TheVariants.{Nist}
+use Rattle.paseto_wrapping.specs.declared.header.WrappedType.{WrappedType}
+use Rattle.paseto_wrapping.specs.declared.header.WrappedType.TheVariants.{Seal}
+use Rattle.paseto_wrapping.specs.declared.cost.PasswordCost.{PasswordCost}
+use Rattle.paseto_wrapping.specs.Error.{IsMemory}
+use Rattle.paseto_wrapping.specs.Family.{family_of, nonce_length}
+use Rattle.paseto_wrapping.specs.Password.{IsGranted, IsProtected, protected, salt_length}
+use Rattle.paseto_wrapping.specs.Pie.{IsNonce, IsPie, pie}
+use Rattle.paseto_wrapping.specs.Reading.{InText}
+use Rattle.paseto_wrapping.specs.Sealing.{IsSealFault, IsSealed, SealsFor}
+
+-- under a wrapping key, by any nonce
+abbrev pub WrappedUnwrap : Type 0
+WrappedUnwrap = (version : PaserkVersion) (kind : WrappedType) (wk n ptk : List ℕ) → IsNonce n → IsBytes ptk
+    → InText version kind (IsPie version kind wk) (pie version kind wk n ptk) ptk
+
+-- under a password, by any salt, nonce, and cost that is granted
+abbrev pub ProtectedUnwrap : Type 0
+ProtectedUnwrap = (version : PaserkVersion) (kind : WrappedType) (password : List ℕ) (most cost : PasswordCost) (s n ptk : List ℕ)
+    → IsGranted (family_of version) most cost
+    → IsBytes s × (length s ≡ salt_length (family_of version)) → IsBytes n × (length n ≡ nonce_length (family_of version)) → IsBytes ptk
+    → InText version kind (IsProtected version kind password most) (protected version kind password cost s n ptk) ptk
+
+-- in version 3, sealed to the public key of a private key
+abbrev pub SealedUnseal : Type 0
+SealedUnseal = (private ephemeral key text : List ℕ) → IsPrivate private → IsBytes key × (length key ≡ 32)
+    → IsSealed V3 (p384_public private) ephemeral key text
+    → InText V3 Seal (SealsFor Nist V3 private) text key
+
+-- in version 3 nothing but memory keeps a key from being sealed to such a public key
+abbrev pub OwnKeysSeal : Type 0
+OwnKeysSeal = (private ephemeral : List ℕ) (error : WrapError) → IsPrivate private → IsPrivate ephemeral
+    → IsSealFault Nist (p384_public private) ephemeral error → IsMemory error
