@@ -1,6 +1,6 @@
 #!/usr/bin/env bash
-# Builds the library for C and installs it: PREFIX/lib/libpaseto.a and libpaseto.so, PREFIX/include/paseto.h and
-# PREFIX/lib/pkgconfig/paseto.pc.
+# Builds the library for C and installs it: PREFIX/lib/libpaseto.a and libpaseto.so.0, to which the link libpaseto.so leads,
+# PREFIX/include/paseto.h and PREFIX/lib/pkgconfig/paseto.pc.
 #
 #   c/build.sh PREFIX [--cpu NAME | --built]
 #
@@ -40,12 +40,17 @@ ld -r --whole-archive "$crate/out/libpaseto_c.a" --no-whole-archive "$kit/c/libl
 objcopy --wildcard --keep-global-symbol='paseto_*' "$work/all.o" "$work/paseto.o"
 ar rcs "$work/libpaseto.a" "$work/paseto.o"
 printf '{ global: paseto_*; local: *; };\n' >"$work/exports"
-cc -shared -Wl,--gc-sections -Wl,--version-script="$work/exports" -Wl,-soname,libpaseto.so \
-    -Wl,-z,relro,-z,now -o "$work/libpaseto.so" "$work/paseto.o"
+cc -shared -Wl,--gc-sections -Wl,--version-script="$work/exports" -Wl,-soname,libpaseto.so.0 \
+    -Wl,-z,relro,-z,now -o "$work/libpaseto.so.0" "$work/paseto.o"
+
+# The version of the header, as text.
+number=$(sed -nE 's/^#define PASETO_VERSION ([0-9]+)$/\1/p' "$here/paseto.h")
+version=$((number / 10000)).$((number / 100 % 100)).$((number % 100))
 
 install -d "$prefix/lib/pkgconfig" "$prefix/include"
 install -m 644 "$work/libpaseto.a" "$prefix/lib/libpaseto.a"
-install -m 755 "$work/libpaseto.so" "$prefix/lib/libpaseto.so"
+install -m 755 "$work/libpaseto.so.0" "$prefix/lib/libpaseto.so.0"
+ln -sf libpaseto.so.0 "$prefix/lib/libpaseto.so"
 install -m 644 "$here/paseto.h" "$prefix/include/paseto.h"
 cat >"$prefix/lib/pkgconfig/paseto.pc" <<END
 prefix=$prefix
@@ -54,7 +59,7 @@ includedir=\${prefix}/include
 
 Name: paseto
 Description: PASETO tokens by a proved library
-Version: 1
+Version: $version
 Libs: -L\${libdir} -lpaseto
 Cflags: -I\${includedir}
 END

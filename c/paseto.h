@@ -22,6 +22,13 @@
 extern "C" {
 #endif
 
+/* The version of the library that this header describes, 0.1.0: 10000 times the first number, 100 times the second, and the
+   third. A program over libpaseto.so learns by paseto_version which one it runs with. The first number is that of
+   libpaseto.so.0: while it stays, so do the calls, the statuses and the structs. */
+#define PASETO_VERSION 100
+
+uint32_t paseto_version(void);
+
 typedef uint8_t paseto_status;
 
 enum {
@@ -56,7 +63,11 @@ enum {
     PASETO_UNEXPECTED = 24,           /* a claim of another kind, or a number that is not whole */
     PASETO_INVALID = 25,              /* an expected claim is another text */
     PASETO_DUPLICATE = 26,            /* a claim was set twice; the members of one object never are */
-    PASETO_OTHER = 27                 /* no call gives it */
+    PASETO_OTHER = 27,                /* no call gives it */
+    /* of what came later */
+    PASETO_RSA_CIPHER = 28, /* the numbers of a private key of version 1 are not of one key */
+    PASETO_TOO_LONG = 29,   /* the token has more bytes than it may have */
+    PASETO_NOT_NAMES = 30   /* the names of claims are not the text of a JSON array of texts */
 };
 
 /* Draws secret random bytes, as nonces and seeds are to be: by getrandom(2), which blocks only before the system has
@@ -166,10 +177,17 @@ paseto_status paseto_v4_public_keypair(const uint8_t *seed, size_t seed_length,
                                        uint8_t *public_room, size_t public_room_length);
 
 /* Signing takes a private key and a text. Statuses: PASETO_OK, PASETO_ROOM, PASETO_MEMORY, PASETO_INVALID_KEY,
-   PASETO_NOT_UTF8, PASETO_SIGNATURE, and in version 3 PASETO_KEY_REJECTED.
+   PASETO_NOT_UTF8, PASETO_SIGNATURE, and in version 3 PASETO_KEY_REJECTED. In version 1 the private key is a PrivateKeyInfo
+   of PKCS #8 in DER, of an RSA key of 2048 bits with the exponent 65537, and a salt of 48 bytes is drawn by paseto_random for
+   each signature. Statuses: PASETO_OK, PASETO_ROOM, PASETO_MEMORY, PASETO_INVALID_NONCE, PASETO_NOT_UTF8,
+   PASETO_KEY_REJECTED for what is no such key, and PASETO_RSA_CIPHER.
 
        if (paseto_v4_public_sign(private_key, 64, text, text_length, NULL, 0, NULL, 0, token, sizeof token, &n)
            != PASETO_OK) return -1; */
+paseto_status paseto_v1_public_sign(const uint8_t *private_key, size_t private_key_length,
+                                    const uint8_t *salt, size_t salt_length, const uint8_t *text, size_t text_length,
+                                    const uint8_t *footer, size_t footer_length,
+                                    uint8_t *room, size_t room_length, size_t *written);
 paseto_status paseto_v2_public_sign(const uint8_t *private_key, size_t private_key_length,
                                     const uint8_t *text, size_t text_length,
                                     const uint8_t *footer, size_t footer_length,
@@ -187,10 +205,15 @@ paseto_status paseto_v4_public_sign(const uint8_t *private_key, size_t private_k
 
 /* Verifying takes a public key and a token, and answers the token's text. Statuses: PASETO_OK, PASETO_ROOM,
    PASETO_MEMORY, PASETO_INVALID_KEY, PASETO_NOT_UTF8, PASETO_INCORRECT_SIZE, PASETO_FOOTER_INVALID, PASETO_WRONG_HEADER,
-   PASETO_PAYLOAD_BASE64_DECODE, PASETO_INVALID_SIGNATURE, PASETO_FROM_UTF8_ERROR.
+   PASETO_PAYLOAD_BASE64_DECODE, PASETO_INVALID_SIGNATURE, PASETO_FROM_UTF8_ERROR. In version 1 the public key is an
+   RSAPublicKey of PKCS #1 in DER, of 2048 bits; under what is none no signature is valid.
 
        if (paseto_v4_public_verify(public_key, 32, token, token_length, NULL, 0, NULL, 0, text, sizeof text, &n)
            != PASETO_OK) return -1; */
+paseto_status paseto_v1_public_verify(const uint8_t *public_key, size_t public_key_length,
+                                      const uint8_t *token, size_t token_length,
+                                      const uint8_t *footer, size_t footer_length,
+                                      uint8_t *room, size_t room_length, size_t *written);
 paseto_status paseto_v2_public_verify(const uint8_t *public_key, size_t public_key_length,
                                       const uint8_t *token, size_t token_length,
                                       const uint8_t *footer, size_t footer_length,
@@ -211,17 +234,45 @@ paseto_status paseto_v4_public_verify(const uint8_t *public_key, size_t public_k
    Building takes claims as the text of a JSON object, and the moment in seconds after 1970-01-01T00:00:00Z. The token
    expires an hour after the moment, and is issued at it and usable after it, unless the claims say otherwise by exp, iat
    and nbf, which are texts of RFC 3339. A token is usable from the second after its nbf: one that is to be admitted at
-   once has an earlier nbf. The seed of 32 bytes is drawn by paseto_random, and becomes the nonce. Statuses: those of
-   encrypting or signing, and PASETO_NOT_OBJECT, PASETO_INVALID_MOMENT, PASETO_UNEXPECTED for a number that is not whole.
+   once has an earlier nbf. The seed of 32 bytes, and in version 2 of 24, is drawn by paseto_random, and becomes the nonce;
+   so is the salt of 48 bytes of public tokens of version 1. Statuses: those of encrypting or signing, and
+   PASETO_NOT_OBJECT, PASETO_INVALID_MOMENT, PASETO_UNEXPECTED for a number that is not whole.
 
        const char *claims = "{\"sub\":\"Ada\"}";
        if (paseto_v4_local_build(key, 32, seed, 32, (const uint8_t *)claims, strlen(claims), time(NULL),
                                  NULL, 0, NULL, 0, token, sizeof token, &n) != PASETO_OK) return -1; */
+paseto_status paseto_v1_local_build(const uint8_t *key, size_t key_length, const uint8_t *seed, size_t seed_length,
+                                    const uint8_t *claims, size_t claims_length, int64_t now,
+                                    const uint8_t *footer, size_t footer_length,
+                                    uint8_t *room, size_t room_length, size_t *written);
+paseto_status paseto_v2_local_build(const uint8_t *key, size_t key_length, const uint8_t *seed, size_t seed_length,
+                                    const uint8_t *claims, size_t claims_length, int64_t now,
+                                    const uint8_t *footer, size_t footer_length,
+                                    uint8_t *room, size_t room_length, size_t *written);
+paseto_status paseto_v3_local_build(const uint8_t *key, size_t key_length, const uint8_t *seed, size_t seed_length,
+                                    const uint8_t *claims, size_t claims_length, int64_t now,
+                                    const uint8_t *footer, size_t footer_length,
+                                    const uint8_t *assertion, size_t assertion_length,
+                                    uint8_t *room, size_t room_length, size_t *written);
 paseto_status paseto_v4_local_build(const uint8_t *key, size_t key_length, const uint8_t *seed, size_t seed_length,
                                     const uint8_t *claims, size_t claims_length, int64_t now,
                                     const uint8_t *footer, size_t footer_length,
                                     const uint8_t *assertion, size_t assertion_length,
                                     uint8_t *room, size_t room_length, size_t *written);
+paseto_status paseto_v1_public_build(const uint8_t *private_key, size_t private_key_length,
+                                     const uint8_t *salt, size_t salt_length,
+                                     const uint8_t *claims, size_t claims_length, int64_t now,
+                                     const uint8_t *footer, size_t footer_length,
+                                     uint8_t *room, size_t room_length, size_t *written);
+paseto_status paseto_v2_public_build(const uint8_t *private_key, size_t private_key_length,
+                                     const uint8_t *claims, size_t claims_length, int64_t now,
+                                     const uint8_t *footer, size_t footer_length,
+                                     uint8_t *room, size_t room_length, size_t *written);
+paseto_status paseto_v3_public_build(const uint8_t *private_key, size_t private_key_length,
+                                     const uint8_t *claims, size_t claims_length, int64_t now,
+                                     const uint8_t *footer, size_t footer_length,
+                                     const uint8_t *assertion, size_t assertion_length,
+                                     uint8_t *room, size_t room_length, size_t *written);
 paseto_status paseto_v4_public_build(const uint8_t *private_key, size_t private_key_length,
                                      const uint8_t *claims, size_t claims_length, int64_t now,
                                      const uint8_t *footer, size_t footer_length,
@@ -236,18 +287,135 @@ paseto_status paseto_v4_public_build(const uint8_t *private_key, size_t private_
        const char *expected = "{\"aud\":\"customers\"}";
        if (paseto_v4_local_parse(key, 32, token, token_length, (const uint8_t *)expected, strlen(expected), time(NULL),
                                  NULL, 0, NULL, 0, claims, sizeof claims, &n) != PASETO_OK) return -1; */
-paseto_status paseto_v4_local_parse(const uint8_t *key, size_t key_length,
-                                    const uint8_t *token, size_t token_length,
+paseto_status paseto_v1_local_parse(const uint8_t *key, size_t key_length, const uint8_t *token, size_t token_length,
+                                    const uint8_t *expected, size_t expected_length, int64_t now,
+                                    const uint8_t *footer, size_t footer_length,
+                                    uint8_t *room, size_t room_length, size_t *written);
+paseto_status paseto_v2_local_parse(const uint8_t *key, size_t key_length, const uint8_t *token, size_t token_length,
+                                    const uint8_t *expected, size_t expected_length, int64_t now,
+                                    const uint8_t *footer, size_t footer_length,
+                                    uint8_t *room, size_t room_length, size_t *written);
+paseto_status paseto_v3_local_parse(const uint8_t *key, size_t key_length, const uint8_t *token, size_t token_length,
                                     const uint8_t *expected, size_t expected_length, int64_t now,
                                     const uint8_t *footer, size_t footer_length,
                                     const uint8_t *assertion, size_t assertion_length,
                                     uint8_t *room, size_t room_length, size_t *written);
+paseto_status paseto_v4_local_parse(const uint8_t *key, size_t key_length, const uint8_t *token, size_t token_length,
+                                    const uint8_t *expected, size_t expected_length, int64_t now,
+                                    const uint8_t *footer, size_t footer_length,
+                                    const uint8_t *assertion, size_t assertion_length,
+                                    uint8_t *room, size_t room_length, size_t *written);
+paseto_status paseto_v1_public_parse(const uint8_t *public_key, size_t public_key_length,
+                                     const uint8_t *token, size_t token_length,
+                                     const uint8_t *expected, size_t expected_length, int64_t now,
+                                     const uint8_t *footer, size_t footer_length,
+                                     uint8_t *room, size_t room_length, size_t *written);
+paseto_status paseto_v2_public_parse(const uint8_t *public_key, size_t public_key_length,
+                                     const uint8_t *token, size_t token_length,
+                                     const uint8_t *expected, size_t expected_length, int64_t now,
+                                     const uint8_t *footer, size_t footer_length,
+                                     uint8_t *room, size_t room_length, size_t *written);
+paseto_status paseto_v3_public_parse(const uint8_t *public_key, size_t public_key_length,
+                                     const uint8_t *token, size_t token_length,
+                                     const uint8_t *expected, size_t expected_length, int64_t now,
+                                     const uint8_t *footer, size_t footer_length,
+                                     const uint8_t *assertion, size_t assertion_length,
+                                     uint8_t *room, size_t room_length, size_t *written);
 paseto_status paseto_v4_public_parse(const uint8_t *public_key, size_t public_key_length,
                                      const uint8_t *token, size_t token_length,
                                      const uint8_t *expected, size_t expected_length, int64_t now,
                                      const uint8_t *footer, size_t footer_length,
                                      const uint8_t *assertion, size_t assertion_length,
                                      uint8_t *room, size_t room_length, size_t *written);
+
+/* What a token may be asked beside the claims that are expected. {0} asks for nothing more.
+
+   leeway: by how many seconds the clocks of issuer and reader may differ: exp is judged so much earlier, and nbf so much later.
+   longest: how many bytes a token may have; a longer one is refused before anything of it is decoded. 0 is no limit.
+   required: the names of the claims that have to be there, and not null, as the text of a JSON array, ["exp","jti"]; no
+   bytes for none. */
+struct paseto_options {
+    uint32_t leeway;
+    size_t longest;
+    const uint8_t *required;
+    size_t required_length;
+};
+
+/* Parsing with options does what parsing does, and asks for more. A refusal is told by a line in a room of its own, as
+
+       The claim 'aud' failed validation.  Expected 'others' but received 'customers'
+
+   which is cut where the room is too short; *told is the length of the whole line, which has no end and no zero byte behind it.
+   At PASETO_OK and PASETO_ROOM *told is 0, and the line's room is as it was. Names and texts of claims stand in the line as
+   they are, with what line feeds they have. Statuses: those of parsing, and PASETO_TOO_LONG and PASETO_NOT_NAMES.
+
+       const char *names = "[\"exp\"]";
+       struct paseto_options options = {5, 65536, (const uint8_t *)names, strlen(names)};
+       uint8_t line[200];
+       size_t told;
+       if (paseto_v4_local_parse_with(key, 32, token, token_length, (const uint8_t *)"{}", 2, time(NULL), NULL, 0, NULL, 0,
+                                      &options, claims, sizeof claims, &n, line, sizeof line, &told) != PASETO_OK)
+           fprintf(stderr, "%.*s\n", (int)(told < sizeof line ? told : sizeof line), (const char *)line); */
+paseto_status paseto_v1_local_parse_with(const uint8_t *key, size_t key_length,
+                                         const uint8_t *token, size_t token_length,
+                                         const uint8_t *expected, size_t expected_length, int64_t now,
+                                         const uint8_t *footer, size_t footer_length,
+                                         const struct paseto_options *options,
+                                         uint8_t *room, size_t room_length, size_t *written,
+                                         uint8_t *line, size_t line_length, size_t *told);
+paseto_status paseto_v2_local_parse_with(const uint8_t *key, size_t key_length,
+                                         const uint8_t *token, size_t token_length,
+                                         const uint8_t *expected, size_t expected_length, int64_t now,
+                                         const uint8_t *footer, size_t footer_length,
+                                         const struct paseto_options *options,
+                                         uint8_t *room, size_t room_length, size_t *written,
+                                         uint8_t *line, size_t line_length, size_t *told);
+paseto_status paseto_v3_local_parse_with(const uint8_t *key, size_t key_length,
+                                         const uint8_t *token, size_t token_length,
+                                         const uint8_t *expected, size_t expected_length, int64_t now,
+                                         const uint8_t *footer, size_t footer_length,
+                                         const uint8_t *assertion, size_t assertion_length,
+                                         const struct paseto_options *options,
+                                         uint8_t *room, size_t room_length, size_t *written,
+                                         uint8_t *line, size_t line_length, size_t *told);
+paseto_status paseto_v4_local_parse_with(const uint8_t *key, size_t key_length,
+                                         const uint8_t *token, size_t token_length,
+                                         const uint8_t *expected, size_t expected_length, int64_t now,
+                                         const uint8_t *footer, size_t footer_length,
+                                         const uint8_t *assertion, size_t assertion_length,
+                                         const struct paseto_options *options,
+                                         uint8_t *room, size_t room_length, size_t *written,
+                                         uint8_t *line, size_t line_length, size_t *told);
+paseto_status paseto_v1_public_parse_with(const uint8_t *public_key, size_t public_key_length,
+                                          const uint8_t *token, size_t token_length,
+                                          const uint8_t *expected, size_t expected_length, int64_t now,
+                                          const uint8_t *footer, size_t footer_length,
+                                          const struct paseto_options *options,
+                                          uint8_t *room, size_t room_length, size_t *written,
+                                          uint8_t *line, size_t line_length, size_t *told);
+paseto_status paseto_v2_public_parse_with(const uint8_t *public_key, size_t public_key_length,
+                                          const uint8_t *token, size_t token_length,
+                                          const uint8_t *expected, size_t expected_length, int64_t now,
+                                          const uint8_t *footer, size_t footer_length,
+                                          const struct paseto_options *options,
+                                          uint8_t *room, size_t room_length, size_t *written,
+                                          uint8_t *line, size_t line_length, size_t *told);
+paseto_status paseto_v3_public_parse_with(const uint8_t *public_key, size_t public_key_length,
+                                          const uint8_t *token, size_t token_length,
+                                          const uint8_t *expected, size_t expected_length, int64_t now,
+                                          const uint8_t *footer, size_t footer_length,
+                                          const uint8_t *assertion, size_t assertion_length,
+                                          const struct paseto_options *options,
+                                          uint8_t *room, size_t room_length, size_t *written,
+                                          uint8_t *line, size_t line_length, size_t *told);
+paseto_status paseto_v4_public_parse_with(const uint8_t *public_key, size_t public_key_length,
+                                          const uint8_t *token, size_t token_length,
+                                          const uint8_t *expected, size_t expected_length, int64_t now,
+                                          const uint8_t *footer, size_t footer_length,
+                                          const uint8_t *assertion, size_t assertion_length,
+                                          const struct paseto_options *options,
+                                          uint8_t *room, size_t room_length, size_t *written,
+                                          uint8_t *line, size_t line_length, size_t *told);
 
 /* ---- before opening
 

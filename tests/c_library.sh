@@ -49,6 +49,7 @@ needs cc gcc
 needs c++ g++
 needs nm binutils
 needs objcopy binutils
+needs readelf binutils
 needs valgrind valgrind
 needs python3 python3
 needs curl curl
@@ -67,7 +68,7 @@ if python3 "$here/exports.py" "$root/crates/paseto_c/src" >"$work/exports" 2>"$w
 else
     fail "exports: $(cat "$work/log")"
 fi
-grep -oE '^paseto_status paseto_\w+' "$root/c/paseto.h" | cut -d' ' -f2 | sort >"$work/declared"
+grep -oE '^(paseto_status|uint32_t) paseto_\w+' "$root/c/paseto.h" | cut -d' ' -f2 | sort >"$work/declared"
 check 'paseto.h declares the exports' diff "$work/exports" "$work/declared"
 
 # ---- the library
@@ -81,9 +82,12 @@ else
         finish
     fi
 fi
-for file in lib/libpaseto.a lib/libpaseto.so lib/pkgconfig/paseto.pc include/paseto.h; do
+for file in lib/libpaseto.a lib/libpaseto.so lib/libpaseto.so.0 lib/pkgconfig/paseto.pc include/paseto.h; do
     if [ -s "$prefix/$file" ]; then pass; else fail "c/build.sh installs no $file"; fi
 done
+if [ "$(readlink "$prefix/lib/libpaseto.so")" = libpaseto.so.0 ]; then pass; else fail 'libpaseto.so is no link to libpaseto.so.0'; fi
+soname=$(readelf -d "$prefix/lib/libpaseto.so" | sed -nE 's/.*\(SONAME\).*\[(.*)\]$/\1/p')
+if [ "$soname" = libpaseto.so.0 ]; then pass; else fail "the soname is $soname"; fi
 nm -D --defined-only --format=posix "$prefix/lib/libpaseto.so" | cut -d' ' -f1 | sort >"$work/shared"
 check 'libpaseto.so shows the exports alone' diff "$work/exports" "$work/shared"
 nm -g --defined-only --format=posix "$prefix/lib/libpaseto.a" | grep -v ':$' | cut -d' ' -f1 | sort >"$work/static"
@@ -114,6 +118,22 @@ counted 'a program in C with the sanitizers' "$work/client"
 check 'client.c is built over libpaseto.so' cc -std=c99 "${strict[@]}" -o "$work/client" "$here/client.c" \
     -L "$prefix/lib" -Wl,-rpath,"$prefix/lib" -lpaseto
 counted 'a program in C over libpaseto.so' "$work/client"
+needed=$(readelf -d "$work/client" | sed -nE 's/.*\(NEEDED\).*\[(libpaseto.*)\]$/\1/p')
+if [ "$needed" = libpaseto.so.0 ]; then pass; else fail "a program over libpaseto.so needs $needed"; fi
+# The version that paseto.pc tells is the one that the library tells.
+cat >"$work/version.c" <<'END'
+#include <inttypes.h>
+#include <paseto.h>
+#include <stdio.h>
+int main(void) {
+    uint32_t number = paseto_version();
+    printf("%" PRIu32 ".%" PRIu32 ".%" PRIu32 "\n", number / 10000, number / 100 % 100, number % 100);
+    return number != PASETO_VERSION;
+}
+END
+check 'version.c is built' cc -std=c99 "${strict[@]}" -o "$work/version" "$work/version.c" "$prefix/lib/libpaseto.a"
+check 'the version of the library is that of paseto.h' "$work/version"
+check 'the version of paseto.pc' diff <(sed -nE 's/^Version: //p' "$prefix/lib/pkgconfig/paseto.pc") <("$work/version")
 build published -O1
 counted 'published tokens' "$work/published" "$root/crates/paseto_rows/data/published.txt"
 grep -qx '27 passed, 0 failed' "$work/log" && pass || fail 'the published tokens are not 27'

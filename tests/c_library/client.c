@@ -2,6 +2,8 @@
 
    Each slice that is handed over stands in memory of exactly its length, so that valgrind and the sanitizers see a byte
    that is read or written beyond. The last line is 'N passed, M failed'. */
+#include "rsa.h"
+
 #include <paseto.h>
 
 #include <stdbool.h>
@@ -285,6 +287,305 @@ static void ask_claims(void) {
     drop(public);
 }
 
+/* ---- claims, in each kind of token */
+
+/* The bytes that hexadecimal digits spell. */
+static struct slice bytes_of(const char *digits) {
+    struct slice made = slice_of(digits, strlen(digits) / 2);
+    for (size_t i = 0; i < made.length; i++) {
+        char pair[3] = {digits[2 * i], digits[2 * i + 1], '\0'};
+        made.at[i] = (uint8_t)strtoul(pair, NULL, 16);
+    }
+    return made;
+}
+
+/* All that a call may be given. */
+struct given {
+    struct slice key, drawn, claims, token, expected, footer, assertion;
+    int64_t now;
+    struct paseto_options options;
+};
+
+typedef paseto_status ask(const struct given *g, uint8_t *room, size_t length, size_t *written);
+
+/* Where a refusal is told, in a room of so many bytes. */
+static uint8_t line[400];
+static size_t line_room = sizeof line, told;
+
+#define KIND(name, build_words, assertion_words)                                                                         \
+    static paseto_status name##_build(const struct given *g, uint8_t *room, size_t length, size_t *written) {            \
+        return paseto_##name##_build(GIVEN(g->key) build_words, GIVEN(g->claims), g->now, GIVEN(g->footer) assertion_words, \
+                                     room, length, written);                                                             \
+    }                                                                                                                    \
+    static paseto_status name##_parse(const struct given *g, uint8_t *room, size_t length, size_t *written) {            \
+        return paseto_##name##_parse(GIVEN(g->key), GIVEN(g->token), GIVEN(g->expected), g->now,                         \
+                                     GIVEN(g->footer) assertion_words, room, length, written);                           \
+    }                                                                                                                    \
+    static paseto_status name##_parse_with(const struct given *g, uint8_t *room, size_t length, size_t *written) {       \
+        told = 12345;                                                                                                    \
+        return paseto_##name##_parse_with(GIVEN(g->key), GIVEN(g->token), GIVEN(g->expected), g->now,                    \
+                                          GIVEN(g->footer) assertion_words, &g->options, room, length, written,          \
+                                          line_room > 0 ? line : NULL, line_room, &told);                                \
+    }
+
+#define NOTHING
+#define DRAWN , GIVEN(g->drawn)
+#define ASSERTION , GIVEN(g->assertion)
+
+KIND(v1_local, DRAWN, NOTHING)
+KIND(v2_local, DRAWN, NOTHING)
+KIND(v3_local, DRAWN, ASSERTION)
+KIND(v4_local, DRAWN, ASSERTION)
+KIND(v1_public, DRAWN, NOTHING)
+KIND(v2_public, NOTHING, NOTHING)
+KIND(v3_public, NOTHING, ASSERTION)
+KIND(v4_public, NOTHING, ASSERTION)
+
+static const struct kind {
+    const char *header;
+    ask *build, *parse, *parse_with;
+    size_t drawn;
+    bool has_assertion;
+    paseto_status of_tampering;
+} kinds[] = {
+    {"v1.local.", v1_local_build, v1_local_parse, v1_local_parse_with, 32, false, PASETO_CRYPTION},
+    {"v2.local.", v2_local_build, v2_local_parse, v2_local_parse_with, 24, false, PASETO_CHACHA_CIPHER_ERROR},
+    {"v3.local.", v3_local_build, v3_local_parse, v3_local_parse_with, 32, true, PASETO_CRYPTION},
+    {"v4.local.", v4_local_build, v4_local_parse, v4_local_parse_with, 32, true, PASETO_CRYPTION},
+    {"v1.public.", v1_public_build, v1_public_parse, v1_public_parse_with, 48, false, PASETO_INVALID_SIGNATURE},
+    {"v2.public.", v2_public_build, v2_public_parse, v2_public_parse_with, 0, false, PASETO_INVALID_SIGNATURE},
+    {"v3.public.", v3_public_build, v3_public_parse, v3_public_parse_with, 0, true, PASETO_INVALID_SIGNATURE},
+    {"v4.public.", v4_public_build, v4_public_parse, v4_public_parse_with, 0, true, PASETO_INVALID_SIGNATURE},
+};
+
+/* The key that makes a kind of token, and the one that reads it. */
+static void keys_of(const struct kind *kind, struct slice *key, struct slice *read_key) {
+    uint8_t private_key[64], public_key[49];
+    bool is_p384 = kind->header[1] == '3';
+    if (kind->header[3] == 'l') {
+        *key = drawn(32);
+        *read_key = slice_of(key->at, 32);
+    } else if (kind->header[1] == '1') {
+        *key = bytes_of(RSA_PRIVATE);
+        *read_key = bytes_of(RSA_PUBLIC);
+    } else {
+        struct slice seed = drawn(is_p384 ? 48 : 32);
+        paseto_status status = is_p384 ? paseto_v3_public_keypair(GIVEN(seed), private_key, 64, public_key, 49)
+                                       : paseto_v4_public_keypair(GIVEN(seed), private_key, 64, public_key, 49);
+        CHECK(status == PASETO_OK);
+        *key = slice_of(private_key, is_p384 ? 48 : 64);
+        *read_key = slice_of(public_key, is_p384 ? 49 : 32);
+        drop(seed);
+    }
+}
+
+static bool is_told(const char *text) {
+    return told == strlen(text) && memcmp(line, text, told < line_room ? told : line_room) == 0;
+}
+
+/* Wants this of parsing, with options and without. The line is what the status says, unless it is given. */
+static void want_parsed(const struct kind *kind, const struct given *g, paseto_status wanted, const char *text, const char *said) {
+    struct slice of_status = slice_of("", 0);
+    paseto_status status;
+    WANT(wanted, text, kind->parse, g);
+    memset(line, '#', sizeof line);
+    WANT(wanted, text, kind->parse_with, g);
+    if (wanted == PASETO_OK) {
+        CHECK(told == 0 && line[0] == '#');
+        return;
+    }
+    if (said == NULL) ASK(status, of_status, paseto_error_text, wanted);
+    struct slice wanted_line = said == NULL ? of_status : text_of(said);
+    CHECK(told == wanted_line.length && memcmp(line, wanted_line.at, told) == 0 && line[told] == '#');
+    drop(wanted_line);
+    (void)status;
+}
+
+static void set_expected(struct given *g, const char *text) {
+    drop(g->expected);
+    g->expected = text_of(text);
+}
+
+/* What is refused without options too, and what is told of it. */
+static void ask_faults(const struct kind *kind, struct given *g) {
+    const char *expired = "This token is expired", *early = "The token cannot be used before 2026-11-25T12:00:00Z";
+    struct slice token = g->token, none = slice_of("", 0);
+    set_expected(g, "{\"aud\":\"others\"}");
+    want_parsed(kind, g, PASETO_INVALID, "",
+                "The claim 'aud' failed validation.  Expected 'customers' but received 'others'");
+    set_expected(g, "{\"sub\":\"Ada\"}");
+    want_parsed(kind, g, PASETO_MISSING, "", "The expected claim 'sub' was not found in the payload");
+    set_expected(g, "{\"seats\":5}");
+    want_parsed(kind, g, PASETO_UNEXPECTED, "", "Could not convert claim 'seats' to the expected data type");
+    set_expected(g, "{\"seats\":1.5}");
+    want_parsed(kind, g, PASETO_UNEXPECTED, "", NULL);
+    set_expected(g, "[]");
+    want_parsed(kind, g, PASETO_NOT_OBJECT, "", NULL);
+    set_expected(g, "\xff");
+    want_parsed(kind, g, PASETO_NOT_UTF8, "", NULL);
+    set_expected(g, "{}");
+    g->now = NOW;
+    want_parsed(kind, g, PASETO_USE_BEFORE_AVAILABLE, "", early);
+    g->now = NOW + 3600;
+    want_parsed(kind, g, PASETO_EXPIRED, "", expired);
+    g->now = INT64_MAX;
+    want_parsed(kind, g, PASETO_INVALID_MOMENT, "", NULL);
+    g->now = NOW + 1;
+    g->token = tampered(token);
+    want_parsed(kind, g, kind->of_tampering, "",
+                kind->of_tampering == PASETO_CRYPTION ? "A paseto cipher error occurred: An unspecified cryption error occured"
+                : kind->of_tampering == PASETO_INVALID_SIGNATURE
+                    ? "A paseto cipher error occurred: The token signature could not be verified"
+                    : "A paseto cipher error occurred: An unspecified cipher error occurred");
+    drop(g->token);
+    g->token = token;
+    struct slice footer = g->footer, assertion = g->assertion;
+    g->footer = none;
+    want_parsed(kind, g, PASETO_FOOTER_INVALID, "", "A paseto cipher error occurred: The provided footer is invalid");
+    g->footer = footer;
+    if (kind->has_assertion) {
+        g->assertion = none;
+        WANT(kind->of_tampering, "", kind->parse, g);
+        g->assertion = assertion;
+    }
+    if (kind->parse != v1_public_parse) {
+        struct slice key = g->key;
+        g->key = slice_of(key.at, key.length - 1);
+        want_parsed(kind, g, PASETO_INVALID_KEY, "", NULL);
+        drop(g->key);
+        g->key = key;
+    }
+}
+
+/* What options ask for, and how a line is cut. */
+static void ask_options(const struct kind *kind, struct given *g) {
+    g->now = NOW;
+    g->options.leeway = 1;
+    WANT(PASETO_OK, DATED, kind->parse_with, g);
+    g->now = NOW + 3600;
+    WANT(PASETO_OK, DATED, kind->parse_with, g);
+    g->now = NOW + 3601;
+    WANT(PASETO_EXPIRED, "", kind->parse_with, g);
+    g->options.leeway = 0;
+    g->now = NOW + 1;
+    g->options.longest = g->token.length;
+    WANT(PASETO_OK, DATED, kind->parse_with, g);
+    g->options.longest = g->token.length - 1;
+    WANT(PASETO_TOO_LONG, "", kind->parse_with, g);
+    CHECK(is_told("A paseto cipher error occurred: The token or its footer is longer than allowed"));
+    g->options.longest = 0;
+    static const struct {
+        const char *names;
+        paseto_status wanted;
+    } cases[] = {
+        {"[]", PASETO_OK}, {"[\"aud\",\"exp\"]", PASETO_OK},   {"[\"exp\",\"jti\"]", PASETO_MISSING}, {"{}", PASETO_NOT_NAMES},
+        {"[", PASETO_NOT_NAMES}, {"[\"exp\",1]", PASETO_NOT_NAMES}, {"\xff", PASETO_NOT_UTF8},
+    };
+    for (size_t i = 0; i < sizeof cases / sizeof cases[0]; i++) {
+        struct slice names = text_of(cases[i].names);
+        g->options.required = names.at;
+        g->options.required_length = names.length;
+        WANT(cases[i].wanted, cases[i].wanted == PASETO_OK ? DATED : "", kind->parse_with, g);
+        if (cases[i].wanted == PASETO_MISSING) CHECK(is_told("The expected claim 'jti' was not found in the payload"));
+        drop(names);
+    }
+    g->options = (struct paseto_options){0, 0, NULL, 0};
+    set_expected(g, "{\"sub\":\"Ada\"}");
+    for (line_room = 0; line_room < 60; line_room++) {
+        size_t written = 7;
+        memset(line, '#', sizeof line);
+        CHECK(kind->parse_with(g, NULL, 0, &written) == PASETO_MISSING && written == 0 && line[line_room] == '#');
+        CHECK(is_told("The expected claim 'sub' was not found in the payload"));
+        if (line_room == 55) CHECK(line[53] == '#');
+    }
+    line_room = sizeof line;
+}
+
+static void ask_kind(const struct kind *kind) {
+    struct slice none = slice_of("", 0), key, read_key;
+    struct given g = {none, none, none, none, none, none, none, NOW, {0, 0, NULL, 0}};
+    paseto_status status;
+    keys_of(kind, &key, &read_key);
+    g.key = key;
+    g.drawn = kind->drawn > 0 ? drawn(kind->drawn) : none;
+    g.claims = text_of(CLAIMS);
+    g.footer = text_of(footers[1]);
+    g.assertion = kind->has_assertion ? text_of("user-7") : none;
+    ASK(status, g.token, kind->build, &g);
+    CHECK(status == PASETO_OK && memcmp(g.token.at, kind->header, strlen(kind->header)) == 0);
+    WANT(PASETO_OK, footers[1], paseto_footer, GIVEN(g.token));
+    g.key = read_key;
+    g.now = NOW + 1;
+    set_expected(&g, "{\"aud\":\"customers\",\"seats\":4}");
+    want_parsed(kind, &g, PASETO_OK, DATED, NULL);
+    ask_faults(kind, &g);
+    ask_options(kind, &g);
+    g.key = key;
+    g.now = INT64_MAX;
+    WANT(PASETO_INVALID_MOMENT, "", kind->build, &g);
+    g.now = NOW;
+    drop(g.claims);
+    g.claims = text_of("[1]");
+    WANT(PASETO_NOT_OBJECT, "", kind->build, &g);
+    drop(g.claims);
+    g.claims = text_of("{\"seats\":1.5}");
+    WANT(PASETO_UNEXPECTED, "", kind->build, &g);
+    if (kind->drawn > 0) {
+        g.drawn.length--;
+        WANT(PASETO_INVALID_NONCE, "", kind->build, &g);
+    }
+    drop(g.claims);
+    g.claims = text_of(CLAIMS);
+    g.drawn.length = kind->drawn;
+    g.key.length--;
+    WANT(kind->build == v1_public_build ? PASETO_KEY_REJECTED : PASETO_INVALID_KEY, "", kind->build, &g);
+    drop(key);
+    drop(read_key);
+    drop(g.drawn);
+    drop(g.claims);
+    drop(g.token);
+    drop(g.expected);
+    drop(g.footer);
+    drop(g.assertion);
+}
+
+static void ask_kinds(void) {
+    for (size_t i = 0; i < sizeof kinds / sizeof kinds[0]; i++) ask_kind(&kinds[i]);
+}
+
+/* Public tokens of version 1, and one that OpenSSL signed. */
+static void ask_rsa(void) {
+    struct slice private = bytes_of(RSA_PRIVATE), public = bytes_of(RSA_PUBLIC), salt = drawn(48), none = slice_of("", 0);
+    struct slice text = text_of("signed"), token, other, footer = text_of("a footer"), signed_token = text_of(RSA_TOKEN);
+    paseto_status status;
+    ASK(status, token, paseto_v1_public_sign, GIVEN(private), GIVEN(salt), GIVEN(text), GIVEN(none));
+    CHECK(status == PASETO_OK);
+    ASK(status, other, paseto_v1_public_sign, GIVEN(private), GIVEN(salt), GIVEN(text), GIVEN(none));
+    CHECK(status == PASETO_OK && other.length == token.length && memcmp(other.at, token.at, token.length) == 0);
+    drop(other);
+    salt.at[0] ^= 1;
+    ASK(status, other, paseto_v1_public_sign, GIVEN(private), GIVEN(salt), GIVEN(text), GIVEN(none));
+    CHECK(status == PASETO_OK && other.length == token.length && memcmp(other.at, token.at, token.length) != 0);
+    WANT(PASETO_OK, "signed", paseto_v1_public_verify, GIVEN(public), GIVEN(token), GIVEN(none));
+    WANT(PASETO_OK, "signed", paseto_v1_public_verify, GIVEN(public), GIVEN(other), GIVEN(none));
+    WANT(PASETO_OK, "{\"data\":\"this is a signed message\"}", paseto_v1_public_verify, GIVEN(public), GIVEN(signed_token), GIVEN(footer));
+    WANT(PASETO_FOOTER_INVALID, "", paseto_v1_public_verify, GIVEN(public), GIVEN(signed_token), GIVEN(none));
+    WANT(PASETO_INVALID_SIGNATURE, "", paseto_v1_public_verify, GIVEN(private), GIVEN(token), GIVEN(none));
+    WANT(PASETO_WRONG_HEADER, "", paseto_v2_public_verify, salt.at, 32, GIVEN(token), GIVEN(none));
+    WANT(PASETO_KEY_REJECTED, "", paseto_v1_public_sign, GIVEN(public), GIVEN(salt), GIVEN(text), GIVEN(none));
+    WANT(PASETO_INVALID_NONCE, "", paseto_v1_public_sign, GIVEN(private), GIVEN(none), GIVEN(text), GIVEN(none));
+    private.at[private.length - 1] ^= 1;
+    WANT(PASETO_RSA_CIPHER, "", paseto_v1_public_sign, GIVEN(private), GIVEN(salt), GIVEN(text), GIVEN(none));
+    drop(private);
+    drop(public);
+    drop(salt);
+    drop(text);
+    drop(token);
+    drop(other);
+    drop(footer);
+    drop(signed_token);
+}
+
 /* ---- texts of more than a megabyte, which no call refuses for their length */
 
 enum { LONG = 1100000 };
@@ -407,6 +708,8 @@ int main(void) {
     ask_v3_and_v4();
     ask_public();
     ask_claims();
+    ask_kinds();
+    ask_rsa();
     ask_long();
     ask_texts();
     ask_random();

@@ -1,27 +1,27 @@
 -- What is built of claims, and why nothing is.
-use Rattle.std.proofs.Common.{◌≡◌, ◌∙◌, ◌⊎◌, inl, inr, ℕ, ℤ, List, Option, Some, None, is_some, Result, Ok, Err, IfOk, IfErr, String, Global, string_bytes, length, refl, sym, ap, ap₂, subst}
+use Rattle.std.proofs.Common.{◌≡◌, ◌∙◌, ◌⊎◌, inl, inr, ℕ, ℤ, Bool, List, Option, Some, None, is_some, Result, Ok, Err, String, Global, refl, sym, ap₂, subst}
+use Rattle.std.specs.Bool.{⊤}
 use Rattle.std.proofs.lemmas.Bool.{false≢true}
 use Rattle.serde_json.specs.Data.{Members, object}
 use Rattle.serde_json.specs.Read.{read}
 use Rattle.rusty_paseto_parts.specs.declared.texts.footer.Footer.{Footer}
 use Rattle.rusty_paseto_parts.specs.declared.texts.implicit_assertion.ImplicitAssertion.{ImplicitAssertion}
-use Rattle.rusty_paseto_core.specs.Context.{assertion_of, binding_of, footer_of}
-use Rattle.rusty_paseto_core.specs.Local.Sealing.{sealing}
-use Rattle.rusty_paseto_core.specs.Local.V4.{v4}
-use Rattle.rusty_paseto_core.specs.Public.{message, v4_public}
-use Rattle.rusty_paseto_core.specs.Public.Signing.{IsSigning}
-use Rattle.paseto_ed25519.specs.Ed25519.{Ed25519Verifies, IsDeclined as IsDeclinedKey, partner}
-use Rattle.paseto_c.specs.Public.{IsDeclined}
+use Rattle.rusty_paseto_core.specs.Context.{assertion_of, footer_of}
+use Rattle.rusty_paseto_parts.specs.declared.error.PasetoError.{PasetoError}
+use Rattle.rusty_paseto_parts.specs.declared.error.PasetoError.TheVariants as Token
+use Rattle.paseto_c.specs.Boxed.{sealing_of}
+use Rattle.paseto_c.specs.Public.{IsDeclinedBy}
+use Rattle.paseto_c.specs.Refusal.{builder_refusal}
+use Rattle.rusty_paseto_generic.specs.declared.error.GenericBuilderError.{GenericBuilderError}
 use Rattle.rusty_paseto_generic.specs.Builders.Claims.{Outcome, becomes, payload, refused as refused_for}
 use Rattle.rusty_paseto.specs.PasetoBuilder.{Counting}
 use Rattle.rusty_paseto.proofs.DefaultClaims.{same_default}
-use Rattle.paseto_c.specs.Arguments.{AreTaken, Call, IsMade, IsMadeWhole, Makes, Refuses, bad_key, bad_nonce, binding, has_bytes, no_memory, not_utf8, refused}
-use Rattle.paseto_c.specs.Build.{IsBeginningFault, IsBegun, IsBuilt, IsBuildingFault, IsRepeat, SignsBuilt, building_local, building_public, no_claim, no_moment, no_object, not_begun, not_set, twice}
+use Rattle.paseto_c.specs.Arguments.{AreTaken, Call, IsMade, IsMadeWhole, Makes, Refuses, bad_key, bad_nonce, has_bytes, no_memory, not_utf8, refused}
+use Rattle.paseto_c.specs.Build.{IsBeginningFault, IsBegun, IsBuilt, IsBuildingFault, IsRepeat, building, no_claim, no_moment, no_object, not_begun, not_set, twice}
 use Rattle.paseto_c.specs.Claims.{IsNoObject, all_set}
 use Rattle.paseto_c.specs.declared.refusal.Refusal.{Refusal}
 use Rattle.paseto_c.specs.declared.refusal.Refusal.TheVariants.{Memory, NotObject, DuplicateTopLevelPayloadClaim}
-use Rattle.paseto_c.proofs.ClaimLemmas.{all_set-fault}
-use Rattle.paseto_c.proofs.Exits.{ed25519_apart}
+use Rattle.paseto_c.proofs.ClaimLemmas.{IsBuildRefusal, IsOfCipher, all_set-fault, make_refuses}
 
 -- the object that a text is is one
 same_members : (text : List ℕ) (one other : Members) → read text ≡ Some (object one) → read text ≡ Some (object other) → one ≡ other
@@ -56,11 +56,6 @@ whole_made : (call : Call) (result : Result (String Global) Refusal)
 whole_made call (Ok token) apart made = λ text makes. tt
 whole_made call (Err refusal) apart made = λ text makes. whole_refusal call refusal text (λ other. apart other text) made makes
 
-pub built_whole : (key seed claims : List ℕ) (now : ℤ) (footer assertion : List ℕ) (result : Result (String Global) Refusal)
-    → IsMade (building_local key seed claims now footer assertion) result → IsMadeWhole (building_local key seed claims now footer assertion) result
-built_whole key seed claims now footer assertion result =
-    whole_made (building_local key seed claims now footer assertion) result (λ refusal text. built_apart claims now _ refusal)
-
 -- claims that are built make one text
 same_next : (outcome : Outcome) (one two : Members) → outcome ≡ becomes one → outcome ≡ becomes two → one ≡ two
 same_next outcome one two a b = let same : becomes one ≡ becomes two = sym a ∙ b in cc
@@ -76,13 +71,36 @@ built_same text now One Two apart a b =
     let claims = same_next _ a.claims b.claims (sym set ∙ first.are_set) second.are_set in
     apart (payload b.claims) (subst (λ (c : Members). One (payload c)) claims a.makes) b.makes
 
--- nothing is refused where what is built is signed
-pub signs_apart : (private claims : List ℕ) (now : ℤ) (footer assertion : List ℕ) → length private ≡ 64
-    → SignsBuilt private claims now footer assertion → (refusal : Refusal)
-    → (building_public private claims now footer assertion).Refuses refusal → ⊥
-signs_apart private claims now footer assertion size signs refusal (inl fault) = built_apart claims now _ refusal fault signs
-signs_apart private claims now footer assertion size signs refusal (inr declined) =
-    built_same claims now _ _ (λ text signed. ed25519_apart private _ refusal size signed) signs declined
+-- nothing is refused where the claims are built and what they make is not declined
+pub fine_apart : (Declines : List ℕ → PasetoError → Type 0) (text : List ℕ) (now : ℤ) (Fine : List ℕ → Type 0)
+    → ((made : List ℕ) (refusal : Refusal) → Fine made → IsDeclinedBy (Declines made) refusal → ⊥) → IsBuilt text now Fine
+    → (refusal : Refusal) → IsBuildingFault text now refusal ⊎ IsBuilt text now (λ made. IsDeclinedBy (Declines made) refusal) → ⊥
+fine_apart Declines text now Fine apart fine refusal (inl fault) = built_apart text now _ refusal fault fine
+fine_apart Declines text now Fine apart fine refusal (inr declined) = built_same text now _ _ (λ made. apart made refusal) fine declined
+
+module _ (HasKey HasNonce : Type 0) (Seals : List ℕ → List ℕ → Type 0) (Declines : List ℕ → PasetoError → Type 0) (text : List ℕ) (now : ℤ)
+    (footer assertion : List ℕ) where
+  abbrev the_call : Call
+  the_call = building HasKey HasNonce Seals Declines text now footer assertion
+
+  -- where claims make a token of which none is declined, nothing but memory is refused
+  pub built_whole : ((made token : List ℕ) (refusal : Refusal) → Seals made token → IsDeclinedBy (Declines made) refusal → ⊥)
+      → (result : Result (String Global) Refusal) → IsMade the_call result → IsMadeWhole the_call result
+  built_whole apart result = whole_made the_call result
+      (λ refusal token fault built. fine_apart Declines text now (λ made. Seals made token) (λ made other. apart made token other) built refusal fault)
+
+  -- what is made where the key and the nonce are not looked at is made where they have been
+  lifted_refusal : HasKey → HasNonce → (refusal : Refusal) → Refuses (building ⊤ ⊤ Seals Declines text now footer assertion) refusal → Refuses the_call refusal
+  lifted_refusal key nonce refusal no_memory = no_memory
+  lifted_refusal key nonce refusal (bad_key none) = absurd (none tt)
+  lifted_refusal key nonce refusal (bad_nonce given none) = absurd (none tt)
+  lifted_refusal key nonce refusal (not_utf8 given other none) = not_utf8 key nonce none
+  lifted_refusal key nonce refusal (refused other taken reason) = refused other (record { key = key; nonce = nonce; texts = taken.texts }) reason
+
+  pub lifted : HasKey → HasNonce → (result : Result (String Global) Refusal)
+      → IsMade (building ⊤ ⊤ Seals Declines text now footer assertion) result → IsMade the_call result
+  lifted key nonce (Ok token) made = record { taken = record { key = key; nonce = nonce; texts = made.taken.texts }; makes = made.makes }
+  lifted key nonce (Err refusal) made = lifted_refusal key nonce refusal made
 
 -- ---- the exits of what builds
 
@@ -127,47 +145,37 @@ module _ (call : Call) (taken : AreTaken call) (text : List ℕ) (now : ℤ)
         makes = seals;
       }
 
--- a local token that was sealed of a builder's claims
-pub local_made : (key seed text : List ℕ) (now : ℤ) (footer assertion : List ℕ) (taken_key taken_seed : List ℕ)
-    (f : Option Footer) (a : Option ImplicitAssertion)
-    → taken_key ≡ key → taken_seed ≡ seed → footer_of f ≡ footer → is_some f ≡ has_bytes footer → assertion_of a ≡ assertion
-    → AreTaken (building_local key seed text now footer assertion)
-    → (found : Members) → read text ≡ Some (object found) → (claims : Members) (keys : Counting) → IsBegun found now claims keys
-    → (result : Result (String Global) Refusal)
-    → IfOk result (λ token. (keys.repeated ≡ None)
-    × (string_bytes token ≡ sealing v4 (binding_of taken_key f a) (v4.token_nonce taken_seed (payload claims)) (is_some f) (payload claims)))
-    → IfErr result (IsRepeat keys)
-    → IsMade (building_local key seed text now footer assertion) result
-local_made key seed text now footer assertion taken_key taken_seed f a ke se fe we ae taken found is claims keys begun (Ok token) ok err = record {
-  taken = taken;
-  makes = is_built (building_local key seed text now footer assertion) taken text now (λ refusal fault. fault) found is claims keys begun
-      (λ payload. string_bytes token ≡ sealing v4 (binding key footer assertion) (v4.token_nonce seed payload) (has_bytes footer) payload)
-      ok.0 (rw (ke, se, fe, we, ae) at ok.1);
-}
-local_made key seed text now footer assertion taken_key taken_seed f a ke se fe we ae taken found is claims keys begun (Err refusal) ok err =
-    repeat_refuses (building_local key seed text now footer assertion) taken text now (λ refusal fault. fault) found is claims keys begun refusal err
+-- what is made of a builder's claims
+module _ (Seals : List ℕ → Bool → List ℕ → List ℕ → List ℕ → Type 0) (Declines : List ℕ → Bool → List ℕ → List ℕ → PasetoError → Type 0)
+    (text : List ℕ) (now : ℤ) (footer assertion : List ℕ) (f : Option Footer) (a : Option ImplicitAssertion)
+    (fe : footer_of f ≡ footer) (we : is_some f ≡ has_bytes footer) (ae : assertion_of a ≡ assertion)
+    (taken : AreTaken (building ⊤ ⊤ (Seals footer (has_bytes footer) assertion) (Declines footer (has_bytes footer) assertion) text now footer assertion))
+    (found : Members) (is : read text ≡ Some (object found)) (claims : Members) (keys : Counting) (begun : IsBegun found now claims keys) where
+  abbrev made_call : Call
+  made_call = building ⊤ ⊤ (Seals footer (has_bytes footer) assertion) (Declines footer (has_bytes footer) assertion) text now footer assertion
 
--- a public token that was signed
-pub public_made : (private text : List ℕ) (now : ℤ) (footer assertion : List ℕ) (taken_key : List ℕ)
-    (f : Option Footer) (a : Option ImplicitAssertion)
-    → taken_key ≡ private → footer_of f ≡ footer → is_some f ≡ has_bytes footer → assertion_of a ≡ assertion
-    → AreTaken (building_public private text now footer assertion)
-    → (found : Members) → read text ≡ Some (object found) → (claims : Members) (keys : Counting) → IsBegun found now claims keys
-    → (result : Result (String Global) Refusal)
-    → IfOk result (λ token. (keys.repeated ≡ None)
-    × IsSigning Ed25519Verifies v4_public (binding_of (partner taken_key) f a) (is_some f) (payload claims) (string_bytes token))
-    → IfErr result (λ refusal. IsRepeat keys refusal
-    ⊎ ((keys.repeated ≡ None) × IsDeclined IsDeclinedKey taken_key (message v4_public (binding_of (partner taken_key) f a) (payload claims)) refusal))
-    → IsMade (building_public private text now footer assertion) result
-public_made private text now footer assertion taken_key f a ke fe we ae taken found is claims keys begun (Ok token) ok err = record {
-  taken = taken;
-  makes = is_built (building_public private text now footer assertion) taken text now (λ refusal. inl) found is claims keys begun
-      (λ payload. IsSigning Ed25519Verifies v4_public (binding (partner private) footer assertion) (has_bytes footer) payload (string_bytes token))
-      ok.0 (rw (ke, fe, we, ae) at ok.1);
-}
-public_made private text now footer assertion taken_key f a ke fe we ae taken found is claims keys begun (Err refusal) ok (inl repeat) =
-    repeat_refuses (building_public private text now footer assertion) taken text now (λ other. inl) found is claims keys begun refusal repeat
-public_made private text now footer assertion taken_key f a ke fe we ae taken found is claims keys begun (Err refusal) ok (inr declined) =
-    refused refusal taken (inr (is_built (building_public private text now footer assertion) taken text now (λ other. inl) found is claims keys begun
-    (λ payload. IsDeclined IsDeclinedKey private (message v4_public (binding (partner private) footer assertion) payload) refusal)
-    declined.0 (rw (ke, fe, ae) at declined.1)))
+  pub token_made : (token : List ℕ) → keys.repeated ≡ None → Seals (footer_of f) (is_some f) (assertion_of a) (payload claims) token
+      → Makes made_call token
+  token_made token once seals = record {
+    taken = taken;
+    makes = is_built made_call taken text now (λ refusal. inl) found is claims keys begun
+        (λ made. Seals footer (has_bytes footer) assertion made token) once (rw (fe, we, ae) at seals);
+  }
+
+  made_refused : (refusal : Refusal)
+      → IsRepeat keys refusal ⊎ ((keys.repeated ≡ None) × IsDeclinedBy (Declines (footer_of f) (is_some f) (assertion_of a) (payload claims)) refusal)
+      → Refuses made_call refusal
+  made_refused refusal (inl repeat) = repeat_refuses made_call taken text now (λ other. inl) found is claims keys begun refusal repeat
+  made_refused refusal (inr declined) = refused refusal taken (inr (is_built made_call taken text now (λ other. inl) found is claims keys begun
+      (λ made. IsDeclinedBy (Declines footer (has_bytes footer) assertion made) refusal) declined.0 (rw (fe, we, ae) at declined.1)))
+
+  pub error_refused : (error : GenericBuilderError)
+      → IsBuildRefusal keys (IsOfCipher (Declines (footer_of f) (is_some f) (assertion_of a) (payload claims))) error
+      → Refuses made_call (builder_refusal error)
+  error_refused error why = made_refused (builder_refusal error) (make_refuses keys _ error why)
+
+-- what is boxed is not declined
+pub boxed_apart : (key seed text footer token : List ℕ) (refusal : Refusal) → sealing_of key seed text footer ≡ Some token
+    → IsDeclinedBy (λ error. (error ≡ Token.ChaChaCipherError) × (sealing_of key seed text footer ≡ None)) refusal → ⊥
+boxed_apart key seed text footer token refusal sealed declined =
+    let e : Some token ≡ None = sym sealed ∙ declined.is_error.1 in cc

@@ -13,12 +13,11 @@ use Rattle.rusty_paseto.specs.Moment.{FitsDefault}
 use Rattle.rusty_paseto.specs.PasetoBuilder.{Counting, IsDuplicate, IsSame, counted}
 use Rattle.rusty_paseto_core.specs.declared.PasetoError.{PasetoError}
 use Rattle.rusty_paseto_core.specs.declared.PasetoError.TheVariants as Cipher
-use Rattle.rusty_paseto_generic.specs.Error.{IsMemory, IsOfGenerator, of_cipher}
+use Rattle.rusty_paseto_generic.specs.Error.{IsMemory, of_cipher}
 use Rattle.rusty_paseto_generic.specs.declared.error.GenericBuilderError.{GenericBuilderError}
 use Rattle.rusty_paseto_generic.specs.declared.error.GenericBuilderError.TheVariants as Builder
 use Rattle.paseto_c.specs.Build.{BeginsAt, HasNoMoment, IsBeginningFault, IsClaimFault, IsRepeat, not_begun, not_set}
-use Rattle.rusty_paseto_core.specs.Public.Scheme.{Declining}
-use Rattle.paseto_c.specs.Public.{IsDeclined}
+use Rattle.paseto_c.specs.Public.{IsDeclinedBy}
 use Rattle.paseto_c.specs.Refusal.{builder_refusal, fault_refusal, token_refusal}
 use Rattle.paseto_c.specs.declared.refusal.Refusal.{Refusal}
 use Rattle.paseto_c.specs.declared.refusal.Refusal.TheVariants.{Memory, InvalidMoment, NotObject}
@@ -149,35 +148,15 @@ some_or_none : (found : Option (List ℕ)) → IsSome found ⊎ (found ≡ None)
 some_or_none None = inr refl
 some_or_none (Some key) = inl refl
 
-repeat_refuses : (keys : Counting) (Reason : GenericBuilderError → Type 0) (error : GenericBuilderError)
-    → IsSome keys.repeated ⊎ (keys.repeated ≡ None) → IsBuildRefusal keys Reason error
-    → IsRepeat keys (builder_refusal error) ⊎ Reason error
-repeat_refuses keys Reason error (inl set) why = elim (why.0 set) [
-  | inl memory ↦ inl (memory_repeat keys error memory)
-  | inr duplicate ↦ inl (duplicate_repeat keys error set duplicate)
-]
-repeat_refuses keys Reason error (inr none) why = elim (why.1 none) [
-  | inl memory ↦ inl (memory_repeat keys error memory)
-  | inr reason ↦ inr reason
-]
+-- there is no token for an error of the core
+abbrev pub IsOfCipher : (PasetoError → Type 0) → GenericBuilderError → Type 0
+IsOfCipher Declines error = (refusal : PasetoError) × Declines refusal × (error ≡ of_cipher refusal)
 
--- a builder of local tokens, whose generator does not fail
-pub seal_refuses : (keys : Counting) (Failure : Type 0) (error : GenericBuilderError) → (Failure → ⊥)
-    → IsBuildRefusal keys (IsOfGenerator Failure) error → IsRepeat keys (builder_refusal error)
-seal_refuses keys Failure error never why = elim (repeat_refuses keys (IsOfGenerator Failure) error (some_or_none keys.repeated) why) [
-  | inl repeat ↦ repeat
-  | inr failed ↦ absurd (never failed.1)
-]
-
--- the scheme declines what is signed
-abbrev pub IsDeclinedBy : (PasetoError → Type 0) → GenericBuilderError → Type 0
-IsDeclinedBy declined error = (refusal : PasetoError) × declined refusal × (error ≡ of_cipher refusal)
-
--- a builder of public tokens
-pub sign_refuses : (keys : Counting) (declined : Declining) (private signed : List ℕ) (error : GenericBuilderError)
-    → IsBuildRefusal keys (IsDeclinedBy (declined private signed)) error
-    → IsRepeat keys (builder_refusal error) ⊎ ((keys.repeated ≡ None) × IsDeclined declined private signed (builder_refusal error))
-sign_refuses keys declined private signed error why = elim (some_or_none keys.repeated) [
+-- what a builder refuses is a key that was set again, or else what its maker declines
+pub make_refuses : (keys : Counting) (Declines : PasetoError → Type 0) (error : GenericBuilderError)
+    → IsBuildRefusal keys (IsOfCipher Declines) error
+    → IsRepeat keys (builder_refusal error) ⊎ ((keys.repeated ≡ None) × IsDeclinedBy Declines (builder_refusal error))
+make_refuses keys Declines error why = elim (some_or_none keys.repeated) [
   | inl set ↦ elim (why.0 set) [
     | inl memory ↦ inl (memory_repeat keys error memory)
     | inr duplicate ↦ inl (duplicate_repeat keys error set duplicate)

@@ -16,7 +16,8 @@ use Rattle.paseto_ed25519.specs.Ed25519 as ed25519
 use Rattle.paseto_p384.specs.P384 as p384
 use Rattle.paseto_c.specs.Boxed.{boxing, sealing_of}
 use Rattle.paseto_c.specs.Footer.{footer_reading}
-use Rattle.paseto_c.specs.Public.{IsDeclined, IsPointKey, signing}
+use Rattle.paseto_c.specs.Salted.{AlwaysSigns, IsUnsigned}
+use Rattle.paseto_c.specs.Public.{IsDeclined, IsPointKey, signing_with}
 use Rattle.paseto_c.specs.Refusal.{token_refusal}
 use Rattle.paseto_c.specs.declared.refusal.Refusal.{Refusal}
 use Rattle.paseto_c.specs.declared.refusal.Refusal.TheVariants.{Memory, InvalidKey, InvalidNonce, NotUtf8, ChaChaCipherError}
@@ -60,13 +61,13 @@ fault_refuses HasKey reading token footer assertion error taken (inr fault) =
     refused (token_refusal error) taken (record { error = error; is_fault = fault; is_refusal = refl })
 
 -- a text that is not signed is refused by what the scheme declines it with
-pub declined_refuses : (HasKey : Type 0) (valid : Validity) (declined : Declining) (partner : List ℕ → List ℕ) (design : PublicDesign)
+pub declined_refuses : (HasKey HasNonce : Type 0) (valid : Validity) (declined : Declining) (partner : List ℕ → List ℕ) (design : PublicDesign)
     (private text footer assertion : List ℕ) (error : PasetoError)
-    → AreTaken (signing HasKey valid declined partner design private text footer assertion)
+    → AreTaken (signing_with HasKey HasNonce valid declined partner design private text footer assertion)
     → IsMemory error ⊎ declined private (message design (binding (partner private) footer assertion) text) error
-    → Refuses (signing HasKey valid declined partner design private text footer assertion) (token_refusal error)
-declined_refuses HasKey valid declined partner design private text footer assertion error taken (inl memory) = memory_refuses _ error memory
-declined_refuses HasKey valid declined partner design private text footer assertion error taken (inr fault) =
+    → Refuses (signing_with HasKey HasNonce valid declined partner design private text footer assertion) (token_refusal error)
+declined_refuses HasKey HasNonce valid declined partner design private text footer assertion error taken (inl memory) = memory_refuses _ error memory
+declined_refuses HasKey HasNonce valid declined partner design private text footer assertion error taken (inr fault) =
     refused (token_refusal error) taken (record { error = error; is_error = fault; is_refusal = refl })
 
 -- what is signed is not declined
@@ -82,6 +83,12 @@ pub p384_apart : (private signed : List ℕ) (refusal : Refusal) → p384.IsPriv
 p384_apart private signed refusal signs declined = elim declined.is_error [
   | inl other ↦ other.0 signs.0
   | inr none ↦ signs.1 none.2
+]
+
+pub rsa_apart : (private signed : List ℕ) (refusal : Refusal) → AlwaysSigns private signed → IsDeclined IsUnsigned private signed refusal → ⊥
+rsa_apart private signed refusal signs declined = elim declined.is_error [
+  | inl other ↦ other.0 signs.is_private
+  | inr none ↦ signs.signs none.2.0 none.2.1 none.2.2
 ]
 
 -- a text that is not boxed is refused where the box has no sealing of it

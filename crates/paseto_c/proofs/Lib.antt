@@ -3,4 +3,5 @@ pub mod Exits
 pub mod ClaimLemmas
 pub mod BuildLemmas
 pub mod ParseLemmas
+pub mod Told
 pub mod ParseExits

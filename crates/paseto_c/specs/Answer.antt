@@ -1,7 +1,8 @@
 -- How C is answered: by a status, a text in the room that it lends, and a number.
-use Rattle.std.specs.Prelude.{◌≡◌, ◌≤◌, ◌<◌, ◌++◌, ◌⊎◌, ℕ, List, Result, String, MatchResult, length, drop, string_bytes}
+use Rattle.std.specs.Prelude.{◌≡◌, ◌≤◌, ◌<◌, ◌++◌, ◌⊎◌, ℕ, List, Result, String, MatchResult, length, drop, take, string_bytes}
 use Rattle.std.specs.Global.{Global}
-use Rattle.paseto_c.specs.Arguments.{AreTaken, Call, Makes, Refuses}
+use Rattle.paseto_c.specs.Arguments.{AreTaken, Call, Makes, Refuses, Telling}
+use Rattle.paseto_c.specs.ErrorText.{status_text}
 use Rattle.paseto_c.specs.Refusal.{status_of}
 use Rattle.paseto_c.specs.declared.refusal.Refusal.{Refusal}
 
@@ -34,6 +35,25 @@ pub data IsAnswered (call : Call) (before after : List ℕ) (written status : �
   gives : (text : List ℕ) → Makes call text → IsGiven text before after written status → IsAnswered call before after written status
   refuses : (refusal : Refusal) → Refuses call refusal → IsRefused refusal before after written status
       → IsAnswered call before after written status
+
+-- a line that tells a refusal stands in its room, cut to the length of that, which is beyond it as it was; `told` is the
+-- length of the whole line
+pub record IsCut (line before after : List ℕ) (told : ℕ) : Type 0 where
+  pub room : ((length line ≤ length before) × (after ≡ line ++ drop (length line) before))
+      ⊎ ((length before < length line) × (after ≡ take (length before) line))
+  pub size : told ≡ length line
+
+-- what C sees of a call that tells why it makes no text: no line where it makes one, what the status says where an argument
+-- or memory is refused, and else the line of what is found
+pub data IsAnsweredTelling (telling : Telling) (before after : List ℕ) (written status : ℕ) (line_before line_after : List ℕ) (told : ℕ) : Type 0 where
+  gives_untold : (text : List ℕ) → Makes telling.call text → IsGiven text before after written status → line_after ≡ line_before → told ≡ 0
+      → IsAnsweredTelling telling before after written status line_before line_after told
+  refuses_by_status : (refusal : Refusal) → Refuses telling.call refusal → IsRefused refusal before after written status
+      → IsCut (status_text status) line_before line_after told
+      → IsAnsweredTelling telling before after written status line_before line_after told
+  tells : (refusal : Refusal) (line : List ℕ) → AreTaken telling.call → telling.Tells refusal line
+      → IsRefused refusal before after written status → IsCut line line_before line_after told
+      → IsAnsweredTelling telling before after written status line_before line_after told
 
 -- C gets a text, or learns that the room is too short or memory was refused
 abbrev pub IsNotRefused : ℕ → Type 0

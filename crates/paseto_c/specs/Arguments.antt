@@ -1,5 +1,5 @@
 -- What a call for C asks of its arguments, and what it makes of them.
-use Rattle.std.specs.Prelude.{◌≡◌, ⊤, ℕ, Bool, true, false, List, [], ◌∷◌, IsUtf8, Result, MatchResult, IfErr, String, string_bytes}
+use Rattle.std.specs.Prelude.{◌≡◌, ◌⊎◌, ⊤, ℕ, Bool, true, false, List, [], ◌∷◌, IsUtf8, Result, MatchResult, IfErr, String, string_bytes}
 use Rattle.std.specs.Global.{Global}
 use Rattle.rusty_paseto_core.specs.Context.{Binding}
 use Rattle.paseto_c.specs.declared.refusal.Refusal.{Refusal}
@@ -47,6 +47,18 @@ pub data Refuses (call : Call) : Refusal → Type 0 where
   bad_nonce : call.HasKey → ¬ call.HasNonce → Refuses call InvalidNonce
   not_utf8 : call.HasKey → call.HasNonce → ¬ AreUtf8 call.texts → Refuses call NotUtf8
   refused : (refusal : Refusal) → AreTaken call → call.Refuses refusal → Refuses call refusal
+
+-- a call that also tells why it makes no text: by which refusals, and with which line, for what is found once the arguments
+-- are what is asked and not refused
+pub record Telling : Type 1 where
+  pub call : Call
+  pub Tells : Refusal → List ℕ → Type 0
+
+-- the same call, where the line is not asked for
+abbrev pub untold : Telling → Call
+untold telling = record telling.call {
+  Refuses = λ refusal. telling.call.Refuses refusal ⊎ ((line : List ℕ) × telling.Tells refusal line);
+}
 
 -- ---- for private clauses
 

@@ -2,7 +2,7 @@
 use Rattle.std.specs.Prelude.{◌≡◌, ◌≢◌, ℕ, List, codes, nat_lt, ◌==◌, if◌then◌else◌}
 use Rattle.rusty_paseto_parts.specs.Error.{error_text}
 use Rattle.rusty_paseto_parts.specs.declared.error.PasetoError.{PasetoError}
-use Rattle.rusty_paseto_parts.specs.declared.error.PasetoError.TheVariants.{Cryption, InvalidKey, Signature, KeyRejected, InvalidSignature, IncorrectSize, WrongHeader, FooterInvalid, ChaChaCipherError, FromUtf8Error}
+use Rattle.rusty_paseto_parts.specs.declared.error.PasetoError.TheVariants.{Cryption, InvalidKey, Signature, KeyRejected, InvalidSignature, IncorrectSize, WrongHeader, FooterInvalid, ChaChaCipherError, FromUtf8Error, RsaCipher, TooLong}
 use Rattle.paseto_c.specs.Refusal.{status_of, token_refusal}
 use Rattle.paseto_c.specs.declared.refusal.Refusal.TheVariants.{Other}
 
@@ -46,12 +46,21 @@ claim_text status =
     if status == 26 then codes "A claim appears more than once in the top level payload json" else
     codes "An unknown error occurred"
 
+-- of a status that came later than these
+abbrev pub later_text : ℕ → List ℕ
+later_text status =
+    if status == 28 then error_text RsaCipher else
+    if status == 29 then error_text TooLong else
+    if status == 30 then codes "The names of claims are not a JSON array of texts" else
+    codes "An unknown error occurred"
+
 -- of any status
 abbrev pub status_text : ℕ → List ℕ
 status_text status =
     if nat_lt status 8 then argument_text status else
     if nat_lt status 19 then token_text status else
-    claim_text status
+    if nat_lt status 28 then claim_text status else
+    later_text status
 
 -- each error of the core that has a status of its own is said by that status
 abbrev pub SayTheErrors : Type 0

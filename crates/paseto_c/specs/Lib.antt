@@ -3,6 +3,7 @@ pub mod Arguments
 pub mod Answer
 pub mod Local
 pub mod Boxed
+pub mod Salted
 pub mod Public
 pub mod Footer
 pub mod KeyPair
@@ -10,3 +11,5 @@ pub mod Claims
 pub mod Build
 pub mod Parse
 pub mod ErrorText
+pub mod Options
+pub mod Fault

@@ -10,7 +10,7 @@ use Rattle.rusty_paseto_generic.specs.declared.error.GenericBuilderError.TheVari
 use Rattle.rusty_paseto_generic.specs.declared.error.GenericParserError.{GenericParserError}
 use Rattle.rusty_paseto_generic.specs.declared.error.GenericParserError.TheVariants as Parser
 use Rattle.paseto_c.specs.declared.refusal.Refusal.{Refusal}
-use Rattle.paseto_c.specs.declared.refusal.Refusal.TheVariants.{Memory, InvalidKey, InvalidNonce, NotUtf8, NotObject, InvalidMoment, IncorrectSize, FooterInvalid, WrongHeader, PayloadBase64Decode, Cryption, ChaChaCipherError, InvalidSignature, Utf8Error, FromUtf8Error, KeyRejected, Signature, PayloadJsonError, Expired, UseBeforeAvailable, Rfc3339Date, Missing, Unexpected, Invalid, DuplicateTopLevelPayloadClaim, Other}
+use Rattle.paseto_c.specs.declared.refusal.Refusal.TheVariants.{Memory, InvalidKey, InvalidNonce, NotUtf8, NotObject, InvalidMoment, IncorrectSize, FooterInvalid, WrongHeader, PayloadBase64Decode, Cryption, ChaChaCipherError, InvalidSignature, Utf8Error, FromUtf8Error, KeyRejected, Signature, PayloadJsonError, Expired, UseBeforeAvailable, Rfc3339Date, Missing, Unexpected, Invalid, DuplicateTopLevelPayloadClaim, Other, RsaCipher, TooLong, NotNames}
 
 -- the status of each, as in paseto.h; 0 is that of a text, and 1 that of room too short for it
 abbrev pub status_of : Refusal → ℕ
@@ -40,6 +40,9 @@ status_of Unexpected = 24
 status_of Invalid = 25
 status_of DuplicateTopLevelPayloadClaim = 26
 status_of Other = 27
+status_of RsaCipher = 28
+status_of TooLong = 29
+status_of NotNames = 30
 
 -- the refusal for an error of the core
 abbrev pub token_refusal : PasetoError → Refusal
@@ -56,6 +59,8 @@ token_refusal (Token.Utf8Error _) = Utf8Error
 token_refusal Token.FromUtf8Error = FromUtf8Error
 token_refusal Token.KeyRejected = KeyRejected
 token_refusal Token.Signature = Signature
+token_refusal Token.RsaCipher = RsaCipher
+token_refusal Token.TooLong = TooLong
 token_refusal _ = Other
 
 -- the refusal for a fault of claims

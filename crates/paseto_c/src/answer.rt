@@ -1,9 +1,15 @@
 //! How an answer is handed over to C.
 
 ghost use Rattle.std.specs.Prelude.{◌≡◌, ◌≤◌, ◌++◌, drop, length};
-ghost use Rattle.paseto_c.specs.Answer.{IsGiven, IsHanded};
+ghost use Rattle.paseto_c.specs.Answer.{IsCut, IsGiven, IsHanded};
+ghost use Rattle.paseto_c.specs.ErrorText.{status_text};
+ghost use Rattle.paseto_c.specs.Fault.{IsHandedTelling, IsTold};
+ghost use Rattle.paseto_c.specs.Refusal.{status_of};
 
+use crate::error_text::text_of;
+use crate::fault::{Fault, line_of};
 use crate::refusal::Refusal;
+use std::alloc::Global;
 
 /// The status of a text that stands in the room.
 pub(crate) const OK: u8 = 0;
@@ -22,6 +28,69 @@ pub(crate) fn hand_over(made: Result<String, Refusal>, room: &mut [u8], written:
             refusal.status()
         }
     }
+}
+
+/// Hands over what was made, as `hand_over` does, and tells a fault by a line in a room of its own.
+pub(crate) fn hand_over_telling(
+    alloc: Global,
+    made: Result<String, Fault>,
+    room: &mut [u8],
+    written: &mut usize,
+    line: &mut [u8],
+    told: &mut usize,
+) -> u8
+    ensures { IsHandedTelling made room.old room.new written.new result
+        line.old line.new told.new }
+{
+    match made {
+        Ok(text) => {
+            *told = 0;
+            give(text.as_bytes(), room, written)
+        }
+        Err(fault) => {
+            *written = 0;
+            tell(alloc, &fault, line, told)
+        }
+    }
+}
+
+/// Writes the line of a fault into its room, and returns the status of the fault.
+fn tell(alloc: Global, fault: &Fault, room: &mut [u8], told: &mut usize) -> u8
+    ensures { IsTold fault.now result room.old room.new told.new }
+{
+    match fault {
+        Fault::Refused(refusal) => tell_status(*refusal, room, told),
+        Fault::Unparsed(error) => match line_of(alloc, error) {
+            Ok(line) => {
+                cut(line.as_bytes(), room, told);
+                fault.refusal().status()
+            }
+            Err(refused) => tell_status(Refusal::from(refused), room, told),
+        },
+    }
+}
+
+/// Writes what the status of a refusal says into a room, and returns the status.
+fn tell_status(refusal: Refusal, room: &mut [u8], told: &mut usize) -> u8
+    ensures status { result ≡ status_of refusal }
+    ensures line { IsCut (status_text (status_of refusal)) room.old room.new told.new }
+{
+    let status = refusal.status();
+    cut(text_of(status).as_bytes(), room, told);
+    status
+}
+
+/// Writes a line at the front of a room, or as much of it as there is room for.
+fn cut(line: &[u8], room: &mut [u8], told: &mut usize)
+    ensures { IsCut line.now room.old room.new told.new }
+{
+    *told = line.len();
+    let length = room.len();
+    if length < line.len() {
+        room.copy_from_slice(&line[..length]);
+        return;
+    }
+    lay(line, room);
 }
 
 /// Writes a text into the room, where it has the length.

@@ -2,7 +2,7 @@
 
 ghost use Rattle.std.specs.Prelude.{◌≡◌};
 ghost use Rattle.paseto_c.specs.Answer.{IsGiven};
-ghost use Rattle.paseto_c.specs.ErrorText.{argument_text, claim_text, status_text, token_text};
+ghost use Rattle.paseto_c.specs.ErrorText.{argument_text, claim_text, later_text, status_text, token_text};
 
 use crate::answer::give;
 
@@ -16,7 +16,7 @@ pub extern "C" fn paseto_error_text(status: u8, room: &mut [u8], written: &mut u
 }
 
 /// The text of a status.
-fn text_of(status: u8) -> &'static str
+pub(crate) fn text_of(status: u8) -> &'static str
     ensures { result.now ≡ status_text status }
 {
     if status < 8 {
@@ -25,7 +25,10 @@ fn text_of(status: u8) -> &'static str
     if status < 19 {
         return token_text(status);
     }
-    claim_text(status)
+    if status < 28 {
+        return claim_text(status);
+    }
+    later_text(status)
 }
 
 /// The text of a status that says nothing of a token.
@@ -75,6 +78,18 @@ fn claim_text(status: u8) -> &'static str
         24 => "Could not convert a claim to the expected data type",
         25 => "A claim failed validation",
         26 => "A claim appears more than once in the top level payload json",
+        _ => "An unknown error occurred",
+    }
+}
+
+/// The text of a status that came later than these.
+fn later_text(status: u8) -> &'static str
+    ensures { result.now ≡ later_text status }
+{
+    match status {
+        28 => "An unspecified cipher error occurred",
+        29 => "The token or its footer is longer than allowed",
+        30 => "The names of claims are not a JSON array of texts",
         _ => "An unknown error occurred",
     }
 }

@@ -1,21 +1,67 @@
-//! Public tokens of the versions 2 and 4, by Ed25519, and of version 3, by P-384.
+//! Public tokens of version 1, by RSA, of the versions 2 and 4, by Ed25519, and of version 3, by P-384.
 
 ghost use Rattle.std.specs.Prelude.{◌≡◌, [], Some, false, length};
 ghost use Rattle.rusty_paseto_core.specs.Public.{v2_public, v4_public};
 ghost use Rattle.paseto_c.specs.Answer.{IsAnswered, IsComplete, IsCompleteWhere};
 ghost use Rattle.paseto_c.specs.Arguments.{IsMade, IsMadeWhole};
-ghost use Rattle.paseto_c.specs.Public.{Ed25519Signs, P384Signs, ed25519_signing, ed25519_verifying, p384_signing, p384_verifying, signing, verifying};
+ghost use Rattle.paseto_c.specs.Public.{Ed25519Signs, P384Signs, RsaSigns, ed25519_signing, ed25519_verifying, p384_signing, p384_verifying, rsa_signing, rsa_verifying, signing, verifying};
 
 use crate::answer::hand_over;
-use crate::arguments::{Texts, key_of};
+use crate::arguments::{Texts, key_of, nonce_of};
 use crate::refusal::Refusal;
+use crate::salted::Salted;
 use paseto_ed25519::Ed25519;
 use paseto_p384::P384;
 use rusty_paseto_core::{
-    PasetoAsymmetricPrivateKey, PasetoAsymmetricPublicKey, Payload, Public, Signs, V2, V2orV4, V3,
-    V4, Verifies,
+    PasetoAsymmetricPrivateKey, PasetoAsymmetricPublicKey, Payload, Public, Signs, V1, V2, V2orV4,
+    V3, V4, Verifies,
 };
 use std::alloc::Global;
+
+/// Signs a text in version 1 under a private key, which is a PrivateKeyInfo in DER of a key of 2048 bits, with a salt of 48
+/// bytes.
+///
+/// Source: PASETO specification, "Version 1", "Sign".
+#[unsafe(no_mangle)]
+pub extern "C" fn paseto_v1_public_sign(
+    alloc: Global,
+    private: &[u8],
+    salt: &[u8],
+    text: &[u8],
+    footer: &[u8],
+    room: &mut [u8],
+    written: &mut usize,
+) -> u8
+    ensures answer { IsAnswered (rsa_signing private.now salt.now text.now footer.now)
+        room.old room.new written.new result }
+    ensures complete { IsCompleteWhere (RsaSigns private.now text.now footer.now)
+        (rsa_signing private.now salt.now text.now footer.now) result }
+{
+    hand_over(
+        rsa_signed(alloc, private, salt, text, footer),
+        room,
+        written,
+    )
+}
+
+/// Verifies a token of version 1 under a public key, which is an RSAPublicKey in DER of a key of 2048 bits.
+///
+/// Source: PASETO specification, "Version 1", "Verify".
+#[unsafe(no_mangle)]
+pub extern "C" fn paseto_v1_public_verify(
+    alloc: Global,
+    public: &[u8],
+    token: &[u8],
+    footer: &[u8],
+    room: &mut [u8],
+    written: &mut usize,
+) -> u8
+    ensures answer { IsAnswered (rsa_verifying public.now token.now footer.now)
+        room.old room.new written.new result }
+    ensures complete { IsComplete (rsa_verifying public.now token.now footer.now) result }
+{
+    hand_over(rsa_verified(alloc, public, token, footer), room, written)
+}
 
 /// Signs a text in version 2 under a private key of 64 bytes.
 ///
@@ -166,6 +212,59 @@ pub extern "C" fn paseto_v4_public_verify(
         room,
         written,
     )
+}
+
+/// The token of a text, signed by RSA.
+fn rsa_signed(
+    alloc: Global,
+    private: &[u8],
+    salt: &[u8],
+    text: &[u8],
+    footer: &[u8],
+) -> Result<String, Refusal>
+    ensures { IsMade (rsa_signing private.now salt.now text.now footer.now) result }
+{
+    let salt = nonce_of::<48>(salt)?;
+    let key = PasetoAsymmetricPrivateKey::<V1, Public>::from(private);
+    let texts = Texts::take(text, footer, &[])?;
+    let payload = Payload::from(texts.text);
+    let mut scheme = Salted::new(salt.as_bytes());
+    match V1::sign(
+        alloc,
+        &mut scheme,
+        &key,
+        payload,
+        texts.footer,
+        texts.assertion,
+    ) {
+        Ok(token) => Ok(token),
+        Err(error) => Err(Refusal::of_token(&error)),
+    }
+}
+
+/// The text of a token that RSA verifies.
+fn rsa_verified(
+    alloc: Global,
+    public: &[u8],
+    token: &[u8],
+    footer: &[u8],
+) -> Result<String, Refusal>
+    ensures made { IsMade (rsa_verifying public.now token.now footer.now) result }
+    ensures whole { IsMadeWhole (rsa_verifying public.now token.now footer.now) result }
+{
+    let key = PasetoAsymmetricPublicKey::<V1, Public>::from(public);
+    let texts = Texts::take(token, footer, &[])?;
+    match V1::verify(
+        alloc,
+        &Salted::new(&[]),
+        texts.text,
+        &key,
+        texts.footer,
+        texts.assertion,
+    ) {
+        Ok(text) => Ok(text),
+        Err(error) => Err(Refusal::of_token(&error)),
+    }
 }
 
 /// The token of a text, signed by Ed25519. In version 2, which has no implicit assertion, none may be given.

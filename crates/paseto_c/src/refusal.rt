@@ -64,6 +64,12 @@ pub enum Refusal {
     DuplicateTopLevelPayloadClaim,
     /// An error that no call of this library gives.
     Other,
+    /// A private key of version 1 makes no valid signature: its numbers are not of one key.
+    RsaCipher,
+    /// A token has more bytes than it may have.
+    TooLong,
+    /// What is to be the text of a JSON array of texts is none.
+    NotNames,
 }
 
 impl Refusal {
@@ -98,6 +104,9 @@ impl Refusal {
             Refusal::Invalid => 25,
             Refusal::DuplicateTopLevelPayloadClaim => 26,
             Refusal::Other => 27,
+            Refusal::RsaCipher => 28,
+            Refusal::TooLong => 29,
+            Refusal::NotNames => 30,
         }
     }
 
@@ -119,6 +128,8 @@ impl Refusal {
             PasetoError::FromUtf8Error => Refusal::FromUtf8Error,
             PasetoError::KeyRejected => Refusal::KeyRejected,
             PasetoError::Signature => Refusal::Signature,
+            PasetoError::RsaCipher => Refusal::RsaCipher,
+            PasetoError::TooLong => Refusal::TooLong,
             _ => Refusal::Other,
         }
     }
@@ -142,7 +153,7 @@ impl Refusal {
     }
 
     /// The refusal for an error of a builder.
-    fn of_builder(error: &GenericBuilderError) -> Refusal
+    pub(crate) fn of_builder(error: &GenericBuilderError) -> Refusal
         ensures { result ≡ builder_refusal error.now }
     {
         match error {
@@ -157,7 +168,7 @@ impl Refusal {
     }
 
     /// The refusal for an error of a parser.
-    fn of_parser(error: &GenericParserError) -> Refusal
+    pub(crate) fn of_parser(error: &GenericParserError) -> Refusal
         ensures { result ≡ parser_refusal error.now }
     {
         match error {

@@ -1,3 +1,4 @@
+use Rattle.std.proofs.Common.{◌∙◌}
 use Rattle.std.proofs.lemmas.Result.{err_from_is_err_and}
 use Rattle.std.proofs.lemmas.Int.{to_z-of_z}
 use Rattle.rusty_paseto.specs.Held.{counting}
@@ -28,10 +29,10 @@ returns-clause-ok g c =
         begins = begun.begins;
         defaults = held c.in_ok-builder.builder.builder.claims;
         are_defaults = begun.are_defaults;
-        are_set = rw c.attach.ensures.claims set.claims;
-        are_counted = rw c.attach.ensures.keys
+        are_set = rw (c.attach.ensures.claims, c.attach_footer.ensures.claims) set.claims;
+        are_counted = rw (c.attach.ensures.keys, c.attach_footer.ensures.keys)
             (IsSame-trans _ _ _ (all_counted-same members nothing_counted (counting c.in_ok-builder.builder.keys) begun.uncounted) set.keys);
       },
-      c.attach.ensures.footer,
+      c.attach.ensures.footer ∙ c.attach_footer.ensures.footer,
       c.attach.ensures.assertion,
     )

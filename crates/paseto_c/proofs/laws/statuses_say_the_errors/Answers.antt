@@ -14,7 +14,7 @@ said Token.InvalidKey known = refl
 said Token.Signature known = refl
 said Token.KeyRejected known = refl
 said Token.Cipher known = absurd (known refl)
-said Token.RsaCipher known = absurd (known refl)
+said Token.RsaCipher known = refl
 said Token.ECSDAError known = absurd (known refl)
 said Token.InvalidLength known = absurd (known refl)
 said Token.InvalidSignature known = refl
@@ -28,7 +28,7 @@ said Token.ChaChaCipherError known = refl
 said Token.Infallibale known = absurd (known refl)
 said Token.FromUtf8Error known = refl
 said (Token.Memory _) known = refl
-said Token.TooLong known = absurd (known refl)
+said Token.TooLong known = refl
 
 pub returns : goal.returns
 returns c = said

@@ -17,5 +17,5 @@ returns-in-Err g c =
     let answered = c.in-Err.ensures.answer.err (rw (c.from-key.ensures, c.requires.size) c.if-private-ne64.false) in
     let declined = rw (c.from-key.ensures, c.from-payload.ensures, lent.0, lent.1, lent.3) at answered in
     rw c.of_token.ensures
-    (declined_refuses _ _ _ g.V.Signs.partner _ _ _ _ _ c.in-Err.error
+    (declined_refuses _ _ _ g.V.Signs.declined g.V.Signs.partner _ _ _ _ _ c.in-Err.error
     (record { key = c.if-private-ne64.false; nonce = tt; texts = c.in_ok-texts.ensures.5 }) declined)

@@ -1,5 +1,5 @@
 use Rattle.std.proofs.lemmas.Result.{err_from_is_err_and}
-use Rattle.paseto_p384.specs.P384.{p384_public}
+use Rattle.paseto_p384.specs.P384.{IsDeclined, p384_public}
 use Rattle.paseto_c.proofs.Exits.{declined_refuses, made_bad_key, made_not_utf8}
 use Rattle.paseto_c.proofs.public.p384_signed.Goals as goal
 
@@ -17,5 +17,5 @@ returns-in-Err c =
     let lent = c.in_ok-texts.ensures in
     let declined = rw (c.from-key.ensures, c.in_ok-private.ensures.0, c.from-payload.ensures, lent.0, lent.1, lent.3) at c.in-Err.ensures.answer.err in
     rw c.of_token.ensures
-    (declined_refuses _ _ _ p384_public _ _ _ _ _ c.in-Err.error
+    (declined_refuses _ _ _ IsDeclined p384_public _ _ _ _ _ c.in-Err.error
     (record { key = c.in_ok-private.ensures.1; nonce = tt; texts = c.in_ok-texts.ensures.5 }) (declined tt))

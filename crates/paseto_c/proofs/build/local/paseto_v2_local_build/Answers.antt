@@ -1,0 +1,12 @@
+use Rattle.std.proofs.lemmas.Int.{to_z-of_z}
+use Rattle.paseto_c.proofs.Answers.{answered, completed}
+use Rattle.paseto_c.proofs.BuildLemmas.{boxed_apart, built_whole}
+use Rattle.paseto_c.proofs.build.local.paseto_v2_local_build.Goals as goal
+
+pub returns-clause-answer : goal.returns-clause-answer
+returns-clause-answer c = answered _ _ _ _ _ c.boxed.result (rw (to_z-of_z _ _ c.ranges.now) at c.boxed.ensures) c.hand_over.ensures
+
+pub returns-clause-complete : goal.returns-clause-complete
+returns-clause-complete c =
+    completed _ _ _ _ _ c.boxed.result
+    (built_whole _ _ _ _ _ _ _ _ (λ made token refusal sealed declined. boxed_apart _ _ _ _ _ refusal sealed declined) _ (rw (to_z-of_z _ _ c.ranges.now) at c.boxed.ensures)) c.hand_over.ensures

@@ -1,0 +1,14 @@
+use Rattle.std.proofs.lemmas.Int.{to_z-of_z}
+use Rattle.paseto_c.proofs.Answers.{answered, completed_where}
+use Rattle.paseto_c.proofs.BuildLemmas.{fine_apart}
+use Rattle.paseto_c.proofs.Exits.{p384_apart}
+use Rattle.paseto_c.proofs.build.public.paseto_v3_public_build.Goals as goal
+
+pub returns-clause-answer : goal.returns-clause-answer
+returns-clause-answer c = answered _ _ _ _ _ c.p384_built.result (rw (to_z-of_z _ _ c.ranges.now) at c.p384_built.ensures) c.hand_over.ensures
+
+pub returns-clause-complete : goal.returns-clause-complete
+returns-clause-complete c =
+    completed_where _ _ _ _ _ _
+    (λ taken fine. fine_apart _ _ _ _ (λ made refusal signs declined. p384_apart c.args.private.now _ refusal signs declined) fine)
+    c.p384_built.result (rw (to_z-of_z _ _ c.ranges.now) at c.p384_built.ensures) c.hand_over.ensures

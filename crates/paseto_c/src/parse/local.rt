@@ -1,0 +1,350 @@
+//! Claims of local tokens.
+#![tactic(auto, unfolding(rusty_paseto_core::specs::Local::V1::v1, rusty_paseto_core::specs::Local::V3::v3, rusty_paseto_core::specs::Local::V4::v4))]
+
+ghost use Rattle.std.specs.Prelude.{◌≡◌, [], false};
+ghost use Rattle.rusty_paseto_core.specs.Local.V1.{v1};
+ghost use Rattle.rusty_paseto_core.specs.Local.V3.{v3};
+ghost use Rattle.rusty_paseto_core.specs.Local.V4.{v4};
+ghost use Rattle.paseto_c.specs.Answer.{IsAnswered, IsAnsweredTelling, IsComplete};
+ghost use Rattle.paseto_c.specs.Arguments.{untold};
+ghost use Rattle.paseto_c.specs.Fault.{IsMadeTelling, IsMadeWholeTelling};
+ghost use Rattle.paseto_c.specs.Options.{demanded};
+ghost use Rattle.paseto_c.specs.Parse.{nothing_more, parsing_boxed, parsing_local};
+
+use crate::answer::{hand_over, hand_over_telling};
+use crate::arguments::key_of;
+use crate::attaches::Attaches;
+use crate::fault::{Fault, unsaid};
+use crate::options::{Options, nothing_more};
+use crate::parse::parsed;
+use crate::parse::readers::{BoxOpener, Opener};
+use rusty_paseto::{DefaultLocalVersion, PasetoParser};
+use rusty_paseto_core::{Local, PasetoSymmetricKey, V1, V2, V3, V4};
+use std::alloc::Global;
+
+/// Opens a local token of version 1 under a key of 32 bytes, and answers its claims as compact JSON.
+///
+/// The times are checked at the moment, which is in seconds after 1970-01-01T00:00:00Z. Each member of the JSON object
+/// `expected` is to be among the claims.
+///
+/// Source: PASETO specification, "Version 1", "Decrypt".
+#[unsafe(no_mangle)]
+pub extern "C" fn paseto_v1_local_parse(
+    alloc: Global,
+    key: &[u8],
+    token: &[u8],
+    expected: &[u8],
+    now: i64,
+    footer: &[u8],
+    room: &mut [u8],
+    written: &mut usize,
+) -> u8
+    ensures answer { IsAnswered (untold (parsing_local v1 key.now token.now expected.now now footer.now [] nothing_more))
+        room.old room.new written.new result }
+    ensures complete { IsComplete (untold (parsing_local v1 key.now token.now expected.now now footer.now [] nothing_more))
+        result }
+{
+    hand_over(
+        unsaid(opened::<V1>(
+            alloc,
+            key,
+            token,
+            expected,
+            now,
+            footer,
+            &[],
+            &nothing_more(),
+        )),
+        room,
+        written,
+    )
+}
+
+/// The same with what more is demanded, and with the line that tells a refusal.
+#[unsafe(no_mangle)]
+pub extern "C" fn paseto_v1_local_parse_with(
+    alloc: Global,
+    key: &[u8],
+    token: &[u8],
+    expected: &[u8],
+    now: i64,
+    footer: &[u8],
+    options: &Options<'_>,
+    room: &mut [u8],
+    written: &mut usize,
+    line: &mut [u8],
+    told: &mut usize,
+) -> u8
+    ensures answer { IsAnsweredTelling (parsing_local v1 key.now token.now expected.now now footer.now [] (demanded options.now))
+        room.old room.new written.new result line.old line.new told.new }
+    ensures complete { IsComplete (parsing_local v1 key.now token.now expected.now now footer.now [] (demanded options.now)).call result }
+{
+    hand_over_telling(
+        alloc,
+        opened::<V1>(alloc, key, token, expected, now, footer, &[], options),
+        room,
+        written,
+        line,
+        told,
+    )
+}
+
+/// Opens a local token of version 2 under a key of 32 bytes, and answers its claims as compact JSON.
+///
+/// What is checked is what `paseto_v1_local_parse` checks.
+///
+/// Source: PASETO specification, "Version 2", "Decrypt".
+#[unsafe(no_mangle)]
+pub extern "C" fn paseto_v2_local_parse(
+    alloc: Global,
+    key: &[u8],
+    token: &[u8],
+    expected: &[u8],
+    now: i64,
+    footer: &[u8],
+    room: &mut [u8],
+    written: &mut usize,
+) -> u8
+    ensures answer { IsAnswered (untold (parsing_boxed key.now token.now expected.now now footer.now nothing_more))
+        room.old room.new written.new result }
+    ensures complete { IsComplete (untold (parsing_boxed key.now token.now expected.now now footer.now nothing_more))
+        result }
+{
+    hand_over(
+        unsaid(boxed(alloc, key, token, expected, now, footer, &nothing_more())),
+        room,
+        written,
+    )
+}
+
+/// The same with what more is demanded, and with the line that tells a refusal.
+#[unsafe(no_mangle)]
+pub extern "C" fn paseto_v2_local_parse_with(
+    alloc: Global,
+    key: &[u8],
+    token: &[u8],
+    expected: &[u8],
+    now: i64,
+    footer: &[u8],
+    options: &Options<'_>,
+    room: &mut [u8],
+    written: &mut usize,
+    line: &mut [u8],
+    told: &mut usize,
+) -> u8
+    ensures answer { IsAnsweredTelling (parsing_boxed key.now token.now expected.now now footer.now (demanded options.now))
+        room.old room.new written.new result line.old line.new told.new }
+    ensures complete { IsComplete (parsing_boxed key.now token.now expected.now now footer.now (demanded options.now)).call result }
+{
+    hand_over_telling(
+        alloc,
+        boxed(alloc, key, token, expected, now, footer, options),
+        room,
+        written,
+        line,
+        told,
+    )
+}
+
+/// Opens a local token of version 3 under a key of 32 bytes, and answers its claims as compact JSON.
+///
+/// What is checked is what `paseto_v1_local_parse` checks.
+///
+/// Source: PASETO specification, "Version 3", "Decrypt".
+#[unsafe(no_mangle)]
+pub extern "C" fn paseto_v3_local_parse(
+    alloc: Global,
+    key: &[u8],
+    token: &[u8],
+    expected: &[u8],
+    now: i64,
+    footer: &[u8],
+    assertion: &[u8],
+    room: &mut [u8],
+    written: &mut usize,
+) -> u8
+    ensures answer { IsAnswered (untold (parsing_local v3 key.now token.now expected.now now footer.now assertion.now nothing_more))
+        room.old room.new written.new result }
+    ensures complete { IsComplete (untold (parsing_local v3 key.now token.now expected.now now footer.now assertion.now nothing_more))
+        result }
+{
+    hand_over(
+        unsaid(opened::<V3>(
+            alloc,
+            key,
+            token,
+            expected,
+            now,
+            footer,
+            assertion,
+            &nothing_more(),
+        )),
+        room,
+        written,
+    )
+}
+
+/// The same with what more is demanded, and with the line that tells a refusal.
+#[unsafe(no_mangle)]
+pub extern "C" fn paseto_v3_local_parse_with(
+    alloc: Global,
+    key: &[u8],
+    token: &[u8],
+    expected: &[u8],
+    now: i64,
+    footer: &[u8],
+    assertion: &[u8],
+    options: &Options<'_>,
+    room: &mut [u8],
+    written: &mut usize,
+    line: &mut [u8],
+    told: &mut usize,
+) -> u8
+    ensures answer { IsAnsweredTelling (parsing_local v3 key.now token.now expected.now now footer.now assertion.now (demanded options.now))
+        room.old room.new written.new result line.old line.new told.new }
+    ensures complete { IsComplete (parsing_local v3 key.now token.now expected.now now footer.now assertion.now (demanded options.now)).call result }
+{
+    hand_over_telling(
+        alloc,
+        opened::<V3>(alloc, key, token, expected, now, footer, assertion, options),
+        room,
+        written,
+        line,
+        told,
+    )
+}
+
+/// Opens a local token of version 4 under a key of 32 bytes, and answers its claims as compact JSON.
+///
+/// What is checked is what `paseto_v1_local_parse` checks.
+///
+/// Source: PASETO specification, "Version 4", "Decrypt".
+#[unsafe(no_mangle)]
+pub extern "C" fn paseto_v4_local_parse(
+    alloc: Global,
+    key: &[u8],
+    token: &[u8],
+    expected: &[u8],
+    now: i64,
+    footer: &[u8],
+    assertion: &[u8],
+    room: &mut [u8],
+    written: &mut usize,
+) -> u8
+    ensures answer { IsAnswered (untold (parsing_local v4 key.now token.now expected.now now footer.now assertion.now nothing_more))
+        room.old room.new written.new result }
+    ensures complete { IsComplete (untold (parsing_local v4 key.now token.now expected.now now footer.now assertion.now nothing_more))
+        result }
+{
+    hand_over(
+        unsaid(opened::<V4>(
+            alloc,
+            key,
+            token,
+            expected,
+            now,
+            footer,
+            assertion,
+            &nothing_more(),
+        )),
+        room,
+        written,
+    )
+}
+
+/// The same with what more is demanded, and with the line that tells a refusal.
+#[unsafe(no_mangle)]
+pub extern "C" fn paseto_v4_local_parse_with(
+    alloc: Global,
+    key: &[u8],
+    token: &[u8],
+    expected: &[u8],
+    now: i64,
+    footer: &[u8],
+    assertion: &[u8],
+    options: &Options<'_>,
+    room: &mut [u8],
+    written: &mut usize,
+    line: &mut [u8],
+    told: &mut usize,
+) -> u8
+    ensures answer { IsAnsweredTelling (parsing_local v4 key.now token.now expected.now now footer.now assertion.now (demanded options.now))
+        room.old room.new written.new result line.old line.new told.new }
+    ensures complete { IsComplete (parsing_local v4 key.now token.now expected.now now footer.now assertion.now (demanded options.now)).call result }
+{
+    hand_over_telling(
+        alloc,
+        opened::<V4>(alloc, key, token, expected, now, footer, assertion, options),
+        room,
+        written,
+        line,
+        told,
+    )
+}
+
+/// The claims of a token of version 1, 3 or 4. In version 1, which has no implicit assertion, none may be given.
+fn opened<V: DefaultLocalVersion + Attaches>(
+    alloc: Global,
+    key: &[u8],
+    token: &[u8],
+    expected: &[u8],
+    now: i64,
+    footer: &[u8],
+    assertion: &[u8],
+    options: &Options<'_>,
+) -> Result<String, Fault>
+    requires bound { V.attaches ≡ false → assertion.now ≡ [] }
+    requires read { V.design.binds_assertion ≡ false → assertion.now ≡ [] }
+    ensures made { IsMadeTelling (parsing_local V.design key.now token.now expected.now now footer.now
+        assertion.now (demanded options.now)) result }
+    ensures whole { IsMadeWholeTelling (parsing_local V.design key.now token.now expected.now now
+        footer.now assertion.now (demanded options.now)) result }
+{
+    let reader = Opener {
+        key: PasetoSymmetricKey::<V, Local>::from(key_of::<32>(key)?),
+    };
+    let mut parser = PasetoParser::<V, Local>::new(alloc);
+    parsed::<V, Local, Opener<V>>(
+        alloc,
+        &mut parser,
+        &reader,
+        token,
+        expected,
+        now,
+        footer,
+        assertion,
+        options,
+    )
+}
+
+/// The claims of a token of version 2.
+fn boxed(
+    alloc: Global,
+    key: &[u8],
+    token: &[u8],
+    expected: &[u8],
+    now: i64,
+    footer: &[u8],
+    options: &Options<'_>,
+) -> Result<String, Fault>
+    ensures made { IsMadeTelling (parsing_boxed key.now token.now expected.now now footer.now
+        (demanded options.now)) result }
+    ensures whole { IsMadeWholeTelling (parsing_boxed key.now token.now expected.now now footer.now
+        (demanded options.now)) result }
+{
+    let reader = BoxOpener {
+        key: PasetoSymmetricKey::<V2, Local>::from(key_of::<32>(key)?),
+    };
+    let mut parser = PasetoParser::<V2, Local>::new(alloc);
+    parsed::<V2, Local, BoxOpener>(
+        alloc,
+        &mut parser,
+        &reader,
+        token,
+        expected,
+        now,
+        footer,
+        &[],
+        options,
+    )
+}
