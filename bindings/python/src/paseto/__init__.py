@@ -1,0 +1,101 @@
+"""PASETO tokens, versions 1 to 4, by the library for C that is proved.
+
+    >>> import paseto
+    >>> key = paseto.LocalKey.generate()
+    >>> token = paseto.issue(key, {"sub": "ada", "aud": "customers"}, expires_in=3600)
+    >>> paseto.admit(token, key, aud="customers")["sub"]
+    'ada'
+
+A token under a ``LocalKey`` is encrypted. One that a ``PrivateKey`` issues is signed, everybody can read it, and its
+``PublicKey`` admits it. Each fault of the library is an exception of its own: ``Refused`` is what they are that come of the
+token, so that a service answers 401 for ``Refused`` and looks at its own code for the others. All calls may be made from
+several threads at once.
+
+The library is the ``libpaseto.so`` of the package, or what the environment's ``PASETO_LIBRARY`` names.
+"""
+
+from ._errors import (
+    ChaChaCipherError,
+    Cryption,
+    DuplicateTopLevelPayloadClaim,
+    Expired,
+    FooterInvalid,
+    FromUtf8Error,
+    IncorrectSize,
+    Invalid,
+    InvalidKey,
+    InvalidMoment,
+    InvalidNonce,
+    InvalidSignature,
+    KeyRejected,
+    Missing,
+    NoMemory,
+    NotNames,
+    NotObject,
+    NotUtf8,
+    Other,
+    PasetoError,
+    PayloadBase64Decode,
+    PayloadJsonError,
+    Refused,
+    Rfc3339Date,
+    RsaCipher,
+    Signature,
+    TooLong,
+    Unexpected,
+    UnknownKey,
+    UseBeforeAvailable,
+    Utf8Error,
+    WrongHeader,
+)
+from ._keys import Key, LocalKey, PrivateKey, PublicKey
+from ._ring import KeyRing, key_footer
+from ._tokens import admit, decrypt, encrypt, footer_of, issue, sign, verify
+
+__all__ = [
+    "ChaChaCipherError",
+    "Cryption",
+    "DuplicateTopLevelPayloadClaim",
+    "Expired",
+    "FooterInvalid",
+    "FromUtf8Error",
+    "IncorrectSize",
+    "Invalid",
+    "InvalidKey",
+    "InvalidMoment",
+    "InvalidNonce",
+    "InvalidSignature",
+    "Key",
+    "KeyRejected",
+    "KeyRing",
+    "LocalKey",
+    "Missing",
+    "NoMemory",
+    "NotNames",
+    "NotObject",
+    "NotUtf8",
+    "Other",
+    "PasetoError",
+    "PayloadBase64Decode",
+    "PayloadJsonError",
+    "PrivateKey",
+    "PublicKey",
+    "Refused",
+    "Rfc3339Date",
+    "RsaCipher",
+    "Signature",
+    "TooLong",
+    "Unexpected",
+    "UnknownKey",
+    "UseBeforeAvailable",
+    "Utf8Error",
+    "WrongHeader",
+    "admit",
+    "decrypt",
+    "encrypt",
+    "footer_of",
+    "issue",
+    "key_footer",
+    "sign",
+    "verify",
+]

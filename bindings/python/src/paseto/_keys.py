@@ -1,0 +1,167 @@
+"""Keys of every version, by their bytes and as PASERK text."""
+
+from __future__ import annotations
+
+import base64
+import binascii
+import ctypes
+import hashlib
+import os
+from typing import ClassVar, NoReturn
+
+from ._calls import lent
+from ._errors import InvalidKey, KeyRejected, raise_for
+from ._library import CALLS
+
+
+class Key:
+    """A key of a version, which neither shows itself nor lets itself be pickled."""
+
+    __slots__ = ("_bytes", "_version")
+    # How many bytes a key of each version has; one of RSA is DER of any length.
+    _lengths: ClassVar[dict[int, int | None]] = {}
+    # The type of the key in PASERK, and that of its id.
+    _type: ClassVar[str] = ""
+    _id_type: ClassVar[str] = ""
+
+    def __init__(self, value: bytes, version: int = 4) -> None:
+        if version not in self._lengths:
+            raise ValueError("a version is 1, 2, 3 or 4")
+        length = self._lengths[version]
+        if length is not None and len(value) != length:
+            raise InvalidKey
+        self._bytes, self._version = bytes(value), version
+
+    def __repr__(self) -> str:
+        return f"<{type(self).__name__} of version {self._version}>"
+
+    def __reduce__(self) -> NoReturn:
+        raise TypeError(f"a {type(self).__name__} is stored by to_bytes() or to_text() alone")
+
+    @property
+    def version(self) -> int:
+        """The version of the tokens that the key is for."""
+        return self._version
+
+    def to_bytes(self) -> bytes:
+        """The key's bytes, to store them."""
+        return self._bytes
+
+    def to_text(self) -> str:
+        """The key as PASERK text, ``k4.local..``, as the program ``paseto`` writes it into key files.
+
+        A key pair of version 1 has no such text here.
+        """
+        if self._version == 1 and not isinstance(self, LocalKey):
+            raise InvalidKey("a key pair of version 1 has no PASERK text here")
+        return f"k{self._version}.{self._type}.{_base64url(self._bytes)}"
+
+    @property
+    def id(self) -> str:
+        """The PASERK id, ``k4.lid..``, which identifies the key without revealing it."""
+        front = f"k{self._version}.{self._id_type}."
+        message = (front + self.to_text()).encode()
+        if self._version in (1, 3):
+            digest = hashlib.sha384(message).digest()[:33]
+        else:
+            digest = hashlib.blake2b(message, digest_size=33).digest()
+        return front + _base64url(digest)
+
+    @staticmethod
+    def from_text(text: str) -> LocalKey | PrivateKey | PublicKey:
+        """The key of a PASERK text, with a line feed behind it or none: a line of a key file.
+
+        >>> key = LocalKey.generate()
+        >>> Key.from_text(key.to_text()).id == key.id
+        True
+        """
+        parts = text.removesuffix("\n").split(".")
+        kinds: dict[str, type[LocalKey] | type[PrivateKey] | type[PublicKey]] = {
+            "local": LocalKey,
+            "secret": PrivateKey,
+            "public": PublicKey,
+        }
+        if len(parts) != 3 or parts[0] not in ("k1", "k2", "k3", "k4") or parts[1] not in kinds:
+            raise InvalidKey("the text is no key of PASERK: it begins with k4.local., k4.secret., k4.public., or with another version")
+        kind, version = kinds[parts[1]], int(parts[0][1])
+        if version == 1 and kind is not LocalKey:
+            raise InvalidKey("a key pair of version 1 has no PASERK text here")
+        return kind(_from_base64url(parts[2]), version)
+
+
+class LocalKey(Key):
+    """A key of 32 bytes, under which tokens are encrypted and decrypted."""
+
+    __slots__ = ()
+    _lengths = {1: 32, 2: 32, 3: 32, 4: 32}
+    _type, _id_type = "local", "lid"
+
+    @classmethod
+    def generate(cls, version: int = 4) -> LocalKey:
+        """A new key, drawn by ``os.urandom``."""
+        return cls(os.urandom(32), version)
+
+
+class PublicKey(Key):
+    """A key under which signed tokens are verified: of 32 bytes in the versions 2 and 4, of 49 in version 3 (a compressed
+    point), and in version 1 an RSAPublicKey of PKCS #1 in DER."""
+
+    __slots__ = ()
+    _lengths = {1: None, 2: 32, 3: 49, 4: 32}
+    _type, _id_type = "public", "pid"
+
+    def __init__(self, value: bytes, version: int = 4) -> None:
+        super().__init__(value, version)
+        if version == 3 and value[0] not in (2, 3):
+            raise InvalidKey
+
+
+class PrivateKey(Key):
+    """A key under which tokens are signed: of 64 bytes in the versions 2 and 4 (the seed and the public key), of 48 in
+    version 3, and in version 1 a PrivateKeyInfo of PKCS #8 in DER."""
+
+    __slots__ = ()
+    _lengths = {1: None, 2: 64, 3: 48, 4: 64}
+    _type, _id_type = "secret", "sid"
+
+    @classmethod
+    def generate(cls, version: int = 4) -> PrivateKey:
+        """A new key, of a seed that is drawn by ``os.urandom``. Keys of version 1 are made elsewhere, as by ``openssl``."""
+        if version == 1:
+            raise ValueError("a key of version 1 is made by openssl genpkey")
+        while True:
+            try:
+                return cls(_pair(os.urandom(48 if version == 3 else 32), version)[0], version)
+            except KeyRejected:
+                continue
+
+    @property
+    def public(self) -> PublicKey:
+        """The public key of this private key. That of version 1 has to be kept beside it."""
+        if self._version == 1:
+            raise InvalidKey("the public key of version 1 is made elsewhere, as by openssl")
+        seed = self._bytes if self._version == 3 else self._bytes[:32]
+        return PublicKey(_pair(seed, self._version)[1], self._version)
+
+
+def _pair(seed: bytes, version: int) -> tuple[bytes, bytes]:
+    """The bytes of the private and of the public key of a seed."""
+    private, public = (48, 49) if version == 3 else (64, 32)
+    rooms = ctypes.create_string_buffer(private), ctypes.create_string_buffer(public)
+    raise_for(CALLS[f"paseto_v{version}_public_keypair"](*lent(seed), rooms[0], private, rooms[1], public))
+    return rooms[0].raw, rooms[1].raw
+
+
+def _base64url(value: bytes) -> str:
+    return base64.urlsafe_b64encode(value).rstrip(b"=").decode()
+
+
+def _from_base64url(text: str) -> bytes:
+    """The bytes of an encoding without padding, in its one form."""
+    try:
+        value = base64.b64decode(text + "=" * (-len(text) % 4), altchars=b"-_", validate=True)
+    except (binascii.Error, ValueError):
+        raise InvalidKey from None
+    if _base64url(value) != text:
+        raise InvalidKey
+    return value

@@ -1,0 +1,102 @@
+"""Rings of keys, of which the footer of a token names one."""
+
+from __future__ import annotations
+
+import json
+from collections.abc import Iterable, Mapping
+from datetime import datetime, timedelta
+from typing import Any
+
+from ._errors import UnknownKey
+from ._keys import LocalKey, PrivateKey, PublicKey
+from ._tokens import admit, footer_of, issue
+
+
+def key_footer(kid: str) -> str:
+    """The footer from which a ring knows the key with an id.
+
+    >>> key_footer("2026-11")
+    '{"kid":"2026-11"}'
+    """
+    return json.dumps({"kid": kid}, ensure_ascii=False, separators=(",", ":"))
+
+
+class KeyRing:
+    """Keys by their ids. The footer of a token names one of them, and no other key is tried.
+
+    >>> ring = KeyRing()
+    >>> kid = ring.add(LocalKey.generate())
+    >>> ring.admit(ring.issue(kid, {"sub": "ada"}))["sub"]
+    'ada'
+    """
+
+    def __init__(self) -> None:
+        self._keys: dict[str, LocalKey | PrivateKey | PublicKey] = {}
+
+    def add(self, key: LocalKey | PrivateKey | PublicKey, kid: str | None = None) -> str:
+        """Adds a key under an id, which is its PASERK id where none is given, and returns the id. A private key issues, and
+        its public half admits; its PASERK id is that of the public half."""
+        found = kid if kid is not None else (key.public.id if isinstance(key, PrivateKey) else key.id)
+        self._keys[found] = key
+        return found
+
+    def remove(self, kid: str) -> None:
+        """Removes the key with an id, where there is one."""
+        self._keys.pop(kid, None)
+
+    def __contains__(self, kid: str) -> bool:
+        return kid in self._keys
+
+    def __len__(self) -> int:
+        return len(self._keys)
+
+    def issue(
+        self,
+        kid: str,
+        claims: Mapping[str, Any],
+        *,
+        expires_in: int | timedelta = 3600,
+        now: int | datetime | None = None,
+        assertion: str = "",
+    ) -> str:
+        """Issues a token under the key with an id, which its footer names."""
+        key = self._keys.get(kid)
+        if key is None:
+            raise KeyError(kid)
+        if isinstance(key, PublicKey):
+            raise TypeError("a token is issued under a LocalKey or a PrivateKey")
+        return issue(key, claims, expires_in=expires_in, now=now, footer=key_footer(kid), assertion=assertion)
+
+    def admit(
+        self,
+        token: str,
+        *,
+        aud: str | None = None,
+        expected: Mapping[str, Any] | None = None,
+        require: Iterable[str] = (),
+        leeway: int = 0,
+        longest: int = 0,
+        now: int | datetime | None = None,
+        assertion: str = "",
+    ) -> dict[str, Any]:
+        """The claims of a token, as ``admit`` has them, under the key that its footer names. ``UnknownKey`` is raised where
+        the footer names no key of the ring."""
+        footer = footer_of(token)
+        key = self._keys.get(_kid(footer))
+        if key is None:
+            raise UnknownKey("the footer of the token names no key of the ring")
+        reader = key.public if isinstance(key, PrivateKey) else key
+        return admit(
+            token, reader, aud=aud, expected=expected, require=require, leeway=leeway, longest=longest, now=now,
+            footer=footer, assertion=assertion,
+        )
+
+
+def _kid(footer: str) -> str:
+    """The id that a footer names, or the empty text."""
+    try:
+        named = json.loads(footer)
+    except (ValueError, RecursionError):
+        return ""
+    kid = named.get("kid") if isinstance(named, dict) else None
+    return kid if isinstance(kid, str) else ""

@@ -1,0 +1,161 @@
+"""Tokens of claims, and of texts."""
+
+from __future__ import annotations
+
+import ctypes
+import json
+import os
+from collections.abc import Iterable, Mapping
+from datetime import datetime, timedelta
+from typing import Any
+
+from ._calls import ask, ask_with_reason, bytes_of, date_of, json_of, lent, moment_of
+from ._errors import NotObject
+from ._keys import Key, LocalKey, PrivateKey, PublicKey
+from ._library import ASSERTING, Options
+
+
+def issue(
+    key: LocalKey | PrivateKey,
+    claims: Mapping[str, Any],
+    *,
+    expires_in: int | timedelta = 3600,
+    now: int | datetime | None = None,
+    footer: str = "",
+    assertion: str = "",
+) -> str:
+    """Makes a token of claims, which are what JSON can say, with whole numbers of 64 bits alone; a ``datetime`` with a time
+    zone becomes its text of RFC 3339, and a ``Decimal`` is refused by a ``TypeError``.
+
+    The token expires so many seconds after the moment, is issued at it, and is usable from it on, unless the claims say
+    otherwise by ``exp``, ``iat`` and ``nbf``. The moment ``now``, in seconds after 1970 or a ``datetime``, is the clock's where
+    it is left out. A footer, as the id of the key, everybody can read; an implicit assertion is not in the token, and whoever
+    admits it has to know it.
+    """
+    moment = moment_of(now)
+    dated = json_of({"exp": date_of(moment, expires_in), "nbf": date_of(moment, -1), **claims})
+    words = (*_drawn(key, "build"), *lent(dated), moment, *_tail(key, footer, assertion))
+    return ask(f"{_kind(key)}_build", words, 1024).decode()
+
+
+def admit(
+    token: str,
+    key: LocalKey | PublicKey,
+    *,
+    aud: str | None = None,
+    expected: Mapping[str, Any] | None = None,
+    require: Iterable[str] = (),
+    leeway: int = 0,
+    longest: int = 0,
+    now: int | datetime | None = None,
+    footer: str = "",
+    assertion: str = "",
+) -> dict[str, Any]:
+    """The claims of a token, if it is one of the key, the footer and the implicit assertion, usable at the moment, and has
+    the audience ``aud``, where that is given, and each claim that is expected; else raises what ``Refused`` is, whose text
+    says which claim failed.
+
+    A token whose claims have no ``exp`` never expires: ``require=["exp"]`` demands it. The clocks of issuer and reader may
+    differ by ``leeway`` seconds. A token of more than ``longest`` bytes is refused before it is read; 0 is no limit.
+    """
+    wanted = dict(expected or {})
+    if aud is not None:
+        wanted["aud"] = aud
+    if not (0 <= leeway < 2**32 and 0 <= longest < 2**64):
+        raise ValueError("leeway is a number of seconds below 2**32, and longest one of bytes")
+    names = [require] if isinstance(require, str) else list(require)
+    required = bytes_of(json.dumps(names, ensure_ascii=False)) if names else b""
+    options = Options(leeway, longest, *lent(required))
+    read = bytes_of(token)
+    words = (*lent(_reader(key).to_bytes()), *lent(read), *lent(json_of(wanted)), moment_of(now), *_tail(key, footer, assertion))
+    text = ask_with_reason(f"{_kind(key)}_parse_with", (*words, ctypes.byref(options)), len(read))
+    claims = json.loads(text)
+    if not isinstance(claims, dict):
+        raise NotObject
+    return claims
+
+
+def encrypt(key: LocalKey, text: str, *, footer: str = "", assertion: str = "") -> str:
+    """The local token of a text, under a nonce that is drawn by ``os.urandom``.
+
+    >>> key = LocalKey.generate()
+    >>> decrypt(encrypt(key, "hello"), key)
+    'hello'
+    """
+    if not isinstance(key, LocalKey):
+        raise TypeError("a text is encrypted under a LocalKey")
+    words = (*_drawn(key, "encrypt"), *lent(bytes_of(text)), *_tail(key, footer, assertion))
+    return ask(f"{_kind(key)}_encrypt", words, 256 + 2 * len(text)).decode()
+
+
+def decrypt(token: str, key: LocalKey, *, footer: str = "", assertion: str = "") -> str:
+    """The text of a local token of this key, this footer and this implicit assertion."""
+    if not isinstance(key, LocalKey):
+        raise TypeError("a token is decrypted under a LocalKey")
+    return _text("decrypt", token, key, footer, assertion)
+
+
+def sign(key: PrivateKey, text: str, *, footer: str = "", assertion: str = "") -> str:
+    """The public token of a text, which everybody can read.
+
+    >>> key = PrivateKey.generate()
+    >>> verify(sign(key, "hello"), key.public)
+    'hello'
+    """
+    if not isinstance(key, PrivateKey):
+        raise TypeError("a text is signed under a PrivateKey")
+    words = (*_drawn(key, "sign"), *lent(bytes_of(text)), *_tail(key, footer, assertion))
+    return ask(f"{_kind(key)}_sign", words, 1024 + 2 * len(text)).decode()
+
+
+def verify(token: str, key: PublicKey, *, footer: str = "", assertion: str = "") -> str:
+    """The text of a public token that is signed for this key, this footer and this implicit assertion."""
+    if not isinstance(key, PublicKey):
+        raise TypeError("a token is verified under a PublicKey")
+    return _text("verify", token, key, footer, assertion)
+
+
+def footer_of(token: str) -> str:
+    """The footer of a token, as the id of the key that is to admit it, and the empty text where it has none.
+
+    It is not to be trusted before the token is admitted with it.
+    """
+    read = bytes_of(token)
+    return ask("paseto_footer", lent(read), len(read)).decode()
+
+
+def _kind(key: Key) -> str:
+    """How the calls for the tokens of a key begin."""
+    return f"paseto_v{key.version}_{'local' if isinstance(key, LocalKey) else 'public'}"
+
+
+def _drawn(key: LocalKey | PrivateKey, call: str) -> tuple[Any, ...]:
+    """The key, and the nonce, the seed or the salt that the call takes beside it."""
+    if isinstance(key, LocalKey):
+        drawn = os.urandom(24 if (key.version, call) == (2, "build") else 32)
+        return (*lent(key.to_bytes()), *lent(drawn))
+    if not isinstance(key, PrivateKey):
+        raise TypeError("a token is issued under a LocalKey or a PrivateKey")
+    return (*lent(key.to_bytes()), *(lent(os.urandom(48)) if key.version == 1 else ()))
+
+
+def _reader(key: LocalKey | PublicKey) -> LocalKey | PublicKey:
+    if not isinstance(key, (LocalKey, PublicKey)):
+        raise TypeError("a token is admitted under a LocalKey or a PublicKey")
+    return key
+
+
+def _tail(key: Key, footer: str, assertion: str) -> tuple[Any, ...]:
+    """The footer, and the implicit assertion in the versions that bind their tokens to one."""
+    if key.version in ASSERTING:
+        return (*lent(bytes_of(footer)), *lent(bytes_of(assertion)))
+    if assertion:
+        raise ValueError("tokens of the versions 1 and 2 have no implicit assertion")
+    return lent(bytes_of(footer))
+
+
+def _text(call: str, token: str, key: Key, footer: str, assertion: str) -> str:
+    """The text that a token holds."""
+    read = bytes_of(token)
+    words = (*lent(key.to_bytes()), *lent(read), *_tail(key, footer, assertion))
+    return ask(f"{_kind(key)}_{call}", words, len(read)).decode()
