@@ -20,7 +20,7 @@ import ctypes
 import json
 import os
 import time
-from collections.abc import Callable, Mapping
+from collections.abc import Callable, Iterable, Mapping
 from datetime import datetime, timedelta, timezone
 from typing import Any, NoReturn
 
@@ -34,12 +34,12 @@ _ROOM = 1
 
 
 class PasetoError(Exception):
-    """A fault of the library, whose text it says."""
+    """A fault of the library, whose text it says: that of its status, or a line that tells more."""
 
     status: int
 
-    def __init__(self) -> None:
-        super().__init__(_text_of(self.status))
+    def __init__(self, line: str | None = None) -> None:
+        super().__init__(_text_of(self.status) if line is None else line)
 
 
 class Refused(PasetoError):
@@ -202,6 +202,24 @@ class Other(PasetoError):
     status = 27
 
 
+class RsaCipher(PasetoError):
+    """The numbers of a private key of version 1 are not of one key."""
+
+    status = 28
+
+
+class TooLong(Refused):
+    """The token has more bytes than it may have."""
+
+    status = 29
+
+
+class NotNames(PasetoError):
+    """The names of claims are no list of texts."""
+
+    status = 30
+
+
 def _faults(of: type[PasetoError]) -> dict[int, type[PasetoError]]:
     """The exceptions by their statuses."""
     found = {}
@@ -316,27 +334,36 @@ def admit(
     *,
     aud: str | None = None,
     expected: Mapping[str, Any] | None = None,
+    required: Iterable[str] = (),
+    leeway: int = 0,
+    longest: int = 0,
     now: int | None = None,
     footer: str = "",
     assertion: str = "",
 ) -> dict[str, Any]:
     """The claims of a token, if it is one of the key, the footer and the implicit assertion, usable at the moment, and has
-    the audience ``aud``, where that is given, and each claim that is expected; else raises what ``Refused`` is.
+    the audience ``aud``, where that is given, and each claim that is expected; else raises what ``Refused`` is, whose text
+    tells which claim failed.
 
-    A token whose claims have no ``exp`` never expires.
+    A token whose claims have no ``exp`` never expires: ``required=["exp"]`` demands it. The clocks of issuer and reader may
+    differ by ``leeway`` seconds. A token of more than ``longest`` bytes is refused before it is read; 0 is no limit.
     """
     if isinstance(key, LocalKey):
-        parse = _library.paseto_v4_local_parse
+        parse = _library.paseto_v4_local_parse_with
     elif isinstance(key, PublicKey):
-        parse = _library.paseto_v4_public_parse
+        parse = _library.paseto_v4_public_parse_with
     else:
         raise TypeError("a token is admitted under a LocalKey or a PublicKey")
     wanted = dict(expected or {})
     if aud is not None:
         wanted["aud"] = aud
     read = _bytes(token)
+    if not (0 <= leeway < 2**32 and 0 <= longest < 2**64):
+        raise ValueError("leeway is a number of seconds below 2**32, and longest one of bytes")
+    names = _bytes(json.dumps(list(required), ensure_ascii=False)) if required else b""
+    options = _Options(leeway, longest, *_lent(names))
     words = (*_lent(key.to_bytes()), *_lent(read), *_lent(_json(wanted)), _moment(now))
-    text = _ask(parse, (*words, *_lent(_bytes(footer)), *_lent(_bytes(assertion))), len(read))
+    text = _told(parse, (*words, *_lent(_bytes(footer)), *_lent(_bytes(assertion)), ctypes.byref(options)), len(read))
     claims = json.loads(text)
     if not isinstance(claims, dict):
         raise NotObject
@@ -408,6 +435,34 @@ def _ask(call: Callable[..., int], words: tuple[Any, ...], length: int) -> bytes
         return room.raw[: written.value]
 
 
+class _Options(ctypes.Structure):
+    """``struct paseto_options``."""
+
+    _fields_ = [
+        ("leeway", ctypes.c_uint32),
+        ("longest", ctypes.c_size_t),
+        ("required", ctypes.c_char_p),
+        ("required_length", ctypes.c_size_t),
+    ]
+
+
+def _told(call: Callable[..., int], words: tuple[Any, ...], length: int) -> bytes:
+    """The answer of a call that tells its refusal, in a room of this length, which is enough for what is shorter than a token."""
+    line_length = 200
+    while True:
+        room, line = ctypes.create_string_buffer(max(length, 1)), ctypes.create_string_buffer(line_length)
+        written, told = ctypes.c_size_t(), ctypes.c_size_t()
+        status = call(*words, room, length, ctypes.byref(written), line, line_length, ctypes.byref(told))
+        if status == _OK:
+            return room.raw[: written.value]
+        if status == _ROOM:
+            length = written.value
+        elif told.value > line_length:
+            line_length = told.value
+        else:
+            raise _FAULTS[status](line.raw[: told.value].decode())
+
+
 def _text_of(status: int) -> str:
     """What the library says of a status."""
     return _ask(_library.paseto_error_text, (status,), 100).decode()
@@ -419,11 +474,12 @@ def _declare() -> None:
     room = [ctypes.c_char_p, ctypes.c_size_t]
     answer = [*room, ctypes.POINTER(ctypes.c_size_t)]
     moment = [ctypes.c_int64]
+    options = [ctypes.POINTER(_Options)]
     kinds = {
         "paseto_v4_local_build": 3 * slice_ + moment + 2 * slice_ + answer,
         "paseto_v4_public_build": 2 * slice_ + moment + 2 * slice_ + answer,
-        "paseto_v4_local_parse": 3 * slice_ + moment + 2 * slice_ + answer,
-        "paseto_v4_public_parse": 3 * slice_ + moment + 2 * slice_ + answer,
+        "paseto_v4_local_parse_with": 3 * slice_ + moment + 2 * slice_ + options + answer + answer,
+        "paseto_v4_public_parse_with": 3 * slice_ + moment + 2 * slice_ + options + answer + answer,
         "paseto_v4_public_keypair": slice_ + 2 * room,
         "paseto_footer": slice_ + answer,
         "paseto_error_text": [ctypes.c_uint8, *answer],

@@ -79,10 +79,30 @@ def ask_tokens(issuing, admitting, another, of_another_key: type[Exception]) -> 
         claims = {"text": "x" * length}
         long = paseto.issue(issuing, claims, now=NOW)
         check(paseto.admit(long, admitting, expected=claims, now=NOW)["text"] == claims["text"], "a long token finds its room")
+    ask_options(token, admitting)
     kept = paseto.issue(issuing, {"exp": "2030-01-01T00:00:00Z", "nbf": "2020-01-01T00:00:00Z"}, now=NOW)
     check(paseto.admit(kept, admitting, now=NOW + 10**7)["exp"] == "2030-01-01T00:00:00Z", "claims say when it expires")
     fresh = paseto.issue(issuing, {"sub": "x"})
     check(paseto.admit(fresh, admitting)["sub"] == "x", "by the clock it is admitted at once")
+
+
+def ask_options(token: str, key) -> None:
+    """What is asked beside claims, and what a refusal tells."""
+    check(paseto.admit(token, key, required=["exp", "roles"], now=NOW)["seats"] == 4, "claims that have to be there")
+    refuses(paseto.Missing, "a claim that has to be there", paseto.admit, token, key, required=["jti"], now=NOW)
+    refuses(paseto.NotNames, "a name that is no text", paseto.admit, token, key, required=[1], now=NOW)
+    check(paseto.admit(token, key, leeway=1, now=NOW + 3600)["seats"] == 4, "a second of leeway")
+    refuses(paseto.Expired, "a second later", paseto.admit, token, key, leeway=1, now=NOW + 3601)
+    check(paseto.admit(token, key, longest=len(token), now=NOW)["seats"] == 4, "a token of the limit's length")
+    refuses(paseto.TooLong, "a longer token", paseto.admit, token, key, longest=len(token) - 1, now=NOW)
+    refuses(ValueError, "a leeway below 0", paseto.admit, token, key, leeway=-1)
+    said = "The claim 'aud' failed validation.  Expected 'customers' but received '" + "x" * 300 + "'"
+    try:
+        paseto.admit(token, key, aud="x" * 300, now=NOW)
+    except paseto.Invalid as refusal:
+        check(str(refusal) == said, f"what is told: {refusal}")
+    else:
+        check(False, "another audience is admitted")
 
 
 def ask_issuing() -> None:
@@ -120,10 +140,10 @@ def ask_keys() -> None:
 def ask_faults() -> None:
     """One class a fault, with the library's text."""
     made = {fault.status: fault for _, fault in inspect.getmembers(paseto, inspect.isclass) if hasattr(fault, "status")}
-    check(sorted(made) == list(range(2, 28)), f"statuses with a class: {sorted(made)}")
-    same = (paseto.NotUtf8, paseto.Utf8Error, paseto.FromUtf8Error)
+    check(sorted(made) == list(range(2, 31)), f"statuses with a class: {sorted(made)}")
+    same = (paseto.NotUtf8, paseto.Utf8Error, paseto.FromUtf8Error, paseto.RsaCipher)
     texts = [str(fault()) for fault in made.values() if fault not in same]
-    check(len(set(texts)) == len(texts), "the texts tell the faults apart, but those of UTF-8")
+    check(len(set(texts)) == len(texts), "the texts tell the faults apart, but those of UTF-8 and of ciphers")
     check(str(paseto.Expired()) == "This token is expired", str(paseto.Expired()))
     check(issubclass(paseto.Expired, paseto.Refused) and issubclass(paseto.NoMemory, MemoryError), "the kinds of faults")
     check(not issubclass(paseto.InvalidKey, paseto.Refused), "a fault of the program is no refusal")

@@ -125,30 +125,65 @@ CALL(v3_public_sign, GIVEN(g->key), GIVEN(g->text), GIVEN(g->footer), GIVEN(g->a
 CALL(v3_public_verify, GIVEN(g->key), GIVEN(g->token), GIVEN(g->footer), GIVEN(g->assertion))
 CALL(v4_public_sign, GIVEN(g->key), GIVEN(g->text), GIVEN(g->footer), GIVEN(g->assertion))
 CALL(v4_public_verify, GIVEN(g->key), GIVEN(g->token), GIVEN(g->footer), GIVEN(g->assertion))
+CALL(v1_local_build, GIVEN(g->key), GIVEN(g->nonce), GIVEN(g->text), g->now, GIVEN(g->footer))
+CALL(v2_local_build, GIVEN(g->key), GIVEN(g->nonce), GIVEN(g->text), g->now, GIVEN(g->footer))
+CALL(v3_local_build, GIVEN(g->key), GIVEN(g->nonce), GIVEN(g->text), g->now, GIVEN(g->footer), GIVEN(g->assertion))
 CALL(v4_local_build, GIVEN(g->key), GIVEN(g->nonce), GIVEN(g->text), g->now, GIVEN(g->footer), GIVEN(g->assertion))
+CALL(v2_public_build, GIVEN(g->key), GIVEN(g->text), g->now, GIVEN(g->footer))
+CALL(v3_public_build, GIVEN(g->key), GIVEN(g->text), g->now, GIVEN(g->footer), GIVEN(g->assertion))
 CALL(v4_public_build, GIVEN(g->key), GIVEN(g->text), g->now, GIVEN(g->footer), GIVEN(g->assertion))
+CALL(v1_local_parse, GIVEN(g->key), GIVEN(g->token), GIVEN(g->expected), g->now, GIVEN(g->footer))
+CALL(v2_local_parse, GIVEN(g->key), GIVEN(g->token), GIVEN(g->expected), g->now, GIVEN(g->footer))
+CALL(v3_local_parse, GIVEN(g->key), GIVEN(g->token), GIVEN(g->expected), g->now, GIVEN(g->footer), GIVEN(g->assertion))
 CALL(v4_local_parse, GIVEN(g->key), GIVEN(g->token), GIVEN(g->expected), g->now, GIVEN(g->footer), GIVEN(g->assertion))
+CALL(v2_public_parse, GIVEN(g->key), GIVEN(g->token), GIVEN(g->expected), g->now, GIVEN(g->footer))
+CALL(v3_public_parse, GIVEN(g->key), GIVEN(g->token), GIVEN(g->expected), g->now, GIVEN(g->footer), GIVEN(g->assertion))
 CALL(v4_public_parse, GIVEN(g->key), GIVEN(g->token), GIVEN(g->expected), g->now, GIVEN(g->footer), GIVEN(g->assertion))
 CALL(footer, GIVEN(g->token))
+
+/* With options, and a line in a room of any length. The status is a wrong one where a byte beyond that changes, where the line
+   is not there exactly for a refusal, or where it is not the front of one. */
+static paseto_status v4_local_parse_with(const struct given *g, uint8_t *room, size_t length, size_t *written) {
+    static const char names[] = "[\"exp\",\"seats\"]";
+    static uint8_t line[200];
+    struct paseto_options options = {0, MOST, (const uint8_t *)names, sizeof names - 1};
+    size_t line_length = (size_t)(next() % 100), told = 12345;
+    memset(line, '#', sizeof line);
+    paseto_status status = paseto_v4_local_parse_with(GIVEN(g->key), GIVEN(g->token), GIVEN(g->expected), g->now, GIVEN(g->footer),
+                                                      GIVEN(g->assertion), &options, room, length, written,
+                                                      line_length > 0 ? line : NULL, line_length, &told);
+    bool is_refused = status != PASETO_OK && status != PASETO_ROOM;
+    size_t filled = told < line_length ? told : line_length;
+    for (size_t i = filled; i < sizeof line; i++) {
+        if (line[i] != '#') return 255;
+    }
+    return is_refused == (told > 0) && told != 12345 && (filled == 0 || line[0] != '#') ? status : 255;
+}
 
 /* A kind of token: how it is made and read, the lengths of its keys, and how often it is taken. */
 static const struct kind {
     const char *name;
     ask *make, *read;
-    size_t key, read_key;
+    size_t key, read_key, nonce;
     bool is_local, has_assertion, has_claims;
     paseto_status of_tampering;
     unsigned share;
 } kinds[] = {
-    {"v1 local", v1_local_encrypt, v1_local_decrypt, 32, 32, true, false, false, PASETO_CRYPTION, 15},
-    {"v2 local", v2_local_encrypt, v2_local_decrypt, 32, 32, true, false, false, PASETO_CHACHA_CIPHER_ERROR, 15},
-    {"v3 local", v3_local_encrypt, v3_local_decrypt, 32, 32, true, true, false, PASETO_CRYPTION, 15},
-    {"v4 local", v4_local_encrypt, v4_local_decrypt, 32, 32, true, true, false, PASETO_CRYPTION, 20},
-    {"v4 local of claims", v4_local_build, v4_local_parse, 32, 32, true, true, true, PASETO_CRYPTION, 20},
-    {"v2 public", v2_public_sign, v2_public_verify, 64, 32, false, false, false, PASETO_INVALID_SIGNATURE, 4},
-    {"v4 public", v4_public_sign, v4_public_verify, 64, 32, false, true, false, PASETO_INVALID_SIGNATURE, 4},
-    {"v4 public of claims", v4_public_build, v4_public_parse, 64, 32, false, true, true, PASETO_INVALID_SIGNATURE, 6},
-    {"v3 public", v3_public_sign, v3_public_verify, 48, 49, false, true, false, PASETO_INVALID_SIGNATURE, 1},
+    {"v1 local", v1_local_encrypt, v1_local_decrypt, 32, 32, 32, true, false, false, PASETO_CRYPTION, 10},
+    {"v2 local", v2_local_encrypt, v2_local_decrypt, 32, 32, 32, true, false, false, PASETO_CHACHA_CIPHER_ERROR, 10},
+    {"v3 local", v3_local_encrypt, v3_local_decrypt, 32, 32, 32, true, true, false, PASETO_CRYPTION, 10},
+    {"v4 local", v4_local_encrypt, v4_local_decrypt, 32, 32, 32, true, true, false, PASETO_CRYPTION, 14},
+    {"v1 local of claims", v1_local_build, v1_local_parse, 32, 32, 32, true, false, true, PASETO_CRYPTION, 6},
+    {"v2 local of claims", v2_local_build, v2_local_parse, 32, 32, 24, true, false, true, PASETO_CHACHA_CIPHER_ERROR, 6},
+    {"v3 local of claims", v3_local_build, v3_local_parse, 32, 32, 32, true, true, true, PASETO_CRYPTION, 6},
+    {"v4 local of claims", v4_local_build, v4_local_parse, 32, 32, 32, true, true, true, PASETO_CRYPTION, 10},
+    {"v4 local of claims with options", v4_local_build, v4_local_parse_with, 32, 32, 32, true, true, true, PASETO_CRYPTION, 10},
+    {"v2 public", v2_public_sign, v2_public_verify, 64, 32, 0, false, false, false, PASETO_INVALID_SIGNATURE, 4},
+    {"v4 public", v4_public_sign, v4_public_verify, 64, 32, 0, false, true, false, PASETO_INVALID_SIGNATURE, 4},
+    {"v2 public of claims", v2_public_build, v2_public_parse, 64, 32, 0, false, false, true, PASETO_INVALID_SIGNATURE, 3},
+    {"v4 public of claims", v4_public_build, v4_public_parse, 64, 32, 0, false, true, true, PASETO_INVALID_SIGNATURE, 5},
+    {"v3 public", v3_public_sign, v3_public_verify, 48, 49, 0, false, true, false, PASETO_INVALID_SIGNATURE, 1},
+    {"v3 public of claims", v3_public_build, v3_public_parse, 48, 49, 0, false, true, true, PASETO_INVALID_SIGNATURE, 1},
 };
 
 static const struct kind *any_kind(void) {
@@ -188,8 +223,8 @@ static bool draw(struct sample *s) {
     s->kind = any_kind();
     draw_keys(s->kind, &unused, &s->other_key);
     draw_keys(s->kind, &s->making.key, &s->read_key);
-    s->making.nonce.length = 32;
-    fill(s->making.nonce.at, 32);
+    s->making.nonce.length = s->kind->nonce;
+    fill(s->making.nonce.at, s->kind->nonce);
     s->making.now = NOW;
     if (s->kind->has_claims) {
         put_text(&s->making.text, "{\"aud\":\"customers\",\"seats\":4,\"name\":\"");
@@ -241,8 +276,8 @@ static paseto_status spoil_arguments(struct given *g, const struct kind *kind, b
     switch (below(kind->has_claims ? 6 : 3)) {
     case 0: lengthen(&g->key, is_making ? kind->key : kind->read_key); return PASETO_INVALID_KEY;
     case 1:
-        if (!is_making || !kind->is_local) return PASETO_OK;
-        lengthen(&g->nonce, 32);
+        if (!is_making || kind->nonce == 0) return PASETO_OK;
+        lengthen(&g->nonce, kind->nonce);
         return PASETO_INVALID_NONCE;
     case 2: spoil(g, text, kind->has_assertion); return PASETO_NOT_UTF8;
     case 3: set_text(object, no_objects[below(7)]); return PASETO_NOT_OBJECT;
