@@ -1,6 +1,6 @@
 //! What the program says of the errors of builders, parsers and rings.
 
-ghost use Rattle.std.specs.Prelude.{◌≡◌, ◌≢◌, ◌⊎◌, Ok, IfErr, IfOk, IsErrAnd, IsOk, IsOkAnd, OnOk, codes, string_bytes};
+ghost use Rattle.std.specs.Prelude.{◌≡◌, ◌≢◌, ◌⊎◌, ◌++◌, ◌∷◌, [], Ok, IfErr, IfOk, IsErrAnd, IsOk, IsOkAnd, OnOk, codes, encode_utf8_all, map, string_bytes};
 ghost use Rattle.serde_json.specs.View.{view};
 ghost use Rattle.rusty_paseto.specs.KeyRing.{IsMemory as IsMemoryOfRing, IsNoMemory};
 ghost use Rattle.rusty_paseto_core.specs.declared.PasetoError.TheVariants.{Cipher};
@@ -237,19 +237,28 @@ pub fn one_line_of(alloc: Global, text: Result<String, AllocError>) -> Result<St
     ensures { IfOk result (λ line. IsOkAnd text
         (λ text. string_bytes line ≡ one_line (string_bytes text))) }
 {
-    let text = text?;
+    match text {
+        Ok(text) => one_line(alloc, text.as_str()),
+        Err(source) => Err(source),
+    }
+}
+
+fn one_line(alloc: Global, text: &str) -> Result<String, AllocError>
+    ensures { IfOk result (λ line. string_bytes line ≡ one_line text.now) }
+{
     let mut line = String::new(alloc);
     for letter in text.chars() {
-        line.push(shown(letter))?;
+        push_shown(&mut line, letter)?;
     }
     Ok(line)
 }
 
-/// A character as it stands in a line.
-fn shown(letter: char) -> char
-    ensures { result ≡ shown_letter letter }
+/// Appends a character as it stands in a line.
+fn push_shown(line: &mut String, letter: char) -> Result<(), AllocError>
+    ensures { OnOk result (string_bytes line.new ≡ string_bytes line.old
+        ++ encode_utf8_all (map shown_letter (letter ∷ []))) }
 {
-    if letter.is_control() { '?' } else { letter }
+    line.push(if letter.is_control() { '?' } else { letter })
 }
 
 /// The text under `exp`, or the empty one where there is none.

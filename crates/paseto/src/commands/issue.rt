@@ -242,7 +242,8 @@ fn signed_by<V: Asserts + Signs<S>, S>(
         ⊎ ((source : TokenError) × DeclinesOrder V.declined V.partner V.public_design
         (ordered order.now) key.now source))) }
     ensures usage { IfErr result (λ error. IsNoUsage error ⊎ AreNever (ordered order.now)) }
-    ensures said { IfErr result (Says (IsRepeatedLine (ordered order.now))) }
+    ensures said { HasPrivateLength V.public_design key.now
+        → IfErr result (Says (IsRepeatedLine (ordered order.now))) }
 {
     let builder = builder_of::<V, Public>(alloc, order)?;
     with_line_feed(built(alloc, builder.build(scheme, key))?)

@@ -118,7 +118,7 @@ pub fn between(alloc: Global, one: Timestamp, other: Timestamp) -> Result<String
     ensures { IfOk result (λ text. string_bytes text
         ≡ between_text one.nanosecond other.nanosecond) }
 {
-    length_of(alloc, (other.as_second() - one.as_second()).unsigned_abs())
+    length_of(alloc, other.as_second().abs_diff(one.as_second()))
 }
 
 /// A length of so many seconds, in words.
