@@ -1,8 +1,8 @@
 //! Moments and lengths of time, as words say them.
 
-ghost use Rattle.std.specs.Prelude.{◌≡◌, ◌≢◌, ◌≤◌, ◌*◌, ◌++◌, ◌+ℤ◌, ℕ, List, pos, IfErr, IfOk, IfSome, MatchOption, option_map, string_bytes};
+ghost use Rattle.std.specs.Prelude.{◌≡◌, ◌≢◌, ◌≤◌, ◌*◌, ◌++◌, ◌+ℤ◌, ◌-ℤ◌, ℕ, List, pos, IfErr, IfOk, IfSome, MatchOption, option_map, string_bytes, unsigned_abs};
 ghost use Rattle.jiff.specs.Words.{IsTimestampNanos};
-ghost use Rattle.paseto.specs.Answers.{between_text, count_text, length_text};
+ghost use Rattle.paseto.specs.Answers.{between_text, count_text, length_text, second_of};
 ghost use Rattle.paseto.specs.Times.{HasUnit, IsLeeway, IsLength, IsNumber, SaysMoment, SaysNone};
 ghost use Rattle.paseto_tasks.specs.Error.{IsNoRefusal, Lacks};
 
@@ -118,7 +118,16 @@ pub fn between(alloc: Global, one: Timestamp, other: Timestamp) -> Result<String
     ensures { IfOk result (λ text. string_bytes text
         ≡ between_text one.nanosecond other.nanosecond) }
 {
-    length_of(alloc, other.as_second().abs_diff(one.as_second()))
+    length_of(alloc, seconds_between(one, other))
+}
+
+/// How many whole seconds it is from one moment to another, or back.
+fn seconds_between(one: Timestamp, other: Timestamp) -> u64
+    ensures { result ≡ unsigned_abs
+        (second_of other.nanosecond -ℤ second_of one.nanosecond) }
+{
+    let (one, other) = (one.as_second(), other.as_second());
+    other.abs_diff(one)
 }
 
 /// A length of so many seconds, in words.
