@@ -1,7 +1,7 @@
 #!/usr/bin/env python3
 """A session service over tokens of version 4: whoever logs in gets a cookie that is a token, and no session is stored.
 
-    PYTHONPATH=c PASETO_LIBRARY=PREFIX/lib/libpaseto.so examples/session_service.py --port 8000 --database sessions.db
+    PYTHONPATH=bindings/python/src PASETO_LIBRARY=PREFIX/lib/libpaseto.so examples/session_service.py --port 8000 --database sessions.db
 
     curl -c jar -d 'user=ada&password=lovelace' http://127.0.0.1:8000/login
     curl -b jar http://127.0.0.1:8000/me

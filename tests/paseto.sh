@@ -410,9 +410,10 @@ refuses "a truncated key to issue" 1 "" "cut: $bad_key" issue --key cut
 refuses "no token to check" 1 "" "$input: $bad_count" check --key v4.local
 refuses "no token for a ring" 1 "" "$input: $bad_count" check --ring ring
 refuses "a token of another kind for a ring" 1 v1.public.AAAA "$input: $bad_header" check --ring ring
-refuses "no footer for a ring" 1 "$("$program" issue --key 4.issues)" "$input: The token has no footer" check --ring ring
-refuses "a footer that names no key" 1 "$("$program" issue --key 4.issues --footer id)" "$input: The footer is not a JSON object" check --ring ring
-refuses "a key that is not in the ring" 1 "$("$program" issue --key 4.issues --footer-kid "$(printf 'a\nb')")" "$input: The key 'a\\nb' is not in the ring" check --ring ring
+refuses "no footer for a ring" 1 "$("$program" issue --key 4.issues)" "$input: the token has no footer, which names its key in a ring" check --ring ring
+refuses "a footer that names no key" 1 "$("$program" issue --key 4.issues --footer id)" "$input: the footer of the token is not a JSON object" check --ring ring
+refuses "a footer with no id of a key" 1 "$("$program" issue --key 4.issues --footer '{"kid":4}')" "$input: the footer of the token names no key: it has no text under kid" check --ring ring
+refuses "a key that is not in the ring" 1 "$("$program" issue --key 4.issues --footer-kid "$(printf 'a\nb')")" "$input: The key 'a?b' is not in the ring" check --ring ring
 refuses "no ring" 3 "$(cat token)" "nowhere: $no_file" check --ring nowhere
 cp -r ring rings && echo nothing >rings/notes && cp ring/4 rings/.hidden && echo nothing >rings/.notes
 refuses "a ring with a file that is no key" 1 "$(cat token)" "rings: The file 'notes' of the ring is no key file" check --ring rings
@@ -432,12 +433,15 @@ for time in "" h 1 1y -1h 1.5h 5000000000s tomorrow 2026-11-22; do
     refuses "the time '$time' of check" 2 "" "--at: $a_time" check --key v4.local --at="$time"
 done
 refuses "a claim twice" 1 "" "The claim 'a' appears more than once in the top level payload json" issue --key v4.local --claim a=1 --claim a=2
-refuses "a claim that is no whole number" 1 "" "Could not convert claim 'a' to the expected data type" issue --key v4.local --claim a:=1.5
+refuses "a claim that is no whole number" 1 "" "--claim: a number in a claim is a whole one, of 64 bits at most" issue --key v4.local --claim a:=1.5
 is "claims of every kind" "$("$program" issue --key v4.local --claim 'a:={"b":[1,null,true]}' --claim 'c:d=e=f' --claim g= | "$program" check --key v4.local |
     sed -E 's/"(exp|iat|nbf)":"[^"]*",?//g; s/,}$/}/')" '{"a":{"b":[1,null,true]},"c:d":"e=f","g":""}'
 is "paseto_tool opens what is issued" "$("$program" issue --key v4.local --claim a=1 | "$tool" open v4 $hex | grep -c '"a":"1"')" 1
 is "check takes paseto_tool's" "$(printf '{"a":"1"}' | "$tool" seal v4 $hex $zero | "$program" check --key v4.local --claim a=1)" '{"a":"1"}'
-refuses "a text that is no JSON" 1 "$(made encrypt --key v4.local)" "$input: The payload was unable to be serialized into json" check --key v4.local
+refuses "a claim that is no whole number to check" 1 "" "--claim: a number in a claim is a whole one, of 64 bits at most" check --key v4.local --claim a:=1.5
+refuses "a token with a number that is not whole" 1 "$(printf '{"a":1.5}' | "$program" encrypt --key v4.local)" \
+    "$input: a claim of the token has a number that is not a whole one of 64 bits" check --key v4.local
+refuses "a text that is no JSON" 1 "$(made encrypt --key v4.local)" "$input: the text of the token is not valid JSON" check --key v4.local
 "$program" issue --key open.local >out 2>err
 is "issue by a key file that others can read" "$? $(cat err)" "0 paseto: open.local: warning: others than its owner can read the key file"
 "$program" issue --key v4.local >/dev/full 2>err

@@ -1,4 +1,4 @@
-"""A program in Python over c/paseto.py, which asks each call; the last line is 'N passed, M failed'."""
+"""A program in Python over the package of bindings/python, which asks each call; the last line is 'N passed, M failed'."""
 
 from __future__ import annotations
 
@@ -88,9 +88,9 @@ def ask_tokens(issuing, admitting, another, of_another_key: type[Exception]) -> 
 
 def ask_options(token: str, key) -> None:
     """What is asked beside claims, and what a refusal tells."""
-    check(paseto.admit(token, key, required=["exp", "roles"], now=NOW)["seats"] == 4, "claims that have to be there")
-    refuses(paseto.Missing, "a claim that has to be there", paseto.admit, token, key, required=["jti"], now=NOW)
-    refuses(paseto.NotNames, "a name that is no text", paseto.admit, token, key, required=[1], now=NOW)
+    check(paseto.admit(token, key, require=["exp", "roles"], now=NOW)["seats"] == 4, "claims that have to be there")
+    refuses(paseto.Missing, "a claim that has to be there", paseto.admit, token, key, require=["jti"], now=NOW)
+    refuses(paseto.NotNames, "a name that is no text", paseto.admit, token, key, require=[1], now=NOW)
     check(paseto.admit(token, key, leeway=1, now=NOW + 3600)["seats"] == 4, "a second of leeway")
     refuses(paseto.Expired, "a second later", paseto.admit, token, key, leeway=1, now=NOW + 3601)
     check(paseto.admit(token, key, longest=len(token), now=NOW)["seats"] == 4, "a token of the limit's length")

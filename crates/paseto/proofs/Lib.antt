@@ -8,4 +8,5 @@ pub mod Holders
 pub mod RingParsing
 pub mod Headers
 pub mod Checking
+pub mod Lines
 pub mod SameWords

@@ -61,7 +61,7 @@ pub no_value : (Is : Data → Type 0) (error : ProgramError) → Lacks Is error 
 no_value Is error none = record { found = tt; one = tt; none = none }
 
 -- a line that was read as no key
-pub no_key_value : (error : PaserkError) (Is : Data → Type 0) → ((value : Data) → Is value → IsKeyMemory error) → Lacks Is (key_error_of error)
+pub no_key_value : {X : Type 0} (error : PaserkError) (Is : X → Type 0) → ((value : X) → Is value → IsKeyMemory error) → Lacks Is (key_error_of error)
 no_key_value (NoKeyMemory source) Is none = inl tt
 no_key_value error Is none = inr none
 

@@ -5,14 +5,15 @@ use Rattle.jiff.specs.Types.{Timestamp}
 use Rattle.paseto_tasks.specs.declared.arguments.Options.{Options}
 use Rattle.paseto.specs.declared.commands.check.Keys.{Keys}
 use Rattle.paseto.specs.Check.{AreDemands, Demanded}
-use Rattle.paseto.specs.Checked.{ChecksBy, ChecksFor, ChecksNothing}
-use Rattle.paseto_tasks.specs.Error.{IsNoUsage, IsOutside, Lacks}
+use Rattle.paseto.specs.Checked.{ChecksBy, ChecksFor, ChecksNothing, IsCheckLine, IsCheckLineFor}
+use Rattle.paseto_tasks.specs.Error.{IsCauseOf, IsNoUsage, IsOutside, Lacks, Says}
 use Rattle.paseto_tasks.specs.declared.error.ProgramError.{ProgramError}
 use Rattle.paseto.specs.Issue.{AreNever, IsOrder, Issues, IssuesNone, IssuesNothing, Ordered, OrdersNothing}
 use Rattle.paseto.proofs.SameWords.{same_demands, same_order}
 use Rattle.paseto_tasks.specs.Input.{line_of_input}
 use Rattle.paseto_tasks.specs.Output.{IsLeftOf}
 use Rattle.paseto_tasks.proofs.Outputs.{left_of_made}
+use Rattle.paseto_tasks.proofs.Statuses.{cause_says, says_so}
 
 -- what each value that is answered is, it is in other words
 pub in_other_words : {T E : Type 0} (result : Result T E) (A B : T → Type 0) → ((t : T) → A t → B t) → IfOk result A → IfOk result B
@@ -84,3 +85,27 @@ issues_none claims options now key (Err error) order is (inl outside) = inl outs
 issues_none claims options now key (Err error) order is (inr (inr declined)) = inr (inr (order, is, declined))
 issues_none claims options now key (Err error) order is (inr (inl none)) = inr (inl (λ line issues.
     none line (subst (λ (o : Ordered). Issues key o (λ nonce. ⊤) line) (same_order claims options now issues.0 order issues.1 is) issues.2)))
+
+-- ---- what is said
+
+pub all_so : {T : Type 0} (One Other : List ℕ → Type 0) (answer : Result T ProgramError) → ((line : List ℕ) → One line → Other line)
+    → IfErr answer (Says One) → IfErr answer (Says Other)
+all_so One Other (Ok value) into says = tt
+all_so One Other (Err error) into says = says_so One Other into error says
+
+-- of a token that is the line of the input, under the demands of the words
+pub checks_say : (known : Option (List ℕ)) (result : Result (String Global) ProgramError) (token text : List ℕ)
+    (claims : List (List ℕ)) (options : Options) (now : Timestamp) (keys : Keys) (demands : Demanded)
+    → IfSome known (λ bytes. line_of_input bytes ≡ token) → text ≡ token → AreDemands claims options now demands
+    → IfErr result (Says (IsCheckLine keys demands text))
+    → IfErr result (λ error. IfSome known (λ bytes. Says (IsCheckLineFor claims options now keys (line_of_input bytes)) error))
+checks_say known (Ok line) token text claims options now keys demands read same are says = tt
+checks_say None (Err error) token text claims options now keys demands read same are says = tt
+checks_say (Some bytes) (Err error) token text claims options now keys demands read same are says =
+    rw read (says_so (IsCheckLine keys demands text) (IsCheckLineFor claims options now keys token) (λ line is. (demands, are, rw same at is)) error says)
+
+-- of the error that ends the program, where the input is known
+pub known_cause_says : {T : Type 0} (known : Option (List ℕ)) (IsLine : List ℕ → List ℕ → Type 0) (made : Result T ProgramError) (error : ProgramError)
+    → IsCauseOf made error → IfErr made (λ cause. IfSome known (λ bytes. Says (IsLine bytes) cause)) → IfSome known (λ bytes. Says (IsLine bytes) error)
+known_cause_says None IsLine made error cause says = tt
+known_cause_says (Some bytes) IsLine made error cause says = cause_says (IsLine bytes) made error cause says

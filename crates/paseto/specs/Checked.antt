@@ -1,5 +1,5 @@
 -- What `check` prints.
-use Rattle.std.specs.Prelude.{◌≡◌, ℕ, List, [], ◌∷◌, ◌++◌, Option, false, IsUtf8}
+use Rattle.std.specs.Prelude.{◌≡◌, ◌⊎◌, ℕ, List, [], ◌∷◌, ◌++◌, Option, false, IsUtf8}
 use Rattle.jiff.specs.Types.{Timestamp}
 use Rattle.serde_json.specs.Data.{Data}
 use Rattle.rusty_paseto_parts.specs.declared.texts.implicit_assertion.ImplicitAssertion.{ImplicitAssertion}
@@ -8,8 +8,12 @@ use Rattle.paseto_tasks.specs.declared.arguments.Options.{Options}
 use Rattle.paseto.specs.declared.commands.check.Keys.{Keys}
 use Rattle.paseto.specs.declared.commands.check.Keys.TheVariants.{One, Ring}
 use Rattle.paseto_tasks.specs.Arguments.{words_of}
-use Rattle.paseto.specs.Check.{AreDemands, Demanded, IsDemanded, ParsesByKey}
-use Rattle.paseto.specs.Ring.{ParsesByRing}
+use Rattle.rusty_paseto_claims.specs.declared.error.PasetoClaimError.{PasetoClaimError}
+use Rattle.rusty_paseto_generic.specs.Parsers.Parsing.{IsCheckFault}
+use Rattle.rusty_paseto_generic.specs.declared.error.GenericParserError.TheVariants.{ClaimError}
+use Rattle.paseto.specs.Answers.{claim_line}
+use Rattle.paseto.specs.Check.{AreDemands, Demanded, IsDemanded, ParsesByKey, demanded_rules}
+use Rattle.paseto.specs.Ring.{IsRingLine, ParsesByRing}
 
 -- the value is that of the token under the key of the line, or the one of the lines that its footer names
 abbrev pub ParsesBy : Keys → Option (List ℕ) → Option ImplicitAssertion → List ℕ → Data → Type 0
@@ -35,3 +39,21 @@ pub record ChecksFor (claims : List (List ℕ)) (options : Options) (now : Times
 -- no line is printed for the token: it is none of the keys', or another one than the words demand
 abbrev pub ChecksNothing : List (List ℕ) → Options → Timestamp → Keys → List ℕ → Type 0
 ChecksNothing claims options now keys token = (line : List ℕ) → ¬ ChecksFor claims options now keys token line
+
+-- ---- what is said of a token that is refused, beside what stands in the table of errors
+
+-- the first fault of the token's claims under what is demanded of them, at the moment of checking
+pub record IsClaimLine (keys : Keys) (demands : Demanded) (token line : List ℕ) : Type 0 where
+  pub claims : Data
+  pub parses : ParsesBy keys demands.footer demands.assertion token claims
+  pub fault : PasetoClaimError
+  pub is_fault : IsCheckFault (demanded_rules demands) claims (ClaimError fault)
+  pub line_is : line ≡ claim_line claims demands.at fault
+
+abbrev pub IsCheckLine : Keys → Demanded → List ℕ → List ℕ → Type 0
+IsCheckLine keys demands token line = IsRingLine token line ⊎ IsClaimLine keys demands token line
+
+-- the same of what words demand at a moment
+abbrev pub IsCheckLineFor : List (List ℕ) → Options → Timestamp → Keys → List ℕ → List ℕ → Type 0
+IsCheckLineFor claims options now keys token line =
+    (demands : Demanded) × AreDemands claims options now demands × IsCheckLine keys demands token line

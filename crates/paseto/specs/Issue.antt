@@ -22,6 +22,7 @@ use Rattle.rusty_paseto_paserk.specs.declared.header.PaserkVersion.TheVariants.{
 use Rattle.rusty_paseto_paserk.specs.declared.header.PaserkType.TheVariants.{Secret}
 use Rattle.paseto_tasks.specs.declared.arguments.Options.{Options}
 use Rattle.paseto.specs.declared.commands.issue.Order.{Order}
+use Rattle.paseto.specs.Answers.{one_line, repeated_text}
 use Rattle.paseto.specs.Check.{bound_to}
 use Rattle.paseto.specs.Claims.{AreClaims, AreSet, Named, all_counted, all_named}
 use Rattle.paseto.specs.Footers.{IsFooter}
@@ -172,6 +173,14 @@ abbrev pub IssuesNothing : List (List ℕ) → Options → Timestamp → List �
 IssuesNothing claims options now key =
     ((line : List ℕ) → ¬ IssuesFor claims options now key (λ nonce. ⊤) line)
     ⊎ ((order : Ordered) × IsOrder claims options now order × IsDeclinedOrder key order)
+
+-- what is said where a claim is set twice, beside what stands in the table of errors: the last one that is
+abbrev pub IsRepeatedLine : Ordered → List ℕ → Type 0
+IsRepeatedLine order line = (name : List ℕ) × ((keys_set order).repeated ≡ Some name) × (line ≡ one_line (repeated_text name))
+
+-- the same of what the words order at a moment
+abbrev pub IsIssueLineFor : List (List ℕ) → Options → Timestamp → List ℕ → Type 0
+IsIssueLineFor claims options now line = (order : Ordered) × IsOrder claims options now order × IsRepeatedLine order line
 
 -- ---- for private clauses
 

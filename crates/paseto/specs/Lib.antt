@@ -4,5 +4,6 @@ pub mod Footers
 pub mod Readers
 pub mod Issue
 pub mod Check
+pub mod Answers
 pub mod Ring
 pub mod Checked

@@ -1,17 +1,18 @@
 -- The rings of key lines.
-use Rattle.std.specs.Prelude.{◌≡◌, ◌≢◌, ◌⊎◌, ⊤, ℕ, List, [], ◌∷◌, Option, None}
+use Rattle.std.specs.Prelude.{◌≡◌, ◌≢◌, ◌⊎◌, ⊤, ℕ, List, [], ◌∷◌, Option, None, Some}
 use Rattle.serde_json.specs.Data.{Data}
 use Rattle.rusty_paseto_core.specs.Context.{Binding}
 use Rattle.rusty_paseto_core.specs.Reading.{Reading}
 use Rattle.rusty_paseto_parts.specs.declared.texts.implicit_assertion.ImplicitAssertion.{ImplicitAssertion}
 use Rattle.rusty_paseto_generic.specs.Parsers.Rules.{no_rule}
-use Rattle.rusty_paseto.specs.KeyRing.{IsParsed, Keys, with_key}
+use Rattle.rusty_paseto.specs.KeyRing.{HasFooter, IsParsed, Keys, Names, with_key}
 use Rattle.rusty_paseto_paserk.specs.declared.header.PaserkVersion.{PaserkVersion}
 use Rattle.rusty_paseto_paserk.specs.declared.header.PaserkType.{PaserkType}
 use Rattle.rusty_paseto_paserk.specs.declared.error.PaserkError.{PaserkError}
 use Rattle.rusty_paseto_paserk.specs.declared.error.PaserkError.TheVariants.{OtherVersion, OtherType}
 use Rattle.rusty_paseto_paserk.specs.Header.{HasHeader}
 use Rattle.rusty_paseto_paserk.specs.Id.{id_of}
+use Rattle.paseto.specs.Answers.{one_line, unknown_text}
 use Rattle.paseto.specs.Check.{bound_to}
 use Rattle.paseto_tasks.specs.Arguments.{Takes, assertion_where, binds_in}
 use Rattle.paseto_tasks.specs.Id.{IsKeyLine, IsKeyOf}
@@ -51,6 +52,10 @@ pub record ParsesByRing (lines : List (List ℕ)) (footer : Option (List ℕ)) (
   pub takes : Takes version assertion
   pub is_reader : IsReader kind version
   pub parses : ParsesIn kind version (reading_of kind version) lines footer assertion token value
+
+-- what is said where the footer of the token names a key that is not in a ring
+abbrev pub IsRingLine : List ℕ → List ℕ → Type 0
+IsRingLine token line = (footer : List ℕ) × (id : List ℕ) × HasFooter token (Some footer) × Names footer id × (line ≡ one_line (unknown_text id))
 
 -- ---- for private clauses
 

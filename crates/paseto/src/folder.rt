@@ -1,6 +1,6 @@
 //! The key files of a folder, and files that are opened.
 
-use crate::commands::answers::unfit;
+use crate::commands::answers::{one_line_of, told};
 use paseto_tasks::{ProgramError, read_key_line};
 use rusty_paseto_paserk::header_of;
 use std::alloc::Global;
@@ -30,10 +30,10 @@ pub fn key_lines(rt: &HostRuntime, folder: &str) -> Result<Vec<String>, ProgramE
 
 /// A file of the folder is no key file.
 fn no_key(alloc: Global, name: &str) -> ProgramError {
-    match format!(in alloc; "The file '{name}' of the ring is no key file") {
-        Ok(text) => unfit(alloc, &text),
-        Err(source) => ProgramError::Memory(source),
-    }
+    told(one_line_of(
+        alloc,
+        format!(in alloc; "The file '{name}' of the ring is no key file"),
+    ))
 }
 
 /// A file, or why there is none. One that was given the number of a closed standard stream is refused, since it would

@@ -7,7 +7,7 @@ use Rattle.rusty_paseto_paserk.specs.declared.error.PaserkError.TheVariants.{NoK
 use Rattle.paseto_tasks.specs.declared.arguments.Options.{Options}
 use Rattle.paseto_tasks.specs.declared.arguments.Task.{Task}
 use Rattle.paseto_tasks.specs.declared.error.ProgramError.{ProgramError}
-use Rattle.paseto_tasks.specs.declared.error.ProgramError.TheVariants.{Usage, KeyWord, NoKind, NoHalf, NoKey, OneInput, Claim, TimeClaim, Time, Key, TooLong, Refused, OtherKind, NoAssertion, OtherFooter, Unfit, NoFile, NoAccess, FileExists, Clock, Random, InputOrOutput, Memory}
+use Rattle.paseto_tasks.specs.declared.error.ProgramError.TheVariants.{Usage, KeyWord, NoKind, NoHalf, NoKey, OneInput, Claim, TimeClaim, Time, Key, TooLong, Refused, OtherKind, NoAssertion, OddClaim, OtherFooter, NoFooter, NotAnObject, NoKeyId, NotJson, OddNumber, Unfit, NoFile, NoAccess, FileExists, Clock, Random, InputOrOutput, Memory}
 use Rattle.paseto_tasks.specs.Error.{status_of}
 use Rattle.paseto_streams.specs.Output.{IsCutShort}
 use Rattle.paseto_tasks.specs.Output.{IsLeftOf}
@@ -46,7 +46,13 @@ status_of-some TooLong = refl
 status_of-some (Refused error) = refl
 status_of-some (OtherKind token key) = refl
 status_of-some NoAssertion = refl
+status_of-some OddClaim = refl
 status_of-some OtherFooter = refl
+status_of-some NoFooter = refl
+status_of-some NotAnObject = refl
+status_of-some NoKeyId = refl
+status_of-some NotJson = refl
+status_of-some OddNumber = refl
 status_of-some (Unfit line) = refl
 status_of-some NoFile = refl
 status_of-some NoAccess = refl

@@ -1,10 +1,10 @@
 -- Which errors end the program with which status.
-use Rattle.std.proofs.Common.{◌≡◌, ◌≢◌, ◌⊎◌, ℕ, ◌==◌, false, Result, Ok, Err, IfErr, IsErrAnd, inl, inr, refl, sym, ap, subst, ◌∙◌}
+use Rattle.std.proofs.Common.{◌≡◌, ◌≢◌, ◌⊎◌, ℕ, List, ◌==◌, false, Result, Ok, Err, IfErr, IsErrAnd, string_bytes, inl, inr, refl, sym, ap, subst, ◌∙◌}
 use Rattle.std.proofs.lemmas.Bool.{false≢true}
 use Rattle.rusty_paseto_paserk.specs.declared.error.PaserkError.TheVariants.{Memory as NoKeyMemory}
 use Rattle.paseto_tasks.specs.declared.error.ProgramError.{ProgramError}
 use Rattle.paseto_tasks.specs.declared.error.ProgramError.TheVariants.{Usage, KeyWord, NoKind, NoHalf, NoKey, OneInput, Claim, TimeClaim, Time, Key, Unfit, Clock, Random, InputOrOutput, Memory}
-use Rattle.paseto_tasks.specs.Error.{IsCauseOf, IsFixed, IsNoRefusal, IsNoUsage, IsOutside, status_of}
+use Rattle.paseto_tasks.specs.Error.{IsCauseOf, IsFixed, IsNoRefusal, IsNoUsage, IsOutside, Says, status_of}
 
 -- ---- 2
 
@@ -42,6 +42,31 @@ fixed_cause (Ok value) error (inl is) fixed = absurd is
 fixed_cause (Ok value) error (inr is) fixed = subst IsFixed (sym is) tt
 fixed_cause (Err cause) error (inl is) fixed = subst IsFixed is fixed
 fixed_cause (Err cause) error (inr is) fixed = subst IsFixed (sym is) tt
+
+-- ---- lines
+
+-- a line that is so is so in other words
+pub says_so : (One Other : List ℕ → Type 0) → ((line : List ℕ) → One line → Other line) → (error : ProgramError) → Says One error → Says Other error
+says_so One Other into (Unfit line) is = into (string_bytes line) is
+says_so One Other into error is = tt
+
+-- an error of the table has no line of its own
+pub fixed_says : (IsLine : List ℕ → Type 0) (error : ProgramError) → IsFixed error → Says IsLine error
+fixed_says IsLine (Unfit line) fixed = absurd fixed
+fixed_says IsLine error fixed = tt
+
+-- nor has one that refuses nothing
+pub no_refusal_says : (IsLine : List ℕ → Type 0) (error : ProgramError) → IsNoRefusal error → Says IsLine error
+no_refusal_says IsLine (Unfit line) none = absurd none
+no_refusal_says IsLine error none = tt
+
+-- the error that ends the program says what that says why nothing was made, or is of the table
+pub cause_says : {T : Type 0} (IsLine : List ℕ → Type 0) (made : Result T ProgramError) (error : ProgramError) → IsCauseOf made error
+    → IfErr made (Says IsLine) → Says IsLine error
+cause_says IsLine (Ok value) error (inl is) says = absurd is
+cause_says IsLine (Ok value) error (inr is) says = subst (Says IsLine) (sym is) tt
+cause_says IsLine (Err cause) error (inl is) says = subst (Says IsLine) is says
+cause_says IsLine (Err cause) error (inr is) says = subst (Says IsLine) (sym is) tt
 
 -- what is so unless the error says nothing of the words
 pub usage_says : {T : Type 0} (made : Result T ProgramError) (status : ℕ) (X : Type 0) → IsErrAnd made (λ error. status_of error ≡ status)

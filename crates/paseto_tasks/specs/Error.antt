@@ -14,7 +14,7 @@ use Rattle.paseto_tasks.specs.declared.error.TimeOption.TheVariants.{Expires, No
 use Rattle.paseto_tasks.specs.declared.token_kind.TokenKind.{TokenKind}
 use Rattle.paseto_tasks.specs.TokenKind.{NamesKind, kind_text}
 use Rattle.paseto_tasks.specs.declared.error.ProgramError.{ProgramError}
-use Rattle.paseto_tasks.specs.declared.error.ProgramError.TheVariants.{Usage, KeyWord, NoKind, NoHalf, NoKey, OneInput, Claim, TimeClaim, Time, Key, TooLong, Refused, OtherKind, NoAssertion, OtherFooter, Unfit, NoFile, NoAccess, FileExists, Clock, Random, InputOrOutput, Memory}
+use Rattle.paseto_tasks.specs.declared.error.ProgramError.TheVariants.{Usage, KeyWord, NoKind, NoHalf, NoKey, OneInput, Claim, TimeClaim, Time, Key, TooLong, Refused, OtherKind, NoAssertion, OddClaim, OtherFooter, NoFooter, NotAnObject, NoKeyId, NotJson, OddNumber, Unfit, NoFile, NoAccess, FileExists, Clock, Random, InputOrOutput, Memory}
 
 -- 2 for words that ask for nothing, 1 for what is refused, and 3 for what fails outside
 abbrev pub status_of : ProgramError → ℕ
@@ -33,7 +33,13 @@ status_of TooLong = 1
 status_of (Refused _) = 1
 status_of (OtherKind _ _) = 1
 status_of NoAssertion = 1
+status_of OddClaim = 1
 status_of OtherFooter = 1
+status_of NoFooter = 1
+status_of NotAnObject = 1
+status_of NoKeyId = 1
+status_of NotJson = 1
+status_of OddNumber = 1
 status_of (Unfit _) = 1
 status_of NoFile = 3
 status_of NoAccess = 3
@@ -76,7 +82,13 @@ text_of TimeClaim = codes "--claim: exp, nbf and iat are set by --expires and --
 text_of (Time option) = time_text option
 text_of (OtherKind _ _) = codes "the token is "
 text_of NoAssertion = codes "keys of versions 1 and 2 take no implicit assertion: leave --assertion out"
+text_of OddClaim = codes "--claim: a number in a claim is a whole one, of 64 bits at most"
 text_of OtherFooter = codes "another footer: say it by --footer or --footer-kid; paseto inspect shows it"
+text_of NoFooter = codes "the token has no footer, which names its key in a ring"
+text_of NotAnObject = codes "the footer of the token is not a JSON object"
+text_of NoKeyId = codes "the footer of the token names no key: it has no text under kid"
+text_of NotJson = codes "the text of the token is not valid JSON"
+text_of OddNumber = codes "a claim of the token has a number that is not a whole one of 64 bits"
 text_of (Unfit line) = string_bytes line
 text_of Clock = codes "the system's clock tells no moment of the years 0 to 9999"
 text_of NoFile = codes "no such file"
@@ -104,6 +116,11 @@ about_of names NoAccess = names.key.now
 about_of names FileExists = names.key.now
 about_of names (Refused error) = refusal_about names error
 about_of names OtherFooter = names.input.now
+about_of names NoFooter = names.input.now
+about_of names NotAnObject = names.input.now
+about_of names NoKeyId = names.input.now
+about_of names NotJson = names.input.now
+about_of names OddNumber = names.input.now
 about_of names (OtherKind _ _) = names.input.now
 about_of names (Unfit _) = names.input.now
 about_of names _ = []
@@ -153,6 +170,11 @@ file_error NotFound = NoFile
 file_error AlreadyExists = FileExists
 file_error _ = NoAccess
 
+-- memory was refused
+abbrev pub IsMemory : ProgramError → Type 0
+IsMemory (Memory _) = ⊤
+IsMemory _ = ⊥
+
 -- an error that says nothing of the words, of the key or of the input
 abbrev pub IsOutside : ProgramError → Type 0
 IsOutside Clock = ⊤
@@ -179,6 +201,11 @@ IsNoUsage _ = ⊤
 abbrev pub IsFixed : ProgramError → Type 0
 IsFixed (Unfit _) = ⊥
 IsFixed error = IsNoUsage error
+
+-- what is said of the error stands in this table, or is a line that is so
+abbrev pub Says : (List ℕ → Type 0) → ProgramError → Type 0
+Says IsLine (Unfit line) = IsLine (string_bytes line)
+Says IsLine error = ⊤
 
 -- the error that ends the program: why nothing was made, or a write that failed
 abbrev pub IsCauseOf : {T : Type 0} → Result T ProgramError → ProgramError → Type 0

@@ -49,8 +49,20 @@ pub enum ProgramError {
     TimeClaim,
     /// What an option says is no time.
     Time(TimeOption),
+    /// A claim of the words holds a number that is no whole one of 64 bits.
+    OddClaim,
     /// The footer of a token is another one than the one that is demanded.
     OtherFooter,
+    /// The token has no footer, from which a ring knows its key.
+    NoFooter,
+    /// The footer of the token is not the JSON of an object.
+    NotAnObject,
+    /// The footer of the token has no id of a key.
+    NoKeyId,
+    /// The text of the token is no JSON.
+    NotJson,
+    /// A claim of the token holds a number that is no whole one of 64 bits.
+    OddNumber,
     /// A token, or what is to become one, was refused, as this line says.
     Unfit(String),
     /// The system's clock tells no moment at which a token can be issued.
@@ -118,8 +130,17 @@ impl ProgramError {
             ProgramError::OtherKind(_, _) => "the token is ",
             ProgramError::NoAssertion =>
                 "keys of versions 1 and 2 take no implicit assertion: leave --assertion out",
+            ProgramError::OddClaim =>
+                "--claim: a number in a claim is a whole one, of 64 bits at most",
             ProgramError::OtherFooter =>
                 "another footer: say it by --footer or --footer-kid; paseto inspect shows it",
+            ProgramError::NoFooter => "the token has no footer, which names its key in a ring",
+            ProgramError::NotAnObject => "the footer of the token is not a JSON object",
+            ProgramError::NoKeyId =>
+                "the footer of the token names no key: it has no text under kid",
+            ProgramError::NotJson => "the text of the token is not valid JSON",
+            ProgramError::OddNumber =>
+                "a claim of the token has a number that is not a whole one of 64 bits",
             ProgramError::Unfit(text) => text.as_str(),
             ProgramError::Clock => "the system's clock tells no moment of the years 0 to 9999",
             ProgramError::NoFile => "no such file",
@@ -146,8 +167,14 @@ impl ProgramError {
             | ProgramError::NoAccess
             | ProgramError::FileExists => names.key,
             ProgramError::Refused(source) => refusal_about(source, names),
-            ProgramError::OtherFooter | ProgramError::OtherKind(_, _) | ProgramError::Unfit(_) =>
-                names.input,
+            ProgramError::OtherFooter
+            | ProgramError::OtherKind(_, _)
+            | ProgramError::NoFooter
+            | ProgramError::NotAnObject
+            | ProgramError::NoKeyId
+            | ProgramError::NotJson
+            | ProgramError::OddNumber
+            | ProgramError::Unfit(_) => names.input,
             _ => "",
         }
     }
@@ -194,7 +221,13 @@ impl ProgramError {
             | ProgramError::Refused(_)
             | ProgramError::OtherKind(_, _)
             | ProgramError::NoAssertion
+            | ProgramError::OddClaim
             | ProgramError::OtherFooter
+            | ProgramError::NoFooter
+            | ProgramError::NotAnObject
+            | ProgramError::NoKeyId
+            | ProgramError::NotJson
+            | ProgramError::OddNumber
             | ProgramError::Unfit(_) => 1,
             ProgramError::NoFile
             | ProgramError::NoAccess

@@ -1,12 +1,14 @@
 //! What the program says of the errors of builders, parsers and rings.
 
-ghost use Rattle.std.specs.Prelude.{◌≡◌, ◌≢◌, ◌⊎◌, Ok, IfErr, IfOk, IsErrAnd, IsOk, IsOkAnd, OnOk};
+ghost use Rattle.std.specs.Prelude.{◌≡◌, ◌≢◌, ◌⊎◌, ◌++◌, ◌∷◌, [], Ok, IfErr, IfOk, IsErrAnd, IsOk, IsOkAnd, OnOk, codes, encode_utf8_all, map, string_bytes};
+ghost use Rattle.serde_json.specs.View.{view};
 ghost use Rattle.rusty_paseto.specs.KeyRing.{IsMemory as IsMemoryOfRing, IsNoMemory};
 ghost use Rattle.rusty_paseto_core.specs.declared.PasetoError.TheVariants.{Cipher};
 ghost use Rattle.rusty_paseto_generic.specs.Error.{IsMemory as IsMemoryOfBuilder};
 ghost use Rattle.rusty_paseto_generic.specs.Error.Parser.{IsMemory};
 ghost use Rattle.rusty_paseto_generic.specs.declared.error.GenericBuilderError.TheVariants.{CipherError};
-ghost use Rattle.paseto_tasks.specs.Error.{IsNoUsage, IsOutside};
+ghost use Rattle.paseto_tasks.specs.Error.{IsFixed, IsNoUsage, IsOutside, Says};
+ghost use Rattle.paseto.specs.Answers.{SaysOfBuilder, SaysOfCheck, SaysOfParsing, SaysOfRing, claim_line, early_line, expired_line, mismatch_text, one_line, repeated_text, shown_letter, text_under, unknown_text};
 ghost use Rattle.paseto.specs.Times.{claim_error_of};
 
 use crate::commands::times::between;
@@ -18,7 +20,6 @@ use rusty_paseto::prelude::{
 };
 use serde_json::Value;
 use std::alloc::{AllocError, Global};
-use std::fmt::Display;
 
 /// The answer of a builder.
 pub fn built<T: Drop>(
@@ -29,13 +30,29 @@ pub fn built<T: Drop>(
     ensures refused { IfErr result (λ error. IsErrAnd answer (λ source. IsOutside error
         ⊎ ((¬ IsMemoryOfBuilder source) × (source ≢ CipherError Cipher)))) }
     ensures no_usage { IfErr result IsNoUsage }
+    ensures said { IfErr result (λ error. IsErrAnd answer (λ source. SaysOfBuilder source error)) }
 {
     match answer {
         Ok(value) => Ok(value),
         Err(GenericBuilderError::Memory(source)) => Err(ProgramError::Memory(source)),
         Err(GenericBuilderError::CipherError { source }) => Err(ProgramError::from(source)),
-        Err(source) => Err(unfit(alloc, &source)),
+        Err(GenericBuilderError::DuplicateTopLevelPayloadClaim(key)) => Err(repeated(
+            alloc,
+            key.as_str(),
+        )),
+        Err(_) => Err(ProgramError::OddClaim),
     }
+}
+
+/// A claim is set twice.
+fn repeated(alloc: Global, key: &str) -> ProgramError
+    ensures no_usage { IsNoUsage result }
+    ensures said { Says (λ line. line ≡ one_line (repeated_text key.now)) result }
+{
+    told(one_line_of(
+        alloc,
+        format!(in alloc; "The claim '{key}' appears more than once in the top level payload json"),
+    ))
 }
 
 /// Why the text of a moment that an option says makes no claim.
@@ -48,19 +65,30 @@ pub fn dated(option: TimeOption, source: PasetoClaimError) -> ProgramError
     }
 }
 
-/// The answer of a parser.
-pub fn parsed<T: Drop>(
-    alloc: Global,
-    answer: Result<T, GenericParserError>,
-) -> Result<T, ProgramError>
+/// The answer of a setter of a parser, which refuses a claim of the words alone.
+pub fn demanded<T: Drop>(answer: Result<T, GenericParserError>) -> Result<T, ProgramError>
     ensures value { IfOk result (λ value. answer ≡ Ok value) }
     ensures refused { IfErr result (λ error. IsErrAnd answer
         (λ source. IsOutside error ⊎ (¬ IsMemory source))) }
-    ensures no_usage { IfErr result IsNoUsage }
+    ensures fixed { IfErr result IsFixed }
 {
     match answer {
         Ok(value) => Ok(value),
-        Err(source) => Err(by_parser(alloc, source)),
+        Err(GenericParserError::Memory(source)) => Err(ProgramError::Memory(source)),
+        Err(_) => Err(ProgramError::OddClaim),
+    }
+}
+
+/// The answer of a parser that checks no claim.
+pub fn parsed<T: Drop>(answer: Result<T, GenericParserError>) -> Result<T, ProgramError>
+    ensures value { IfOk result (λ value. answer ≡ Ok value) }
+    ensures refused { IfErr result (λ error. IsErrAnd answer
+        (λ source. IsOutside error ⊎ (¬ IsMemory source))) }
+    ensures fixed { IfErr result IsFixed }
+{
+    match answer {
+        Ok(value) => Ok(value),
+        Err(source) => Err(by_parser(source)),
     }
 }
 
@@ -75,11 +103,13 @@ pub fn checked(
     ensures refused { IfErr result (λ error. IsErrAnd answer
         (λ source. IsOutside error ⊎ (¬ IsMemory source))) }
     ensures no_usage { IfErr result IsNoUsage }
+    ensures said { IfErr result (λ error. IsErrAnd answer
+        (λ source. SaysOfCheck (view claims.now) at source error)) }
 {
     match answer {
         Ok(()) => Ok(()),
         Err(GenericParserError::ClaimError { source }) => Err(by_claim(alloc, claims, at, source)),
-        Err(source) => Err(by_parser(alloc, source)),
+        Err(source) => Err(by_parser(source)),
     }
 }
 
@@ -92,11 +122,12 @@ pub fn found(
     ensures refused { IfErr result (λ error. IsErrAnd answer
         (λ source. IsOutside error ⊎ (¬ IsNoMemory source))) }
     ensures no_usage { IfErr result IsNoUsage }
+    ensures said { IfErr result (λ error. IsErrAnd answer (λ source. SaysOfParsing source error)) }
 {
     match answer {
         Ok((_id, value)) => Ok(value),
         Err(KeyRingParserError::Memory(source)) => Err(ProgramError::Memory(source)),
-        Err(KeyRingParserError::Parser(source)) => Err(by_parser(alloc, source)),
+        Err(KeyRingParserError::Parser(source)) => Err(by_parser(source)),
         Err(KeyRingParserError::Ring(source)) => Err(by_ring(alloc, source)),
     }
 }
@@ -107,6 +138,7 @@ pub fn put(alloc: Global, answer: Result<(), KeyRingError>) -> Result<(), Progra
     ensures refused { IfErr result (λ error. IsErrAnd answer
         (λ source. IsOutside error ⊎ (¬ IsMemoryOfRing source))) }
     ensures no_usage { IfErr result IsNoUsage }
+    ensures said { IfErr result (λ error. IsErrAnd answer (λ source. SaysOfRing source error)) }
 {
     match answer {
         Ok(()) => Ok(()),
@@ -114,19 +146,20 @@ pub fn put(alloc: Global, answer: Result<(), KeyRingError>) -> Result<(), Progra
     }
 }
 
-fn by_parser(alloc: Global, source: GenericParserError) -> ProgramError
+fn by_parser(source: GenericParserError) -> ProgramError
     ensures memory { IsOutside result ⊎ (¬ IsMemory source) }
-    ensures no_usage { IsNoUsage result }
+    ensures fixed { IsFixed result }
 {
     match source {
         GenericParserError::Memory(source) => ProgramError::Memory(source),
         GenericParserError::CipherError { source } => by_token(source),
-        source => unfit(alloc, &source),
+        GenericParserError::ClaimError { .. } => ProgramError::OddNumber,
+        GenericParserError::PayloadJsonError { .. } => ProgramError::NotJson,
     }
 }
 
 fn by_token(source: PasetoError) -> ProgramError
-    ensures { IsNoUsage result }
+    ensures { IsFixed result }
 {
     match source {
         PasetoError::FooterInvalid => ProgramError::OtherFooter,
@@ -134,25 +167,64 @@ fn by_token(source: PasetoError) -> ProgramError
     }
 }
 
-fn by_claim(alloc: Global, claims: &Value, at: Timestamp, source: PasetoClaimError) -> ProgramError
-    ensures { IsNoUsage result }
+fn by_ring(alloc: Global, source: KeyRingError) -> ProgramError
+    ensures memory { IsOutside result ⊎ (¬ IsMemoryOfRing source) }
+    ensures no_usage { IsNoUsage result }
+    ensures said { SaysOfRing source result }
 {
     match source {
-        PasetoClaimError::Expired => told(expired(alloc, claims, at)),
+        KeyRingError::Memory(source) => ProgramError::Memory(source),
+        KeyRingError::Untrusted(source) | KeyRingError::Token(source) => ProgramError::from(source),
+        KeyRingError::NoFooter => ProgramError::NoFooter,
+        KeyRingError::NotAnObject => ProgramError::NotAnObject,
+        KeyRingError::NoKeyId => ProgramError::NoKeyId,
+        KeyRingError::UnknownKey(id) => unknown(alloc, id.as_str()),
+    }
+}
+
+/// The ring has no key of the id that the footer names.
+fn unknown(alloc: Global, id: &str) -> ProgramError
+    ensures no_usage { IsNoUsage result }
+    ensures said { Says (λ line. line ≡ one_line (unknown_text id.now)) result }
+{
+    told(one_line_of(
+        alloc,
+        format!(in alloc; "The key '{id}' is not in the ring"),
+    ))
+}
+
+fn by_claim(alloc: Global, claims: &Value, at: Timestamp, source: PasetoClaimError) -> ProgramError
+    ensures no_usage { IsNoUsage result }
+    ensures said { Says (λ line. line ≡ claim_line (view claims.now) at source) result }
+{
+    match source {
+        PasetoClaimError::Expired => told(expired(alloc, expiry_of(claims), at)),
         PasetoClaimError::UseBeforeAvailable(text) => told(early(alloc, text.as_str(), at)),
-        PasetoClaimError::Invalid(key, found, wanted) => other_text(
+        PasetoClaimError::Invalid(key, found, wanted) => mismatch(
             alloc,
             key.as_str(),
             found.as_str(),
             wanted.as_str(),
         ),
-        source => unfit(alloc, &source),
+        source => told(one_line_of(alloc, format!(in alloc; "{source}"))),
     }
 }
 
+/// A text stands under a key that is another one than the one that is demanded.
+fn mismatch(alloc: Global, key: &str, found: &str, wanted: &str) -> ProgramError
+    ensures no_usage { IsNoUsage result }
+    ensures said { Says (λ line. line ≡ one_line (mismatch_text key.now found.now wanted.now)) result }
+{
+    told(one_line_of(
+        alloc,
+        format!(in alloc; "The claim '{key}' is '{found}', and not '{wanted}'"),
+    ))
+}
+
 /// A refusal that a line of our own tells.
-fn told(line: Result<String, AllocError>) -> ProgramError
-    ensures { IsNoUsage result }
+pub fn told(line: Result<String, AllocError>) -> ProgramError
+    ensures no_usage { IsNoUsage result }
+    ensures said { Says (λ text. IsOkAnd line (λ line. text ≡ string_bytes line)) result }
 {
     match line {
         Ok(line) => ProgramError::Unfit(line),
@@ -160,47 +232,49 @@ fn told(line: Result<String, AllocError>) -> ProgramError
     }
 }
 
-/// A text stands under a key that is another one than the one that is demanded.
-fn other_text(alloc: Global, key: &str, found: &str, wanted: &str) -> ProgramError
-    ensures { IsNoUsage result }
+/// A text in which each control character is a question mark: it may tell of a token that anyone wrote.
+pub fn one_line_of(alloc: Global, text: Result<String, AllocError>) -> Result<String, AllocError>
+    ensures { IfOk result (λ line. IsOkAnd text
+        (λ text. string_bytes line ≡ one_line (string_bytes text))) }
 {
-    match format!(in alloc; "The claim '{key}' is '{found}', and not '{wanted}'") {
-        Ok(text) => unfit(alloc, &text),
-        Err(source) => ProgramError::Memory(source),
+    match text {
+        Ok(text) => one_line(alloc, text.as_str()),
+        Err(source) => Err(source),
     }
 }
 
-fn by_ring(alloc: Global, source: KeyRingError) -> ProgramError
-    ensures memory { IsOutside result ⊎ (¬ IsMemoryOfRing source) }
-    ensures no_usage { IsNoUsage result }
+fn one_line(alloc: Global, text: &str) -> Result<String, AllocError>
+    ensures { IfOk result (λ line. string_bytes line ≡ one_line text.now) }
 {
-    match source {
-        KeyRingError::Memory(source) => ProgramError::Memory(source),
-        KeyRingError::Untrusted(source) | KeyRingError::Token(source) => ProgramError::from(source),
-        source => unfit(alloc, &source),
-    }
-}
-
-/// A refusal that is told by one line.
-pub fn unfit(alloc: Global, source: &impl Display) -> ProgramError
-    ensures { IsNoUsage result }
-{
-    told(one_line(alloc, source))
-}
-
-/// The text of an error, in which each control character is a question mark: it may tell of a token that anyone wrote.
-fn one_line(alloc: Global, source: &impl Display) -> Result<String, AllocError> {
-    let text = format!(in alloc; "{source}")?;
     let mut line = String::new(alloc);
     for letter in text.chars() {
-        line.push(if letter.is_control() { '?' } else { letter })?;
+        push_shown(&mut line, letter)?;
     }
     Ok(line)
 }
 
+/// Appends a character as it stands in a line.
+fn push_shown(line: &mut String, letter: char) -> Result<(), AllocError>
+    ensures { OnOk result (string_bytes line.new ≡ string_bytes line.old
+        ++ encode_utf8_all (map shown_letter (letter ∷ []))) }
+{
+    line.push(if letter.is_control() { '?' } else { letter })
+}
+
+/// The text under `exp`, or the empty one where there is none.
+fn expiry_of(claims: &Value) -> &str
+    ensures { result.now ≡ text_under (codes "exp") (view claims.now) }
+{
+    match claims.get("exp") {
+        Some(value) => value.as_str().unwrap_or(""),
+        None => "",
+    }
+}
+
 /// Why a token that has expired is refused: `expired 3 minutes ago, at 2026-11-22T10:00:00Z`.
-pub fn expired(alloc: Global, claims: &Value, at: Timestamp) -> Result<String, AllocError> {
-    let text = claims.get("exp").and_then(Value::as_str).unwrap_or("");
+pub fn expired(alloc: Global, text: &str, at: Timestamp) -> Result<String, AllocError>
+    ensures { IfOk result (λ line. string_bytes line ≡ expired_line text.now at) }
+{
     match text.parse::<Timestamp>() {
         Ok(moment) => {
             let ago = between(alloc, moment, at)?;
@@ -211,7 +285,9 @@ pub fn expired(alloc: Global, claims: &Value, at: Timestamp) -> Result<String, A
 }
 
 /// Why a token that may not be used yet is refused: `not valid before 2026-11-22T10:00:00Z, in 3 minutes`.
-pub fn early(alloc: Global, text: &str, at: Timestamp) -> Result<String, AllocError> {
+pub fn early(alloc: Global, text: &str, at: Timestamp) -> Result<String, AllocError>
+    ensures { IfOk result (λ line. string_bytes line ≡ early_line text.now at) }
+{
     match text.parse::<Timestamp>() {
         Ok(moment) => {
             let wait = between(alloc, at, moment)?;

@@ -12,12 +12,13 @@ ghost use Rattle.rusty_paseto_generic.specs.Parsers.Rules.{AreSame, no_rule};
 ghost use Rattle.rusty_paseto_generic.specs.Parsers.Times.{times_at};
 ghost use Rattle.paseto_tasks.specs.Arguments.{assertion_where, binds_in, texts};
 ghost use Rattle.paseto.specs.Check.{AreDemands, IsCheckedAt, IsTheValue, ParsesByKey, ParsesWith, demanded, demanded_rules};
-ghost use Rattle.paseto.specs.Checked.{ChecksBy, IsJsonLine, ParsesBy};
+ghost use Rattle.paseto.specs.Checked.{ChecksBy, IsCheckLine, IsJsonLine, ParsesBy};
 ghost use Rattle.paseto.specs.Claims.{all_demanded, all_named, all_required, are_whole};
-ghost use Rattle.paseto_tasks.specs.Error.{IsNoRefusal, IsNoUsage, IsOutside, Lacks};
+ghost use Rattle.paseto_tasks.specs.Error.{IsFixed, IsNoRefusal, IsNoUsage, IsOutside, Lacks, Says};
 ghost use Rattle.paseto.specs.Readers.{IsReader, reading_of};
+ghost use Rattle.paseto.specs.Ring.{IsRingLine};
 
-use crate::commands::answers::{checked, parsed};
+use crate::commands::answers::{checked, demanded as taken, parsed};
 use crate::commands::asserts::Asserts;
 use crate::commands::claims::{NamedClaim, claims_of};
 use crate::commands::footer::footer_of;
@@ -108,7 +109,7 @@ impl<'w> Demands<'w> {
         ensures whole { OnOk result (are_whole (all_named self.now.claims.items) ≡ true) }
         ensures refused { IfErr result (λ error. IsOutside error
             ⊎ (are_whole (all_named self.now.claims.items) ≡ false)) }
-        ensures no_usage { IfErr result IsNoUsage }
+        ensures fixed { IfErr result IsFixed }
     {
         let mut parser = timed(alloc, self.at, self.leeway)?;
         put_checks(alloc, &mut parser, &self.claims)?;
@@ -129,7 +130,7 @@ fn timed(
         × (made.parser.leeway ≡ leeway)) }
     ensures refused { IfErr result IsOutside }
 {
-    let mut parser = parsed(alloc, PasetoParser::default(alloc, at))?;
+    let mut parser = taken(PasetoParser::default(alloc, at))?;
     parser.set_leeway(leeway);
     Ok(parser)
 }
@@ -166,12 +167,12 @@ fn put_checks<V: VersionTrait, P: PurposeTrait, B: Drop>(
     ensures footer { parser.new.parser.footer ≡ parser.old.parser.footer }
     ensures assertion { parser.new.parser.implicit_assertion
         ≡ parser.old.parser.implicit_assertion }
-    ensures no_usage { IfErr result IsNoUsage }
+    ensures fixed { IfErr result IsFixed }
 {
     let [claim, rest @ ..] = claims else {
         return Ok(());
     };
-    match parsed(alloc, parser.put_check(claim)) {
+    match taken(parser.put_check(claim)) {
         Ok(()) => put_checks(alloc, parser, rest),
         Err(error) => Err(error),
     }
@@ -191,7 +192,7 @@ fn put_requirements<V: VersionTrait, P: PurposeTrait, B: Drop>(
     let [name, rest @ ..] = names else {
         return Ok(());
     };
-    match parsed(alloc, parser.put_required(name)) {
+    match taken(parser.put_required(name)) {
         Ok(()) => put_requirements(alloc, parser, rest),
         Err(error) => Err(error),
     }
@@ -209,6 +210,7 @@ pub fn check(
     ensures none { IfErr result (Lacks (λ line. ChecksBy keys.now (demanded demands.now) token.now
         line)) }
     ensures no_usage { IfErr result IsNoUsage }
+    ensures said { IfErr result (Says (IsCheckLine keys.now (demanded demands.now) token.now)) }
 {
     let checker = demands.checker(alloc)?;
     let claims = claims_by(alloc, keys, demands, token)?;
@@ -235,6 +237,7 @@ fn claims_by(
     ensures answer { IsTheValue (λ value. ParsesBy keys.now (demanded demands.now).footer (demanded demands.now).assertion
         token.now value) result }
     ensures no_usage { IfErr result IsNoUsage }
+    ensures said { IfErr result (Says (IsRingLine token.now)) }
 {
     match keys {
         Keys::One(key) => with_kinds(claims_by_key(alloc, key, demands, token), token, key),
@@ -251,7 +254,7 @@ fn with_kinds(
     ensures value { IfOk result (λ value. answer ≡ Ok value) }
     ensures refused { IfErr result (λ error. IsErrAnd answer
         (λ source. IsOutside source → IsOutside error)) }
-    ensures no_usage { IfErr answer IsNoUsage → IfErr result IsNoUsage }
+    ensures fixed { IfErr answer IsFixed → IfErr result IsFixed }
 {
     let Some((version, kind, _)) = header_of(key) else {
         return answer;
@@ -274,7 +277,7 @@ fn claims_by_key(
 ) -> Result<Value, ProgramError>
     ensures answer { IsTheValue (λ value. ParsesByKey key.now (demanded demands.now).footer (demanded demands.now).assertion
         token.now value) result }
-    ensures no_usage { IfErr result IsNoUsage }
+    ensures fixed { IfErr result IsFixed }
 {
     let Some((version, kind, _)) = header_of(key) else {
         return Err(ProgramError::Key(PaserkError::NoKey));
@@ -305,7 +308,7 @@ fn by_local_key(
     ensures answer { IsTheValue (λ value. IsReader LocalKey version × ParsesWith LocalKey version
         (reading_of LocalKey version) key.now (demanded demands.now).footer (demanded demands.now).assertion token.now value)
         result }
-    ensures no_usage { IfErr result IsNoUsage }
+    ensures fixed { IfErr result IsFixed }
 {
     match version {
         PaserkVersion::V1 => opened::<V1>(alloc, key, demands, token),
@@ -325,7 +328,7 @@ fn by_public_key(
     ensures answer { IsTheValue (λ value. IsReader PublicKey version × ParsesWith PublicKey
         version (reading_of PublicKey version) key.now (demanded demands.now).footer (demanded demands.now).assertion token.now
         value) result }
-    ensures no_usage { IfErr result IsNoUsage }
+    ensures fixed { IfErr result IsFixed }
 {
     match version {
         PaserkVersion::V1 => Err(ProgramError::Key(PaserkError::OtherVersion(version))),
@@ -344,11 +347,11 @@ fn opened<V: DefaultLocalVersion + Asserts>(
     requires { V.design.binds_assertion ≡ binds_in V.paserk }
     ensures answer { IsTheValue (λ value. ParsesWith LocalKey V.paserk (opening V.design) key.now
         (demanded demands.now).footer (demanded demands.now).assertion token.now value) result }
-    ensures no_usage { IfErr result IsNoUsage }
+    ensures fixed { IfErr result IsFixed }
 {
     let key = local_from_paserk::<V>(alloc, key)?;
     let parser = demands.reader::<V, Local>(alloc);
-    parsed(alloc, parser.parse(token, &key))
+    parsed(parser.parse(token, &key))
 }
 
 fn unboxed(
@@ -359,11 +362,11 @@ fn unboxed(
 ) -> Result<Value, ProgramError>
     ensures answer { IsTheValue (λ value. ParsesWith LocalKey K2 (reading_of LocalKey K2) key.now
         (demanded demands.now).footer (demanded demands.now).assertion token.now value) result }
-    ensures no_usage { IfErr result IsNoUsage }
+    ensures fixed { IfErr result IsFixed }
 {
     let key = local_from_paserk::<V2>(alloc, key)?;
     let parser = demands.reader::<V2, Local>(alloc);
-    parsed(alloc, parser.parse(&XChaCha20Poly1305, token, &key))
+    parsed(parser.parse(&XChaCha20Poly1305, token, &key))
 }
 
 fn verified<V: Suite + Asserts + Verifies<V::Scheme>>(
@@ -375,9 +378,9 @@ fn verified<V: Suite + Asserts + Verifies<V::Scheme>>(
     requires { V.public_design.binds_assertion ≡ binds_in V.paserk }
     ensures answer { IsTheValue (λ value. ParsesWith PublicKey V.paserk (verification V.valid
         V.refused V.public_design) key.now (demanded demands.now).footer (demanded demands.now).assertion token.now value) result }
-    ensures no_usage { IfErr result IsNoUsage }
+    ensures fixed { IfErr result IsFixed }
 {
     let key = public_key_from_paserk::<V>(alloc, key)?;
     let parser = demands.reader::<V, Public>(alloc);
-    parsed(alloc, parser.parse(&V::scheme(), token, &key.lend()))
+    parsed(parser.parse(&V::scheme(), token, &key.lend()))
 }

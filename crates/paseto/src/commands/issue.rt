@@ -9,9 +9,9 @@ ghost use Rattle.rusty_paseto.specs.Held.{counting};
 ghost use Rattle.rusty_paseto.specs.PasetoBuilder.{IsSame};
 ghost use Rattle.paseto_tasks.specs.Arguments.{assertion_where, binds_in, texts};
 ghost use Rattle.paseto.specs.Claims.{AreNeverSet, AreSet, all_counted, all_named};
-ghost use Rattle.paseto_tasks.specs.Error.{IsNoRefusal, IsNoUsage, IsOutside, Lacks};
+ghost use Rattle.paseto_tasks.specs.Error.{IsNoRefusal, IsNoUsage, IsOutside, Lacks, Says};
 ghost use Rattle.paseto_tasks.specs.Public.{DeclinesKey};
-ghost use Rattle.paseto.specs.Issue.{AreNever, AreOrdered, BoxesClaims, DeclinesOrder, IsOrder, Issues, IssuesNone, SealsClaims, SealsIn, SignsClaims, SignsIn, SignsNone, SignsOrder, keys_set, ordered};
+ghost use Rattle.paseto.specs.Issue.{AreNever, AreOrdered, BoxesClaims, DeclinesOrder, IsOrder, IsRepeatedLine, Issues, IssuesNone, SealsClaims, SealsIn, SignsClaims, SignsIn, SignsNone, SignsOrder, keys_set, ordered};
 ghost use Rattle.paseto.specs.Times.{IsNeverSet, IsTimeSet, SaysTime, time_counted};
 
 use crate::commands::answers::{built, dated};
@@ -103,6 +103,7 @@ pub fn issue<G: TryRng>(
     ensures none { IfErr result (λ error. IsOutside error
         ⊎ IssuesNone key.now (ordered order.now)) }
     ensures usage { IfErr result (λ error. IsNoUsage error ⊎ AreNever (ordered order.now)) }
+    ensures said { IfErr result (Says (IsRepeatedLine (ordered order.now))) }
 {
     let Some((version, kind, _)) = header_of(key) else {
         return Err(ProgramError::Key(PaserkError::NoKey));
@@ -135,6 +136,7 @@ fn by_local_key<G: TryRng>(
     ensures none { IfErr result (Lacks (λ line. SealsIn version key.now (ordered order.now)
         (λ nonce. ⊤) line)) }
     ensures usage { IfErr result (λ error. IsNoUsage error ⊎ AreNever (ordered order.now)) }
+    ensures said { IfErr result (Says (IsRepeatedLine (ordered order.now))) }
 {
     match version {
         PaserkVersion::V1 => sealed::<V1, G>(alloc, key, order, generator),
@@ -155,6 +157,7 @@ fn by_private_key(
     ensures none { IfErr result (λ error. IsOutside error
         ⊎ SignsNone version key.now (ordered order.now)) }
     ensures usage { IfErr result (λ error. IsNoUsage error ⊎ AreNever (ordered order.now)) }
+    ensures said { IfErr result (Says (IsRepeatedLine (ordered order.now))) }
 {
     match version {
         PaserkVersion::V1 => Err(ProgramError::Key(PaserkError::OtherVersion(version))),
@@ -176,6 +179,7 @@ fn sealed<V: DefaultLocalVersion + Asserts, G: TryRng>(
     ensures none { IfErr result (Lacks (λ line.
         SealsClaims V.paserk V.design key.now (ordered order.now) (λ nonce. ⊤) line)) }
     ensures usage { IfErr result (λ error. IsNoUsage error ⊎ AreNever (ordered order.now)) }
+    ensures said { IfErr result (Says (IsRepeatedLine (ordered order.now))) }
 {
     let key = local_from_paserk::<V>(alloc, key)?;
     let builder = builder_of::<V, Local>(alloc, order)?;
@@ -193,6 +197,7 @@ fn boxed<G: TryRng>(
     ensures none { IfErr result (Lacks (λ line. BoxesClaims key.now (ordered order.now)
         (λ nonce. ⊤) line)) }
     ensures usage { IfErr result (λ error. IsNoUsage error ⊎ AreNever (ordered order.now)) }
+    ensures said { IfErr result (Says (IsRepeatedLine (ordered order.now))) }
 {
     let key = local_from_paserk::<V2>(alloc, key)?;
     let builder = builder_of::<V2, Local>(alloc, order)?;
@@ -214,6 +219,7 @@ fn signed<V: Suite + Asserts + Signs<V::Scheme>>(
         ⊎ DeclinesKey V.paserk V.secret_length (DeclinesOrder V.declined V.partner V.public_design
         (ordered order.now)) key.now)) }
     ensures usage { IfErr result (λ error. IsNoUsage error ⊎ AreNever (ordered order.now)) }
+    ensures said { IfErr result (Says (IsRepeatedLine (ordered order.now))) }
 {
     let key = private_key_from_paserk::<V>(alloc, key)?;
     signed_by(alloc, &mut V::scheme(), &key.lend(), order)
@@ -236,6 +242,8 @@ fn signed_by<V: Asserts + Signs<S>, S>(
         ⊎ ((source : TokenError) × DeclinesOrder V.declined V.partner V.public_design
         (ordered order.now) key.now source))) }
     ensures usage { IfErr result (λ error. IsNoUsage error ⊎ AreNever (ordered order.now)) }
+    ensures said { HasPrivateLength V.public_design key.now
+        → IfErr result (Says (IsRepeatedLine (ordered order.now))) }
 {
     let builder = builder_of::<V, Public>(alloc, order)?;
     with_line_feed(built(alloc, builder.build(scheme, key))?)
@@ -256,6 +264,7 @@ fn builder_of<'o, V: Asserts, P: PurposeTrait>(
         ≡ assertion_where (binds_in V.paserk) order.now.assertion) }
     ensures never { IfErr result (λ error. IsOutside error ⊎ AreNever (ordered order.now)) }
     ensures usage { IfErr result (λ error. IsNoUsage error ⊎ AreNever (ordered order.now)) }
+    ensures said { IfErr result (Says (λ line. ⊥)) }
 {
     if !fits_default(order.moment) {
         return Err(ProgramError::Clock);
@@ -283,6 +292,7 @@ fn set_claims<V: VersionTrait, P: PurposeTrait>(
         (counting builder.new.keys)) }
     ensures rest { builder.new.builder.paseto ≡ builder.old.builder.paseto }
     ensures never { IfErr result (λ error. IsOutside error ⊎ AreNeverSet (all_named claims.now)) }
+    ensures said { IfErr result (Says (λ line. ⊥)) }
 {
     let [claim, rest @ ..] = claims else {
         return Ok(());
@@ -303,6 +313,7 @@ fn set_expiry<V: VersionTrait, P: PurposeTrait>(
         (counting builder.new.keys)) }
     ensures rest { builder.new.builder.paseto ≡ builder.old.builder.paseto }
     ensures never { IfErr result (λ error. IsOutside error ⊎ IsNeverSet (codes "exp") moment) }
+    ensures said { IfErr result (Says (λ line. ⊥)) }
 {
     let Some(moment) = moment else {
         return Ok(());
@@ -325,6 +336,7 @@ fn set_begin<V: VersionTrait, P: PurposeTrait>(
         (counting builder.new.keys)) }
     ensures rest { builder.new.builder.paseto ≡ builder.old.builder.paseto }
     ensures never { IfErr result (λ error. IsOutside error ⊎ IsNeverSet (codes "nbf") moment) }
+    ensures said { IfErr result (Says (λ line. ⊥)) }
 {
     let Some(moment) = moment else {
         return Ok(());

@@ -11,10 +11,10 @@ ghost use Rattle.rusty_paseto_paserk.specs.declared.header.PaserkVersion.TheVari
 ghost use Rattle.rusty_paseto_paserk.specs.declared.header.PaserkType.TheVariants.{Local as LocalKey, Public as PublicKeys};
 ghost use Rattle.paseto_tasks.specs.Arguments.{binds_in, words_of};
 ghost use Rattle.paseto.specs.Check.{IsTheValue, demanded};
-ghost use Rattle.paseto_tasks.specs.Error.{IsNoUsage, IsOutside, Lacks, key_error_of};
+ghost use Rattle.paseto_tasks.specs.Error.{IsFixed, IsNoUsage, IsOutside, Lacks, Says, key_error_of};
 ghost use Rattle.paseto_tasks.specs.Id.{IsKeyOf};
 ghost use Rattle.paseto.specs.Readers.{IsReader, reading_of, type_in, version_in};
-ghost use Rattle.paseto.specs.Ring.{AreKeysOf, IsAdded, IsInserted, IsNoLine, IsPassedOver, IsRingOf, ParsesByRing, ParsesIn, ring_of};
+ghost use Rattle.paseto.specs.Ring.{AreKeysOf, IsAdded, IsInserted, IsNoLine, IsPassedOver, IsRingLine, IsRingOf, ParsesByRing, ParsesIn, ring_of};
 
 use crate::commands::answers::{found, put};
 use crate::commands::asserts::Asserts;
@@ -43,6 +43,7 @@ pub fn claims_by_ring(
 ) -> Result<Value, ProgramError>
     ensures answer { IsTheValue (λ value. ParsesByRing (words_of lines.now) (demanded demands.now).footer (demanded demands.now).assertion token.now value) result }
     ensures no_usage { IfErr result IsNoUsage }
+    ensures said { IfErr result (Says (IsRingLine token.now)) }
 {
     let untrusted = UntrustedToken::try_parse(token)?;
     let Some(version) = version_of(untrusted.version()) else {
@@ -94,6 +95,7 @@ fn by_local_keys(
         (reading_of LocalKey version) (words_of lines.now) (demanded demands.now).footer (demanded demands.now).assertion token.now
         value) result }
     ensures no_usage { IfErr result IsNoUsage }
+    ensures said { IfErr result (Says (IsRingLine token.now)) }
 {
     match version {
         PaserkVersion::V1 => opened::<V1>(alloc, lines, demands, token),
@@ -113,6 +115,7 @@ fn by_public_keys(
     ensures answer { IsTheValue (λ value. IsReader PublicKeys version × ParsesIn PublicKeys
         version (reading_of PublicKeys version) (words_of lines.now) (demanded demands.now).footer (demanded demands.now).assertion token.now value) result }
     ensures no_usage { IfErr result IsNoUsage }
+    ensures said { IfErr result (Says (IsRingLine token.now)) }
 {
     match version {
         PaserkVersion::V1 => Err(ProgramError::Refused(PasetoError::WrongHeader)),
@@ -132,6 +135,7 @@ fn opened<V: DefaultLocalVersion + Asserts>(
     ensures answer { IsTheValue (λ value. ParsesIn LocalKey V.paserk (opening V.design) (words_of
         lines.now) (demanded demands.now).footer (demanded demands.now).assertion token.now value) result }
     ensures no_usage { IfErr result IsNoUsage }
+    ensures said { IfErr result (Says (IsRingLine token.now)) }
 {
     let ring = local_ring::<V>(alloc, lines)?;
     let parser = demands.reader::<V, Local>(alloc);
@@ -147,6 +151,7 @@ fn unboxed(
     ensures answer { IsTheValue (λ value. ParsesIn LocalKey K2 (reading_of LocalKey K2) (words_of
         lines.now) (demanded demands.now).footer (demanded demands.now).assertion token.now value) result }
     ensures no_usage { IfErr result IsNoUsage }
+    ensures said { IfErr result (Says (IsRingLine token.now)) }
 {
     let ring = local_ring::<V2>(alloc, lines)?;
     let parser = demands.reader::<V2, Local>(alloc);
@@ -164,6 +169,7 @@ fn verified<V: Suite + Asserts + Verifies<V::Scheme>>(
         V.refused V.public_design) (words_of lines.now) (demanded demands.now).footer (demanded demands.now).assertion token.now
         value) result }
     ensures no_usage { IfErr result IsNoUsage }
+    ensures said { IfErr result (Says (IsRingLine token.now)) }
 {
     let keys = public_keys::<V>(alloc, lines)?;
     let ring = public_ring(alloc, &keys)?;
@@ -178,7 +184,7 @@ fn local_ring<V: KeyVersion>(alloc: Global, lines: &[String]) -> Result<KeyRing<
     ensures none { IfErr result (Lacks (λ keys. AreKeysOf (IsKeyOf LocalKey V.paserk) LocalKey
         V.paserk (words_of lines.now) keys)) }
     ensures limits { IfOk result (λ ring. ring.limits ≡ no_limits) }
-    ensures no_usage { IfErr result IsNoUsage }
+    ensures fixed { IfErr result IsFixed }
 {
     let [line, rest @ ..] = lines else {
         return Ok(KeyRing::new(alloc));
@@ -199,7 +205,7 @@ fn add_line<V: KeyVersion>(
     ensures none { IfErr result (λ error. IsOutside error
         ⊎ IsNoLine (IsKeyOf LocalKey V.paserk) LocalKey V.paserk line.now) }
     ensures limits { ring.new.limits ≡ ring.old.limits }
-    ensures no_usage { IfErr result IsNoUsage }
+    ensures fixed { IfErr result IsFixed }
 {
     match local_from_paserk::<V>(alloc, line) {
         Ok(key) => put(alloc, ring.add(local_id(alloc, &key)?.as_str(), key)),
@@ -234,7 +240,7 @@ fn public_keys<V: KeyPairVersion>(
         V.paserk (words_of lines.now) keys.items) }
     ensures none { IfErr result (Lacks (λ keys. AreKeysOf (λ key. IsTrue (V.is_public_key key))
         PublicKeys V.paserk (words_of lines.now) keys)) }
-    ensures no_usage { IfErr result IsNoUsage }
+    ensures fixed { IfErr result IsFixed }
 {
     let [line, rest @ ..] = lines else {
         return Ok(Vec::new(alloc));
@@ -254,7 +260,7 @@ fn insert_line<V: KeyPairVersion>(
         V.paserk line.now keys.old.items keys.new.items) }
     ensures none { IfErr result (λ error. IsOutside error ⊎ IsNoLine
         (λ key. IsTrue (V.is_public_key key)) PublicKeys V.paserk line.now) }
-    ensures no_usage { IfErr result IsNoUsage }
+    ensures fixed { IfErr result IsFixed }
 {
     match public_key_from_paserk::<V>(alloc, line) {
         Ok(key) => Ok(keys.insert(0, key)?),
@@ -267,7 +273,7 @@ fn passed_over(error: PaserkError) -> Result<(), ProgramError>
     ensures passed { OnOk result (IsPassedOver error) }
     ensures refused { IfErr result (λ refusal. (refusal ≡ key_error_of error)
         × ¬ IsPassedOver error) }
-    ensures no_usage { IfErr result IsNoUsage }
+    ensures fixed { IfErr result IsFixed }
 {
     match error {
         PaserkError::OtherVersion(_) | PaserkError::OtherType(_) => Ok(()),

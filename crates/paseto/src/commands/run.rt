@@ -5,10 +5,10 @@ ghost use Rattle.std.specs.Io.{StartsWith};
 ghost use Rattle.std.specs.Io.KnownBytes.{Appends};
 ghost use Rattle.paseto_tasks.specs.Arguments.{texts};
 ghost use Rattle.paseto.specs.Check.{AreDemands, Demanded, DemandsNothing};
-ghost use Rattle.paseto.specs.Checked.{ChecksFor, ChecksNothing};
-ghost use Rattle.paseto.specs.Issue.{IsOrder, IssuesFor, IssuesNothing, Ordered, OrdersNothing};
+ghost use Rattle.paseto.specs.Checked.{ChecksFor, ChecksNothing, IsCheckLineFor};
+ghost use Rattle.paseto.specs.Issue.{IsIssueLineFor, IsOrder, IssuesFor, IssuesNothing, Ordered, OrdersNothing};
 ghost use Rattle.paseto_tasks.specs.declared.error.ProgramError.{ProgramError};
-ghost use Rattle.paseto_tasks.specs.Error.{IsNoRefusal, IsNoUsage, IsOutside, line_of, status_of};
+ghost use Rattle.paseto_tasks.specs.Error.{IsNoRefusal, IsNoUsage, IsOutside, Says, line_of, status_of};
 ghost use Rattle.paseto_tasks.specs.Input.{line_of_input};
 ghost use Rattle.paseto_tasks.specs.Output.{IsLeftOf};
 
@@ -50,6 +50,7 @@ pub fn run_issue<G: TryRng, W: Write, E: Write>(
         × IsOrder (texts claims.now) options.now now order }
     ensures quiet { result ≡ 0 → errors.new ≡ errors.old }
     ensures said { result ≢ 0 → (error : ProgramError) × (status_of error ≡ result)
+        × Says (IsIssueLineFor (texts claims.now) options.now now) error
         × ((said : List ℕ) × StartsWith (line_of names.now error) said × Appends (E.contents errors.old)
         (E.contents errors.new) said) }
 {
@@ -75,6 +76,7 @@ fn token_of<G: TryRng>(
         ⊎ OrdersNothing (texts claims.now) options.now now) }
     ensures ordered { IfErr result (λ error. IsNoRefusal error ⊎ ((order : Ordered)
         × IsOrder (texts claims.now) options.now now order)) }
+    ensures said { IfErr result (Says (IsIssueLineFor (texts claims.now) options.now now)) }
 {
     let order = Order::parse(alloc, claims, options, now)?;
     issue(alloc, key, &order, generator)
@@ -112,6 +114,8 @@ pub fn run_check<R: Read, W: Write, E: Write>(
         × AreDemands (texts claims.now) options.now now demands }
     ensures quiet { result ≡ 0 → errors.new ≡ errors.old }
     ensures said { result ≢ 0 → (error : ProgramError) × (status_of error ≡ result)
+        × IfSome (R.remaining input.old) (λ bytes. Says (IsCheckLineFor (texts claims.now)
+        options.now now keys.now (line_of_input bytes)) error)
         × ((said : List ℕ) × StartsWith (line_of names.now error) said × Appends (E.contents errors.old)
         (E.contents errors.new) said) }
 {
@@ -138,6 +142,9 @@ fn claims_line<R: Read>(
         ⊎ DemandsNothing (texts claims.now) options.now now) }
     ensures demanded { IfErr result (λ error. IsNoRefusal error ⊎ ((demands : Demanded)
         × AreDemands (texts claims.now) options.now now demands)) }
+    ensures said { IfErr result (λ error. IfSome (R.remaining input.old) (λ bytes.
+        Says (IsCheckLineFor (texts claims.now) options.now now keys.now
+        (line_of_input bytes)) error)) }
 {
     let demands = Demands::parse(alloc, claims, options, now)?;
     let token = read_line(alloc, input)?;

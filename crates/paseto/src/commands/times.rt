@@ -1,7 +1,8 @@
 //! Moments and lengths of time, as words say them.
 
-ghost use Rattle.std.specs.Prelude.{◌≡◌, ◌≢◌, ◌≤◌, ◌*◌, ◌++◌, ◌+ℤ◌, ℕ, List, pos, IfErr, IfOk, IfSome, MatchOption, option_map};
+ghost use Rattle.std.specs.Prelude.{◌≡◌, ◌≢◌, ◌≤◌, ◌*◌, ◌++◌, ◌+ℤ◌, ◌-ℤ◌, ℕ, List, pos, IfErr, IfOk, IfSome, MatchOption, option_map, string_bytes, unsigned_abs};
 ghost use Rattle.jiff.specs.Words.{IsTimestampNanos};
+ghost use Rattle.paseto.specs.Answers.{between_text, count_text, length_text, second_of};
 ghost use Rattle.paseto.specs.Times.{HasUnit, IsLeeway, IsLength, IsNumber, SaysMoment, SaysNone};
 ghost use Rattle.paseto_tasks.specs.Error.{IsNoRefusal, Lacks};
 
@@ -113,8 +114,26 @@ fn number_of(word: &str) -> Option<u64>
 }
 
 /// How long it is from one moment to another, in words: `3 minutes`. It is rounded down.
-pub fn between(alloc: Global, one: Timestamp, other: Timestamp) -> Result<String, AllocError> {
-    let seconds = (other.as_second() - one.as_second()).unsigned_abs();
+pub fn between(alloc: Global, one: Timestamp, other: Timestamp) -> Result<String, AllocError>
+    ensures { IfOk result (λ text. string_bytes text
+        ≡ between_text one.nanosecond other.nanosecond) }
+{
+    length_of(alloc, seconds_between(one, other))
+}
+
+/// How many whole seconds it is from one moment to another, or back.
+fn seconds_between(one: Timestamp, other: Timestamp) -> u64
+    ensures { result ≡ unsigned_abs
+        (second_of other.nanosecond -ℤ second_of one.nanosecond) }
+{
+    let (one, other) = (one.as_second(), other.as_second());
+    other.abs_diff(one)
+}
+
+/// A length of so many seconds, in words.
+fn length_of(alloc: Global, seconds: u64) -> Result<String, AllocError>
+    ensures { IfOk result (λ text. string_bytes text ≡ length_text seconds) }
+{
     if seconds < 120 {
         count_of(alloc, seconds, "second")
     } else if seconds < 7_200 {
@@ -127,10 +146,9 @@ pub fn between(alloc: Global, one: Timestamp, other: Timestamp) -> Result<String
 }
 
 /// A number and what it counts.
-fn count_of(alloc: Global, count: u64, unit: &str) -> Result<String, AllocError> {
-    if count == 1 {
-        format!(in alloc; "{count} {unit}")
-    } else {
-        format!(in alloc; "{count} {unit}s")
-    }
+fn count_of(alloc: Global, count: u64, unit: &str) -> Result<String, AllocError>
+    ensures { IfOk result (λ text. string_bytes text ≡ count_text count unit.now) }
+{
+    let ending = if count == 1 { "" } else { "s" };
+    format!(in alloc; "{count} {unit}{ending}")
 }

@@ -3,6 +3,7 @@ use Rattle.rusty_paseto.specs.Held.{counting}
 use Rattle.rusty_paseto_generic.specs.Builders.Held.{held}
 use Rattle.paseto.specs.Issue.{ordered}
 use Rattle.paseto.proofs.Issued.{boxes_found, boxes_never, boxes_none}
+use Rattle.paseto.proofs.Lines.{boxed_no_repeat, told_built}
 use Rattle.paseto.proofs.commands.issue.boxed.Goals as goal
 
 pub returns-clause-found : goal.returns-clause-found
@@ -28,3 +29,9 @@ returns-in_err-built-clause-none g c =
     rw (p.1, p.2) (boxes_none (ordered c.args.order.now) (held builder.builder.claims) (counting builder.keys) builder.builder.paseto.footer builder.builder.paseto.implicit_assertion _
     made.claims made.keys made.footer made.assertion c.args.key.now _ c.build-token.result c.in_err-built.field-0.0 _ _
     c.in_err-built.ensures.refused c.build-token.ensures.err)
+
+pub returns-in_err-built-clause-said : goal.returns-in_err-built-clause-said
+returns-in_err-built-clause-said g c =
+    let p = err_from_is_err_and c.from_residual-in_err-built.result c.from_residual-in_err-built.ensures.1 in
+    rw (p.1, p.2) (told_built (ordered c.args.order.now) (counting c.in_ok-builder.builder.keys) c.build-token.result c.in_err-built.field-0.0 c.in_ok-builder.ensures.keys
+    c.build-token.ensures.repeated (λ none. boxed_no_repeat _ _ _ (c.build-token.ensures.err none)) c.in_err-built.ensures.said)

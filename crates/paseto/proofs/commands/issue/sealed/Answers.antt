@@ -5,6 +5,8 @@ use Rattle.rusty_paseto.specs.Held.{counting}
 use Rattle.rusty_paseto_generic.specs.Builders.Held.{held}
 use Rattle.paseto.specs.Issue.{ordered}
 use Rattle.paseto.proofs.Issued.{seals_found, seals_never, seals_none}
+use Rattle.paseto.proofs.Parsed.{no_key_value}
+use Rattle.paseto.proofs.Lines.{sealed_no_repeat, told_built}
 use Rattle.paseto.proofs.commands.issue.sealed.Goals as goal
 
 pub returns-clause-found : goal.returns-clause-found
@@ -32,3 +34,14 @@ returns-in_err-built-clause-none g c =
     rw (p.1, p.2) (seals_none (ordered c.args.order.now) (held builder.builder.claims) (counting builder.keys) builder.builder.paseto.footer builder.builder.paseto.implicit_assertion
     (assertion_where (binds_in g.V.KeyVersion.paserk) (ordered c.args.order.now).assertion) made.claims made.keys made.footer made.assertion g.V.KeyVersion.paserk g.V.LocalSuite.design c.args.key.now c.build.result c.in_err-built.field-0.0 _
     c.in_err-built.ensures.refused c.build.ensures.err)
+
+pub returns-in_err-built-clause-said : goal.returns-in_err-built-clause-said
+returns-in_err-built-clause-said g c =
+    let p = err_from_is_err_and c.from_residual-in_err-built.result c.from_residual-in_err-built.ensures.1 in
+    rw (p.1, p.2) (told_built (ordered c.args.order.now) (counting c.in_ok-builder.builder.keys) c.build.result c.in_err-built.field-0.0 c.in_ok-builder.ensures.keys
+    c.build.ensures.repeated (λ none. sealed_no_repeat _ _ (c.build.ensures.err none)) c.in_err-built.ensures.said)
+
+pub returns-in_err-key-clause-none : goal.returns-in_err-key-clause-none
+returns-in_err-key-clause-none g c =
+    let p = err_from_is_err_and c.from_residual.result c.from_residual.ensures.1 in
+    rw (p.1, p.2) (no_key_value c.in_err-key.field-0.0 _ (λ line is. c.in_err-key.ensures.read is.key_bytes is.is_key.bytes is.is_key.size is.is_key.is_writing))

@@ -11,3 +11,8 @@ returns-clause-none g c =
     (record { has_size = key.form; bytes = key.bytes; is_writing = key.written }) c.lend.ensures
     (λ other bytes size is. key.read other bytes size is)
     (c.signed_by.ensures.none (rw c.lend.ensures (g.met.V.Suite.has_private_length c.in_ok-key.key key.form)))
+
+pub returns-clause-said : goal.returns-clause-said
+returns-clause-said g c =
+    let key = c.in_ok-key.ensures in
+    c.signed_by.ensures.said (rw c.lend.ensures (g.met.V.Suite.has_private_length c.in_ok-key.key key.form))

@@ -6,6 +6,7 @@ use Rattle.rusty_paseto_core.specs.declared.PasetoError.{PasetoError}
 use Rattle.rusty_paseto_generic.specs.Builders.Held.{held}
 use Rattle.paseto.specs.Issue.{DeclinesOrder, ordered}
 use Rattle.paseto.proofs.Issued.{signs_found, signs_never, signs_none}
+use Rattle.paseto.proofs.Lines.{signed_no_repeat, told_built}
 use Rattle.paseto.proofs.commands.issue.signed_by.Goals as goal
 
 pub returns-clause-found : goal.returns-clause-found
@@ -33,3 +34,9 @@ returns-in_err-built-clause-none g c = λ length.
     (assertion_where (binds_in g.V.KeyVersion.paserk) (ordered c.args.order.now).assertion) made.claims made.keys made.footer made.assertion g.V.Signs.valid g.V.Signs.declined g.V.Signs.partner g.V.PublicSuite.public_design c.args.key.now
     c.build.result c.in_err-built.field-0.0 (ap (λ (b : Bool). assertion_where b (ordered c.args.order.now).assertion) (sym c.requires))
     c.in_err-built.ensures.refused c.build.ensures.answer length)
+
+pub returns-in_err-built-clause-said : goal.returns-in_err-built-clause-said
+returns-in_err-built-clause-said g c = λ length.
+    let p = err_from_is_err_and c.from_residual-in_err-built.result c.from_residual-in_err-built.ensures.1 in
+    rw (p.1, p.2) (told_built (ordered c.args.order.now) (counting c.in_ok-builder.builder.keys) c.build.result c.in_err-built.field-0.0 c.in_ok-builder.ensures.keys
+    c.build.ensures.repeated (λ none. signed_no_repeat _ _ ((c.build.ensures.answer none).err length)) c.in_err-built.ensures.said)

@@ -2,7 +2,7 @@ use Rattle.std.proofs.Common.{string_bytes}
 use Rattle.paseto_tasks.specs.Error.{IsNoRefusal}
 use Rattle.paseto_tasks.specs.Arguments.{texts}
 use Rattle.paseto.specs.Check.{AreDemands, Demanded, demanded}
-use Rattle.paseto.proofs.Witnesses.{checks_for, checks_none, known_for}
+use Rattle.paseto.proofs.Witnesses.{checks_for, checks_none, checks_say, known_for}
 use Rattle.paseto.proofs.commands.run.claims_line.Goals as goal
 
 pub returns-clause-found : goal.returns-clause-found
@@ -26,3 +26,9 @@ pub returns-clause-demanded : goal.returns-clause-demanded
 returns-clause-demanded g c =
     known_for c.check.result IsNoRefusal ((demands : Demanded) × AreDemands (texts c.args.claims.now) c.args.options.now c.args.now demands)
     (demanded c.in_ok-demands.demands, c.in_ok-demands.ensures.found)
+
+pub returns-clause-said : goal.returns-clause-said
+returns-clause-said g c =
+    checks_say (g.R.Read.remaining c.args.input.now) c.check.result (string_bytes c.in_ok-token.token) c.as_str.result.now
+    (texts c.args.claims.now) c.args.options.now c.args.now c.args.keys.now (demanded c.in_ok-demands.demands)
+    c.in_ok-token.ensures.line c.as_str.ensures.value c.in_ok-demands.ensures.found c.check.ensures.said

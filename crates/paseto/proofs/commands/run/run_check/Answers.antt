@@ -2,8 +2,8 @@ use Rattle.std.proofs.Common.{inl, inr}
 use Rattle.paseto_tasks.specs.Arguments.{texts}
 use Rattle.paseto_tasks.specs.Input.{line_of_input}
 use Rattle.paseto.specs.Check.{AreDemands, Demanded, DemandsNothing}
-use Rattle.paseto.specs.Checked.{ChecksFor, ChecksNothing}
-use Rattle.paseto.proofs.Witnesses.{left_of_known}
+use Rattle.paseto.specs.Checked.{ChecksFor, ChecksNothing, IsCheckLineFor}
+use Rattle.paseto.proofs.Witnesses.{known_cause_says, left_of_known}
 use Rattle.paseto_tasks.proofs.Refusals.{known_refused_as}
 use Rattle.paseto_tasks.proofs.Statuses.{refusal_says, usage_says}
 use Rattle.paseto.proofs.commands.run.run_check.Goals as goal
@@ -39,4 +39,12 @@ returns-clause-cut g c = λ failed.
     )
 
 pub returns-clause-said : goal.returns-clause-said
-returns-clause-said g c = λ failed. let said = c.finish.ensures.said failed in (said.0, said.1, said.3)
+returns-clause-said g c = λ failed.
+    let said = c.finish.ensures.said failed in (
+      said.0,
+      said.1,
+      known_cause_says (g.R.Read.remaining c.args.input.now)
+          (λ bytes line. IsCheckLineFor (texts c.args.claims.now) c.args.options.now c.args.now c.args.keys.now (line_of_input bytes) line)
+          c.claims_line-made.result said.0 said.2 c.claims_line-made.ensures.said,
+      said.3,
+    )

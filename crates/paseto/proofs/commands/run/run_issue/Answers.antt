@@ -1,9 +1,9 @@
 use Rattle.std.proofs.Common.{inl, inr}
 use Rattle.paseto_tasks.specs.Arguments.{texts}
-use Rattle.paseto.specs.Issue.{IsOrder, IssuesFor, IssuesNothing, Ordered, OrdersNothing}
+use Rattle.paseto.specs.Issue.{IsIssueLineFor, IsOrder, IssuesFor, IssuesNothing, Ordered, OrdersNothing}
 use Rattle.paseto_tasks.proofs.Outputs.{left_of_made}
 use Rattle.paseto_tasks.proofs.Refusals.{refused_as}
-use Rattle.paseto_tasks.proofs.Statuses.{refusal_says, usage_says}
+use Rattle.paseto_tasks.proofs.Statuses.{cause_says, refusal_says, usage_says}
 use Rattle.paseto.proofs.commands.run.run_issue.Goals as goal
 
 pub returns-clause-refused : goal.returns-clause-refused
@@ -30,4 +30,6 @@ returns-clause-cut g c = λ failed.
     (cut.0, cut.1, left_of_made c.token_of-made.result (λ line. IssuesFor (texts c.args.claims.now) c.args.options.now c.args.now c.args.key.now _ line) cut.0 c.token_of-made.ensures.found cut.2)
 
 pub returns-clause-said : goal.returns-clause-said
-returns-clause-said g c = λ failed. let said = c.finish.ensures.said failed in (said.0, said.1, said.3)
+returns-clause-said g c = λ failed.
+    let said = c.finish.ensures.said failed in
+    (said.0, said.1, cause_says (IsIssueLineFor (texts c.args.claims.now) c.args.options.now c.args.now) c.token_of-made.result said.0 said.2 c.token_of-made.ensures.said, said.3)

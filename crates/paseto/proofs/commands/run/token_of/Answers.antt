@@ -1,8 +1,8 @@
 use Rattle.std.proofs.lemmas.Result.{err_from_is_err_and}
 use Rattle.paseto_tasks.specs.Error.{IsNoRefusal}
 use Rattle.paseto_tasks.specs.Arguments.{texts}
-use Rattle.paseto.specs.Issue.{IsOrder, Ordered, ordered}
-use Rattle.paseto.proofs.Witnesses.{in_other_words, issues_none, known_for, orders_none, usage_of_order}
+use Rattle.paseto.specs.Issue.{IsIssueLineFor, IsOrder, IsRepeatedLine, Ordered, ordered}
+use Rattle.paseto.proofs.Witnesses.{all_so, in_other_words, issues_none, known_for, orders_none, usage_of_order}
 use Rattle.paseto.proofs.commands.run.token_of.Goals as goal
 
 pub returns-clause-found : goal.returns-clause-found
@@ -28,3 +28,8 @@ pub returns-clause-ordered : goal.returns-clause-ordered
 returns-clause-ordered g c =
     known_for c.issue.result IsNoRefusal ((order : Ordered) × IsOrder (texts c.args.claims.now) c.args.options.now c.args.now order)
     (ordered c.in_ok-order.order, c.in_ok-order.ensures.found)
+
+pub returns-clause-said : goal.returns-clause-said
+returns-clause-said g c =
+    all_so (IsRepeatedLine (ordered c.in_ok-order.order)) (IsIssueLineFor (texts c.args.claims.now) c.args.options.now c.args.now) c.issue.result
+    (λ line is. (ordered c.in_ok-order.order, c.in_ok-order.ensures.found, is)) c.issue.ensures.said

@@ -1,0 +1,33 @@
+# Completion of paseto for bash: source it, or put it into /usr/share/bash-completion/completions/paseto.
+_paseto() {
+    local word=${COMP_WORDS[COMP_CWORD]} before=${COMP_WORDS[COMP_CWORD - 1]} command=${COMP_WORDS[1]}
+    COMPREPLY=()
+    if [ "$COMP_CWORD" -eq 1 ]; then
+        mapfile -t COMPREPLY < <(compgen -W 'keygen public id issue check encrypt decrypt sign verify inspect help --help --version' -- "$word")
+        return
+    fi
+    case "$before" in
+        --key | --out | --public) mapfile -t COMPREPLY < <(compgen -f -- "$word"); return ;;
+        --ring) mapfile -t COMPREPLY < <(compgen -d -- "$word"); return ;;
+        --claim | --require | --expires | --not-before | --at | --leeway | --footer | --footer-kid | --assertion) return ;;
+    esac
+    local options=''
+    case "$command" in
+        keygen) options='--out --public --quiet' ;;
+        public) options='--key --out' ;;
+        id) options='--key' ;;
+        issue) options='--key --claim --expires --not-before --footer --footer-kid --assertion --out' ;;
+        check) options='--key --ring --claim --require --at --leeway --footer --footer-kid --assertion' ;;
+        encrypt | sign) options='--key --footer --assertion --out' ;;
+        decrypt | verify) options='--key --footer --assertion' ;;
+        inspect) options='' ;;
+    esac
+    if [[ $word == -* ]]; then
+        mapfile -t COMPREPLY < <(compgen -W "$options --help" -- "$word")
+    elif [ "$command" = keygen ]; then
+        mapfile -t COMPREPLY < <(compgen -W 'v1.local v2.local v2.public v3.local v3.public v4.local v4.public' -- "$word")
+    else
+        mapfile -t COMPREPLY < <(compgen -f -- "$word")
+    fi
+}
+complete -o filenames -F _paseto paseto

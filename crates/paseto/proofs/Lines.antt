@@ -1,0 +1,98 @@
+-- What is said of what is refused.
+use Rattle.std.proofs.Common.{◌≡◌, ◌⊎◌, ℕ, List, Option, None, Some, IsSome, Result, Ok, Err, IfErr, IfOk, IsErrAnd, IsOkAnd, String, Global, string_bytes, inl, inr, refl, sym, subst, ◌∙◌}
+use Rattle.std.specs.Bool.{⊤}
+use Rattle.std.specs.declared.alloc.AllocError.{AllocError}
+use Rattle.serde_json.specs.Data.{Data}
+use Rattle.rusty_paseto_core.specs.declared.PasetoError.{PasetoError}
+use Rattle.rusty_paseto_core.specs.declared.PasetoError.TheVariants.{Memory as NoTokenMemory}
+use Rattle.rusty_paseto_generic.specs.Error.{IsMemory, IsOfBox, IsOfGenerator, of_cipher}
+use Rattle.rusty_paseto_generic.specs.Parsers.Parsing.{IsCheckAnswer, IsCheckFault}
+use Rattle.rusty_paseto_generic.specs.Parsers.Rules.{Rules}
+use Rattle.rusty_paseto_generic.specs.Validator.{Verdict}
+use Rattle.rusty_paseto_generic.specs.declared.error.GenericBuilderError.{GenericBuilderError}
+use Rattle.rusty_paseto_generic.specs.declared.error.GenericBuilderError.TheVariants.{DuplicateTopLevelPayloadClaim}
+use Rattle.rusty_paseto_generic.specs.declared.error.GenericParserError.{GenericParserError}
+use Rattle.rusty_paseto_generic.specs.declared.error.GenericParserError.TheVariants.{ClaimError}
+use Rattle.rusty_paseto.specs.PasetoBuilder.{Counting, IsRefusedRepeat, IsDuplicate, IsSame}
+use Rattle.paseto_tasks.specs.declared.error.ProgramError.{ProgramError}
+use Rattle.paseto_tasks.specs.Error.{Says}
+use Rattle.paseto_tasks.proofs.Statuses.{fixed_says, says_so}
+use Rattle.paseto.specs.declared.commands.check.Keys.{Keys}
+use Rattle.paseto.specs.Answers.{SaysOfBuilder, SaysOfCheck, claim_line, one_line, repeated_text}
+use Rattle.paseto.specs.Check.{Demanded, demanded_rules}
+use Rattle.paseto.specs.Checked.{IsCheckLine, ParsesBy}
+use Rattle.paseto.specs.Issue.{IsRepeatedLine, Ordered, keys_set}
+
+-- ---- of a text that is put on one line
+
+pub told_line : (text line : Result (String Global) AllocError) (wanted : List ℕ) (error : ProgramError) → IfOk text (λ t. string_bytes t ≡ wanted)
+    → IfOk line (λ l. IsOkAnd text (λ t. string_bytes l ≡ one_line (string_bytes t)))
+    → Says (λ said. IsOkAnd line (λ l. said ≡ string_bytes l)) error → Says (λ said. said ≡ one_line wanted) error
+told_line (Ok t) (Ok l) wanted error is shown says =
+    says_so (λ said. said ≡ string_bytes l) (λ said. said ≡ one_line wanted) (λ said so. so ∙ rw is at shown) error says
+told_line (Err e) (Ok l) wanted error is shown says = absurd shown
+told_line text (Err e) wanted error is shown says = says_so (λ said. ⊥) (λ said. said ≡ one_line wanted) (λ said none. absurd none) error says
+
+-- ---- of a check
+
+pub told_check : (keys : Keys) (demands : Demanded) (token : List ℕ) (claims : Data) (rules : Rules Verdict) (answer : Result ⊤ GenericParserError) (error : ProgramError)
+    → ParsesBy keys demands.footer demands.assertion token claims → rules ≡ demanded_rules demands → IsCheckAnswer rules claims answer
+    → IsErrAnd answer (λ source. SaysOfCheck claims demands.at source error) → Says (IsCheckLine keys demands token) error
+told_check keys demands token claims rules (Ok passed) error parses same answered said = absurd said
+told_check keys demands token claims rules (Err (ClaimError fault)) error parses same answered said =
+    let is : IsCheckFault rules claims (ClaimError fault) = elim answered.fault [ inl refused ↦ absurd refused | inr is ↦ is ] in
+    says_so (λ line. line ≡ claim_line claims demands.at fault) (IsCheckLine keys demands token)
+    (λ line line_is. inr (record { claims = claims; parses = parses; fault = fault; is_fault = rw same at is; line_is = line_is })) error said
+told_check keys demands token claims rules (Err source) error parses same answered said = fixed_says (IsCheckLine keys demands token) error said
+
+-- ---- of a builder
+
+-- the error is another one than that a key was set again
+abbrev pub IsNoRepeat : GenericBuilderError → Type 0
+IsNoRepeat (DuplicateTopLevelPayloadClaim name) = ⊥
+IsNoRepeat source = ⊤
+
+no_repeat_so : (source other : GenericBuilderError) → source ≡ other → IsNoRepeat other → IsNoRepeat source
+no_repeat_so source other same none = subst IsNoRepeat (sym same) none
+
+memory_no_repeat : (source : GenericBuilderError) → IsMemory source → IsNoRepeat source
+memory_no_repeat (DuplicateTopLevelPayloadClaim name) memory = absurd memory
+memory_no_repeat source memory = tt
+
+cipher_no_repeat : (refusal : PasetoError) → IsNoRepeat (of_cipher refusal)
+cipher_no_repeat (NoTokenMemory source) = tt
+cipher_no_repeat refusal = tt
+
+pub sealed_no_repeat : {T : Type 0} (Failure : Type 0) (answer : Result T GenericBuilderError)
+    → IfErr answer (λ source. IsMemory source ⊎ IsOfGenerator Failure source) → IfErr answer IsNoRepeat
+sealed_no_repeat Failure (Ok token) is = tt
+sealed_no_repeat Failure (Err source) (inl memory) = memory_no_repeat source memory
+sealed_no_repeat Failure (Err source) (inr failed) = no_repeat_so source _ failed.0 tt
+
+pub boxed_no_repeat : {T : Type 0} (Failure X : Type 0) (answer : Result T GenericBuilderError)
+    → IfErr answer (λ source. IsMemory source ⊎ (IsOfGenerator Failure source ⊎ (IsOfBox source × X))) → IfErr answer IsNoRepeat
+boxed_no_repeat Failure X (Ok token) is = tt
+boxed_no_repeat Failure X (Err source) (inl memory) = memory_no_repeat source memory
+boxed_no_repeat Failure X (Err source) (inr (inl failed)) = no_repeat_so source _ failed.0 tt
+boxed_no_repeat Failure X (Err source) (inr (inr none)) = no_repeat_so source _ none.0 tt
+
+pub signed_no_repeat : {T : Type 0} (Declined : PasetoError → Type 0) (answer : Result T GenericBuilderError)
+    → IfErr answer (λ source. IsMemory source ⊎ ((refusal : PasetoError) × Declined refusal × (source ≡ of_cipher refusal))) → IfErr answer IsNoRepeat
+signed_no_repeat Declined (Ok token) is = tt
+signed_no_repeat Declined (Err source) (inl memory) = memory_no_repeat source memory
+signed_no_repeat Declined (Err source) (inr declined) = no_repeat_so source (of_cipher declined.0) declined.2 (cipher_no_repeat declined.0)
+
+is_repeated : (repeated : Option (List ℕ)) (name : String Global)
+    → (IsSome repeated → IsMemory (DuplicateTopLevelPayloadClaim name) ⊎ IsDuplicate repeated (DuplicateTopLevelPayloadClaim name))
+    → (repeated ≡ None → IsNoRepeat (DuplicateTopLevelPayloadClaim name)) → repeated ≡ Some (string_bytes name)
+is_repeated None name some none = absurd (none refl)
+is_repeated (Some other) name some none = elim (some refl) [ inl memory ↦ absurd memory | inr is ↦ is ]
+
+pub told_built : (order : Ordered) (keys : Counting) (answer : Result (String Global) GenericBuilderError) (error : ProgramError)
+    → IsSame (keys_set order) keys → IsRefusedRepeat keys.repeated answer → (keys.repeated ≡ None → IfErr answer IsNoRepeat)
+    → IsErrAnd answer (λ source. SaysOfBuilder source error) → Says (IsRepeatedLine order) error
+told_built order keys (Ok token) error same refused none said = absurd said
+told_built order keys (Err (DuplicateTopLevelPayloadClaim name)) error same refused none said =
+    says_so (λ line. line ≡ one_line (repeated_text (string_bytes name))) (IsRepeatedLine order)
+    (λ line line_is. (string_bytes name, sym same.repeated ∙ is_repeated keys.repeated name refused.err none, line_is)) error said
+told_built order keys (Err source) error same refused none said = fixed_says (IsRepeatedLine order) error said

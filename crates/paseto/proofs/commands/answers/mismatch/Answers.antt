@@ -1,0 +1,8 @@
+use Rattle.paseto.specs.Answers.{mismatch_text}
+use Rattle.paseto.proofs.Lines.{told_line}
+use Rattle.paseto.proofs.commands.answers.mismatch.Goals as goal
+
+pub returns-clause-said : goal.returns-clause-said
+returns-clause-said c =
+    told_line c.format.result c.one_line_of.result (mismatch_text c.args.key.now c.args.found.now c.args.wanted.now) c.told.result
+    c.format.ensures.ok c.one_line_of.ensures c.told.ensures.said
