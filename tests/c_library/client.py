@@ -126,7 +126,7 @@ def ask_keys() -> None:
     for key in (paseto.LocalKey.generate(), private, private.public):
         shown = f"{key} {key!r} {vars(type(key))}"
         check(key.to_bytes().hex() not in shown and repr(key.to_bytes()) not in shown, f"{type(key)} shows itself")
-        check(repr(key) == f"<{type(key).__name__}>", "the name of the key's type is shown")
+        check(repr(key) == f"<{type(key).__name__} of version 4>", "the name of the key's type is shown")
         check(type(key)(key.to_bytes()).to_bytes() == key.to_bytes(), "a key is read back")
         refuses(TypeError, "pickling", pickle.dumps, key)
         refuses(TypeError, "copying", copy.deepcopy, key)
