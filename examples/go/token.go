@@ -1,9 +1,10 @@
 // A token of version 4, built and parsed by the library for C:
 //
-//	PKG_CONFIG_PATH=PREFIX/lib/pkgconfig go run examples/go/token.go
+//	export PKG_CONFIG_PATH=PREFIX/lib/pkgconfig LD_LIBRARY_PATH=PREFIX/lib
+//	go run examples/go/token.go
 package main
 
-// #cgo pkg-config: --static paseto
+// #cgo pkg-config: paseto
 // #include <paseto.h>
 import "C"
 
