@@ -32,7 +32,7 @@ const ENCRYPTION: u8 = 0xff;
 /// The byte that the authentication key is derived with.
 const AUTHENTICATION: u8 = 0xfe;
 
-/// The text of a key of local tokens under a password, for example `k4.local-pw.` and 155 characters.
+/// The text of a key of local tokens under a password, for example `k4.local-pw.` and 160 characters.
 ///
 /// The salt and the nonce are drawn for this text. In versions 1 and 3 the salt has 32 bytes and the nonce 16, in
 /// versions 2 and 4 the salt has 16 bytes and the nonce 24. The password is shorter than 4 GiB. As much memory is taken
