@@ -97,7 +97,6 @@ fn protects_locally<V: KeyVersion, const S: usize, const N: usize>(
 {
     let (_, _, digits, password, _, salt, nonce, text) = *row;
     let password = bytes_of(rt, alloc, password);
-    assert!(rt; password.len() < 1 << 32);
     let (salt, nonce): ([u8; S], [u8; N]) = (array_of(rt, salt), array_of(rt, nonce));
     let key = local_of::<V>(rt, digits);
     let answer = protect_local(alloc, &password, cost_of(row), &salt, &nonce, &key);
@@ -117,7 +116,6 @@ fn protects_secret<V: KeyVersion, const S: usize, const N: usize>(
 {
     let (_, _, digits, password, _, salt, nonce, text) = *row;
     let password = bytes_of(rt, alloc, password);
-    assert!(rt; password.len() < 1 << 32);
     let (salt, nonce): ([u8; S], [u8; N]) = (array_of(rt, salt), array_of(rt, nonce));
     let key = private_of::<V>(rt, alloc, digits);
     let answer = protect_secret(alloc, &password, cost_of(row), &salt, &nonce, &key.lend());

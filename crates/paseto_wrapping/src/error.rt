@@ -24,6 +24,9 @@ pub enum WrapError {
     /// What stands behind the header is no base64url encoding without padding, or one of too few bytes.
     #[error("what follows the header is no base64url of a wrapped key, or was cut off")]
     InvalidText,
+    /// The password has 4 GiB or more.
+    #[error("the password has 4 GiB or more")]
+    LongPassword,
     /// A cost that PBKDF2 or Argon2id does not allow: no iterations, no passes, no lanes or too many, or memory that is
     /// less than 8 KiB for each lane, no multiple of 1024 bytes, or 4 TiB and more.
     #[error("the cost of the password is one that its function does not allow")]
