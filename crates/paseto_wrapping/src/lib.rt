@@ -1,5 +1,5 @@
-//! Keys under a wrapping key or under a password as text, in PASERK, by which keys are kept and sent where others may read
-//! them.
+//! Keys under a wrapping key, under a password, or sealed to a public key as text, in PASERK, by which keys are kept and
+//! sent where others may read them.
 //!
 //! ```rust
 //! use paseto_wrapping::{WrapError, WrappingKey, unwrap_local, wrap_local};
