@@ -48,11 +48,13 @@ mod rsa_signature;
 mod sections;
 mod short_footer;
 mod toy_tokens;
+mod wrapped_keys;
 
 use anyhow::Result;
 use even::Even;
 use jiff::Timestamp;
 use paseto_ed25519::Ed25519;
+use paseto_wrapping::WrappingKey;
 use rand::rngs::SysRng;
 use rusty_paseto::prelude::*;
 use rusty_paseto_paserk::{public_to_paserk, secret_to_paserk};
@@ -109,6 +111,12 @@ fn show_core(rt: &HostRuntime) -> Result<()> {
     println!(rt; "id of {id_length} bytes")?;
     let pem_length = keys_in_pem::read_and_write(alloc, PRIVATE_KEY)?.len();
     println!(rt; "text of {pem_length} bytes")?;
+    let wrapping_key = WrappingKey::from(Key::<32>::try_new_random(&mut rng)?);
+    let again = wrapped_keys::wrap_and_unwrap(alloc, &wrapping_key, &nonce, &key)?;
+    println!(rt;
+        "wrapped and unwrapped: {}",
+        again.as_bytes() == key.as_bytes()
+    )?;
     show_collision(rt, &key, &nonce)
 }
 

@@ -15,10 +15,10 @@ use Rattle.paseto_weierstrass.specs.Group.{IsPoint, Same}
 use Rattle.paseto_weierstrass.specs.Multiples.{IsMultiple, IsSum, multiple_of}
 use Rattle.paseto_weierstrass.specs.Point.{Point, base, neutral, point_add, point_double}
 use Rattle.paseto_weierstrass.proofs.FieldLaws.{plus-below, times-below, times-ne-zero, times-zero}
-use Rattle.paseto_weierstrass.proofs.MultipleLaws.{multiple-add, multiple-double, multiple-is_point, multiple-itself, multiple-neutral, multiple-of_same, multiple-one, multiple-times, multiples-same, sum-first, sum-made, sum-of_same, sum-plus}
-use Rattle.paseto_weierstrass.proofs.OrderLaws.{divided-neutral, neutral-multiples}
+use Rattle.paseto_weierstrass.proofs.MultipleLaws.{multiple-add, multiple-double, multiple-is_point, multiple-itself, multiple-neutral, multiple-of_same, multiple-one, multiples-same, sum-first, sum-made, sum-of_same, sum-plus}
+use Rattle.paseto_weierstrass.proofs.OrderLaws.{divided-neutral, neutral-multiples, neutral-times}
 use Rattle.paseto_weierstrass.proofs.Plane.{plane_point}
-use Rattle.paseto_weierstrass.proofs.PointLaws.{Kind, at_infinity, base-is_point, in_plane, kind, neutral-is_point, neutral-same, plane-is_point, same_refl, same_sym, same_trans}
+use Rattle.paseto_weierstrass.proofs.PointLaws.{Kind, at_infinity, base-is_point, in_plane, kind, neutral-is_point, neutral-same, plane-is_point, same_sym, same_trans}
 use Rattle.paseto_weierstrass.proofs.SumLaws.{sum-is_point, sum-neutral, sum-neutral_first, y-some}
 use Rattle.paseto_p384.proofs.DecodingLaws.{decoded-plane}
 use Rattle.paseto_p384.proofs.OptionLaws.{some-same}
@@ -92,18 +92,6 @@ number-same p q hp hq (in_plane x y h s) (in_plane v w k t) e =
     same_trans hp (same_sym (plane-is_point x y h) hp s) (subst (λ (r : Point). Same r q) (sym one) t)
 
 -- ---- neutral multiples
-
-neutral-multiple : (m : ℕ) → Same (multiple_of m neutral) neutral
-unfolding multiple_of
-neutral-multiple zero = same_refl neutral neutral-is_point
-neutral-multiple (suc m) =
-    let h = multiple-is_point m neutral neutral-is_point in
-    let sum = sum-is_point (multiple_of m neutral) neutral h neutral-is_point in
-    same_trans sum (same_sym h sum (sum-neutral (multiple_of m neutral) h)) (neutral-multiple m)
-
-neutral-times : (g : Point) (m n : ℕ) → IsPoint g → IsMultiple g neutral n → IsMultiple g neutral (m * n)
-neutral-times g m n hg h =
-    multiple-of_same g (multiple_of m neutral) neutral (m * n) hg (multiple-times g neutral m n hg h) (neutral-multiple m)
 
 -- a multiple by a sum, one part of which is neutral
 neutral-part : (g : Point) (m k : ℕ) → IsPoint g → IsMultiple g neutral k → IsMultiple g neutral (m + k) → IsMultiple g neutral m

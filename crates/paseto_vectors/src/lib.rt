@@ -42,4 +42,6 @@ mod texts;
 #[cfg(test)]
 mod untrusted;
 #[cfg(test)]
+mod wrapping;
+#[cfg(test)]
 mod x25519;

@@ -25,6 +25,7 @@ order-neutral =
     (joint-sum base neutral 384 order 0 base-is_point neutral-is_point (lit< tt) (lit< tt)) in
     multiple-of_same base p neutral order base-is_point joint (neutral-same p joint.point computed)
 
+-- multiples of the neutral point, and those by a multiple of a number that gives it
 neutral-multiple : (m : ℕ) → Same (multiple_of m neutral) neutral
 unfolding multiple_of
 neutral-multiple zero = same_refl neutral neutral-is_point
@@ -33,7 +34,7 @@ neutral-multiple (suc m) =
     let sum = sum-is_point (multiple_of m neutral) neutral h neutral-is_point in
     same_trans sum (same_sym h sum (sum-neutral (multiple_of m neutral) h)) (neutral-multiple m)
 
-neutral-times : (g : Point) (m n : ℕ) → IsPoint g → IsMultiple g neutral n → IsMultiple g neutral (m * n)
+pub neutral-times : (g : Point) (m n : ℕ) → IsPoint g → IsMultiple g neutral n → IsMultiple g neutral (m * n)
 neutral-times g m n hg h =
     multiple-of_same g (multiple_of m neutral) neutral (m * n) hg (multiple-times g neutral m n hg h) (neutral-multiple m)
 

@@ -15,10 +15,10 @@ use Rattle.paseto_wrapping.specs.declared.header.WrappedType.{WrappedType}
 use Rattle.paseto_wrapping.specs.declared.family.Family.{Family}
 use Rattle.paseto_wrapping.specs.declared.family.Family.TheVariants.{Nist, Sodium}
 use Rattle.paseto_wrapping.specs.declared.error.WrapError.{WrapError}
-use Rattle.paseto_wrapping.specs.declared.error.WrapError.TheVariants.{NoWrappedKey, OtherVersion, OtherType, InvalidText, InvalidCost, TooCostly, InvalidPrivateKey, InvalidPoint, SmallOrder, WrongKey, InvalidKey, Memory}
+use Rattle.paseto_wrapping.specs.declared.error.WrapError.TheVariants.{NoWrappedKey, OtherVersion, OtherType, InvalidText, LongPassword, InvalidCost, TooCostly, InvalidPrivateKey, InvalidPoint, SmallOrder, WrongKey, InvalidKey, Memory}
 use Rattle.paseto_wrapping.specs.Error.{IsMemory}
 use Rattle.paseto_wrapping.specs.Family.{encrypted, family_of, nonce_length, tag, tag_length}
-use Rattle.paseto_wrapping.specs.Password.{AreAlike, AreParts, IsAllowed, IsGranted, IsPasswordFault, IsProtected, IsWithin, TellsCost, ak, cost_bytes, cost_length, ek, k, payload, salt_length, shortest, t, untagged}
+use Rattle.paseto_wrapping.specs.Password.{AreAlike, AreParts, IsAllowed, IsGranted, IsPasswordFault, IsProtected, IsShort, IsWithin, TellsCost, ak, cost_bytes, cost_length, ek, k, payload, salt_length, shortest, t, untagged}
 use Rattle.paseto_wrapping.specs.Reading.{IsOfPayload, IsTagFault, Unwraps}
 use Rattle.paseto_wrapping.proofs.Families.{encrypted-encrypted, length-tag, IsBytes-encrypted, IsBytes-tag}
 
@@ -29,6 +29,7 @@ password_fault version kind password most input NoWrappedKey h = h
 password_fault version kind password most input (OtherVersion found) h = h
 password_fault version kind password most input (OtherType found) h = h
 password_fault version kind password most input InvalidText h = tt
+password_fault version kind password most input LongPassword h = tt
 password_fault version kind password most input InvalidCost h = tt
 password_fault version kind password most input TooCostly h = tt
 password_fault version kind password most input InvalidPrivateKey h = absurd h
@@ -171,8 +172,17 @@ module _ (version : PaserkVersion) (kind : WrappedType) (password : List ℕ) (m
     refused = inr short;
   }
 
+  pub open_long : shortest (family_of version) ≤ length input → ¬ IsShort password
+      → Unwraps (IsProtected version kind password most) (IsPasswordFault version kind password most) input (Err LongPassword)
+  open_long enough long = record {
+    bytes = tt;
+    found = tt;
+    read = λ ptk bytes is. absurd (long is.short);
+    refused = inr (enough, long);
+  }
+
   -- a payload that is cut into its parts, whose cost is read
-  module _ (s told n c tag front : List ℕ) (cost : PasswordCost) (of_input : IsBytes input)
+  module _ (s told n c tag front : List ℕ) (cost : PasswordCost) (of_input : IsBytes input) (short : IsShort password)
       (parts : AreParts (family_of version) input s told n c tag) (front_is : front ≡ s ++ told ++ n ++ c)
       (told_is : cost_bytes (family_of version) cost ≡ told)
       (alone : (other : PasswordCost) → IsAllowed (family_of version) other → cost_bytes (family_of version) other ≡ told → AreAlike (family_of version) cost other) where
@@ -198,6 +208,7 @@ module _ (version : PaserkVersion) (kind : WrappedType) (password : List ℕ) (m
       read = λ ptk bytes is. absurd (refused (allowed-alike (family_of version) cost is.cost (own_alike ptk is) is.granted.0));
       refused = inr (
         parts_length (family_of version) input _ _ _ _ _ parts,
+        short,
         λ other allowed is. refused (allowed-alike (family_of version) cost other (tells_alike other allowed is) allowed),
       );
     }
@@ -208,7 +219,7 @@ module _ (version : PaserkVersion) (kind : WrappedType) (password : List ℕ) (m
       bytes = tt;
       found = tt;
       read = λ ptk bytes is. absurd (beyond (within-alike (family_of version) most cost is.cost (own_alike ptk is) is.granted.1));
-      refused = inr (cost, tells, allowed, beyond);
+      refused = inr (short, cost, tells, allowed, beyond);
     }
 
     module _ (granted : IsGranted (family_of version) most cost) where
@@ -254,6 +265,7 @@ module _ (version : PaserkVersion) (kind : WrappedType) (password : List ℕ) (m
           record {
             bytes = subst IsBytes (sym ok.1) (IsBytes-encrypted (family_of version) _ n c (IsBytes-ek (family_of version) _) (IsBytes-back (s ++ told ++ n) c four));
             found = record {
+              short = short;
               cost = cost;
               granted = granted;
               s = s;
@@ -277,6 +289,7 @@ module _ (version : PaserkVersion) (kind : WrappedType) (password : List ℕ) (m
         memory (OtherVersion found) h e = h
         memory (OtherType found) h e = h
         memory InvalidText h e = h
+        memory LongPassword h e = h
         memory InvalidCost h e = h
         memory TooCostly h e = h
         memory InvalidPrivateKey h e = h
@@ -292,12 +305,13 @@ module _ (version : PaserkVersion) (kind : WrappedType) (password : List ℕ) (m
         fault (OtherVersion found) h = absurd h
         fault (OtherType found) h = absurd h
         fault InvalidText h = absurd h
+        fault LongPassword h = absurd h
         fault InvalidCost h = absurd h
         fault TooCostly h = absurd h
         fault InvalidPrivateKey h = absurd h
         fault InvalidPoint h = absurd h
         fault SmallOrder h = absurd h
-        fault WrongKey h = inr ((cost, tells, granted), λ ptk is. h (own_tag ptk is))
+        fault WrongKey h = inr (short, (cost, tells, granted), λ ptk is. h (own_tag ptk is))
         fault InvalidKey h = absurd h
         fault (Memory source) h = inl tt
 

@@ -11,7 +11,7 @@ use Rattle.paseto_wrapping.specs.declared.header.WrappedType.TheVariants.{Seal}
 use Rattle.paseto_wrapping.specs.declared.cost.PasswordCost.{PasswordCost}
 use Rattle.paseto_wrapping.specs.Error.{IsMemory}
 use Rattle.paseto_wrapping.specs.Family.{family_of, nonce_length}
-use Rattle.paseto_wrapping.specs.Password.{IsGranted, IsProtected, protected, salt_length}
+use Rattle.paseto_wrapping.specs.Password.{IsGranted, IsProtected, IsShort, protected, salt_length}
 use Rattle.paseto_wrapping.specs.Pie.{IsNonce, IsPie, pie}
 use Rattle.paseto_wrapping.specs.Reading.{InText}
 use Rattle.paseto_wrapping.specs.Sealing.{IsSealFault, IsSealed, SealsFor}
@@ -24,7 +24,7 @@ WrappedUnwrap = (version : PaserkVersion) (kind : WrappedType) (wk n ptk : List 
 -- under a password, by any salt, nonce, and cost that is granted
 abbrev pub ProtectedUnwrap : Type 0
 ProtectedUnwrap = (version : PaserkVersion) (kind : WrappedType) (password : List ℕ) (most cost : PasswordCost) (s n ptk : List ℕ)
-    → IsGranted (family_of version) most cost
+    → IsShort password → IsGranted (family_of version) most cost
     → IsBytes s × (length s ≡ salt_length (family_of version)) → IsBytes n × (length n ≡ nonce_length (family_of version)) → IsBytes ptk
     → InText version kind (IsProtected version kind password most) (protected version kind password cost s n ptk) ptk
 

@@ -13,7 +13,7 @@ use Rattle.paseto_wrapping.specs.declared.family.Family.TheVariants.{Nist, Sodiu
 use Rattle.paseto_wrapping.specs.declared.header.WrappedType.{WrappedType}
 use Rattle.paseto_wrapping.specs.declared.cost.PasswordCost.{PasswordCost}
 use Rattle.paseto_wrapping.specs.declared.error.WrapError.{WrapError}
-use Rattle.paseto_wrapping.specs.declared.error.WrapError.TheVariants.{InvalidText, InvalidCost, TooCostly, WrongKey, Memory}
+use Rattle.paseto_wrapping.specs.declared.error.WrapError.TheVariants.{InvalidText, LongPassword, InvalidCost, TooCostly, WrongKey, Memory}
 use Rattle.paseto_wrapping.specs.Family.{encrypted, family_of, nonce_length, tag, tag_length}
 use Rattle.paseto_wrapping.specs.Header.{header}
 use Rattle.paseto_wrapping.specs.Text.{writing}
@@ -113,8 +113,13 @@ pub record TellsCost (family : Family) (input : List ℕ) (cost : PasswordCost) 
 abbrev pub IsGranted : Family → PasswordCost → PasswordCost → Type 0
 IsGranted family most cost = IsAllowed family cost × IsWithin family most cost
 
+-- a password is shorter than 4 GiB
+abbrev pub IsShort : List ℕ → Type 0
+IsShort password = length password < 2 ^ 32
+
 -- the payload holds the key under the password, by a cost that is granted, under some salt and nonce
 pub record IsProtected (version : PaserkVersion) (kind : WrappedType) (password : List ℕ) (most : PasswordCost) (input ptk : List ℕ) : Type 0 where
+  pub short : IsShort password
   pub cost : PasswordCost
   pub granted : IsGranted (family_of version) most cost
   pub s : List ℕ
@@ -127,25 +132,28 @@ pub record IsProtected (version : PaserkVersion) (kind : WrappedType) (password 
 abbrev pub shortest : Family → ℕ
 shortest family = salt_length family + cost_length family + nonce_length family + tag_length family
 
--- why a payload is not unwrapped: it is cut off, it tells no cost that is allowed, or one beyond the bound, or by the
--- cost that it tells it holds no bytes under the password
+-- why a payload is not unwrapped: it is cut off, the password is too long, it tells no cost that is allowed, or one beyond
+-- the bound, or by the cost that it tells it holds no bytes under the password
 abbrev pub IsPasswordFault : PaserkVersion → WrappedType → List ℕ → PasswordCost → List ℕ → WrapError → Type 0
 IsPasswordFault version kind password most input InvalidText = length input < shortest (family_of version)
+IsPasswordFault version kind password most input LongPassword =
+    (shortest (family_of version) ≤ length input) × ¬ IsShort password
 IsPasswordFault version kind password most input InvalidCost =
-    (shortest (family_of version) ≤ length input)
+    (shortest (family_of version) ≤ length input) × IsShort password
     × ((cost : PasswordCost) → IsAllowed (family_of version) cost → ¬ TellsCost (family_of version) input cost)
 IsPasswordFault version kind password most input TooCostly =
-    (cost : PasswordCost) × TellsCost (family_of version) input cost
+    IsShort password × (cost : PasswordCost) × TellsCost (family_of version) input cost
     × IsAllowed (family_of version) cost × ¬ IsWithin (family_of version) most cost
 IsPasswordFault version kind password most input WrongKey =
-    ((cost : PasswordCost) × TellsCost (family_of version) input cost × IsGranted (family_of version) most cost)
+    IsShort password × ((cost : PasswordCost) × TellsCost (family_of version) input cost × IsGranted (family_of version) most cost)
     × ((ptk : List ℕ) → ¬ IsProtected version kind password most input ptk)
 IsPasswordFault version kind password most input _ = ⊥
 
 -- ---- writing
 
--- why a key is not put under a password: its function does not allow the cost
-abbrev pub IsCostFault : Family → PasswordCost → WrapError → Type 0
-IsCostFault family cost InvalidCost = ¬ IsAllowed family cost
-IsCostFault family cost (Memory _) = ⊤
-IsCostFault family cost _ = ⊥
+-- why a key is not put under a password: it is too long, or its function does not allow the cost
+abbrev pub IsWritingFault : Family → List ℕ → PasswordCost → WrapError → Type 0
+IsWritingFault family password cost LongPassword = ¬ IsShort password
+IsWritingFault family password cost InvalidCost = IsShort password × ¬ IsAllowed family cost
+IsWritingFault family password cost (Memory _) = ⊤
+IsWritingFault family password cost _ = ⊥

@@ -7,7 +7,7 @@ use Rattle.base64.specs.GeneralPurpose.{IsBytes}
 use Rattle.rusty_paseto_paserk.specs.declared.header.PaserkVersion.{PaserkVersion}
 use Rattle.paseto_wrapping.specs.declared.header.WrappedType.{WrappedType}
 use Rattle.paseto_wrapping.specs.declared.error.WrapError.{WrapError}
-use Rattle.paseto_wrapping.specs.declared.error.WrapError.TheVariants.{NoWrappedKey, OtherVersion, OtherType, InvalidText, InvalidCost, TooCostly, InvalidPrivateKey, InvalidPoint, SmallOrder, WrongKey, InvalidKey, Memory}
+use Rattle.paseto_wrapping.specs.declared.error.WrapError.TheVariants.{NoWrappedKey, OtherVersion, OtherType, InvalidText, LongPassword, InvalidCost, TooCostly, InvalidPrivateKey, InvalidPoint, SmallOrder, WrongKey, InvalidKey, Memory}
 use Rattle.paseto_wrapping.specs.Error.{IsMemory}
 use Rattle.paseto_wrapping.specs.Header.{HasHeader}
 use Rattle.paseto_wrapping.specs.Text.{IsHeaderFault, writing}
@@ -23,6 +23,7 @@ Faults = List ℕ → WrapError → Type 0
 -- the errors that are a payload's
 abbrev pub IsOfPayload : WrapError → Type 0
 IsOfPayload InvalidText = ⊤
+IsOfPayload LongPassword = ⊤
 IsOfPayload InvalidCost = ⊤
 IsOfPayload TooCostly = ⊤
 IsOfPayload InvalidPrivateKey = ⊤

@@ -21,9 +21,13 @@ pub enum WrapError {
     /// The text begins as a wrapped key of the version, but of another type, which is this one.
     #[error("the wrapped key is one of another type")]
     OtherType(WrappedType),
-    /// What stands behind the header is no base64url encoding without padding, or one of too few bytes.
+    /// What stands behind the header is no base64url encoding without padding, or one of too few bytes; of a sealed key, of
+    /// another count than its version's.
     #[error("what follows the header is no base64url of a wrapped key, or was cut off")]
     InvalidText,
+    /// The password has 4 GiB or more.
+    #[error("the password has 4 GiB or more")]
+    LongPassword,
     /// A cost that PBKDF2 or Argon2id does not allow: no iterations, no passes, no lanes or too many, or memory that is
     /// less than 8 KiB for each lane, no multiple of 1024 bytes, or 4 TiB and more.
     #[error("the cost of the password is one that its function does not allow")]
@@ -43,7 +47,7 @@ pub enum WrapError {
     #[error("the public key is of small order")]
     SmallOrder,
     /// The tag is another one.
-    #[error("wrong wrapping key or password, or the text was changed")]
+    #[error("wrong key or password, or the text was changed")]
     WrongKey,
     /// What was wrapped is no key of the version and the type.
     #[error("what was wrapped is no key of the version")]

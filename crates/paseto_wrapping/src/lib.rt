@@ -1,4 +1,25 @@
-//! Wrapped keys of PASERK.
+//! Keys under a wrapping key, under a password, or sealed to a public key as text, in PASERK, by which keys are kept and
+//! sent where others may read them.
+//!
+//! ```rust
+//! use paseto_wrapping::{WrapError, WrappingKey, unwrap_local, wrap_local};
+//! use rusty_paseto_parts::{Key, Local, PasetoSymmetricKey, V4};
+//! use std::alloc::Global;
+//!
+//! /// Writes a key under a wrapping key, `k4.local-wrap.pie...`, by a nonce that was drawn for it, and reads it again.
+//! pub fn wrap_and_unwrap(
+//!     alloc: Global,
+//!     wrapping_key: &WrappingKey<V4>,
+//!     nonce: &Key<32>,
+//!     key: &PasetoSymmetricKey<V4, Local>,
+//! ) -> Result<PasetoSymmetricKey<V4, Local>, WrapError> {
+//!     let text = wrap_local(alloc, wrapping_key, nonce, key)?;
+//!     unwrap_local(alloc, wrapping_key, text.as_str())
+//! }
+//! ```
+//!
+//! A text of another version or type is refused by its own name. A text is bound to its header: what was wrapped as one
+//! version or type is not unwrapped as another.
 #![tactic(auto)]
 
 mod cost;

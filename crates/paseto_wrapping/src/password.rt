@@ -7,7 +7,7 @@ ghost use Rattle.paseto_wrapping.specs.declared.family.Family.TheVariants.{Nist,
 ghost use Rattle.paseto_wrapping.specs.declared.header.WrappedType.TheVariants.{LocalPassword as LocalKey, SecretPassword as SecretKey};
 ghost use Rattle.paseto_wrapping.specs.Error.{IsMemory};
 ghost use Rattle.paseto_wrapping.specs.Family.{digest_bytes, encrypted, family_of, nonce_length, tag_length};
-ghost use Rattle.paseto_wrapping.specs.Password.{AreParts, IsAllowed, IsCostFault, IsPasswordFault, IsProtected, ak, cost_length, ek, k, payload, protected, salt_length, shortest, t, untagged};
+ghost use Rattle.paseto_wrapping.specs.Password.{AreParts, IsAllowed, IsPasswordFault, IsProtected, IsShort, IsWritingFault, ak, cost_length, ek, k, payload, protected, salt_length, shortest, t, untagged};
 ghost use Rattle.paseto_wrapping.specs.Reading.{InText, IsTagFault, TextFaults, Unwraps, UnwrapsKey};
 
 use crate::cost::PasswordCost;
@@ -32,13 +32,17 @@ const ENCRYPTION: u8 = 0xff;
 /// The byte that the authentication key is derived with.
 const AUTHENTICATION: u8 = 0xfe;
 
-/// The text of a key of local tokens under a password, for example `k4.local-pw.` and 155 characters.
+/// The first length of a password that Argon2id does not allow.
+const TOO_LONG: usize = 1 << 32;
+
+/// The text of a key of local tokens under a password, for example `k4.local-pw.` and 160 characters.
 ///
 /// The salt and the nonce are drawn for this text. In versions 1 and 3 the salt has 32 bytes and the nonce 16, in
-/// versions 2 and 4 the salt has 16 bytes and the nonce 24. The password is shorter than 4 GiB. As much memory is taken
-/// as the cost says, and more for the text.
+/// versions 2 and 4 the salt has 16 bytes and the nonce 24. As much memory is taken as the cost says, and more for the
+/// text.
 ///
-/// `InvalidCost` comes exactly where PBKDF2 or Argon2id does not allow the cost.
+/// `LongPassword` comes exactly where the password has 4 GiB or more, and then `InvalidCost` where PBKDF2 or Argon2id does
+/// not allow the cost.
 ///
 /// Source: PASERK specification, type `local-pw`.
 pub fn protect_local<V: KeyVersion>(
@@ -49,12 +53,11 @@ pub fn protect_local<V: KeyVersion>(
     nonce: &[u8],
     key: &PasetoSymmetricKey<V, Local>,
 ) -> Result<String, WrapError>
-    requires password { length password.now < 2 ^ 32 }
     requires salt { length salt.now ≡ salt_length (family_of V.paserk) }
     requires nonce { length nonce.now ≡ nonce_length (family_of V.paserk) }
-    ensures ok { IfOk result (λ text. IsAllowed (family_of V.paserk) cost × (string_bytes text
+    ensures ok { IfOk result (λ text. IsShort password.now × IsAllowed (family_of V.paserk) cost × (string_bytes text
         ≡ protected V.paserk LocalKey password.now cost salt.now nonce.now key.now)) }
-    ensures err { IfErr result (IsCostFault (family_of V.paserk) cost) }
+    ensures err { IfErr result (IsWritingFault (family_of V.paserk) password.now cost) }
 {
     protect(
         alloc,
@@ -68,7 +71,7 @@ pub fn protect_local<V: KeyVersion>(
     )
 }
 
-/// The text of a private key under a password. See `protect_local` for the salt, the nonce, the cost and the error.
+/// The text of a private key under a password. See `protect_local` for the salt, the nonce and the errors.
 ///
 /// Source: PASERK specification, type `secret-pw`.
 pub fn protect_secret<V: KeyVersion>(
@@ -79,12 +82,11 @@ pub fn protect_secret<V: KeyVersion>(
     nonce: &[u8],
     key: &PasetoAsymmetricPrivateKey<'_, V, Public>,
 ) -> Result<String, WrapError>
-    requires password { length password.now < 2 ^ 32 }
     requires salt { length salt.now ≡ salt_length (family_of V.paserk) }
     requires nonce { length nonce.now ≡ nonce_length (family_of V.paserk) }
-    ensures ok { IfOk result (λ text. IsAllowed (family_of V.paserk) cost × (string_bytes text
+    ensures ok { IfOk result (λ text. IsShort password.now × IsAllowed (family_of V.paserk) cost × (string_bytes text
         ≡ protected V.paserk SecretKey password.now cost salt.now nonce.now key.now)) }
-    ensures err { IfErr result (IsCostFault (family_of V.paserk) cost) }
+    ensures err { IfErr result (IsWritingFault (family_of V.paserk) password.now cost) }
 {
     protect(
         alloc,
@@ -98,14 +100,14 @@ pub fn protect_secret<V: KeyVersion>(
     )
 }
 
-/// The key of local tokens that a text holds under a password, which is shorter than 4 GiB.
+/// The key of local tokens that a text holds under a password.
 ///
 /// `most` bounds what the text may ask for: `PasswordCost::most()` suits texts that nobody has vouched for.
 ///
 /// The reading is exact: the key is answered where the text holds it under the password by an allowed cost within the
 /// bound, and else the first of these: `NoWrappedKey` where it begins as no wrapped key does, `OtherVersion` and
 /// `OtherType` where it begins as one of another version or type, `InvalidText` where what follows is no base64url or too
-/// short, `InvalidCost` where PBKDF2 or Argon2id does not allow the cost, `TooCostly` where it is beyond the bound,
+/// short, `LongPassword` where the password has 4 GiB or more, `InvalidCost` where PBKDF2 or Argon2id does not allow the cost, `TooCostly` where it is beyond the bound,
 /// `WrongKey` where the tag is another one, and `InvalidKey` where other than 32 bytes were wrapped. `Memory` may come in
 /// place of any answer but the first three. A cost is refused before its work is done.
 ///
@@ -116,7 +118,6 @@ pub fn unprotect_local<V: KeyVersion>(
     most: PasswordCost,
     text: &str,
 ) -> Result<PasetoSymmetricKey<V, Local>, WrapError>
-    requires password { length password.now < 2 ^ 32 }
     ensures { UnwrapsKey (λ key. length key ≡ 32)
         (InText V.paserk LocalKey (IsProtected V.paserk LocalKey password.now most))
         (TextFaults V.paserk LocalKey (IsPasswordFault V.paserk LocalKey password.now most)) text.now result }
@@ -142,7 +143,6 @@ pub fn unprotect_secret<V: KeyVersion>(
     most: PasswordCost,
     text: &str,
 ) -> Result<PrivateKey<V>, WrapError>
-    requires password { length password.now < 2 ^ 32 }
     ensures { UnwrapsKey (λ key. IsTrue (V.is_private_key key))
         (InText V.paserk SecretKey (IsProtected V.paserk SecretKey password.now most))
         (TextFaults V.paserk SecretKey (IsPasswordFault V.paserk SecretKey password.now most)) text.now result }
@@ -169,13 +169,15 @@ fn protect(
     nonce: &[u8],
     key: &[u8],
 ) -> Result<String, WrapError>
-    requires password { length password.now < 2 ^ 32 }
     requires salt { length salt.now ≡ salt_length (family_of version) }
     requires nonce { length nonce.now ≡ nonce_length (family_of version) }
-    ensures ok { IfOk result (λ text. IsAllowed (family_of version) cost × (string_bytes text
+    ensures ok { IfOk result (λ text. IsShort password.now × IsAllowed (family_of version) cost × (string_bytes text
         ≡ protected version kind password.now cost salt.now nonce.now key.now)) }
-    ensures err { IfErr result (IsCostFault (family_of version) cost) }
+    ensures err { IfErr result (IsWritingFault (family_of version) password.now cost) }
 {
+    if password.len() >= TOO_LONG {
+        return Err(WrapError::LongPassword);
+    }
     if !cost.is_allowed(Family::of(version)) {
         return Err(WrapError::InvalidCost);
     }
@@ -240,7 +242,6 @@ fn unprotect(
     most: PasswordCost,
     text: &str,
 ) -> Result<Vec<u8>, WrapError>
-    requires { length password.now < 2 ^ 32 }
     ensures { Unwraps (InText version kind (IsProtected version kind password.now most))
         (TextFaults version kind (IsPasswordFault version kind password.now most)) text.now result }
 {
@@ -257,13 +258,15 @@ fn open(
     most: PasswordCost,
     payload: &[u8],
 ) -> Result<Vec<u8>, WrapError>
-    requires { length password.now < 2 ^ 32 }
     ensures { Unwraps (IsProtected version kind password.now most)
         (IsPasswordFault version kind password.now most) payload.now result }
 {
     let family = Family::of(version);
     if payload.len() < shortest(family) {
         return Err(WrapError::InvalidText);
+    }
+    if password.len() >= TOO_LONG {
+        return Err(WrapError::LongPassword);
     }
     let parts = cut(family, payload);
     let cost = PasswordCost::read(family, parts.cost);
@@ -285,7 +288,7 @@ fn open_parts(
     cost: PasswordCost,
     parts: &Parts<'_>,
 ) -> Result<Vec<u8>, WrapError>
-    requires password { length password.now < 2 ^ 32 }
+    requires password { IsShort password.now }
     requires allowed { IsAllowed (family_of version) cost }
     requires salt { length parts.now.salt.now ≡ salt_length (family_of version) }
     requires nonce { length parts.now.nonce.now ≡ nonce_length (family_of version) }
@@ -409,7 +412,7 @@ fn password_key(
     salt: &[u8],
     cost: PasswordCost,
 ) -> Result<[u8; 32], WrapError>
-    requires password { length password.now < 2 ^ 32 }
+    requires password { IsShort password.now }
     requires salt { length salt.now ≡ salt_length family }
     requires allowed { IsAllowed family cost }
     ensures ok { IfOk result (λ key. key ≡ k family password.now salt.now cost) }
@@ -429,7 +432,7 @@ fn argon2_key(
     salt: &[u8],
     cost: PasswordCost,
 ) -> Result<[u8; 32], WrapError>
-    requires password { length password.now < 2 ^ 32 }
+    requires password { IsShort password.now }
     requires salt { length salt.now ≡ 16 }
     requires allowed { IsAllowed Sodium cost }
     ensures ok { IfOk result (λ key. key ≡ k Sodium password.now salt.now cost) }
