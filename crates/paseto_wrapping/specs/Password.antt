@@ -12,7 +12,7 @@ use Rattle.paseto_wrapping.specs.declared.family.Family.TheVariants.{Nist, Sodiu
 use Rattle.paseto_wrapping.specs.declared.header.WrappedType.{WrappedType}
 use Rattle.paseto_wrapping.specs.declared.cost.PasswordCost.{PasswordCost}
 use Rattle.paseto_wrapping.specs.declared.error.WrapError.{WrapError}
-use Rattle.paseto_wrapping.specs.declared.error.WrapError.TheVariants.{InvalidText, LongPassword, InvalidCost, TooCostly, WrongKey, Memory}
+use Rattle.paseto_wrapping.specs.declared.error.WrapError.TheVariants.{InvalidNonce, InvalidText, LongPassword, InvalidCost, TooCostly, WrongKey, Memory}
 use Rattle.paseto_wrapping.specs.Family.{encrypted, family_of, nonce_length, tag, tag_length}
 use Rattle.paseto_wrapping.specs.Header.{header}
 use Rattle.paseto_wrapping.specs.Text.{writing}
@@ -150,9 +150,15 @@ IsPasswordFault version kind password most input _ = ⊥
 
 -- ---- writing
 
--- why a key is not put under a password: the password is too long, or its function does not allow the cost
-abbrev pub IsWritingFault : Family → List ℕ → PasswordCost → WrapError → Type 0
-IsWritingFault family password cost LongPassword = ¬ IsShort password
-IsWritingFault family password cost InvalidCost = IsShort password × ¬ IsAllowed family cost
-IsWritingFault family password cost (Memory _) = ⊤
-IsWritingFault family password cost _ = ⊥
+-- a salt and a nonce have their lengths
+abbrev pub AreDrawn : Family → List ℕ → List ℕ → Type 0
+AreDrawn family s n = (length s ≡ salt_length family) × (length n ≡ nonce_length family)
+
+-- why a key is not put under a password: the salt or the nonce has another length, the password is too long, or its function
+-- does not allow the cost
+abbrev pub IsWritingFault : Family → List ℕ → List ℕ → List ℕ → PasswordCost → WrapError → Type 0
+IsWritingFault family s n password cost InvalidNonce = ¬ AreDrawn family s n
+IsWritingFault family s n password cost LongPassword = AreDrawn family s n × ¬ IsShort password
+IsWritingFault family s n password cost InvalidCost = AreDrawn family s n × IsShort password × ¬ IsAllowed family cost
+IsWritingFault family s n password cost (Memory _) = ⊤
+IsWritingFault family s n password cost _ = ⊥

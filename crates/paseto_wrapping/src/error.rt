@@ -25,6 +25,9 @@ pub enum WrapError {
     /// another count than its version's.
     #[error("what follows the header is no base64url of a wrapped key, or was cut off")]
     InvalidText,
+    /// The salt or the nonce of a key under a password has another length than the version asks for.
+    #[error("the salt or the nonce has another length than the version asks for")]
+    InvalidNonce,
     /// The password has 4 GiB or more.
     #[error("the password has 4 GiB or more")]
     LongPassword,

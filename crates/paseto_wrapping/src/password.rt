@@ -7,7 +7,7 @@ ghost use Rattle.paseto_wrapping.specs.declared.family.Family.TheVariants.{Nist,
 ghost use Rattle.paseto_wrapping.specs.declared.header.WrappedType.TheVariants.{LocalPassword as LocalKey, SecretPassword as SecretKey};
 ghost use Rattle.paseto_wrapping.specs.Error.{IsMemory};
 ghost use Rattle.paseto_wrapping.specs.Family.{digest_bytes, encrypted, family_of, nonce_length, tag_length};
-ghost use Rattle.paseto_wrapping.specs.Password.{AreParts, IsAllowed, IsPasswordFault, IsProtected, IsShort, IsWritingFault, ak, cost_length, ek, k, payload, protected, salt_length, shortest, t, untagged};
+ghost use Rattle.paseto_wrapping.specs.Password.{AreDrawn, AreParts, IsAllowed, IsPasswordFault, IsProtected, IsShort, IsWritingFault, ak, cost_length, ek, k, payload, protected, salt_length, shortest, t, untagged};
 ghost use Rattle.paseto_wrapping.specs.Reading.{InText, IsTagFault, TextFaults, Unwraps, UnwrapsKey};
 
 use crate::cost::PasswordCost;
@@ -41,8 +41,8 @@ const TOO_LONG: usize = 1 << 32;
 /// versions 2 and 4 the salt has 16 bytes and the nonce 24. As much memory is taken as the cost says, and more for the
 /// text.
 ///
-/// `LongPassword` comes exactly where the password has 4 GiB or more, and then `InvalidCost` where PBKDF2 or Argon2id does
-/// not allow the cost.
+/// `InvalidNonce` comes exactly where the salt or the nonce has another length, then `LongPassword` where the password has
+/// 4 GiB or more, and then `InvalidCost` where PBKDF2 or Argon2id does not allow the cost.
 ///
 /// Source: PASERK specification, type `local-pw`.
 pub fn protect_local<V: KeyVersion>(
@@ -53,11 +53,11 @@ pub fn protect_local<V: KeyVersion>(
     nonce: &[u8],
     key: &PasetoSymmetricKey<V, Local>,
 ) -> Result<String, WrapError>
-    requires salt { length salt.now ≡ salt_length (family_of V.paserk) }
-    requires nonce { length nonce.now ≡ nonce_length (family_of V.paserk) }
-    ensures ok { IfOk result (λ text. IsShort password.now × IsAllowed (family_of V.paserk) cost × (string_bytes text
+    ensures ok { IfOk result (λ text. AreDrawn (family_of V.paserk) salt.now nonce.now
+        × IsShort password.now × IsAllowed (family_of V.paserk) cost × (string_bytes text
         ≡ protected V.paserk LocalKey password.now cost salt.now nonce.now key.now)) }
-    ensures err { IfErr result (IsWritingFault (family_of V.paserk) password.now cost) }
+    ensures err { IfErr result
+        (IsWritingFault (family_of V.paserk) salt.now nonce.now password.now cost) }
 {
     protect(
         alloc,
@@ -82,11 +82,11 @@ pub fn protect_secret<V: KeyVersion>(
     nonce: &[u8],
     key: &PasetoAsymmetricPrivateKey<'_, V, Public>,
 ) -> Result<String, WrapError>
-    requires salt { length salt.now ≡ salt_length (family_of V.paserk) }
-    requires nonce { length nonce.now ≡ nonce_length (family_of V.paserk) }
-    ensures ok { IfOk result (λ text. IsShort password.now × IsAllowed (family_of V.paserk) cost × (string_bytes text
+    ensures ok { IfOk result (λ text. AreDrawn (family_of V.paserk) salt.now nonce.now
+        × IsShort password.now × IsAllowed (family_of V.paserk) cost × (string_bytes text
         ≡ protected V.paserk SecretKey password.now cost salt.now nonce.now key.now)) }
-    ensures err { IfErr result (IsWritingFault (family_of V.paserk) password.now cost) }
+    ensures err { IfErr result
+        (IsWritingFault (family_of V.paserk) salt.now nonce.now password.now cost) }
 {
     protect(
         alloc,
@@ -169,11 +169,39 @@ fn protect(
     nonce: &[u8],
     key: &[u8],
 ) -> Result<String, WrapError>
+    ensures ok { IfOk result (λ text. AreDrawn (family_of version) salt.now nonce.now
+        × IsShort password.now × IsAllowed (family_of version) cost × (string_bytes text
+        ≡ protected version kind password.now cost salt.now nonce.now key.now)) }
+    ensures err { IfErr result
+        (IsWritingFault (family_of version) salt.now nonce.now password.now cost) }
+{
+    let family = Family::of(version);
+    if salt.len() != salt_length(family) {
+        return Err(WrapError::InvalidNonce);
+    }
+    if nonce.len() != family.nonce_length() {
+        return Err(WrapError::InvalidNonce);
+    }
+    protect_drawn(alloc, version, kind, password, cost, salt, nonce, key)
+}
+
+// The text of the bytes of a key, by a salt and a nonce of their lengths.
+fn protect_drawn(
+    alloc: Global,
+    version: PaserkVersion,
+    kind: WrappedType,
+    password: &[u8],
+    cost: PasswordCost,
+    salt: &[u8],
+    nonce: &[u8],
+    key: &[u8],
+) -> Result<String, WrapError>
     requires salt { length salt.now ≡ salt_length (family_of version) }
     requires nonce { length nonce.now ≡ nonce_length (family_of version) }
     ensures ok { IfOk result (λ text. IsShort password.now × IsAllowed (family_of version) cost × (string_bytes text
         ≡ protected version kind password.now cost salt.now nonce.now key.now)) }
-    ensures err { IfErr result (IsWritingFault (family_of version) password.now cost) }
+    ensures err { IfErr result
+        (IsWritingFault (family_of version) salt.now nonce.now password.now cost) }
 {
     if password.len() >= TOO_LONG {
         return Err(WrapError::LongPassword);

@@ -380,6 +380,24 @@ fn costs_that_are_not_allowed_are_not_written(rt: HostRuntime) {
 }
 
 #[test]
+fn salts_and_nonces_of_other_lengths_are_refused(rt: HostRuntime) {
+    let wanted = "the salt or the nonce has another length than the version asks for";
+    let cost = PasswordCost {
+        iterations: 1,
+        memory: 8192,
+        passes: 1,
+        lanes: 1,
+    };
+    let key = PasetoSymmetricKey::<V4, Local>::from(Key::from([0u8; 32]));
+    let answer = protect_local(rt.alloc(), b"password", cost, &[0; 32], &[0; 24], &key);
+    expect_fault(&rt, rt.alloc(), answer, wanted);
+    let bytes = Key::from([0u8; 48]);
+    let key = PasetoAsymmetricPrivateKey::<V3, Public>::from(&bytes);
+    let answer = protect_secret(rt.alloc(), b"password", cost, &[0; 32], &[0; 24], &key);
+    expect_fault(&rt, rt.alloc(), answer, wanted);
+}
+
+#[test]
 fn a_text_says_what_it_begins_as(rt: HostRuntime) {
     let found = wrapped_header_of("k3.seal.AAAA");
     let wanted = Some((PaserkVersion::V3, WrappedType::Seal, "AAAA"));

@@ -1,6 +1,6 @@
 use Rattle.std.proofs.Common.{refl, arith}
 use Rattle.paseto_wrapping.specs.Password.{payload}
-use Rattle.paseto_wrapping.proofs.password.protect.Goals as goal
+use Rattle.paseto_wrapping.proofs.password.protect_drawn.Goals as goal
 
 pub returns-clause-ok : goal.returns-clause-ok
 unfolding payload
