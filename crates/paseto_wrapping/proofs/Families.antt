@@ -1,5 +1,5 @@
 -- What holds of both families.
-use Rattle.std.proofs.Common.{◌≡◌, ◌≤◌, ℕ, List, length, lit≤}
+use Rattle.std.proofs.Common.{◌≡◌, ℕ, List, length, lit≤}
 use Rattle.rusty_paseto_primitives.proofs.AesBlocks.{aes256_ctr_stream-lt}
 use Rattle.rusty_paseto_primitives.proofs.StreamBlocks.{xchacha20_stream-lt}
 use Rattle.rusty_paseto_primitives.proofs.Blake2Lengths.{length-blake2b, IsBytes-blake2b}

@@ -1,5 +1,5 @@
 -- The parts of the payload of a key under a password.
-use Rattle.std.proofs.Common.{◌≡◌, ◌⊎◌, ℕ, ◌+◌, ◌<◌, ◌≤◌, List, [], ◌∷◌, ◌++◌, length, take, drop, Result, Ok, Err, IfOk, IfErr, inl, inr, refl, sym, ap, subst, ◌∙◌, arith, lit≤, append_assoc, length-append}
+use Rattle.std.proofs.Common.{◌≡◌, ◌⊎◌, ℕ, ◌<◌, ◌≤◌, List, [], ◌∷◌, ◌++◌, length, take, drop, Result, Ok, Err, IfOk, IfErr, inl, inr, refl, sym, ap, subst, ◌∙◌, arith, length-append}
 use Rattle.std.proofs.lemmas.List.{take_at, drop_at}
 use Rattle.std.specs.declared.alloc.Global.{Global}
 use Rattle.std.specs.declared.vec.Vec.{Vec}
@@ -17,8 +17,8 @@ use Rattle.paseto_wrapping.specs.declared.family.Family.TheVariants.{Nist, Sodiu
 use Rattle.paseto_wrapping.specs.declared.error.WrapError.{WrapError}
 use Rattle.paseto_wrapping.specs.declared.error.WrapError.TheVariants.{NoWrappedKey, OtherVersion, OtherType, InvalidText, LongPassword, InvalidCost, TooCostly, InvalidPrivateKey, InvalidPoint, SmallOrder, WrongKey, InvalidKey, Memory}
 use Rattle.paseto_wrapping.specs.Error.{IsMemory}
-use Rattle.paseto_wrapping.specs.Family.{encrypted, family_of, nonce_length, tag, tag_length}
-use Rattle.paseto_wrapping.specs.Password.{AreAlike, AreParts, IsAllowed, IsGranted, IsPasswordFault, IsProtected, IsShort, IsWithin, TellsCost, ak, cost_bytes, cost_length, ek, k, payload, salt_length, shortest, t, untagged}
+use Rattle.paseto_wrapping.specs.Family.{encrypted, family_of}
+use Rattle.paseto_wrapping.specs.Password.{AreAlike, AreParts, IsAllowed, IsGranted, IsPasswordFault, IsProtected, IsShort, IsWithin, TellsCost, cost_bytes, cost_length, ek, k, payload, shortest, t, untagged}
 use Rattle.paseto_wrapping.specs.Reading.{IsOfPayload, IsTagFault, Unwraps}
 use Rattle.paseto_wrapping.proofs.Families.{encrypted-encrypted, length-tag, IsBytes-encrypted, IsBytes-tag}
 

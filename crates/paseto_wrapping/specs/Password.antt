@@ -6,7 +6,6 @@ use Rattle.sha2.specs.Sha512.{sha384}
 use Rattle.rusty_paseto_primitives.specs.Blake2.Keyed.{blake2b}
 use Rattle.paseto_pbkdf2.specs.Pbkdf2.{derived_key}
 use Rattle.paseto_argon2.specs.Derivation.{argon2id}
-use Rattle.paseto_argon2.specs.declared.allowed.Parameters.{Parameters}
 use Rattle.rusty_paseto_paserk.specs.declared.header.PaserkVersion.{PaserkVersion}
 use Rattle.paseto_wrapping.specs.declared.family.Family.{Family}
 use Rattle.paseto_wrapping.specs.declared.family.Family.TheVariants.{Nist, Sodium}
@@ -151,7 +150,7 @@ IsPasswordFault version kind password most input _ = ⊥
 
 -- ---- writing
 
--- why a key is not put under a password: it is too long, or its function does not allow the cost
+-- why a key is not put under a password: the password is too long, or its function does not allow the cost
 abbrev pub IsWritingFault : Family → List ℕ → PasswordCost → WrapError → Type 0
 IsWritingFault family password cost LongPassword = ¬ IsShort password
 IsWritingFault family password cost InvalidCost = IsShort password × ¬ IsAllowed family cost

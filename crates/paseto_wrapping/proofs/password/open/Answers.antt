@@ -1,6 +1,6 @@
-use Rattle.std.proofs.Common.{◌≡◌, ◌∙◌, arith}
+use Rattle.std.proofs.Common.{◌≡◌, arith}
 use Rattle.paseto_wrapping.specs.Family.{family_of}
-use Rattle.paseto_wrapping.specs.Password.{IsAllowed, IsWithin, shortest}
+use Rattle.paseto_wrapping.specs.Password.{shortest}
 use Rattle.paseto_wrapping.proofs.Protected.{open_costly, open_cut, open_invalid, open_long, open_short}
 use Rattle.paseto_wrapping.proofs.password.open.Goals as goal
 

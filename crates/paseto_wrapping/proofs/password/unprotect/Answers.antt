@@ -1,6 +1,6 @@
 use Rattle.paseto_wrapping.specs.Password.{IsPasswordFault, IsProtected}
 use Rattle.paseto_wrapping.proofs.Protected.{password_fault}
-use Rattle.paseto_wrapping.proofs.Reading.{text_refused, text_unwrapped}
+use Rattle.paseto_wrapping.proofs.Reading.{text_unwrapped}
 use Rattle.paseto_wrapping.proofs.password.unprotect.Goals as goal
 
 pub returns : goal.returns

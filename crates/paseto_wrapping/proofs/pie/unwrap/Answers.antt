@@ -1,6 +1,6 @@
 use Rattle.paseto_wrapping.specs.Pie.{IsPie, IsPieFault}
 use Rattle.paseto_wrapping.proofs.Pies.{pie_fault}
-use Rattle.paseto_wrapping.proofs.Reading.{text_refused, text_unwrapped}
+use Rattle.paseto_wrapping.proofs.Reading.{text_unwrapped}
 use Rattle.paseto_wrapping.proofs.pie.unwrap.Goals as goal
 
 pub returns : goal.returns

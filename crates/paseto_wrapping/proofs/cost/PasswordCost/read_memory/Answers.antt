@@ -1,6 +1,6 @@
-use Rattle.std.proofs.Common.{◌≡◌, ◌++◌, ◌∙◌, List, ℕ, length, take, drop, ap, arith, append_assoc, length-take, length-drop, sym, refl}
+use Rattle.std.proofs.Common.{◌≡◌, ◌++◌, ◌∙◌, List, ℕ, length, take, drop, ap, arith, append_assoc, length-drop, refl}
 use Rattle.std.specs.Int.{w32, w64, to_be_bytes, from_be_bytes}
-use Rattle.std.proofs.lemmas.List.{take-append-drop, length-take-le, get_or-drop, get_or-take}
+use Rattle.std.proofs.lemmas.List.{take-append-drop, length-take-le}
 use Rattle.std.proofs.lemmas.Nat.{be_bytes_4, be_bytes_8}
 use Rattle.rusty_paseto_primitives.specs.Bytes.{IsBytes}
 use Rattle.rusty_paseto_primitives.proofs.ByteLists.{IsBytes-drop, IsBytes-take}
