@@ -12,7 +12,7 @@ use Rattle.paseto_wrapping.specs.declared.header.WrappedType.{WrappedType}
 use Rattle.paseto_wrapping.specs.declared.family.Family.{Family}
 use Rattle.paseto_wrapping.specs.declared.family.Family.TheVariants.{Nist, Sodium}
 use Rattle.paseto_wrapping.specs.declared.error.WrapError.{WrapError}
-use Rattle.paseto_wrapping.specs.declared.error.WrapError.TheVariants.{NoWrappedKey, OtherVersion, OtherType, InvalidText, LongPassword, InvalidCost, TooCostly, InvalidPrivateKey, InvalidPoint, SmallOrder, WrongKey, InvalidKey, Memory}
+use Rattle.paseto_wrapping.specs.declared.error.WrapError.TheVariants.{NoWrappedKey, OtherVersion, OtherType, InvalidText, InvalidNonce, LongPassword, InvalidCost, TooCostly, InvalidPrivateKey, InvalidPoint, SmallOrder, WrongKey, InvalidKey, Memory}
 use Rattle.paseto_wrapping.specs.Error.{IsMemory}
 use Rattle.paseto_wrapping.specs.Family.{family_of, tag_length}
 use Rattle.paseto_wrapping.specs.Header.{header}
@@ -42,6 +42,7 @@ pie_fault version kind wk input NoWrappedKey h = h
 pie_fault version kind wk input (OtherVersion found) h = h
 pie_fault version kind wk input (OtherType found) h = h
 pie_fault version kind wk input InvalidText h = tt
+pie_fault version kind wk input InvalidNonce h = absurd h
 pie_fault version kind wk input LongPassword h = absurd h
 pie_fault version kind wk input InvalidCost h = absurd h
 pie_fault version kind wk input TooCostly h = absurd h
@@ -160,6 +161,7 @@ module _ (version : PaserkVersion) (kind : WrappedType) (wk input : List ℕ) wh
       memory (OtherVersion found) h e = h
       memory (OtherType found) h e = h
       memory InvalidText h e = h
+      memory InvalidNonce h e = h
       memory LongPassword h e = h
       memory InvalidCost h e = h
       memory TooCostly h e = h
@@ -175,6 +177,7 @@ module _ (version : PaserkVersion) (kind : WrappedType) (wk input : List ℕ) wh
       fault (OtherVersion found) h = absurd h
       fault (OtherType found) h = absurd h
       fault InvalidText h = absurd h
+      fault InvalidNonce h = absurd h
       fault LongPassword h = absurd h
       fault InvalidCost h = absurd h
       fault TooCostly h = absurd h

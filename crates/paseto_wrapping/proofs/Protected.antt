@@ -15,7 +15,7 @@ use Rattle.paseto_wrapping.specs.declared.header.WrappedType.{WrappedType}
 use Rattle.paseto_wrapping.specs.declared.family.Family.{Family}
 use Rattle.paseto_wrapping.specs.declared.family.Family.TheVariants.{Nist, Sodium}
 use Rattle.paseto_wrapping.specs.declared.error.WrapError.{WrapError}
-use Rattle.paseto_wrapping.specs.declared.error.WrapError.TheVariants.{NoWrappedKey, OtherVersion, OtherType, InvalidText, LongPassword, InvalidCost, TooCostly, InvalidPrivateKey, InvalidPoint, SmallOrder, WrongKey, InvalidKey, Memory}
+use Rattle.paseto_wrapping.specs.declared.error.WrapError.TheVariants.{NoWrappedKey, OtherVersion, OtherType, InvalidText, InvalidNonce, LongPassword, InvalidCost, TooCostly, InvalidPrivateKey, InvalidPoint, SmallOrder, WrongKey, InvalidKey, Memory}
 use Rattle.paseto_wrapping.specs.Error.{IsMemory}
 use Rattle.paseto_wrapping.specs.Family.{encrypted, family_of}
 use Rattle.paseto_wrapping.specs.Password.{AreAlike, AreParts, IsAllowed, IsGranted, IsPasswordFault, IsProtected, IsShort, IsWithin, TellsCost, cost_bytes, cost_length, ek, k, payload, shortest, t, untagged}
@@ -29,6 +29,7 @@ password_fault version kind password most input NoWrappedKey h = h
 password_fault version kind password most input (OtherVersion found) h = h
 password_fault version kind password most input (OtherType found) h = h
 password_fault version kind password most input InvalidText h = tt
+password_fault version kind password most input InvalidNonce h = absurd h
 password_fault version kind password most input LongPassword h = tt
 password_fault version kind password most input InvalidCost h = tt
 password_fault version kind password most input TooCostly h = tt
@@ -289,6 +290,7 @@ module _ (version : PaserkVersion) (kind : WrappedType) (password : List ℕ) (m
         memory (OtherVersion found) h e = h
         memory (OtherType found) h e = h
         memory InvalidText h e = h
+        memory InvalidNonce h e = h
         memory LongPassword h e = h
         memory InvalidCost h e = h
         memory TooCostly h e = h
@@ -305,6 +307,7 @@ module _ (version : PaserkVersion) (kind : WrappedType) (password : List ℕ) (m
         fault (OtherVersion found) h = absurd h
         fault (OtherType found) h = absurd h
         fault InvalidText h = absurd h
+        fault InvalidNonce h = absurd h
         fault LongPassword h = absurd h
         fault InvalidCost h = absurd h
         fault TooCostly h = absurd h

@@ -8,7 +8,7 @@ use Rattle.rusty_paseto_parts.specs.Section.{base64url}
 use Rattle.rusty_paseto_paserk.specs.declared.header.PaserkVersion.{PaserkVersion}
 use Rattle.paseto_wrapping.specs.declared.header.WrappedType.{WrappedType}
 use Rattle.paseto_wrapping.specs.declared.error.WrapError.{WrapError}
-use Rattle.paseto_wrapping.specs.declared.error.WrapError.TheVariants.{NoWrappedKey, OtherVersion, OtherType, InvalidText, LongPassword, InvalidCost, TooCostly, InvalidPrivateKey, InvalidPoint, SmallOrder, WrongKey, InvalidKey, Memory}
+use Rattle.paseto_wrapping.specs.declared.error.WrapError.TheVariants.{NoWrappedKey, OtherVersion, OtherType, InvalidText, InvalidNonce, LongPassword, InvalidCost, TooCostly, InvalidPrivateKey, InvalidPoint, SmallOrder, WrongKey, InvalidKey, Memory}
 use Rattle.paseto_wrapping.specs.Error.{IsMemory}
 use Rattle.paseto_wrapping.specs.Text.{IsTextFault, ReadsPayload}
 use Rattle.paseto_wrapping.specs.Reading.{Faults, InText, IsOfPayload, KeyFaults, TextFaults, Unwraps, UnwrapsKey, Wraps}
@@ -20,6 +20,7 @@ module _ (version : PaserkVersion) (kind : WrappedType) (IsWrapped : Wraps) (IsF
   text_fault (OtherVersion found) h = inr h
   text_fault (OtherType found) h = inr h
   text_fault InvalidText h = inr (h.0, λ payload is. absurd (h.1 payload is.0 is.1))
+  text_fault InvalidNonce h = absurd h
   text_fault LongPassword h = absurd h
   text_fault InvalidCost h = absurd h
   text_fault TooCostly h = absurd h
@@ -48,6 +49,7 @@ module _ (version : PaserkVersion) (kind : WrappedType) (IsWrapped : Wraps) (IsF
     (base64url payload.items, reads.written),
     λ other is. subst (λ (p : List ℕ). IsFault p InvalidText) (reads.read other is.0 is.1) h,
   )
+  payload_fault payload reads InvalidNonce own h = absurd own
   payload_fault payload reads LongPassword own h = (payload.items, (reads.bytes, reads.written), h)
   payload_fault payload reads InvalidCost own h = (payload.items, (reads.bytes, reads.written), h)
   payload_fault payload reads TooCostly own h = (payload.items, (reads.bytes, reads.written), h)
@@ -93,7 +95,9 @@ module _ (version : PaserkVersion) (kind : WrappedType) (IsWrapped : Wraps) (IsF
   key_fault (OtherType found) (inr h) = h
   key_fault InvalidText (inl h) = absurd h
   key_fault InvalidText (inr h) = h
+  key_fault InvalidNonce (inl h) = absurd h
   key_fault LongPassword (inl h) = absurd h
+  key_fault InvalidNonce (inr h) = h
   key_fault LongPassword (inr h) = h
   key_fault InvalidCost (inl h) = absurd h
   key_fault InvalidCost (inr h) = h

@@ -21,7 +21,7 @@ use Rattle.paseto_p384.proofs.OptionLaws.{none-some, some-same}
 use Rattle.paseto_wrapping.specs.declared.family.Family.{Family}
 use Rattle.paseto_wrapping.specs.declared.family.Family.TheVariants.{Nist, Sodium}
 use Rattle.paseto_wrapping.specs.declared.error.WrapError.{WrapError}
-use Rattle.paseto_wrapping.specs.declared.error.WrapError.TheVariants.{NoWrappedKey, OtherVersion, OtherType, InvalidText, LongPassword, InvalidCost, TooCostly, InvalidPrivateKey, InvalidPoint, SmallOrder, WrongKey, InvalidKey, Memory}
+use Rattle.paseto_wrapping.specs.declared.error.WrapError.TheVariants.{NoWrappedKey, OtherVersion, OtherType, InvalidText, InvalidNonce, LongPassword, InvalidCost, TooCostly, InvalidPrivateKey, InvalidPoint, SmallOrder, WrongKey, InvalidKey, Memory}
 use Rattle.paseto_wrapping.specs.Error.{IsMemory}
 use Rattle.paseto_wrapping.specs.Family.{family_of, tag_length}
 use Rattle.paseto_wrapping.specs.Reading.{InText, IsOfPayload, Unwraps}
@@ -73,6 +73,7 @@ seal_fault family version private input NoWrappedKey h = h
 seal_fault family version private input (OtherVersion found) h = h
 seal_fault family version private input (OtherType found) h = h
 seal_fault family version private input InvalidText h = tt
+seal_fault family version private input InvalidNonce h = absurd h
 seal_fault family version private input LongPassword h = absurd h
 seal_fault family version private input InvalidCost h = absurd h
 seal_fault family version private input TooCostly h = absurd h
@@ -280,6 +281,7 @@ seal-memory private ephemeral NoWrappedKey own secret h = h
 seal-memory private ephemeral (OtherVersion found) own secret h = h
 seal-memory private ephemeral (OtherType found) own secret h = h
 seal-memory private ephemeral InvalidText own secret h = h
+seal-memory private ephemeral InvalidNonce own secret h = h
 seal-memory private ephemeral LongPassword own secret h = h
 seal-memory private ephemeral InvalidCost own secret h = h
 seal-memory private ephemeral TooCostly own secret h = h
