@@ -242,6 +242,7 @@ answers 200 'logging in before the end' -c "$work/kept_jar" -d "$ada" "$killed/l
 answers 200 'logging in twice' -c "$work/ended_jar" -d "$ada" "$killed/login"
 answers 200 'logging out before the end' -b "$work/ended_jar" -X POST "$killed/logout"
 pkill -KILL -P "${services[-1]}"
+wait "${services[-1]}" 2>/dev/null
 serve again --database "$work/sessions.db"
 answers 200 'a session after the end' -b "$work/kept_jar" "$again/me"
 answers 401 'a session that was logged out before the end' -b "$work/ended_jar" "$again/me"
