@@ -220,6 +220,24 @@ class NotNames(PasetoError):
     status = 30
 
 
+class NoPaserk(PasetoError):
+    """The text begins as no key does."""
+
+    status = 31
+
+
+class OtherVersion(PasetoError):
+    """The text begins as a key of another version."""
+
+    status = 32
+
+
+class OtherType(PasetoError):
+    """The text begins as a key of another type."""
+
+    status = 33
+
+
 def _faults(of: type[PasetoError]) -> dict[int, type[PasetoError]]:
     """The exceptions by their statuses."""
     found = {}
