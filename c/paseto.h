@@ -67,7 +67,11 @@ enum {
     /* of what came later */
     PASETO_RSA_CIPHER = 28, /* the numbers of a private key of version 1 are not of one key */
     PASETO_TOO_LONG = 29,   /* the token has more bytes than it may have */
-    PASETO_NOT_NAMES = 30   /* the names of claims are not the text of a JSON array of texts */
+    PASETO_NOT_NAMES = 30,  /* the names of claims are not the text of a JSON array of texts */
+    /* of keys as text */
+    PASETO_NO_PASERK = 31,     /* the text begins as no key does */
+    PASETO_OTHER_VERSION = 32, /* it begins as a key of another version */
+    PASETO_OTHER_TYPE = 33     /* it begins as a key of another type: for local tokens, private or public */
 };
 
 /* Draws secret random bytes, as nonces and seeds are to be: by getrandom(2), which blocks only before the system has
@@ -416,6 +420,92 @@ paseto_status paseto_v4_public_parse_with(const uint8_t *public_key, size_t publ
                                           const struct paseto_options *options,
                                           uint8_t *room, size_t room_length, size_t *written,
                                           uint8_t *line, size_t line_length, size_t *told);
+
+/* ---- keys as text
+
+   PASERK writes a key in one line, as `paseto keygen` does into its files: k4.local. and the key in base64url, k4.secret. for a
+   private key and k4.public. for a public one. A line feed that ends a file is no part of it. paseto_key_kind tells which key a
+   text is: its version, from 1 to 4, and its type, one of these, or 0 for both. Statuses: PASETO_OK, PASETO_NOT_UTF8,
+   PASETO_NO_PASERK. What stands behind may be no key. */
+enum {
+    PASETO_KEY_LOCAL = 1,
+    PASETO_KEY_PRIVATE = 2,
+    PASETO_KEY_PUBLIC = 3
+};
+
+paseto_status paseto_key_kind(const uint8_t *text, size_t text_length, uint8_t *version, uint8_t *type);
+
+/* Writing takes a key of the length of its kind, and answers its text, of at most 128 bytes; an id names the key and does not
+   tell it: k4.lid. for a key for local tokens, k4.sid. for a private key and k4.pid. for a public one. Statuses: PASETO_OK,
+   PASETO_ROOM, PASETO_MEMORY, PASETO_INVALID_KEY.
+
+   Reading takes a text, and answers the key's bytes. Statuses: PASETO_OK, PASETO_ROOM, PASETO_MEMORY, PASETO_NOT_UTF8,
+   PASETO_NO_PASERK, PASETO_OTHER_VERSION, PASETO_OTHER_TYPE, and PASETO_INVALID_KEY where what stands behind is no key.
+
+       uint8_t key[32], id[64];
+       size_t n;
+       if (paseto_v4_local_key_from_paserk(text, text_length, key, sizeof key, &n) != PASETO_OK) return -1;
+       if (paseto_v4_local_key_id(key, sizeof key, id, sizeof id, &n) != PASETO_OK) return -1; */
+paseto_status paseto_v1_local_key_to_paserk(const uint8_t *key, size_t key_length,
+                                            uint8_t *room, size_t room_length, size_t *written);
+paseto_status paseto_v1_local_key_from_paserk(const uint8_t *text, size_t text_length,
+                                              uint8_t *room, size_t room_length, size_t *written);
+paseto_status paseto_v1_local_key_id(const uint8_t *key, size_t key_length,
+                                     uint8_t *room, size_t room_length, size_t *written);
+paseto_status paseto_v2_local_key_to_paserk(const uint8_t *key, size_t key_length,
+                                            uint8_t *room, size_t room_length, size_t *written);
+paseto_status paseto_v2_local_key_from_paserk(const uint8_t *text, size_t text_length,
+                                              uint8_t *room, size_t room_length, size_t *written);
+paseto_status paseto_v2_local_key_id(const uint8_t *key, size_t key_length,
+                                     uint8_t *room, size_t room_length, size_t *written);
+paseto_status paseto_v3_local_key_to_paserk(const uint8_t *key, size_t key_length,
+                                            uint8_t *room, size_t room_length, size_t *written);
+paseto_status paseto_v3_local_key_from_paserk(const uint8_t *text, size_t text_length,
+                                              uint8_t *room, size_t room_length, size_t *written);
+paseto_status paseto_v3_local_key_id(const uint8_t *key, size_t key_length,
+                                     uint8_t *room, size_t room_length, size_t *written);
+paseto_status paseto_v4_local_key_to_paserk(const uint8_t *key, size_t key_length,
+                                            uint8_t *room, size_t room_length, size_t *written);
+paseto_status paseto_v4_local_key_from_paserk(const uint8_t *text, size_t text_length,
+                                              uint8_t *room, size_t room_length, size_t *written);
+paseto_status paseto_v4_local_key_id(const uint8_t *key, size_t key_length,
+                                     uint8_t *room, size_t room_length, size_t *written);
+paseto_status paseto_v2_private_key_to_paserk(const uint8_t *key, size_t key_length,
+                                              uint8_t *room, size_t room_length, size_t *written);
+paseto_status paseto_v2_private_key_from_paserk(const uint8_t *text, size_t text_length,
+                                                uint8_t *room, size_t room_length, size_t *written);
+paseto_status paseto_v2_private_key_id(const uint8_t *key, size_t key_length,
+                                       uint8_t *room, size_t room_length, size_t *written);
+paseto_status paseto_v2_public_key_to_paserk(const uint8_t *key, size_t key_length,
+                                             uint8_t *room, size_t room_length, size_t *written);
+paseto_status paseto_v2_public_key_from_paserk(const uint8_t *text, size_t text_length,
+                                               uint8_t *room, size_t room_length, size_t *written);
+paseto_status paseto_v2_public_key_id(const uint8_t *key, size_t key_length,
+                                      uint8_t *room, size_t room_length, size_t *written);
+paseto_status paseto_v3_private_key_to_paserk(const uint8_t *key, size_t key_length,
+                                              uint8_t *room, size_t room_length, size_t *written);
+paseto_status paseto_v3_private_key_from_paserk(const uint8_t *text, size_t text_length,
+                                                uint8_t *room, size_t room_length, size_t *written);
+paseto_status paseto_v3_private_key_id(const uint8_t *key, size_t key_length,
+                                       uint8_t *room, size_t room_length, size_t *written);
+paseto_status paseto_v3_public_key_to_paserk(const uint8_t *key, size_t key_length,
+                                             uint8_t *room, size_t room_length, size_t *written);
+paseto_status paseto_v3_public_key_from_paserk(const uint8_t *text, size_t text_length,
+                                               uint8_t *room, size_t room_length, size_t *written);
+paseto_status paseto_v3_public_key_id(const uint8_t *key, size_t key_length,
+                                      uint8_t *room, size_t room_length, size_t *written);
+paseto_status paseto_v4_private_key_to_paserk(const uint8_t *key, size_t key_length,
+                                              uint8_t *room, size_t room_length, size_t *written);
+paseto_status paseto_v4_private_key_from_paserk(const uint8_t *text, size_t text_length,
+                                                uint8_t *room, size_t room_length, size_t *written);
+paseto_status paseto_v4_private_key_id(const uint8_t *key, size_t key_length,
+                                       uint8_t *room, size_t room_length, size_t *written);
+paseto_status paseto_v4_public_key_to_paserk(const uint8_t *key, size_t key_length,
+                                             uint8_t *room, size_t room_length, size_t *written);
+paseto_status paseto_v4_public_key_from_paserk(const uint8_t *text, size_t text_length,
+                                               uint8_t *room, size_t room_length, size_t *written);
+paseto_status paseto_v4_public_key_id(const uint8_t *key, size_t key_length,
+                                      uint8_t *room, size_t room_length, size_t *written);
 
 /* ---- before opening
 

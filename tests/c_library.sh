@@ -137,6 +137,19 @@ check 'the version of paseto.pc' diff <(sed -nE 's/^Version: //p' "$prefix/lib/p
 build published -O1
 counted 'published tokens' "$work/published" "$root/crates/paseto_rows/data/published.txt"
 grep -qx '27 passed, 0 failed' "$work/log" && pass || fail 'the published tokens are not 27'
+build keys -O1 -g -fsanitize=address,undefined -fno-sanitize-recover=all
+python3 - "$root/crates/paseto_vectors/src/paserk/rows.rt" >"$work/keys.txt" <<'END'
+import re, sys
+text = open(sys.argv[1]).read()
+for row in re.findall(r'\(\s*(\d),\s*"(\w+)",\s*"(\w+)",\s*"([^"]+)",\s*"([^"]+)",\s*\)', text):
+    print(*row)
+END
+if [ "$(wc -l <"$work/keys.txt")" -eq "$(grep -c 'id\.' "$root/crates/paseto_vectors/src/paserk/rows.rt")" ]; then
+    pass
+else
+    fail 'not all rows of keys are read'
+fi
+counted 'keys as text' "$work/keys" "$work/keys.txt"
 build rooms -O2 -fsanitize=undefined -fno-sanitize-recover=all -Wl,--wrap=malloc,--wrap=realloc,--wrap=free
 seed=${SEED:-$(date +%s)}
 check "random calls, SEED=$seed" "$work/rooms" 100000 "$seed"

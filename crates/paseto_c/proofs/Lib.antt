@@ -5,3 +5,4 @@ pub mod BuildLemmas
 pub mod ParseLemmas
 pub mod Told
 pub mod ParseExits
+pub mod KeyLemmas

@@ -52,6 +52,9 @@ later_text status =
     if status == 28 then error_text RsaCipher else
     if status == 29 then error_text TooLong else
     if status == 30 then codes "The names of claims are not a JSON array of texts" else
+    if status == 31 then codes "The text is no PASERK key" else
+    if status == 32 then codes "The key is one of another version" else
+    if status == 33 then codes "The key is one of another type" else
     codes "An unknown error occurred"
 
 -- of any status

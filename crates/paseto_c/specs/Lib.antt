@@ -13,3 +13,4 @@ pub mod Parse
 pub mod ErrorText
 pub mod Options
 pub mod Fault
+pub mod KeyText

@@ -9,8 +9,10 @@ use Rattle.rusty_paseto_generic.specs.declared.error.GenericBuilderError.{Generi
 use Rattle.rusty_paseto_generic.specs.declared.error.GenericBuilderError.TheVariants as Builder
 use Rattle.rusty_paseto_generic.specs.declared.error.GenericParserError.{GenericParserError}
 use Rattle.rusty_paseto_generic.specs.declared.error.GenericParserError.TheVariants as Parser
+use Rattle.rusty_paseto_paserk.specs.declared.error.PaserkError.{PaserkError}
+use Rattle.rusty_paseto_paserk.specs.declared.error.PaserkError.TheVariants as Paserk
 use Rattle.paseto_c.specs.declared.refusal.Refusal.{Refusal}
-use Rattle.paseto_c.specs.declared.refusal.Refusal.TheVariants.{Memory, InvalidKey, InvalidNonce, NotUtf8, NotObject, InvalidMoment, IncorrectSize, FooterInvalid, WrongHeader, PayloadBase64Decode, Cryption, ChaChaCipherError, InvalidSignature, Utf8Error, FromUtf8Error, KeyRejected, Signature, PayloadJsonError, Expired, UseBeforeAvailable, Rfc3339Date, Missing, Unexpected, Invalid, DuplicateTopLevelPayloadClaim, Other, RsaCipher, TooLong, NotNames}
+use Rattle.paseto_c.specs.declared.refusal.Refusal.TheVariants.{Memory, InvalidKey, InvalidNonce, NotUtf8, NotObject, InvalidMoment, IncorrectSize, FooterInvalid, WrongHeader, PayloadBase64Decode, Cryption, ChaChaCipherError, InvalidSignature, Utf8Error, FromUtf8Error, KeyRejected, Signature, PayloadJsonError, Expired, UseBeforeAvailable, Rfc3339Date, Missing, Unexpected, Invalid, DuplicateTopLevelPayloadClaim, Other, RsaCipher, TooLong, NotNames, NoPaserk, OtherVersion, OtherType}
 
 -- the status of each, as in paseto.h; 0 is that of a text, and 1 that of room too short for it
 abbrev pub status_of : Refusal → ℕ
@@ -43,6 +45,9 @@ status_of Other = 27
 status_of RsaCipher = 28
 status_of TooLong = 29
 status_of NotNames = 30
+status_of NoPaserk = 31
+status_of OtherVersion = 32
+status_of OtherType = 33
 
 -- the refusal for an error of the core
 abbrev pub token_refusal : PasetoError → Refusal
@@ -93,3 +98,11 @@ parser_refusal (Parser.Memory _) = Memory
 parser_refusal (Parser.ClaimError source) = claim_refusal source
 parser_refusal (Parser.CipherError source) = token_refusal source
 parser_refusal (Parser.PayloadJsonError _) = PayloadJsonError
+
+-- the refusal for an error of a key's text
+abbrev pub paserk_refusal : PaserkError → Refusal
+paserk_refusal Paserk.NoKey = NoPaserk
+paserk_refusal (Paserk.OtherVersion _) = OtherVersion
+paserk_refusal (Paserk.OtherType _) = OtherType
+paserk_refusal Paserk.InvalidKey = InvalidKey
+paserk_refusal (Paserk.Memory _) = Memory

@@ -4,6 +4,7 @@ ghost use Rattle.std.specs.Prelude.{◌≡◌, ◌≤◌, ◌++◌, drop, length
 ghost use Rattle.paseto_c.specs.Answer.{IsCut, IsGiven, IsHanded};
 ghost use Rattle.paseto_c.specs.ErrorText.{status_text};
 ghost use Rattle.paseto_c.specs.Fault.{IsHandedTelling, IsTold};
+ghost use Rattle.paseto_c.specs.KeyText.{IsKeyHanded};
 ghost use Rattle.paseto_c.specs.Refusal.{status_of};
 
 use crate::error_text::text_of;
@@ -23,6 +24,23 @@ pub(crate) fn hand_over(made: Result<String, Refusal>, room: &mut [u8], written:
 {
     match made {
         Ok(text) => give(text.as_bytes(), room, written),
+        Err(refusal) => {
+            *written = 0;
+            refusal.status()
+        }
+    }
+}
+
+/// Hands over a key, as `hand_over` does a text.
+pub(crate) fn hand_over_key(
+    made: Result<Vec<u8>, Refusal>,
+    room: &mut [u8],
+    written: &mut usize,
+) -> u8
+    ensures { IsKeyHanded made room.old room.new written.new result }
+{
+    match made {
+        Ok(key) => give(&key, room, written),
         Err(refusal) => {
             *written = 0;
             refusal.status()

@@ -90,6 +90,9 @@ fn later_text(status: u8) -> &'static str
         28 => "An unspecified cipher error occurred",
         29 => "The token or its footer is longer than allowed",
         30 => "The names of claims are not a JSON array of texts",
+        31 => "The text is no PASERK key",
+        32 => "The key is one of another version",
+        33 => "The key is one of another type",
         _ => "An unknown error occurred",
     }
 }

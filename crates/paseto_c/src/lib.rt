@@ -24,6 +24,7 @@ mod fault;
 mod footer;
 mod given;
 mod key_pair;
+mod key_text;
 pub mod laws;
 mod local;
 mod options;
@@ -44,6 +45,21 @@ pub use error_text::paseto_error_text;
 pub use fault::Fault;
 pub use footer::paseto_footer;
 pub use key_pair::{paseto_v2_public_keypair, paseto_v3_public_keypair, paseto_v4_public_keypair};
+pub use key_text::kind::paseto_key_kind;
+pub use key_text::local::{
+    paseto_v1_local_key_from_paserk, paseto_v1_local_key_id, paseto_v1_local_key_to_paserk,
+    paseto_v2_local_key_from_paserk, paseto_v2_local_key_id, paseto_v2_local_key_to_paserk,
+    paseto_v3_local_key_from_paserk, paseto_v3_local_key_id, paseto_v3_local_key_to_paserk,
+    paseto_v4_local_key_from_paserk, paseto_v4_local_key_id, paseto_v4_local_key_to_paserk,
+};
+pub use key_text::pairs::{
+    paseto_v2_private_key_from_paserk, paseto_v2_private_key_id, paseto_v2_private_key_to_paserk,
+    paseto_v2_public_key_from_paserk, paseto_v2_public_key_id, paseto_v2_public_key_to_paserk,
+    paseto_v3_private_key_from_paserk, paseto_v3_private_key_id, paseto_v3_private_key_to_paserk,
+    paseto_v3_public_key_from_paserk, paseto_v3_public_key_id, paseto_v3_public_key_to_paserk,
+    paseto_v4_private_key_from_paserk, paseto_v4_private_key_id, paseto_v4_private_key_to_paserk,
+    paseto_v4_public_key_from_paserk, paseto_v4_public_key_id, paseto_v4_public_key_to_paserk,
+};
 pub use local::{
     paseto_v1_local_decrypt, paseto_v1_local_encrypt, paseto_v3_local_decrypt,
     paseto_v3_local_encrypt, paseto_v4_local_decrypt, paseto_v4_local_encrypt,

@@ -2,11 +2,12 @@
 
 ghost use Rattle.std.specs.Prelude.{◌≡◌};
 ghost use Rattle.paseto_c.specs.declared.refusal.Refusal.TheVariants.{Memory};
-ghost use Rattle.paseto_c.specs.Refusal.{builder_refusal, claim_refusal, parser_refusal, status_of, token_refusal};
+ghost use Rattle.paseto_c.specs.Refusal.{builder_refusal, claim_refusal, parser_refusal, paserk_refusal, status_of, token_refusal};
 
 use rusty_paseto_claims::PasetoClaimError;
 use rusty_paseto_core::PasetoError;
 use rusty_paseto_generic::{GenericBuilderError, GenericParserError};
+use rusty_paseto_paserk::PaserkError;
 use std::alloc::AllocError;
 
 /// Why a call gives no text. Each has its status in `c/paseto.h`.
@@ -70,6 +71,12 @@ pub enum Refusal {
     TooLong,
     /// What is to be the text of a JSON array of texts is none.
     NotNames,
+    /// A text begins as no key of PASERK does.
+    NoPaserk,
+    /// A text begins as a key of another version.
+    OtherVersion,
+    /// A text begins as a key of another type.
+    OtherType,
 }
 
 impl Refusal {
@@ -107,6 +114,9 @@ impl Refusal {
             Refusal::RsaCipher => 28,
             Refusal::TooLong => 29,
             Refusal::NotNames => 30,
+            Refusal::NoPaserk => 31,
+            Refusal::OtherVersion => 32,
+            Refusal::OtherType => 33,
         }
     }
 
@@ -176,6 +186,21 @@ impl Refusal {
             GenericParserError::ClaimError { source } => Refusal::of_claim(source),
             GenericParserError::CipherError { source } => Refusal::of_token(source),
             GenericParserError::PayloadJsonError { .. } => Refusal::PayloadJsonError,
+        }
+    }
+}
+
+impl Refusal {
+    /// The refusal for an error of a key's text.
+    pub(crate) fn of_paserk(error: &PaserkError) -> Refusal
+        ensures { result ≡ paserk_refusal error.now }
+    {
+        match error {
+            PaserkError::NoKey => Refusal::NoPaserk,
+            PaserkError::OtherVersion(_) => Refusal::OtherVersion,
+            PaserkError::OtherType(_) => Refusal::OtherType,
+            PaserkError::InvalidKey => Refusal::InvalidKey,
+            PaserkError::Memory(_) => Refusal::Memory,
         }
     }
 }

@@ -168,6 +168,24 @@ class DuplicateTopLevelPayloadClaim(PasetoError):
     status = 26
 
 
+class NoPaserk(InvalidKey):
+    """The text begins as no key of PASERK does."""
+
+    status = 31
+
+
+class OtherVersion(InvalidKey):
+    """The text is a key of another version."""
+
+    status = 32
+
+
+class OtherType(InvalidKey):
+    """The text is a key of another type: for local tokens, private or public."""
+
+    status = 33
+
+
 class UnknownKey(Refused):
     """The footer of the token names no key, or none of the ring."""
 

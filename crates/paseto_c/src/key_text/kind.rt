@@ -1,0 +1,51 @@
+//! Which key a text is.
+
+ghost use Rattle.std.specs.Prelude.{◌≡◌};
+ghost use Rattle.paseto_c.specs.KeyText.{IsKindAnswered, type_number, version_number};
+
+use crate::answer::OK;
+use crate::arguments::str_of;
+use crate::refusal::Refusal;
+use rusty_paseto_paserk::{PaserkType, PaserkVersion, header_of};
+
+/// The version of the key that a text begins as, from 1 to 4, and its type: 1 for a key of local tokens, 2 for a private
+/// key, 3 for a public one. What stands behind may be no key.
+#[unsafe(no_mangle)]
+pub extern "C" fn paseto_key_kind(text: &[u8], version: &mut u8, kind: &mut u8) -> u8
+    ensures { IsKindAnswered text.now version.new kind.new result }
+{
+    *version = 0;
+    *kind = 0;
+    let Ok(text) = str_of(text) else {
+        return Refusal::NotUtf8.status();
+    };
+    let Some((found, found_type, _)) = header_of(text) else {
+        return Refusal::NoPaserk.status();
+    };
+    *version = version_number(found);
+    *kind = type_number(found_type);
+    OK
+}
+
+/// The number of a version.
+fn version_number(version: PaserkVersion) -> u8
+    ensures { result ≡ version_number version }
+{
+    match version {
+        PaserkVersion::V1 => 1,
+        PaserkVersion::V2 => 2,
+        PaserkVersion::V3 => 3,
+        PaserkVersion::V4 => 4,
+    }
+}
+
+/// The number of a type.
+fn type_number(kind: PaserkType) -> u8
+    ensures { result ≡ type_number kind }
+{
+    match kind {
+        PaserkType::Local => 1,
+        PaserkType::Secret => 2,
+        PaserkType::Public => 3,
+    }
+}
