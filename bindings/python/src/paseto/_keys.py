@@ -2,15 +2,12 @@
 
 from __future__ import annotations
 
-import base64
-import binascii
 import ctypes
-import hashlib
 import os
 from typing import ClassVar, NoReturn
 
-from ._calls import lent
-from ._errors import InvalidKey, KeyRejected, raise_for
+from ._calls import ask, bytes_of, lent
+from ._errors import InvalidKey, KeyRejected, NoPaserk, raise_for
 from ._library import CALLS
 
 
@@ -20,9 +17,8 @@ class Key:
     __slots__ = ("_bytes", "_version")
     # How many bytes a key of each version has; one of RSA is DER of any length.
     _lengths: ClassVar[dict[int, int | None]] = {}
-    # The type of the key in PASERK, and that of its id.
+    # What the library calls keys of this type.
     _type: ClassVar[str] = ""
-    _id_type: ClassVar[str] = ""
 
     def __init__(self, value: bytes, version: int = 4) -> None:
         if version not in self._lengths:
@@ -52,20 +48,18 @@ class Key:
 
         A key pair of version 1 has no such text here.
         """
-        if self._version == 1 and not isinstance(self, LocalKey):
-            raise InvalidKey("a key pair of version 1 has no PASERK text here")
-        return f"k{self._version}.{self._type}.{_base64url(self._bytes)}"
+        return self._told("to_paserk")
 
     @property
     def id(self) -> str:
         """The PASERK id, ``k4.lid..``, which identifies the key without revealing it."""
-        front = f"k{self._version}.{self._id_type}."
-        message = (front + self.to_text()).encode()
-        if self._version in (1, 3):
-            digest = hashlib.sha384(message).digest()[:33]
-        else:
-            digest = hashlib.blake2b(message, digest_size=33).digest()
-        return front + _base64url(digest)
+        return self._told("id")
+
+    def _told(self, call: str) -> str:
+        """What a call of the library makes of the key."""
+        if self._version == 1 and not isinstance(self, LocalKey):
+            raise InvalidKey("a key pair of version 1 has no PASERK text here")
+        return ask(f"paseto_v{self._version}_{self._type}_key_{call}", lent(self._bytes), 128).decode()
 
     @staticmethod
     def from_text(text: str) -> LocalKey | PrivateKey | PublicKey:
@@ -75,18 +69,14 @@ class Key:
         >>> Key.from_text(key.to_text()).id == key.id
         True
         """
-        parts = text.removesuffix("\n").split(".")
-        kinds: dict[str, type[LocalKey] | type[PrivateKey] | type[PublicKey]] = {
-            "local": LocalKey,
-            "secret": PrivateKey,
-            "public": PublicKey,
-        }
-        if len(parts) != 3 or parts[0] not in ("k1", "k2", "k3", "k4") or parts[1] not in kinds:
-            raise InvalidKey("the text is no key of PASERK: it begins with k4.local., k4.secret., k4.public., or with another version")
-        kind, version = kinds[parts[1]], int(parts[0][1])
-        if version == 1 and kind is not LocalKey:
-            raise InvalidKey("a key pair of version 1 has no PASERK text here")
-        return kind(_from_base64url(parts[2]), version)
+        read, version, number = bytes_of(text.removesuffix("\n")), ctypes.c_uint8(), ctypes.c_uint8()
+        raise_for(CALLS["paseto_key_kind"](*lent(read), ctypes.byref(version), ctypes.byref(number)))
+        kinds: dict[int, type[LocalKey] | type[PrivateKey] | type[PublicKey]] = {1: LocalKey, 2: PrivateKey, 3: PublicKey}
+        kind = kinds[number.value]
+        call = f"paseto_v{version.value}_{kind._type}_key_from_paserk"
+        if call not in CALLS:
+            raise NoPaserk("a key pair of version 1 has no PASERK text here")
+        return kind(ask(call, lent(read), 64), version.value)
 
 
 class LocalKey(Key):
@@ -94,7 +84,7 @@ class LocalKey(Key):
 
     __slots__ = ()
     _lengths = {1: 32, 2: 32, 3: 32, 4: 32}
-    _type, _id_type = "local", "lid"
+    _type = "local"
 
     @classmethod
     def generate(cls, version: int = 4) -> LocalKey:
@@ -108,7 +98,7 @@ class PublicKey(Key):
 
     __slots__ = ()
     _lengths = {1: None, 2: 32, 3: 49, 4: 32}
-    _type, _id_type = "public", "pid"
+    _type = "public"
 
     def __init__(self, value: bytes, version: int = 4) -> None:
         super().__init__(value, version)
@@ -122,7 +112,7 @@ class PrivateKey(Key):
 
     __slots__ = ()
     _lengths = {1: None, 2: 64, 3: 48, 4: 64}
-    _type, _id_type = "secret", "sid"
+    _type = "private"
 
     @classmethod
     def generate(cls, version: int = 4) -> PrivateKey:
@@ -150,18 +140,3 @@ def _pair(seed: bytes, version: int) -> tuple[bytes, bytes]:
     rooms = ctypes.create_string_buffer(private), ctypes.create_string_buffer(public)
     raise_for(CALLS[f"paseto_v{version}_public_keypair"](*lent(seed), rooms[0], private, rooms[1], public))
     return rooms[0].raw, rooms[1].raw
-
-
-def _base64url(value: bytes) -> str:
-    return base64.urlsafe_b64encode(value).rstrip(b"=").decode()
-
-
-def _from_base64url(text: str) -> bytes:
-    """The bytes of an encoding without padding, in its one form."""
-    try:
-        value = base64.b64decode(text + "=" * (-len(text) % 4), altchars=b"-_", validate=True)
-    except (binascii.Error, ValueError):
-        raise InvalidKey from None
-    if _base64url(value) != text:
-        raise InvalidKey
-    return value

@@ -44,6 +44,7 @@ def _kinds() -> dict[str, list[Any]]:
     kinds: dict[str, list[Any]] = {
         "paseto_footer": [*_SLICE, *_ANSWER],
         "paseto_error_text": [ctypes.c_uint8, *_ANSWER],
+        "paseto_key_kind": [*_SLICE, ctypes.POINTER(ctypes.c_uint8), ctypes.POINTER(ctypes.c_uint8)],
     }
     for version in range(1, 5):
         # Behind the rest stand the footer, and the implicit assertion where the version binds one.
@@ -61,6 +62,9 @@ def _kinds() -> dict[str, list[Any]]:
             kinds[f"{kind}_parse_with"] = [*_SLICE, *_SLICE, *_SLICE, *_MOMENT, *tail, *_OPTIONS, *_ANSWER, *_ANSWER]
         if version != 1:
             kinds[f"{public}_keypair"] = [*_SLICE, *_ROOM, *_ROOM]
+        for key_type in ("local", "private", "public") if version != 1 else ("local",):
+            for text in ("to_paserk", "from_paserk", "id"):
+                kinds[f"paseto_v{version}_{key_type}_key_{text}"] = [*_SLICE, *_ANSWER]
     return kinds
 
 
