@@ -144,7 +144,7 @@ text = open(sys.argv[1]).read()
 for row in re.findall(r'\(\s*(\d),\s*"(\w+)",\s*"(\w+)",\s*"([^"]+)",\s*"([^"]+)",\s*\)', text):
     print(*row)
 END
-if [ "$(wc -l <"$work/keys.txt")" -eq "$(grep -c 'id\.' "$root/crates/paseto_vectors/src/paserk/rows.rt")" ]; then
+if [ "$(wc -l <"$work/keys.txt")" -eq "$(grep -c '"k[1-4]\.[lsp]id\.' "$root/crates/paseto_vectors/src/paserk/rows.rt")" ]; then
     pass
 else
     fail 'not all rows of keys are read'

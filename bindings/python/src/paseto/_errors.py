@@ -218,9 +218,8 @@ def _faults(of: type[PasetoError]) -> dict[int, type[PasetoError]]:
     """The exceptions by their statuses."""
     found: dict[int, type[PasetoError]] = {}
     for fault in of.__subclasses__():
-        if fault is Refused:
-            found.update(_faults(fault))
-        elif "status" in vars(fault):
+        found.update(_faults(fault))
+        if "status" in vars(fault):
             found[fault.status] = fault
     return found
 
