@@ -22,10 +22,10 @@
 extern "C" {
 #endif
 
-/* The version of the library that this header describes, 0.1.0: 10000 times the first number, 100 times the second, and the
+/* The version of the library that this header describes, 0.2.0: 10000 times the first number, 100 times the second, and the
    third. A program over libpaseto.so learns by paseto_version which one it runs with. The first number is that of
    libpaseto.so.0: while it stays, so do the calls, the statuses and the structs. */
-#define PASETO_VERSION 100
+#define PASETO_VERSION 200
 
 uint32_t paseto_version(void);
 

@@ -1,6 +1,6 @@
 #!/usr/bin/env bash
-# Compares the manual pages and the completions with the programs: each command, and each of its options. The last line is
-# 'N passed, M failed'.
+# Compares the manual pages and the completions with the programs, each command and each of its options, and the version of
+# all with the file VERSION. The last line is 'N passed, M failed'.
 #
 #   tests/manual.sh PROGRAM
 #
@@ -36,6 +36,20 @@ while read -r command; do
     sed -nE "s/^complete -c paseto -n '__paseto_in [^']*\\b$command\\b[^']*'.* -l ([a-z-]+).*/--\\1/p" "$root/completions/paseto.fish" | sort -u >"$work/found"
     same "the options of $command in fish"
 done <"$work/commands"
+
+# The version of the file VERSION is that of all.
+version=$(cat "$root/VERSION")
+IFS=. read -r first second third <<<"$version"
+echo "$version" >"$work/wanted"
+"$program" --version | sed 's/^paseto //' >"$work/found"
+same 'the version of the program'
+sed -nE 's/^version = "(.*)"$/\1/p' "$root/bindings/python/pyproject.toml" >"$work/found"
+same 'the version of the package for Python'
+sed -nE 's/^version = "(.*)"$/\1/p' "$root/bindings/rust/Cargo.toml" | head -n 1 >"$work/found"
+same 'the version of the crate for Rust'
+echo $((10000 * first + 100 * second + third)) >"$work/wanted"
+sed -nE 's/^#define PASETO_VERSION ([0-9]+)$/\1/p' "$root/c/paseto.h" >"$work/found"
+same 'the version of paseto.h'
 
 # Each option has a text of its own, and the pages have no fault.
 sed -nE '/^\.SH OPTIONS/,/^\.SH EXIT/p' "$work/manual" | grep -oE -- '^--[a-z-]+|, --[a-z-]+' | grep -oE -- '--[a-z-]+' | sort -u >"$work/found"

@@ -6,7 +6,7 @@ ghost use Rattle.std.specs.Prelude.{◌≡◌};
 /// `c/paseto.h`.
 #[unsafe(no_mangle)]
 pub extern "C" fn paseto_version() -> u32
-    ensures { result ≡ 100 }
+    ensures { result ≡ 200 }
 {
-    100
+    200
 }
