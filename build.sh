@@ -4,7 +4,7 @@
 #
 #   bash build.sh [PREFIX]
 #
-# PREFIX, which is `build` where none is given, gets bin/, lib/ and include/. Libraries are proved side by side, on all
+# PREFIX, which is `build` where none is given, gets bin/, lib/, include/, and share/ with manual pages and completions. Libraries are proved side by side, on all
 # processors; a line tells how far each is. What is proved is kept in the crates' out/, so that a second run proves what
 # has changed alone, and one that was cut off goes on where it was.
 #
@@ -52,5 +52,13 @@ for program in paseto paseto_tool; do
     install -m 755 "$here/crates/$program/out/$program" "$prefix/bin/$program"
 done
 
+install -d "$prefix/share/man/man1" "$prefix/share/man/man3" "$prefix/share/bash-completion/completions" \
+    "$prefix/share/zsh/site-functions" "$prefix/share/fish/vendor_completions.d"
+install -m 644 "$here"/man/*.1 "$prefix/share/man/man1"
+install -m 644 "$here"/man/*.3 "$prefix/share/man/man3"
+install -m 644 "$here/completions/paseto.bash" "$prefix/share/bash-completion/completions/paseto"
+install -m 644 "$here/completions/_paseto" "$prefix/share/zsh/site-functions/_paseto"
+install -m 644 "$here/completions/paseto.fish" "$prefix/share/fish/vendor_completions.d/paseto.fish"
+
 echo "proved, built and installed under $prefix:"
-(cd "$prefix" && find bin/paseto bin/paseto_tool include lib -type f | sort | sed 's/^/  /')
+(cd "$prefix" && find bin/paseto bin/paseto_tool include lib share -type f | sort | sed 's/^/  /')
