@@ -4,9 +4,9 @@
 #
 #   bash build.sh [PREFIX]
 #
-# PREFIX, which is `build` where none is given, gets bin/, lib/, include/, and share/ with manual pages and completions. Libraries are proved side by side, on all
-# processors; a line tells how far each is. What is proved is kept in the crates' out/, so that a second run proves what
-# has changed alone, and one that was cut off goes on where it was.
+# PREFIX, which is `build` where none is given, gets bin/, lib/, include/, and share/ with manual pages and completions.
+# Libraries are proved side by side, on all processors; a line tells how far each is. What is proved is kept in the crates'
+# out/, so that a second run proves what has changed alone, and one that was cut off goes on where it was.
 #
 #   bash build.sh --unproved
 #
