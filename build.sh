@@ -8,6 +8,10 @@
 # Libraries are proved side by side, on all processors; a line tells how far each is. What is proved is kept in the crates'
 # out/, so that a second run proves what has changed alone, and one that was cut off goes on where it was.
 #
+#   bash build.sh PREFIX --built
+#
+# installs what an earlier run proved and built.
+#
 #   bash build.sh --unproved
 #
 # says how to look at the programs before anything is proved.
@@ -26,8 +30,13 @@ unproved: what these two run is checked by no proof
 END
         exit 0 ;;
     '0 ' | '1 '[!-]*) ;;
+    '2 '[!-]*)
+        if [ "$2" != --built ]; then
+            echo 'usage: build.sh [PREFIX [--built] | --unproved]' >&2
+            exit 2
+        fi ;;
     *)
-        echo 'usage: build.sh [PREFIX | --unproved]' >&2
+        echo 'usage: build.sh [PREFIX [--built] | --unproved]' >&2
         exit 2 ;;
 esac
 mkdir -p "${1:-$here/build}"
@@ -45,7 +54,9 @@ for tool in cc ld ar objcopy; do
     needs "$tool" 'On Debian: apt-get install gcc libc6-dev binutils'
 done
 
-python3 "$here/tools/prove.py" paseto paseto_tool paseto_c
+if [ "${2-}" != --built ]; then
+    python3 "$here/tools/prove.py" paseto paseto_tool paseto_c
+fi
 bash "$here/c/build.sh" "$prefix" --built
 install -d "$prefix/bin"
 for program in paseto paseto_tool; do

@@ -1,0 +1,108 @@
+#!/usr/bin/env bash
+# Makes what a release page holds, from what build.sh proved and built: an archive of programs, libraries, header, manual pages
+# and completions, Debian packages of the program and of the library, the wheel for Python, the crate for Rust, and their
+# sums. The same build gives the same bytes.
+#
+#   bash dist.sh [FOLDER [PREFIX]]
+#
+# FOLDER is build/dist where none is given, and PREFIX build, where build.sh installed.
+set -euo pipefail
+here=$(cd "$(dirname "$0")" && pwd)
+prefix=${2:-$here/build}
+for needed in bin/paseto lib/libpaseto.so.0 share/man/man1/paseto.1; do
+    if [ ! -e "$prefix/$needed" ]; then
+        echo "There is no $prefix/$needed: bash build.sh makes it" >&2
+        exit 1
+    fi
+done
+for tool in dpkg-deb cargo tar sha256sum strip; do
+    command -v "$tool" >/dev/null || { echo "There is no $tool. On Debian: apt-get install dpkg cargo binutils" >&2; exit 1; }
+done
+mkdir -p "${1:-$here/build/dist}"
+folder=$(cd "${1:-$here/build/dist}" && pwd)
+version=$(cat "$here/VERSION")
+maintainer='Rivondra <rivondra@localhost>'
+# The moment of the last commit is that of every file.
+SOURCE_DATE_EPOCH=$(git -C "$here" log -1 --format=%ct)
+export SOURCE_DATE_EPOCH
+work=$(mktemp -d)
+trap 'rm -rf "$work"' EXIT
+umask 022
+
+# laid NAME FILE.. puts files of the prefix under usr/ of a package's folder, and the licence with them.
+laid() {
+    local root=$work/$1 file
+    shift
+    for file in "$@"; do
+        install -D -m "$([ -x "$prefix/$file" ] && echo 755 || echo 644)" "$prefix/$file" "$root/usr/${file/#lib\//lib/x86_64-linux-gnu/}"
+    done
+}
+
+# package NAME DEPENDS SUMMARY: a Debian package of a folder.
+package() {
+    local name=$1 root=$work/$1
+    install -D -m 644 "$here/LICENSE" "$root/usr/share/doc/$name/copyright"
+    gzip -9nc >"$root/usr/share/doc/$name/changelog.gz" <<END
+$name ($version) unstable; urgency=medium
+
+  * What changed stands in CHANGELOG.md of the repository.
+
+ -- $maintainer  $(date -R -u -d "@$SOURCE_DATE_EPOCH")
+END
+    # Nobody reads mail to the maintainer's address (SECURITY.md).
+    install -D -m 644 /dev/stdin "$root/usr/share/lintian/overrides/$name" <<<"$name: bogus-mail-host *
+$name: bogus-mail-host-in-debian-changelog *"
+    mkdir -p "$root/DEBIAN"
+    cat >"$root/DEBIAN/control" <<END
+Package: $name
+Version: $version
+Architecture: amd64
+Maintainer: $maintainer
+Section: utils
+Priority: optional
+Depends: $2
+Description: $3
+ PASETO tokens, versions 1 to 4, by a library that is proved.
+END
+    find "$root" -exec touch -h -d "@$SOURCE_DATE_EPOCH" {} +
+    dpkg-deb --root-owner-group --build -Zxz "$root" "$folder/${name}_${version}_amd64.deb" >/dev/null
+}
+
+laid paseto bin/paseto bin/paseto_tool share/bash-completion/completions/paseto share/zsh/site-functions/_paseto \
+    share/fish/vendor_completions.d/paseto.fish
+for page in paseto.1 paseto_tool.1; do
+    mkdir -p "$work/paseto/usr/share/man/man1"
+    gzip -9nc "$prefix/share/man/man1/$page" >"$work/paseto/usr/share/man/man1/$page.gz"
+done
+strip --strip-unneeded "$work"/paseto/usr/bin/*
+package paseto 'libc6 (>= 2.34)' 'keys in files, and PASETO tokens by them'
+laid libpaseto0 lib/libpaseto.so.0
+strip --strip-unneeded "$work/libpaseto0/usr/lib/x86_64-linux-gnu/libpaseto.so.0"
+chmod 644 "$work/libpaseto0/usr/lib/x86_64-linux-gnu/libpaseto.so.0"
+mkdir -p "$work/libpaseto0/DEBIAN"
+echo "libpaseto 0 libpaseto0 (>= $version)" >"$work/libpaseto0/DEBIAN/shlibs"
+echo 'activate-noawait ldconfig' >"$work/libpaseto0/DEBIAN/triggers"
+package libpaseto0 'libc6 (>= 2.14)' 'library for PASETO tokens'
+laid libpaseto-dev lib/libpaseto.a include/paseto.h
+ln -s libpaseto.so.0 "$work/libpaseto-dev/usr/lib/x86_64-linux-gnu/libpaseto.so"
+mkdir -p "$work/libpaseto-dev/usr/lib/x86_64-linux-gnu/pkgconfig" "$work/libpaseto-dev/usr/share/man/man3"
+sed -e 's|^prefix=.*|prefix=/usr|; s|^libdir=.*|libdir=/usr/lib/x86_64-linux-gnu|' "$prefix/lib/pkgconfig/paseto.pc" \
+    >"$work/libpaseto-dev/usr/lib/x86_64-linux-gnu/pkgconfig/paseto.pc"
+gzip -9nc "$prefix/share/man/man3/libpaseto.3" >"$work/libpaseto-dev/usr/share/man/man3/libpaseto.3.gz"
+package libpaseto-dev "libpaseto0 (= $version)" 'header and static library for PASETO tokens'
+
+archive=paseto-$version-x86_64-linux
+mkdir "$work/$archive"
+cp -a "$prefix/bin" "$prefix/lib" "$prefix/include" "$prefix/share" "$here/LICENSE" "$work/$archive"
+find "$work/$archive/bin" -type f ! -name paseto ! -name paseto_tool -delete
+tar -C "$work" --sort=name --mtime="@$SOURCE_DATE_EPOCH" --owner=0 --group=0 --numeric-owner -cf - "$archive" |
+    gzip -9n >"$folder/$archive.tar.gz"
+
+bash "$here/bindings/python/build.sh" "$folder" "$prefix" >/dev/null
+cp -a "$here/bindings/rust" "$work/rust"
+rm -rf "$work/rust/target"
+(cd "$work/rust" && cargo package --quiet --offline --no-verify --allow-dirty --target-dir "$work/target")
+cp "$work"/target/package/*.crate "$folder"
+
+(cd "$folder" && sha256sum -- *.tar.gz *.deb *.whl *.crate | sort -k 2 >SHA256SUMS)
+cat "$folder/SHA256SUMS"

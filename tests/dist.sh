@@ -1,0 +1,58 @@
+#!/usr/bin/env bash
+# Makes what dist.sh makes, twice, and compares; unpacks the Debian packages into a fresh folder, and makes and checks a token
+# there, by the program and by a program in C, with no toolchain. The last line is 'N passed, M failed'.
+#
+#   tests/dist.sh PREFIX
+#
+# PREFIX is where build.sh installed.
+set -uo pipefail
+root=$(cd "$(dirname "$0")/.." && pwd)
+. "$root/tests/counts.sh"
+prefix=$(cd "${1:?usage: tests/dist.sh PREFIX}" && pwd)
+work=$(mktemp -d)
+trap 'rm -rf "$work"' EXIT
+for tool in dpkg-deb:dpkg cargo:cargo cc:gcc objdump:binutils; do needs "${tool%:*}" "${tool#*:}"; done
+
+for turn in one two; do
+    if bash "$root/dist.sh" "$work/$turn" "$prefix" >"$work/log" 2>&1; then pass; else fail "dist.sh: $(tail -n 3 "$work/log")"; finish; fi
+done
+if diff "$work/one/SHA256SUMS" "$work/two/SHA256SUMS" >"$work/log"; then pass; else fail "two runs differ: $(cat "$work/log")"; fi
+if [ "$(wc -l <"$work/one/SHA256SUMS")" = 6 ]; then pass; else fail "not six files: $(cat "$work/one/SHA256SUMS")"; fi
+if (cd "$work/one" && sha256sum --quiet -c SHA256SUMS) >"$work/log" 2>&1; then pass; else fail "the sums: $(cat "$work/log")"; fi
+
+if command -v lintian >/dev/null; then
+    faults=$(lintian --fail-on error "$work"/one/*.deb 2>&1 | grep '^E: ')
+    if [ -z "$faults" ]; then pass; else fail "lintian: $faults"; fi
+else
+    echo 'there is no lintian: it is not asked'
+fi
+
+fresh=$work/fresh
+mkdir "$fresh"
+for package in "$work"/one/*.deb; do
+    if dpkg-deb -x "$package" "$fresh" 2>"$work/log"; then pass; else fail "$package: $(cat "$work/log")"; fi
+done
+cd "$work" || exit 1
+export PATH=/usr/bin:/bin
+paseto=$fresh/usr/bin/paseto
+"$paseto" keygen v4.local --quiet --out key && "$paseto" issue --key key --claim sub=ada --out token
+if "$paseto" check --key key --claim sub=ada token | grep -q '"sub":"ada"'; then pass; else fail 'the program of the package'; fi
+cat >client.c <<'END'
+#include <paseto.h>
+#include <string.h>
+
+int main(void) {
+    uint8_t key[32] = {1}, nonce[32] = {2}, token[512], text[512];
+    size_t n, m;
+    if (paseto_version() != PASETO_VERSION) return 1;
+    if (paseto_v4_local_encrypt(key, 32, nonce, 32, (const uint8_t *)"hello", 5, NULL, 0, NULL, 0, token, sizeof token, &n)) return 2;
+    if (paseto_v4_local_decrypt(key, 32, token, n, NULL, 0, NULL, 0, text, sizeof text, &m)) return 3;
+    return m != 5 || memcmp(text, "hello", 5) != 0;
+}
+END
+lib=$fresh/usr/lib/x86_64-linux-gnu
+if cc -I "$fresh/usr/include" -o client client.c -L "$lib" -lpaseto 2>"$work/log" && LD_LIBRARY_PATH=$lib ./client; then pass; else fail "a program in C over the packages: $(tail -n 3 "$work/log")"; fi
+if cc -I "$fresh/usr/include" -o client client.c "$lib/libpaseto.a" 2>"$work/log" && ./client; then pass; else fail "a program in C over libpaseto.a: $(tail -n 3 "$work/log")"; fi
+mkdir archive && tar -C archive -xzf one/*.tar.gz
+if [ "$(archive/*/bin/paseto --version)" = "paseto $(cat "$root/VERSION")" ]; then pass; else fail 'the program of the archive'; fi
+finish
