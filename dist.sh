@@ -22,8 +22,8 @@ mkdir -p "${1:-$here/build/dist}"
 folder=$(cd "${1:-$here/build/dist}" && pwd)
 version=$(cat "$here/VERSION")
 maintainer='Rivondra <rivondra@localhost>'
-# The moment of the last commit is that of every file.
-SOURCE_DATE_EPOCH=$(git -C "$here" log -1 --format=%ct)
+# The moment of the last commit is that of every file; outside of a checkout it is the beginning of 2026.
+SOURCE_DATE_EPOCH=$(git -C "$here" log -1 --format=%ct 2>/dev/null || echo 1767225600)
 export SOURCE_DATE_EPOCH
 work=$(mktemp -d)
 trap 'rm -rf "$work"' EXIT
