@@ -1,10 +1,11 @@
 -- How wrapped keys are read. A type of wrapped keys says which payload wraps which bytes (Wraps), and why a payload is
 -- not unwrapped (Faults); here is what follows of it for texts and for keys.
-use Rattle.std.specs.Prelude.{◌≡◌, ◌⊎◌, ⊤, ℕ, List, Result, IfOk, IfErr, MatchResult}
+use Rattle.std.specs.Prelude.{◌≡◌, ◌⊎◌, ⊤, ℕ, List, length, Result, IfOk, IfErr, MatchResult}
 use Rattle.std.specs.declared.alloc.Global.{Global}
 use Rattle.std.specs.declared.vec.Vec.{Vec}
 use Rattle.base64.specs.GeneralPurpose.{IsBytes}
 use Rattle.rusty_paseto_paserk.specs.declared.header.PaserkVersion.{PaserkVersion}
+use Rattle.rusty_paseto_paserk.specs.declared.header.PaserkVersion.TheVariants.{V1, V2, V3, V4}
 use Rattle.paseto_wrapping.specs.declared.header.WrappedType.{WrappedType}
 use Rattle.paseto_wrapping.specs.declared.error.WrapError.{WrapError}
 use Rattle.paseto_wrapping.specs.declared.error.WrapError.TheVariants.{NoWrappedKey, OtherVersion, OtherType, InvalidText, LongPassword, InvalidCost, TooCostly, InvalidPrivateKey, InvalidPoint, SmallOrder, WrongKey, InvalidKey, Memory}
@@ -68,6 +69,13 @@ TextFaults version kind IsFault text (Memory _) = ⊤
 TextFaults version kind IsFault text error = (payload : List ℕ) × IsTextOf version kind text payload × IsFault payload error
 
 -- ---- keys
+
+-- a private key has the length of its version's; one of version 1 is an encoding of any length
+abbrev pub HasPrivateLength : PaserkVersion → List ℕ → Type 0
+HasPrivateLength V1 key = ⊤
+HasPrivateLength V2 key = length key ≡ 64
+HasPrivateLength V3 key = length key ≡ 48
+HasPrivateLength V4 key = length key ≡ 64
 
 -- why a text is not unwrapped as a key: what it wraps is none, or it is not unwrapped at all
 abbrev pub KeyFaults : (List ℕ → Type 0) → Wraps → Faults → List ℕ → WrapError → Type 0

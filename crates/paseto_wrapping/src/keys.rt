@@ -1,10 +1,12 @@
 //! The keys that are wrapped, from their bytes, and the key under which they are.
 
-ghost use Rattle.std.specs.Prelude.{◌≡◌, ◌≢◌, ℕ, List, Some, codes, length, IsTrue, IfOk, IfErr};
+ghost use Rattle.std.specs.Prelude.{◌≡◌, ◌≢◌, ◌↔◌, ℕ, List, Some, codes, length, IsTrue, IfOk, IfErr};
+ghost use Rattle.paseto_wrapping.specs.Reading.{HasPrivateLength};
 ghost use Rattle.paseto_wrapping.specs.declared.error.WrapError.TheVariants.{InvalidKey};
 
 use crate::error::WrapError;
-use rusty_paseto_parts::{Key, Local, PasetoSymmetricKey, PrivateKey, VersionTrait};
+use rusty_paseto_parts::{Key, Local, PasetoSymmetricKey, PrivateKey};
+use rusty_paseto_paserk::{KeyVersion, PaserkVersion};
 use std::fmt;
 use std::marker::{Model, PhantomData};
 
@@ -65,13 +67,30 @@ pub(crate) fn local_key<V>(bytes: Vec<u8>) -> Result<PasetoSymmetricKey<V, Local
     Ok(PasetoSymmetricKey::from(Key::from_slice(&bytes)))
 }
 
-/// The private key of these bytes. `InvalidKey` comes exactly where no private key of the version has them.
-pub(crate) fn private_key<V: VersionTrait>(bytes: Vec<u8>) -> Result<PrivateKey<V>, WrapError>
-    ensures ok { IfOk result (λ key. (key ≡ bytes.items) × IsTrue (V.is_private_key bytes.items)) }
-    ensures err { IfErr result (λ error. (error ≡ InvalidKey) × ¬ IsTrue (V.is_private_key bytes.items)) }
+/// The private key of these bytes. `InvalidKey` comes exactly where no private key of the version has them: of the versions
+/// 2 and 4 one has 64 bytes, of version 3 it has 48, and of version 1 it is an encoding of any length.
+pub(crate) fn private_key<V: KeyVersion>(bytes: Vec<u8>) -> Result<PrivateKey<V>, WrapError>
+    ensures ok { IfOk result (λ key. (key ≡ bytes.items)
+        × (HasPrivateLength V.paserk bytes.items × IsTrue (V.is_private_key bytes.items))) }
+    ensures err { IfErr result (λ error. (error ≡ InvalidKey)
+        × ¬ (HasPrivateLength V.paserk bytes.items × IsTrue (V.is_private_key bytes.items))) }
 {
+    if !has_private_length(V::paserk_version(), &bytes) {
+        return Err(WrapError::InvalidKey);
+    }
     match PrivateKey::try_from(bytes) {
         Ok(key) => Ok(key),
         Err(_) => Err(WrapError::InvalidKey),
+    }
+}
+
+/// Whether a private key of the version may have so many bytes.
+fn has_private_length(version: PaserkVersion, bytes: &[u8]) -> bool
+    ensures { IsTrue result ↔ HasPrivateLength version bytes.now }
+{
+    match version {
+        PaserkVersion::V1 => true,
+        PaserkVersion::V2 | PaserkVersion::V4 => bytes.len() == 64,
+        PaserkVersion::V3 => bytes.len() == 48,
     }
 }

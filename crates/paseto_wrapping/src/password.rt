@@ -8,7 +8,7 @@ ghost use Rattle.paseto_wrapping.specs.declared.header.WrappedType.TheVariants.{
 ghost use Rattle.paseto_wrapping.specs.Error.{IsMemory};
 ghost use Rattle.paseto_wrapping.specs.Family.{digest_bytes, encrypted, family_of, nonce_length, tag_length};
 ghost use Rattle.paseto_wrapping.specs.Password.{AreDrawn, AreParts, IsAllowed, IsPasswordFault, IsProtected, IsShort, IsWritingFault, ak, cost_length, ek, k, payload, protected, salt_length, shortest, t, untagged};
-ghost use Rattle.paseto_wrapping.specs.Reading.{InText, IsTagFault, TextFaults, Unwraps, UnwrapsKey};
+ghost use Rattle.paseto_wrapping.specs.Reading.{HasPrivateLength, InText, IsTagFault, TextFaults, Unwraps, UnwrapsKey};
 
 use crate::cost::PasswordCost;
 use crate::error::WrapError;
@@ -143,7 +143,7 @@ pub fn unprotect_secret<V: KeyVersion>(
     most: PasswordCost,
     text: &str,
 ) -> Result<PrivateKey<V>, WrapError>
-    ensures { UnwrapsKey (λ key. IsTrue (V.is_private_key key))
+    ensures { UnwrapsKey (λ key. HasPrivateLength V.paserk key × IsTrue (V.is_private_key key))
         (InText V.paserk SecretKey (IsProtected V.paserk SecretKey password.now most))
         (TextFaults V.paserk SecretKey (IsPasswordFault V.paserk SecretKey password.now most)) text.now result }
 {

@@ -7,7 +7,7 @@ ghost use Rattle.paseto_wrapping.specs.declared.header.WrappedType.TheVariants.{
 ghost use Rattle.paseto_wrapping.specs.Error.{IsMemory};
 ghost use Rattle.paseto_wrapping.specs.Family.{digest_bytes, family_of, nonce_length, tag_length};
 ghost use Rattle.paseto_wrapping.specs.Pie.{IsPie, IsPieFault, ak, c, payload, pie, t, x};
-ghost use Rattle.paseto_wrapping.specs.Reading.{InText, IsTagFault, TextFaults, Unwraps, UnwrapsKey};
+ghost use Rattle.paseto_wrapping.specs.Reading.{HasPrivateLength, InText, IsTagFault, TextFaults, Unwraps, UnwrapsKey};
 
 use crate::error::WrapError;
 use crate::family::{Digest, Family, array_of, encrypted, tag_of};
@@ -116,7 +116,7 @@ pub fn unwrap_secret<V: KeyVersion>(
     wrapping_key: &WrappingKey<V>,
     text: &str,
 ) -> Result<PrivateKey<V>, WrapError>
-    ensures { UnwrapsKey (λ key. IsTrue (V.is_private_key key))
+    ensures { UnwrapsKey (λ key. HasPrivateLength V.paserk key × IsTrue (V.is_private_key key))
         (InText V.paserk SecretKey (IsPie V.paserk SecretKey wrapping_key.now))
         (TextFaults V.paserk SecretKey (IsPieFault V.paserk SecretKey wrapping_key.now)) text.now result }
 {

@@ -209,6 +209,21 @@ fn short_private_keys_are_refused(rt: HostRuntime) {
     );
 }
 
+#[test]
+fn private_keys_of_63_bytes_are_refused(rt: HostRuntime) {
+    let answer = unwrap_secret::<V4>(
+        rt.alloc(),
+        &wrapping_key(&rt, WRAPPING_KEY),
+        "k4.secret-wrap.pie.0RMvuKKvAJXUkKGrswAMTbkDuYZnaPja7ubICrpnQXAAAAAAAAAAAAAAAAAAAAAAAAAAAAAAAAAAAAAAAAAAAH8My5XE6gls9ScIJS6mZBvFVh4VO_Mg9jS8WoF8d37dICZbd3XkjCn05a6yhWtbxOmLBe1kUYCR00D6EJS2PQ",
+    );
+    expect_fault(
+        &rt,
+        rt.alloc(),
+        answer,
+        "what was wrapped is no key of the version",
+    );
+}
+
 // The keys of zeros under the password `password`, of versions 3 and 4.
 const NIST: &str =
     "k3.local-pw.AAAAAAAAAAAAAAAAAAAAAAAAAAAAAAAAAAAAAAAAAAAAAAACAAAAAAAAAAAAAAAAAAAAAL7JqJOYRmBLaWkfPE_0VVCSM1gK31nZGU6eJOoGjJzYo9bxPQ-OfBEGZiHapQIays9NKQmy38vz_a6qP7oRmgfafU57PsgKlc5H-tNRIixi";
