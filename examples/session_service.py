@@ -62,8 +62,8 @@ class Store:
             self._base.execute("INSERT INTO keys VALUES (?, ?, ?)", (kid, key.to_bytes(), now))
             return kid, key
 
-    def admitting(self, kid: str) -> paseto.LocalKey | None:
-        """The key with this id."""
+    def admitting(self, kid: str | None) -> paseto.LocalKey | None:
+        """The key with this id, where there is one."""
         with self._lock:
             found = self._base.execute("SELECT key FROM keys WHERE kid = ?", (kid,)).fetchone()
         return paseto.LocalKey(found[0]) if found else None
@@ -112,13 +112,13 @@ class Sessions:
         """A token for the user."""
         kid, key = self._store.issuing()
         claims = {"sub": user, "aud": AUDIENCE, "jti": secrets.token_hex(16)}
-        return paseto.issue(key, claims, expires_in=self._lifetime, footer=json.dumps({"kid": kid}))
+        return paseto.issue(key, claims, expires_in=self._lifetime, footer=paseto.key_footer(kid))
 
     def read(self, token: str) -> dict | None:
         """The claims of a token that is one of this service, and was not logged out."""
         try:
             footer = paseto.footer_of(token)
-            key = self._store.admitting(kid_of(footer))
+            key = self._store.admitting(paseto.kid_of(footer))
             if key is None:
                 return None
             claims = paseto.admit(token, key, aud=AUDIENCE, footer=footer)
@@ -129,16 +129,6 @@ class Sessions:
     def end(self, claims: dict) -> None:
         """Logs the session out."""
         self._store.end(claims["jti"])
-
-
-def kid_of(footer: str) -> str:
-    """The id that a footer names, or the empty text, which no key has."""
-    try:
-        named = json.loads(footer)
-    except (ValueError, RecursionError):
-        return ""
-    kid = named.get("kid") if isinstance(named, dict) else None
-    return kid if isinstance(kid, str) else ""
 
 
 class Handler(BaseHTTPRequestHandler):

@@ -225,6 +225,8 @@ answers 200 'the cookie there' -b "$work/foreign_jar" "$foreign/me"
 stranger=$(token_in "$work/foreign_jar")
 answers 401 'a foreign cookie' -b "session=$stranger" "$service/me"
 answers 401 'a foreign cookie with a footer of ours' -b "session=${stranger%.*}.${token##*.}" "$service/me"
+half=$(printf '{"kid":"\\ud800"}' | base64 -w 0 | tr '+/' '-_' | tr -d =)
+answers 401 'a cookie whose footer names half a character' -b "session=${token%.*}.$half" "$service/me"
 answers 200 'logging in for a second' -c "$work/short_jar" -d "$ada" "$short/login"
 sleep 2
 answers 401 'an expired cookie' -b "$work/short_jar" "$short/me"

@@ -226,9 +226,12 @@ class Rings(unittest.TestCase):
         ring.remove(named)
         with self.assertRaises(paseto.UnknownKey):
             ring.admit(token)
-        for footer in ("", "office-1", "[]", '{"kid":4}'):
+        unnamed = paseto.LocalKey.generate()
+        self.assertEqual(ring.admit(ring.issue(ring.add(unnamed, ""), {"sub": "ada"}))["sub"], "ada")
+        for footer in ("", "office-1", "[]", '{"kid":4}', '{"kid":"\\ud800"}'):
+            self.assertIsNone(paseto.kid_of(footer))
             with self.assertRaises(paseto.UnknownKey):
-                ring.admit(paseto.issue(paseto.LocalKey.generate(), {}, footer=footer))
+                ring.admit(paseto.issue(unnamed, {}, footer=footer))
         with self.assertRaises(KeyError):
             ring.issue("2026-11", {})
         public = ring.add(paseto.PrivateKey.generate().public)

@@ -1,7 +1,7 @@
 //! The command `keygen`.
 
 ghost use Rattle.std.specs.Prelude.{◌≡◌, ◌⊎◌, ◌++◌, ◌∷◌, [], IfErr, IfOk, IsErrAnd, IsOkAnd, option_map, string_bytes};
-ghost use Rattle.paseto_tasks.specs.Error.{IsMemory, key_error_of};
+ghost use Rattle.paseto_tasks.specs.Error.{IsFixed, IsMemory, key_error_of};
 ghost use Rattle.paseto_tasks.specs.Keygen.{IsGenerated, IsNewLocalKey, IsNewPair, IsNoNewPair, IsNoPair, MakesNone};
 
 use crate::arguments::Kind;
@@ -34,6 +34,7 @@ pub fn keygen<G: TryRng>(
 ) -> Result<NewKey, ProgramError>
     ensures refused { IfErr result (IsNoNewPair G.Error (MakesNone kind)
         (λ drawn. G.may_fill generator.old drawn generator.new)) }
+    ensures fixed { IfErr result IsFixed }
     ensures made { IfOk result (λ made. IsGenerated kind
         (λ drawn. G.may_fill generator.old drawn generator.new)
         (string_bytes made.secret) (option_map string_bytes made.public)) }

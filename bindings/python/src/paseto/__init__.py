@@ -52,7 +52,7 @@ from ._errors import (
     WrongHeader,
 )
 from ._keys import Key, LocalKey, PrivateKey, PublicKey
-from ._ring import KeyRing, key_footer
+from ._ring import KeyRing, key_footer, kid_of
 from ._tokens import admit, decrypt, encrypt, footer_of, issue, sign, verify
 
 __all__ = [
@@ -102,6 +102,7 @@ __all__ = [
     "footer_of",
     "issue",
     "key_footer",
+    "kid_of",
     "sign",
     "verify",
 ]

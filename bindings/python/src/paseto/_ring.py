@@ -21,6 +21,22 @@ def key_footer(kid: str) -> str:
     return json.dumps({"kid": kid}, ensure_ascii=False, separators=(",", ":"))
 
 
+def kid_of(footer: str) -> str | None:
+    """The id of the key that a footer names, and ``None`` where it names none.
+
+    >>> kid_of(key_footer("2026-11"))
+    '2026-11'
+    """
+    try:
+        named = json.loads(footer)
+    except (ValueError, RecursionError):
+        return None
+    kid = named.get("kid") if isinstance(named, dict) else None
+    # An escape of JSON can name half a character, which is no text.
+    is_text = isinstance(kid, str) and not any("\ud800" <= letter <= "\udfff" for letter in kid)
+    return kid if is_text else None
+
+
 class KeyRing:
     """Keys by their ids. The footer of a token names one of them, and no other key is tried.
 
@@ -82,7 +98,8 @@ class KeyRing:
         """The claims of a token, as ``admit`` has them, under the key that its footer names. ``UnknownKey`` is raised where
         the footer names no key of the ring."""
         footer = footer_of(token)
-        key = self._keys.get(_kid(footer))
+        kid = kid_of(footer)
+        key = None if kid is None else self._keys.get(kid)
         if key is None:
             raise UnknownKey("the footer of the token names no key of the ring")
         reader = key.public if isinstance(key, PrivateKey) else key
@@ -90,13 +107,3 @@ class KeyRing:
             token, reader, aud=aud, expected=expected, require=require, leeway=leeway, longest=longest, now=now,
             footer=footer, assertion=assertion,
         )
-
-
-def _kid(footer: str) -> str:
-    """The id that a footer names, or the empty text."""
-    try:
-        named = json.loads(footer)
-    except (ValueError, RecursionError):
-        return ""
-    kid = named.get("kid") if isinstance(named, dict) else None
-    return kid if isinstance(kid, str) else ""

@@ -84,8 +84,7 @@ def encrypt(key: LocalKey, text: str, *, footer: str = "", assertion: str = "") 
     """
     if not isinstance(key, LocalKey):
         raise TypeError("a text is encrypted under a LocalKey")
-    words = (*_drawn(key, "encrypt"), *lent(bytes_of(text)), *_tail(key, footer, assertion))
-    return ask(f"{_kind(key)}_encrypt", words, 256 + 2 * len(text)).decode()
+    return _token("encrypt", key, text, footer, assertion)
 
 
 def decrypt(token: str, key: LocalKey, *, footer: str = "", assertion: str = "") -> str:
@@ -104,8 +103,7 @@ def sign(key: PrivateKey, text: str, *, footer: str = "", assertion: str = "") -
     """
     if not isinstance(key, PrivateKey):
         raise TypeError("a text is signed under a PrivateKey")
-    words = (*_drawn(key, "sign"), *lent(bytes_of(text)), *_tail(key, footer, assertion))
-    return ask(f"{_kind(key)}_sign", words, 1024 + 2 * len(text)).decode()
+    return _token("sign", key, text, footer, assertion)
 
 
 def verify(token: str, key: PublicKey, *, footer: str = "", assertion: str = "") -> str:
@@ -152,6 +150,12 @@ def _tail(key: Key, footer: str, assertion: str) -> tuple[Any, ...]:
     if assertion:
         raise ValueError("tokens of the versions 1 and 2 have no implicit assertion")
     return lent(bytes_of(footer))
+
+
+def _token(call: str, key: LocalKey | PrivateKey, text: str, footer: str, assertion: str) -> str:
+    """The token that holds a text."""
+    words = (*_drawn(key, call), *lent(bytes_of(text)), *_tail(key, footer, assertion))
+    return ask(f"{_kind(key)}_{call}", words, 1024 + 2 * len(text)).decode()
 
 
 def _text(call: str, token: str, key: Key, footer: str, assertion: str) -> str:

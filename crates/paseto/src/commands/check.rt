@@ -254,6 +254,7 @@ fn with_kinds(
     ensures value { IfOk result (λ value. answer ≡ Ok value) }
     ensures refused { IfErr result (λ error. IsErrAnd answer
         (λ source. IsOutside source → IsOutside error)) }
+    ensures no_usage { IfErr answer IsNoUsage → IfErr result IsNoUsage }
     ensures fixed { IfErr answer IsFixed → IfErr result IsFixed }
 {
     let Some((version, kind, _)) = header_of(key) else {

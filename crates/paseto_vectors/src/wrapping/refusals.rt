@@ -58,27 +58,27 @@ const REFUSED: &[(&str, &str)] = &[
     ),
     (
         "k3.local-wrap.pie.Q2_mXGFAatwDysLNnV84S78IhohdGIkNjIeei2TyXegAAAAAAAAAAAAAAAAAAAAAAAAAAAAAAAAAAAAAAAAAAH8My5XE6gls9ScIJS6mZBvFVh4VO_Mg9jS8WoF8d37d",
-        "the wrapped key is one of another version",
+        "the wrapped key is one of version 3",
     ),
     (
         "k2.seal.Q2_mXGFAatwDysLNnV84S78IhohdGIkNjIeei2TyXegAAAAAAAAAAAAAAAAAAAAAAAAAAAAAAAAAAAAAAAAAAH8My5XE6gls9ScIJS6mZBvFVh4VO_Mg9jS8WoF8d37d",
-        "the wrapped key is one of another version",
+        "the wrapped key is one of version 2",
     ),
     (
         "k4.secret-wrap.pie.Q2_mXGFAatwDysLNnV84S78IhohdGIkNjIeei2TyXegAAAAAAAAAAAAAAAAAAAAAAAAAAAAAAAAAAAAAAAAAAH8My5XE6gls9ScIJS6mZBvFVh4VO_Mg9jS8WoF8d37d",
-        "the wrapped key is one of another type",
+        "the wrapped key is a private one, under a wrapping key",
     ),
     (
         "k4.local-pw.Q2_mXGFAatwDysLNnV84S78IhohdGIkNjIeei2TyXegAAAAAAAAAAAAAAAAAAAAAAAAAAAAAAAAAAAAAAAAAAH8My5XE6gls9ScIJS6mZBvFVh4VO_Mg9jS8WoF8d37d",
-        "the wrapped key is one of another type",
+        "the wrapped key is a local one, under a password",
     ),
     (
         "k4.secret-pw.Q2_mXGFAatwDysLNnV84S78IhohdGIkNjIeei2TyXegAAAAAAAAAAAAAAAAAAAAAAAAAAAAAAAAAAAAAAAAAAH8My5XE6gls9ScIJS6mZBvFVh4VO_Mg9jS8WoF8d37d",
-        "the wrapped key is one of another type",
+        "the wrapped key is a private one, under a password",
     ),
     (
         "k4.seal.Q2_mXGFAatwDysLNnV84S78IhohdGIkNjIeei2TyXegAAAAAAAAAAAAAAAAAAAAAAAAAAAAAAAAAAAAAAAAAAH8My5XE6gls9ScIJS6mZBvFVh4VO_Mg9jS8WoF8d37d",
-        "the wrapped key is one of another type",
+        "the wrapped key is a local one, sealed to a public key",
     ),
     (
         "k4.local-wrap.pie.",
@@ -236,15 +236,15 @@ const REFUSED_PASSWORDS: &[(&str, &str)] = &[
     ("k4.local", "the text is no wrapped key of PASERK"),
     (
         "k3.local-pw.AAAAAAAAAAAAAAAAAAAAAAAAAAAAACAAAAAAAQAAAAEAAAAAAAAAAAAAAAAAAAAAAAAAAAAAAABxdCym97oPOlSkdKxiz70Ogy1L_1KF8ww3iF_sp8rNjAOjTL7PcnsrN8IH9aOsqPN6E1v65lN64CTsGWvf8gD2",
-        "the wrapped key is one of another version",
+        "the wrapped key is one of version 3",
     ),
     (
         "k4.local-wrap.pie.AAAAAAAAAAAAAAAAAAAAAAAAAAAAACAAAAAAAQAAAAEAAAAAAAAAAAAAAAAAAAAAAAAAAAAAAABxdCym97oPOlSkdKxiz70Ogy1L_1KF8ww3iF_sp8rNjAOjTL7PcnsrN8IH9aOsqPN6E1v65lN64CTsGWvf8gD2",
-        "the wrapped key is one of another type",
+        "the wrapped key is a local one, under a wrapping key",
     ),
     (
         "k4.secret-pw.AAAAAAAAAAAAAAAAAAAAAAAAAAAAACAAAAAAAQAAAAEAAAAAAAAAAAAAAAAAAAAAAAAAAAAAAABxdCym97oPOlSkdKxiz70Ogy1L_1KF8ww3iF_sp8rNjAOjTL7PcnsrN8IH9aOsqPN6E1v65lN64CTsGWvf8gD2",
-        "the wrapped key is one of another type",
+        "the wrapped key is a private one, under a password",
     ),
     (
         "k4.local-pw.AAAA",
