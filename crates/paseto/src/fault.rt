@@ -1,5 +1,7 @@
 //! Why a command is not done.
 
+ghost use Rattle.std.specs.Prelude.{◌≡◌};
+
 use paseto_tasks::{Names, ProgramError};
 
 /// Why a command is not done, and the file or the word that this is about.
@@ -11,7 +13,10 @@ pub struct Fault<'a> {
 
 impl<'a> Fault<'a> {
     /// An error about a file or a word.
-    pub fn about(about: &'a str, error: ProgramError) -> Fault<'a> {
+    pub fn about(about: &'a str, error: ProgramError) -> Fault<'a>
+        ensures name { result.about.now ≡ about.now }
+        ensures error { result.error ≡ error }
+    {
         Fault { about, error }
     }
 
