@@ -4,3 +4,5 @@ pub mod PemLaws
 pub mod OpeningLaws
 pub mod LineLaws
 pub mod WritingLaws
+pub mod TextLaws
+pub mod LockedLaws

@@ -6,3 +6,4 @@ pub mod Opening
 pub mod Password
 pub mod Wrapping
 pub mod Sealing
+pub mod Laws

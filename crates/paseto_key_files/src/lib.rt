@@ -21,6 +21,7 @@
 
 mod drawing;
 mod error;
+pub mod laws;
 mod line;
 mod openers;
 mod opening;

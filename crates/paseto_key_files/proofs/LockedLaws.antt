@@ -1,0 +1,96 @@
+-- What is locked is opened.
+use Rattle.std.proofs.Common.{◌≡◌, ◌⊎◌, ℕ, ◌+◌, ◌<◌, List, ◌++◌, length, take, drop, Some, Bor, inl, inr, refl, sym, subst, ◌∙◌}
+use Rattle.std.proofs.lemmas.List.{take_at, drop_at}
+use Rattle.base64.specs.GeneralPurpose.{IsBytes}
+use Rattle.rusty_paseto_parts.specs.Section.{base64url}
+use Rattle.rusty_paseto_paserk.specs.declared.header.PaserkVersion.{PaserkVersion}
+use Rattle.rusty_paseto_paserk.specs.declared.header.PaserkVersion.TheVariants.{V1, V2, V3, V4}
+use Rattle.rusty_paseto_paserk.specs.declared.header.PaserkType.{PaserkType}
+use Rattle.rusty_paseto_paserk.specs.declared.header.PaserkType.TheVariants.{Local, Secret, Public}
+use Rattle.rusty_paseto_paserk.specs.Text.{writing as key_writing}
+use Rattle.rusty_paseto_primitives.proofs.ByteLists.{IsBytes-take, IsBytes-drop}
+use Rattle.paseto_wrapping.specs.declared.header.WrappedType.{WrappedType}
+use Rattle.paseto_wrapping.specs.declared.header.WrappedType.TheVariants.{LocalWrap, SecretWrap, LocalPassword, SecretPassword}
+use Rattle.paseto_wrapping.specs.Laws.{ProtectedUnwrap, WrappedUnwrap}
+use Rattle.paseto_wrapping.specs.Password.{payload as password_payload}
+use Rattle.paseto_wrapping.specs.Pie.{payload as pie_payload}
+use Rattle.paseto_wrapping.specs.Text.{writing}
+use Rattle.paseto_key_files.specs.declared.openers.Openers.{Openers}
+use Rattle.paseto_key_files.specs.Held.{HoldsKey}
+use Rattle.paseto_key_files.specs.Laws.{IsSameLine, OpensAgain, ProtectedUnlock, WrappedUnlock}
+use Rattle.paseto_key_files.specs.Line.{IsLocalKey, IsPrivateKey, IsPrivateLine, private_line}
+use Rattle.paseto_key_files.specs.Opening.{ByKey, OpensAs, OpensLine, Pies, UnderPassword, Unlocks, most}
+use Rattle.paseto_key_files.proofs.TextLaws.{writing_is_line, writing_no_pem}
+
+-- the parts of bytes are bytes
+front_bytes : (front back : List ℕ) → IsBytes (front ++ back) → IsBytes front × IsBytes back
+front_bytes front back h = (
+  subst IsBytes (take_at front back (length front) refl) (IsBytes-take (length front) (front ++ back) h),
+  subst IsBytes (drop_at front back (length front) refl) (IsBytes-drop (length front) (front ++ back) h),
+)
+
+-- what the line of a private key tells of the key
+private_parts : (version : PaserkVersion) (key line : List ℕ) → IsPrivateLine version key line
+    → IsBytes key × IsPrivateKey version key × IsSameLine line (private_line version key)
+private_parts V1 key line is = (subst IsBytes is.held.written is.bytes, is.held.is_key, inr (key, is, refl))
+private_parts V2 key line is = (is.bytes, is.form, inl (sym is.written))
+private_parts V3 key line is = (is.bytes, is.form, inl (sym is.written))
+private_parts V4 key line is = (is.bytes, is.form, inl (sym is.written))
+
+-- a locked text is opened as the version and the type that it begins as
+unlocks_writing : (version : PaserkVersion) (kind : WrappedType) (payload : List ℕ) (openers : Openers) (line text : List ℕ) → text ≡ writing version kind payload
+    → OpensAs version kind openers (writing version kind payload) line → Unlocks openers text line
+unlocks_writing version kind payload openers line text is opens =
+    let own : OpensLine openers (writing version kind payload) line = inl (version, kind, (base64url payload, refl), opens) in
+    subst (λ (t : List ℕ). Unlocks openers t line) (sym is)
+    (inr (writing_no_pem version kind payload, subst (λ (t : List ℕ). OpensLine openers t line) (sym (writing_is_line version kind payload)) own))
+
+pub protected_unlocks : ProtectedUnwrap → ProtectedUnlock
+protected_unlocks unwraps version Local cost openers password line text opener within p =
+    let bytes = front_bytes p.salt p.nonce p.is_drawn in
+    let sealed : List ℕ = password_payload version LocalPassword password.now cost p.salt p.nonce p.key in
+    let held : HoldsKey IsLocalKey (key_writing version Local) (UnderPassword version LocalPassword password.now) (writing version LocalPassword sealed) line = record {
+      key = p.key;
+      bytes = p.is_line.bytes;
+      form = p.is_line.form;
+      wrapped = unwraps version LocalPassword password.now most cost p.salt p.nonce p.key p.short (p.allowed, within) (bytes.0, p.lengths.0) (bytes.1, p.lengths.1) p.is_line.bytes;
+      line_is = p.is_line.written;
+    } in
+    (line, inl refl, unlocks_writing version LocalPassword sealed openers line text p.text_is (rw opener held))
+protected_unlocks unwraps version Secret cost openers password line text opener within p =
+    let bytes = front_bytes p.salt p.nonce p.is_drawn in
+    let parts = private_parts version p.key line p.is_line in
+    let sealed : List ℕ = password_payload version SecretPassword password.now cost p.salt p.nonce p.key in
+    let held : HoldsKey (IsPrivateKey version) (private_line version) (UnderPassword version SecretPassword password.now) (writing version SecretPassword sealed) (private_line version p.key) = record {
+      key = p.key;
+      bytes = parts.0;
+      form = parts.1;
+      wrapped = unwraps version SecretPassword password.now most cost p.salt p.nonce p.key p.short (p.allowed, within) (bytes.0, p.lengths.0) (bytes.1, p.lengths.1) parts.0;
+      line_is = refl;
+    } in
+    (private_line version p.key, parts.2, unlocks_writing version SecretPassword sealed openers (private_line version p.key) text p.text_is (rw opener held))
+protected_unlocks unwraps version Public cost openers password line text opener within p = absurd p
+
+pub wrapped_unlocks : WrappedUnwrap → WrappedUnlock
+wrapped_unlocks unwraps version Local openers wrapping line text opener p =
+    let sealed : List ℕ = pie_payload version LocalWrap p.wk p.nonce p.key in
+    let held : HoldsKey IsLocalKey (key_writing version Local) (ByKey version Local IsLocalKey (Pies version LocalWrap) wrapping.now) (writing version LocalWrap sealed) line = record {
+      key = p.key;
+      bytes = p.is_line.bytes;
+      form = p.is_line.form;
+      wrapped = (p.wk, p.is_wrapping, unwraps version LocalWrap p.wk p.nonce p.key (p.is_drawn, p.size) p.is_line.bytes);
+      line_is = p.is_line.written;
+    } in
+    (line, inl refl, unlocks_writing version LocalWrap sealed openers line text p.text_is (rw opener held))
+wrapped_unlocks unwraps version Secret openers wrapping line text opener p =
+    let parts = private_parts version p.key line p.is_line in
+    let sealed : List ℕ = pie_payload version SecretWrap p.wk p.nonce p.key in
+    let held : HoldsKey (IsPrivateKey version) (private_line version) (ByKey version Local IsLocalKey (Pies version SecretWrap) wrapping.now) (writing version SecretWrap sealed) (private_line version p.key) = record {
+      key = p.key;
+      bytes = parts.0;
+      form = parts.1;
+      wrapped = (p.wk, p.is_wrapping, unwraps version SecretWrap p.wk p.nonce p.key (p.is_drawn, p.size) parts.0);
+      line_is = refl;
+    } in
+    (private_line version p.key, parts.2, unlocks_writing version SecretWrap sealed openers (private_line version p.key) text p.text_is (rw opener held))
+wrapped_unlocks unwraps version Public openers wrapping line text opener p = absurd p
