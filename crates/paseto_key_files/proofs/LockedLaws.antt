@@ -1,25 +1,30 @@
 -- What is locked is opened.
 use Rattle.std.proofs.Common.{◌≡◌, ◌⊎◌, ℕ, ◌+◌, ◌<◌, List, ◌++◌, length, take, drop, Some, Bor, inl, inr, refl, sym, subst, ◌∙◌}
-use Rattle.std.proofs.lemmas.List.{take_at, drop_at}
+use Rattle.std.proofs.lemmas.List.{append_cancel_left, take_at, drop_at}
 use Rattle.base64.specs.GeneralPurpose.{IsBytes}
 use Rattle.rusty_paseto_parts.specs.Section.{base64url}
 use Rattle.rusty_paseto_paserk.specs.declared.header.PaserkVersion.{PaserkVersion}
 use Rattle.rusty_paseto_paserk.specs.declared.header.PaserkVersion.TheVariants.{V1, V2, V3, V4}
 use Rattle.rusty_paseto_paserk.specs.declared.header.PaserkType.{PaserkType}
 use Rattle.rusty_paseto_paserk.specs.declared.header.PaserkType.TheVariants.{Local, Secret, Public}
+use Rattle.rusty_paseto_parts.proofs.SectionLemmas.{base64url-injective}
+use Rattle.rusty_paseto_paserk.specs.Header.{header}
 use Rattle.rusty_paseto_paserk.specs.Text.{writing as key_writing}
+use Rattle.paseto_p384.specs.P384.{p384_public}
+use Rattle.paseto_p384.proofs.AgreementLaws.{public-bytes}
 use Rattle.rusty_paseto_primitives.proofs.ByteLists.{IsBytes-take, IsBytes-drop}
 use Rattle.paseto_wrapping.specs.declared.header.WrappedType.{WrappedType}
-use Rattle.paseto_wrapping.specs.declared.header.WrappedType.TheVariants.{LocalWrap, SecretWrap, LocalPassword, SecretPassword}
-use Rattle.paseto_wrapping.specs.Laws.{ProtectedUnwrap, WrappedUnwrap}
+use Rattle.paseto_wrapping.specs.declared.header.WrappedType.TheVariants.{LocalWrap, SecretWrap, LocalPassword, SecretPassword, Seal}
+use Rattle.paseto_wrapping.specs.Sealing.{IsSealed}
+use Rattle.paseto_wrapping.specs.Laws.{ProtectedUnwrap, SealedUnseal, WrappedUnwrap}
 use Rattle.paseto_wrapping.specs.Password.{payload as password_payload}
 use Rattle.paseto_wrapping.specs.Pie.{payload as pie_payload}
 use Rattle.paseto_wrapping.specs.Text.{writing}
 use Rattle.paseto_key_files.specs.declared.openers.Openers.{Openers}
 use Rattle.paseto_key_files.specs.Held.{HoldsKey}
-use Rattle.paseto_key_files.specs.Laws.{IsSameLine, OpensAgain, ProtectedUnlock, WrappedUnlock}
+use Rattle.paseto_key_files.specs.Laws.{IsSameLine, OpensAgain, ProtectedUnlock, SealedUnlock, WrappedUnlock}
 use Rattle.paseto_key_files.specs.Line.{IsLocalKey, IsPrivateKey, IsPrivateLine, private_line}
-use Rattle.paseto_key_files.specs.Opening.{ByKey, OpensAs, OpensLine, Pies, UnderPassword, Unlocks, most}
+use Rattle.paseto_key_files.specs.Opening.{ByKey, OpensAs, OpensLine, Pies, Seals, UnderPassword, Unlocks, most}
 use Rattle.paseto_key_files.proofs.TextLaws.{writing_is_line, writing_no_pem}
 
 -- the parts of bytes are bytes
@@ -94,3 +99,22 @@ wrapped_unlocks unwraps version Secret openers wrapping line text opener p =
     } in
     (private_line version p.key, parts.2, unlocks_writing version SecretWrap sealed openers (private_line version p.key) text p.text_is (rw opener held))
 wrapped_unlocks unwraps version Public openers wrapping line text opener p = absurd p
+
+-- a public key has one line
+one_point : (a b : List ℕ) → IsBytes a → IsBytes b → key_writing V3 Public a ≡ key_writing V3 Public b → a ≡ b
+one_point a b of_a of_b same = base64url-injective a b of_a of_b (append_cancel_left (header V3 Public) (base64url a) (base64url b) same)
+
+pub sealed_unlocks : SealedUnseal → SealedUnlock
+sealed_unlocks unseals private openers opener public line text is own public_is p =
+    let same : p.point ≡ p384_public private = one_point p.point (p384_public private) p.is_public.bytes (public-bytes private) (sym p.is_public.written ∙ public_is) in
+    let sealed : IsSealed V3 (p384_public private) p.ephemeral p.key text = subst (λ (q : List ℕ). IsSealed V3 q p.ephemeral p.key text) same p.sealed in
+    let wrapped : Seals V3 private text p.key = unseals private p.ephemeral p.key text own.0 (p.is_line.bytes, p.is_line.form) sealed in
+    let held : HoldsKey IsLocalKey (key_writing V3 Local) (ByKey V3 Secret (IsPrivateKey V3) (Seals V3) opener.now) text line = record {
+      key = p.key;
+      bytes = p.is_line.bytes;
+      form = p.is_line.form;
+      wrapped = (private, own.1, wrapped);
+      line_is = p.is_line.written;
+    } in
+    let opens : OpensAs V3 Seal openers text line = rw is held in
+    (line, inl refl, unlocks_writing V3 Seal sealed.0 openers line text sealed.2 (subst (λ (t : List ℕ). OpensAs V3 Seal openers t line) sealed.2 opens))

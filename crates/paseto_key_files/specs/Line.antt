@@ -36,7 +36,8 @@ IsPrivateKey V2 = λ key. length key ≡ 64
 IsPrivateKey V3 = λ key. length key ≡ 48
 IsPrivateKey V4 = λ key. length key ≡ 64
 
--- bytes are a public key of a version: 32 of Ed25519, and of P-384 a point with compression. One of version 1 has no line in PASERK
+-- bytes are a public key of a version: 32 of Ed25519, and of P-384 a point with compression. One of version 1 has no line
+-- in PASERK
 abbrev pub IsPublicKey : PaserkVersion → List ℕ → Type 0
 IsPublicKey V1 = λ key. ⊥
 IsPublicKey V2 = λ key. IsTrue (length key == 32)

@@ -1,7 +1,7 @@
 //! Laws of key files. Each is the contract of a function that does nothing, over the definitions that the contracts of the
 //! calls name.
 
-ghost use Rattle.paseto_key_files.specs.Laws.{ProtectedUnlock, WrappedUnlock};
+ghost use Rattle.paseto_key_files.specs.Laws.{ProtectedUnlock, SealedUnlock, WrappedUnlock};
 
 use paseto_wrapping::laws;
 
@@ -20,4 +20,13 @@ pub fn wrapped_keys_unlock()
     ensures { WrappedUnlock }
 {
     laws::wrapped_keys_unwrap();
+}
+
+/// The text that `seal` writes of a line in version 3, to the public key of a private key, is opened as this line by `unlock`
+/// with the line of that private key, want of memory aside. In versions 2 and 4 this holds where X25519 of two secret keys
+/// commutes, which is not proved.
+pub fn sealed_keys_unlock()
+    ensures { SealedUnlock }
+{
+    laws::sealed_keys_unseal();
 }

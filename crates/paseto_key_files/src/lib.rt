@@ -1,8 +1,8 @@
-//! Key files as people have them, and the lines that programs keep keys as: the text of PASERK, as `k4.local...`, and for
-//! key pairs of version 1, which have none here, the text in PEM.
+//! Key files as people have them, and the lines that programs keep keys as: a key's text in PASERK, as `k4.local...`, and
+//! for key pairs of version 1, which have none here, the text in PEM.
 //!
-//! A key file is read with `unlock`: keys in PEM of `openssl`, keys under a password, keys under a wrapping key and sealed
-//! keys become lines.
+//! `unlock` reads a key file: keys in PEM, keys under a password, keys under a wrapping key and sealed keys become lines.
+//! `protect`, `wrap`, `seal` and `pem_of` write these texts of a line.
 //!
 //! ```rust
 //! use paseto_key_files::{KeyFileError, Openers, unlock};
@@ -17,6 +17,9 @@
 //!     unlock(alloc, &openers, text)
 //! }
 //! ```
+//!
+//! A line of a key that is to be kept secret is as secret as the key. Nothing is wiped: lines, keys and what was drawn stay
+//! in memory when they are dropped.
 #![tactic(auto)]
 
 mod drawing;
