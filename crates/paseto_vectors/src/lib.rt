@@ -20,6 +20,8 @@ mod expect;
 #[cfg(test)]
 mod hexadecimal;
 #[cfg(test)]
+mod key_files;
+#[cfg(test)]
 mod keys;
 #[cfg(test)]
 mod montgomery;

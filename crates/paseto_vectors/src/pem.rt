@@ -1,7 +1,7 @@
 //! Keys of OpenSSL, both ways, and what is refused.
 
 mod refusals;
-mod texts;
+pub(crate) mod texts;
 
 use crate::expect::{expect_digits, expect_text};
 use crate::schemes::rsa;

@@ -6,7 +6,7 @@ ghost use Rattle.paseto_wrapping.specs.Family.{family_of, nonce_length};
 ghost use Rattle.paseto_wrapping.specs.Password.{salt_length};
 
 mod refusals;
-mod rows;
+pub(crate) mod rows;
 
 use crate::expect::{expect_bytes, expect_same, expect_text};
 use crate::hexadecimal::{array_of, bytes_of};

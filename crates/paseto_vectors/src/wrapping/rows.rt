@@ -2,7 +2,7 @@
 //! table are of the PASERK specification's vectors.
 
 /// A key under a wrapping key: the version, the half, the key, the wrapping key, the nonce and the text.
-pub(super) type Wrapped = (
+pub(crate) type Wrapped = (
     u8,
     &'static str,
     &'static str,
@@ -13,7 +13,7 @@ pub(super) type Wrapped = (
 
 /// A key under a password: the version, the half, the key, the password, the iterations, memory, passes and lanes, the
 /// salt, the nonce and the text.
-pub(super) type Protected = (
+pub(crate) type Protected = (
     u8,
     &'static str,
     &'static str,
@@ -24,7 +24,7 @@ pub(super) type Protected = (
     &'static str,
 );
 
-pub(super) const WRAPPED: &[Wrapped] = &[
+pub(crate) const WRAPPED: &[Wrapped] = &[
     (
         3,
         "local",
@@ -123,7 +123,7 @@ pub(super) const WRAPPED: &[Wrapped] = &[
     ),
 ];
 
-pub(super) const PROTECTED: &[Protected] = &[
+pub(crate) const PROTECTED: &[Protected] = &[
     (
         3,
         "local",
