@@ -1,7 +1,7 @@
 #!/usr/bin/env bash
 # Builds the library for C, and asks it from outside, as its users do: a program in C under valgrind, and the same with the
-# sanitizers, the published tokens, random calls with rooms of every length around the right one, a program in Python, and
-# a session service that is asked by curl. It also sees to it that no export asks something of C that C cannot meet.
+# sanitizers, the published tokens, keys as text, random calls with rooms of every length around the right one, a program in
+# Python, and a session service that is asked by curl. It also sees to it that no export asks something of C that C cannot meet.
 #
 #   tests/c_library.sh [PREFIX]
 #
@@ -53,6 +53,7 @@ needs readelf binutils
 needs valgrind valgrind
 needs python3 python3
 needs curl curl
+needs openssl openssl
 
 # ---- what the exports ask of C
 
@@ -150,6 +151,10 @@ else
     fail 'not all rows of keys are read'
 fi
 counted 'keys as text' "$work/keys" "$work/keys.txt"
+build pem -O1 -g -fsanitize=address,undefined -fno-sanitize-recover=all
+mkdir "$work/texts"
+if python3 "$here/pem_rows.py" "$work/texts" >"$work/pem.txt" 2>"$work/log"; then pass; else fail "pem_rows.py: $(tail -n 3 "$work/log")"; fi
+counted 'keys in PEM that OpenSSL made' "$work/pem" "$work/pem.txt"
 build rooms -O2 -fsanitize=undefined -fno-sanitize-recover=all -Wl,--wrap=malloc,--wrap=realloc,--wrap=free
 seed=${SEED:-$(date +%s)}
 check "random calls, SEED=$seed" "$work/rooms" 100000 "$seed"
