@@ -1,12 +1,13 @@
 #!/usr/bin/env bash
 # Builds the library for C, and asks it from outside, as its users do: a program in C under valgrind, and the same with the
-# sanitizers, the published tokens, random calls with rooms of every length around the right one, a program in Python, and
-# a session service that is asked by curl. It also sees to it that no export asks something of C that C cannot meet.
+# sanitizers, the published tokens, keys as text, each call with each of its requests for memory refused, random calls with
+# rooms of every length around the right one, four threads at once, a program in Python, and a session service that is asked by
+# curl. It also sees to it that no export asks something of C that C cannot meet.
 #
 #   tests/c_library.sh [PREFIX]
 #
 # With PREFIX the library is not built, and taken from there. The random calls, which count as one, are those of another SEED
-# each time, unless the environment has one. The last line is 'N passed, M failed', and the status is 0 where none failed.
+# each time, unless the environment has one. The four threads run for a minute, or for THREAD_SECONDS. The last line is 'N passed, M failed', and the status is 0 where none failed.
 set -u
 export LC_ALL=C
 
@@ -53,6 +54,7 @@ needs readelf binutils
 needs valgrind valgrind
 needs python3 python3
 needs curl curl
+needs openssl openssl
 
 # ---- what the exports ask of C
 
@@ -150,6 +152,37 @@ else
     fail 'not all rows of keys are read'
 fi
 counted 'keys as text' "$work/keys" "$work/keys.txt"
+build pem -O1 -g -fsanitize=address,undefined -fno-sanitize-recover=all
+mkdir "$work/texts"
+if python3 "$here/pem_rows.py" "$work/texts" >"$work/pem.txt" 2>"$work/log"; then pass; else fail "pem_rows.py: $(tail -n 3 "$work/log")"; fi
+counted 'keys in PEM that OpenSSL made' "$work/pem" "$work/pem.txt"
+build memory -O1 -g -Wl,--wrap=malloc,--wrap=realloc,--wrap=free
+counted 'each request for memory refused' "$work/memory"
+sed -nE 's/^(paseto_\w+) [0-9]+$/\1/p' "$work/log" | sort >"$work/asked"
+check 'memory.c asks each export' diff "$work/exports" "$work/asked"
+build threads -O2 -pthread
+check 'four threads at once' "$work/threads" "${THREAD_SECONDS:-60}" 4
+echo "four threads at once: $(tail -n 1 "$work/log")"
+# The test is able to fail: a race of two threads is found.
+cat >"$work/race.c" <<'END'
+#include <pthread.h>
+#include <stddef.h>
+static int count;
+static void *work(void *given) {
+    (void)given;
+    for (int i = 0; i < 1000; i++) count++;
+    return NULL;
+}
+int main(void) {
+    pthread_t ids[2];
+    for (int i = 0; i < 2; i++) pthread_create(&ids[i], NULL, work, NULL);
+    for (int i = 0; i < 2; i++) pthread_join(ids[i], NULL);
+    return 0;
+}
+END
+check 'race.c is built' cc -std=c99 -O0 -pthread -o "$work/race" "$work/race.c"
+if valgrind -q --tool=helgrind --error-exitcode=9 "$work/race" >/dev/null 2>&1; then fail 'a race is not found'; else pass; fi
+check 'four threads under helgrind' valgrind -q --tool=helgrind --error-exitcode=9 "$work/threads" 1 4
 build rooms -O2 -fsanitize=undefined -fno-sanitize-recover=all -Wl,--wrap=malloc,--wrap=realloc,--wrap=free
 seed=${SEED:-$(date +%s)}
 check "random calls, SEED=$seed" "$work/rooms" 100000 "$seed"

@@ -24,6 +24,6 @@ trap 'rm -rf "$work"' EXIT
 PASETO_LIB_DIR=$(realpath "$1")/lib CARGO_TARGET_DIR=$work/target \
     cargo test --offline --manifest-path "$root/bindings/rust/Cargo.toml" >"$work/log" 2>&1 || fail "cargo test: $(tail -n 20 "$work/log")"
 results=$(grep -c '^test result: ' "$work/log")
-if [ "$results" -eq 4 ]; then pass; else fail "cargo ran $results of 4 kinds of tests"; fi
+if [ "$results" -eq 5 ]; then pass; else fail "cargo ran $results of 5 kinds of tests"; fi
 passed=$((passed + $(awk '/^test result: / { sum += $4 } END { print sum + 0 }' "$work/log")))
 finish

@@ -11,6 +11,9 @@ const ROOM: Status = 1;
 // The room that a first call lends beyond the length of what it is given: a header, a nonce, a signature or a tag.
 const MORE: usize = 256;
 
+// How many characters a signature of version 1 has, which is longer than all that.
+const RSA_SIGNATURE: usize = 344;
+
 // What the statuses of `paseto.h` are here. Those of arguments that the types exclude come as `InvalidKey`.
 fn error_of(status: Status) -> PasetoError {
     match status {
@@ -26,6 +29,7 @@ fn error_of(status: Status) -> PasetoError {
         16 => PasetoError::FromUtf8Error,
         17 => PasetoError::KeyRejected,
         18 => PasetoError::Signature,
+        28 => PasetoError::RsaCipher,
         _ => PasetoError::InvalidKey,
     }
 }
@@ -85,9 +89,11 @@ calls! {
     v2_local_decrypt = paseto_v2_local_decrypt(key, token, footer) of token.len();
     v3_local_decrypt = paseto_v3_local_decrypt(key, token, footer, assertion) of token.len();
     v4_local_decrypt = paseto_v4_local_decrypt(key, token, footer, assertion) of token.len();
+    v1_public_sign = paseto_v1_public_sign(key, salt, text, footer) of token_length(&[text, footer]) + RSA_SIGNATURE;
     v2_public_sign = paseto_v2_public_sign(key, text, footer) of token_length(&[text, footer]);
     v3_public_sign = paseto_v3_public_sign(key, text, footer, assertion) of token_length(&[text, footer]);
     v4_public_sign = paseto_v4_public_sign(key, text, footer, assertion) of token_length(&[text, footer]);
+    v1_public_verify = paseto_v1_public_verify(key, token, footer) of token.len();
     v2_public_verify = paseto_v2_public_verify(key, token, footer) of token.len();
     v3_public_verify = paseto_v3_public_verify(key, token, footer, assertion) of token.len();
     v4_public_verify = paseto_v4_public_verify(key, token, footer, assertion) of token.len();

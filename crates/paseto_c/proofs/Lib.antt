@@ -6,3 +6,4 @@ pub mod ParseLemmas
 pub mod Told
 pub mod ParseExits
 pub mod KeyLemmas
+pub mod PemLemmas

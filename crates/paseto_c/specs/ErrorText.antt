@@ -3,6 +3,8 @@ use Rattle.std.specs.Prelude.{◌≡◌, ◌≢◌, ℕ, List, codes, nat_lt, �
 use Rattle.rusty_paseto_parts.specs.Error.{error_text}
 use Rattle.rusty_paseto_parts.specs.declared.error.PasetoError.{PasetoError}
 use Rattle.rusty_paseto_parts.specs.declared.error.PasetoError.TheVariants.{Cryption, InvalidKey, Signature, KeyRejected, InvalidSignature, IncorrectSize, WrongHeader, FooterInvalid, ChaChaCipherError, FromUtf8Error, RsaCipher, TooLong}
+use Rattle.paseto_pem.specs.Error.{error_text as pem_text}
+use Rattle.paseto_pem.specs.declared.error.PemError.TheVariants.{NotPem, Encrypted, OtherAlgorithm, OtherCurve, OtherSize}
 use Rattle.paseto_c.specs.Refusal.{status_of, token_refusal}
 use Rattle.paseto_c.specs.declared.refusal.Refusal.TheVariants.{Other}
 
@@ -55,6 +57,12 @@ later_text status =
     if status == 31 then codes "The text is no PASERK key" else
     if status == 32 then codes "The key is one of another version" else
     if status == 33 then codes "The key is one of another type" else
+    if status == 34 then pem_text NotPem else
+    if status == 35 then pem_text Encrypted else
+    if status == 36 then codes "The text is another thing than such a key" else
+    if status == 37 then pem_text OtherAlgorithm else
+    if status == 38 then pem_text OtherCurve else
+    if status == 39 then pem_text OtherSize else
     codes "An unknown error occurred"
 
 -- of any status

@@ -1,5 +1,5 @@
 -- Keys as text in PASERK, as C writes and reads them.
-use Rattle.std.specs.Prelude.{◌≡◌, ◌≤◌, ◌++◌, ◌⊎◌, ⊤, ℕ, List, [], ◌∷◌, IsTrue, IsUtf8, Result, MatchResult, IfErr, drop, length, Bool}
+use Rattle.std.specs.Prelude.{◌≡◌, ◌⊎◌, ⊤, ℕ, List, [], ◌∷◌, IsTrue, IsUtf8, Result, MatchResult, IfErr, length, Bool}
 use Rattle.std.specs.Global.{Global}
 use Rattle.std.specs.declared.vec.Vec.{Vec}
 use Rattle.base64.specs.GeneralPurpose.{IsBytes}

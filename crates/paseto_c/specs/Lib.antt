@@ -14,3 +14,4 @@ pub mod ErrorText
 pub mod Options
 pub mod Fault
 pub mod KeyText
+pub mod KeyPem

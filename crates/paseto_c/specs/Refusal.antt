@@ -11,8 +11,10 @@ use Rattle.rusty_paseto_generic.specs.declared.error.GenericParserError.{Generic
 use Rattle.rusty_paseto_generic.specs.declared.error.GenericParserError.TheVariants as Parser
 use Rattle.rusty_paseto_paserk.specs.declared.error.PaserkError.{PaserkError}
 use Rattle.rusty_paseto_paserk.specs.declared.error.PaserkError.TheVariants as Paserk
+use Rattle.paseto_pem.specs.declared.error.PemError.{PemError}
+use Rattle.paseto_pem.specs.declared.error.PemError.TheVariants as Pem
 use Rattle.paseto_c.specs.declared.refusal.Refusal.{Refusal}
-use Rattle.paseto_c.specs.declared.refusal.Refusal.TheVariants.{Memory, InvalidKey, InvalidNonce, NotUtf8, NotObject, InvalidMoment, IncorrectSize, FooterInvalid, WrongHeader, PayloadBase64Decode, Cryption, ChaChaCipherError, InvalidSignature, Utf8Error, FromUtf8Error, KeyRejected, Signature, PayloadJsonError, Expired, UseBeforeAvailable, Rfc3339Date, Missing, Unexpected, Invalid, DuplicateTopLevelPayloadClaim, Other, RsaCipher, TooLong, NotNames, NoPaserk, OtherVersion, OtherType}
+use Rattle.paseto_c.specs.declared.refusal.Refusal.TheVariants.{Memory, InvalidKey, InvalidNonce, NotUtf8, NotObject, InvalidMoment, IncorrectSize, FooterInvalid, WrongHeader, PayloadBase64Decode, Cryption, ChaChaCipherError, InvalidSignature, Utf8Error, FromUtf8Error, KeyRejected, Signature, PayloadJsonError, Expired, UseBeforeAvailable, Rfc3339Date, Missing, Unexpected, Invalid, DuplicateTopLevelPayloadClaim, Other, RsaCipher, TooLong, NotNames, NoPaserk, OtherVersion, OtherType, NotPem, EncryptedKey, OtherLabel, OtherAlgorithm, OtherCurve, OtherSize}
 
 -- the status of each, as in paseto.h; 0 is that of a text, and 1 that of room too short for it
 abbrev pub status_of : Refusal → ℕ
@@ -48,6 +50,12 @@ status_of NotNames = 30
 status_of NoPaserk = 31
 status_of OtherVersion = 32
 status_of OtherType = 33
+status_of NotPem = 34
+status_of EncryptedKey = 35
+status_of OtherLabel = 36
+status_of OtherAlgorithm = 37
+status_of OtherCurve = 38
+status_of OtherSize = 39
 
 -- the refusal for an error of the core
 abbrev pub token_refusal : PasetoError → Refusal
@@ -106,3 +114,14 @@ paserk_refusal (Paserk.OtherVersion _) = OtherVersion
 paserk_refusal (Paserk.OtherType _) = OtherType
 paserk_refusal Paserk.InvalidKey = InvalidKey
 paserk_refusal (Paserk.Memory _) = Memory
+
+-- the refusal for an error of a key's text in PEM
+abbrev pub pem_refusal : PemError → Refusal
+pem_refusal Pem.NotPem = NotPem
+pem_refusal Pem.Encrypted = EncryptedKey
+pem_refusal (Pem.OtherLabel _) = OtherLabel
+pem_refusal Pem.OtherAlgorithm = OtherAlgorithm
+pem_refusal Pem.OtherCurve = OtherCurve
+pem_refusal Pem.OtherSize = OtherSize
+pem_refusal Pem.InvalidKey = InvalidKey
+pem_refusal (Pem.Memory _) = Memory

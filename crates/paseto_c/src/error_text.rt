@@ -93,6 +93,12 @@ fn later_text(status: u8) -> &'static str
         31 => "The text is no PASERK key",
         32 => "The key is one of another version",
         33 => "The key is one of another type",
+        34 => "The text is no PEM",
+        35 => "The key is encrypted",
+        36 => "The text is another thing than such a key",
+        37 => "The key is one of another algorithm",
+        38 => "The key is one of another curve",
+        39 => "The key has another size",
         _ => "An unknown error occurred",
     }
 }

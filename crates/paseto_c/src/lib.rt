@@ -24,6 +24,7 @@ mod fault;
 mod footer;
 mod given;
 mod key_pair;
+mod key_pem;
 mod key_text;
 pub mod laws;
 mod local;
@@ -45,6 +46,15 @@ pub use error_text::paseto_error_text;
 pub use fault::Fault;
 pub use footer::paseto_footer;
 pub use key_pair::{paseto_v2_public_keypair, paseto_v3_public_keypair, paseto_v4_public_keypair};
+pub use key_pem::kind::paseto_pem_kind;
+pub use key_pem::pairs::{
+    paseto_v1_private_key_from_pem, paseto_v1_private_key_to_pem, paseto_v1_public_key_from_pem,
+    paseto_v1_public_key_to_pem, paseto_v2_private_key_from_pem, paseto_v2_private_key_to_pem,
+    paseto_v2_public_key_from_pem, paseto_v2_public_key_to_pem, paseto_v3_private_key_from_pem,
+    paseto_v3_private_key_to_pem, paseto_v3_public_key_from_pem, paseto_v3_public_key_to_pem,
+    paseto_v4_private_key_from_pem, paseto_v4_private_key_to_pem, paseto_v4_public_key_from_pem,
+    paseto_v4_public_key_to_pem,
+};
 pub use key_text::kind::paseto_key_kind;
 pub use key_text::local::{
     paseto_v1_local_key_from_paserk, paseto_v1_local_key_id, paseto_v1_local_key_to_paserk,

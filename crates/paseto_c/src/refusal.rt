@@ -2,8 +2,9 @@
 
 ghost use Rattle.std.specs.Prelude.{◌≡◌};
 ghost use Rattle.paseto_c.specs.declared.refusal.Refusal.TheVariants.{Memory};
-ghost use Rattle.paseto_c.specs.Refusal.{builder_refusal, claim_refusal, parser_refusal, paserk_refusal, status_of, token_refusal};
+ghost use Rattle.paseto_c.specs.Refusal.{builder_refusal, claim_refusal, parser_refusal, paserk_refusal, pem_refusal, status_of, token_refusal};
 
+use paseto_pem::PemError;
 use rusty_paseto_claims::PasetoClaimError;
 use rusty_paseto_core::PasetoError;
 use rusty_paseto_generic::{GenericBuilderError, GenericParserError};
@@ -77,6 +78,18 @@ pub enum Refusal {
     OtherVersion,
     /// A text begins as a key of another type.
     OtherType,
+    /// A text is no PEM in the strict form, or has a label that no key has.
+    NotPem,
+    /// A key in PEM is encrypted.
+    EncryptedKey,
+    /// A text in PEM has the label of another thing than such a key.
+    OtherLabel,
+    /// A key in PEM is one of another algorithm.
+    OtherAlgorithm,
+    /// A key in PEM is one of another curve.
+    OtherCurve,
+    /// A key in PEM is one of the algorithm, and of another size.
+    OtherSize,
 }
 
 impl Refusal {
@@ -117,6 +130,12 @@ impl Refusal {
             Refusal::NoPaserk => 31,
             Refusal::OtherVersion => 32,
             Refusal::OtherType => 33,
+            Refusal::NotPem => 34,
+            Refusal::EncryptedKey => 35,
+            Refusal::OtherLabel => 36,
+            Refusal::OtherAlgorithm => 37,
+            Refusal::OtherCurve => 38,
+            Refusal::OtherSize => 39,
         }
     }
 
@@ -201,6 +220,22 @@ impl Refusal {
             PaserkError::OtherType(_) => Refusal::OtherType,
             PaserkError::InvalidKey => Refusal::InvalidKey,
             PaserkError::Memory(_) => Refusal::Memory,
+        }
+    }
+
+    /// The refusal for an error of a key's text in PEM.
+    pub(crate) fn of_pem(error: &PemError) -> Refusal
+        ensures { result ≡ pem_refusal error.now }
+    {
+        match error {
+            PemError::NotPem => Refusal::NotPem,
+            PemError::Encrypted => Refusal::EncryptedKey,
+            PemError::OtherLabel(_) => Refusal::OtherLabel,
+            PemError::OtherAlgorithm => Refusal::OtherAlgorithm,
+            PemError::OtherCurve => Refusal::OtherCurve,
+            PemError::OtherSize => Refusal::OtherSize,
+            PemError::InvalidKey => Refusal::InvalidKey,
+            PemError::Memory(_) => Refusal::Memory,
         }
     }
 }

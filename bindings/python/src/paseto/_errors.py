@@ -186,6 +186,42 @@ class OtherType(InvalidKey):
     status = 33
 
 
+class NotPem(InvalidKey):
+    """The text is no PEM of a key in the strict form of RFC 7468."""
+
+    status = 34
+
+
+class EncryptedKey(InvalidKey):
+    """The key in PEM is encrypted."""
+
+    status = 35
+
+
+class OtherLabel(InvalidKey):
+    """The text in PEM is another thing than such a key, as its first line tells."""
+
+    status = 36
+
+
+class OtherAlgorithm(InvalidKey):
+    """The key in PEM is one of another algorithm."""
+
+    status = 37
+
+
+class OtherCurve(InvalidKey):
+    """The key in PEM is one of another curve."""
+
+    status = 38
+
+
+class OtherSize(InvalidKey):
+    """The key in PEM is one of RSA of another size than 2048 bits."""
+
+    status = 39
+
+
 class UnknownKey(Refused):
     """The footer of the token names no key, or none of the ring."""
 

@@ -1,4 +1,4 @@
-"""Keys of every version, by their bytes and as PASERK text."""
+"""Keys of every version, by their bytes, and as PASERK and PEM text."""
 
 from __future__ import annotations
 
@@ -50,6 +50,17 @@ class Key:
         """
         return self._told("to_paserk")
 
+    def to_pem(self) -> str:
+        """A private key or a public one as PEM text, byte for byte as ``openssl pkey`` writes it. A key for local tokens has no
+        such text.
+
+        >>> PrivateKey.generate().public.to_pem().splitlines()[0]
+        '-----BEGIN PUBLIC KEY-----'
+        """
+        if isinstance(self, LocalKey):
+            raise InvalidKey("a key for local tokens has no PEM text")
+        return ask(f"paseto_v{self._version}_{self._type}_key_to_pem", lent(self._bytes), 2048).decode()
+
     @property
     def id(self) -> str:
         """The PASERK id, ``k4.lid..``, which identifies the key without revealing it."""
@@ -63,20 +74,22 @@ class Key:
 
     @staticmethod
     def from_text(text: str) -> LocalKey | PrivateKey | PublicKey:
-        """The key of a PASERK text, with a line feed behind it or none: a line of a key file.
+        """The key of a text: of PASERK, a line of a key file, with a line feed behind it or none; or of PEM, as ``openssl``
+        writes it, for public tokens.
+
+        A key of Ed25519 in PEM counts as one of version 4, one of P-384 as one of version 3, and one of RSA as one of version
+        1. For version 2 it is taken by its bytes: ``PrivateKey(key.to_bytes(), 2)``.
 
         >>> key = LocalKey.generate()
         >>> Key.from_text(key.to_text()).id == key.id
         True
+        >>> pair = PrivateKey.generate()
+        >>> Key.from_text(pair.to_pem()).id == pair.id
+        True
         """
-        read, version, number = bytes_of(text.removesuffix("\n")), ctypes.c_uint8(), ctypes.c_uint8()
-        raise_for(CALLS["paseto_key_kind"](*lent(read), ctypes.byref(version), ctypes.byref(number)))
-        kinds: dict[int, type[LocalKey] | type[PrivateKey] | type[PublicKey]] = {1: LocalKey, 2: PrivateKey, 3: PublicKey}
-        kind = kinds[number.value]
-        call = f"paseto_v{version.value}_{kind._type}_key_from_paserk"
-        if call not in CALLS:
-            raise NoPaserk("a key pair of version 1 has no PASERK text here")
-        return kind(ask(call, lent(read), 64), version.value)
+        if text.startswith("-----BEGIN"):
+            return _read(text, "paseto_pem_kind", "from_pem", 2048)
+        return _read(text.removesuffix("\n"), "paseto_key_kind", "from_paserk", 64)
 
 
 class LocalKey(Key):
@@ -132,6 +145,18 @@ class PrivateKey(Key):
             raise InvalidKey("the public key of version 1 is made elsewhere, as by openssl")
         seed = self._bytes if self._version == 3 else self._bytes[:32]
         return PublicKey(_pair(seed, self._version)[1], self._version)
+
+
+def _read(text: str, kind_call: str, form: str, length: int) -> LocalKey | PrivateKey | PublicKey:
+    """The key of a text, whose version and type a first call tells."""
+    read, version, number = bytes_of(text), ctypes.c_uint8(), ctypes.c_uint8()
+    raise_for(CALLS[kind_call](*lent(read), ctypes.byref(version), ctypes.byref(number)))
+    kinds: dict[int, type[LocalKey] | type[PrivateKey] | type[PublicKey]] = {1: LocalKey, 2: PrivateKey, 3: PublicKey}
+    kind = kinds[number.value]
+    call = f"paseto_v{version.value}_{kind._type}_key_{form}"
+    if call not in CALLS:
+        raise NoPaserk("a key pair of version 1 has no PASERK text here")
+    return kind(ask(call, lent(read), length), version.value)
 
 
 def _pair(seed: bytes, version: int) -> tuple[bytes, bytes]:

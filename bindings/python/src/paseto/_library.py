@@ -37,6 +37,7 @@ _ROOM: list[Any] = [ctypes.c_char_p, ctypes.c_size_t]
 _ANSWER: list[Any] = [*_ROOM, ctypes.POINTER(ctypes.c_size_t)]
 _MOMENT: list[Any] = [ctypes.c_int64]
 _OPTIONS: list[Any] = [ctypes.POINTER(Options)]
+_KIND: list[Any] = [ctypes.POINTER(ctypes.c_uint8), ctypes.POINTER(ctypes.c_uint8)]
 
 
 def _kinds() -> dict[str, list[Any]]:
@@ -44,7 +45,8 @@ def _kinds() -> dict[str, list[Any]]:
     kinds: dict[str, list[Any]] = {
         "paseto_footer": [*_SLICE, *_ANSWER],
         "paseto_error_text": [ctypes.c_uint8, *_ANSWER],
-        "paseto_key_kind": [*_SLICE, ctypes.POINTER(ctypes.c_uint8), ctypes.POINTER(ctypes.c_uint8)],
+        "paseto_key_kind": [*_SLICE, *_KIND],
+        "paseto_pem_kind": [*_SLICE, *_KIND],
     }
     for version in range(1, 5):
         # Behind the rest stand the footer, and the implicit assertion where the version binds one.
@@ -64,6 +66,9 @@ def _kinds() -> dict[str, list[Any]]:
             kinds[f"{public}_keypair"] = [*_SLICE, *_ROOM, *_ROOM]
         for key_type in ("local", "private", "public") if version != 1 else ("local",):
             for text in ("to_paserk", "from_paserk", "id"):
+                kinds[f"paseto_v{version}_{key_type}_key_{text}"] = [*_SLICE, *_ANSWER]
+        for key_type in ("private", "public"):
+            for text in ("to_pem", "from_pem"):
                 kinds[f"paseto_v{version}_{key_type}_key_{text}"] = [*_SLICE, *_ANSWER]
     return kinds
 

@@ -19,6 +19,8 @@ pub enum PasetoError {
     KeyRejected,
     /// The halves of a private key are of two keys.
     Signature,
+    /// The numbers of a private key of version 1 are not of one key.
+    RsaCipher,
     /// The signature is not valid.
     InvalidSignature,
     /// The token has not three or four sections, or too short a payload.
@@ -43,7 +45,7 @@ impl fmt::Display for PasetoError {
     fn fmt(&self, f: &mut fmt::Formatter<'_>) -> fmt::Result {
         f.write_str(match self {
             PasetoError::Cryption => "An unspecified cryption error occured",
-            PasetoError::ChaChaCipherError | PasetoError::Cipher => {
+            PasetoError::ChaChaCipherError | PasetoError::Cipher | PasetoError::RsaCipher => {
                 "An unspecified cipher error occurred"
             }
             PasetoError::InvalidKey => "Key was not in the correct format",

@@ -181,6 +181,21 @@ macro_rules! nonce {
 
 nonce!(V1, V2, V3, V4);
 
+impl<'a> From<&'a [u8]> for PasetoAsymmetricPrivateKey<'a, V1, Public> {
+    /// The key of a `PrivateKeyInfo` of PKCS #8 in DER, of an RSA key of 2048 bits with the exponent 65537. Nothing is asked of it
+    /// here: signing refuses what is none.
+    fn from(key: &'a [u8]) -> Self {
+        PasetoAsymmetricPrivateKey::of(key)
+    }
+}
+
+impl<'a> From<&'a [u8]> for PasetoAsymmetricPublicKey<'a, V1, Public> {
+    /// The key of a `RSAPublicKey` of PKCS #1 in DER. Nothing is asked of it here: under what is none no signature is valid.
+    fn from(key: &'a [u8]) -> Self {
+        PasetoAsymmetricPublicKey::of(key)
+    }
+}
+
 impl<'a, Version: V2orV4> From<&'a [u8]> for PasetoAsymmetricPrivateKey<'a, Version, Public> {
     fn from(key: &'a [u8]) -> Self {
         PasetoAsymmetricPrivateKey::of(key)

@@ -1,7 +1,7 @@
 //! Tokens: encrypted and decrypted, signed and verified.
 
 use crate::core::{
-    Footer, ImplicitAssertion, ImplicitAssertionCapable, Local, PasetoAsymmetricPrivateKey,
+    Footer, ImplicitAssertion, ImplicitAssertionCapable, Key, Local, PasetoAsymmetricPrivateKey,
     PasetoAsymmetricPublicKey, PasetoError, PasetoNonce, PasetoSymmetricKey, Payload, Public,
     PurposeTrait, VersionTrait, V1, V2, V3, V4,
 };
@@ -113,6 +113,35 @@ local!(V1, v1_local_encrypt, v1_local_decrypt);
 local!(V2, v2_local_encrypt, v2_local_decrypt);
 local!(V3, v3_local_encrypt, v3_local_decrypt, implicit_assertion);
 local!(V4, v4_local_encrypt, v4_local_decrypt, implicit_assertion);
+
+impl<'a> Paseto<'a, V1, Public> {
+    /// The token of the payload, signed by a private key and with a salt that the system draws.
+    ///
+    /// `KeyRejected` comes for what is no private key, `RsaCipher` where its numbers are not of one key, `Cipher` where the
+    /// system gives no random bytes, and `Memory` where the library finds none.
+    pub fn try_sign(
+        &self,
+        key: &PasetoAsymmetricPrivateKey<'_, V1, Public>,
+    ) -> Result<String, PasetoError> {
+        let salt = Key::<48>::try_new_random()?;
+        let footer = self.footer.unwrap_or_default();
+        let token = library::v1_public_sign(key.as_ref(), salt.as_ref(), &self.payload, &footer)?;
+        Ok(self.finished(token))
+    }
+
+    /// The text of a token, verified under the footer that is expected; none is the empty one.
+    ///
+    /// Else the first of these: `IncorrectSize`, `FooterInvalid`, `WrongHeader`, `PayloadBase64Decode`, `InvalidSignature` and
+    /// `FromUtf8Error`. `Memory` may come in place of any.
+    pub fn try_verify(
+        token: &str,
+        key: &PasetoAsymmetricPublicKey<'_, V1, Public>,
+        footer: impl Into<Option<Footer<'a>>> + Copy,
+    ) -> Result<String, PasetoError> {
+        let footer = footer.into().unwrap_or_default();
+        library::v1_public_verify(key.as_ref(), token.as_bytes(), &footer)
+    }
+}
 
 macro_rules! public {
     ($version:ident, $sign:ident, $verify:ident $(, $assertion:ident)?) => {

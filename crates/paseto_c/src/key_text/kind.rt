@@ -28,7 +28,7 @@ pub extern "C" fn paseto_key_kind(text: &[u8], version: &mut u8, kind: &mut u8) 
 }
 
 /// The number of a version.
-fn version_number(version: PaserkVersion) -> u8
+pub(crate) fn version_number(version: PaserkVersion) -> u8
     ensures { result ≡ version_number version }
 {
     match version {
@@ -40,7 +40,7 @@ fn version_number(version: PaserkVersion) -> u8
 }
 
 /// The number of a type.
-fn type_number(kind: PaserkType) -> u8
+pub(crate) fn type_number(kind: PaserkType) -> u8
     ensures { result ≡ type_number kind }
 {
     match kind {
