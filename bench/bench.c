@@ -598,6 +598,189 @@ static uint64_t peer_argon2id(const struct subject *subject, uint8_t *out, uint3
     return sum;
 }
 
+/* Keys that are wrapped: the key is the nonce of the other rows, under the first bytes of the long key. The peer's text is
+   prepared, and both sides make the same one. */
+#define ITERATIONS 100000
+#define MEMORY (64u << 20)
+#define PASSES 2
+
+/* The sum of the last bytes of what a peer makes so often, which is written to `out`. It has to have the length. */
+static uint64_t peer_makes(struct peer_bytes (*make)(void), size_t length, uint8_t *out, uint32_t reps)
+{
+    uint64_t sum = 0;
+    for (uint32_t repetition = 0; repetition < reps; repetition++) {
+        struct peer_bytes made = make();
+        if (made.bytes == NULL || made.length != length) {
+            free(made.bytes);
+            return FAILED;
+        }
+        sum += made.bytes[length - 1];
+        memcpy(out, made.bytes, length);
+        free(made.bytes);
+    }
+    return sum;
+}
+
+static struct peer_bytes v3_wrapped(void)
+{
+    return peer_v3_wrap(long_key, key, nonce);
+}
+
+static struct peer_bytes v4_wrapped(void)
+{
+    return peer_v4_wrap(long_key, key, nonce);
+}
+
+static struct peer_bytes v3_unwrapped(void)
+{
+    return peer_v3_unwrap(long_key, token, token_length);
+}
+
+static struct peer_bytes v4_unwrapped(void)
+{
+    return peer_v4_unwrap(long_key, token, token_length);
+}
+
+static struct peer_bytes v3_protected(void)
+{
+    return peer_v3_protect(long_key, 48, key, long_key, nonce);
+}
+
+static struct peer_bytes v4_protected(void)
+{
+    return peer_v4_protect(long_key, 48, key, long_key, nonce);
+}
+
+static struct peer_bytes v3_sealed(void)
+{
+    return peer_v3_seal_key(point, long_key, nonce);
+}
+
+static struct peer_bytes v4_sealed(void)
+{
+    return peer_v4_seal_key(public_key, long_key, nonce);
+}
+
+static struct peer_bytes v3_unsealed(void)
+{
+    return peer_v3_unseal_key(long_key, token, token_length);
+}
+
+static struct peer_bytes v4_unsealed(void)
+{
+    return peer_v4_unseal_key(private_key, token, token_length);
+}
+
+static uint64_t ours_wrap(uint32_t version, uint8_t *out, uint32_t reps)
+{
+    return paseto_bench_wrap_local(version, long_key, 32, key, 32, nonce, 32, out, token_length, reps);
+}
+
+static uint64_t ours_unwrap(uint32_t version, uint8_t *out, uint32_t reps)
+{
+    return paseto_bench_unwrap_local(version, long_key, 32, token, token_length, out, 32, reps);
+}
+
+static uint64_t ours_protect(uint32_t version, uint8_t *out, uint32_t reps)
+{
+    size_t salt_length = version == 3 ? 32 : 16, nonce_length = version == 3 ? 16 : 24;
+    return paseto_bench_protect_local(version, long_key, 48, ITERATIONS, MEMORY, PASSES, key, salt_length, long_key,
+                                      nonce_length, nonce, 32, out, token_length, reps);
+}
+
+static uint64_t ours_seal_key(uint32_t version, uint8_t *out, uint32_t reps)
+{
+    return version == 3 ? paseto_bench_seal_key(3, point, 49, long_key, 48, nonce, 32, out, token_length, reps)
+                        : paseto_bench_seal_key(4, public_key, 32, long_key, 32, nonce, 32, out, token_length, reps);
+}
+
+static uint64_t ours_unseal_key(uint32_t version, uint8_t *out, uint32_t reps)
+{
+    return version == 3 ? paseto_bench_unseal_key(3, long_key, 48, token, token_length, out, 32, reps)
+                        : paseto_bench_unseal_key(4, private_key, 64, token, token_length, out, 32, reps);
+}
+
+/* The two sides of a row of version V, where the peer makes what has the length. */
+#define KEY_ROW(v, ours_call, made, length)                                                        \
+    static uint64_t ours_##made(const struct subject *subject, uint8_t *out, uint32_t reps)        \
+    {                                                                                              \
+        (void)subject;                                                                             \
+        return ours_call(v, out, reps);                                                            \
+    }                                                                                              \
+    static uint64_t peer_##made(const struct subject *subject, uint8_t *out, uint32_t reps)        \
+    {                                                                                              \
+        (void)subject;                                                                             \
+        return peer_makes(made, length, out, reps);                                                \
+    }
+
+KEY_ROW(3, ours_wrap, v3_wrapped, token_length)
+KEY_ROW(4, ours_wrap, v4_wrapped, token_length)
+KEY_ROW(3, ours_unwrap, v3_unwrapped, 32)
+KEY_ROW(4, ours_unwrap, v4_unwrapped, 32)
+KEY_ROW(3, ours_protect, v3_protected, token_length)
+KEY_ROW(4, ours_protect, v4_protected, token_length)
+KEY_ROW(3, ours_seal_key, v3_sealed, token_length)
+KEY_ROW(4, ours_seal_key, v4_sealed, token_length)
+KEY_ROW(3, ours_unseal_key, v3_unsealed, 32)
+KEY_ROW(4, ours_unseal_key, v4_unsealed, 32)
+
+/* The peer's text, which the row makes or reads. */
+#define PREPARED(made)                                                                             \
+    static struct peer_bytes prepared_##made(const struct subject *subject)                        \
+    {                                                                                              \
+        (void)subject;                                                                             \
+        return made();                                                                             \
+    }
+
+PREPARED(v3_wrapped)
+PREPARED(v4_wrapped)
+PREPARED(v3_protected)
+PREPARED(v4_protected)
+PREPARED(v3_sealed)
+PREPARED(v4_sealed)
+
+static uint64_t ours_x25519(const struct subject *subject, uint8_t *out, uint32_t reps)
+{
+    (void)subject;
+    return paseto_bench_x25519(key, 32, nonce, 32, out, 32, reps);
+}
+
+/* The last is that of the scalar as it is. */
+static uint64_t peer_x25519(const struct subject *subject, uint8_t *out, uint32_t reps)
+{
+    (void)subject;
+    uint8_t numbered[32];
+    uint64_t sum = 0;
+    memcpy(numbered, key, sizeof numbered);
+    for (uint32_t repetition = 1; repetition <= reps; repetition++) {
+        write_number(numbered + 1, repetition);
+        if (crypto_scalarmult(out, repetition == reps ? key : numbered, nonce) != 0) {
+            return FAILED;
+        }
+        sum += out[0];
+    }
+    return sum;
+}
+
+static uint64_t ours_pbkdf2(const struct subject *subject, uint8_t *out, uint32_t reps)
+{
+    (void)subject;
+    return paseto_bench_pbkdf2(long_key, 48, key, 32, ITERATIONS, out, 48, reps);
+}
+
+static uint64_t peer_pbkdf2_often(const struct subject *subject, uint8_t *out, uint32_t reps)
+{
+    (void)subject;
+    uint64_t sum = 0;
+    for (uint32_t repetition = 0; repetition < reps; repetition++) {
+        if (!peer_pbkdf2(long_key, 48, key, out)) {
+            return FAILED;
+        }
+        sum += out[47];
+    }
+    return sum;
+}
+
 /* The keys of RSA in their encodings, and the peer's signature of the row's text. */
 static struct peer_bytes rsa_private, rsa_public;
 static uint8_t rsa_signature[256];
@@ -842,7 +1025,12 @@ static struct peer_bytes claims_prepared(const struct subject *subject)
     return made;
 }
 
-#define SUBJECTS 35
+/* A row of keys: what both sides make, and the peer's text that is prepared. */
+#define KEYS(title, made, text, length)                                                            \
+    {.name = title, .has_one_row = true, .ours = ours_##made, .peer = peer_##made,                 \
+     .out_length = length, .prepared = prepared_##text}
+
+#define SUBJECTS 47
 static const struct subject subjects[SUBJECTS] = {
     TOKENS(4),
     TOKENS(3),
@@ -879,6 +1067,18 @@ static const struct subject subjects[SUBJECTS] = {
     {.name = "RSA sign", .ours = ours_rsa_sign, .peer = peer_rsa_signs, .out_length = nothing},
     {.name = "RSA verify", .ours = ours_rsa_verify, .peer = peer_rsa_verifies, .out_length = nothing},
     {.name = "RSA read", .ours = ours_rsa_read_verify, .peer = peer_rsa_read_verifies, .out_length = nothing},
+    KEYS("wrap v4", v4_wrapped, v4_wrapped, token_size),
+    KEYS("unwrap v4", v4_unwrapped, v4_wrapped, digest_size),
+    KEYS("wrap v3", v3_wrapped, v3_wrapped, token_size),
+    KEYS("unwrap v3", v3_unwrapped, v3_wrapped, digest_size),
+    KEYS("password v4", v4_protected, v4_protected, token_size),
+    KEYS("password v3", v3_protected, v3_protected, token_size),
+    KEYS("seal key v4", v4_sealed, v4_sealed, token_size),
+    KEYS("unseal key v4", v4_unsealed, v4_sealed, digest_size),
+    KEYS("seal key v3", v3_sealed, v3_sealed, token_size),
+    KEYS("unseal key v3", v3_unsealed, v3_sealed, digest_size),
+    {.name = "X25519", .has_one_row = true, .ours = ours_x25519, .peer = peer_x25519, .out_length = digest_size},
+    {.name = "PBKDF2", .has_one_row = true, .ours = ours_pbkdf2, .peer = peer_pbkdf2_often, .out_length = hmac_size},
     {.name = "build/jansson", .has_one_row = true, .ours = ours_build, .peer = jansson_builds,
      .out_length = claims_token_size, .prepared = claims_prepared},
     {.name = "build/cJSON", .has_one_row = true, .ours = ours_build, .peer = cjson_builds,

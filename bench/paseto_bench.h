@@ -73,6 +73,53 @@ paseto_bench_rsa_verifying paseto_bench_rsa_verify, paseto_bench_rsa_verify_read
 uint64_t paseto_bench_argon2id(const uint8_t *password, size_t password_length, const uint8_t *salt,
                                size_t salt_length, uint8_t *key, size_t key_length, uint32_t reps);
 
+uint64_t paseto_bench_pbkdf2(const uint8_t *password, size_t password_length, const uint8_t *salt,
+                             size_t salt_length, uint32_t iterations, uint8_t *key, size_t key_length,
+                             uint32_t reps);
+
+uint64_t paseto_bench_x25519(const uint8_t *scalar, size_t scalar_length, const uint8_t *u, size_t u_length,
+                             uint8_t *shared, size_t shared_length, uint32_t reps);
+
+/* A version is named by its number. */
+uint64_t paseto_bench_wrap_local(uint32_t version, const uint8_t *wrapping_key, size_t wrapping_key_length,
+                                 const uint8_t *nonce, size_t nonce_length, const uint8_t *key, size_t key_length,
+                                 uint8_t *text, size_t text_length, uint32_t reps);
+uint64_t paseto_bench_unwrap_local(uint32_t version, const uint8_t *wrapping_key, size_t wrapping_key_length,
+                                   const uint8_t *text, size_t text_length, uint8_t *key, size_t key_length,
+                                   uint32_t reps);
+uint64_t paseto_bench_protect_local(uint32_t version, const uint8_t *password, size_t password_length,
+                                    uint32_t iterations, uint64_t memory, uint32_t passes, const uint8_t *salt,
+                                    size_t salt_length, const uint8_t *nonce, size_t nonce_length, const uint8_t *key,
+                                    size_t key_length, uint8_t *text, size_t text_length, uint32_t reps);
+uint64_t paseto_bench_unprotect_local(uint32_t version, const uint8_t *password, size_t password_length,
+                                      const uint8_t *text, size_t text_length, uint8_t *key, size_t key_length,
+                                      uint32_t reps);
+uint64_t paseto_bench_seal_key(uint32_t version, const uint8_t *public, size_t public_length,
+                               const uint8_t *ephemeral, size_t ephemeral_length, const uint8_t *key,
+                               size_t key_length, uint8_t *text, size_t text_length, uint32_t reps);
+uint64_t paseto_bench_unseal_key(uint32_t version, const uint8_t *private, size_t private_length,
+                                 const uint8_t *text, size_t text_length, uint8_t *key, size_t key_length,
+                                 uint32_t reps);
+
+/* What is asked of private keys once: tests/secrets.sh follows it. */
+uint64_t paseto_bench_wrap_secret(uint32_t version, const uint8_t *wrapping_key, size_t wrapping_key_length,
+                                  const uint8_t *nonce, size_t nonce_length, const uint8_t *key, size_t key_length,
+                                  uint8_t *text, size_t text_length);
+uint64_t paseto_bench_unwrap_secret(uint32_t version, const uint8_t *wrapping_key, size_t wrapping_key_length,
+                                    const uint8_t *text, size_t text_length, uint8_t *key, size_t key_length);
+uint64_t paseto_bench_protect_secret(uint32_t version, const uint8_t *password, size_t password_length,
+                                     uint32_t iterations, uint64_t memory, uint32_t passes, const uint8_t *salt,
+                                     size_t salt_length, const uint8_t *nonce, size_t nonce_length,
+                                     const uint8_t *key, size_t key_length, uint8_t *text, size_t text_length);
+uint64_t paseto_bench_unprotect_secret(uint32_t version, const uint8_t *password, size_t password_length,
+                                       const uint8_t *text, size_t text_length, uint8_t *key, size_t key_length);
+uint64_t paseto_bench_pem_write(uint32_t version, const uint8_t *key, size_t key_length, uint8_t *text,
+                                size_t text_length);
+uint64_t paseto_bench_pem_read(uint32_t version, const uint8_t *text, size_t text_length, uint8_t *key,
+                               size_t key_length);
+uint64_t paseto_bench_pem_read_contents(uint32_t version, const uint8_t *contents, size_t contents_length,
+                                        uint8_t *key, size_t key_length);
+
 uint64_t paseto_bench_json_read(const uint8_t *text, size_t text_length, uint32_t reps);
 
 #endif

@@ -1,6 +1,6 @@
 /* PASETO tokens as a user of libsodium (local ones of versions 2 and 4, and public ones of version 4) and of
    OpenSSL (local ones of versions 1 and 3, and public ones of version 3) writes them, with no footer and no
-   implicit assertion. */
+   implicit assertion, and keys of versions 3 and 4 as PASERK wraps them. */
 #ifndef PEER_H
 #define PEER_H
 
@@ -51,6 +51,9 @@ bool peer_p384_start(const uint8_t private[48], const uint8_t public[49]);
 /* The compressed public key of a private key. */
 bool peer_p384_public_key(const uint8_t private[48], uint8_t public[49]);
 
+/* What a private key and a public key share. */
+bool peer_p384_shared(const uint8_t private[48], const uint8_t public[49], uint8_t shared[48]);
+
 /* A signature of a message, by SHA-384. */
 bool peer_p384_sign(const uint8_t *message, size_t length, uint8_t signature[96]);
 
@@ -69,5 +72,28 @@ bool peer_rsa_verify(const uint8_t *message, size_t length, const uint8_t signat
 /* The same under a public key in PKCS #1, which is read first. */
 bool peer_rsa_read_verify(const uint8_t *public, size_t public_length, const uint8_t *message, size_t length,
                           const uint8_t signature[256]);
+
+/* The text of a key of local tokens under a wrapping key, and the key of such a text. */
+typedef struct peer_bytes peer_wrap(const uint8_t wrapping_key[32], const uint8_t nonce[32], const uint8_t key[32]);
+typedef struct peer_bytes peer_unwrap(const uint8_t wrapping_key[32], const uint8_t *text, size_t length);
+
+peer_wrap peer_v3_wrap, peer_v4_wrap;
+peer_unwrap peer_v3_unwrap, peer_v4_unwrap;
+
+/* The text of a key of local tokens under a password: by 100,000 iterations in version 3, and by 64 MiB and two passes in
+   version 4. */
+struct peer_bytes peer_v3_protect(const uint8_t *password, size_t length, const uint8_t salt[32],
+                                  const uint8_t nonce[16], const uint8_t key[32]);
+struct peer_bytes peer_v4_protect(const uint8_t *password, size_t length, const uint8_t salt[16],
+                                  const uint8_t nonce[24], const uint8_t key[32]);
+
+/* The key that a password gives by those 100,000 iterations. */
+bool peer_pbkdf2(const uint8_t *password, size_t length, const uint8_t salt[32], uint8_t key[48]);
+
+/* The text of a key of local tokens that is sealed to a public key, and the key of such a text. */
+struct peer_bytes peer_v3_seal_key(const uint8_t public_key[49], const uint8_t ephemeral[48], const uint8_t key[32]);
+struct peer_bytes peer_v4_seal_key(const uint8_t public_key[32], const uint8_t ephemeral[32], const uint8_t key[32]);
+struct peer_bytes peer_v3_unseal_key(const uint8_t private_key[48], const uint8_t *text, size_t length);
+struct peer_bytes peer_v4_unseal_key(const uint8_t private_key[64], const uint8_t *text, size_t length);
 
 #endif

@@ -38,6 +38,21 @@ bool peer_p384_public_key(const uint8_t private[48], uint8_t public[49])
     return made;
 }
 
+bool peer_p384_shared(const uint8_t private[48], const uint8_t public[49], uint8_t shared[48])
+{
+    const EC_GROUP *group = EC_KEY_get0_group(signing_key);
+    EC_POINT *point = EC_POINT_new(group);
+    BIGNUM *number = BN_bin2bn(private, 48, NULL), *x = BN_new();
+    bool made = EC_POINT_oct2point(group, point, public, 49, NULL) == 1
+                && EC_POINT_mul(group, point, NULL, point, number, NULL) == 1
+                && EC_POINT_get_affine_coordinates(group, point, x, NULL, NULL) == 1
+                && BN_bn2binpad(x, shared, 48) == 48;
+    EC_POINT_free(point);
+    BN_free(number);
+    BN_free(x);
+    return made;
+}
+
 bool peer_p384_sign(const uint8_t *message, size_t length, uint8_t signature[96])
 {
     uint8_t digest[48];

@@ -1,6 +1,6 @@
 #!/usr/bin/env bash
-# Measures sealing, opening, signing, verifying and the primitives beside libsodium and OpenSSL, and tokens of claims
-# beside libsodium with jansson and with cJSON.
+# Measures sealing, opening, signing, verifying, wrapping keys and the primitives beside libsodium and OpenSSL, and tokens
+# of claims beside libsodium with jansson and with cJSON.
 #
 #   bench/run.sh [--quick] [--cpu NAME] [SUBJECT..]
 #
@@ -40,7 +40,7 @@ bash ../c/build.sh out/c --built
 kit=$(dirname "$(rt doc)")
 cc -O2 -std=c11 -D_POSIX_C_SOURCE=200809L -Wall -Wextra -Iout/c/include -o out/bench \
     bench.c base64url.c peer_common.c peer_v2.c peer_v4.c peer_public.c peer_nist.c peer_p384.c peer_rsa.c \
-    peer_claims.c out/c/lib/libpaseto.a \
+    peer_claims.c peer_wrapping.c out/c/lib/libpaseto.a \
     ../crates/paseto_bench/out/libpaseto_bench.a "$kit/c/liblibc_c.a" "$kit/c/libos_c.a" \
     -lsodium -lcrypto -ljansson -lcjson
 

@@ -12,14 +12,24 @@
      secrets p384 key           private keys are undefined, and their public keys are made
      secrets p384 sign          private keys are undefined, and texts of each length are signed
      secrets p384 agree         private keys are undefined, and what each shares with a public key is made
+     secrets VERSION wrap       the wrapping key and the keys are undefined, and a key of local tokens and a private key are
+                                wrapped
+     secrets VERSION unwrap     the wrapping key is undefined, and a key of local tokens is unwrapped; so for
+                                unwrap_secret a private key, and for unwrap_refused a key whose tag was changed
+     secrets VERSION protect    the password and the keys are undefined, and both keys are put under it; and unprotect,
+                                unprotect_secret and unprotect_refused as with a wrapping key
+     secrets VERSION seal_key   the ephemeral secret key and the key are undefined, and the key is sealed to a public key
+     secrets VERSION unseal_key the private key is undefined, and what was sealed for it is unsealed; and unseal_refused
+     secrets VERSION pem_write  the private key is undefined, and is written in PEM
+     secrets VERSION pem_read   the characters of its text are undefined, and it is read
+     secrets VERSION pem_contents  the secret numbers in its contents are undefined, and these are read
      secrets rsa sign           private keys are read from standard input, a line of hexadecimal digits each; the numbers
                                 that only a private key has are undefined, and texts of each length are signed
      secrets control control    no call: a jump and an address of this file itself, which have to be reported
 
    The status is 0 where each call answered as it should. */
-#include "../bench/paseto_bench.h"
+#include "secrets.h"
 
-#include <stdbool.h>
 #include <stdio.h>
 #include <stdlib.h>
 #include <string.h>
@@ -27,13 +37,13 @@
 
 enum { KEY = 32, NONCE = 32, BOX_NONCE = 24, LONGEST_TEXT = 1000, HEADER = 9, SIGNATURE = 64, RSA_SIGNATURE = 256 };
 
-/* The longest private key of RSA, and where the INTEGERs in it begin: behind two headers, the version, the algorithm and
-   one header more. */
-enum { LONGEST_RSA_KEY = 1300, RSA_INTEGERS = 30 };
+/* Where the INTEGERs in a private key of RSA begin: behind two headers, the version, the algorithm and one header more. */
+enum { RSA_INTEGERS = 30 };
 
 /* Around one block of each cipher and of each hash. */
 static const size_t LENGTHS[] = {0, 1, 63, 64, 65, 127, 128, 129, 256, 300, LONGEST_TEXT};
 enum { LENGTH_COUNT = sizeof LENGTHS / sizeof *LENGTHS };
+_Static_assert((int)LENGTH_COUNT == (int)ROUNDS, "each call is asked equally often");
 
 /* What is sealed: a token, of a header and the base64url encoding of a nonce, the ciphertext and a tag; or a box,
    of the ciphertext and a tag alone. */
@@ -75,8 +85,7 @@ typedef struct {
     uint8_t key[KEY], nonce[NONCE], text[LONGEST_TEXT];
 } material;
 
-/* How long the base64url encoding of so many bytes is. */
-static size_t encoded(size_t length) { return (4 * length + 2) / 3; }
+size_t encoded(size_t length) { return (4 * length + 2) / 3; }
 
 static size_t token_length(const version *v, size_t text) {
     size_t payload = v->nonce + text + v->tag;
@@ -92,9 +101,7 @@ static material *make_material(void) {
     return made;
 }
 
-/* Whether a call was no failure. What it answers is made of secrets, and which it is has been public since it
-   returned. */
-static bool done(uint64_t answer) {
+bool done(uint64_t answer) {
     VALGRIND_MAKE_MEM_DEFINED(&answer, sizeof answer);
     return answer != PASETO_BENCH_FAILED;
 }
@@ -103,10 +110,7 @@ static bool seals(const version *v, const material *m, size_t length, uint8_t *t
     return done(v->seal(m->key, KEY, m->nonce, NONCE, m->text, length, token, token_length(v, length), 1));
 }
 
-/* Another letter near the end of the token, where the tag stands. */
-static void change_tag(uint8_t *token, size_t length) {
-    token[length - 8] = token[length - 8] == 'A' ? 'B' : 'A';
-}
+void change_letter(uint8_t *text, size_t place) { text[place] = text[place] == 'A' ? 'B' : 'A'; }
 
 static int seal_all(const version *v, bool text_too) {
     material *m = make_material();
@@ -124,7 +128,8 @@ static int open_all(const version *v, bool changed) {
     uint8_t tokens[LENGTH_COUNT][HEADER + 2 * LONGEST_TEXT], text[LONGEST_TEXT];
     for (size_t i = 0; i < LENGTH_COUNT; i++) {
         if (!seals(v, m, LENGTHS[i], tokens[i])) return 0;
-        if (changed) change_tag(tokens[i], token_length(v, LENGTHS[i]));
+        /* The tag stands near the end. */
+        if (changed) change_letter(tokens[i], token_length(v, LENGTHS[i]) - 8);
     }
     VALGRIND_MAKE_MEM_UNDEFINED(m->key, KEY);
     int right = 0;
@@ -164,8 +169,7 @@ static int sign_all(paseto_bench_digest *sign) {
     return right;
 }
 
-/* The private keys of P-384: small, large, and of mixed bits. */
-static void private_key(uint8_t key[48], size_t i) {
+void private_key(uint8_t key[48], size_t i) {
     memset(key, i % 3 == 0 ? 0 : i % 3 == 1 ? 0xa5 : 0x3c, 48);
     key[47] = (uint8_t)(i + 1);
 }
@@ -198,8 +202,7 @@ static int p384_agree_all(void) {
     return right;
 }
 
-/* Reads a key of hexadecimal digits, and gives how many bytes it has. */
-static size_t read_rsa_key(uint8_t *key) {
+size_t read_rsa_key(uint8_t *key) {
     char line[2 * LONGEST_RSA_KEY + 2];
     size_t length = 0;
     if (fgets(line, sizeof line, stdin) == NULL) return 0;
@@ -207,9 +210,7 @@ static size_t read_rsa_key(uint8_t *key) {
     return length;
 }
 
-/* Marks the contents of the last six INTEGERs of a private key, d, p, q, dP, dQ and qInv, behind the version, n and e.
-   How long each is stays defined. */
-static bool mark_rsa_numbers(uint8_t *key, size_t key_length) {
+bool mark_rsa_numbers(uint8_t *key, size_t key_length) {
     size_t at = RSA_INTEGERS;
     for (int number = 0; number < 9; number++) {
         if (at + 4 > key_length || key[at] != 2) return false;
@@ -269,6 +270,7 @@ int main(int argc, char **argv) {
         if (strcmp(argv[2], "refused") == 0) right = open_all(v, true);
         if (strcmp(argv[2], "open") == 0) right = open_all(v, false);
     }
+    if (right < 0) right = ask_keys(argv[1], argv[2]);
     if (right < 0) return 2;
     return right == LENGTH_COUNT ? 0 : 1;
 }

@@ -37,7 +37,7 @@ if [ "$is_built" -eq 0 ] && ! python3 "$root/tools/prove.py" "${cpu[@]}" paseto_
     finish
 fi
 kit=$(dirname "$(rt doc)")
-if ! cc -std=c11 -Wall -Wextra -Werror -O1 -o "$work/secrets" "$root/tests/secrets.c" \
+if ! cc -std=c11 -Wall -Wextra -Werror -O1 -o "$work/secrets" "$root/tests/secrets.c" "$root/tests/secrets_of_keys.c" \
     "$root/crates/paseto_bench/out/libpaseto_bench.a" "$kit/c/liblibc_c.a" "$kit/c/libos_c.a"; then
     fail 'the driver is not built'
     finish
@@ -84,7 +84,7 @@ check() {
         fi
     done <"$work/found"
     [ "$told" -eq 1 ] || pass
-    printf '%-7s %-10s %3d places\n' "$1" "$2" "$(reports "$work/log" | wc -l)"
+    printf '%-7s %-17s %3d places\n' "$1" "$2" "$(reports "$work/log" | wc -l)"
 }
 
 # The test is able to fail: a jump on the key and an address at it, in the driver itself, are reported.
@@ -106,4 +106,15 @@ check p384 key
 check p384 sign
 check p384 agree
 check rsa sign
+for version in v1 v2 v3 v4; do
+    for call in wrap unwrap unwrap_secret unwrap_refused protect unprotect unprotect_secret unprotect_refused \
+        pem_write pem_read pem_contents; do
+        check "$version" "$call"
+    done
+done
+for version in v2 v3 v4; do
+    for call in seal_key unseal_key unseal_refused; do
+        check "$version" "$call"
+    done
+done
 finish

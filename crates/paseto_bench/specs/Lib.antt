@@ -1,3 +1,6 @@
 pub mod Boxed
+pub mod Pem
 pub mod Signed
 pub mod Tokens
+pub mod Versions
+pub mod Wrapped

@@ -2,9 +2,11 @@
 
 ghost use Rattle.std.specs.Prelude.{◌≡◌, ◌≢◌, ◌^◌, ◌-◌, [], IsSome, length};
 ghost use Rattle.paseto_argon2.specs.Derivation.{argon2id};
+ghost use Rattle.paseto_pbkdf2.specs.Pbkdf2.{derived_key};
 
 use crate::copying::last_byte;
 use paseto_argon2::{Parameters, argon2id};
+use paseto_pbkdf2::pbkdf2_sha384;
 use std::alloc::Global;
 
 /// What is answered where something is not allowed or memory was refused.
@@ -32,6 +34,30 @@ pub extern "C" fn paseto_bench_argon2id(
         → key.new ≡ argon2id password.now salt.now [] [] COST (length key.old) }
 {
     derive_often(alloc, password, salt, key, reps).unwrap_or(FAILED)
+}
+
+/// Fills `key`, which has 48 bytes, with the key of a password by PBKDF2 with so many iterations, `reps` times and at
+/// least once. The answer is the sum of the keys' last bytes, or 2^64 - 1 where the key has another length.
+#[unsafe(no_mangle)]
+pub extern "C" fn paseto_bench_pbkdf2(
+    password: &[u8],
+    salt: &[u8],
+    iterations: u32,
+    key: &mut [u8],
+    reps: u32,
+) -> u64
+    ensures { result ≢ 2 ^ 64 - 1 → key.new ≡ derived_key password.now salt.now iterations }
+{
+    if key.len() != 48 {
+        return FAILED;
+    }
+    let mut sum = 0u64;
+    'repetitions: for _ in 1..reps {
+        sum = sum.wrapping_add(pbkdf2_sha384(password, salt, iterations)[47] as u64);
+    }
+    let last = pbkdf2_sha384(password, salt, iterations);
+    key.copy_from_slice(&last);
+    sum.wrapping_add(last[47] as u64) % FAILED
 }
 
 /// Derives it `reps` times, and at least once, and adds up the last bytes.

@@ -1,0 +1,28 @@
+-- Private keys in PEM.
+use Rattle.std.specs.Prelude.{ℕ, List}
+use Rattle.rusty_paseto_paserk.specs.declared.header.PaserkVersion.{PaserkVersion}
+use Rattle.rusty_paseto_paserk.specs.declared.header.PaserkVersion.TheVariants.{V1, V2, V3, V4}
+use Rattle.paseto_pem.specs.declared.label.Label.TheVariants.{PrivateKey}
+use Rattle.paseto_pem.specs.Ed25519.{IsPrivateOf}
+use Rattle.paseto_pem.specs.P384.{IsPrivateOf as IsCurvePrivateOf}
+use Rattle.paseto_pem.specs.Rsa.{IsPrivateOf as IsRsaPrivateOf}
+use Rattle.paseto_pem.specs.Key.{Contents, IsText, IsWritten}
+
+-- which contents under which label are which private key of a version
+abbrev pub private_of : PaserkVersion → Contents
+private_of V1 = IsRsaPrivateOf
+private_of V2 = IsPrivateOf
+private_of V3 = IsCurvePrivateOf
+private_of V4 = IsPrivateOf
+
+-- the text is the one that is written of a private key
+abbrev pub IsPemOf : List ℕ → List ℕ → PaserkVersion → Type 0
+IsPemOf key text version = IsWritten (private_of version) PrivateKey key text
+
+-- the text is one of a private key
+abbrev pub IsInPem : List ℕ → List ℕ → PaserkVersion → Type 0
+IsInPem text key version = IsText (private_of version) key text
+
+-- the contents of a text are a private key
+abbrev pub AreContentsOf : List ℕ → List ℕ → PaserkVersion → Type 0
+AreContentsOf contents key version = private_of version PrivateKey contents key
