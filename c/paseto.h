@@ -31,6 +31,7 @@ uint32_t paseto_version(void);
 
 typedef uint8_t paseto_status;
 
+/* The statuses, from c/statuses.txt: */
 enum {
     PASETO_OK = 0,
     PASETO_ROOM = 1,   /* the room is too short */
@@ -45,7 +46,7 @@ enum {
     PASETO_INCORRECT_SIZE = 8,         /* not three or four sections, or too short a payload */
     PASETO_FOOTER_INVALID = 9,         /* another footer */
     PASETO_WRONG_HEADER = 10,          /* another version or purpose */
-    PASETO_PAYLOAD_BASE64_DECODE = 11, /* a section that is the encoding of no bytes */
+    PASETO_PAYLOAD_BASE64_DECODE = 11, /* a section that is not valid base64url */
     PASETO_CRYPTION = 12,              /* another key or assertion, or a token that was changed: v1, v3, v4 local */
     PASETO_CHACHA_CIPHER_ERROR = 13,   /* the same in v2 local; a text that is too long to seal */
     PASETO_INVALID_SIGNATURE = 14,     /* a signature that is not valid */

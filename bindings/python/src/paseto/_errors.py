@@ -18,7 +18,10 @@ class Refused(PasetoError):
     """The token is not admitted: a fault of the token, and not of the program that asks."""
 
 
-class NoMemory(PasetoError, MemoryError):
+# ---- the statuses, from c/statuses.txt
+
+
+class Memory(PasetoError, MemoryError):
     """Memory was refused."""
 
     status = 2
@@ -73,7 +76,7 @@ class WrongHeader(Refused):
 
 
 class PayloadBase64Decode(Refused):
-    """A section of the token is the base64url encoding of no bytes."""
+    """A section of the token is not valid base64url."""
 
     status = 11
 
@@ -168,6 +171,30 @@ class DuplicateTopLevelPayloadClaim(PasetoError):
     status = 26
 
 
+class Other(PasetoError):
+    """A fault that no call gives."""
+
+    status = 27
+
+
+class RsaCipher(PasetoError):
+    """The numbers of a private key of version 1 are not of one key."""
+
+    status = 28
+
+
+class TooLong(Refused):
+    """The token has more bytes than it may have."""
+
+    status = 29
+
+
+class NotNames(PasetoError):
+    """The names of claims are no list of texts."""
+
+    status = 30
+
+
 class NoPaserk(InvalidKey):
     """The text begins as no key of PASERK does."""
 
@@ -222,32 +249,11 @@ class OtherSize(InvalidKey):
     status = 39
 
 
+# ---- other faults
+
+
 class UnknownKey(Refused):
     """The footer of the token names no key, or none of the ring."""
-
-
-class Other(PasetoError):
-    """A fault that no call gives."""
-
-    status = 27
-
-
-class RsaCipher(PasetoError):
-    """The numbers of a private key of version 1 are not of one key."""
-
-    status = 28
-
-
-class TooLong(Refused):
-    """The token has more bytes than it may have."""
-
-    status = 29
-
-
-class NotNames(PasetoError):
-    """The names of claims are no list of texts."""
-
-    status = 30
 
 
 def _faults(of: type[PasetoError]) -> dict[int, type[PasetoError]]:
