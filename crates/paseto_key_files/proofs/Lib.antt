@@ -1,0 +1,6 @@
+pub mod Errors
+pub mod HeldLaws
+pub mod PemLaws
+pub mod OpeningLaws
+pub mod LineLaws
+pub mod WritingLaws
