@@ -3,23 +3,26 @@ _paseto() {
     local word=${COMP_WORDS[COMP_CWORD]} before=${COMP_WORDS[COMP_CWORD - 1]} command=${COMP_WORDS[1]}
     COMPREPLY=()
     if [ "$COMP_CWORD" -eq 1 ]; then
-        mapfile -t COMPREPLY < <(compgen -W 'keygen public id issue check encrypt decrypt sign verify inspect help --help --version' -- "$word")
+        mapfile -t COMPREPLY < <(compgen -W 'keygen public id wrap unwrap seal unseal issue check encrypt decrypt sign verify inspect help --help --version' -- "$word")
         return
     fi
     case "$before" in
-        --key | --out | --public) mapfile -t COMPREPLY < <(compgen -f -- "$word"); return ;;
+        --key | --out | --public | --password-file | --unlock-key | --wrapping-key | --to) mapfile -t COMPREPLY < <(compgen -f -- "$word"); return ;;
+        --format) mapfile -t COMPREPLY < <(compgen -W 'paserk pem' -- "$word"); return ;;
         --ring) mapfile -t COMPREPLY < <(compgen -d -- "$word"); return ;;
         --claim | --require | --expires | --not-before | --at | --leeway | --footer | --footer-kid | --assertion) return ;;
     esac
-    local options=''
+    local options='' opening='--key --password-file --unlock-key'
     case "$command" in
-        keygen) options='--out --public --quiet' ;;
-        public) options='--key --out' ;;
-        id) options='--key' ;;
-        issue) options='--key --claim --expires --not-before --footer --footer-kid --assertion --out' ;;
-        check) options='--key --ring --claim --require --at --leeway --footer --footer-kid --assertion' ;;
-        encrypt | sign) options='--key --footer --assertion --out' ;;
-        decrypt | verify) options='--key --footer --assertion' ;;
+        keygen) options='--password-file --format --out --public --quiet' ;;
+        public | unwrap | unseal) options="$opening --format --out" ;;
+        id) options=$opening ;;
+        wrap) options='--key --wrapping-key --password-file --out' ;;
+        seal) options="$opening --to --out" ;;
+        issue) options="$opening --claim --expires --not-before --footer --footer-kid --assertion --out" ;;
+        check) options="$opening --ring --claim --require --at --leeway --footer --footer-kid --assertion" ;;
+        encrypt | sign) options="$opening --footer --assertion --out" ;;
+        decrypt | verify) options="$opening --footer --assertion" ;;
         inspect) options='' ;;
     esac
     if [[ $word == -* ]]; then

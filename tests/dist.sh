@@ -1,6 +1,7 @@
 #!/usr/bin/env bash
-# Makes what dist.sh makes, twice, and compares; unpacks the Debian packages into a fresh folder, and makes and checks a token
-# there, by the program and by a program in C, with no toolchain. The last line is 'N passed, M failed'.
+# Makes what dist.sh makes, twice, and compares; installs the Debian packages into a fresh root by dpkg, makes and checks a token
+# there, by the program and by a program in C, with no toolchain, and removes them again. The last line is
+# 'N passed, M failed'.
 #
 #   tests/dist.sh PREFIX
 #
@@ -27,10 +28,24 @@ else
     echo 'there is no lintian: it is not asked'
 fi
 
+# A fresh root, whose packages are known to have the C library of this machine and nothing else.
 fresh=$work/fresh
-mkdir "$fresh"
-for package in "$work"/one/*.deb; do
-    if dpkg-deb -x "$package" "$fresh" 2>"$work/log"; then pass; else fail "$package: $(cat "$work/log")"; fi
+mkdir -p "$fresh/var/lib/dpkg/info" "$fresh/var/lib/dpkg/updates"
+cat >"$fresh/var/lib/dpkg/status" <<STATUS
+Package: libc6
+Status: install ok installed
+Maintainer: nobody <nobody@localhost>
+Architecture: amd64
+Version: $(getconf GNU_LIBC_VERSION | cut -d ' ' -f 2)
+Description: the C library of this machine
+STATUS
+in_root() {
+    PATH=$PATH:/usr/sbin:/sbin dpkg --root="$fresh" --log=/dev/null --force-not-root --force-script-chrootless "$@" >"$work/log" 2>&1
+}
+if in_root --install "$work"/one/*.deb; then pass; else fail "dpkg --install: $(tail -n 3 "$work/log")"; fi
+for package in paseto libpaseto0 libpaseto-dev; do
+    in_root --status $package
+    if grep -qx 'Status: install ok installed' "$work/log"; then pass; else fail "$package is not installed: $(tail -n 3 "$work/log")"; fi
 done
 cd "$work" || exit 1
 export PATH=/usr/bin:/bin
@@ -53,6 +68,9 @@ END
 lib=$fresh/usr/lib/x86_64-linux-gnu
 if cc -I "$fresh/usr/include" -o client client.c -L "$lib" -lpaseto 2>"$work/log" && LD_LIBRARY_PATH=$lib ./client; then pass; else fail "a program in C over the packages: $(tail -n 3 "$work/log")"; fi
 if cc -I "$fresh/usr/include" -o client client.c "$lib/libpaseto.a" 2>"$work/log" && ./client; then pass; else fail "a program in C over libpaseto.a: $(tail -n 3 "$work/log")"; fi
+if in_root --purge paseto libpaseto0 libpaseto-dev; then pass; else fail "dpkg --purge: $(tail -n 3 "$work/log")"; fi
+left=$(find "$fresh" -type f ! -path "$fresh/var/*")
+if [ -z "$left" ]; then pass; else fail "files that are left: $left"; fi
 mkdir archive && tar -C archive -xzf one/*.tar.gz
 if [ "$(archive/*/bin/paseto --version)" = "paseto $(cat "$root/VERSION")" ]; then pass; else fail 'the program of the archive'; fi
 finish

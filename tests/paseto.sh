@@ -50,6 +50,7 @@ bad_footer='The provided footer is invalid'
 bad_header='no token of a kind that is read here'
 bad_count='This string has an incorrect number of parts and cannot be parsed into a token'
 no_key='The text is no PASERK key'
+no_pem='no valid PEM, in which the key pairs of version 1 are read'
 bad_key='The key was not in the correct format'
 too_long='longer than any key: it is no key file'
 not_utf8='A Utf8 parsing error occurred'
@@ -67,7 +68,7 @@ no_half='keys of this kind have no public half: leave --public out'
 unnamed='no key is named: give --key FILE, or the text of the key in PASETO_KEY'
 one_input='standard input cannot be the key and the input: name a file for one of them'
 input='standard input'
-unset PASETO_KEY
+unset PASETO_KEY PASETO_PASSWORD
 
 # is NAME FOUND WANTED
 is() {
@@ -223,9 +224,9 @@ refuses "a changed signature, version 2" 1 "${token:0:30}AAAA${token:34}" "$inpu
 refuses "an assertion to sign version 2" 1 hello "half2.secret: $no_assertion" sign --key half2.secret --assertion for
 refuses "an assertion to verify version 2" 1 "$token" "half2.public: $no_assertion" verify --key half2.public --footer id --assertion for
 echo "k1.secret.${hex:0:40}" >v1.secret
-refuses "a private key of version 1" 1 hello "v1.secret: The key is one of version 1" sign --key v1.secret
+refuses "a private key of version 1 in PASERK" 1 hello "v1.secret: $no_pem" sign --key v1.secret
 echo "k1.public.${hex:0:40}" >v1.public
-refuses "a public key of version 1" 1 hello "v1.public: The key is one of version 1" verify --key v1.public
+refuses "a public key of version 1 in PASERK" 1 hello "v1.public: $no_pem" verify --key v1.public
 token=$(made sign --key v4.secret)
 gives "a token under the key of RFC 8032" "$token" hello verify --key v4.public
 refuses "another public key" 1 "$token" "$input: $bad_signature" verify --key half4.public
@@ -247,7 +248,7 @@ refuses "a truncated key file" 1 hello "cut: $bad_key" encrypt --key cut
 : >empty
 refuses "an empty key file" 1 hello "empty: $no_key" encrypt --key empty
 cat v4.local v4.local >two
-refuses "two keys in a file" 1 hello "two: $bad_key" encrypt --key two
+refuses "two keys in a file" 1 hello "two: line 2: a key file is one line of PASERK, or PEM" encrypt --key two
 refuses "a binary key file" 1 hello "binary: $no_key" encrypt --key binary
 refuses "no key file" 3 hello "nowhere: $no_file" encrypt --key nowhere
 truncate -s 1G huge
@@ -483,7 +484,7 @@ is "the usage of a conflict of check" "$("$program" check --key a --ring b 2>&1 
     "Usage: paseto check [--key <FILE> | --ring <FOLDER>] [OPTIONS] [INPUT]"
 is "the usage of a conflict of issue" "$("$program" issue --footer a --footer-kid b 2>&1 | grep '^Usage')" "Usage: paseto issue [OPTIONS]"
 is "the tip for a wrong option" "$("$program" check --kee a 2>&1 | grep 'tip:')" "  tip: a similar argument exists: '--key'"
-for words in encrypt decrypt sign verify issue check id public; do
+for words in encrypt decrypt sign verify issue check id public wrap unwrap unseal; do
     refuses "$words without a key" 2 "" "$unnamed" $words
 done
 for words in encrypt decrypt sign verify check; do
@@ -491,7 +492,7 @@ for words in encrypt decrypt sign verify check; do
 done
 "$program" >out 2>err
 is "no words" "$? $(cat out)$(head -n 1 err)" "2 Makes keys in files, and PASETO tokens by them"
-for words in keygen public id issue check encrypt decrypt sign verify inspect; do
+for words in keygen public id wrap unwrap seal unseal issue check encrypt decrypt sign verify inspect; do
     "$program" $words --help >out 2>err
     is "$words --help, status" $? 0
     is "$words --help, standard error" "$(cat err)" ""

@@ -31,9 +31,9 @@ EACH = 2_000_000_000
 # else. A crate that is not listed counts as OTHERS.
 OTHERS = 60
 SECONDS = {
-    "paseto": 300, "paseto_bench": 60, "paseto_c": 275, "paseto_ed25519": 45, "paseto_edwards": 24, "paseto_edwards25519": 100,
-    "paseto_montgomery": 100, "paseto_p384": 60, "paseto_polynomials": 35, "paseto_primes": 45, "paseto_tasks": 240,
-    "paseto_streams": 15, "paseto_tool": 150, "paseto_weierstrass": 14, "paseto_words": 200, "paseto_xchacha20poly1305": 25, "rusty_paseto": 200,
+    "paseto": 300, "paseto_argon2": 60, "paseto_bench": 60, "paseto_c": 650, "paseto_ed25519": 45, "paseto_edwards": 24, "paseto_edwards25519": 100,
+    "paseto_key_files": 120, "paseto_montgomery": 100, "paseto_p384": 100, "paseto_pem": 100, "paseto_polynomials": 35, "paseto_primes": 70, "paseto_rsa": 90, "paseto_tasks": 240,
+    "paseto_streams": 15, "paseto_tool": 150, "paseto_weierstrass": 14, "paseto_words": 240, "paseto_wrapping": 120, "paseto_xchacha20poly1305": 25, "rusty_paseto": 200,
     "rusty_paseto_claims": 130, "rusty_paseto_core": 246, "rusty_paseto_generic": 290, "rusty_paseto_parts": 120,
     "rusty_paseto_paserk": 130, "rusty_paseto_primitives": 180,
 }

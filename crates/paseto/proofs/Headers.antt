@@ -23,7 +23,7 @@ use Rattle.rusty_paseto_parts.specs.declared.texts.implicit_assertion.ImplicitAs
 use Rattle.paseto_tasks.specs.declared.error.ProgramError.{ProgramError}
 use Rattle.paseto_tasks.specs.Arguments.{Takes, assertion_where, binds_in}
 use Rattle.paseto.specs.Check.{IsTheValue, bound_to}
-use Rattle.paseto.specs.Readers.{IsReader, reading_of, type_in, version_in}
+use Rattle.paseto.specs.Readers.{IsRingReader, reading_of, type_in, version_in}
 use Rattle.paseto.specs.Ring.{ParsesByRing, ParsesIn}
 use Rattle.paseto.proofs.Parsed.{in_words_of}
 
@@ -53,7 +53,7 @@ record Known (kind : PaserkType) (version : PaserkVersion) (reading : Reading) :
   names_version : version_in reading.version ≡ Some version
   names_type : type_in reading.purpose ≡ Some kind
 
-known : (kind : PaserkType) (version : PaserkVersion) (binding : Binding) → IsReader kind version → Known kind version (reading_of kind version binding)
+known : (kind : PaserkType) (version : PaserkVersion) (binding : Binding) → IsRingReader kind version → Known kind version (reading_of kind version binding)
 unfolding v1 v3 v4
 known Local V1 binding reads = record { is_version = refl; is_purpose = refl; names_version = refl; names_type = refl }
 known Local V2 binding reads = record { is_version = refl; is_purpose = refl; names_version = refl; names_type = refl }
@@ -86,7 +86,7 @@ module _ (lines : List (List ℕ)) (footer : Option (List ℕ)) (assertion : Opt
   -- by keys of a type and a version that the sections name
   module _ (kind : PaserkType) (version : PaserkVersion) where
     abbrev pub Parses : PaserkVersion → PaserkType → Data → Type 0
-    Parses v k value = IsReader k v × ParsesIn k v (reading_of k v) lines footer assertion token value
+    Parses v k value = IsRingReader k v × ParsesIn k v (reading_of k v) lines footer assertion token value
 
     pub by_sections : (result : Result Value ProgramError) → Takes version assertion → version_in first ≡ Some version → type_in second ≡ Some kind
         → IsTheValue (λ value. Parses version kind value) result → IsTheValue (λ value. ParsesByRing lines footer assertion token value) result

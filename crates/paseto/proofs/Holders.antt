@@ -1,28 +1,27 @@
 -- The one type and version of keys under which a token is parsed.
-use Rattle.std.proofs.Common.{◌≡◌, ℕ, List, ◌++◌, Option, Result, subst, subst₂}
-use Rattle.rusty_paseto_parts.specs.Section.{base64url}
+use Rattle.std.proofs.Common.{◌≡◌, ℕ, List, Option, Result, subst, subst₂}
 use Rattle.serde_json.specs.Data.{Data}
 use Rattle.serde_json.specs.declared.value.Value.{Value}
 use Rattle.rusty_paseto_paserk.specs.declared.header.PaserkVersion.{PaserkVersion}
 use Rattle.rusty_paseto_paserk.specs.declared.header.PaserkType.{PaserkType}
-use Rattle.rusty_paseto_paserk.specs.Header.{HasNoHeader, header}
 use Rattle.rusty_paseto_parts.specs.declared.texts.implicit_assertion.ImplicitAssertion.{ImplicitAssertion}
 use Rattle.paseto_tasks.specs.declared.error.ProgramError.{ProgramError}
 use Rattle.paseto_tasks.specs.Arguments.{Takes}
+use Rattle.paseto_tasks.specs.KeyLine.{BeginsAs}
 use Rattle.paseto.specs.Check.{IsTheValue, ParsesByKey, ParsesWith}
 use Rattle.paseto.specs.Readers.{IsReader, reading_of}
-use Rattle.paseto_tasks.proofs.Ids.{same_header}
+use Rattle.paseto_tasks.proofs.KeyLines.{begins_as_key, same_beginning}
 use Rattle.paseto.proofs.Parsed.{in_words_of}
 
-module _ (kind : PaserkType) (version : PaserkVersion) (line rest : List ℕ) (footer : Option (List ℕ)) (assertion : Option ImplicitAssertion) (token : List ℕ)
-    (begins : line ≡ header version kind ++ rest) where
+module _ (kind : PaserkType) (version : PaserkVersion) (line : List ℕ) (footer : Option (List ℕ)) (assertion : Option ImplicitAssertion) (token : List ℕ)
+    (begins : BeginsAs version kind line) where
   -- by the type and the version of the line
   abbrev Parses : PaserkVersion → PaserkType → Data → Type 0
   Parses v k value = IsReader k v × ParsesWith k v (reading_of k v) line footer assertion token value
 
   by_header : (value : Data) → ParsesByKey line footer assertion token value → Parses version kind value
   by_header value is =
-      let same = same_header is.version version is.kind kind line (base64url is.parses.key) rest is.parses.is_key.is_writing begins in
+      let same = same_beginning is.version version is.kind kind line (begins_as_key is.kind is.version line is.parses.key is.parses.is_key) begins in
       subst₂ (λ (v : PaserkVersion) (k : PaserkType). Parses v k value) same.0 same.1 (is.is_reader, is.parses)
 
   pub by_this_header : (result : Result Value ProgramError) → Takes version assertion → IsTheValue (λ value. Parses version kind value) result
@@ -33,11 +32,11 @@ module _ (kind : PaserkType) (version : PaserkVersion) (line rest : List ℕ) (f
   -- a key whose version takes no assertion
   pub not_taken_by : ¬ Takes version assertion → (value : Data) → ¬ ParsesByKey line footer assertion token value
   not_taken_by none value is =
-      let same = same_header is.version version is.kind kind line (base64url is.parses.key) rest is.parses.is_key.is_writing begins in
+      let same = same_beginning is.version version is.kind kind line (begins_as_key is.kind is.version line is.parses.key is.parses.is_key) begins in
       none (subst (λ (v : PaserkVersion). Takes v assertion) same.0 is.takes)
 
 -- a line that begins as no key
-pub no_header_by : (line : List ℕ) (footer : Option (List ℕ)) (assertion : Option ImplicitAssertion) (token : List ℕ) → HasNoHeader line
+pub no_header_by : (line : List ℕ) (footer : Option (List ℕ)) (assertion : Option ImplicitAssertion) (token : List ℕ) → ((version : PaserkVersion) (kind : PaserkType) → ¬ BeginsAs version kind line)
     → (value : Data) → ¬ ParsesByKey line footer assertion token value
 no_header_by line footer assertion token none value is =
-    none is.version is.kind (base64url is.parses.key, is.parses.is_key.is_writing)
+    none is.version is.kind (begins_as_key is.kind is.version line is.parses.key is.parses.is_key)

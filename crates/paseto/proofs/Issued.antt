@@ -2,7 +2,6 @@
 use Rattle.std.proofs.Common.{◌≡◌, ◌≢◌, ◌⊎◌, ℕ, List, [], ◌++◌, Bool, true, false, if◌then◌else◌, nat_le, length, Option, None, Some, option_map, is_some, Result, Ok, Err, IfErr, IfOk, IsErrAnd, OnOk, String, Global, string_bytes, inl, inr, refl, sym, ap, subst, ◌∙◌}
 use Rattle.std.specs.Bool.{⊤}
 use Rattle.std.proofs.lemmas.Bool.{false≢true}
-use Rattle.base64.specs.GeneralPurpose.{IsBytes}
 use Rattle.serde_json.specs.Data.{Members}
 use Rattle.rusty_paseto_parts.specs.Section.{base64url}
 use Rattle.rusty_paseto_parts.specs.Footer.{footer_text}
@@ -26,17 +25,16 @@ use Rattle.rusty_paseto_paserk.specs.declared.header.PaserkVersion.{PaserkVersio
 use Rattle.rusty_paseto_paserk.specs.declared.header.PaserkVersion.TheVariants.{V1, V2, V3, V4}
 use Rattle.rusty_paseto_paserk.specs.declared.header.PaserkType.{PaserkType}
 use Rattle.rusty_paseto_paserk.specs.declared.header.PaserkType.TheVariants.{Local, Secret, Public}
-use Rattle.rusty_paseto_paserk.specs.Header.{HasNoHeader, header}
-use Rattle.rusty_paseto_paserk.specs.Text.{writing}
 use Rattle.paseto_tasks.specs.declared.error.ProgramError.{ProgramError}
 use Rattle.paseto.specs.Check.{bound_to}
 use Rattle.paseto_tasks.specs.Arguments.{Takes, assertion_where}
 use Rattle.paseto_tasks.specs.Error.{IsOutside, Lacks}
 use Rattle.paseto.specs.Issue.{AreNever, AreOrdered, BoxesClaims, DeclinesOrder, IsOnce, IssuesNone, Ordered, SealsClaims, SealsIn, SignsClaims, SignsIn, SignsNone, SignsOrder, keys_set}
+use Rattle.paseto_tasks.specs.KeyLine.{BeginsAs, IsKeyIn}
 use Rattle.paseto_tasks.specs.Local.{IsLocalKey}
 use Rattle.paseto_tasks.specs.Output.{IsLineOf}
-use Rattle.paseto_tasks.specs.Public.{DeclinesKey, IsHalf}
-use Rattle.paseto_tasks.proofs.Ids.{same_header}
+use Rattle.paseto_tasks.specs.Public.{DeclinesKey}
+use Rattle.paseto_tasks.proofs.KeyLines.{begins_as_key, same_beginning}
 use Rattle.paseto.proofs.Orders.{same_ordered}
 use Rattle.paseto.proofs.Parsed.{plain}
 use Rattle.paseto_tasks.proofs.Boxes.{has_box}
@@ -138,13 +136,13 @@ module _ (order : Ordered) (claims : Members) (keys : Counting) (footer : Option
   not_built : {T : Type 0} (answer : Result T GenericBuilderError) (error : ProgramError) (Why : GenericBuilderError → Type 0)
       → IsErrAnd answer (λ source. IsOutside error ⊎ ((¬ IsMemory source) × (source ≢ CipherError Cipher)))
       → (keys.repeated ≡ None → IfErr answer (λ source. IsMemory source ⊎ ((source ≡ CipherError Cipher) ⊎ Why source)))
-      → IsOutside error ⊎ (IsOnce order → (source : GenericBuilderError) × Why source)
+      → IsOutside error ⊎ (IsOnce order → (source : GenericBuilderError) × (source ≢ CipherError Cipher) × Why source)
   not_built (Ok value) error Why built reason = absurd built
   not_built (Err source) error Why (inl outside) reason = inl outside
   not_built (Err source) error Why (inr none) reason = inr (λ once. elim (reason (repeated_by once)) [
     | inl memory ↦ absurd (none.0 memory)
     | inr (inl cipher) ↦ absurd (none.1 cipher)
-    | inr (inr why) ↦ (source, why)
+    | inr (inr why) ↦ (source, none.1, why)
   ])
 
   by_generator : {T : Type 0} (answer : Result T GenericBuilderError) (Failure : Type 0) → IfErr answer (λ source. IsMemory source ⊎ IsOfGenerator Failure source)
@@ -161,7 +159,7 @@ module _ (order : Ordered) (claims : Members) (keys : Counting) (footer : Option
   seals_none version design key answer error Failure built reason =
       elim (not_built answer error (λ source. ⊥) built (λ once. by_generator answer Failure (reason once))) [
         | inl outside ↦ inl outside
-        | inr none ↦ inr (λ line is. (none is.once).1)
+        | inr none ↦ inr (λ line is. (none is.once).2)
       ]
 
   by_box : {T : Type 0} (answer : Result T GenericBuilderError) (Failure X : Type 0)
@@ -181,17 +179,17 @@ module _ (order : Ordered) (claims : Members) (keys : Counting) (footer : Option
       let Unboxed = IsBoxAnswer box_sealing binding (is_some footer) claims IsDrawn None in
       elim (not_built answer error (λ source. Unboxed) built (λ once. by_box answer Failure Unboxed (reason once))) [
         | inl outside ↦ inl outside
-        | inr none ↦ inr (λ line is. box_apart _ _ _ _ claims _ _ is.token (none is.once).1
+        | inr none ↦ inr (λ line is. box_apart _ _ _ _ claims _ _ is.token (none is.once).2
             (subst (λ (c : Members). IsBoxAnswer box_sealing (bound_to is.key_bytes order.footer [] None) (is_some order.footer) c (λ nonce. ⊤) (Some is.token))
             (same_ordered order is.claims claims is.are_ordered are) is.is_sealed))
       ]
 
   by_scheme : {T : Type 0} (answer : Result T GenericBuilderError) (Declined : PasetoError → Type 0)
       → IfErr answer (λ source. IsMemory source ⊎ ((refusal : PasetoError) × Declined refusal × (source ≡ of_cipher refusal)))
-      → IfErr answer (λ source. IsMemory source ⊎ ((source ≡ CipherError Cipher) ⊎ ((refusal : PasetoError) × Declined refusal)))
+      → IfErr answer (λ source. IsMemory source ⊎ ((source ≡ CipherError Cipher) ⊎ ((refusal : PasetoError) × Declined refusal × (source ≡ of_cipher refusal))))
   by_scheme (Ok value) Declined reason = tt
   by_scheme (Err source) Declined (inl memory) = inl memory
-  by_scheme (Err source) Declined (inr declined) = inr (inr (declined.0, declined.1))
+  by_scheme (Err source) Declined (inr declined) = inr (inr declined)
 
   once_or_not : (repeated : Option (List ℕ)) → (repeated ≡ None) ⊎ (¬ (repeated ≡ None))
   once_or_not None = inl refl
@@ -199,16 +197,17 @@ module _ (order : Ordered) (claims : Members) (keys : Counting) (footer : Option
 
   declined_order : (declined : Declining) (half : List ℕ → List ℕ) (design : PublicDesign) (private : List ℕ)
       → wanted ≡ assertion_where design.binds_assertion order.assertion
-      → (refusal : PasetoError) × declined private (message design (binding_of (half private) footer assertion) (payload claims)) refusal
+      → (refusal : PasetoError) → (refusal ≢ Cipher) → declined private (message design (binding_of (half private) footer assertion) (payload claims)) refusal
       → (source : PasetoError) × DeclinesOrder declined half design order private source
-  declined_order declined half design private wants found = (
-    found.0,
+  declined_order declined half design private wants refusal own found = (
+    refusal,
     record {
       claims = claims;
       are_ordered = are;
-      is_declined = subst (λ (b : Binding). declined private (message design b (payload claims)) found.0)
+      own = own;
+      is_declined = subst (λ (b : Binding). declined private (message design b (payload claims)) refusal)
           (bound_same (half private) footer assertion wanted order.footer asserted is_footer
-          ∙ ap (λ (a : Option ImplicitAssertion). bound_to (half private) order.footer [] a) wants) found.1;
+          ∙ ap (λ (a : Option ImplicitAssertion). bound_to (half private) order.footer [] a) wants) found;
     },
   )
 
@@ -222,10 +221,13 @@ module _ (order : Ordered) (claims : Members) (keys : Counting) (footer : Option
       ⊎ ((source : PasetoError) × DeclinesOrder declined half design order private source))
   signs_none valid declined half design private answer error wants built reason length =
       let Now : PasetoError → Type 0 = declined private (message design (binding_of (half private) footer assertion) (payload claims)) in
-      elim (not_built answer error (λ source. (refusal : PasetoError) × Now refusal) built (λ once. by_scheme answer Now ((reason once).err length))) [
+      elim (not_built answer error (λ source. (refusal : PasetoError) × Now refusal × (source ≡ of_cipher refusal)) built (λ once. by_scheme answer Now ((reason once).err length))) [
         | inl outside ↦ inl outside
         | inr why ↦ inr (elim (once_or_not (keys_set order).repeated) [
-          | inl once ↦ inr (declined_order declined half design private wants (why once).1)
+          | inl once ↦
+              let found = why once in
+              inr (declined_order declined half design private wants found.2.0
+              (λ same. found.1 (found.2.2 ∙ ap (λ (e : PasetoError). of_cipher e) same)) found.2.1)
           | inr twice ↦ inl (λ line is. twice is.once)
         ])
       ]
@@ -251,20 +253,20 @@ module _ (order : Ordered) where
 -- ---- private keys
 
 -- what a private key signs or not, its line does
-pub signs_by : {T : Type 0} (version : PaserkVersion) (size : ℕ) (valid : Validity) (Declined : List ℕ → PasetoError → Type 0) (design : PublicDesign) (half : List ℕ → List ℕ)
+pub signs_by : {T : Type 0} (version : PaserkVersion) (valid : Validity) (Declined : List ℕ → PasetoError → Type 0) (design : PublicDesign) (half : List ℕ → List ℕ)
     (key : List ℕ) (order : Ordered) (key_bytes private : List ℕ) (result : Result T ProgramError)
-    → IsHalf version Secret size key key_bytes → private ≡ key_bytes
-    → ((other : List ℕ) → IsBytes other → length other ≡ size → key ≡ writing version Secret other → key_bytes ≡ other)
+    → IsKeyIn Secret version key key_bytes → private ≡ key_bytes
+    → ((other : List ℕ) → IsKeyIn Secret version key other → key_bytes ≡ other)
     → IfErr result (λ error. IsOutside error ⊎ (((line : List ℕ) → ¬ SignsOrder valid design (half private) order line)
     ⊎ ((source : PasetoError) × Declined private source)))
-    → IfErr result (λ error. IsOutside error ⊎ (((line : List ℕ) → ¬ SignsClaims version size valid design half key order line)
-    ⊎ DeclinesKey version size Declined key))
-signs_by version size valid Declined design half key order key_bytes private (Ok value) is_key same one h = tt
-signs_by version size valid Declined design half key order key_bytes private (Err error) is_key same one (inl outside) = inl outside
-signs_by version size valid Declined design half key order key_bytes private (Err error) is_key same one (inr (inl none)) = inr (inl (λ line is.
-    let found = one is.key_bytes is.is_key.bytes is.is_key.has_size is.is_key.is_writing in
+    → IfErr result (λ error. IsOutside error ⊎ (((line : List ℕ) → ¬ SignsClaims version valid design half key order line)
+    ⊎ DeclinesKey version Declined key))
+signs_by version valid Declined design half key order key_bytes private (Ok value) is_key same one h = tt
+signs_by version valid Declined design half key order key_bytes private (Err error) is_key same one (inl outside) = inl outside
+signs_by version valid Declined design half key order key_bytes private (Err error) is_key same one (inr (inl none)) = inr (inl (λ line is.
+    let found = one is.key_bytes is.is_key in
     none line (subst (λ (k : List ℕ). SignsOrder valid design (half k) order line) (sym found ∙ sym same) is.signs)))
-signs_by version size valid Declined design half key order key_bytes private (Err error) is_key same one (inr (inr declined)) = inr (inr (record {
+signs_by version valid Declined design half key order key_bytes private (Err error) is_key same one (inr (inr declined)) = inr (inr (record {
   key_bytes = key_bytes;
   error = declined.0;
   is_key = is_key;
@@ -297,52 +299,52 @@ secret_public same = false≢true (ap (λ (k : PaserkType). is_public k) same)
 
 module _ (key : List ℕ) (order : Ordered) where
   -- a key that seals or signs begins as one
-  seals_begins : (version : PaserkVersion) (line : List ℕ) → SealsIn version key order (λ nonce. ⊤) line → (rest : List ℕ) × (key ≡ header version Local ++ rest)
-  seals_begins V1 line is = (base64url is.key_bytes, is.is_key.is_writing)
-  seals_begins V2 line is = (base64url is.key_bytes, is.is_key.is_writing)
-  seals_begins V3 line is = (base64url is.key_bytes, is.is_key.is_writing)
-  seals_begins V4 line is = (base64url is.key_bytes, is.is_key.is_writing)
+  seals_begins : (version : PaserkVersion) (line : List ℕ) → SealsIn version key order (λ nonce. ⊤) line → BeginsAs version Local key
+  seals_begins V1 line is = inl (base64url is.key_bytes, is.is_key.is_writing)
+  seals_begins V2 line is = inl (base64url is.key_bytes, is.is_key.is_writing)
+  seals_begins V3 line is = inl (base64url is.key_bytes, is.is_key.is_writing)
+  seals_begins V4 line is = inl (base64url is.key_bytes, is.is_key.is_writing)
 
-  signs_begins : (version : PaserkVersion) (line : List ℕ) → SignsIn version key order line → (rest : List ℕ) × (key ≡ header version Secret ++ rest)
-  signs_begins V1 line is = absurd is
-  signs_begins V2 line is = (base64url is.key_bytes, is.is_key.is_writing)
-  signs_begins V3 line is = (base64url is.key_bytes, is.is_key.is_writing)
-  signs_begins V4 line is = (base64url is.key_bytes, is.is_key.is_writing)
+  signs_begins : (version : PaserkVersion) (line : List ℕ) → SignsIn version key order line → BeginsAs version Secret key
+  signs_begins V1 line is = begins_as_key Secret V1 key is.key_bytes is.is_key
+  signs_begins V2 line is = begins_as_key Secret V2 key is.key_bytes is.is_key
+  signs_begins V3 line is = begins_as_key Secret V3 key is.key_bytes is.is_key
+  signs_begins V4 line is = begins_as_key Secret V4 key is.key_bytes is.is_key
 
   -- a line that begins as no key
-  pub no_header_issues : HasNoHeader key → IssuesNone key order
+  pub no_header_issues : ((version : PaserkVersion) (kind : PaserkType) → ¬ BeginsAs version kind key) → IssuesNone key order
   no_header_issues none = inl (λ line both. elim both [
     | inl seals ↦ none seals.0 Local (seals_begins seals.0 line seals.1)
     | inr signs ↦ none signs.0 Secret (signs_begins signs.0 line signs.1)
   ])
 
-  module _ (version : PaserkVersion) (rest : List ℕ) where
+  module _ (version : PaserkVersion) where
     -- a key of a version that takes no assertion
-    pub not_taken_issues : (kind : PaserkType) → key ≡ header version kind ++ rest → ¬ Takes version order.assertion → IssuesNone key order
+    pub not_taken_issues : (kind : PaserkType) → BeginsAs version kind key → ¬ Takes version order.assertion → IssuesNone key order
     not_taken_issues kind begins none = inl (λ line both. elim both [
       | inl seals ↦
           let begun = seals_begins seals.0 line seals.1 in
-          none (subst (λ (v : PaserkVersion). Takes v order.assertion) (same_header seals.0 version Local kind key begun.0 rest begun.1 begins).0 seals.2)
+          none (subst (λ (v : PaserkVersion). Takes v order.assertion) (same_beginning seals.0 version Local kind key begun begins).0 seals.2)
       | inr signs ↦
           let begun = signs_begins signs.0 line signs.1 in
-          none (subst (λ (v : PaserkVersion). Takes v order.assertion) (same_header signs.0 version Secret kind key begun.0 rest begun.1 begins).0 signs.2)
+          none (subst (λ (v : PaserkVersion). Takes v order.assertion) (same_beginning signs.0 version Secret kind key begun begins).0 signs.2)
     ])
 
-    pub local_none : {T : Type 0} (result : Result T ProgramError) → key ≡ header version Local ++ rest
+    pub local_none : {T : Type 0} (result : Result T ProgramError) → BeginsAs version Local key
         → IfErr result (Lacks (λ line. SealsIn version key order (λ nonce. ⊤) line)) → IfErr result (λ error. IsOutside error ⊎ IssuesNone key order)
     local_none (Ok value) begins none = tt
     local_none (Err error) begins (inl outside) = inl outside
     local_none (Err error) begins (inr none) = inr (inl (λ line both. elim both [
       | inl seals ↦
           let begun = seals_begins seals.0 line seals.1 in
-          let same = same_header seals.0 version Local Local key begun.0 rest begun.1 begins in
+          let same = same_beginning seals.0 version Local Local key begun begins in
           none line (subst (λ (v : PaserkVersion). SealsIn v key order (λ nonce. ⊤) line) same.0 seals.1)
       | inr signs ↦
           let begun = signs_begins signs.0 line signs.1 in
-          secret_apart (same_header signs.0 version Secret Local key begun.0 rest begun.1 begins).1
+          secret_apart (same_beginning signs.0 version Secret Local key begun begins).1
     ]))
 
-    pub private_none : {T : Type 0} (result : Result T ProgramError) → key ≡ header version Secret ++ rest
+    pub private_none : {T : Type 0} (result : Result T ProgramError) → BeginsAs version Secret key
         → IfErr result (λ error. IsOutside error ⊎ SignsNone version key order) → IfErr result (λ error. IsOutside error ⊎ IssuesNone key order)
     private_none (Ok value) begins none = tt
     private_none (Err error) begins (inl outside) = inl outside
@@ -350,20 +352,20 @@ module _ (key : List ℕ) (order : Ordered) where
     private_none (Err error) begins (inr (inl none)) = inr (inl (λ line both. elim both [
       | inl seals ↦
           let begun = seals_begins seals.0 line seals.1 in
-          local_apart (same_header seals.0 version Local Secret key begun.0 rest begun.1 begins).1
+          local_apart (same_beginning seals.0 version Local Secret key begun begins).1
       | inr signs ↦
           let begun = signs_begins signs.0 line signs.1 in
-          let same = same_header signs.0 version Secret Secret key begun.0 rest begun.1 begins in
+          let same = same_beginning signs.0 version Secret Secret key begun begins in
           none line (subst (λ (v : PaserkVersion). SignsIn v key order line) same.0 signs.1)
     ]))
 
     -- a public key
-    pub public_none : key ≡ header version Public ++ rest → IssuesNone key order
+    pub public_none : BeginsAs version Public key → IssuesNone key order
     public_none begins = inl (λ line both. elim both [
       | inl seals ↦
           let begun = seals_begins seals.0 line seals.1 in
-          local_public (same_header seals.0 version Local Public key begun.0 rest begun.1 begins).1
+          local_public (same_beginning seals.0 version Local Public key begun begins).1
       | inr signs ↦
           let begun = signs_begins signs.0 line signs.1 in
-          secret_public (same_header signs.0 version Secret Public key begun.0 rest begun.1 begins).1
+          secret_public (same_beginning signs.0 version Secret Public key begun begins).1
     ])

@@ -25,7 +25,8 @@ use Rattle.paseto_tasks.specs.Error.{IsOutside, Lacks, key_error_of}
 use Rattle.rusty_paseto_paserk.specs.Error.{IsMemory as IsKeyMemory}
 use Rattle.rusty_paseto_paserk.specs.declared.error.PaserkError.{PaserkError}
 use Rattle.rusty_paseto_paserk.specs.declared.error.PaserkError.TheVariants.{Memory as NoKeyMemory}
-use Rattle.paseto_tasks.specs.Id.{IsKeyLine, IsKeyOf}
+use Rattle.paseto_tasks.specs.Id.{IsKeyLine}
+use Rattle.paseto_tasks.specs.KeyLine.{IsKeyIn}
 
 -- ---- parsed
 
@@ -65,6 +66,12 @@ pub no_key_value : {X : Type 0} (error : PaserkError) (Is : X → Type 0) → ((
 no_key_value (NoKeyMemory source) Is none = inl tt
 no_key_value error Is none = inr none
 
+-- a line of no key
+pub no_line_value : {X : Type 0} (error : ProgramError) (Is : X → Type 0) (IsKey : List ℕ → Type 0) → Lacks IsKey error
+    → ((value : X) → Is value → (key : List ℕ) × IsKey key) → Lacks Is error
+no_line_value error Is IsKey (inl outside) keyed = inl outside
+no_line_value error Is IsKey (inr none) keyed = inr (λ value is. none (keyed value is).0 (keyed value is).1)
+
 -- what is so in other words
 pub in_words_of : (A B : Data → Type 0) → ((value : Data) → A value → B value) → ((value : Data) → B value → A value)
     → (result : Result Value ProgramError) → IsTheValue A result → IsTheValue B result
@@ -93,7 +100,7 @@ pub beside : (result : Result Value ProgramError) (R : Type 0) (P : Data → Typ
 beside result R P r = in_words_of P (λ value. R × P value) (λ value is. (r, is)) (λ value both. both.1) result
 
 module _ (reading : Binding → Reading) (kind : PaserkType) (version : PaserkVersion) (line : List ℕ) (footer : Option (List ℕ)) (assertion : Option ImplicitAssertion) (token key : List ℕ)
-    (is_key : IsKeyLine (IsKeyOf kind version) kind version line key) (binding : Binding) (rules : Rules Verdict)
+    (is_key : IsKeyIn kind version line key) (one : (other : List ℕ) → IsKeyIn kind version line other → key ≡ other) (binding : Binding) (rules : Rules Verdict)
     (bound : binding ≡ bound_to key footer [] (assertion_where (binds_in version) assertion)) (unruled : rules ≡ (λ key. no_rule)) where
   parsed_with : (value : Data) → IsParsed (reading binding) rules token value → ParsesWith kind version reading line footer assertion token value
   parsed_with value parsed = record {
@@ -104,7 +111,7 @@ module _ (reading : Binding → Reading) (kind : PaserkType) (version : PaserkVe
 
   parsed_so : (value : Data) → ParsesWith kind version reading line footer assertion token value → IsParsed (reading binding) rules token value
   parsed_so value is = subst₂ (λ (b : Binding) (r : Rules Verdict). IsParsed (reading b) r token value)
-      (ap (λ (k : List ℕ). bound_to k footer [] (assertion_where (binds_in version) assertion)) (same_key (IsKeyOf kind version) kind version line is.key key is.is_key is_key) ∙ sym bound) (sym unruled) is.is_parsed
+      (ap (λ (k : List ℕ). bound_to k footer [] (assertion_where (binds_in version) assertion)) (sym (one is.key is.is_key)) ∙ sym bound) (sym unruled) is.is_parsed
 
   pub parses : (parsed : Result Value ProgramError) (answer : Result Value GenericParserError) → IfOk parsed (λ value. answer ≡ Ok value)
       → IfErr parsed (λ error. IsErrAnd answer (λ source. IsOutside error ⊎ (¬ IsMemory source)))

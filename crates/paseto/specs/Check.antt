@@ -22,7 +22,7 @@ use Rattle.paseto.specs.Claims.{AreClaims, Named, all_demanded, all_named, all_r
 use Rattle.paseto.specs.Footers.{IsFooter}
 use Rattle.paseto_tasks.specs.Arguments.{Takes, assertion_where, binds_in, texts}
 use Rattle.paseto_tasks.specs.Error.{Lacks}
-use Rattle.paseto_tasks.specs.Id.{IsKeyLine, IsKeyOf}
+use Rattle.paseto_tasks.specs.KeyLine.{IsKeyIn}
 use Rattle.paseto.specs.Readers.{IsReader, reading_of}
 use Rattle.paseto.specs.Times.{IsLeeway, SaysMoment}
 
@@ -95,7 +95,7 @@ pub record IsTheValue (Is : Data → Type 0) (result : Result Value ProgramError
 pub record ParsesWith (kind : PaserkType) (version : PaserkVersion) (reading : Binding → Reading)
     (line : List ℕ) (footer : Option (List ℕ)) (assertion : Option ImplicitAssertion) (token : List ℕ) (value : Data) : Type 0 where
   pub key : List ℕ
-  pub is_key : IsKeyLine (IsKeyOf kind version) kind version line key
+  pub is_key : IsKeyIn kind version line key
   pub is_parsed : IsParsed (reading (bound_to key footer [] (assertion_where (binds_in version) assertion))) (λ key. no_rule) token value
 
 -- the same for a key of whatever type and version reads tokens, and takes the assertion

@@ -1,17 +1,20 @@
 -- The command `issue`.
-use Rattle.std.specs.Prelude.{◌≡◌, ◌⊎◌, ⊤, ℕ, List, [], Option, None, Some, codes, is_some, option_map, string_bytes}
+use Rattle.std.specs.Prelude.{◌≡◌, ◌≢◌, ◌⊎◌, ⊤, ℕ, List, [], Option, None, Some, codes, is_some, option_map, string_bytes}
 use Rattle.jiff.specs.Types.{Timestamp}
 use Rattle.serde_json.specs.Data.{Members}
 use Rattle.rusty_paseto_core.specs.declared.PasetoError.{PasetoError}
+use Rattle.rusty_paseto_core.specs.declared.PasetoError.TheVariants.{Cipher}
 use Rattle.rusty_paseto_core.specs.Local.{Design}
 use Rattle.rusty_paseto_core.specs.Local.V1.{v1}
 use Rattle.rusty_paseto_core.specs.Local.V3.{v3}
 use Rattle.rusty_paseto_core.specs.Local.V4.{v4}
-use Rattle.rusty_paseto_core.specs.Public.{PublicDesign, message, v2_public, v3_public, v4_public}
+use Rattle.rusty_paseto_core.specs.Public.{PublicDesign, message, v1_public, v2_public, v3_public, v4_public}
 use Rattle.rusty_paseto_core.specs.Public.Scheme.{Declining, Validity}
 use Rattle.rusty_paseto_core.specs.Public.Signing.{IsSigning}
 use Rattle.paseto_ed25519.specs.Ed25519.{Ed25519Verifies, IsDeclined, partner}
 use Rattle.paseto_p384.specs.P384.{P384Verifies, IsDeclined as IsDeclinedByP384, p384_public}
+use Rattle.paseto_rsa.specs.Keys.{rsa_public}
+use Rattle.paseto_rsa.specs.RsaPss.{RsaPssVerifies, IsDeclined as IsDeclinedByRsa}
 use Rattle.paseto_xchacha20poly1305.specs.Sealing.{box_sealing}
 use Rattle.rusty_paseto_generic.specs.Builders.Claims.{payload}
 use Rattle.rusty_paseto_generic.specs.Builders.GenericBuilder.{IsBoxAnswer, IsSealed}
@@ -27,9 +30,10 @@ use Rattle.paseto.specs.Check.{bound_to}
 use Rattle.paseto.specs.Claims.{AreClaims, AreSet, Named, all_counted, all_named}
 use Rattle.paseto.specs.Footers.{IsFooter}
 use Rattle.paseto_tasks.specs.Arguments.{Takes, assertion_where}
+use Rattle.paseto_tasks.specs.KeyLine.{IsKeyIn}
 use Rattle.paseto_tasks.specs.Local.{IsLocalKey}
 use Rattle.paseto_tasks.specs.Output.{IsLineOf}
-use Rattle.paseto_tasks.specs.Public.{DeclinesKey, IsHalf}
+use Rattle.paseto_tasks.specs.Public.{DeclinesKey}
 use Rattle.paseto.specs.Times.{IsTimeSet, SaysTime, time_counted}
 
 -- what is ordered: a moment, claims, when the token expires and when it may first be used, and its footer and its assertion
@@ -127,18 +131,18 @@ pub record SignsOrder (valid : Validity) (design : PublicDesign) (public : List 
   pub line_is : IsLineOf token line
 
 -- in a version: the same by the private key of the line
-pub record SignsClaims (version : PaserkVersion) (size : ℕ) (valid : Validity) (design : PublicDesign) (half : List ℕ → List ℕ)
+pub record SignsClaims (version : PaserkVersion) (valid : Validity) (design : PublicDesign) (half : List ℕ → List ℕ)
     (key : List ℕ) (order : Ordered) (line : List ℕ) : Type 0 where
   pub key_bytes : List ℕ
-  pub is_key : IsHalf version Secret size key key_bytes
+  pub is_key : IsKeyIn Secret version key key_bytes
   pub signs : SignsOrder valid design (half key_bytes) order line
 
--- under a private key of each version; in version 1 no key signs here
+-- under a private key of each version
 abbrev pub SignsIn : PaserkVersion → List ℕ → Ordered → List ℕ → Type 0
-SignsIn V1 = λ key order line. ⊥
-SignsIn V2 = SignsClaims V2 64 Ed25519Verifies v2_public partner
-SignsIn V3 = SignsClaims V3 48 P384Verifies v3_public p384_public
-SignsIn V4 = SignsClaims V4 64 Ed25519Verifies v4_public partner
+SignsIn V1 = SignsClaims V1 RsaPssVerifies v1_public rsa_public
+SignsIn V2 = SignsClaims V2 Ed25519Verifies v2_public partner
+SignsIn V3 = SignsClaims V3 P384Verifies v3_public p384_public
+SignsIn V4 = SignsClaims V4 Ed25519Verifies v4_public partner
 
 -- the line is that of a token of what is ordered, under the key of a version that takes the assertion
 abbrev pub Issues : List ℕ → Ordered → (List ℕ → Type 0) → List ℕ → Type 0
@@ -150,19 +154,20 @@ Issues key order IsDrawn line =
 abbrev pub IssuesFor : List (List ℕ) → Options → Timestamp → List ℕ → (List ℕ → Type 0) → List ℕ → Type 0
 IssuesFor claims options now key IsDrawn line = (order : Ordered) × IsOrder claims options now order × Issues key order IsDrawn line
 
--- a scheme declines the claims of what is ordered for a private key
+-- a scheme declines the claims of what is ordered for a private key, and not for want of random bytes
 pub record DeclinesOrder (declined : Declining) (half : List ℕ → List ℕ) (design : PublicDesign) (order : Ordered)
     (private : List ℕ) (error : PasetoError) : Type 0 where
   pub claims : Members
   pub are_ordered : AreOrdered order claims
+  pub own : error ≢ Cipher
   pub is_declined : declined private (message design (bound_to (half private) order.footer [] (assertion_where design.binds_assertion order.assertion)) (payload claims)) error
 
--- the line is the writing of a private key of a version whose scheme declines what is ordered for it
+-- the line is that of a private key of a version whose scheme declines what is ordered for it
 abbrev pub DeclinesIn : PaserkVersion → List ℕ → Ordered → Type 0
-DeclinesIn V1 = λ key order. ⊥
-DeclinesIn V2 = λ key order. DeclinesKey V2 64 (DeclinesOrder IsDeclined partner v2_public order) key
-DeclinesIn V3 = λ key order. DeclinesKey V3 48 (DeclinesOrder IsDeclinedByP384 p384_public v3_public order) key
-DeclinesIn V4 = λ key order. DeclinesKey V4 64 (DeclinesOrder IsDeclined partner v4_public order) key
+DeclinesIn V1 = λ key order. DeclinesKey V1 (DeclinesOrder IsDeclinedByRsa rsa_public v1_public order) key
+DeclinesIn V2 = λ key order. DeclinesKey V2 (DeclinesOrder IsDeclined partner v2_public order) key
+DeclinesIn V3 = λ key order. DeclinesKey V3 (DeclinesOrder IsDeclinedByP384 p384_public v3_public order) key
+DeclinesIn V4 = λ key order. DeclinesKey V4 (DeclinesOrder IsDeclined partner v4_public order) key
 
 abbrev pub IsDeclinedOrder : List ℕ → Ordered → Type 0
 IsDeclinedOrder key order = (version : PaserkVersion) × DeclinesIn version key order

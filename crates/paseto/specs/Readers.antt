@@ -7,24 +7,28 @@ use Rattle.rusty_paseto_core.specs.Local.Opening.{opening}
 use Rattle.rusty_paseto_core.specs.Local.V1.{v1}
 use Rattle.rusty_paseto_core.specs.Local.V3.{v3}
 use Rattle.rusty_paseto_core.specs.Local.V4.{v4}
-use Rattle.rusty_paseto_core.specs.Public.{v2_public, v3_public, v4_public}
+use Rattle.rusty_paseto_core.specs.Public.{v1_public, v2_public, v3_public, v4_public}
 use Rattle.rusty_paseto_core.specs.Public.Verifying.{verification}
 use Rattle.rusty_paseto_core.specs.Reading.{Reading}
 use Rattle.paseto_ed25519.specs.Ed25519.{Ed25519Verifies, IsRefused}
 use Rattle.paseto_p384.specs.P384.{P384Verifies, IsRefused as IsRefusedByP384}
+use Rattle.paseto_rsa.specs.RsaPss.{RsaPssVerifies, IsRefused as IsRefusedByRsa}
 use Rattle.paseto_xchacha20poly1305.specs.Sealing.{box_sealing}
 use Rattle.rusty_paseto_paserk.specs.declared.header.PaserkVersion.{PaserkVersion}
 use Rattle.rusty_paseto_paserk.specs.declared.header.PaserkVersion.TheVariants.{V1, V2, V3, V4}
 use Rattle.rusty_paseto_paserk.specs.declared.header.PaserkType.{PaserkType}
-use Rattle.rusty_paseto_paserk.specs.declared.header.PaserkType.TheVariants.{Local, Public}
+use Rattle.rusty_paseto_paserk.specs.declared.header.PaserkType.TheVariants.{Local, Secret, Public}
 
--- the keys that read tokens: those of local tokens, and the public ones of the versions 2, 3 and 4
+-- the keys that read tokens: those of local tokens, and the public ones
 abbrev pub IsReader : PaserkType → PaserkVersion → Type 0
 IsReader Local version = ⊤
-IsReader Public V2 = ⊤
-IsReader Public V3 = ⊤
-IsReader Public V4 = ⊤
-IsReader _ _ = ⊥
+IsReader Secret version = ⊥
+IsReader Public version = ⊤
+
+-- those among them that have an id, by which a ring names them: all but the public ones of version 1
+abbrev pub IsRingReader : PaserkType → PaserkVersion → Type 0
+IsRingReader Public V1 = ⊥
+IsRingReader kind version = IsReader kind version
 
 -- how a reader's tokens are read: opened, or verified. The last line is that of local keys of version 1; what is no reader
 -- falls to it too, and `IsReader` keeps that out
@@ -32,6 +36,7 @@ abbrev pub reading_of : PaserkType → PaserkVersion → Binding → Reading
 reading_of Local V2 = box_opening box_sealing
 reading_of Local V3 = opening v3
 reading_of Local V4 = opening v4
+reading_of Public V1 = verification RsaPssVerifies IsRefusedByRsa v1_public
 reading_of Public V2 = verification Ed25519Verifies IsRefused v2_public
 reading_of Public V3 = verification P384Verifies IsRefusedByP384 v3_public
 reading_of Public V4 = verification Ed25519Verifies IsRefused v4_public

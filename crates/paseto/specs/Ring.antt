@@ -16,7 +16,7 @@ use Rattle.paseto.specs.Answers.{one_line, unknown_text}
 use Rattle.paseto.specs.Check.{bound_to}
 use Rattle.paseto_tasks.specs.Arguments.{Takes, assertion_where, binds_in}
 use Rattle.paseto_tasks.specs.Id.{IsKeyLine, IsKeyOf}
-use Rattle.paseto.specs.Readers.{IsReader, reading_of}
+use Rattle.paseto.specs.Readers.{IsRingReader, reading_of}
 
 -- the line begins as a key of another version or type
 abbrev pub IsOther : PaserkType → PaserkVersion → List ℕ → Type 0
@@ -50,7 +50,7 @@ pub record ParsesByRing (lines : List (List ℕ)) (footer : Option (List ℕ)) (
   pub kind : PaserkType
   pub version : PaserkVersion
   pub takes : Takes version assertion
-  pub is_reader : IsReader kind version
+  pub is_reader : IsRingReader kind version
   pub parses : ParsesIn kind version (reading_of kind version) lines footer assertion token value
 
 -- what is said where the footer of the token names a key that is not in a ring

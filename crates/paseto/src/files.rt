@@ -52,10 +52,15 @@ fn new_file(rt: &HostRuntime, path: &str, mode: u32) -> Result<File, ProgramErro
     folder::opened(file)
 }
 
-/// Writes what was made to a new file, which its owner alone may read, or to standard output.
-pub fn put<'a>(rt: &HostRuntime, out: Option<&'a str>, made: &[u8]) -> Result<(), Fault<'a>> {
+/// Writes what was made to a new file, for those alone that the mode says, or to standard output.
+pub fn put<'a>(
+    rt: &HostRuntime,
+    out: Option<&'a str>,
+    mode: u32,
+    made: &[u8],
+) -> Result<(), Fault<'a>> {
     match out {
-        Some(path) => write_new(rt, path, 0o600, made),
+        Some(path) => write_new(rt, path, mode, made),
         None => Ok(write_whole(&mut rt.stdout(), made)?),
     }
 }

@@ -1,8 +1,10 @@
 //! The key files of a folder, and files that are opened.
 
 use crate::commands::answers::{one_line_of, told};
-use paseto_tasks::{ProgramError, read_key_line};
-use rusty_paseto_paserk::header_of;
+use crate::keys::Held;
+use paseto_key_files::KeyFileError;
+use paseto_tasks::{ProgramError, begins_as, read_key_line};
+use rusty_paseto_paserk::{PaserkType, PaserkVersion};
 use std::alloc::Global;
 use std::fs::{self, File};
 use std::io;
@@ -11,29 +13,58 @@ use std::os::fd::AsRawFd;
 /// The number of standard error, the last of the standard streams.
 const LAST_STREAM: i32 = 2;
 
-/// The lines of the key files of a folder, but for files whose names begin with a dot.
-pub fn key_lines(rt: &HostRuntime, folder: &str) -> Result<Vec<String>, ProgramError> {
+/// The lines of the key files of a folder, opened where they are locked, but for files whose names begin with a dot.
+pub fn key_lines(
+    rt: &HostRuntime,
+    folder: &str,
+    held: &Held<'_>,
+) -> Result<Vec<String>, ProgramError> {
     let mut lines = Vec::new(rt.alloc());
     for entry in fs::read_dir(rt, folder).map_err(|source| ProgramError::of_file(&source))? {
         let entry = entry?;
         if !entry.file_name().starts_with('.') {
             let mut file = opened(File::open(rt, entry.path()))?;
-            let line = read_key_line(rt.alloc(), &mut file)?;
-            if header_of(line.as_str()).is_none() {
-                return Err(no_key(rt.alloc(), entry.file_name()));
-            }
-            lines.push(line)?;
+            let text = read_key_line(rt.alloc(), &mut file)?;
+            lines.push(line_of(rt.alloc(), held, entry.file_name(), text.as_str())?)?;
         }
     }
     Ok(lines)
 }
 
-/// A file of the folder is no key file.
-fn no_key(alloc: Global, name: &str) -> ProgramError {
-    told(one_line_of(
-        alloc,
-        format!(in alloc; "The file '{name}' of the ring is no key file"),
-    ))
+/// The line of the key of a file of the folder. A key pair of version 1 has no id, by which a ring would find it.
+fn line_of(
+    alloc: Global,
+    held: &Held<'_>,
+    name: &str,
+    text: &str,
+) -> Result<String, ProgramError> {
+    let line = match held.unlock(alloc, text) {
+        Ok(line) => line,
+        Err(error) => return Err(not_opened(alloc, name, error)),
+    };
+    match begins_as(line.as_str()) {
+        None => Err(told(one_line_of(
+            alloc,
+            format!(in alloc; "The file '{name}' of the ring is no key file"),
+        ))),
+        Some((PaserkVersion::V1, PaserkType::Secret | PaserkType::Public)) =>
+            Err(told(one_line_of(
+                alloc,
+                format!(in alloc; "The file '{name}' of the ring is of version 1, whose key pairs have no id"),
+            ))),
+        Some(_) => Ok(line),
+    }
+}
+
+/// A file of the folder is not opened.
+fn not_opened(alloc: Global, name: &str, error: KeyFileError) -> ProgramError {
+    match error {
+        KeyFileError::Memory(source) => ProgramError::Memory(source),
+        error => told(one_line_of(
+            alloc,
+            format!(in alloc; "The file '{name}' of the ring: {error}"),
+        )),
+    }
 }
 
 /// A file, or why there is none. One that was given the number of a closed standard stream is refused, since it would

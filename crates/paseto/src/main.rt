@@ -5,8 +5,10 @@ mod commands;
 mod fault;
 mod files;
 mod folder;
+mod forms;
 mod half;
 mod keys;
+mod locks;
 mod new_key;
 mod texts;
 mod tokens;
@@ -17,7 +19,7 @@ use files::{is_standard, name_of, opened, put};
 use keys::{key_line, key_name};
 use paseto_tasks::run::{run_id, run_inspect};
 use paseto_tasks::{Names, ProgramError, Task};
-use paseto_words::{Action, parse, status};
+use paseto_words::{Action, KeyFile, parse, status};
 use rusty_paseto_paserk::{PaserkType, header_of};
 use std::env;
 use std::process::ExitCode;
@@ -81,7 +83,11 @@ fn done<'a>(rt: &HostRuntime, action: &Action<'a>) -> Result<u8, Fault<'a>> {
     match action {
         Action::Keygen(words) => new_key::make(rt, words),
         Action::Public(words) => half::tell(rt, words),
-        Action::Id(key) => tell_id(rt, *key),
+        Action::Id(key) => tell_id(rt, key),
+        Action::Wrap(words) => locks::wrapped(rt, words),
+        Action::Unwrap(words) => locks::unwrapped(rt, words),
+        Action::Seal(words) => locks::sealed(rt, words),
+        Action::Unseal(words) => locks::unsealed(rt, words),
         Action::Issue(words) => tokens::issue(rt, words),
         Action::Check(words) => tokens::check(rt, words),
         Action::Encrypt(words) => texts::keyed(rt, Task::Encrypt, words),
@@ -93,11 +99,12 @@ fn done<'a>(rt: &HostRuntime, action: &Action<'a>) -> Result<u8, Fault<'a>> {
 }
 
 /// Prints the id of a key.
-fn tell_id<'a>(rt: &HostRuntime, key: Option<&'a str>) -> Result<u8, Fault<'a>> {
+fn tell_id<'a>(rt: &HostRuntime, key: &KeyFile<'a>) -> Result<u8, Fault<'a>> {
     let line = key_line(rt, key)?;
+    let name = key_name(key.file);
     let names = Names {
-        key: key_name(key),
-        input: key_name(key),
+        key: name,
+        input: name,
     };
     Ok(run_id(
         rt.alloc(),

@@ -2,7 +2,7 @@
 
 use crate::fault::Fault;
 use crate::files::{is_standard, name_of, opened, write_new};
-use crate::keys::{key_name, variable, warn_of};
+use crate::keys::{key_line, key_name};
 use paseto_tasks::run::run;
 use paseto_tasks::{Names, Options, ProgramError, Task};
 use paseto_words::Keyed;
@@ -12,32 +12,11 @@ use std::io::{Read, Write};
 
 /// Does a task with the key that the words name: in a file, on standard input or in the environment.
 pub fn keyed<'a>(rt: &HostRuntime, task: Task, words: &Keyed<'a>) -> Result<u8, Fault<'a>> {
-    match words.key {
-        None => with_key(rt, task, words, &mut variable(rt)?.as_bytes()),
-        Some("-") if is_standard(words.input) => Err(Fault::from(ProgramError::OneInput)),
-        Some("-") => with_key(rt, task, words, &mut rt.stdin()),
-        Some(path) => {
-            let mut file = opened(rt, path)?;
-            if is_secret(task) {
-                warn_of(rt, path, &file)?;
-            }
-            with_key(rt, task, words, &mut file)
-        }
+    if words.key.file == Some("-") && is_standard(words.input) {
+        return Err(Fault::from(ProgramError::OneInput));
     }
-}
-
-/// Whether a task takes a key that is to be kept secret.
-fn is_secret(task: Task) -> bool {
-    !matches!(task, Task::Verify)
-}
-
-/// Hands a task its input: the file that is named, or standard input.
-fn with_key<'a, K: Read>(
-    rt: &HostRuntime,
-    task: Task,
-    words: &Keyed<'a>,
-    key: &mut K,
-) -> Result<u8, Fault<'a>> {
+    let line = key_line(rt, &words.key)?;
+    let key = &mut line.as_str().as_bytes();
     match words.input {
         None | Some("-") => with_input(rt, task, words, key, &mut rt.stdin()),
         Some(path) => with_input(rt, task, words, key, &mut opened(rt, path)?),
@@ -73,7 +52,7 @@ fn done<K: Read, R: Read, W: Write>(
     output: &mut W,
 ) -> u8 {
     let names = Names {
-        key: key_name(words.key),
+        key: key_name(words.key.file),
         input: name_of(words.input),
     };
     let options = Options {

@@ -5,17 +5,17 @@ use crate::commands::run::{run_check, run_issue};
 use crate::fault::Fault;
 use crate::files::{is_standard, name_of, opened, write_new};
 use crate::folder::key_lines;
-use crate::keys::{key_line, key_name};
+use crate::keys::{Held, key_line, key_name};
 use jiff::Timestamp;
 use paseto_tasks::{Names, Options, ProgramError};
-use paseto_words::{Check, Foot, Issue, Keys as KeyWords};
+use paseto_words::{Check, Foot, Issue, KeyFile, Keys as KeyWords};
 use rand::rngs::SysRng;
 use rusty_paseto_core::{Footer, ImplicitAssertion};
 use std::io::{Read, Write};
 
 /// Issues a token at the present second.
 pub fn issue<'a>(rt: &HostRuntime, words: &Issue<'a>) -> Result<u8, Fault<'a>> {
-    let line = key_line(rt, words.key)?;
+    let line = key_line(rt, &words.key)?;
     let now = second_of(clock(rt)?)?;
     let Some(path) = words.out else {
         return Ok(issued(rt, words, line.as_str(), now, &mut rt.stdout()));
@@ -36,7 +36,7 @@ fn issued<W: Write>(
     output: &mut W,
 ) -> u8 {
     let names = Names {
-        key: key_name(words.key),
+        key: key_name(words.key.file),
         input: "",
     };
     let mut options = options_of(words.foot, words.assertion, &[]);
@@ -97,20 +97,28 @@ fn clock(rt: &HostRuntime) -> Result<Timestamp, ProgramError> {
 /// Checks a token at the present moment.
 pub fn check<'a>(rt: &HostRuntime, words: &Check<'a>) -> Result<u8, Fault<'a>> {
     match words.keys {
-        KeyWords::Ring(folder) => match key_lines(rt, folder) {
-            Ok(lines) => with_keys(rt, words, folder, &Keys::Ring(&lines)),
-            Err(error) => Err(Fault::about(folder, error)),
-        },
+        KeyWords::Ring(folder) => {
+            let held = Held::of(rt, &words.openers)?;
+            match key_lines(rt, folder, &held) {
+                Ok(lines) => with_keys(rt, words, folder, &Keys::Ring(&lines)),
+                Err(error) => Err(Fault::about(folder, error)),
+            }
+        }
         KeyWords::File("-") if is_standard(words.input) => Err(Fault::from(ProgramError::OneInput)),
-        KeyWords::File(path) => {
-            let line = key_line(rt, Some(path))?;
-            with_keys(rt, words, name_of(Some(path)), &Keys::One(line.as_str()))
-        }
-        KeyWords::Unsaid => {
-            let line = key_line(rt, None)?;
-            with_keys(rt, words, key_name(None), &Keys::One(line.as_str()))
-        }
+        KeyWords::File(path) => with_key(rt, words, Some(path)),
+        KeyWords::Unsaid => with_key(rt, words, None),
     }
+}
+
+/// Checks a token under the key that is named.
+fn with_key<'a>(
+    rt: &HostRuntime,
+    words: &Check<'a>,
+    file: Option<&'a str>,
+) -> Result<u8, Fault<'a>> {
+    let openers = words.openers;
+    let line = key_line(rt, &KeyFile { file, openers })?;
+    with_keys(rt, words, key_name(file), &Keys::One(line.as_str()))
 }
 
 /// Hands `check` its input: the file that is named, or standard input.

@@ -6,4 +6,5 @@ pub mod Boxes
 pub mod Statuses
 pub mod Fronts
 pub mod Ids
+pub mod KeyLines
 pub mod Halves

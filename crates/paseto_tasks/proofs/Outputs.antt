@@ -3,11 +3,13 @@ use Rattle.std.proofs.Common.{◌≡◌, ℕ, ◌<◌, ◌==◌, List, [], ◌�
 use Rattle.std.specs.Io.{StartsWith}
 use Rattle.std.specs.Io.KnownBytes.{Appends, Keeps}
 use Rattle.std.proofs.KnownBytes.{Appends-kept, Appends-nil}
+use Rattle.paseto_key_files.specs.declared.error.KeyFileError.TheVariants.{Random as NoBytes, Memory as NoFileMemory}
+use Rattle.paseto_pem.specs.declared.error.PemError.TheVariants.{Memory as NoPemMemory}
 use Rattle.rusty_paseto_paserk.specs.declared.error.PaserkError.TheVariants.{NoKey, OtherVersion, OtherType, InvalidKey, Memory as NoKeyMemory}
 use Rattle.paseto_tasks.specs.declared.arguments.Options.{Options}
 use Rattle.paseto_tasks.specs.declared.arguments.Task.{Task}
 use Rattle.paseto_tasks.specs.declared.error.ProgramError.{ProgramError}
-use Rattle.paseto_tasks.specs.declared.error.ProgramError.TheVariants.{Usage, KeyWord, NoKind, NoHalf, NoKey, OneInput, Claim, TimeClaim, Time, Key, TooLong, Refused, OtherKind, NoAssertion, OddClaim, OtherFooter, NoFooter, NotAnObject, NoKeyId, NotJson, OddNumber, Unfit, NoFile, NoAccess, FileExists, Clock, Random, InputOrOutput, Memory}
+use Rattle.paseto_tasks.specs.declared.error.ProgramError.TheVariants.{Usage, KeyWord, NoKind, NoHalf, NoFormat, LockedPem, NoKey, NoPassword, OddPassword, OneInput, Claim, TimeClaim, Time, Key, Pem, KeyFile, NotSealed, SecondLine, TooLong, Refused, OtherKind, NoAssertion, OddClaim, OtherFooter, NoFooter, NotAnObject, NoKeyId, NotJson, OddNumber, Unfit, NoFile, NoAccess, FileExists, Clock, Random, InputOrOutput, Memory}
 use Rattle.paseto_tasks.specs.Error.{status_of}
 use Rattle.paseto_streams.specs.Output.{IsCutShort}
 use Rattle.paseto_tasks.specs.Output.{IsLeftOf}
@@ -32,7 +34,10 @@ status_of-some Usage = refl
 status_of-some KeyWord = refl
 status_of-some NoKind = refl
 status_of-some NoHalf = refl
+status_of-some NoFormat = refl
+status_of-some LockedPem = refl
 status_of-some NoKey = refl
+status_of-some NoPassword = refl
 status_of-some OneInput = refl
 status_of-some Claim = refl
 status_of-some TimeClaim = refl
@@ -42,6 +47,14 @@ status_of-some (Key (OtherVersion version)) = refl
 status_of-some (Key (OtherType kind)) = refl
 status_of-some (Key InvalidKey) = refl
 status_of-some (Key (NoKeyMemory source)) = refl
+status_of-some (Pem (NoPemMemory source)) = refl
+status_of-some (Pem error) = refl
+status_of-some (KeyFile NoBytes) = refl
+status_of-some (KeyFile (NoFileMemory source)) = refl
+status_of-some (KeyFile error) = refl
+status_of-some NotSealed = refl
+status_of-some SecondLine = refl
+status_of-some OddPassword = refl
 status_of-some TooLong = refl
 status_of-some (Refused error) = refl
 status_of-some (OtherKind token key) = refl

@@ -1,11 +1,11 @@
 -- What is refused has no output.
-use Rattle.std.proofs.Common.{◌≡◌, ◌⊎◌, ℕ, List, length, Bool, true, false, eqb, Option, None, Some, IfSome, Result, Ok, Err, IfErr, IfOk, IsErrAnd, MatchResult, String, Global, string_bytes, inl, inr, refl, sym, ap, subst, subst₂, ◌∙◌}
+use Rattle.std.proofs.Common.{◌≡◌, ◌≢◌, ◌⊎◌, ℕ, List, length, Bool, true, false, eqb, Option, None, Some, IfSome, Result, Ok, Err, IfErr, IfOk, IsErrAnd, MatchResult, String, Global, string_bytes, inl, inr, refl, sym, ap, subst, subst₂, ◌∙◌}
 use Rattle.std.proofs.lemmas.Bool.{false≢true}
 use Rattle.base64.specs.GeneralPurpose.{IsBytes}
 use Rattle.rusty_paseto_parts.specs.Error.{IsMemory}
 use Rattle.rusty_paseto_parts.specs.Section.{base64url}
 use Rattle.rusty_paseto_parts.specs.declared.error.PasetoError.{PasetoError}
-use Rattle.rusty_paseto_parts.specs.declared.error.PasetoError.TheVariants.{Memory as NoMemory}
+use Rattle.rusty_paseto_parts.specs.declared.error.PasetoError.TheVariants.{Cipher, Memory as NoMemory}
 use Rattle.rusty_paseto_core.specs.Reading.{IsAnswer, IsRead, Reading}
 use Rattle.rusty_paseto_paserk.specs.Error.{IsMemory as IsKeyMemory}
 use Rattle.rusty_paseto_paserk.specs.declared.error.PaserkError.{PaserkError}
@@ -21,8 +21,9 @@ use Rattle.paseto_tasks.specs.declared.arguments.Task.{Task}
 use Rattle.paseto_tasks.specs.declared.error.ProgramError.{ProgramError}
 use Rattle.paseto_tasks.specs.declared.error.ProgramError.TheVariants.{Clock, Random, InputOrOutput, Memory}
 use Rattle.paseto_tasks.specs.Error.{IsOutside, IsTokenError, key_error_of, program_error_of, status_of}
-use Rattle.paseto_tasks.specs.Input.{line_of_input}
-use Rattle.paseto_tasks.specs.Public.{DeclinesKey, IsHalf}
+use Rattle.paseto_tasks.specs.Input.{IsNoKeyFile, line_of_input}
+use Rattle.paseto_tasks.specs.KeyLine.{IsKeyIn}
+use Rattle.paseto_tasks.specs.Public.{DeclinesKey}
 use Rattle.paseto_tasks.specs.Run.{IsRefused, PrintsNothing}
 
 -- ---- tokens
@@ -94,12 +95,19 @@ not_of_line error (Some bytes) line token V A is same step (inl outside) = inl o
 not_of_line error (Some bytes) line token V A is same step (inr none) =
     inr (λ text v. none text (step text (subst (λ (l : List ℕ). V l text) (is ∙ sym same) v)))
 
--- what a scheme declines
+-- the error of a generator
+is_cipher : PasetoError → Bool
+is_cipher Cipher = true
+is_cipher error = false
+
+-- what a scheme declines, and not for want of random bytes
 pub not_signed : (source : PasetoError) (Declined : PasetoError → Type 0) → IsMemory source ⊎ Declined source
-    → IsOutside (program_error_of source) ⊎ ((refusal : PasetoError) × Declined refusal)
+    → IsOutside (program_error_of source) ⊎ ((refusal : PasetoError) × ((refusal ≢ Cipher) × Declined refusal))
+unfolding is_cipher
 not_signed (NoMemory memory) Declined refused = inl tt
+not_signed Cipher Declined refused = inl tt
 not_signed source Declined (inl memory) = absurd memory
-not_signed source Declined (inr declined) = inr (source, declined)
+not_signed source Declined (inr declined) = inr (source, ((λ same. false≢true (ap is_cipher same)), declined))
 
 -- what needs a key, where the line was read as none
 pub no_key : (known : Option (List ℕ)) (error : PaserkError) (N : List ℕ → List ℕ → Type 0) → ((bytes text : List ℕ) → N bytes text → IsKeyMemory error)
@@ -142,6 +150,14 @@ module _ (task : Task) (options : Options) (IsDrawn : List ℕ → Type 0) where
   make_refused (Ok value) file_known known line other same is h = tt
   make_refused (Err error) file_known known line other same is h = known_refused error file_known known line is
       (subst (λ (l : List ℕ). IfSome known (λ bytes. IsOutside error ⊎ PrintsNothing task options IsDrawn l bytes)) same h)
+
+  -- and what is refused for its key file
+  pub file_refused : (error : ProgramError) (file_known known : Option (List ℕ)) → IfSome file_known (λ file. IsOutside error ⊎ IsNoKeyFile file)
+      → IfSome file_known (λ file. IfSome known (λ bytes. IsOutside error ⊎ IsRefused task options IsDrawn file bytes))
+  file_refused error None known h = tt
+  file_refused error (Some file) None h = tt
+  file_refused error (Some file) (Some bytes) (inl outside) = inl outside
+  file_refused error (Some file) (Some bytes) (inr none) = inr (inl none)
 
 -- an error that says nothing of the input ends the program with status 3
 outside_status : (error : ProgramError) → IsOutside error → status_of error ≡ 3
@@ -192,15 +208,15 @@ input_refused error status (Some bytes) X is one (inl outside) = absurd (inside 
 input_refused error status (Some bytes) X is one (inr refused) = refused
 
 -- what a scheme declines for a private key and a text that was read, it declines for the key's line and the input
-pub declined_line : {T : Type 0} (result : Result T ProgramError) (known : Option (List ℕ)) (X : List ℕ → Type 0) (version : PaserkVersion) (size : ℕ)
+pub declined_line : {T : Type 0} (result : Result T ProgramError) (known : Option (List ℕ)) (X : List ℕ → Type 0) (version : PaserkVersion)
     (Declined : List ℕ → List ℕ → PasetoError → Type 0) (line key_bytes private text read : List ℕ)
-    → IfSome known (λ bytes. bytes ≡ read) → text ≡ read → IsHalf version Secret size line key_bytes → private ≡ key_bytes
+    → IfSome known (λ bytes. bytes ≡ read) → text ≡ read → IsKeyIn Secret version line key_bytes → private ≡ key_bytes
     → IfErr result (λ error. IsOutside error ⊎ ((source : PasetoError) × Declined text private source))
-    → IfErr result (λ error. IfSome known (λ bytes. IsOutside error ⊎ (X bytes ⊎ DeclinesKey version size (Declined bytes) line)))
-declined_line (Ok value) known X version size Declined line key_bytes private text read is same is_key own h = tt
-declined_line (Err error) None X version size Declined line key_bytes private text read is same is_key own h = tt
-declined_line (Err error) (Some bytes) X version size Declined line key_bytes private text read is same is_key own (inl outside) = inl outside
-declined_line (Err error) (Some bytes) X version size Declined line key_bytes private text read is same is_key own (inr declined) = inr (inr (record {
+    → IfErr result (λ error. IfSome known (λ bytes. IsOutside error ⊎ (X bytes ⊎ DeclinesKey version (Declined bytes) line)))
+declined_line (Ok value) known X version Declined line key_bytes private text read is same is_key own h = tt
+declined_line (Err error) None X version Declined line key_bytes private text read is same is_key own h = tt
+declined_line (Err error) (Some bytes) X version Declined line key_bytes private text read is same is_key own (inl outside) = inl outside
+declined_line (Err error) (Some bytes) X version Declined line key_bytes private text read is same is_key own (inr declined) = inr (inr (record {
   key_bytes = key_bytes;
   error = declined.0;
   is_key = is_key;

@@ -1,9 +1,11 @@
 -- Which errors end the program with which status.
 use Rattle.std.proofs.Common.{◌≡◌, ◌≢◌, ◌⊎◌, ℕ, List, ◌==◌, false, Result, Ok, Err, IfErr, IsErrAnd, string_bytes, inl, inr, refl, sym, ap, subst, ◌∙◌}
 use Rattle.std.proofs.lemmas.Bool.{false≢true}
+use Rattle.paseto_key_files.specs.declared.error.KeyFileError.TheVariants.{Random as NoBytes, Memory as NoFileMemory}
+use Rattle.paseto_pem.specs.declared.error.PemError.TheVariants.{Memory as NoPemMemory}
 use Rattle.rusty_paseto_paserk.specs.declared.error.PaserkError.TheVariants.{Memory as NoKeyMemory}
 use Rattle.paseto_tasks.specs.declared.error.ProgramError.{ProgramError}
-use Rattle.paseto_tasks.specs.declared.error.ProgramError.TheVariants.{Usage, KeyWord, NoKind, NoHalf, NoKey, OneInput, Claim, TimeClaim, Time, Key, Unfit, Clock, Random, InputOrOutput, Memory}
+use Rattle.paseto_tasks.specs.declared.error.ProgramError.TheVariants.{Usage, KeyWord, NoKind, NoHalf, NoFormat, LockedPem, NoKey, NoPassword, OneInput, Claim, TimeClaim, Time, Key, Pem, KeyFile, Unfit, Clock, Random, InputOrOutput, Memory}
 use Rattle.paseto_tasks.specs.Error.{IsCauseOf, IsFixed, IsNoRefusal, IsNoUsage, IsOutside, Says, status_of}
 
 -- ---- 2
@@ -13,13 +15,21 @@ no_2 Usage none = absurd none
 no_2 KeyWord none = absurd none
 no_2 NoKind none = absurd none
 no_2 NoHalf none = absurd none
+no_2 NoFormat none = absurd none
+no_2 LockedPem none = absurd none
 no_2 NoKey none = absurd none
+no_2 NoPassword none = absurd none
 no_2 OneInput none = absurd none
 no_2 Claim none = absurd none
 no_2 TimeClaim none = absurd none
 no_2 (Time option) none = absurd none
 no_2 (Key (NoKeyMemory source)) none = refl
 no_2 (Key error) none = refl
+no_2 (Pem (NoPemMemory source)) none = refl
+no_2 (Pem error) none = refl
+no_2 (KeyFile NoBytes) none = refl
+no_2 (KeyFile (NoFileMemory source)) none = refl
+no_2 (KeyFile error) none = refl
 no_2 error none = refl
 
 pub not_2 : (error : ProgramError) (status : ℕ) → status ≡ status_of error → IsNoUsage error → status ≢ 2
@@ -94,7 +104,10 @@ no_1 Usage none = refl
 no_1 KeyWord none = refl
 no_1 NoKind none = refl
 no_1 NoHalf none = refl
+no_1 NoFormat none = refl
+no_1 LockedPem none = refl
 no_1 NoKey none = refl
+no_1 NoPassword none = refl
 no_1 OneInput none = refl
 no_1 Claim none = refl
 no_1 TimeClaim none = refl

@@ -6,52 +6,52 @@ use Rattle.rusty_paseto_paserk.specs.declared.header.PaserkVersion.{PaserkVersio
 use Rattle.rusty_paseto_paserk.specs.declared.header.PaserkVersion.TheVariants.{V1, V2, V3, V4}
 use Rattle.rusty_paseto_paserk.specs.declared.header.PaserkType.{PaserkType}
 use Rattle.rusty_paseto_paserk.specs.declared.header.PaserkType.TheVariants.{Local, Secret, Public}
-use Rattle.rusty_paseto_paserk.specs.Header.{HasHeader}
 use Rattle.paseto_tasks.specs.declared.arguments.Options.{Options}
 use Rattle.paseto_tasks.specs.declared.error.ProgramError.{ProgramError}
 use Rattle.paseto_tasks.specs.Arguments.{Takes}
 use Rattle.paseto_tasks.specs.Error.{IsOutside}
+use Rattle.paseto_tasks.specs.KeyLine.{BeginsAs}
 use Rattle.paseto_tasks.specs.Local.{OpensIn, SealsIn}
 use Rattle.paseto_tasks.specs.Public.{SignsIn, VerifiesIn}
-use Rattle.paseto_tasks.proofs.Ids.{same_header}
+use Rattle.paseto_tasks.proofs.KeyLines.{begins_as_key, same_beginning}
 
 -- a line begins as a key of one version
-pub same_version : (kind : PaserkType) (version other : PaserkVersion) (key : List ℕ) → HasHeader version kind key → HasHeader other kind key → version ≡ other
-same_version kind version other key is also = (same_header version other kind kind key is.0 also.0 is.1 also.1).0
+pub same_version : (kind : PaserkType) (version other : PaserkVersion) (key : List ℕ) → BeginsAs version kind key → BeginsAs other kind key → version ≡ other
+same_version kind version other key is also = (same_beginning version other kind kind key is also).0
 
 -- ---- the line begins as a key of the version
 
 module _ (options : Options) (key : List ℕ) where
   pub seals_begins : (IsDrawn : List ℕ → Type 0) (version : PaserkVersion) (text line : List ℕ) → SealsIn version key options IsDrawn text line
-      → HasHeader version Local key
-  seals_begins IsDrawn V1 text line is = (base64url is.key_bytes, is.is_key.is_writing)
-  seals_begins IsDrawn V2 text line is = (base64url is.key_bytes, is.is_key.is_writing)
-  seals_begins IsDrawn V3 text line is = (base64url is.key_bytes, is.is_key.is_writing)
-  seals_begins IsDrawn V4 text line is = (base64url is.key_bytes, is.is_key.is_writing)
+      → BeginsAs version Local key
+  seals_begins IsDrawn V1 text line is = inl (base64url is.key_bytes, is.is_key.is_writing)
+  seals_begins IsDrawn V2 text line is = inl (base64url is.key_bytes, is.is_key.is_writing)
+  seals_begins IsDrawn V3 text line is = inl (base64url is.key_bytes, is.is_key.is_writing)
+  seals_begins IsDrawn V4 text line is = inl (base64url is.key_bytes, is.is_key.is_writing)
 
-  pub opens_begins : (version : PaserkVersion) (token text : List ℕ) → OpensIn version key options token text → HasHeader version Local key
-  opens_begins V1 token text is = (base64url is.key_bytes, is.is_key.is_writing)
-  opens_begins V2 token text is = (base64url is.key_bytes, is.is_key.is_writing)
-  opens_begins V3 token text is = (base64url is.key_bytes, is.is_key.is_writing)
-  opens_begins V4 token text is = (base64url is.key_bytes, is.is_key.is_writing)
+  pub opens_begins : (version : PaserkVersion) (token text : List ℕ) → OpensIn version key options token text → BeginsAs version Local key
+  opens_begins V1 token text is = inl (base64url is.key_bytes, is.is_key.is_writing)
+  opens_begins V2 token text is = inl (base64url is.key_bytes, is.is_key.is_writing)
+  opens_begins V3 token text is = inl (base64url is.key_bytes, is.is_key.is_writing)
+  opens_begins V4 token text is = inl (base64url is.key_bytes, is.is_key.is_writing)
 
-  pub signs_begins : (version : PaserkVersion) (text line : List ℕ) → SignsIn version key options text line → HasHeader version Secret key
-  signs_begins V1 text line is = absurd is
-  signs_begins V2 text line is = (base64url is.key_bytes, is.is_key.is_writing)
-  signs_begins V3 text line is = (base64url is.key_bytes, is.is_key.is_writing)
-  signs_begins V4 text line is = (base64url is.key_bytes, is.is_key.is_writing)
+  pub signs_begins : (version : PaserkVersion) (text line : List ℕ) → SignsIn version key options text line → BeginsAs version Secret key
+  signs_begins V1 text line is = begins_as_key Secret V1 key is.key_bytes is.is_key
+  signs_begins V2 text line is = begins_as_key Secret V2 key is.key_bytes is.is_key
+  signs_begins V3 text line is = begins_as_key Secret V3 key is.key_bytes is.is_key
+  signs_begins V4 text line is = begins_as_key Secret V4 key is.key_bytes is.is_key
 
-  pub verifies_begins : (version : PaserkVersion) (token text : List ℕ) → VerifiesIn version key options token text → HasHeader version Public key
-  verifies_begins V1 token text is = absurd is
-  verifies_begins V2 token text is = (base64url is.key_bytes, is.is_key.is_writing)
-  verifies_begins V3 token text is = (base64url is.key_bytes, is.is_key.is_writing)
-  verifies_begins V4 token text is = (base64url is.key_bytes, is.is_key.is_writing)
+  pub verifies_begins : (version : PaserkVersion) (token text : List ℕ) → VerifiesIn version key options token text → BeginsAs version Public key
+  verifies_begins V1 token text is = begins_as_key Public V1 key is.key_bytes is.is_key
+  verifies_begins V2 token text is = begins_as_key Public V2 key is.key_bytes is.is_key
+  verifies_begins V3 token text is = begins_as_key Public V3 key is.key_bytes is.is_key
+  verifies_begins V4 token text is = begins_as_key Public V4 key is.key_bytes is.is_key
 
 -- ---- by some version
 
 -- in each version, with the key, an output is made of known bytes, or none
 module _ (kind : PaserkType) (key : List ℕ) (assertion : Option ImplicitAssertion) (Makes : PaserkVersion → List ℕ → List ℕ → Type 0)
-    (begins : (version : PaserkVersion) (bytes text : List ℕ) → Makes version bytes text → HasHeader version kind key) where
+    (begins : (version : PaserkVersion) (bytes text : List ℕ) → Makes version bytes text → BeginsAs version kind key) where
   -- by one that takes the assertion
   abbrev Some_makes : List ℕ → List ℕ → Type 0
   Some_makes bytes text = (version : PaserkVersion) × Takes version assertion × Makes version bytes text
@@ -63,11 +63,11 @@ module _ (kind : PaserkType) (key : List ℕ) (assertion : Option ImplicitAssert
   made_by (Ok text) (Some bytes) version takes is = (version, takes, is)
   made_by (Err error) known version takes is = tt
 
-  by_another : (version : PaserkVersion) (bytes text : List ℕ) → HasHeader version kind key → Some_makes bytes text → Takes version assertion × Makes version bytes text
+  by_another : (version : PaserkVersion) (bytes text : List ℕ) → BeginsAs version kind key → Some_makes bytes text → Takes version assertion × Makes version bytes text
   by_another version bytes text header some =
       subst (λ (v : PaserkVersion). Takes v assertion × Makes v bytes text) (same_version kind some.0 version key (begins some.0 bytes text some.2) header) (some.1, some.2)
 
-  none_by : (error : ProgramError) (known : Option (List ℕ)) (version : PaserkVersion) → HasHeader version kind key
+  none_by : (error : ProgramError) (known : Option (List ℕ)) (version : PaserkVersion) → BeginsAs version kind key
       → IfSome known (λ bytes. IsOutside error ⊎ ((text : List ℕ) → ¬ Makes version bytes text))
       → IfSome known (λ bytes. IsOutside error ⊎ ((text : List ℕ) → ¬ Some_makes bytes text))
   none_by error None version header none = tt
@@ -75,20 +75,20 @@ module _ (kind : PaserkType) (key : List ℕ) (assertion : Option ImplicitAssert
   none_by error (Some bytes) version header (inr none) = inr (λ text some. none text (by_another version bytes text header some).1)
 
   -- none by the version of the key, and so by none
-  pub nothing_by : {T : Type 0} (made : Result T ProgramError) (known : Option (List ℕ)) (version : PaserkVersion) → HasHeader version kind key
+  pub nothing_by : {T : Type 0} (made : Result T ProgramError) (known : Option (List ℕ)) (version : PaserkVersion) → BeginsAs version kind key
       → IfErr made (λ error. IfSome known (λ bytes. IsOutside error ⊎ ((text : List ℕ) → ¬ Makes version bytes text)))
       → IfErr made (λ error. IfSome known (λ bytes. IsOutside error ⊎ ((text : List ℕ) → ¬ Some_makes bytes text)))
   nothing_by (Ok value) known version header none = tt
   nothing_by (Err error) known version header none = none_by error known version header none
 
   -- the version of the key takes no assertion
-  pub nothing_taken : (error : ProgramError) (known : Option (List ℕ)) (version : PaserkVersion) → HasHeader version kind key → ¬ Takes version assertion
+  pub nothing_taken : (error : ProgramError) (known : Option (List ℕ)) (version : PaserkVersion) → BeginsAs version kind key → ¬ Takes version assertion
       → IfSome known (λ bytes. IsOutside error ⊎ ((text : List ℕ) → ¬ Some_makes bytes text))
   nothing_taken error None version header none = tt
   nothing_taken error (Some bytes) version header none = inr (λ text some. none (by_another version bytes text header some).0)
 
   -- the line begins as no key of the type
-  pub nothing_begun : (error : ProgramError) (known : Option (List ℕ)) → ((version : PaserkVersion) → ¬ HasHeader version kind key)
+  pub nothing_begun : (error : ProgramError) (known : Option (List ℕ)) → ((version : PaserkVersion) → ¬ BeginsAs version kind key)
       → IfSome known (λ bytes. IsOutside error ⊎ ((text : List ℕ) → ¬ Some_makes bytes text))
   nothing_begun error None none = tt
   nothing_begun error (Some bytes) none = inr (λ text some. none some.0 (begins some.0 bytes text some.2))
@@ -98,7 +98,7 @@ module _ (kind : PaserkType) (key : List ℕ) (assertion : Option ImplicitAssert
     abbrev Nothing : List ℕ → Type 0
     Nothing bytes = ((text : List ℕ) → ¬ Some_makes bytes text) ⊎ ((version : PaserkVersion) × Declines version bytes)
 
-    declined_by : (error : ProgramError) (known : Option (List ℕ)) (version : PaserkVersion) → HasHeader version kind key
+    declined_by : (error : ProgramError) (known : Option (List ℕ)) (version : PaserkVersion) → BeginsAs version kind key
         → IfSome known (λ bytes. IsOutside error ⊎ (((text : List ℕ) → ¬ Makes version bytes text) ⊎ Declines version bytes))
         → IfSome known (λ bytes. IsOutside error ⊎ Nothing bytes)
     declined_by error None version header none = tt
@@ -106,7 +106,7 @@ module _ (kind : PaserkType) (key : List ℕ) (assertion : Option ImplicitAssert
     declined_by error (Some bytes) version header (inr (inl none)) = inr (inl (λ text some. none text (by_another version bytes text header some).1))
     declined_by error (Some bytes) version header (inr (inr declined)) = inr (inr (version, declined))
 
-    pub nothing_or_declined : {T : Type 0} (made : Result T ProgramError) (known : Option (List ℕ)) (version : PaserkVersion) → HasHeader version kind key
+    pub nothing_or_declined : {T : Type 0} (made : Result T ProgramError) (known : Option (List ℕ)) (version : PaserkVersion) → BeginsAs version kind key
         → IfErr made (λ error. IfSome known (λ bytes. IsOutside error ⊎ (((text : List ℕ) → ¬ Makes version bytes text) ⊎ Declines version bytes)))
         → IfErr made (λ error. IfSome known (λ bytes. IsOutside error ⊎ Nothing bytes))
     nothing_or_declined (Ok value) known version header none = tt

@@ -10,6 +10,8 @@ use Rattle.rusty_paseto_paserk.specs.declared.header.PaserkVersion.{PaserkVersio
 use Rattle.rusty_paseto_paserk.specs.declared.header.PaserkVersion.TheVariants.{V1, V2}
 use Rattle.paseto_tasks.specs.declared.arguments.Kind.{Kind}
 use Rattle.paseto_tasks.specs.declared.arguments.Kind.TheVariants.{V1Local, V2Local, V2Public, V3Local, V3Public, V4Local, V4Public}
+use Rattle.paseto_tasks.specs.declared.arguments.Format.{Format}
+use Rattle.paseto_tasks.specs.declared.arguments.Format.TheVariants.{Paserk, Pem}
 use Rattle.paseto_tasks.specs.declared.arguments.Options.{Options}
 
 -- the texts of lines
@@ -33,6 +35,9 @@ kind_of word =
     else if is word (codes "v4.local") then Some V4Local
     else if is word (codes "v4.public") then Some V4Public
     else None
+
+abbrev pub format_of : List ℕ → Option Format
+format_of word = if is word (codes "paserk") then Some Paserk else if is word (codes "pem") then Some Pem else None
 
 abbrev pub is_pair : Kind → Bool
 is_pair V1Local = false

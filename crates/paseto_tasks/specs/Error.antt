@@ -2,6 +2,12 @@
 use Rattle.std.specs.Prelude.{◌≡◌, ◌⊎◌, ℕ, ⊤, List, [], ◌∷◌, ◌++◌, Result, IsErrAnd, alloc_error, codes, string_bytes}
 use Rattle.std.specs.declared.io.ErrorKind.{ErrorKind}
 use Rattle.std.specs.declared.io.ErrorKind.TheVariants.{AlreadyExists, InvalidData, NotFound, OutOfMemory}
+use Rattle.paseto_key_files.specs.Error.{error_text as key_file_error_text}
+use Rattle.paseto_key_files.specs.declared.error.KeyFileError.{KeyFileError}
+use Rattle.paseto_key_files.specs.declared.error.KeyFileError.TheVariants.{Random as NoBytes, Memory as NoFileMemory}
+use Rattle.paseto_pem.specs.Error.{error_text as pem_error_text}
+use Rattle.paseto_pem.specs.declared.error.PemError.{PemError}
+use Rattle.paseto_pem.specs.declared.error.PemError.TheVariants.{NotPem, Memory as NoPemMemory}
 use Rattle.rusty_paseto_parts.specs.Error.{error_text}
 use Rattle.rusty_paseto_parts.specs.declared.error.PasetoError.{PasetoError}
 use Rattle.rusty_paseto_parts.specs.declared.error.PasetoError.TheVariants.{ChaChaCipherError, Cipher, Cryption, InvalidSignature, Memory as NoMemory, WrongHeader, Signature, KeyRejected}
@@ -14,7 +20,7 @@ use Rattle.paseto_tasks.specs.declared.error.TimeOption.TheVariants.{Expires, No
 use Rattle.paseto_tasks.specs.declared.token_kind.TokenKind.{TokenKind}
 use Rattle.paseto_tasks.specs.TokenKind.{NamesKind, kind_text}
 use Rattle.paseto_tasks.specs.declared.error.ProgramError.{ProgramError}
-use Rattle.paseto_tasks.specs.declared.error.ProgramError.TheVariants.{Usage, KeyWord, NoKind, NoHalf, NoKey, OneInput, Claim, TimeClaim, Time, Key, TooLong, Refused, OtherKind, NoAssertion, OddClaim, OtherFooter, NoFooter, NotAnObject, NoKeyId, NotJson, OddNumber, Unfit, NoFile, NoAccess, FileExists, Clock, Random, InputOrOutput, Memory}
+use Rattle.paseto_tasks.specs.declared.error.ProgramError.TheVariants.{Usage, KeyWord, NoKind, NoHalf, NoFormat, LockedPem, NoKey, NoPassword, OddPassword, OneInput, Claim, TimeClaim, Time, Key, Pem, KeyFile, NotSealed, SecondLine, TooLong, Refused, OtherKind, NoAssertion, OddClaim, OtherFooter, NoFooter, NotAnObject, NoKeyId, NotJson, OddNumber, Unfit, NoFile, NoAccess, FileExists, Clock, Random, InputOrOutput, Memory}
 
 -- 2 for words that ask for nothing, 1 for what is refused, and 3 for what fails outside
 abbrev pub status_of : ProgramError → ℕ
@@ -22,14 +28,25 @@ status_of Usage = 2
 status_of KeyWord = 2
 status_of NoKind = 2
 status_of NoHalf = 2
+status_of NoFormat = 2
+status_of LockedPem = 2
 status_of NoKey = 2
+status_of NoPassword = 2
 status_of OneInput = 2
 status_of Claim = 2
 status_of TimeClaim = 2
 status_of (Time _) = 2
 status_of (Key (NoKeyMemory _)) = 3
 status_of (Key _) = 1
+status_of (Pem (NoPemMemory _)) = 3
+status_of (Pem _) = 1
+status_of (KeyFile NoBytes) = 3
+status_of (KeyFile (NoFileMemory _)) = 3
+status_of (KeyFile _) = 1
+status_of NotSealed = 1
+status_of SecondLine = 1
 status_of TooLong = 1
+status_of OddPassword = 1
 status_of (Refused _) = 1
 status_of (OtherKind _ _) = 1
 status_of NoAssertion = 1
@@ -59,6 +76,11 @@ refusal_text Signature = codes "the halves of the private key are of two keys"
 refusal_text KeyRejected = codes "no private key of its kind"
 refusal_text error = error_text error
 
+-- what is said of a key that was refused as PEM: the text of the error, but where that leaves open what to do
+abbrev pub pem_text : PemError → List ℕ
+pem_text NotPem = codes "no valid PEM, in which the key pairs of version 1 are read"
+pem_text error = pem_error_text error
+
 -- what is said where an option says no time
 abbrev pub time_text : TimeOption → List ℕ
 time_text Expires = codes "--expires: a time is as 90s, 30m, 12h, 7d or 2026-11-22T10:00:00Z"
@@ -72,9 +94,17 @@ text_of Usage = codes "a word is no text: paseto --help tells what paseto does"
 text_of KeyWord = codes "a key is among the words, where others can see it: name the file that holds it"
 text_of NoKind = codes "no kind of key: v1.local, v2.local, v2.public, v3.local, v3.public, v4.local and v4.public are kinds"
 text_of NoHalf = codes "keys of this kind have no public half: leave --public out"
+text_of NoFormat = codes "--format: a format of keys is paserk or pem"
+text_of LockedPem = codes "a key under a password is not written in PEM: leave --format or the password out"
+text_of NoPassword = codes "no password is named: give --password-file FILE, or PASETO_PASSWORD"
+text_of OddPassword = codes "no password: one has 1 to 4095 bytes"
 text_of NoKey = codes "no key is named: give --key FILE, or the text of the key in PASETO_KEY"
 text_of OneInput = codes "standard input cannot be the key and the input: name a file for one of them"
 text_of (Key error) = key_error_text error
+text_of (Pem error) = pem_text error
+text_of (KeyFile error) = key_file_error_text error
+text_of NotSealed = codes "the key is not sealed: paseto unwrap opens it"
+text_of SecondLine = codes "line 2: a key file is one line of PASERK, or PEM"
 text_of TooLong = codes "longer than any key: it is no key file"
 text_of (Refused error) = refusal_text error
 text_of Claim = codes "--claim: a claim is as aud=customers, or as seats:=4 with a value of JSON"
@@ -107,10 +137,15 @@ refusal_about names error = names.input.now
 -- the name of what each error is about, which is empty where it is about no file and no word
 abbrev pub about_of : Names → ProgramError → List ℕ
 about_of names (Key _) = names.key.now
+about_of names (Pem _) = names.key.now
 about_of names TooLong = names.key.now
 about_of names NoAssertion = names.key.now
 about_of names NoKind = names.key.now
 about_of names NoHalf = names.key.now
+about_of names NotSealed = names.key.now
+about_of names SecondLine = names.key.now
+about_of names (KeyFile _) = names.key.now
+about_of names OddPassword = names.key.now
 about_of names NoFile = names.key.now
 about_of names NoAccess = names.key.now
 about_of names FileExists = names.key.now
@@ -156,6 +191,15 @@ abbrev pub key_error_of : PaserkError → ProgramError
 key_error_of (NoKeyMemory source) = Memory source
 key_error_of error = Key error
 
+abbrev pub pem_error_of : PemError → ProgramError
+pem_error_of (NoPemMemory source) = Memory source
+pem_error_of error = Pem error
+
+abbrev pub key_file_error_of : KeyFileError → ProgramError
+key_file_error_of (NoFileMemory source) = Memory source
+key_file_error_of NoBytes = Random
+key_file_error_of error = KeyFile error
+
 -- why the words could not be read, by the kind of the system's error: memory was refused, a word is no text, or else
 -- the system failed
 abbrev pub words_error : ErrorKind → ProgramError
@@ -189,7 +233,10 @@ IsNoUsage Usage = ⊥
 IsNoUsage KeyWord = ⊥
 IsNoUsage NoKind = ⊥
 IsNoUsage NoHalf = ⊥
+IsNoUsage NoFormat = ⊥
+IsNoUsage LockedPem = ⊥
 IsNoUsage NoKey = ⊥
+IsNoUsage NoPassword = ⊥
 IsNoUsage OneInput = ⊥
 IsNoUsage Claim = ⊥
 IsNoUsage TimeClaim = ⊥
@@ -217,7 +264,10 @@ IsNoRefusal Usage = ⊤
 IsNoRefusal KeyWord = ⊤
 IsNoRefusal NoKind = ⊤
 IsNoRefusal NoHalf = ⊤
+IsNoRefusal NoFormat = ⊤
+IsNoRefusal LockedPem = ⊤
 IsNoRefusal NoKey = ⊤
+IsNoRefusal NoPassword = ⊤
 IsNoRefusal OneInput = ⊤
 IsNoRefusal Claim = ⊤
 IsNoRefusal TimeClaim = ⊤

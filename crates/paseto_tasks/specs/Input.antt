@@ -1,5 +1,5 @@
 -- The line of an input.
-use Rattle.std.specs.Prelude.{ℕ, ◌<◌, ◌⊎◌, List, length, IsUtf8}
+use Rattle.std.specs.Prelude.{◌≡◌, ℕ, ◌<◌, ◌⊎◌, List, [], length, IsUtf8}
 use Rattle.std.specs.Io.BufRead.{strip_last}
 
 -- the line that an input is: without the line feed at its end, where it has one
@@ -8,4 +8,8 @@ line_of_input input = strip_last 10 input
 
 -- the bytes are no key file: too many, or no text
 abbrev pub IsNoKeyFile : List ℕ → Type 0
-IsNoKeyFile bytes = (1024 < length bytes) ⊎ (¬ IsUtf8 (line_of_input bytes))
+IsNoKeyFile bytes = (4096 < length bytes) ⊎ (¬ IsUtf8 (line_of_input bytes))
+
+-- the bytes are no password: too many, or none
+abbrev pub IsNoPassword : List ℕ → Type 0
+IsNoPassword bytes = (4096 < length bytes) ⊎ (line_of_input bytes ≡ [])

@@ -9,4 +9,5 @@ pub mod Keygen
 pub mod Inspect
 pub mod Half
 pub mod Id
+pub mod KeyLine
 pub mod Run

@@ -1,29 +1,24 @@
 -- The commands `sign` and `verify`.
-use Rattle.std.specs.Prelude.{◌≡◌, ◌⊎◌, ℕ, List, [], ◌∷◌, ◌++◌, length, is_some, IsUtf8}
-use Rattle.base64.specs.GeneralPurpose.{IsBytes}
-use Rattle.rusty_paseto_core.specs.Public.{PublicDesign, message, v2_public, v3_public, v4_public}
+use Rattle.std.specs.Prelude.{◌≡◌, ◌≢◌, ◌⊎◌, ℕ, List, [], ◌∷◌, ◌++◌, is_some, IsUtf8}
+use Rattle.rusty_paseto_core.specs.Public.{PublicDesign, message, v1_public, v2_public, v3_public, v4_public}
 use Rattle.rusty_paseto_core.specs.Public.Scheme.{Declining, Refusal, Validity}
 use Rattle.rusty_paseto_core.specs.Public.Signing.{IsSigning}
 use Rattle.rusty_paseto_core.specs.Public.Verifying.{verification}
 use Rattle.rusty_paseto_core.specs.Reading.{IsRead}
 use Rattle.paseto_ed25519.specs.Ed25519.{Ed25519Verifies, IsDeclined, IsRefused, partner}
 use Rattle.paseto_p384.specs.P384.{P384Verifies, IsDeclined as IsDeclinedByP384, IsRefused as IsRefusedByP384, p384_public}
+use Rattle.paseto_rsa.specs.Keys.{rsa_public}
+use Rattle.paseto_rsa.specs.RsaPss.{RsaPssVerifies, IsDeclined as IsDeclinedByRsa, IsRefused as IsRefusedByRsa}
 use Rattle.rusty_paseto_parts.specs.declared.error.PasetoError.{PasetoError}
+use Rattle.rusty_paseto_parts.specs.declared.error.PasetoError.TheVariants.{Cipher}
 use Rattle.rusty_paseto_paserk.specs.declared.header.PaserkVersion.{PaserkVersion}
 use Rattle.rusty_paseto_paserk.specs.declared.header.PaserkVersion.TheVariants.{V1, V2, V3, V4}
 use Rattle.rusty_paseto_paserk.specs.declared.header.PaserkType.{PaserkType}
 use Rattle.rusty_paseto_paserk.specs.declared.header.PaserkType.TheVariants.{Secret, Public}
-use Rattle.rusty_paseto_paserk.specs.Text.{writing}
 use Rattle.paseto_tasks.specs.declared.arguments.Options.{Options}
 use Rattle.paseto_tasks.specs.Arguments.{Takes, bound_by}
-use Rattle.paseto_tasks.specs.Id.{IsKeyLine, IsKeyOf}
+use Rattle.paseto_tasks.specs.KeyLine.{IsKeyIn}
 use Rattle.paseto_tasks.specs.Input.{line_of_input}
-
--- the line is the writing of these bytes, which are so many
-pub record IsHalf (version : PaserkVersion) (kind : PaserkType) (size : ℕ) (line key : List ℕ) : Type 0 where
-  pub has_size : length key ≡ size
-  pub bytes : IsBytes key
-  pub is_writing : line ≡ writing version kind key
 
 -- the line that is printed is a token of the text with a signature that is valid for the public half of the key, and a
 -- line feed
@@ -34,18 +29,18 @@ pub record IsSigned (valid : Validity) (design : PublicDesign) (public : List �
   pub line_is : line ≡ token ++ (10 ∷ [])
 
 -- in a version: the same by the private key of the line
-pub record SignsText (version : PaserkVersion) (size : ℕ) (valid : Validity) (design : PublicDesign) (half : List ℕ → List ℕ)
+pub record SignsText (version : PaserkVersion) (valid : Validity) (design : PublicDesign) (half : List ℕ → List ℕ)
     (key : List ℕ) (options : Options) (text line : List ℕ) : Type 0 where
   pub key_bytes : List ℕ
-  pub is_key : IsHalf version Secret size key key_bytes
+  pub is_key : IsKeyIn Secret version key key_bytes
   pub signed : IsSigned valid design (half key_bytes) options text line
 
 -- in each version that signs here
 abbrev pub SignsIn : PaserkVersion → List ℕ → Options → List ℕ → List ℕ → Type 0
-SignsIn V1 = λ key options text line. ⊥
-SignsIn V2 = SignsText V2 64 Ed25519Verifies v2_public partner
-SignsIn V3 = SignsText V3 48 P384Verifies v3_public p384_public
-SignsIn V4 = SignsText V4 64 Ed25519Verifies v4_public partner
+SignsIn V1 = SignsText V1 RsaPssVerifies v1_public rsa_public
+SignsIn V2 = SignsText V2 Ed25519Verifies v2_public partner
+SignsIn V3 = SignsText V3 P384Verifies v3_public p384_public
+SignsIn V4 = SignsText V4 Ed25519Verifies v4_public partner
 
 -- the line is printed for a private key of a version, which takes the assertion
 abbrev pub SignsBy : List ℕ → Options → List ℕ → List ℕ → Type 0
@@ -60,13 +55,13 @@ IsVerified valid refused design public options token text =
 pub record VerifiesText (version : PaserkVersion) (valid : Validity) (refused : Refusal) (design : PublicDesign)
     (key : List ℕ) (options : Options) (token text : List ℕ) : Type 0 where
   pub key_bytes : List ℕ
-  pub is_key : IsKeyLine (IsKeyOf Public version) Public version key key_bytes
+  pub is_key : IsKeyIn Public version key key_bytes
   pub utf8 : IsUtf8 token
   pub verified : IsVerified valid refused design key_bytes options token text
 
 -- in each version that is verified here
 abbrev pub VerifiesIn : PaserkVersion → List ℕ → Options → List ℕ → List ℕ → Type 0
-VerifiesIn V1 = λ key options token text. ⊥
+VerifiesIn V1 = VerifiesText V1 RsaPssVerifies IsRefusedByRsa v1_public
 VerifiesIn V2 = VerifiesText V2 Ed25519Verifies IsRefused v2_public
 VerifiesIn V3 = VerifiesText V3 P384Verifies IsRefusedByP384 v3_public
 VerifiesIn V4 = VerifiesText V4 Ed25519Verifies IsRefused v4_public
@@ -76,26 +71,26 @@ abbrev pub VerifiesBy : List ℕ → Options → List ℕ → List ℕ → Type 
 VerifiesBy key options input text =
     (version : PaserkVersion) × Takes version options.assertion × VerifiesIn version key options (line_of_input input) text
 
--- the line is the writing of a private key of a version, for which this error is answered
-pub record DeclinesKey (version : PaserkVersion) (size : ℕ) (Declined : List ℕ → PasetoError → Type 0) (key : List ℕ) : Type 0 where
+-- the line is that of a private key of a version, for which this error is answered
+pub record DeclinesKey (version : PaserkVersion) (Declined : List ℕ → PasetoError → Type 0) (key : List ℕ) : Type 0 where
   pub key_bytes : List ℕ
   pub error : PasetoError
-  pub is_key : IsHalf version Secret size key key_bytes
+  pub is_key : IsKeyIn Secret version key key_bytes
   pub declined : Declined key_bytes error
 
--- a scheme declines the text for a private key
+-- a scheme declines the text for a private key, and not for want of random bytes
 abbrev pub DeclinesText : Declining → (List ℕ → List ℕ) → PublicDesign → Options → List ℕ → List ℕ → PasetoError → Type 0
 DeclinesText declined half design options text private error =
-    declined private (message design (bound_by design.binds_assertion (half private) options) text) error
+    (error ≢ Cipher) × declined private (message design (bound_by design.binds_assertion (half private) options) text) error
 
 abbrev pub DeclinesIn : PaserkVersion → List ℕ → Options → List ℕ → Type 0
-DeclinesIn V1 = λ key options text. ⊥
-DeclinesIn V2 = λ key options text. DeclinesKey V2 64 (DeclinesText IsDeclined partner v2_public options text) key
-DeclinesIn V3 = λ key options text. DeclinesKey V3 48 (DeclinesText IsDeclinedByP384 p384_public v3_public options text) key
-DeclinesIn V4 = λ key options text. DeclinesKey V4 64 (DeclinesText IsDeclined partner v4_public options text) key
+DeclinesIn V1 = λ key options text. DeclinesKey V1 (DeclinesText IsDeclinedByRsa rsa_public v1_public options text) key
+DeclinesIn V2 = λ key options text. DeclinesKey V2 (DeclinesText IsDeclined partner v2_public options text) key
+DeclinesIn V3 = λ key options text. DeclinesKey V3 (DeclinesText IsDeclinedByP384 p384_public v3_public options text) key
+DeclinesIn V4 = λ key options text. DeclinesKey V4 (DeclinesText IsDeclined partner v4_public options text) key
 
--- no line is printed for the key and the text: there is no private key of version 2, 3 or 4, or no text, or its version
--- takes no assertion, or the scheme declines the text for the key, as one whose halves do not belong together
+-- no line is printed for the key and the text: there is no private key, or no text, or its version takes no assertion, or
+-- the scheme declines the text for the key, as one whose halves do not belong together
 abbrev pub SignsNothing : List ℕ → Options → List ℕ → Type 0
 SignsNothing key options text = ((line : List ℕ) → ¬ SignsBy key options text line)
     ⊎ ((version : PaserkVersion) × DeclinesIn version key options text)

@@ -1,7 +1,7 @@
 //! What a command is asked for, beside its key and its input.
 
 ghost use Rattle.std.specs.Prelude.{◌≡◌};
-ghost use Rattle.paseto_tasks.specs.Arguments.{is_pair, kind_of};
+ghost use Rattle.paseto_tasks.specs.Arguments.{format_of, is_pair, kind_of};
 
 use rusty_paseto_core::{Footer, ImplicitAssertion};
 
@@ -48,6 +48,28 @@ impl Kind {
         match self {
             Kind::V1Local | Kind::V2Local | Kind::V3Local | Kind::V4Local => false,
             Kind::V2Public | Kind::V3Public | Kind::V4Public => true,
+        }
+    }
+}
+
+/// How a key is written.
+#[derive(Clone, Copy)]
+pub enum Format {
+    /// `paserk`
+    Paserk,
+    /// `pem`
+    Pem,
+}
+
+impl Format {
+    /// The format that a word names.
+    pub fn parse(word: &str) -> Option<Format>
+        ensures { result ≡ format_of word.now }
+    {
+        match word {
+            "paserk" => Some(Format::Paserk),
+            "pem" => Some(Format::Pem),
+            _ => None,
         }
     }
 }

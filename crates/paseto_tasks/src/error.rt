@@ -7,10 +7,12 @@ ghost use Rattle.std.specs.Io.KnownBytes.{Appends};
 ghost use Rattle.std.specs.IoError.{error_kind};
 ghost use Rattle.rusty_paseto_parts.specs.declared.error.PasetoError.TheVariants.{Utf8Error as NotUtf8};
 ghost use Rattle.paseto_tasks.specs.declared.error.ProgramError.TheVariants.{InputOrOutput, Memory, Refused};
-ghost use Rattle.paseto_tasks.specs.Error.{IsFixed, IsOutside, IsTokenError, about_of, colon_behind, file_error, joined, key_error_of, line_of, program_error_of, refusal_about, refusal_text, status_of, text_of, time_text, words_error};
+ghost use Rattle.paseto_tasks.specs.Error.{IsFixed, IsOutside, IsTokenError, about_of, colon_behind, file_error, joined, key_error_of, key_file_error_of, line_of, pem_error_of, pem_text, program_error_of, refusal_about, refusal_text, status_of, text_of, time_text, words_error};
 
 use crate::output::write_whole;
 use crate::token_kind::TokenKind;
+use paseto_key_files::KeyFileError;
+use paseto_pem::PemError;
 use paseto_streams::StreamError;
 use rusty_paseto_core::PasetoError;
 use rusty_paseto_paserk::PaserkError;
@@ -29,12 +31,28 @@ pub enum ProgramError {
     NoKind,
     /// Keys of the kind that is named have no public half.
     NoHalf,
+    /// A word names no format of keys.
+    NoFormat,
+    /// A key is to be written under a password and in PEM.
+    LockedPem,
     /// No key is named.
     NoKey,
+    /// No password is named.
+    NoPassword,
+    /// What is named as a password is none.
+    OddPassword,
     /// Standard input is to be the key and the input.
     OneInput,
     /// The text of the key file was refused.
     Key(PaserkError),
+    /// The text of the key file was refused as PEM.
+    Pem(PemError),
+    /// The key file was not opened, or a key not written to one.
+    KeyFile(KeyFileError),
+    /// The key is to be unsealed, and is not sealed.
+    NotSealed,
+    /// The key file has a second line, and is no PEM.
+    SecondLine,
     /// The key file or the input is longer than the program reads.
     TooLong,
     /// A text or a token was refused.
@@ -115,11 +133,21 @@ impl ProgramError {
             ProgramError::NoKind =>
                 "no kind of key: v1.local, v2.local, v2.public, v3.local, v3.public, v4.local and v4.public are kinds",
             ProgramError::NoHalf => "keys of this kind have no public half: leave --public out",
+            ProgramError::NoFormat => "--format: a format of keys is paserk or pem",
+            ProgramError::LockedPem =>
+                "a key under a password is not written in PEM: leave --format or the password out",
+            ProgramError::NoPassword =>
+                "no password is named: give --password-file FILE, or PASETO_PASSWORD",
+            ProgramError::OddPassword => "no password: one has 1 to 4095 bytes",
             ProgramError::NoKey =>
                 "no key is named: give --key FILE, or the text of the key in PASETO_KEY",
             ProgramError::OneInput =>
                 "standard input cannot be the key and the input: name a file for one of them",
             ProgramError::Key(source) => source.text(),
+            ProgramError::Pem(source) => pem_text(source),
+            ProgramError::KeyFile(source) => source.text(),
+            ProgramError::NotSealed => "the key is not sealed: paseto unwrap opens it",
+            ProgramError::SecondLine => "line 2: a key file is one line of PASERK, or PEM",
             ProgramError::TooLong => "longer than any key: it is no key file",
             ProgramError::Refused(source) => refusal_text(source),
             ProgramError::Claim =>
@@ -159,10 +187,15 @@ impl ProgramError {
     {
         match self {
             ProgramError::Key(_)
+            | ProgramError::Pem(_)
             | ProgramError::TooLong
+            | ProgramError::OddPassword
             | ProgramError::NoAssertion
             | ProgramError::NoKind
             | ProgramError::NoHalf
+            | ProgramError::NotSealed
+            | ProgramError::SecondLine
+            | ProgramError::KeyFile(_)
             | ProgramError::NoFile
             | ProgramError::NoAccess
             | ProgramError::FileExists => names.key,
@@ -210,14 +243,24 @@ impl ProgramError {
             | ProgramError::KeyWord
             | ProgramError::NoKind
             | ProgramError::NoHalf
+            | ProgramError::NoFormat
+            | ProgramError::LockedPem
             | ProgramError::NoKey
+            | ProgramError::NoPassword
             | ProgramError::OneInput
             | ProgramError::Claim
             | ProgramError::TimeClaim
             | ProgramError::Time(_) => 2,
-            ProgramError::Key(PaserkError::Memory(_)) => 3,
+            ProgramError::Key(PaserkError::Memory(_))
+            | ProgramError::Pem(PemError::Memory(_))
+            | ProgramError::KeyFile(KeyFileError::Random | KeyFileError::Memory(_)) => 3,
             ProgramError::Key(_)
+            | ProgramError::Pem(_)
+            | ProgramError::KeyFile(_)
+            | ProgramError::NotSealed
+            | ProgramError::SecondLine
             | ProgramError::TooLong
+            | ProgramError::OddPassword
             | ProgramError::Refused(_)
             | ProgramError::OtherKind(_, _)
             | ProgramError::NoAssertion
@@ -279,6 +322,16 @@ pub fn answered(
         Ok(text) => Ok(text),
         Err(PasetoError::WrongHeader) => Err(ProgramError::OtherKind(TokenKind::of(token), key)),
         Err(source) => Err(ProgramError::from(source)),
+    }
+}
+
+/// What is said of a key that was refused as PEM: the text of the error, but where that leaves open what to do.
+fn pem_text(source: &PemError) -> &'static str
+    ensures { result.now ≡ pem_text source.now }
+{
+    match source {
+        PemError::NotPem => "no valid PEM, in which the key pairs of version 1 are read",
+        _ => source.text(),
     }
 }
 
@@ -401,6 +454,29 @@ impl From<PaserkError> for ProgramError {
         match source {
             PaserkError::Memory(source) => ProgramError::Memory(source),
             other => ProgramError::Key(other),
+        }
+    }
+}
+
+impl From<PemError> for ProgramError {
+    ghost from_gives = { λ source error. error ≡ pem_error_of source };
+
+    fn from(source: PemError) -> ProgramError {
+        match source {
+            PemError::Memory(source) => ProgramError::Memory(source),
+            other => ProgramError::Pem(other),
+        }
+    }
+}
+
+impl From<KeyFileError> for ProgramError {
+    ghost from_gives = { λ source error. error ≡ key_file_error_of source };
+
+    fn from(source: KeyFileError) -> ProgramError {
+        match source {
+            KeyFileError::Memory(source) => ProgramError::Memory(source),
+            KeyFileError::Random => ProgramError::Random,
+            other => ProgramError::KeyFile(other),
         }
     }
 }

@@ -2,7 +2,7 @@
 
 ghost use Rattle.std.specs.Prelude.{◌≡◌, ◌<◌, ◌⊎◌, IfOk, IfErr, IfSome, OnOk, length, string_bytes, IsUtf8};
 ghost use Rattle.paseto_tasks.specs.Error.{IsFixed, IsNoUsage, IsOutside};
-ghost use Rattle.paseto_tasks.specs.Input.{IsNoKeyFile, line_of_input};
+ghost use Rattle.paseto_tasks.specs.Input.{IsNoKeyFile, IsNoPassword, line_of_input};
 ghost use Rattle.paseto_streams.specs.Input.{IsInput};
 
 use crate::error::ProgramError;
@@ -12,8 +12,8 @@ use std::alloc::Global;
 use std::io::Read;
 use std::str;
 
-/// How many bytes a key file has at most. The longest line of a key has fewer than 100.
-const LIMIT: usize = 1024;
+/// How many bytes a key file has at most. The PEM of a key of RSA has fewer than 2,000, and a wrapped key no more.
+const LIMIT: usize = 4096;
 
 /// The text that the input is. One that is not UTF-8 is refused.
 pub fn read_text<R: Read>(alloc: Global, input: &mut R) -> Result<String, ProgramError>
@@ -62,11 +62,31 @@ pub fn read_key_line<K: Read>(alloc: Global, file: &mut K) -> Result<String, Pro
     Ok(String::from_str(alloc, line)?)
 }
 
+/// The password that a file is: its bytes without the line feed at their end. Refused are no bytes, and more than a key
+/// file has.
+pub fn read_password<P: Read>(alloc: Global, file: &mut P) -> Result<Vec<u8>, ProgramError>
+    ensures password { IfOk result (λ password. IfSome (P.remaining file.old)
+        (λ bytes. line_of_input bytes ≡ password.items)) }
+    ensures refused { IfErr result (λ error. IfSome (P.remaining file.old)
+        (λ bytes. IsOutside error ⊎ IsNoPassword bytes)) }
+    ensures fixed { IfErr result IsFixed }
+{
+    let bytes = match read_short(alloc, file) {
+        Err(ProgramError::TooLong) => return Err(ProgramError::OddPassword),
+        read => read?,
+    };
+    let password = without_line_feed(&bytes);
+    if password.is_empty() {
+        return Err(ProgramError::OddPassword);
+    }
+    Ok(Vec::from_slice(alloc, password)?)
+}
+
 /// The bytes of a file that has not more than a key file.
 fn read_short<K: Read>(alloc: Global, file: &mut K) -> Result<Vec<u8>, ProgramError>
     ensures whole { IfOk result (λ bytes. IsInput (K.remaining file.old) bytes.items) }
     ensures failed { IfErr result (λ error. IfSome (K.remaining file.old)
-        (λ bytes. IsOutside error ⊎ (1024 < length bytes))) }
+        (λ bytes. IsOutside error ⊎ (4096 < length bytes))) }
     ensures fixed { IfErr result IsFixed }
 {
     let mut bytes = Vec::new(alloc);

@@ -10,24 +10,28 @@ ghost use Rattle.paseto_tasks.specs.Input.{line_of_input};
 use crate::arguments::Options;
 use crate::error::{ProgramError, answered};
 use crate::input::{read_line, read_text};
-use crate::suite::Suite;
+use crate::key_line::PairLines;
+use crate::rsa::{Salt, signer, verifier};
 use crate::token_kind::TokenKind;
 use crate::version::{takes, version_of};
+use paseto_ed25519::Ed25519;
+use paseto_p384::P384;
+use paseto_rsa::RsaPss;
+use rand_core::TryRng;
 use rusty_paseto_core::{
-    PasetoAsymmetricPrivateKey, PasetoAsymmetricPublicKey, Payload, Public, Signs, V2, V3, V4,
+    PasetoAsymmetricPrivateKey, PasetoAsymmetricPublicKey, Payload, Public, Signs, V1, V2, V3, V4,
     Verifies,
 };
-use rusty_paseto_paserk::{
-    PaserkError, PaserkType, PaserkVersion, private_key_from_paserk, public_key_from_paserk,
-};
+use rusty_paseto_paserk::{PaserkType, PaserkVersion};
 use std::alloc::Global;
 use std::io::Read;
 
-/// The signed token of the input, which is the text, and a line feed.
-pub fn sign<R: Read>(
+/// The signed token of the input, which is the text, and a line feed. In version 1 a salt is drawn.
+pub fn sign<R: Read, G: TryRng>(
     alloc: Global,
     key: &str,
     options: &Options<'_>,
+    generator: &mut G,
     input: &mut R,
 ) -> Result<String, ProgramError>
     ensures printed { IfOk result (λ line. IfSome (R.remaining input.old) (λ text.
@@ -38,14 +42,15 @@ pub fn sign<R: Read>(
 {
     let version = version_of(key, PaserkType::Secret)?;
     takes(version, options.assertion)?;
-    sign_in(alloc, version, key, options, input)
+    sign_in(alloc, version, key, options, generator, input)
 }
 
-fn sign_in<R: Read>(
+fn sign_in<R: Read, G: TryRng>(
     alloc: Global,
     version: PaserkVersion,
     key: &str,
     options: &Options<'_>,
+    generator: &mut G,
     input: &mut R,
 ) -> Result<String, ProgramError>
     ensures printed { IfOk result (λ line. IfSome (R.remaining input.old) (λ text.
@@ -56,32 +61,38 @@ fn sign_in<R: Read>(
     ensures fixed { IfErr result IsFixed }
 {
     match version {
-        PaserkVersion::V1 => Err(ProgramError::Key(PaserkError::OtherVersion(version))),
-        PaserkVersion::V2 => sign_by::<V2, R>(alloc, key, options, input),
-        PaserkVersion::V3 => sign_by::<V3, R>(alloc, key, options, input),
-        PaserkVersion::V4 => sign_by::<V4, R>(alloc, key, options, input),
+        PaserkVersion::V1 => {
+            let mut scheme = signer(generator)?;
+            sign_by::<V1, RsaPss<Salt>, R>(alloc, &mut scheme, key, options, input)
+        }
+        PaserkVersion::V2 =>
+            sign_by::<V2, Ed25519, R>(alloc, &mut Ed25519, key, options, input),
+        PaserkVersion::V3 => sign_by::<V3, P384, R>(alloc, &mut P384, key, options, input),
+        PaserkVersion::V4 =>
+            sign_by::<V4, Ed25519, R>(alloc, &mut Ed25519, key, options, input),
     }
 }
 
-fn sign_by<V: Suite + Signs<V::Scheme>, R: Read>(
+fn sign_by<V: PairLines + Signs<S>, S, R: Read>(
     alloc: Global,
+    scheme: &mut S,
     key: &str,
     options: &Options<'_>,
     input: &mut R,
 ) -> Result<String, ProgramError>
     ensures printed { IfOk result (λ line. IfSome (R.remaining input.old) (λ text.
-        SignsText V.paserk V.secret_length V.valid V.public_design V.partner key.now options.now
+        SignsText V.paserk V.valid V.public_design V.partner key.now options.now
         text (string_bytes line))) }
     ensures refused { IfErr result (λ error. IfSome (R.remaining input.old) (λ text. IsOutside error
-        ⊎ (((line : List ℕ) → ¬ SignsText V.paserk V.secret_length V.valid V.public_design V.partner
+        ⊎ (((line : List ℕ) → ¬ SignsText V.paserk V.valid V.public_design V.partner
         key.now options.now text line)
-        ⊎ DeclinesKey V.paserk V.secret_length (DeclinesText V.declined V.partner
+        ⊎ DeclinesKey V.paserk (DeclinesText V.declined V.partner
         V.public_design options.now text) key.now))) }
     ensures fixed { IfErr result IsFixed }
 {
-    let key = private_key_from_paserk::<V>(alloc, key)?;
+    let key = V::private_key(alloc, key)?;
     let text = read_text(alloc, input)?;
-    signed(alloc, &mut V::scheme(), &key.lend(), text.as_str(), options)
+    signed(alloc, scheme, &key.lend(), text.as_str(), options)
 }
 
 fn signed<V: Signs<S>, S>(
@@ -140,16 +151,45 @@ fn verify_in<R: Read>(
     ensures fixed { IfErr result IsFixed }
 {
     match version {
-        PaserkVersion::V1 => Err(ProgramError::Key(PaserkError::OtherVersion(version))),
-        PaserkVersion::V2 => verify_by::<V2, R>(alloc, TokenKind::V2Public, key, options, input),
-        PaserkVersion::V3 => verify_by::<V3, R>(alloc, TokenKind::V3Public, key, options, input),
-        PaserkVersion::V4 => verify_by::<V4, R>(alloc, TokenKind::V4Public, key, options, input),
+        PaserkVersion::V1 => verify_by::<V1, RsaPss<Salt>, R>(
+            alloc,
+            TokenKind::V1Public,
+            &verifier(),
+            key,
+            options,
+            input,
+        ),
+        PaserkVersion::V2 => verify_by::<V2, Ed25519, R>(
+            alloc,
+            TokenKind::V2Public,
+            &Ed25519,
+            key,
+            options,
+            input,
+        ),
+        PaserkVersion::V3 => verify_by::<V3, P384, R>(
+            alloc,
+            TokenKind::V3Public,
+            &P384,
+            key,
+            options,
+            input,
+        ),
+        PaserkVersion::V4 => verify_by::<V4, Ed25519, R>(
+            alloc,
+            TokenKind::V4Public,
+            &Ed25519,
+            key,
+            options,
+            input,
+        ),
     }
 }
 
-fn verify_by<V: Suite + Verifies<V::Scheme>, R: Read>(
+fn verify_by<V: PairLines + Verifies<S>, S, R: Read>(
     alloc: Global,
     kind: TokenKind,
+    scheme: &S,
     key: &str,
     options: &Options<'_>,
     input: &mut R,
@@ -163,10 +203,10 @@ fn verify_by<V: Suite + Verifies<V::Scheme>, R: Read>(
         options.now (line_of_input bytes) text))) }
     ensures fixed { IfErr result IsFixed }
 {
-    let key = public_key_from_paserk::<V>(alloc, key)?;
+    let key = V::public_key(alloc, key)?;
     let token = read_line(alloc, input)?;
     let (key, token) = (key.lend(), token.as_str());
-    verified(alloc, kind, &V::scheme(), &key, token, options)
+    verified(alloc, kind, scheme, &key, token, options)
 }
 
 fn verified<V: Verifies<S>, S>(

@@ -173,7 +173,7 @@ fn make<K: Read, G: TryRng, R: Read>(
     match task {
         Task::Encrypt => encrypt(alloc, key, options, generator, input),
         Task::Decrypt => decrypt(alloc, key, options, input),
-        Task::Sign => sign(alloc, key, options, input),
+        Task::Sign => sign(alloc, key, options, generator, input),
         Task::Verify => verify(alloc, key, options, input),
     }
 }

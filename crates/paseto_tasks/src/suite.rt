@@ -2,7 +2,6 @@
 
 ghost use Rattle.std.specs.Prelude.{◌≡◌, ◌⊎◌, ℕ, List, IfErr, IfOk, IsTrue, length};
 ghost use Rattle.std.proofs.Common.{rules};
-ghost use Rattle.rusty_paseto_core.specs.Public.{HasPrivateLength};
 ghost use Rattle.rusty_paseto_parts.specs.Error.{IsMemory};
 ghost use Rattle.rusty_paseto_parts.specs.declared.error.PasetoError.{PasetoError};
 ghost use Rattle.rusty_paseto_paserk.specs.declared.header.PaserkType.TheVariants.{Public as PublicKeys, Secret};
@@ -22,7 +21,8 @@ use std::alloc::Global;
 /// A version whose key pairs have texts, with the scheme that signs and verifies its tokens here: Ed25519 in versions 2
 /// and 4, and P-384 in version 3.
 ///
-/// Code that serves these versions alike is written over `V: Suite + Signs<V::Scheme>` or `Verifies<V::Scheme>`.
+/// Code that serves these versions alike is written over `V: Suite + Verifies<V::Scheme>`, and what serves version 1 too
+/// over `V: PairLines`.
 pub trait Suite: KeyPairVersion + PublicVersion {
     /// The scheme's type.
     type Scheme: Drop;
@@ -47,10 +47,6 @@ pub trait Suite: KeyPairVersion + PublicVersion {
     // The private half of a new pair has a text.
     ghost new_length: { (drawn private public : List ℕ) → Self.is_new drawn private public
         → length private ≡ Self.secret_length };
-
-    // A private key that has a text has the length that the version's tokens ask for.
-    ghost has_private_length: { (key : List ℕ) → length key ≡ Self.secret_length
-        → HasPrivateLength Self.public_design key };
 
     // The bytes of keys are those that lines write.
     ghost writes_private: { (key : List ℕ) → length key ≡ Self.secret_length
@@ -83,8 +79,6 @@ impl Suite for V2 {
 
     ghost new_length = { λ drawn private public is. is.size };
 
-    ghost has_private_length = { Prim.search rules };
-
     ghost writes_private = { Prim.search rules };
 
     ghost reads_private = { Prim.search rules };
@@ -111,8 +105,6 @@ impl Suite for V3 {
 
     ghost new_length = { λ drawn private public is. is.size };
 
-    ghost has_private_length = { Prim.search rules };
-
     ghost writes_private = { Prim.search rules };
 
     ghost reads_private = { Prim.search rules };
@@ -138,8 +130,6 @@ impl Suite for V4 {
     }
 
     ghost new_length = { λ drawn private public is. is.size };
-
-    ghost has_private_length = { Prim.search rules };
 
     ghost writes_private = { Prim.search rules };
 

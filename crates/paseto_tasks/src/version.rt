@@ -1,23 +1,24 @@
 //! The version of a key, by which the commands go, and what it takes.
 
 ghost use Rattle.std.specs.Prelude.{◌≡◌, IfErr, IfOk, OnErr, OnOk};
-ghost use Rattle.rusty_paseto_paserk.specs.Header.{HasHeader};
 ghost use Rattle.paseto_tasks.specs.Arguments.{Takes};
 ghost use Rattle.paseto_tasks.specs.Error.{IsFixed};
+ghost use Rattle.paseto_tasks.specs.KeyLine.{BeginsAs};
 
 use crate::error::ProgramError;
+use crate::key_line::begins_as;
 use rusty_paseto_core::ImplicitAssertion;
-use rusty_paseto_paserk::{PaserkError, PaserkType, PaserkVersion, header_of};
+use rusty_paseto_paserk::{PaserkError, PaserkType, PaserkVersion};
 
 /// The version of the key of a type that a line begins as.
 pub fn version_of(line: &str, kind: PaserkType) -> Result<PaserkVersion, ProgramError>
-    ensures begins { IfOk result (λ version. HasHeader version kind line.now) }
-    ensures none { OnErr result ((version : PaserkVersion) → ¬ HasHeader version kind line.now) }
+    ensures begins { IfOk result (λ version. BeginsAs version kind line.now) }
+    ensures none { OnErr result ((version : PaserkVersion) → ¬ BeginsAs version kind line.now) }
     ensures fixed { IfErr result IsFixed }
 {
-    match header_of(line) {
-        Some((version, found, _)) if found == kind => Ok(version),
-        Some((_, found, _)) => Err(ProgramError::Key(PaserkError::OtherType(found))),
+    match begins_as(line) {
+        Some((version, found)) if found == kind => Ok(version),
+        Some((_, found)) => Err(ProgramError::Key(PaserkError::OtherType(found))),
         None => Err(ProgramError::Key(PaserkError::NoKey)),
     }
 }

@@ -9,7 +9,7 @@ use Rattle.paseto_words.specs.CommandLine.{asked, faults}
 -- any program's name, any file and any footer
 by_equals : (program file text : Text)
     → asked (program ∷ codes "encrypt" ∷ (codes "--key=" ++ file) ∷ (codes "--footer=" ++ text) ∷ [])
-    ≡ Some (Asked.to_encrypt (record { key = Some file; footer = Some text; assertion = None; input = None; out = None }))
+    ≡ Some (Asked.to_encrypt (record { key = record { file = Some file; openers = record { password = None; key = None } }; footer = Some text; assertion = None; input = None; out = None }))
 unfolding clap_on_literals
 by_equals program file text = refl
 

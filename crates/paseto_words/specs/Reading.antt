@@ -3,7 +3,7 @@ use Rattle.std.specs.Prelude.{List, [], Bool, false, ◌&&◌, if◌then◌else�
 use Rattle.std.specs.Cmp.Lexicographic.{pointwise}
 use Rattle.clap.specs.Words.{Row, Text, all_of, first_of, found_of, rows_of}
 use Rattle.clap.specs.declared.parser.matches.ArgMatches.{ArgMatches}
-use Rattle.paseto_words.specs.Action.{Asked, KeyedWords, PublicWords}
+use Rattle.paseto_words.specs.Action.{Asked, KeyFileWords, KeyedWords, OpenersWords, WrittenWords}
 
 abbrev pub is : Text → Text → Bool
 is word name = pointwise nat_eq word name
@@ -26,20 +26,45 @@ foot_in rows = one_at_most (first_of (codes "footer") rows) (first_of (codes "fo
 abbrev pub keys_in : List Row → Option (Option Text × Option Text)
 keys_in rows = one_at_most (first_of (codes "key") rows) (first_of (codes "ring") rows)
 
+abbrev pub under_in : List Row → Option (Option Text × Option Text)
+under_in rows = one_at_most (first_of (codes "wrapping-key") rows) (first_of (codes "password-file") rows)
+
+abbrev pub openers_in : List Row → OpenersWords
+openers_in rows = record { password = first_of (codes "password-file") rows; key = first_of (codes "unlock-key") rows }
+
+abbrev pub key_file_in : List Row → KeyFileWords
+key_file_in rows = record { file = first_of (codes "key") rows; openers = openers_in rows }
+
 abbrev pub keygen_in : List Row → Option Asked
 keygen_in rows = option_map (λ kind. Asked.to_keygen (record {
   kind = kind;
+  password = first_of (codes "password-file") rows;
+  format = first_of (codes "format") rows;
   out = first_of (codes "out") rows;
   public = first_of (codes "public") rows;
   quiet = says (first_of (codes "quiet") rows);
 })) (first_of (codes "kind") rows)
 
-abbrev pub public_in : List Row → PublicWords
-public_in rows = record { key = first_of (codes "key") rows; out = first_of (codes "out") rows }
+abbrev pub written_in : List Row → WrittenWords
+written_in rows = record { key = key_file_in rows; format = first_of (codes "format") rows; out = first_of (codes "out") rows }
+
+abbrev pub wrap_in : List Row → Option Asked
+wrap_in rows = option_map (λ under. Asked.to_wrap (record {
+  key = first_of (codes "key") rows;
+  under = under;
+  out = first_of (codes "out") rows;
+})) (under_in rows)
+
+abbrev pub seal_in : List Row → Option Asked
+seal_in rows = option_map (λ to. Asked.to_seal (record {
+  key = key_file_in rows;
+  to = to;
+  out = first_of (codes "out") rows;
+})) (first_of (codes "to") rows)
 
 abbrev pub issue_in : List Row → Option Asked
 issue_in rows = option_map (λ foot. Asked.to_issue (record {
-  key = first_of (codes "key") rows;
+  key = key_file_in rows;
   claims = all_in (codes "claim") rows;
   expires = first_of (codes "expires") rows;
   not_before = first_of (codes "not-before") rows;
@@ -51,6 +76,7 @@ issue_in rows = option_map (λ foot. Asked.to_issue (record {
 abbrev pub check_in : List Row → Option Asked
 check_in rows = option_and_then (λ keys. option_map (λ foot. Asked.to_check (record {
   keys = keys;
+  openers = openers_in rows;
   claims = all_in (codes "claim") rows;
   required = all_in (codes "require") rows;
   at = first_of (codes "at") rows;
@@ -62,7 +88,7 @@ check_in rows = option_and_then (λ keys. option_map (λ foot. Asked.to_check (r
 
 abbrev pub keyed_in : List Row → KeyedWords
 keyed_in rows = record {
-  key = first_of (codes "key") rows;
+  key = key_file_in rows;
   footer = first_of (codes "footer") rows;
   assertion = first_of (codes "assertion") rows;
   input = first_of (codes "input") rows;
@@ -73,8 +99,12 @@ keyed_in rows = record {
 abbrev pub asked_in : Text → List Row → Option Asked
 asked_in name rows =
     if is name (codes "keygen") then keygen_in rows
-    else if is name (codes "public") then Some (Asked.to_public (public_in rows))
-    else if is name (codes "id") then Some (Asked.to_id (first_of (codes "key") rows))
+    else if is name (codes "public") then Some (Asked.to_public (written_in rows))
+    else if is name (codes "id") then Some (Asked.to_id (key_file_in rows))
+    else if is name (codes "wrap") then wrap_in rows
+    else if is name (codes "unwrap") then Some (Asked.to_unwrap (written_in rows))
+    else if is name (codes "seal") then seal_in rows
+    else if is name (codes "unseal") then Some (Asked.to_unseal (written_in rows))
     else if is name (codes "issue") then issue_in rows
     else if is name (codes "check") then check_in rows
     else if is name (codes "encrypt") then Some (Asked.to_encrypt (keyed_in rows))

@@ -1,5 +1,23 @@
 //! What words ask for, in plain texts that are borrowed from the words.
 
+/// What opens key files that are locked: `[--password-file FILE] [--unlock-key FILE]`
+#[derive(Clone, Copy)]
+pub struct Openers<'a> {
+    /// The file of a password.
+    pub password: Option<&'a str>,
+    /// The file of a wrapping key, or of the private key to which a key was sealed.
+    pub key: Option<&'a str>,
+}
+
+/// `[--key FILE]`, and what opens it where it is locked
+#[derive(Clone, Copy)]
+pub struct KeyFile<'a> {
+    /// The key file.
+    pub file: Option<&'a str>,
+    /// What opens it.
+    pub openers: Openers<'a>,
+}
+
 /// Where the keys of a token are.
 #[derive(Clone, Copy)]
 pub enum Keys<'a> {
@@ -22,11 +40,15 @@ pub enum Foot<'a> {
     Kid(&'a str),
 }
 
-/// `keygen KIND [--out FILE] [--public FILE] [--quiet]`
+/// `keygen KIND [--password-file FILE] [--format FORMAT] [--out FILE] [--public FILE] [--quiet]`
 #[derive(Clone, Copy)]
 pub struct Keygen<'a> {
     /// The kind of key, which may be none.
     pub kind: &'a str,
+    /// The file of the password under which the key is put.
+    pub password: Option<&'a str>,
+    /// The format of the key and of its public half, which may be none.
+    pub format: Option<&'a str>,
     /// The file of the key.
     pub out: Option<&'a str>,
     /// The file of its public half.
@@ -35,21 +57,56 @@ pub struct Keygen<'a> {
     pub quiet: bool,
 }
 
-/// `public [--key FILE] [--out FILE]`
+/// `public`, `unwrap` or `unseal [--key FILE] [--password-file FILE] [--unlock-key FILE] [--format FORMAT] [--out FILE]`
 #[derive(Clone, Copy)]
-pub struct Public<'a> {
+pub struct Written<'a> {
     /// The key file.
-    pub key: Option<&'a str>,
-    /// The file of the public half.
+    pub key: KeyFile<'a>,
+    /// The format of the key that is written, which may be none.
+    pub format: Option<&'a str>,
+    /// The file of the key that is written.
     pub out: Option<&'a str>,
 }
 
-/// `issue [--key FILE] [--claim CLAIM].. [--expires TIME] [--not-before TIME] [--footer TEXT | --footer-kid ID]
-/// [--assertion TEXT] [--out FILE]`
+/// `wrap [--key FILE] [--wrapping-key FILE | --password-file FILE] [--out FILE]`
+#[derive(Clone, Copy)]
+pub struct Wrap<'a> {
+    /// The key file.
+    pub key: Option<&'a str>,
+    /// What the key is put under.
+    pub under: Under<'a>,
+    /// The file of the wrapped key.
+    pub out: Option<&'a str>,
+}
+
+/// What a key is put under.
+#[derive(Clone, Copy)]
+pub enum Under<'a> {
+    /// None is said.
+    Unsaid,
+    /// `--wrapping-key FILE`
+    Key(&'a str),
+    /// `--password-file FILE`
+    Password(&'a str),
+}
+
+/// `seal [--key FILE] [--password-file FILE] [--unlock-key FILE] --to FILE [--out FILE]`
+#[derive(Clone, Copy)]
+pub struct Seal<'a> {
+    /// The key file.
+    pub key: KeyFile<'a>,
+    /// The file of the public key to which the key is sealed.
+    pub to: &'a str,
+    /// The file of the sealed key.
+    pub out: Option<&'a str>,
+}
+
+/// `issue [--key FILE] [--password-file FILE] [--unlock-key FILE] [--claim CLAIM].. [--expires TIME] [--not-before TIME]
+/// [--footer TEXT | --footer-kid ID] [--assertion TEXT] [--out FILE]`
 #[derive(Drop)]
 pub struct Issue<'a> {
     /// The key file.
-    pub key: Option<&'a str>,
+    pub key: KeyFile<'a>,
     /// The claims, in their order.
     pub claims: Vec<&'a str>,
     /// When the token expires.
@@ -64,12 +121,14 @@ pub struct Issue<'a> {
     pub out: Option<&'a str>,
 }
 
-/// `check [--key FILE | --ring FOLDER] [--claim CLAIM].. [--require NAME].. [--at TIME] [--leeway TIME]
-/// [--footer TEXT | --footer-kid ID] [--assertion TEXT] [INPUT]`
+/// `check [--key FILE | --ring FOLDER] [--password-file FILE] [--unlock-key FILE] [--claim CLAIM].. [--require NAME]..
+/// [--at TIME] [--leeway TIME] [--footer TEXT | --footer-kid ID] [--assertion TEXT] [INPUT]`
 #[derive(Drop)]
 pub struct Check<'a> {
     /// The key file, or the folder of key files.
     pub keys: Keys<'a>,
+    /// What opens them where they are locked.
+    pub openers: Openers<'a>,
     /// The claims that the token has to have, in their order.
     pub claims: Vec<&'a str>,
     /// The names of further claims that it has to have.
@@ -86,12 +145,12 @@ pub struct Check<'a> {
     pub input: Option<&'a str>,
 }
 
-/// `encrypt`, `decrypt`, `sign` or `verify [--key FILE] [--footer TEXT] [--assertion TEXT] [INPUT]`, where `encrypt` and
-/// `sign` take `--out FILE` too
+/// `encrypt`, `decrypt`, `sign` or `verify [--key FILE] [--password-file FILE] [--unlock-key FILE] [--footer TEXT]
+/// [--assertion TEXT] [INPUT]`, where `encrypt` and `sign` take `--out FILE` too
 #[derive(Clone, Copy)]
 pub struct Keyed<'a> {
     /// The key file.
-    pub key: Option<&'a str>,
+    pub key: KeyFile<'a>,
     /// The token's footer.
     pub footer: Option<&'a str>,
     /// Its implicit assertion.
@@ -108,9 +167,17 @@ pub enum Action<'a> {
     /// `keygen`
     Keygen(Keygen<'a>),
     /// `public`
-    Public(Public<'a>),
-    /// `id [--key FILE]`
-    Id(Option<&'a str>),
+    Public(Written<'a>),
+    /// `id [--key FILE] [--password-file FILE] [--unlock-key FILE]`
+    Id(KeyFile<'a>),
+    /// `wrap`
+    Wrap(Wrap<'a>),
+    /// `unwrap`
+    Unwrap(Written<'a>),
+    /// `seal`
+    Seal(Seal<'a>),
+    /// `unseal`
+    Unseal(Written<'a>),
     /// `issue`
     Issue(Issue<'a>),
     /// `check`

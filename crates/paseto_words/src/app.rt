@@ -1,8 +1,8 @@
 //! What each command takes.
 
 ghost use Rattle.std.specs.Prelude.{◌≡◌, IfOk, codes, false};
-ghost use Rattle.clap.specs.Words.{new_app, rule_of};
-ghost use Rattle.paseto_words.specs.App.{IsFor, check_app, flag_rule, id_app, inspect_app, issue_app, keygen_app, many_rule, opening_app, option_rule, paseto_app, place_rule, public_app, sealing_app};
+ghost use Rattle.clap.specs.Words.{App, new_app, rule_of};
+ghost use Rattle.paseto_words.specs.App.{IsFor, check_app, flag_rule, id_app, inspect_app, issue_app, keygen_app, many_rule, opening_app, option_rule, paseto_app, place_rule, seal_app, sealing_app, with_key, wrap_app, writing_app};
 
 use clap::{Arg, ArgAction, Command};
 use std::alloc::{AllocError, Global};
@@ -50,7 +50,51 @@ fn key<'a>(alloc: Global) -> Arg<'a>
         alloc,
         "key",
         "FILE",
-        "The key file, one line of PASERK text; - is standard input; without it PASETO_KEY is the key",
+        "The key file, PASERK or PEM; - is standard input; without it PASETO_KEY is the key",
+    )
+}
+
+fn password<'a>(alloc: Global, help: &'a str) -> Arg<'a>
+    ensures rule { rule_of result ≡ option_rule (codes "password-file") }
+    ensures local { result.global ≡ false }
+{
+    option(alloc, "password-file", "FILE", help)
+}
+
+fn opener<'a>(alloc: Global) -> Arg<'a>
+    ensures rule { rule_of result ≡ option_rule (codes "unlock-key") }
+    ensures local { result.global ≡ false }
+{
+    option(
+        alloc,
+        "unlock-key",
+        "FILE",
+        "The key that opens a wrapped or a sealed key: the wrapping key or the private one",
+    )
+}
+
+/// A command with a key file, and what opens it where it is locked.
+fn with_key<'a>(command: Command<'a>, alloc: Global) -> Result<Command<'a>, AllocError>
+    ensures { (a : App) → IsFor a command.entry → IfOk result (IsFor (with_key a)) }
+{
+    command
+        .arg(key(alloc))?
+        .arg(password(
+            alloc,
+            "A file whose first line is the password of the key; without it PASETO_PASSWORD is",
+        ))?
+        .arg(opener(alloc))
+}
+
+fn format<'a>(alloc: Global) -> Arg<'a>
+    ensures rule { rule_of result ≡ option_rule (codes "format") }
+    ensures local { result.global ≡ false }
+{
+    option(
+        alloc,
+        "format",
+        "FORMAT",
+        "How the key is written: paserk, or pem for key pairs of version 3 or 4",
     )
 }
 
@@ -134,6 +178,11 @@ fn with_keygen<'a>(alloc: Global) -> Result<Command<'a>, AllocError>
         .about("Makes a key: local kinds encrypt, public kinds sign")
         .after_help("Example: paseto keygen v4.public --out signing.key --public verifying.key")
         .arg(kind.required(true))?
+        .arg(password(
+            alloc,
+            "A file whose first line is the password for the key; without it PASETO_PASSWORD is",
+        ))?
+        .arg(format(alloc))?
         .arg(option(
             alloc,
             "out",
@@ -149,34 +198,109 @@ fn with_keygen<'a>(alloc: Global) -> Result<Command<'a>, AllocError>
         .arg(flag(alloc, "quiet", "Says nothing of what was made"))
 }
 
-fn with_public<'a>(alloc: Global) -> Result<Command<'a>, AllocError>
-    ensures { IfOk result (IsFor public_app) }
+/// A command that writes a key, and what `about` says of it.
+fn with_writing<'a>(
+    alloc: Global,
+    name: &'a str,
+    about: &'a str,
+    example: &'a str,
+) -> Result<Command<'a>, AllocError>
+    ensures { IfOk result (IsFor (writing_app name.entry.now)) }
 {
-    Command::new(alloc, "public")
-        .about("Prints the public half of a private key, which verifies")
-        .after_help("Example: paseto public --key signing.key --out verifying.key")
-        .arg(key(alloc))?
+    let command = Command::new(alloc, name).about(about).after_help(example);
+    with_key(command, alloc)?
+        .arg(format(alloc))?
         .arg(out(alloc))
+}
+
+fn with_public<'a>(alloc: Global) -> Result<Command<'a>, AllocError>
+    ensures { IfOk result (IsFor (writing_app (codes "public"))) }
+{
+    with_writing(
+        alloc,
+        "public",
+        "Prints the public half of a private key, which verifies",
+        "Example: paseto public --key signing.key --out verifying.key",
+    )
 }
 
 fn with_id<'a>(alloc: Global) -> Result<Command<'a>, AllocError>
     ensures { IfOk result (IsFor id_app) }
 {
-    Command::new(alloc, "id")
-        .about("Prints the PASERK id of a key, which names it and does not tell it")
-        .after_help("Example: paseto id --key office.key")
-        .arg(key(alloc))
+    let command = Command::new(alloc, "id")
+        .about("Prints the PASERK id of a key, which identifies it without revealing it")
+        .after_help("Example: paseto id --key office.key");
+    with_key(command, alloc)
+}
+
+fn with_wrap<'a>(alloc: Global) -> Result<Command<'a>, AllocError>
+    ensures { IfOk result (IsFor wrap_app) }
+{
+    Command::new(alloc, "wrap")
+        .about("Prints a key under a password, or under a wrapping key")
+        .after_help("Example: paseto wrap --key office.key --password-file password --out locked.key")
+        .arg(key(alloc))?
+        .arg(option(
+            alloc,
+            "wrapping-key",
+            "FILE",
+            "The key file of the wrapping key, which is a local key of the same version",
+        ))?
+        .arg(password(
+            alloc,
+            "A file whose first line is the password for the key; without it PASETO_PASSWORD is",
+        ))?
+        .arg(out(alloc))
+}
+
+fn with_unwrap<'a>(alloc: Global) -> Result<Command<'a>, AllocError>
+    ensures { IfOk result (IsFor (writing_app (codes "unwrap"))) }
+{
+    with_writing(
+        alloc,
+        "unwrap",
+        "Prints the key of a key file, opened where it is locked",
+        "Example: paseto unwrap --key locked.key --password-file password --out office.key",
+    )
+}
+
+fn with_seal<'a>(alloc: Global) -> Result<Command<'a>, AllocError>
+    ensures { IfOk result (IsFor seal_app) }
+{
+    let command = Command::new(alloc, "seal")
+        .about("Prints a local key, sealed to a public key")
+        .after_help("Example: paseto seal --key office.key --to branch.public --out sealed.key");
+    let to = option(
+        alloc,
+        "to",
+        "FILE",
+        "The key file of the public key, whose private half opens the key",
+    );
+    with_key(command, alloc)?
+        .arg(to.required(true))?
+        .arg(out(alloc))
+}
+
+fn with_unseal<'a>(alloc: Global) -> Result<Command<'a>, AllocError>
+    ensures { IfOk result (IsFor (writing_app (codes "unseal"))) }
+{
+    with_writing(
+        alloc,
+        "unseal",
+        "Prints the key that was sealed to a public key, by the private one",
+        "Example: paseto unseal --key sealed.key --unlock-key branch.secret --out office.key",
+    )
 }
 
 fn with_issue<'a>(alloc: Global) -> Result<Command<'a>, AllocError>
     ensures { IfOk result (IsFor issue_app) }
 {
-    Command::new(alloc, "issue")
+    let command = Command::new(alloc, "issue")
         .about("Prints a token of claims, which expires in an hour unless --expires says otherwise")
         .after_help(
             "Example: paseto issue --key office.key --claim seats:=4 --claim aud=customers --expires 1h",
-        )
-        .arg(key(alloc))?
+        );
+    with_key(command, alloc)?
         .arg(claim(alloc))?
         .arg(option(
             alloc,
@@ -199,11 +323,11 @@ fn with_issue<'a>(alloc: Global) -> Result<Command<'a>, AllocError>
 fn with_check<'a>(alloc: Global) -> Result<Command<'a>, AllocError>
     ensures { IfOk result (IsFor check_app) }
 {
-    Command::new(alloc, "check")
+    let command = Command::new(alloc, "check")
         .about("Prints the claims of a token as JSON, or says why it is refused")
         .after_help("Example: paseto check --key office.key --claim aud=customers token")
-        .override_usage("paseto check [--key <FILE> | --ring <FOLDER>] [OPTIONS] [INPUT]")
-        .arg(key(alloc))?
+        .override_usage("paseto check [--key <FILE> | --ring <FOLDER>] [OPTIONS] [INPUT]");
+    with_key(command, alloc)?
         .arg(option(
             alloc,
             "ring",
@@ -244,10 +368,8 @@ fn with_opening<'a>(
 ) -> Result<Command<'a>, AllocError>
     ensures { IfOk result (IsFor (opening_app name.entry.now)) }
 {
-    Command::new(alloc, name)
-        .about(about)
-        .after_help(example)
-        .arg(key(alloc))?
+    let command = Command::new(alloc, name).about(about).after_help(example);
+    with_key(command, alloc)?
         .arg(footer(alloc))?
         .arg(assertion(alloc))?
         .arg(input(alloc))
@@ -338,6 +460,10 @@ pub fn paseto<'a>(alloc: Global) -> Result<Command<'a>, AllocError>
         .subcommand(with_keygen(alloc)?)?
         .subcommand(with_public(alloc)?)?
         .subcommand(with_id(alloc)?)?
+        .subcommand(with_wrap(alloc)?)?
+        .subcommand(with_unwrap(alloc)?)?
+        .subcommand(with_seal(alloc)?)?
+        .subcommand(with_unseal(alloc)?)?
         .subcommand(with_issue(alloc)?)?
         .subcommand(with_check(alloc)?)?
         .subcommand(with_encrypt(alloc)?)?
@@ -350,6 +476,11 @@ pub fn paseto<'a>(alloc: Global) -> Result<Command<'a>, AllocError>
 /// The command `issue` as it stands in the program, for its errors.
 pub fn issue_command<'a>(alloc: Global) -> Result<Command<'a>, AllocError> {
     with_issue(alloc)?.bin_name("paseto issue")
+}
+
+/// The command `wrap` as it stands in the program, for its errors.
+pub fn wrap_command<'a>(alloc: Global) -> Result<Command<'a>, AllocError> {
+    with_wrap(alloc)?.bin_name("paseto wrap")
 }
 
 /// The command `check` as it stands in the program, for its errors.

@@ -6,7 +6,7 @@ ghost use Rattle.paseto_words.specs.Action.{plain};
 ghost use Rattle.paseto_words.specs.CommandLine.{asked, faults, status_of, words_of};
 
 use crate::action::Action;
-use crate::app::{check_command, issue_command, paseto};
+use crate::app::{check_command, issue_command, paseto, wrap_command};
 use crate::reading::{found, has};
 use clap::error::ErrorKind;
 use clap::{ArgMatches, Error};
@@ -14,13 +14,16 @@ use std::alloc::{AllocError, Global};
 
 const TWO_KEYS: &str = "the argument '--key <FILE>' cannot be used with '--ring <FOLDER>'";
 
+const TWO_LOCKS: &str =
+    "the argument '--wrapping-key <FILE>' cannot be used with '--password-file <FILE>'";
+
 const TWO_FOOTERS: &str = "the argument '--footer <TEXT>' cannot be used with '--footer-kid <ID>'";
 
 /// What the words ask for, of which the first is the program's name.
 ///
 /// Refused are the words that clap refuses, with its kinds of error, a call for help or the version among them, and with
-/// `ArgumentConflict` two options that exclude each other: `--key` and `--ring`, `--footer` and `--footer-kid`. Want of
-/// memory is `OutOfMemory`.
+/// `ArgumentConflict` two options that exclude each other: `--key` and `--ring`, `--footer` and `--footer-kid`, and for
+/// `wrap` `--wrapping-key` and `--password-file`. Want of memory is `OutOfMemory`.
 pub fn parse<'a>(alloc: Global, words: &'a [String]) -> Result<Action<'a>, Error>
     ensures ok { IfOk result (λ action. asked (words_of words.entry.now) ≡ Some (plain action)) }
     ensures err { IfErr result (HasKind (faults (words_of words.entry.now))) }
@@ -52,6 +55,7 @@ fn conflict(alloc: Global, matches: &ArgMatches<'_>) -> Result<Error, AllocError
             alloc,
         )?.error(kind, TWO_KEYS),
         Some(("check", _)) => check_command(alloc)?.error(kind, TWO_FOOTERS),
+        Some(("wrap", _)) => wrap_command(alloc)?.error(kind, TWO_LOCKS),
         _ => issue_command(alloc)?.error(kind, TWO_FOOTERS),
     }
 }

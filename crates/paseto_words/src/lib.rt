@@ -7,6 +7,8 @@ mod app;
 mod command_line;
 mod reading;
 
-pub use action::{Action, Check, Foot, Issue, Keyed, Keygen, Keys, Public};
+pub use action::{
+    Action, Check, Foot, Issue, KeyFile, Keyed, Keygen, Keys, Openers, Seal, Under, Wrap, Written,
+};
 pub use app::paseto;
 pub use command_line::{parse, status};

@@ -3,10 +3,12 @@
 ghost use Rattle.std.specs.Prelude.{◌≡◌, IfOk, [], is_some, option_map, unwrap_or};
 ghost use Rattle.clap.specs.Words.{all_of, first_of, subcommand_rows_of};
 ghost use Rattle.clap.specs.Walk.{texts};
-ghost use Rattle.paseto_words.specs.Action.{footing, keyed_words, keying, plain, public_words};
-ghost use Rattle.paseto_words.specs.Reading.{asked_in, check_in, found_in, issue_in, keygen_in, keyed_in, keys_in, foot_in, public_in, rows_in, says};
+ghost use Rattle.paseto_words.specs.Action.{footing, key_file_words, keyed_words, keying, openers_words, plain, underlying, written_words};
+ghost use Rattle.paseto_words.specs.Reading.{asked_in, check_in, foot_in, found_in, issue_in, key_file_in, keyed_in, keygen_in, keys_in, openers_in, rows_in, says, seal_in, under_in, wrap_in, written_in};
 
-use crate::action::{Action, Check, Foot, Issue, Keyed, Keygen, Keys, Public};
+use crate::action::{
+    Action, Check, Foot, Issue, KeyFile, Keyed, Keygen, Keys, Openers, Seal, Under, Wrap, Written,
+};
 use clap::ArgMatches;
 use std::alloc::{AllocError, Global};
 
@@ -65,8 +67,12 @@ fn action_of<'a>(
 {
     match name {
         "keygen" => Ok(keygen_of(matches)),
-        "public" => Ok(Some(Action::Public(public_of(matches)))),
-        "id" => Ok(Some(Action::Id(text(matches, "key")))),
+        "public" => Ok(Some(Action::Public(written_of(matches)))),
+        "id" => Ok(Some(Action::Id(key_file_of(matches)))),
+        "wrap" => Ok(wrap_of(matches)),
+        "unwrap" => Ok(Some(Action::Unwrap(written_of(matches)))),
+        "seal" => Ok(seal_of(matches)),
+        "unseal" => Ok(Some(Action::Unseal(written_of(matches)))),
         "issue" => issue_of(alloc, matches),
         "check" => check_of(alloc, matches),
         "encrypt" => Ok(Some(Action::Encrypt(keyed_of(matches)))),
@@ -82,29 +88,79 @@ fn keygen_of<'a>(matches: &ArgMatches<'a>) -> Option<Action<'a>>
     ensures { option_map plain result ≡ keygen_in (rows_in matches.now) }
 {
     let kind = text(matches, "kind")?;
+    let password = text(matches, "password-file");
+    let format = text(matches, "format");
     let out = text(matches, "out");
     let public = text(matches, "public");
     let quiet = is_set(matches, "quiet");
     Some(Action::Keygen(Keygen {
         kind,
+        password,
+        format,
         out,
         public,
         quiet,
     }))
 }
 
-fn public_of<'a>(matches: &ArgMatches<'a>) -> Public<'a>
-    ensures { public_words result ≡ public_in (rows_in matches.now) }
+fn openers_of<'a>(matches: &ArgMatches<'a>) -> Openers<'a>
+    ensures { openers_words result ≡ openers_in (rows_in matches.now) }
 {
+    let password = text(matches, "password-file");
+    let key = text(matches, "unlock-key");
+    Openers { password, key }
+}
+
+fn key_file_of<'a>(matches: &ArgMatches<'a>) -> KeyFile<'a>
+    ensures { key_file_words result ≡ key_file_in (rows_in matches.now) }
+{
+    let file = text(matches, "key");
+    let openers = openers_of(matches);
+    KeyFile { file, openers }
+}
+
+fn written_of<'a>(matches: &ArgMatches<'a>) -> Written<'a>
+    ensures { written_words result ≡ written_in (rows_in matches.now) }
+{
+    let key = key_file_of(matches);
+    let format = text(matches, "format");
+    let out = text(matches, "out");
+    Written { key, format, out }
+}
+
+fn under_of<'a>(matches: &ArgMatches<'a>) -> Option<Under<'a>>
+    ensures { option_map underlying result ≡ under_in (rows_in matches.now) }
+{
+    match (text(matches, "wrapping-key"), text(matches, "password-file")) {
+        (Some(_), Some(_)) => None,
+        (Some(file), None) => Some(Under::Key(file)),
+        (None, Some(file)) => Some(Under::Password(file)),
+        (None, None) => Some(Under::Unsaid),
+    }
+}
+
+fn wrap_of<'a>(matches: &ArgMatches<'a>) -> Option<Action<'a>>
+    ensures { option_map plain result ≡ wrap_in (rows_in matches.now) }
+{
+    let under = under_of(matches)?;
     let key = text(matches, "key");
     let out = text(matches, "out");
-    Public { key, out }
+    Some(Action::Wrap(Wrap { key, under, out }))
+}
+
+fn seal_of<'a>(matches: &ArgMatches<'a>) -> Option<Action<'a>>
+    ensures { option_map plain result ≡ seal_in (rows_in matches.now) }
+{
+    let to = text(matches, "to")?;
+    let key = key_file_of(matches);
+    let out = text(matches, "out");
+    Some(Action::Seal(Seal { key, to, out }))
 }
 
 fn keyed_of<'a>(matches: &ArgMatches<'a>) -> Keyed<'a>
     ensures { keyed_words result ≡ keyed_in (rows_in matches.now) }
 {
-    let key = text(matches, "key");
+    let key = key_file_of(matches);
     let footer = text(matches, "footer");
     let assertion = text(matches, "assertion");
     let input = text(matches, "input");
@@ -135,7 +191,7 @@ fn issue_of<'a>(alloc: Global, matches: &ArgMatches<'a>) -> Result<Option<Action
     let Some(foot) = foot_of(matches) else {
         return Ok(None);
     };
-    let key = text(matches, "key");
+    let key = key_file_of(matches);
     let claims = values(alloc, matches, "claim")?;
     let expires = text(matches, "expires");
     let not_before = text(matches, "not-before");
@@ -169,6 +225,7 @@ fn check_of<'a>(alloc: Global, matches: &ArgMatches<'a>) -> Result<Option<Action
     let (Some(keys), Some(foot)) = (keys_of(matches), foot_of(matches)) else {
         return Ok(None);
     };
+    let openers = openers_of(matches);
     let claims = values(alloc, matches, "claim")?;
     let required = values(alloc, matches, "require")?;
     let at = text(matches, "at");
@@ -177,6 +234,7 @@ fn check_of<'a>(alloc: Global, matches: &ArgMatches<'a>) -> Result<Option<Action
     let input = text(matches, "input");
     Ok(Some(Action::Check(Check {
         keys,
+        openers,
         claims,
         required,
         at,

@@ -25,16 +25,19 @@ use crate::commands::footer::footer_of;
 use crate::commands::ring::claims_by_ring;
 use crate::commands::times::{leeway_of, moment_of};
 use jiff::Timestamp;
-use paseto_tasks::{Options, ProgramError, Suite, TimeOption, TokenKind, takes};
+use paseto_ed25519::Ed25519;
+use paseto_p384::P384;
+use paseto_rsa::RsaPss;
+use paseto_tasks::{
+    Options, PairLines, ProgramError, Salt, TimeOption, TokenKind, begins_as, takes, verifier,
+};
 use paseto_xchacha20poly1305::XChaCha20Poly1305;
 use rusty_paseto::DefaultParser;
 use rusty_paseto::prelude::{
     CheckSetter, DefaultLocalVersion, Footer, ImplicitAssertion, Local, PasetoError, PasetoParser,
     Public, PurposeTrait, V1, V2, V3, V4, Verifies, VersionTrait,
 };
-use rusty_paseto_paserk::{
-    PaserkError, PaserkType, PaserkVersion, header_of, local_from_paserk, public_key_from_paserk,
-};
+use rusty_paseto_paserk::{PaserkError, PaserkType, PaserkVersion, local_from_paserk};
 use serde_json::Value;
 use std::alloc::Global;
 
@@ -257,7 +260,7 @@ fn with_kinds(
     ensures no_usage { IfErr answer IsNoUsage → IfErr result IsNoUsage }
     ensures fixed { IfErr answer IsFixed → IfErr result IsFixed }
 {
-    let Some((version, kind, _)) = header_of(key) else {
+    let Some((version, kind)) = begins_as(key) else {
         return answer;
     };
     match answer {
@@ -280,22 +283,14 @@ fn claims_by_key(
         token.now value) result }
     ensures fixed { IfErr result IsFixed }
 {
-    let Some((version, kind, _)) = header_of(key) else {
+    let Some((version, kind)) = begins_as(key) else {
         return Err(ProgramError::Key(PaserkError::NoKey));
     };
     takes(version, demands.assertion)?;
     match kind {
         PaserkType::Local => by_local_key(alloc, version, key, demands, token),
         PaserkType::Public => by_public_key(alloc, version, key, demands, token),
-        PaserkType::Secret => Err(ProgramError::Key(no_reader(version))),
-    }
-}
-
-/// Why a private key reads no token: it is of a version that has none here, or of another type.
-fn no_reader(version: PaserkVersion) -> PaserkError {
-    match version {
-        PaserkVersion::V1 => PaserkError::OtherVersion(version),
-        _ => PaserkError::OtherType(PaserkType::Secret),
+        PaserkType::Secret => Err(ProgramError::Key(PaserkError::OtherType(kind))),
     }
 }
 
@@ -332,10 +327,11 @@ fn by_public_key(
     ensures fixed { IfErr result IsFixed }
 {
     match version {
-        PaserkVersion::V1 => Err(ProgramError::Key(PaserkError::OtherVersion(version))),
-        PaserkVersion::V2 => verified::<V2>(alloc, key, demands, token),
-        PaserkVersion::V3 => verified::<V3>(alloc, key, demands, token),
-        PaserkVersion::V4 => verified::<V4>(alloc, key, demands, token),
+        PaserkVersion::V1 =>
+            verified::<V1, RsaPss<Salt>>(alloc, &verifier(), key, demands, token),
+        PaserkVersion::V2 => verified::<V2, Ed25519>(alloc, &Ed25519, key, demands, token),
+        PaserkVersion::V3 => verified::<V3, P384>(alloc, &P384, key, demands, token),
+        PaserkVersion::V4 => verified::<V4, Ed25519>(alloc, &Ed25519, key, demands, token),
     }
 }
 
@@ -370,8 +366,9 @@ fn unboxed(
     parsed(parser.parse(&XChaCha20Poly1305, token, &key))
 }
 
-fn verified<V: Suite + Asserts + Verifies<V::Scheme>>(
+fn verified<V: PairLines + Asserts + Verifies<S>, S>(
     alloc: Global,
+    scheme: &S,
     key: &str,
     demands: &Demands<'_>,
     token: &str,
@@ -381,7 +378,7 @@ fn verified<V: Suite + Asserts + Verifies<V::Scheme>>(
         V.refused V.public_design) key.now (demanded demands.now).footer (demanded demands.now).assertion token.now value) result }
     ensures fixed { IfErr result IsFixed }
 {
-    let key = public_key_from_paserk::<V>(alloc, key)?;
+    let key = V::public_key(alloc, key)?;
     let parser = demands.reader::<V, Public>(alloc);
-    parsed(parser.parse(&V::scheme(), token, &key.lend()))
+    parsed(parser.parse(scheme, token, &key.lend()))
 }

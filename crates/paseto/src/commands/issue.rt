@@ -20,7 +20,12 @@ use crate::commands::claims::{NamedClaim, claims_of};
 use crate::commands::footer::footer_of;
 use crate::commands::times::moment_of;
 use jiff::Timestamp;
-use paseto_tasks::{Options, ProgramError, Suite, TimeOption, takes, with_line_feed};
+use paseto_ed25519::Ed25519;
+use paseto_p384::P384;
+use paseto_rsa::RsaPss;
+use paseto_tasks::{
+    Options, PairLines, ProgramError, Salt, TimeOption, begins_as, signer, takes, with_line_feed,
+};
 use paseto_xchacha20poly1305::XChaCha20Poly1305;
 use rand_core::TryRng;
 use rusty_paseto::prelude::{
@@ -29,9 +34,7 @@ use rusty_paseto::prelude::{
     V3, V4, VersionTrait, fits_default,
 };
 use rusty_paseto_claims::moment_text;
-use rusty_paseto_paserk::{
-    PaserkError, PaserkType, PaserkVersion, header_of, local_from_paserk, private_key_from_paserk,
-};
+use rusty_paseto_paserk::{PaserkError, PaserkType, PaserkVersion, local_from_paserk};
 use std::alloc::Global;
 
 /// What a token is to say, beside what a default builder says at a moment.
@@ -105,22 +108,14 @@ pub fn issue<G: TryRng>(
     ensures usage { IfErr result (λ error. IsNoUsage error ⊎ AreNever (ordered order.now)) }
     ensures said { IfErr result (Says (IsRepeatedLine (ordered order.now))) }
 {
-    let Some((version, kind, _)) = header_of(key) else {
+    let Some((version, kind)) = begins_as(key) else {
         return Err(ProgramError::Key(PaserkError::NoKey));
     };
     takes(version, order.assertion)?;
     match kind {
         PaserkType::Local => by_local_key(alloc, version, key, order, generator),
-        PaserkType::Secret => by_private_key(alloc, version, key, order),
-        PaserkType::Public => Err(ProgramError::Key(no_issuer(version))),
-    }
-}
-
-/// Why a public key issues no token: it is of a version that has none here, or of another type.
-fn no_issuer(version: PaserkVersion) -> PaserkError {
-    match version {
-        PaserkVersion::V1 => PaserkError::OtherVersion(version),
-        _ => PaserkError::OtherType(PaserkType::Public),
+        PaserkType::Secret => by_private_key(alloc, version, key, order, generator),
+        PaserkType::Public => Err(ProgramError::Key(PaserkError::OtherType(kind))),
     }
 }
 
@@ -146,11 +141,12 @@ fn by_local_key<G: TryRng>(
     }
 }
 
-fn by_private_key(
+fn by_private_key<G: TryRng>(
     alloc: Global,
     version: PaserkVersion,
     key: &str,
     order: &Order<'_>,
+    generator: &mut G,
 ) -> Result<String, ProgramError>
     ensures found { IfOk result (λ line. SignsIn version key.now (ordered order.now)
         (string_bytes line)) }
@@ -160,10 +156,13 @@ fn by_private_key(
     ensures said { IfErr result (Says (IsRepeatedLine (ordered order.now))) }
 {
     match version {
-        PaserkVersion::V1 => Err(ProgramError::Key(PaserkError::OtherVersion(version))),
-        PaserkVersion::V2 => signed::<V2>(alloc, key, order),
-        PaserkVersion::V3 => signed::<V3>(alloc, key, order),
-        PaserkVersion::V4 => signed::<V4>(alloc, key, order),
+        PaserkVersion::V1 => {
+            let mut scheme = signer(generator)?;
+            signed::<V1, RsaPss<Salt>>(alloc, &mut scheme, key, order)
+        }
+        PaserkVersion::V2 => signed::<V2, Ed25519>(alloc, &mut Ed25519, key, order),
+        PaserkVersion::V3 => signed::<V3, P384>(alloc, &mut P384, key, order),
+        PaserkVersion::V4 => signed::<V4, Ed25519>(alloc, &mut Ed25519, key, order),
     }
 }
 
@@ -205,24 +204,25 @@ fn boxed<G: TryRng>(
     with_line_feed(built(alloc, token)?)
 }
 
-fn signed<V: Suite + Asserts + Signs<V::Scheme>>(
+fn signed<V: PairLines + Asserts + Signs<S>, S>(
     alloc: Global,
+    scheme: &mut S,
     key: &str,
     order: &Order<'_>,
 ) -> Result<String, ProgramError>
     requires { V.public_design.binds_assertion ≡ binds_in V.paserk }
-    ensures found { IfOk result (λ line. SignsClaims V.paserk V.secret_length V.valid
+    ensures found { IfOk result (λ line. SignsClaims V.paserk V.valid
         V.public_design V.partner key.now (ordered order.now) (string_bytes line)) }
     ensures none { IfErr result (λ error. IsOutside error
-        ⊎ (((line : List ℕ) → ¬ SignsClaims V.paserk V.secret_length V.valid
+        ⊎ (((line : List ℕ) → ¬ SignsClaims V.paserk V.valid
         V.public_design V.partner key.now (ordered order.now) line)
-        ⊎ DeclinesKey V.paserk V.secret_length (DeclinesOrder V.declined V.partner V.public_design
+        ⊎ DeclinesKey V.paserk (DeclinesOrder V.declined V.partner V.public_design
         (ordered order.now)) key.now)) }
     ensures usage { IfErr result (λ error. IsNoUsage error ⊎ AreNever (ordered order.now)) }
     ensures said { IfErr result (Says (IsRepeatedLine (ordered order.now))) }
 {
-    let key = private_key_from_paserk::<V>(alloc, key)?;
-    signed_by(alloc, &mut V::scheme(), &key.lend(), order)
+    let key = V::private_key(alloc, key)?;
+    signed_by(alloc, scheme, &key.lend(), order)
 }
 
 fn signed_by<V: Asserts + Signs<S>, S>(

@@ -13,7 +13,7 @@ ghost use Rattle.paseto_tasks.specs.Arguments.{binds_in, words_of};
 ghost use Rattle.paseto.specs.Check.{IsTheValue, demanded};
 ghost use Rattle.paseto_tasks.specs.Error.{IsFixed, IsNoUsage, IsOutside, Lacks, Says, key_error_of};
 ghost use Rattle.paseto_tasks.specs.Id.{IsKeyOf};
-ghost use Rattle.paseto.specs.Readers.{IsReader, reading_of, type_in, version_in};
+ghost use Rattle.paseto.specs.Readers.{IsRingReader, reading_of, type_in, version_in};
 ghost use Rattle.paseto.specs.Ring.{AreKeysOf, IsAdded, IsInserted, IsNoLine, IsPassedOver, IsRingLine, IsRingOf, ParsesByRing, ParsesIn, ring_of};
 
 use crate::commands::answers::{found, put};
@@ -91,7 +91,7 @@ fn by_local_keys(
     demands: &Demands<'_>,
     token: &str,
 ) -> Result<Value, ProgramError>
-    ensures answer { IsTheValue (λ value. IsReader LocalKey version × ParsesIn LocalKey version
+    ensures answer { IsTheValue (λ value. IsRingReader LocalKey version × ParsesIn LocalKey version
         (reading_of LocalKey version) (words_of lines.now) (demanded demands.now).footer (demanded demands.now).assertion token.now
         value) result }
     ensures no_usage { IfErr result IsNoUsage }
@@ -112,7 +112,7 @@ fn by_public_keys(
     demands: &Demands<'_>,
     token: &str,
 ) -> Result<Value, ProgramError>
-    ensures answer { IsTheValue (λ value. IsReader PublicKeys version × ParsesIn PublicKeys
+    ensures answer { IsTheValue (λ value. IsRingReader PublicKeys version × ParsesIn PublicKeys
         version (reading_of PublicKeys version) (words_of lines.now) (demanded demands.now).footer (demanded demands.now).assertion token.now value) result }
     ensures no_usage { IfErr result IsNoUsage }
     ensures said { IfErr result (Says (IsRingLine token.now)) }

@@ -7,10 +7,10 @@ pub returns-clause-refused : goal.returns-clause-refused
 returns-clause-refused g c =
     let key = c.in_ok-key.ensures in
     declined_line c.signed.result (g.R.Read.remaining c.args.input.now)
-    (λ text. (line : List ℕ) → ¬ SignsText g.V.KeyVersion.paserk g.V.KeyPairVersion.secret_length g.V.Signs.valid g.V.PublicSuite.public_design g.V.Signs.partner
-    c.args.key.now c.args.options.now text line) g.V.KeyVersion.paserk g.V.KeyPairVersion.secret_length
+    (λ text. (line : List ℕ) → ¬ SignsText g.V.KeyVersion.paserk g.V.Signs.valid g.V.PublicSuite.public_design g.V.Signs.partner
+    c.args.key.now c.args.options.now text line) g.V.KeyVersion.paserk
     (λ text. DeclinesText g.V.Signs.declined g.V.Signs.partner g.V.PublicSuite.public_design c.args.options.now text)
     c.args.key.now c.in_ok-key.key c.lend.result c.as_str.result.now (string_bytes c.in_ok-text.text)
     c.in_ok-text.ensures.text c.as_str.ensures.value
-    (record { has_size = key.form; bytes = key.bytes; is_writing = key.written }) c.lend.ensures
-    (c.signed.ensures.refused (rw c.lend.ensures (g.met.V.Suite.has_private_length c.in_ok-key.key key.form)))
+    key.found c.lend.ensures
+    (c.signed.ensures.refused (rw c.lend.ensures (g.met.V.PairLines.has_private_length c.args.key.now c.in_ok-key.key key.found)))

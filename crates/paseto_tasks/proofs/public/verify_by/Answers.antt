@@ -8,5 +8,5 @@ returns-clause-refused g c =
     (λ token text. VerifiesText g.V.KeyVersion.paserk g.V.Verifies.valid g.V.Verifies.refused g.V.PublicSuite.public_design c.args.key.now c.args.options.now token text)
     (λ text. IsVerified g.V.Verifies.valid g.V.Verifies.refused g.V.PublicSuite.public_design c.lend-key.result c.args.options.now c.as_str-token.result.now text)
     c.in_ok-token.ensures.line c.as_str-token.ensures.value
-    (λ text v. rw (c.lend-key.ensures, c.in_ok-key.ensures.read v.key_bytes v.is_key.bytes (g.met.V.Suite.reads_public v.key_bytes v.is_key.is_key) v.is_key.is_writing) v.verified)
+    (λ text v. rw (c.lend-key.ensures, c.in_ok-key.ensures.one v.key_bytes v.is_key) v.verified)
     c.verified.ensures.refused

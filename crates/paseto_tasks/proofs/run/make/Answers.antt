@@ -1,5 +1,6 @@
+use Rattle.std.proofs.lemmas.Result.{err_from_is_err_and}
 use Rattle.paseto_tasks.specs.declared.arguments.Task.TheVariants.{Encrypt, Decrypt, Sign, Verify}
-use Rattle.paseto_tasks.proofs.Refusals.{make_refused}
+use Rattle.paseto_tasks.proofs.Refusals.{file_refused, make_refused}
 use Rattle.paseto_tasks.proofs.run.make.Goals as goal
 
 pub returns-in-Encrypt-clause-refused : goal.returns-in-Encrypt-clause-refused
@@ -13,3 +14,8 @@ returns-in-Sign-clause-refused g c = rw c.in-Sign.is (make_refused Sign c.args.o
 
 pub returns-clause-refused : goal.returns-clause-refused
 returns-clause-refused g c = rw c.in-Verify.is (make_refused Verify c.args.options.now (λ drawn. Unit {0}) c.verify.result _ _ _ _ c.as_str-key.ensures.value c.in_ok-key.ensures.line c.verify.ensures.refused)
+
+pub returns-in_err-key-clause-refused : goal.returns-in_err-key-clause-refused
+returns-in_err-key-clause-refused g c =
+    let p = err_from_is_err_and c.from_residual.result c.from_residual.ensures.1 in
+    rw (p.1, p.2) (file_refused c.args.task c.args.options.now _ c.in_err-key.field-0.0 _ _ c.in_err-key.ensures.refused)

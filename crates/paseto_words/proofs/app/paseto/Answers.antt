@@ -18,10 +18,14 @@ returns c =
     let one = adds_subcommand _ _ _ _ _ start c.in_ok-with_keygen.ensures c.in_ok-subcommand.ensures in
     let two = adds_subcommand _ _ _ _ _ one c.in_ok-with_public.ensures c.in_ok-subcommand-2.ensures in
     let three = adds_subcommand _ _ _ _ _ two c.in_ok-with_id.ensures c.in_ok-subcommand-3.ensures in
-    let four = adds_subcommand _ _ _ _ _ three c.in_ok-with_issue.ensures c.in_ok-subcommand-4.ensures in
-    let five = adds_subcommand _ _ _ _ _ four c.in_ok-with_check.ensures c.in_ok-subcommand-5.ensures in
-    let six = adds_subcommand _ _ _ _ _ five c.in_ok-with_encrypt.ensures c.in_ok-subcommand-6.ensures in
-    let seven = adds_subcommand _ _ _ _ _ six c.in_ok-with_decrypt.ensures c.in_ok-subcommand-7.ensures in
-    let eight = adds_subcommand _ _ _ _ _ seven c.in_ok-with_sign.ensures c.in_ok-subcommand-8.ensures in
-    let nine = adds_subcommand _ _ _ _ _ eight c.in_ok-with_verify.ensures c.in_ok-subcommand-9.ensures in
-    IfOk-weaker c.subcommand-10.result _ _ (λ new h. adds_subcommand _ _ _ _ new nine c.in_ok-with_inspect.ensures h) c.subcommand-10.ensures
+    let four = adds_subcommand _ _ _ _ _ three c.in_ok-with_wrap.ensures c.in_ok-subcommand-4.ensures in
+    let five = adds_subcommand _ _ _ _ _ four c.in_ok-with_unwrap.ensures c.in_ok-subcommand-5.ensures in
+    let six = adds_subcommand _ _ _ _ _ five c.in_ok-with_seal.ensures c.in_ok-subcommand-6.ensures in
+    let seven = adds_subcommand _ _ _ _ _ six c.in_ok-with_unseal.ensures c.in_ok-subcommand-7.ensures in
+    let eight = adds_subcommand _ _ _ _ _ seven c.in_ok-with_issue.ensures c.in_ok-subcommand-8.ensures in
+    let nine = adds_subcommand _ _ _ _ _ eight c.in_ok-with_check.ensures c.in_ok-subcommand-9.ensures in
+    let ten = adds_subcommand _ _ _ _ _ nine c.in_ok-with_encrypt.ensures c.in_ok-subcommand-10.ensures in
+    let eleven = adds_subcommand _ _ _ _ _ ten c.in_ok-with_decrypt.ensures c.in_ok-subcommand-11.ensures in
+    let twelve = adds_subcommand _ _ _ _ _ eleven c.in_ok-with_sign.ensures c.in_ok-subcommand-12.ensures in
+    let thirteen = adds_subcommand _ _ _ _ _ twelve c.in_ok-with_verify.ensures c.in_ok-subcommand-13.ensures in
+    IfOk-weaker c.subcommand-14.result _ _ (λ new h. adds_subcommand _ _ _ _ new thirteen c.in_ok-with_inspect.ensures h) c.subcommand-14.ensures

@@ -10,14 +10,14 @@ returns c =
     let named : IsFor (new_app (codes "check")) c.new.result = (c.new.ensures.app, c.new.ensures.local) in
     let with_about = as_before _ _ c.about.result _ named c.about.ensures refl refl in
     let with_after_help = as_before _ _ c.after_help.result _ with_about c.after_help.ensures refl refl in
-    let start = as_before _ _ c.override_usage.result _ with_after_help c.override_usage.ensures refl refl in
-    let one = adds _ _ _ _ _ start c.key.ensures.rule c.key.ensures.local c.in_ok-arg.ensures in
-    let two = adds _ _ _ _ _ one c.option.ensures.rule c.option.ensures.local c.in_ok-arg-2.ensures in
-    let three = adds _ _ _ _ _ two c.claim.ensures.rule c.claim.ensures.local c.in_ok-arg-3.ensures in
-    let four = adds _ _ _ _ _ three c.options.ensures.rule c.options.ensures.local c.in_ok-arg-4.ensures in
-    let five = adds _ _ _ _ _ four c.option-2.ensures.rule c.option-2.ensures.local c.in_ok-arg-5.ensures in
-    let six = adds _ _ _ _ _ five c.option-3.ensures.rule c.option-3.ensures.local c.in_ok-arg-6.ensures in
-    let seven = adds _ _ _ _ _ six c.footer.ensures.rule c.footer.ensures.local c.in_ok-arg-7.ensures in
-    let eight = adds _ _ _ _ _ seven c.kid.ensures.rule c.kid.ensures.local c.in_ok-arg-8.ensures in
-    let nine = adds _ _ _ _ _ eight c.assertion.ensures.rule c.assertion.ensures.local c.in_ok-arg-9.ensures in
-    IfOk-weaker c.arg-10.result _ _ (λ new h. adds _ _ _ _ new nine c.input.ensures.rule c.input.ensures.local h) c.arg-10.ensures
+    let start = as_before _ _ c.override_usage-command.result _ with_after_help c.override_usage-command.ensures refl refl in
+    let keyed = c.in_ok-with_key.ensures (new_app (codes "check")) start in
+    let one = adds _ _ _ _ _ keyed c.option.ensures.rule c.option.ensures.local c.in_ok-arg.ensures in
+    let two = adds _ _ _ _ _ one c.claim.ensures.rule c.claim.ensures.local c.in_ok-arg-2.ensures in
+    let three = adds _ _ _ _ _ two c.options.ensures.rule c.options.ensures.local c.in_ok-arg-3.ensures in
+    let four = adds _ _ _ _ _ three c.option-2.ensures.rule c.option-2.ensures.local c.in_ok-arg-4.ensures in
+    let five = adds _ _ _ _ _ four c.option-3.ensures.rule c.option-3.ensures.local c.in_ok-arg-5.ensures in
+    let six = adds _ _ _ _ _ five c.footer.ensures.rule c.footer.ensures.local c.in_ok-arg-6.ensures in
+    let seven = adds _ _ _ _ _ six c.kid.ensures.rule c.kid.ensures.local c.in_ok-arg-7.ensures in
+    let eight = adds _ _ _ _ _ seven c.assertion.ensures.rule c.assertion.ensures.local c.in_ok-arg-8.ensures in
+    IfOk-weaker c.arg-9.result _ _ (λ new h. adds _ _ _ _ new eight c.input.ensures.rule c.input.ensures.local h) c.arg-9.ensures

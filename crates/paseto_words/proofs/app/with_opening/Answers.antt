@@ -7,8 +7,8 @@ use Rattle.paseto_words.proofs.app.with_opening.Goals as goal
 
 pub returns : goal.returns
 returns c =
-    let start : IsFor (new_app c.args.name.now) c.after_help.result = (search rules, search rules) in
-    let one = adds _ _ _ _ _ start c.key.ensures.rule c.key.ensures.local c.in_ok-arg.ensures in
-    let two = adds _ _ _ _ _ one c.footer.ensures.rule c.footer.ensures.local c.in_ok-arg-2.ensures in
-    let three = adds _ _ _ _ _ two c.assertion.ensures.rule c.assertion.ensures.local c.in_ok-arg-3.ensures in
-    IfOk-weaker c.arg-4.result _ _ (λ new h. adds _ _ _ _ new three c.input.ensures.rule c.input.ensures.local h) c.arg-4.ensures
+    let start : IsFor (new_app c.args.name.now) c.after_help-command.result = (search rules, search rules) in
+    let keyed = c.in_ok-with_key.ensures (new_app c.args.name.now) start in
+    let one = adds _ _ _ _ _ keyed c.footer.ensures.rule c.footer.ensures.local c.in_ok-arg.ensures in
+    let two = adds _ _ _ _ _ one c.assertion.ensures.rule c.assertion.ensures.local c.in_ok-arg-2.ensures in
+    IfOk-weaker c.arg-3.result _ _ (λ new h. adds _ _ _ _ new two c.input.ensures.rule c.input.ensures.local h) c.arg-3.ensures

@@ -2,8 +2,11 @@ use Rattle.std.specs.Prelude.{⊤}
 use Rattle.paseto.proofs.Parsed.{beside}
 use Rattle.paseto.proofs.commands.check.by_public_key.Goals as goal
 
+pub returns-in-V1-clause-answer : goal.returns-in-V1-clause-answer
+returns-in-V1-clause-answer c = rw c.in-V1.is (beside c.verified.result ⊤ _ tt c.verified.ensures.answer)
+
 pub returns-in-V2-clause-answer : goal.returns-in-V2-clause-answer
-returns-in-V2-clause-answer c = rw c.in-V2.is (beside c.verified.result ⊤ _ tt c.verified.ensures.answer)
+returns-in-V2-clause-answer c = rw c.in-V2.is (beside c.verified-in-V2.result ⊤ _ tt c.verified-in-V2.ensures.answer)
 
 pub returns-in-V3-clause-answer : goal.returns-in-V3-clause-answer
 returns-in-V3-clause-answer c = rw c.in-V3.is (beside c.verified-in-V3.result ⊤ _ tt c.verified-in-V3.ensures.answer)

@@ -9,20 +9,20 @@ use Rattle.paseto.proofs.commands.check.claims_by_key.Goals as goal
 pub returns-in-Local-clause-answer : goal.returns-in-Local-clause-answer
 returns-in-Local-clause-answer c =
     let demands = demanded c.args.demands.now in
-    by_this_header Local c.in-Some.version c.args.key.now c.in-Some.field-0-2.now demands.footer demands.assertion c.args.token.now
+    by_this_header Local c.in-Some.version c.args.key.now demands.footer demands.assertion c.args.token.now
     (rw c.in-Local.is at c.in-Some.ensures.found) c.by_local_key.result c.in_ok-takes.ensures.taken c.by_local_key.ensures.answer
 
 pub returns-in-Public-clause-answer : goal.returns-in-Public-clause-answer
 returns-in-Public-clause-answer c =
     let demands = demanded c.args.demands.now in
-    by_this_header Public c.in-Some.version c.args.key.now c.in-Some.field-0-2.now demands.footer demands.assertion c.args.token.now
+    by_this_header Public c.in-Some.version c.args.key.now demands.footer demands.assertion c.args.token.now
     (rw c.in-Public.is at c.in-Some.ensures.found) c.by_public_key.result c.in_ok-takes.ensures.taken c.by_public_key.ensures.answer
 
 pub returns-in_err-takes-clause-answer : goal.returns-in_err-takes-clause-answer
 returns-in_err-takes-clause-answer c =
     let p = err_from_is_err_and c.from_residual.result c.from_residual.ensures.1 in
     let demands = demanded c.args.demands.now in
-    rw (p.1, p.2) (no_value _ _ (inr (not_taken_by c.in-Some.kind c.in-Some.version c.args.key.now c.in-Some.field-0-2.now demands.footer demands.assertion c.args.token.now
+    rw (p.1, p.2) (no_value _ _ (inr (not_taken_by c.in-Some.kind c.in-Some.version c.args.key.now demands.footer demands.assertion c.args.token.now
     c.in-Some.ensures.found c.in_err-takes.ensures.refused.1)))
 
 pub returns-in_default-clause-answer : goal.returns-in_default-clause-answer

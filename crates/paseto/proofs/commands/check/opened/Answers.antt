@@ -16,7 +16,8 @@ returns-clause-answer g c =
     let held = c.reader-parser.result.parser in
     let demands = demanded c.args.demands.now in
     parses (opening g.V.LocalSuite.design) Local g.V.KeyVersion.paserk c.args.key.now demands.footer demands.assertion c.args.token.now c.in_ok-key.key
-    (record { bytes = key.bytes; is_key = key.form; is_writing = key.written }) _ _
+    (record { bytes = key.bytes; is_key = key.form; is_writing = key.written })
+    (λ other is. key.read other is.bytes is.is_key is.is_writing) _ _
     (ap (λ (b : Bool). binding_of c.in_ok-key.key held.footer (assertion_in b held.implicit_assertion)) c.requires
     ∙ same_binding _ held.footer held.implicit_assertion demands.assertion (binds_in g.V.KeyVersion.paserk) _ made.assertion made.footer) made.rules
     c.parsed.result c.parse.result c.parsed.ensures.value c.parsed.ensures.refused (c.parse.ensures.answer (unlimited _ _ made.longest))

@@ -14,6 +14,7 @@ returns-clause-answer c =
     let made = c.reader-parser.ensures in
     let demands = demanded c.args.demands.now in
     parses (box_opening box_sealing) Local V2 c.args.key.now demands.footer demands.assertion c.args.token.now c.in_ok-key.key
-    (record { bytes = key.bytes; is_key = key.form; is_writing = key.written }) _ _
+    (record { bytes = key.bytes; is_key = key.form; is_writing = key.written })
+    (λ other is. key.read other is.bytes is.is_key is.is_writing) _ _
     (same_binding _ c.reader-parser.result.parser.footer None demands.assertion false _ refl made.footer) made.rules
     c.parsed.result c.parse.result c.parsed.ensures.value c.parsed.ensures.refused (c.parse.ensures.answer (unlimited _ _ made.longest))

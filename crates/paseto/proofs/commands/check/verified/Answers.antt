@@ -6,7 +6,7 @@ use Rattle.rusty_paseto_generic.specs.Parsers.Parsing.{assertion_in}
 use Rattle.rusty_paseto_paserk.specs.declared.header.PaserkType.TheVariants.{Public}
 use Rattle.paseto_tasks.specs.Arguments.{binds_in}
 use Rattle.paseto.specs.Check.{demanded}
-use Rattle.paseto.proofs.Parsed.{no_key_value, no_value, parses, same_binding}
+use Rattle.paseto.proofs.Parsed.{no_line_value, no_value, parses, same_binding}
 use Rattle.rusty_paseto_parts.proofs.LimitLemmas.{unlimited}
 use Rattle.paseto.proofs.commands.check.verified.Goals as goal
 
@@ -18,7 +18,7 @@ returns-clause-answer g c =
     let demands = demanded c.args.demands.now in
     parses (verification g.V.Verifies.valid g.V.Verifies.refused g.V.PublicSuite.public_design) Public g.V.KeyVersion.paserk
     c.args.key.now demands.footer demands.assertion c.args.token.now c.in_ok-key.key
-    (record { bytes = key.bytes; is_key = g.met.V.Suite.writes_public c.in_ok-key.key key.form; is_writing = key.written }) _ _
+    key.found key.one _ _
     (ap (λ (k : List ℕ). binding_of k held.footer (assertion_in g.V.PublicSuite.public_design.binds_assertion held.implicit_assertion)) c.lend.ensures
     ∙ ap (λ (b : Bool). binding_of c.in_ok-key.key held.footer (assertion_in b held.implicit_assertion)) c.requires
     ∙ same_binding _ held.footer held.implicit_assertion demands.assertion (binds_in g.V.KeyVersion.paserk) _ made.assertion made.footer) made.rules
@@ -27,5 +27,4 @@ returns-clause-answer g c =
 pub returns-in_err-key-clause-answer : goal.returns-in_err-key-clause-answer
 returns-in_err-key-clause-answer g c =
     let p = err_from_is_err_and c.from_residual.result c.from_residual.ensures.1 in
-    rw (p.1, p.2) (no_value _ _ (no_key_value c.in_err-key.field-0.0 _
-    (λ value is. c.in_err-key.ensures.read is.key is.is_key.bytes (g.met.V.Suite.reads_public is.key is.is_key.is_key) is.is_key.is_writing)))
+    rw (p.1, p.2) (no_value _ _ (no_line_value c.in_err-key.field-0.0 _ _ c.in_err-key.ensures.none (λ value is. (is.key, is.is_key))))

@@ -6,22 +6,22 @@ use Rattle.paseto.proofs.commands.issue.issue.Goals as goal
 
 pub returns-in-Local-clause-none : goal.returns-in-Local-clause-none
 returns-in-Local-clause-none g c =
-    local_none c.args.key.now (ordered c.args.order.now) c.in-Some.version c.in-Some.field-0-2.now c.by_local_key.result
+    local_none c.args.key.now (ordered c.args.order.now) c.in-Some.version c.by_local_key.result
     (rw c.in-Local.is at c.in-Some.ensures.found) c.by_local_key.ensures.none
 
 pub returns-in-Secret-clause-none : goal.returns-in-Secret-clause-none
 returns-in-Secret-clause-none g c =
-    private_none c.args.key.now (ordered c.args.order.now) c.in-Some.version c.in-Some.field-0-2.now c.by_private_key.result
+    private_none c.args.key.now (ordered c.args.order.now) c.in-Some.version c.by_private_key.result
     (rw c.in-Secret.is at c.in-Some.ensures.found) c.by_private_key.ensures.none
 
 pub returns-in-Public-clause-none : goal.returns-in-Public-clause-none
 returns-in-Public-clause-none g c =
-    inr (public_none c.args.key.now (ordered c.args.order.now) c.in-Some.version c.in-Some.field-0-2.now (rw c.in-Public.is at c.in-Some.ensures.found))
+    inr (public_none c.args.key.now (ordered c.args.order.now) c.in-Some.version (rw c.in-Public.is at c.in-Some.ensures.found))
 
 pub returns-in_err-takes-clause-none : goal.returns-in_err-takes-clause-none
 returns-in_err-takes-clause-none g c =
     let p = err_from_is_err_and c.from_residual.result c.from_residual.ensures.1 in
-    rw (p.1, p.2) (inr (not_taken_issues c.args.key.now (ordered c.args.order.now) c.in-Some.version c.in-Some.field-0-2.now c.in-Some.kind
+    rw (p.1, p.2) (inr (not_taken_issues c.args.key.now (ordered c.args.order.now) c.in-Some.version c.in-Some.kind
     c.in-Some.ensures.found c.in_err-takes.ensures.refused.1))
 
 pub returns-in_default-clause-none : goal.returns-in_default-clause-none

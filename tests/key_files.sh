@@ -1,0 +1,263 @@
+#!/usr/bin/env bash
+# Checks how `paseto` takes keys as people have them: PEM of OpenSSL, keys under a password, under a wrapping key, and sealed.
+#
+#   tests/key_files.sh [PROGRAM]
+#
+# Without PROGRAM it takes the one that build.sh leaves in the crate's out/. The last line is 'N passed, M failed', and the
+# status is 0 where none failed.
+set -u
+export LC_ALL=C
+
+root=$(cd "$(dirname "$0")/.." && pwd)
+# shellcheck source=tests/counts.sh
+source "$root/tests/counts.sh"
+program=$(realpath -m "${1-$root/crates/paseto/out/paseto}")
+needs openssl openssl
+if [ ! -x "$program" ]; then
+    fail "there is no program $program"
+    finish
+fi
+work=$(mktemp -d)
+trap 'rm -rf "$work"' EXIT
+cd "$work" || exit 1
+umask 077
+unset PASETO_KEY PASETO_PASSWORD
+
+# is NAME FOUND WANTED
+is() {
+    if [ "$2" = "$3" ]; then
+        pass
+    else
+        fail "$1: ${2:0:200} in place of ${3:0:200}"
+    fi
+}
+
+# refuses NAME STATUS LINE WORD..: this status, no output, and on standard error `paseto: ` and this line.
+refuses() {
+    local name=$1 status=$2 line=$3
+    shift 3
+    timeout 20 "$program" "$@" <in >out 2>err
+    is "$name, status" $? "$status"
+    is "$name, output" "$(cat out)" ""
+    is "$name, standard error" "$(cat err)" "paseto: $line"
+}
+
+# same NAME FILE FILE: the bytes of both are the same.
+same() {
+    if cmp -s "$2" "$3"; then pass; else fail "$1: $2 and $3 differ"; fi
+}
+
+printf hello >in
+printf 'correct horse battery staple\n' >password
+printf other >password.other
+input='standard input'
+wrong='wrong key, wrong footer or assertion, or the token was changed'
+wrong_password='wrong key or password, or the text was changed'
+needs_password='the key is under a password: give it by --password-file or PASETO_PASSWORD'
+needs_key='the key is wrapped or sealed: name the key that opens it by --unlock-key'
+
+# -- PEM
+
+openssl genpkey -algorithm ed25519 -out ed.pem 2>err
+openssl genpkey -algorithm EC -pkeyopt ec_paramgen_curve:P-384 -pkeyopt ec_param_enc:named_curve -out p384.pem 2>err
+openssl genpkey -algorithm RSA -pkeyopt rsa_keygen_bits:2048 -out rsa.pem 2>err
+for name in ed p384 rsa; do openssl pkey -in $name.pem -pubout -out $name.public.pem; done
+openssl ec -in p384.pem -out sec1.pem 2>err
+openssl rsa -in rsa.pem -RSAPublicKey_out -out rsa.pkcs1.pem 2>err
+
+while read -r name version; do
+    token=$("$program" sign --key $name.pem --footer id <in)
+    is "a token by $name.pem" "${token:0:10}" "v$version.public."
+    is "the text of a token by $name.pem" "$("$program" verify --key $name.public.pem --footer id <<<"$token")" hello
+    printf %s "${token:0:40}AAAA${token:44}" >in
+    refuses "a changed token by $name.pem" 1 "$input: $wrong" verify --key $name.public.pem --footer id
+    printf hello >in
+    token=$("$program" issue --key $name.pem --claim aud=customers --expires 2099-01-01T00:00:00Z)
+    is "a token of claims by $name.pem" "${token:0:10}" "v$version.public."
+    is "its claims" "$("$program" check --key $name.public.pem --claim aud=customers <<<"$token" | grep -o '"aud":"customers"')" '"aud":"customers"'
+    printf %s "$token" >in
+    refuses "a claim that differs, $name.pem" 1 "$input: The claim 'aud' failed validation. Expected 'all', got 'customers'" \
+        check --key $name.public.pem --claim aud=all
+    printf hello >in
+    refuses "$name.public.pem signs nothing" 1 "$name.public.pem: The key is a public one, which verifies" sign --key $name.public.pem
+    refuses "$name.pem verifies nothing" 1 "$name.pem: The key is a private one, which signs" verify --key $name.pem
+    refuses "$name.pem checks nothing" 1 "$name.pem: The key is a private one, which signs" check --key $name.pem
+    refuses "$name.public.pem issues nothing" 1 "$name.public.pem: The key is a public one, which verifies" issue --key $name.public.pem
+    tr -d '\n' <$name.pem >flat.pem
+    sed 's/$/\r/' $name.pem >returns.pem
+    is "lines that end in CR LF, $name.pem" "$("$program" sign --key returns.pem <in | "$program" verify --key $name.public.pem)" hello
+    is "PEM on standard input, $name.pem" "$("$program" sign --key - in <$name.pem | "$program" verify --key $name.public.pem)" hello
+    is "PEM in the environment, $name.pem" "$(PASETO_KEY=$(cat $name.pem) "$program" sign <in | "$program" verify --key $name.public.pem)" hello
+done <<'LIST'
+ed 4
+p384 3
+rsa 1
+LIST
+is "PEM of SEC 1" "$("$program" sign --key sec1.pem <in | "$program" verify --key p384.public.pem)" hello
+is "PEM of PKCS #1" "$("$program" sign --key rsa.pem <in | "$program" verify --key rsa.pkcs1.pem)" hello
+for name in ed p384; do
+    "$program" unwrap --key $name.pem --out $name.line
+    "$program" unwrap --key $name.line --format pem --out $name.again
+    same "a private key in PEM, written again, $name" $name.again $name.pem
+    "$program" public --key $name.line --format pem --out $name.half
+    same "the public half in PEM, $name" $name.half $name.public.pem
+    is "the public half of PEM, $name" "$("$program" public --key $name.pem)" "$("$program" unwrap --key $name.public.pem)"
+    is "the id of PEM, $name" "$("$program" id --key $name.pem)" "$("$program" id --key $name.line)"
+done
+for kind in v3.public v4.public; do
+    "$program" keygen $kind --format pem --out new.pem --public new.public.pem --quiet
+    openssl pkey -in new.pem -pubout -out openssl.public.pem
+    same "keygen in PEM, $kind" new.public.pem openssl.public.pem
+    openssl pkey -in new.pem -out openssl.pem
+    same "the private key of keygen in PEM, $kind" new.pem openssl.pem
+    rm new.pem new.public.pem
+done
+openssl genpkey -algorithm X25519 -out x25519.pem
+openssl genpkey -algorithm EC -pkeyopt ec_paramgen_curve:P-256 -out p256.pem
+openssl genpkey -algorithm RSA -pkeyopt rsa_keygen_bits:3072 -out rsa3072.pem 2>err
+openssl pkey -in ed.pem -aes256 -passout pass:secret -out encrypted.pem
+sed '2s/./!/' ed.pem >broken.pem
+refuses "another algorithm" 1 "x25519.pem: The key is one of another algorithm" sign --key x25519.pem
+refuses "another curve" 1 "p256.pem: The key is one of another curve" sign --key p256.pem
+refuses "another size" 1 "rsa3072.pem: The key has another size" sign --key rsa3072.pem
+refuses "an encrypted key of OpenSSL" 1 "encrypted.pem: The key is encrypted" sign --key encrypted.pem
+refuses "broken PEM" 1 "broken.pem: The text is no PEM" sign --key broken.pem
+"$program" keygen v4.local --out v4.local --quiet
+"$program" keygen v2.public --out v2.secret --public v2.public --quiet
+refuses "a local key in PEM" 1 "v4.local: keys for local tokens have no PEM text" unwrap --key v4.local --format pem
+refuses "a new local key in PEM" 1 "v3.local: keys for local tokens have no PEM text" keygen v3.local --format pem
+refuses "a key of version 2 in PEM" 1 \
+    "v2.secret: keys of version 2 have no PEM text of their own: it would be read as one of version 4" unwrap --key v2.secret --format pem
+refuses "no format" 2 "--format: a format of keys is paserk or pem" keygen v4.public --format der
+
+# -- passwords
+
+while read -r kind file; do
+    "$program" keygen $kind --password-file password --out locked.$kind --public half.$kind 2>err ||
+        "$program" keygen $kind --password-file password --out locked.$kind 2>err
+    is "keygen $kind under a password" "$(cut -d . -f 1,2 locked.$kind)" "k${kind:1:1}.$file-pw"
+    is "the mode of locked.$kind" "$(stat -c %a locked.$kind)" 600
+    is "no bare key, $kind" "$(grep -cE 'k[1-4]\.(local|secret)\.' locked.$kind)" 0
+    if [ "$file" = local ]; then
+        token=$("$program" encrypt --key locked.$kind --password-file password <in)
+        is "locked.$kind opens" "$("$program" decrypt --key locked.$kind --password-file password <<<"$token")" hello
+    else
+        token=$("$program" sign --key locked.$kind --password-file password <in)
+        is "locked.$kind signs" "$("$program" verify --key half.$kind <<<"$token")" hello
+    fi
+    refuses "another password, $kind" 1 "locked.$kind: $wrong_password" id --key locked.$kind --password-file password.other
+    refuses "no password, $kind" 1 "locked.$kind: $needs_password" id --key locked.$kind
+    is "the password of the environment, $kind" "$(PASETO_PASSWORD='correct horse battery staple' "$program" id --key locked.$kind)" \
+        "$("$program" id --key locked.$kind --password-file password)"
+done <<'LIST'
+v1.local local
+v2.local local
+v3.local local
+v4.local local
+v2.public secret
+v3.public secret
+v4.public secret
+LIST
+is "what keygen says" "$("$program" keygen v4.local --password-file password --out told.local 2>&1)" \
+    "paseto: told.local: the new key of kind v4.local, under a password"
+is "keygen by the environment" "$(PASETO_PASSWORD=secret "$program" keygen v4.local | cut -d . -f 2)" local-pw
+"$program" unwrap --key locked.v4.local --password-file password --out bare
+is "unwrap" "$(cut -d . -f 1,2 bare)" k4.local
+"$program" wrap --key bare --password-file password.other --out relocked
+is "another password" "$("$program" unwrap --key relocked --password-file password.other)" "$(cat bare)"
+"$program" wrap --key rsa.pem --password-file password --out locked.rsa
+is "a key of RSA under a password" "$(cut -d . -f 1,2 locked.rsa)" k1.secret-pw
+is "it signs" "$("$program" sign --key locked.rsa --password-file password <in | "$program" verify --key rsa.public.pem)" hello
+refuses "a key under a password in PEM" 2 "a key under a password is not written in PEM: leave --format or the password out" \
+    keygen v4.public --password-file password --format pem
+refuses "wrap under nothing" 2 "no password is named: give --password-file FILE, or PASETO_PASSWORD" wrap --key bare
+: >nothing
+refuses "an empty password" 1 "nothing: no password: one has 1 to 4095 bytes" wrap --key bare --password-file nothing
+refuses "no file of a password" 3 "nowhere: no such file" wrap --key bare --password-file nowhere
+refuses "a public key under a password" 1 "half.v4.public: the key is public: it needs no password and no wrapping key" \
+    wrap --key half.v4.public --password-file password
+cp password open.password
+chmod 644 open.password
+"$program" id --key locked.v4.local --password-file open.password >out 2>err
+is "a password that others can read" "$(cat err)" "paseto: open.password: warning: others than its owner can read the password file"
+chmod 644 locked.v4.local
+is "a locked key that others can read" "$("$program" id --key locked.v4.local --password-file password 2>&1 >out)" ""
+printf 'k4.local-pw.AAAA' >cut
+refuses "a locked key that was cut off" 1 "cut: what follows the header is no base64url of a wrapped key, or was cut off" id --key cut --password-file password
+
+# -- wrapping keys
+
+for version in 1 2 3 4; do
+    "$program" keygen v$version.local --out wrapping.$version --quiet
+    "$program" keygen v$version.local --out local.$version --quiet
+    "$program" wrap --key local.$version --wrapping-key wrapping.$version --out wrapped.$version
+    is "wrap, version $version" "$(cut -d . -f 1-3 wrapped.$version)" "k$version.local-wrap.pie"
+    is "unwrap, version $version" "$("$program" unwrap --key wrapped.$version --unlock-key wrapping.$version)" "$(cat local.$version)"
+    token=$("$program" encrypt --key wrapped.$version --unlock-key wrapping.$version <in)
+    is "a wrapped key of version $version" "$("$program" decrypt --key local.$version <<<"$token")" hello
+    refuses "another wrapping key, version $version" 1 "wrapped.$version: $wrong_password" id --key wrapped.$version --unlock-key local.$version
+    refuses "no wrapping key, version $version" 1 "wrapped.$version: $needs_key" id --key wrapped.$version
+done
+for version in 2 3 4; do
+    "$program" keygen v$version.public --out secret.$version --public public.$version --quiet
+    "$program" wrap --key secret.$version --wrapping-key wrapping.$version --out wrapped.secret
+    is "wrap a private key, version $version" "$(cut -d . -f 1-3 wrapped.secret)" "k$version.secret-wrap.pie"
+    is "unwrap a private key, version $version" "$("$program" unwrap --key wrapped.secret --unlock-key wrapping.$version)" "$(cat secret.$version)"
+    rm wrapped.secret
+done
+refuses "a wrapping key of another version" 1 "wrapping.3: this key is one of version 3, and the other one is not" \
+    wrap --key local.4 --wrapping-key wrapping.3
+refuses "a wrapping key of another version to unwrap" 1 "wrapping.3: this key is one of version 3, and the other one is not" \
+    id --key wrapped.4 --unlock-key wrapping.3
+refuses "a private key as a wrapping key" 1 "secret.4: this key is a private one, and another type is needed" \
+    wrap --key local.4 --wrapping-key secret.4
+"$program" wrap --key wrapping.4 --password-file password --out wrapping.locked
+is "a wrapping key under a password" "$("$program" unwrap --key wrapped.4 --unlock-key wrapping.locked --password-file password)" "$(cat local.4)"
+"$program" wrap --key a --wrapping-key b --password-file c >out 2>err
+is "two locks" "$? $(head -n 1 err)" "2 error: the argument '--wrapping-key <FILE>' cannot be used with '--password-file <FILE>'"
+
+# -- sealed keys
+
+for version in 2 3 4; do
+    "$program" seal --key local.$version --to public.$version --out sealed.$version
+    is "seal, version $version" "$(cut -d . -f 1,2 sealed.$version)" "k$version.seal"
+    is "unseal, version $version" "$("$program" unseal --key sealed.$version --unlock-key secret.$version)" "$(cat local.$version)"
+    token=$("$program" encrypt --key sealed.$version --unlock-key secret.$version <in)
+    is "a sealed key of version $version" "$("$program" decrypt --key local.$version <<<"$token")" hello
+    "$program" keygen v$version.public --out other.secret --quiet
+    refuses "another private key, version $version" 1 "sealed.$version: $wrong_password" unseal --key sealed.$version --unlock-key other.secret
+    rm other.secret
+    refuses "no private key, version $version" 1 "sealed.$version: $needs_key" unseal --key sealed.$version
+    refuses "a local key to unseal, version $version" 1 "local.$version: this key is one for local tokens, and another type is needed" \
+        unseal --key sealed.$version --unlock-key local.$version
+    refuses "a private key, sealed, version $version" 1 "secret.$version: The key is a private one, which signs" seal --key secret.$version --to public.$version
+done
+"$program" seal --key local.3 --to p384.public.pem --out sealed.pem
+is "sealed to a key in PEM" "$("$program" unseal --key sealed.pem --unlock-key p384.pem)" "$(cat local.3)"
+refuses "a public key of another version" 1 "public.3: this key is one of version 3, and the other one is not" seal --key local.4 --to public.3
+refuses "a key of version 1, sealed" 1 "local.1: keys of version 1 are neither sealed nor unsealed here" seal --key local.1 --to rsa.public.pem
+refuses "what is not sealed" 1 "local.4: the key is not sealed: paseto unwrap opens it" unseal --key local.4
+"$program" seal --key local.4 >out 2>err
+is "sealed to nobody" "$? $(head -n 1 err)" "2 error: the following required arguments were not provided:"
+
+# -- rings
+
+mkdir ring
+cp locked.v4.local ring/one
+cp ed.public.pem ring/two
+kid=$("$program" id --key locked.v4.local --password-file password)
+token=$("$program" issue --key locked.v4.local --password-file password --footer-kid "$kid" --expires 2099-01-01T00:00:00Z)
+is "a ring of a locked key" "$("$program" check --ring ring --password-file password <<<"$token" | grep -o '"exp"')" '"exp"'
+kid=$("$program" id --key ed.public.pem)
+token=$("$program" issue --key ed.pem --footer-kid "$kid" --expires 2099-01-01T00:00:00Z)
+is "a ring of a key in PEM" "$("$program" check --ring ring --password-file password <<<"$token" | grep -o '"exp"')" '"exp"'
+printf %s "$token" >in
+refuses "a ring that is not opened" 1 "ring: The file 'one' of the ring: $needs_password" check --ring ring
+rm ring/one
+cp rsa.public.pem ring/three
+refuses "a ring of a key of RSA" 1 "ring: The file 'three' of the ring is of version 1, whose key pairs have no id" check --ring ring
+
+# -- no output tells a key or a password
+
+if grep -rlE 'correct horse|k[1-4]\.(local|secret)\.' out err >/dev/null; then fail 'a line tells a secret'; else pass; fi
+finish
