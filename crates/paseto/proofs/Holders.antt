@@ -35,6 +35,10 @@ module _ (kind : PaserkType) (version : PaserkVersion) (line : List ℕ) (footer
       let same = same_beginning is.version version is.kind kind line (begins_as_key is.kind is.version line is.parses.key is.parses.is_key) begins in
       none (subst (λ (v : PaserkVersion). Takes v assertion) same.0 is.takes)
 
+  -- a key of a type that reads no token
+  pub no_reader_by : ¬ IsReader kind version → (value : Data) → ¬ ParsesByKey line footer assertion token value
+  no_reader_by none value is = none (by_header value is).0
+
 -- a line that begins as no key
 pub no_header_by : (line : List ℕ) (footer : Option (List ℕ)) (assertion : Option ImplicitAssertion) (token : List ℕ) → ((version : PaserkVersion) (kind : PaserkType) → ¬ BeginsAs version kind line)
     → (value : Data) → ¬ ParsesByKey line footer assertion token value

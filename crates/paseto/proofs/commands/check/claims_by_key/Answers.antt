@@ -1,8 +1,8 @@
 use Rattle.std.proofs.Common.{inr, refl}
 use Rattle.std.proofs.lemmas.Result.{err_from_is_err_and}
-use Rattle.rusty_paseto_paserk.specs.declared.header.PaserkType.TheVariants.{Local, Public}
+use Rattle.rusty_paseto_paserk.specs.declared.header.PaserkType.TheVariants.{Local, Public, Secret}
 use Rattle.paseto.specs.Check.{demanded}
-use Rattle.paseto.proofs.Holders.{by_this_header, no_header_by, not_taken_by}
+use Rattle.paseto.proofs.Holders.{by_this_header, no_header_by, no_reader_by, not_taken_by}
 use Rattle.paseto.proofs.Parsed.{no_value}
 use Rattle.paseto.proofs.commands.check.claims_by_key.Goals as goal
 
@@ -29,3 +29,9 @@ pub returns-in_default-clause-answer : goal.returns-in_default-clause-answer
 returns-in_default-clause-answer c =
     let demands = demanded c.args.demands.now in
     no_value _ _ (inr (no_header_by c.args.key.now demands.footer demands.assertion c.args.token.now (c.in_default.ensures.none refl)))
+
+pub returns-in-Secret-clause-answer : goal.returns-in-Secret-clause-answer
+returns-in-Secret-clause-answer c =
+    let demands = demanded c.args.demands.now in
+    no_value _ _ (inr (no_reader_by Secret c.in-Some.version c.args.key.now demands.footer demands.assertion c.args.token.now
+    (rw c.in-Secret.is at c.in-Some.ensures.found) (λ reads. reads)))
