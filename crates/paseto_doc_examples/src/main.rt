@@ -20,6 +20,7 @@ mod from_block_one;
 mod generic_builder;
 mod generic_parser;
 mod generic_tokens;
+mod key_file;
 mod key_ring;
 mod keys_as_text;
 mod keys_in_pem;
@@ -111,6 +112,8 @@ fn show_core(rt: &HostRuntime) -> Result<()> {
     println!(rt; "id of {id_length} bytes")?;
     let pem_length = keys_in_pem::read_and_write(alloc, PRIVATE_KEY)?.len();
     println!(rt; "text of {pem_length} bytes")?;
+    let line = key_file::line_of(alloc, b"a password", PRIVATE_KEY)?;
+    println!(rt; "line of {} bytes", line.len())?;
     let wrapping_key = WrappingKey::from(Key::<32>::try_new_random(&mut rng)?);
     let again = wrapped_keys::wrap_and_unwrap(alloc, &wrapping_key, &nonce, &key)?;
     println!(rt;
