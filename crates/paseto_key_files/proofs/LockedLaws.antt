@@ -1,11 +1,10 @@
 -- What is locked is opened.
-use Rattle.std.proofs.Common.{◌≡◌, ◌⊎◌, ℕ, ◌+◌, ◌<◌, List, ◌++◌, length, take, drop, Some, Bor, inl, inr, refl, sym, subst, ◌∙◌}
+use Rattle.std.proofs.Common.{◌≡◌, ℕ, List, ◌++◌, length, inl, inr, refl, sym, subst, ◌∙◌}
 use Rattle.std.proofs.lemmas.List.{append_cancel_left, take_at, drop_at}
 use Rattle.base64.specs.GeneralPurpose.{IsBytes}
 use Rattle.rusty_paseto_parts.specs.Section.{base64url}
 use Rattle.rusty_paseto_paserk.specs.declared.header.PaserkVersion.{PaserkVersion}
 use Rattle.rusty_paseto_paserk.specs.declared.header.PaserkVersion.TheVariants.{V1, V2, V3, V4}
-use Rattle.rusty_paseto_paserk.specs.declared.header.PaserkType.{PaserkType}
 use Rattle.rusty_paseto_paserk.specs.declared.header.PaserkType.TheVariants.{Local, Secret, Public}
 use Rattle.rusty_paseto_parts.proofs.SectionLemmas.{base64url-injective}
 use Rattle.rusty_paseto_paserk.specs.Header.{header}
@@ -22,7 +21,7 @@ use Rattle.paseto_wrapping.specs.Pie.{payload as pie_payload}
 use Rattle.paseto_wrapping.specs.Text.{writing}
 use Rattle.paseto_key_files.specs.declared.openers.Openers.{Openers}
 use Rattle.paseto_key_files.specs.Held.{HoldsKey}
-use Rattle.paseto_key_files.specs.Laws.{IsSameLine, OpensAgain, ProtectedUnlock, SealedUnlock, WrappedUnlock}
+use Rattle.paseto_key_files.specs.Laws.{IsSameLine, ProtectedUnlock, SealedUnlock, WrappedUnlock}
 use Rattle.paseto_key_files.specs.Line.{IsLocalKey, IsPrivateKey, IsPrivateLine, private_line}
 use Rattle.paseto_key_files.specs.Opening.{ByKey, OpensAs, OpensLine, Pies, Seals, UnderPassword, Unlocks, most}
 use Rattle.paseto_key_files.proofs.TextLaws.{writing_is_line, writing_no_pem}
