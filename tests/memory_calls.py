@@ -30,6 +30,8 @@ CRATES = [
     "paseto_rsa",
     "rusty_paseto_paserk",
     "paseto_argon2",
+    "paseto_pem",
+    "paseto_wrapping",
 ]
 
 # The versions for which a block is that is bound by one of these traits.
@@ -42,10 +44,11 @@ VERSIONS = {
     "PublicVersion": [1, 2, 3, 4],
     "Signs": [1, 2, 3, 4],
     "Verifies": [1, 2, 3, 4],
+    "PemVersion": [1, 2, 3, 4],
 }
 
 # The purpose of the tokens of a trait whose methods have a version as `Self`.
-PURPOSES = {"LocalVersion": "local", "Signs": "public", "Verifies": "public"}
+PURPOSES = {"LocalVersion": "local", "Signs": "public", "Verifies": "public", "PemVersion": "public"}
 
 # The traits of setters, each of which is listed with the types that have it: `TokenParser::put_check`.
 SETTERS = {"ClaimSetter", "CheckSetter", "CountingSetter"}

@@ -12,12 +12,14 @@ mod no_memory;
 mod parsers;
 mod paserk;
 mod passwords;
+mod pem;
 mod primitives;
 mod rsa_key;
 mod run;
 mod schemes;
 mod tokens;
 mod validators;
+mod wrapping;
 
 use anyhow::{Result, ensure};
 use run::Run;
@@ -67,5 +69,7 @@ fn ask(run: &mut Run<'_>) -> Result<()> {
     schemes::ask(run)?;
     paserk::ask(run)?;
     passwords::ask(run)?;
+    wrapping::ask(run)?;
+    pem::ask(run)?;
     no_memory::ask(run)
 }
