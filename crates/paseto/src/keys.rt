@@ -68,8 +68,9 @@ impl<'a> Held<'a> {
         }
     }
 
-    /// The key line that the text of a key file is.
+    /// The key line that the text of a key file is. The line feed at its end was left out when the file was read.
     pub fn unlock(&self, alloc: Global, text: &str) -> Result<String, KeyFileError> {
+        let text = text.strip_suffix('\r').unwrap_or(text);
         let openers = Openers {
             password: self.password.as_deref(),
             key: self.key.as_deref(),
