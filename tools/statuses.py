@@ -19,6 +19,8 @@ HEADER = f"{ROOT}/c/paseto.h"
 PYTHON = f"{ROOT}/bindings/python/src/paseto/_errors.py"
 SOURCE = f"{ROOT}/crates/paseto_c/src/refusal.rt"
 DEFINITION = f"{ROOT}/crates/paseto_c/specs/Refusal.antt"
+# What Python calls those whose names it has for other things.
+CLASSES = {"Memory": "NoMemory"}
 # The two that are no refusals.
 GIVEN = {"Ok": 0, "Room": 1}
 
@@ -72,7 +74,7 @@ def python():
         if isinstance(row, tuple) and row[3]:
             number, name, _, base, text = row
             quoted = textwrap.fill(f'"""{text}"""', 120, initial_indent="    ", subsequent_indent="    ", break_on_hyphens=False)
-            classes.append(f"class {name}({base}):\n{quoted}\n\n    status = {number}\n")
+            classes.append(f"class {CLASSES.get(name, name)}({base}):\n{quoted}\n\n    status = {number}\n")
     return "\n\n".join(classes)
 
 

@@ -21,7 +21,7 @@ class Refused(PasetoError):
 # ---- the statuses, from c/statuses.txt
 
 
-class Memory(PasetoError, MemoryError):
+class NoMemory(PasetoError, MemoryError):
     """Memory was refused."""
 
     status = 2
