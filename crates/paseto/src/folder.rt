@@ -32,12 +32,7 @@ pub fn key_lines(
 }
 
 /// The line of the key of a file of the folder. A key pair of version 1 has no id, by which a ring would find it.
-fn line_of(
-    alloc: Global,
-    held: &Held<'_>,
-    name: &str,
-    text: &str,
-) -> Result<String, ProgramError> {
+fn line_of(alloc: Global, held: &Held<'_>, name: &str, text: &str) -> Result<String, ProgramError> {
     let line = match held.unlock(alloc, text) {
         Ok(line) => line,
         Err(error) => return Err(not_opened(alloc, name, error)),
@@ -47,11 +42,14 @@ fn line_of(
             alloc,
             format!(in alloc; "The file '{name}' of the ring is no key file"),
         ))),
-        Some((PaserkVersion::V1, PaserkType::Secret | PaserkType::Public)) =>
-            Err(told(one_line_of(
+        Some((PaserkVersion::V1, PaserkType::Secret | PaserkType::Public)) => Err(told(
+            one_line_of(
                 alloc,
-                format!(in alloc; "The file '{name}' of the ring is of version 1, whose key pairs have no id"),
-            ))),
+                format!(in alloc;
+                    "The file '{name}' of the ring is of version 1, whose key pairs have no id"
+                ),
+            ),
+        )),
         Some(_) => Ok(line),
     }
 }

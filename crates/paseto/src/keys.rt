@@ -61,8 +61,10 @@ impl<'a> Held<'a> {
     /// The key line that the text of a key file is, which is called so in lines on standard error.
     pub fn open(&self, rt: &HostRuntime, name: &'a str, text: &str) -> Result<String, Fault<'a>> {
         match self.unlock(rt.alloc(), text) {
-            Ok(line) if has_second_line(line.as_str()) =>
-                Err(Fault::about(name, ProgramError::SecondLine)),
+            Ok(line) if has_second_line(line.as_str()) => Err(Fault::about(
+                name,
+                ProgramError::SecondLine,
+            )),
             Ok(line) => Ok(line),
             Err(error) => Err(self.fault(name, error)),
         }

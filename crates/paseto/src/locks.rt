@@ -56,13 +56,7 @@ fn under_password<'a>(
         return Err(Fault::from(ProgramError::NoPassword));
     };
     let cost = PasswordCost::default();
-    let made = protect(
-        rt.alloc(),
-        &password,
-        cost,
-        &mut SysRng::new(rt),
-        line,
-    );
+    let made = protect(rt.alloc(), &password, cost, &mut SysRng::new(rt), line);
     by_other(made, name, name)
 }
 

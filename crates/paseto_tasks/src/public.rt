@@ -65,11 +65,9 @@ fn sign_in<R: Read, G: TryRng>(
             let mut scheme = signer(generator)?;
             sign_by::<V1, RsaPss<Salt>, R>(alloc, &mut scheme, key, options, input)
         }
-        PaserkVersion::V2 =>
-            sign_by::<V2, Ed25519, R>(alloc, &mut Ed25519, key, options, input),
+        PaserkVersion::V2 => sign_by::<V2, Ed25519, R>(alloc, &mut Ed25519, key, options, input),
         PaserkVersion::V3 => sign_by::<V3, P384, R>(alloc, &mut P384, key, options, input),
-        PaserkVersion::V4 =>
-            sign_by::<V4, Ed25519, R>(alloc, &mut Ed25519, key, options, input),
+        PaserkVersion::V4 => sign_by::<V4, Ed25519, R>(alloc, &mut Ed25519, key, options, input),
     }
 }
 

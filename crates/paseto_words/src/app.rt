@@ -238,7 +238,9 @@ fn with_wrap<'a>(alloc: Global) -> Result<Command<'a>, AllocError>
 {
     Command::new(alloc, "wrap")
         .about("Prints a key under a password, or under a wrapping key")
-        .after_help("Example: paseto wrap --key office.key --password-file password --out locked.key")
+        .after_help(
+            "Example: paseto wrap --key office.key --password-file password --out locked.key",
+        )
         .arg(key(alloc))?
         .arg(option(
             alloc,

@@ -131,7 +131,10 @@ fn written_of<'a>(matches: &ArgMatches<'a>) -> Written<'a>
 fn under_of<'a>(matches: &ArgMatches<'a>) -> Option<Under<'a>>
     ensures { option_map underlying result ≡ under_in (rows_in matches.now) }
 {
-    match (text(matches, "wrapping-key"), text(matches, "password-file")) {
+    match (
+        text(matches, "wrapping-key"),
+        text(matches, "password-file"),
+    ) {
         (Some(_), Some(_)) => None,
         (Some(file), None) => Some(Under::Key(file)),
         (None, Some(file)) => Some(Under::Password(file)),

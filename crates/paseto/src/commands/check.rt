@@ -327,8 +327,7 @@ fn by_public_key(
     ensures fixed { IfErr result IsFixed }
 {
     match version {
-        PaserkVersion::V1 =>
-            verified::<V1, RsaPss<Salt>>(alloc, &verifier(), key, demands, token),
+        PaserkVersion::V1 => verified::<V1, RsaPss<Salt>>(alloc, &verifier(), key, demands, token),
         PaserkVersion::V2 => verified::<V2, Ed25519>(alloc, &Ed25519, key, demands, token),
         PaserkVersion::V3 => verified::<V3, P384>(alloc, &P384, key, demands, token),
         PaserkVersion::V4 => verified::<V4, Ed25519>(alloc, &Ed25519, key, demands, token),
