@@ -15,7 +15,7 @@ mod tokens;
 
 use clap::Error;
 use fault::Fault;
-use files::{is_standard, name_of, opened, put};
+use files::{is_standard, name_of, opened};
 use keys::{key_line, key_name};
 use paseto_tasks::run::{run_id, run_inspect};
 use paseto_tasks::{Names, ProgramError, Task};

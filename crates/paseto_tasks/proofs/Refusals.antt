@@ -1,9 +1,7 @@
 -- What is refused has no output.
-use Rattle.std.proofs.Common.{◌≡◌, ◌≢◌, ◌⊎◌, ℕ, List, length, Bool, true, false, eqb, Option, None, Some, IfSome, Result, Ok, Err, IfErr, IfOk, IsErrAnd, MatchResult, String, Global, string_bytes, inl, inr, refl, sym, ap, subst, subst₂, ◌∙◌}
+use Rattle.std.proofs.Common.{◌≡◌, ◌≢◌, ◌⊎◌, ℕ, List, Bool, true, false, eqb, Option, None, Some, IfSome, Result, Ok, Err, IfErr, IfOk, IsErrAnd, MatchResult, String, Global, string_bytes, inl, inr, refl, sym, ap, subst, subst₂, ◌∙◌}
 use Rattle.std.proofs.lemmas.Bool.{false≢true}
-use Rattle.base64.specs.GeneralPurpose.{IsBytes}
 use Rattle.rusty_paseto_parts.specs.Error.{IsMemory}
-use Rattle.rusty_paseto_parts.specs.Section.{base64url}
 use Rattle.rusty_paseto_parts.specs.declared.error.PasetoError.{PasetoError}
 use Rattle.rusty_paseto_parts.specs.declared.error.PasetoError.TheVariants.{Cipher, Memory as NoMemory}
 use Rattle.rusty_paseto_core.specs.Reading.{IsAnswer, IsRead, Reading}
@@ -11,8 +9,7 @@ use Rattle.rusty_paseto_paserk.specs.Error.{IsMemory as IsKeyMemory}
 use Rattle.rusty_paseto_paserk.specs.declared.error.PaserkError.{PaserkError}
 use Rattle.rusty_paseto_paserk.specs.declared.error.PaserkError.TheVariants.{Memory as NoKeyMemory}
 use Rattle.rusty_paseto_paserk.specs.declared.header.PaserkVersion.{PaserkVersion}
-use Rattle.rusty_paseto_paserk.specs.declared.header.PaserkType.TheVariants.{Local, Secret}
-use Rattle.rusty_paseto_paserk.specs.Text.{writing}
+use Rattle.rusty_paseto_paserk.specs.declared.header.PaserkType.TheVariants.{Secret}
 use Rattle.paseto_tasks.specs.declared.arguments.Options.{Options}
 use Rattle.paseto_tasks.specs.declared.token_kind.TokenKind.{TokenKind}
 use Rattle.paseto_tasks.specs.Arguments.{assertion_where}

@@ -1,7 +1,6 @@
 //! The lines of keys: the writing of a key in PASERK, or its PEM for a key pair of version 1.
 
 ghost use Rattle.std.specs.Prelude.{◌≡◌, ◌≢◌, ◌++◌, ℕ, List, IfSome, IsNone, MatchOption};
-ghost use Rattle.std.proofs.Common.{rules};
 ghost use Rattle.rusty_paseto_core.specs.Public.{HasPrivateLength};
 ghost use Rattle.rusty_paseto_paserk.specs.declared.header.PaserkType.{PaserkType as KeyType};
 ghost use Rattle.rusty_paseto_paserk.specs.declared.header.PaserkType.TheVariants.{Public as PublicKeys, Secret};

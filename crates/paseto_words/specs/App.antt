@@ -1,5 +1,5 @@
 -- The commands of `paseto`, each with its options and places, as clap knows them.
-use Rattle.std.specs.Prelude.{◌≡◌, true, false, None, Some, codes}
+use Rattle.std.specs.Prelude.{◌≡◌, true, false, Some, codes}
 use Rattle.clap.specs.Words.{App, Rule, Text, app_of, new_app, new_rule, with_rule, with_subcommand}
 use Rattle.clap.specs.Simple.{on_top}
 use Rattle.clap.specs.declared.builder.action.ArgAction.TheVariants.{Append, SetTrue}
