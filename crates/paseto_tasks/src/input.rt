@@ -1,6 +1,6 @@
 //! The text of the input, and that of a key file.
 
-ghost use Rattle.std.specs.Prelude.{◌≡◌, ◌<◌, ◌⊎◌, IfOk, IfErr, IfSome, OnOk, length, string_bytes, IsUtf8};
+ghost use Rattle.std.specs.Prelude.{◌≡◌, ◌≢◌, [], ◌<◌, ◌⊎◌, IfOk, IfErr, IfSome, OnOk, length, string_bytes, IsUtf8};
 ghost use Rattle.paseto_tasks.specs.Error.{IsFixed, IsNoUsage, IsOutside};
 ghost use Rattle.paseto_tasks.specs.Input.{IsNoKeyFile, IsNoPassword, line_of_input};
 ghost use Rattle.paseto_streams.specs.Input.{IsInput};
@@ -67,6 +67,7 @@ pub fn read_key_line<K: Read>(alloc: Global, file: &mut K) -> Result<String, Pro
 pub fn read_password<P: Read>(alloc: Global, file: &mut P) -> Result<Vec<u8>, ProgramError>
     ensures password { IfOk result (λ password. IfSome (P.remaining file.old)
         (λ bytes. line_of_input bytes ≡ password.items)) }
+    ensures some { IfOk result (λ password. password.items ≢ []) }
     ensures refused { IfErr result (λ error. IfSome (P.remaining file.old)
         (λ bytes. IsOutside error ⊎ IsNoPassword bytes)) }
     ensures fixed { IfErr result IsFixed }
