@@ -112,10 +112,12 @@ done
 if prove paseto paseto_tool; then
     ask program.sh &
     ask paseto.sh &
+    ask key_files.sh &
     [ ${#crates[@]} -eq 0 ] || prove --check "${crates[@]}"
     wait
     settle_script program.sh
     settle_script paseto.sh
+    settle_script key_files.sh
 else
     fail 'paseto and paseto_tool are not built, so that nothing above them was checked or asked'
 fi
