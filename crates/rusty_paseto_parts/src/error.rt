@@ -53,7 +53,7 @@ pub enum PasetoError {
     /// A token ends in another footer than the one that was expected, or in none where one was. From
     /// `try_decrypt`, `try_verify` and `tag_collision`.
     FooterInvalid,
-    /// A section is the base64url encoding of no bytes. From `from_section`; from `try_decrypt`, `try_verify` and
+    /// A section is not valid base64url. From `from_section`; from `try_decrypt`, `try_verify` and
     /// `tag_collision` for the payload; from `UntrustedToken` and `Footer::try_from_token` for the footer.
     PayloadBase64Decode { source: DecodeError },
     /// The bytes of a text are not UTF-8. From `try_decrypt` and `tag_collision`, after the tag was found good,

@@ -1,4 +1,4 @@
-//! The ids of keys, which name them and do not tell them.
+//! The ids of keys, which identify them without revealing them.
 
 ghost use Rattle.std.specs.Prelude.{◌≡◌, ◌≤◌, ◌++◌, length, take, IfOk, IfErr, string_bytes};
 ghost use Rattle.rusty_paseto_paserk.specs.declared.header.PaserkType.TheVariants.{Local as LocalKey, Public as PublicKey};

@@ -1,5 +1,5 @@
 //! Keys as text, in PASERK, by which other programs read them: one line for each key, which names its version and its
-//! type, and a short id that names the key and does not tell it.
+//! type, and a short id that identifies the key without revealing it.
 //!
 //! ```rust
 //! use rusty_paseto_parts::{Local, PasetoSymmetricKey, V4};

@@ -34,8 +34,8 @@ use std::alloc::Global;
 use std::collections::BTreeMap;
 use std::marker::PhantomData;
 
-/// What `parse` demands of a token of a version and a purpose before it answers the claims: the expected footer, the
-/// implicit assertion, and the checks of single claims.
+/// The checks that `parse` applies to a token of a version and a purpose before it returns the claims: the expected
+/// footer, the implicit assertion, and the checks of single claims.
 ///
 /// A key is checked by a stored value, with `check_claim` or `extend_check_claims`, or by a validator of the
 /// caller's own, with `validate_key`, `validate_claim` or `extend_validation_claims`. A key with a validator is checked
