@@ -9,7 +9,7 @@
 set -euo pipefail
 here=$(cd "$(dirname "$0")" && pwd)
 prefix=${2:-$here/build}
-for needed in bin/paseto lib/libpaseto.so.0 share/man/man1/paseto.1; do
+for needed in bin/paseto lib/libpaseto.so.1 share/man/man1/paseto.1; do
     if [ ! -e "$prefix/$needed" ]; then
         echo "There is no $prefix/$needed: bash build.sh makes it" >&2
         exit 1
@@ -76,20 +76,20 @@ for page in paseto.1 paseto_tool.1; do
 done
 strip --strip-unneeded "$work"/paseto/usr/bin/*
 package paseto 'libc6 (>= 2.34)' 'keys in files, and PASETO tokens by them'
-laid libpaseto0 lib/libpaseto.so.0
-strip --strip-unneeded "$work/libpaseto0/usr/lib/x86_64-linux-gnu/libpaseto.so.0"
-chmod 644 "$work/libpaseto0/usr/lib/x86_64-linux-gnu/libpaseto.so.0"
-mkdir -p "$work/libpaseto0/DEBIAN"
-echo "libpaseto 0 libpaseto0 (>= $version)" >"$work/libpaseto0/DEBIAN/shlibs"
-echo 'activate-noawait ldconfig' >"$work/libpaseto0/DEBIAN/triggers"
-package libpaseto0 'libc6 (>= 2.14)' 'library for PASETO tokens'
+laid libpaseto1 lib/libpaseto.so.1
+strip --strip-unneeded "$work/libpaseto1/usr/lib/x86_64-linux-gnu/libpaseto.so.1"
+chmod 644 "$work/libpaseto1/usr/lib/x86_64-linux-gnu/libpaseto.so.1"
+mkdir -p "$work/libpaseto1/DEBIAN"
+echo "libpaseto 1 libpaseto1 (>= $version)" >"$work/libpaseto1/DEBIAN/shlibs"
+echo 'activate-noawait ldconfig' >"$work/libpaseto1/DEBIAN/triggers"
+package libpaseto1 'libc6 (>= 2.14)' 'library for PASETO tokens'
 laid libpaseto-dev lib/libpaseto.a include/paseto.h
-ln -s libpaseto.so.0 "$work/libpaseto-dev/usr/lib/x86_64-linux-gnu/libpaseto.so"
+ln -s libpaseto.so.1 "$work/libpaseto-dev/usr/lib/x86_64-linux-gnu/libpaseto.so"
 mkdir -p "$work/libpaseto-dev/usr/lib/x86_64-linux-gnu/pkgconfig" "$work/libpaseto-dev/usr/share/man/man3"
 sed -e 's|^prefix=.*|prefix=/usr|; s|^libdir=.*|libdir=/usr/lib/x86_64-linux-gnu|' "$prefix/lib/pkgconfig/paseto.pc" \
     >"$work/libpaseto-dev/usr/lib/x86_64-linux-gnu/pkgconfig/paseto.pc"
 gzip -9nc "$prefix/share/man/man3/libpaseto.3" >"$work/libpaseto-dev/usr/share/man/man3/libpaseto.3.gz"
-package libpaseto-dev "libpaseto0 (= $version)" 'header and static library for PASETO tokens'
+package libpaseto-dev "libpaseto1 (= $version)" 'header and static library for PASETO tokens'
 
 archive=paseto-$version-x86_64-linux
 mkdir "$work/$archive"

@@ -10,7 +10,7 @@
 #include <time.h>
 
 #include "paseto.h"
-#include "paseto_bench.h"
+#include "test_bench.h"
 #include "peer.h"
 #include "peer_claims.h"
 

@@ -31,7 +31,7 @@ fi
 
 mkdir -p out
 echo "proving and building the library (the log is bench/out/build.log)" >&2
-if ! python3 ../tools/prove.py "${cpu[@]}" paseto_bench paseto_c >out/build.log 2>&1; then
+if ! python3 ../tools/prove.py "${cpu[@]}" test_bench paseto_c >out/build.log 2>&1; then
     tail -30 out/build.log >&2
     exit 1
 fi
@@ -41,7 +41,7 @@ kit=$(dirname "$(rt doc)")
 cc -O2 -std=c11 -D_POSIX_C_SOURCE=200809L -Wall -Wextra -Iout/c/include -o out/bench \
     bench.c base64url.c peer_common.c peer_v2.c peer_v4.c peer_public.c peer_nist.c peer_p384.c peer_rsa.c \
     peer_claims.c peer_wrapping.c out/c/lib/libpaseto.a \
-    ../crates/paseto_bench/out/libpaseto_bench.a "$kit/c/liblibc_c.a" "$kit/c/libos_c.a" \
+    ../crates/test_bench/out/libtest_bench.a "$kit/c/liblibc_c.a" "$kit/c/libos_c.a" \
     -lsodium -lcrypto -ljansson -lcjson
 
 echo "$(date -u +%F), $(uname -m), $(sed -n 's/^model name[^:]*: //p' /proc/cpuinfo | head -1)"

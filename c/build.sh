@@ -1,5 +1,5 @@
 #!/usr/bin/env bash
-# Builds the library for C and installs it: PREFIX/lib/libpaseto.a and libpaseto.so.0, to which the link libpaseto.so leads,
+# Builds the library for C and installs it: PREFIX/lib/libpaseto.a and libpaseto.so.1, to which the link libpaseto.so leads,
 # PREFIX/include/paseto.h and PREFIX/lib/pkgconfig/paseto.pc.
 #
 #   c/build.sh PREFIX [--cpu NAME | --built]
@@ -40,8 +40,8 @@ ld -r --whole-archive "$crate/out/libpaseto_c.a" --no-whole-archive "$kit/c/libl
 objcopy --wildcard --keep-global-symbol='paseto_*' "$work/all.o" "$work/paseto.o"
 ar rcs "$work/libpaseto.a" "$work/paseto.o"
 printf '{ global: paseto_*; local: *; };\n' >"$work/exports"
-cc -shared -Wl,--gc-sections -Wl,--version-script="$work/exports" -Wl,-soname,libpaseto.so.0 \
-    -Wl,-z,relro,-z,now -o "$work/libpaseto.so.0" "$work/paseto.o"
+cc -shared -Wl,--gc-sections -Wl,--version-script="$work/exports" -Wl,-soname,libpaseto.so.1 \
+    -Wl,-z,relro,-z,now -o "$work/libpaseto.so.1" "$work/paseto.o"
 
 # The version of the header, as text.
 number=$(sed -nE 's/^#define PASETO_VERSION ([0-9]+)$/\1/p' "$here/paseto.h")
@@ -49,8 +49,8 @@ version=$((number / 10000)).$((number / 100 % 100)).$((number % 100))
 
 install -d "$prefix/lib/pkgconfig" "$prefix/include"
 install -m 644 "$work/libpaseto.a" "$prefix/lib/libpaseto.a"
-install -m 755 "$work/libpaseto.so.0" "$prefix/lib/libpaseto.so.0"
-ln -sf libpaseto.so.0 "$prefix/lib/libpaseto.so"
+install -m 755 "$work/libpaseto.so.1" "$prefix/lib/libpaseto.so.1"
+ln -sf libpaseto.so.1 "$prefix/lib/libpaseto.so"
 install -m 644 "$here/paseto.h" "$prefix/include/paseto.h"
 cat >"$prefix/lib/pkgconfig/paseto.pc" <<END
 prefix=$prefix

@@ -26,7 +26,7 @@ complete -c paseto -n '__paseto_in wrap' -l wrapping-key -rF -d 'The key file of
 complete -c paseto -n '__paseto_in seal' -l to -rF -d 'The key file of the public key'
 complete -c paseto -n '__paseto_in keygen public unwrap unseal' -l format -x -a 'paserk pem' -d 'How the key is written'
 complete -c paseto -n '__paseto_in keygen public wrap unwrap seal unseal issue encrypt sign' -l out -rF -d 'A new file for what is made'
-complete -c paseto -n '__paseto_in keygen' -l public -rF -d 'A new file for the half that verifies'
+complete -c paseto -n '__paseto_in keygen' -l public -rF -d 'A new file for the public key'
 complete -c paseto -n '__paseto_in keygen' -l quiet -d 'Say nothing of what was made'
 complete -c paseto -n '__paseto_in issue check' -l claim -x -d 'A claim, NAME=TEXT or NAME:=JSON'
 complete -c paseto -n '__paseto_in issue' -l expires -x -d 'When it expires'

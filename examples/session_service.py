@@ -1,5 +1,5 @@
 #!/usr/bin/env python3
-"""A session service over tokens of version 4: whoever logs in gets a cookie that is a token, and no session is stored.
+"""A session service with tokens of version 4: a user who logs in gets a cookie that is a token; no sessions are stored.
 
     PYTHONPATH=bindings/python/src PASETO_LIBRARY=PREFIX/lib/libpaseto.so examples/session_service.py --port 8000 --database sessions.db
 
@@ -7,11 +7,11 @@
     curl -b jar http://127.0.0.1:8000/me
     curl -b jar -c jar -X POST http://127.0.0.1:8000/logout
 
-The keys rotate: a new one issues every so many seconds, the footer of a token names its key, and a key goes once all its
-tokens have expired. Who logs out ends the session by the ``jti`` of its token, which is refused until it would have
-expired. Keys and ended sessions stand in a file of SQLite, which its owner alone may read: they outlive the service, and
-a session that was ended before a crash is ended after it. The service listens on the loopback alone, where a proxy in
-front of it brings TLS: a cookie is ``Secure`` with ``--secure``.
+The keys rotate: every so many seconds a new key issues the tokens, the footer of a token names its key, and a key is
+deleted once all its tokens have expired. Logging out revokes the session by the ``jti`` of its token, which is refused
+until it would have expired. Keys and revoked sessions are stored in SQLite, in a file that only its owner may read: they
+survive a restart, so a session that was revoked before a crash is revoked after it. The service listens only on the
+loopback interface; a proxy in front of it provides TLS. With ``--secure`` cookies are ``Secure``.
 """
 
 from __future__ import annotations
@@ -37,13 +37,13 @@ LONGEST_FORM = 1000
 
 
 class Store:
-    """The keys of the sessions by their ids, and the sessions that were ended, in a file."""
+    """The keys of the sessions by their ids, and the revoked sessions, in a file."""
 
     def __init__(self, path: str, lifetime: int, rotate_every: int) -> None:
         self._lifetime, self._rotate_every = lifetime, rotate_every
         self._lock = threading.Lock()
         os.close(os.open(path, os.O_RDWR | os.O_CREAT, 0o600))
-        # Each statement is a transaction of its own, which stands in the file before the call returns.
+        # Each statement is a separate transaction, which is in the file before the call returns.
         self._base = sqlite3.connect(path, check_same_thread=False, isolation_level=None)
         self._base.execute("PRAGMA journal_mode = WAL")
         self._base.execute("PRAGMA synchronous = FULL")
@@ -51,7 +51,7 @@ class Store:
         self._base.execute("CREATE TABLE IF NOT EXISTS ended (jti TEXT PRIMARY KEY, until REAL NOT NULL)")
 
     def issuing(self) -> tuple[str, paseto.LocalKey]:
-        """The key that issues, and its id: the newest, or a new one where that has issued for long enough."""
+        """The key that issues tokens, and its id: the newest, or a new one if the newest is old enough."""
         now = time.time()
         with self._lock:
             self._base.execute("DELETE FROM keys WHERE made <= ?", (now - self._rotate_every - self._lifetime,))
@@ -63,20 +63,20 @@ class Store:
             return kid, key
 
     def admitting(self, kid: str | None) -> paseto.LocalKey | None:
-        """The key with this id, where there is one."""
+        """The key with this id, if there is one."""
         with self._lock:
             found = self._base.execute("SELECT key FROM keys WHERE kid = ?", (kid,)).fetchone()
         return paseto.LocalKey(found[0]) if found else None
 
     def end(self, jti: str) -> None:
-        """Ends a session, and forgets those that have expired meanwhile."""
+        """Revokes a session, and forgets those that have expired meanwhile."""
         now = time.time()
         with self._lock:
             self._base.execute("DELETE FROM ended WHERE until <= ?", (now,))
             self._base.execute("INSERT OR REPLACE INTO ended VALUES (?, ?)", (jti, now + self._lifetime))
 
     def is_ended(self, jti: str) -> bool:
-        """Whether the session was ended."""
+        """Whether the session was revoked."""
         with self._lock:
             return self._base.execute("SELECT 1 FROM ended WHERE jti = ?", (jti,)).fetchone() is not None
 
@@ -97,7 +97,7 @@ class Users:
         return hashlib.scrypt(password.encode("utf-8", "surrogatepass"), salt=salt, n=2**12, r=8, p=1)
 
     def knows(self, user: str, password: str) -> bool:
-        """Whether this is the user's password; who is unknown takes as long as who is known."""
+        """Whether this is the user's password; it takes as long for an unknown user as for a known one."""
         salt, wanted = self._hashes.get(user, self._nobody)
         return hmac.compare_digest(self._hash(password, salt), wanted) and user in self._hashes
 
@@ -115,7 +115,7 @@ class Sessions:
         return paseto.issue(key, claims, expires_in=self._lifetime, footer=paseto.key_footer(kid))
 
     def read(self, token: str) -> dict | None:
-        """The claims of a token that is one of this service, and was not logged out."""
+        """The claims of a token of this service that was not logged out."""
         try:
             footer = paseto.footer_of(token)
             key = self._store.admitting(paseto.kid_of(footer))
@@ -132,7 +132,7 @@ class Sessions:
 
 
 class Handler(BaseHTTPRequestHandler):
-    """The answers: 200 with JSON, 401 for whoever has no session, 400 and 404 for what cannot be asked."""
+    """The responses: 200 with JSON, 401 without a session, 400 and 404 for invalid requests."""
 
     protocol_version = "HTTP/1.1"
     timeout = 10
@@ -184,7 +184,7 @@ class Handler(BaseHTTPRequestHandler):
         return self.server.sessions.read(cookie.value) if cookie else None
 
     def form(self) -> dict[str, str] | None:
-        """What was posted, the first value of each name."""
+        """The posted form, the first value of each name."""
         length = self.headers.get("Content-Length", "0")
         is_number = length.isascii() and length.isdigit()
         if "Transfer-Encoding" in self.headers or not is_number or int(length) > LONGEST_FORM:
@@ -207,11 +207,11 @@ class Handler(BaseHTTPRequestHandler):
         self.wfile.write(body)
 
     def log_message(self, *_words: object) -> None:
-        """Says nothing: a line of the log would hold no secret, and a thousand of them nothing new."""
+        """Writes no log."""
 
 
 class Service(ThreadingHTTPServer):
-    """The service on the loopback."""
+    """The service on the loopback interface."""
 
     daemon_threads = True
     request_queue_size = 64

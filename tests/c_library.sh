@@ -84,12 +84,12 @@ else
         finish
     fi
 fi
-for file in lib/libpaseto.a lib/libpaseto.so lib/libpaseto.so.0 lib/pkgconfig/paseto.pc include/paseto.h; do
+for file in lib/libpaseto.a lib/libpaseto.so lib/libpaseto.so.1 lib/pkgconfig/paseto.pc include/paseto.h; do
     if [ -s "$prefix/$file" ]; then pass; else fail "c/build.sh installs no $file"; fi
 done
-if [ "$(readlink "$prefix/lib/libpaseto.so")" = libpaseto.so.0 ]; then pass; else fail 'libpaseto.so is no link to libpaseto.so.0'; fi
+if [ "$(readlink "$prefix/lib/libpaseto.so")" = libpaseto.so.1 ]; then pass; else fail 'libpaseto.so is no link to libpaseto.so.1'; fi
 soname=$(readelf -d "$prefix/lib/libpaseto.so" | sed -nE 's/.*\(SONAME\).*\[(.*)\]$/\1/p')
-if [ "$soname" = libpaseto.so.0 ]; then pass; else fail "the soname is $soname"; fi
+if [ "$soname" = libpaseto.so.1 ]; then pass; else fail "the soname is $soname"; fi
 nm -D --defined-only --format=posix "$prefix/lib/libpaseto.so" | cut -d' ' -f1 | sort >"$work/shared"
 check 'libpaseto.so shows the exports alone' diff "$work/exports" "$work/shared"
 nm -g --defined-only --format=posix "$prefix/lib/libpaseto.a" | grep -v ':$' | cut -d' ' -f1 | sort >"$work/static"
@@ -121,7 +121,7 @@ check 'client.c is built over libpaseto.so' cc -std=c99 "${strict[@]}" -o "$work
     -L "$prefix/lib" -Wl,-rpath,"$prefix/lib" -lpaseto
 counted 'a program in C over libpaseto.so' "$work/client"
 needed=$(readelf -d "$work/client" | sed -nE 's/.*\(NEEDED\).*\[(libpaseto.*)\]$/\1/p')
-if [ "$needed" = libpaseto.so.0 ]; then pass; else fail "a program over libpaseto.so needs $needed"; fi
+if [ "$needed" = libpaseto.so.1 ]; then pass; else fail "a program over libpaseto.so needs $needed"; fi
 # The version that paseto.pc tells is the one that the library tells.
 cat >"$work/version.c" <<'END'
 #include <inttypes.h>
@@ -137,7 +137,7 @@ check 'version.c is built' cc -std=c99 "${strict[@]}" -o "$work/version" "$work/
 check 'the version of the library is that of paseto.h' "$work/version"
 check 'the version of paseto.pc' diff <(sed -nE 's/^Version: //p' "$prefix/lib/pkgconfig/paseto.pc") <("$work/version")
 build published -O1
-counted 'published tokens' "$work/published" "$root/crates/paseto_rows/data/published.txt"
+counted 'published tokens' "$work/published" "$root/crates/test_rows/data/published.txt"
 grep -qx '27 passed, 0 failed' "$work/log" && pass || fail 'the published tokens are not 27'
 build keys -O1 -g -fsanitize=address,undefined -fno-sanitize-recover=all
 python3 - "$root/crates/paseto_vectors/src/paserk/rows.rt" >"$work/keys.txt" <<'END'

@@ -12,6 +12,15 @@ fail() {
     echo "FAILED: $1"
 }
 
+# is NAME FOUND WANTED
+is() {
+    if [ "$2" = "$3" ]; then
+        pass
+    else
+        fail "$1: ${2:0:200} in place of ${3:0:200}"
+    fi
+}
+
 # The last line, and the status.
 finish() {
     echo "$passed passed, $failed failed"

@@ -43,7 +43,7 @@ in_root() {
     PATH=$PATH:/usr/sbin:/sbin dpkg --root="$fresh" --log=/dev/null --force-not-root --force-script-chrootless "$@" >"$work/log" 2>&1
 }
 if in_root --install "$work"/one/*.deb; then pass; else fail "dpkg --install: $(tail -n 3 "$work/log")"; fi
-for package in paseto libpaseto0 libpaseto-dev; do
+for package in paseto libpaseto1 libpaseto-dev; do
     in_root --status $package
     if grep -qx 'Status: install ok installed' "$work/log"; then pass; else fail "$package is not installed: $(tail -n 3 "$work/log")"; fi
 done
@@ -68,7 +68,7 @@ END
 lib=$fresh/usr/lib/x86_64-linux-gnu
 if cc -I "$fresh/usr/include" -o client client.c -L "$lib" -lpaseto 2>"$work/log" && LD_LIBRARY_PATH=$lib ./client; then pass; else fail "a program in C over the packages: $(tail -n 3 "$work/log")"; fi
 if cc -I "$fresh/usr/include" -o client client.c "$lib/libpaseto.a" 2>"$work/log" && ./client; then pass; else fail "a program in C over libpaseto.a: $(tail -n 3 "$work/log")"; fi
-if in_root --purge paseto libpaseto0 libpaseto-dev; then pass; else fail "dpkg --purge: $(tail -n 3 "$work/log")"; fi
+if in_root --purge paseto libpaseto1 libpaseto-dev; then pass; else fail "dpkg --purge: $(tail -n 3 "$work/log")"; fi
 left=$(find "$fresh" -type f ! -path "$fresh/var/*")
 if [ -z "$left" ]; then pass; else fail "files that are left: $left"; fi
 mkdir archive && tar -C archive -xzf one/*.tar.gz

@@ -1,9 +1,9 @@
 #!/usr/bin/env python3
-"""Compares the examples of doc comments with the code of paseto_doc_examples, which the gate proves and runs.
+"""Compares the examples of doc comments with the code of test_doc_examples, which the gate proves and runs.
 
 Each block that a `///` or `//!` comment opens by ```rust stands there word for word, line after line in one file of
 src/, and begins with its `use` lines; each that it opens by ```text, in one file of specs/. One example stands in a
-test of paseto_cases in place of it. A block in C is no code of a crate. One line tells each example; the last line is
+test of test_cases in place of it. A block in C is no code of a crate. One line tells each example; the last line is
 'N passed, M failed', and the status is 0 where none failed.
 """
 
@@ -12,9 +12,9 @@ import re
 import sys
 
 CRATES = pathlib.Path(__file__).resolve().parent.parent / "crates"
-PROVED = "paseto_doc_examples"
+PROVED = "test_doc_examples"
 # The example that hands a boxed validator out, which the gate takes in tests alone.
-TESTED = CRATES / "paseto_cases/src/defaults/at_most.rt"
+TESTED = CRATES / "test_cases/src/defaults/at_most.rt"
 COMMENT = re.compile(r"\s*//[/!] ?(.*)")
 
 

@@ -23,15 +23,6 @@ cd "$work" || exit 1
 umask 077
 unset PASETO_KEY PASETO_PASSWORD
 
-# is NAME FOUND WANTED
-is() {
-    if [ "$2" = "$3" ]; then
-        pass
-    else
-        fail "$1: ${2:0:200} in place of ${3:0:200}"
-    fi
-}
-
 # refuses NAME STATUS LINE WORD..: this status, no output, and on standard error `paseto: ` and this line.
 refuses() {
     local name=$1 status=$2 line=$3
@@ -40,6 +31,7 @@ refuses() {
     is "$name, status" $? "$status"
     is "$name, output" "$(cat out)" ""
     is "$name, standard error" "$(cat err)" "paseto: $line"
+    is "$name, no key is told" "$(cat out err | grep -cE 'correct horse|k[1-4]\.(local|secret)\.')" 0
 }
 
 # same NAME FILE FILE: the bytes of both are the same.
@@ -92,6 +84,7 @@ ed 4
 p384 3
 rsa 1
 LIST
+[ "$("$program" sign --key rsa.pem <in)" != "$("$program" sign --key rsa.pem <in)" ] && pass || fail 'one salt signs twice'
 is "PEM of SEC 1" "$("$program" sign --key sec1.pem <in | "$program" verify --key p384.public.pem)" hello
 is "PEM of PKCS #1" "$("$program" sign --key rsa.pem <in | "$program" verify --key rsa.pkcs1.pem)" hello
 for name in ed p384; do
@@ -127,7 +120,7 @@ refuses "a local key in PEM" 1 "v4.local: keys for local tokens have no PEM text
 refuses "a new local key in PEM" 1 "v3.local: keys for local tokens have no PEM text" keygen v3.local --format pem
 refuses "a key of version 2 in PEM" 1 \
     "v2.secret: keys of version 2 have no PEM text of their own: it would be read as one of version 4" unwrap --key v2.secret --format pem
-refuses "no format" 2 "--format: a format of keys is paserk or pem" keygen v4.public --format der
+refuses "no format" 2 "--format: must be paserk or pem" keygen v4.public --format der
 
 printf '%s\r\n' "$(cat v4.local)" >returns.local
 is "a line that ends in CR LF" "$("$program" encrypt --key returns.local <in | "$program" decrypt --key v4.local)" hello
@@ -167,14 +160,16 @@ is "keygen by the environment" "$(PASETO_PASSWORD=secret "$program" keygen v4.lo
 is "unwrap" "$(cut -d . -f 1,2 bare)" k4.local
 "$program" wrap --key bare --password-file password.other --out relocked
 is "another password" "$("$program" unwrap --key relocked --password-file password.other)" "$(cat bare)"
+[ "$("$program" wrap --key bare --password-file password)" != "$("$program" wrap --key bare --password-file password)" ] && pass ||
+    fail 'one salt and nonce under a password twice'
 "$program" wrap --key rsa.pem --password-file password --out locked.rsa
 is "a key of RSA under a password" "$(cut -d . -f 1,2 locked.rsa)" k1.secret-pw
 is "it signs" "$("$program" sign --key locked.rsa --password-file password <in | "$program" verify --key rsa.public.pem)" hello
-refuses "a key under a password in PEM" 2 "a key under a password is not written in PEM: leave --format or the password out" \
+refuses "a key under a password in PEM" 2 "a key under a password is not written in PEM: omit --format or the password" \
     keygen v4.public --password-file password --format pem
-refuses "wrap under nothing" 2 "no password is named: give --password-file FILE, or PASETO_PASSWORD" wrap --key bare
+refuses "wrap under nothing" 2 "no password is given: use --password-file FILE, or PASETO_PASSWORD" wrap --key bare
 : >nothing
-refuses "an empty password" 1 "nothing: no password: one has 1 to 4095 bytes" wrap --key bare --password-file nothing
+refuses "an empty password" 1 "nothing: not a password: it must have 1 to 4095 bytes" wrap --key bare --password-file nothing
 refuses "no file of a password" 3 "nowhere: no such file" wrap --key bare --password-file nowhere
 refuses "a public key under a password" 1 "half.v4.public: the key is public: it needs no password and no wrapping key" \
     wrap --key half.v4.public --password-file password
@@ -197,6 +192,8 @@ for version in 1 2 3 4; do
     is "unwrap, version $version" "$("$program" unwrap --key wrapped.$version --unlock-key wrapping.$version)" "$(cat local.$version)"
     token=$("$program" encrypt --key wrapped.$version --unlock-key wrapping.$version <in)
     is "a wrapped key of version $version" "$("$program" decrypt --key local.$version <<<"$token")" hello
+    [ "$("$program" wrap --key local.$version --wrapping-key wrapping.$version)" != "$(cat wrapped.$version)" ] && pass ||
+        fail "one nonce under a wrapping key twice, version $version"
     refuses "another wrapping key, version $version" 1 "wrapped.$version: $wrong_password" id --key wrapped.$version --unlock-key local.$version
     refuses "no wrapping key, version $version" 1 "wrapped.$version: $needs_key" id --key wrapped.$version
 done
@@ -226,6 +223,8 @@ for version in 2 3 4; do
     is "unseal, version $version" "$("$program" unseal --key sealed.$version --unlock-key secret.$version)" "$(cat local.$version)"
     token=$("$program" encrypt --key sealed.$version --unlock-key secret.$version <in)
     is "a sealed key of version $version" "$("$program" decrypt --key local.$version <<<"$token")" hello
+    [ "$("$program" seal --key local.$version --to public.$version)" != "$(cat sealed.$version)" ] && pass ||
+        fail "one ephemeral key twice, version $version"
     "$program" keygen v$version.public --out other.secret --quiet
     refuses "another private key, version $version" 1 "sealed.$version: $wrong_password" unseal --key sealed.$version --unlock-key other.secret
     rm other.secret
@@ -238,9 +237,20 @@ done
 is "sealed to a key in PEM" "$("$program" unseal --key sealed.pem --unlock-key p384.pem)" "$(cat local.3)"
 refuses "a public key of another version" 1 "public.3: this key is one of version 3, and the other one is not" seal --key local.4 --to public.3
 refuses "a key of version 1, sealed" 1 "local.1: keys of version 1 are neither sealed nor unsealed here" seal --key local.1 --to rsa.public.pem
-refuses "what is not sealed" 1 "local.4: the key is not sealed: paseto unwrap opens it" unseal --key local.4
+refuses "what is not sealed" 1 "local.4: the key is not sealed: use paseto unwrap" unseal --key local.4
 "$program" seal --key local.4 >out 2>err
 is "sealed to nobody" "$? $(head -n 1 err)" "2 error: the following required arguments were not provided:"
+
+# -- 1,000 key pairs of version 3, whose public halves OpenSSL makes too
+
+agree=0
+for number in $(seq 1000); do
+    "$program" keygen v3.public --format pem --out pair --public "half.$number" --quiet
+    openssl pkey -in pair -pubout | cmp -s - "half.$number" && agree=$((agree + 1))
+    rm pair
+done
+is "1,000 key pairs of version 3" "$agree" 1000
+is "1,000 different ones" "$(for number in $(seq 1000); do tr -d '\n' <"half.$number"; echo; done | sort -u | wc -l)" 1000
 
 # -- rings
 
@@ -259,7 +269,120 @@ rm ring/one
 cp rsa.public.pem ring/three
 refuses "a ring of a key of RSA" 1 "ring: The file 'three' of the ring is of version 1, whose key pairs have no id" check --ring ring
 
-# -- no output tells a key or a password
+# -- the lines
 
-if grep -rlE 'correct horse|k[1-4]\.(local|secret)\.' out err >/dev/null; then fail 'a line tells a secret'; else pass; fi
+# What the lines are about, beside the files above.
+printf '\377' >binary
+head -c 40 local.4 >short
+printf '%s\n%s\n' "$(cat local.4)" "$(cat local.3)" >two
+truncate -s 5000 long
+echo "k1.secret.$(printf '%040d' 0)" >k1
+echo "k3.secret.AAAAAAAAAAAAAAAAAAAAAAAAAAAAAAAAAAAAAAAAAAAAAAAAAAAAAAAAAAAAAAAA" >zero
+# The private half of a seed of zeros, with the public half of another seed.
+echo "k4.secret.AAAAAAAAAAAAAAAAAAAAAAAAAAAAAAAAAAAAAAAAAADXWpgBgrEKt9VL_tPJZAc6DuFy89qmIyWvAhpo9wdRGg" >halves
+"$program" keygen v4.local --out office --quiet
+"$program" keygen v4.public --out signer --public reader --quiet
+printf hello | "$program" encrypt --key office --footer id >letter
+printf hello | "$program" sign --key signer >ticket
+"$program" issue --key office --claim aud=customers --not-before 2026-11-22T09:00:00Z --expires 2026-11-22T10:00:00Z >claims
+"$program" issue --key office --claim aud=customers --footer id >footed
+"$program" issue --key office --footer '{"kid":4}' >numbered
+"$program" issue --key office --footer-kid another >stranger
+printf '{"a":1.5}' | "$program" encrypt --key office >odd
+echo v4.local >part
+echo v9.local.AAAA >unknown
+echo 'v4.local.!' >spelled
+mkdir keys keys.rsa keys.none keys.locked
+cp office keys
+cp rsa.public.pem keys.rsa/one
+cp nothing keys.none/one
+cp locked.v4.local keys.locked/one
+
+# STATUS|WORDS|LINE: the lines that the program has, word for word, and arguments for which it says each. Some are not here:
+# that memory, random bytes or a moment of the clock was not found, and the rarer ones of wrapped keys and of PEM.
+while IFS='|' read -r status words line; do
+    # shellcheck disable=SC2046,SC2059
+    refuses "the words ${words:0:60}" "$status" "$line" $(printf "$words")
+done <<'LIST'
+2|encrypt --key office --footer \377|an argument is not valid UTF-8: see paseto --help
+2|encrypt --key k4.local.AAAA|a key is among the arguments, where others can see it: name the file that holds it
+2|keygen v9.local|v9.local: not a kind of key: use v1.local, v2.local, v2.public, v3.local, v3.public, v4.local or v4.public
+2|keygen v4.local --public half|v4.local: keys of this kind have no public half: omit --public
+2|keygen v4.public --format der|--format: must be paserk or pem
+2|keygen v4.public --password-file password --format pem|a key under a password is not written in PEM: omit --format or the password
+2|wrap --key office|no password is given: use --password-file FILE, or PASETO_PASSWORD
+1|wrap --key office --password-file nothing|nothing: not a password: it must have 1 to 4095 bytes
+2|encrypt|no key is given: use --key FILE, or put the text of the key into PASETO_KEY
+2|encrypt --key -|standard input cannot be the key and the input: name a file for one of them
+1|encrypt --key nothing|nothing: The text is no PASERK key
+1|id --key k1|k1: The key is one of version 1
+1|sign --key office|office: The key is one for local tokens
+1|verify --key signer|signer: The key is a private one, which signs
+1|encrypt --key reader|reader: The key is a public one, which verifies
+1|encrypt --key short|short: The key was not in the correct format
+1|sign --key k1|k1: not valid PEM; key pairs of version 1 are read from PEM
+1|unseal --key office|office: the key is not sealed: use paseto unwrap
+1|encrypt --key two|two: line 2: a key file has one line of PASERK, or is PEM
+1|encrypt --key long|long: too long for a key file
+1|encrypt --key office binary|binary: A Utf8 parsing error occurred
+1|decrypt --key local.4 --footer id letter|letter: wrong key, wrong footer or assertion, or the token was changed
+1|decrypt --key office letter|letter: The provided footer is invalid
+1|decrypt --key office part|part: This string has an incorrect number of parts and cannot be parsed into a token
+1|decrypt --key office spelled|spelled: A base64 decode error occurred
+1|check --ring keys unknown|unknown: not a token of a supported kind
+1|sign --key zero|zero: not a valid private key of its kind
+1|sign --key halves|halves: the two halves of the private key do not belong together
+1|decrypt --key office ticket|ticket: the token is v4.public, and the key is for v4.local
+1|decrypt --key office unknown|unknown: the token is of no known kind, and the key is for v4.local
+1|encrypt --key local.1 --assertion for|local.1: keys of versions 1 and 2 take no implicit assertion: omit --assertion
+2|issue --key office --claim seats|--claim: write a claim as aud=customers, or as seats:=4 with a value of JSON
+2|issue --key office --claim exp=never|--claim: set exp and nbf by --expires and --not-before; iat is set already
+2|issue --key office --expires soon|--expires: write a time as 90s, 30m, 12h, 7d or 2026-11-22T10:00:00Z
+2|issue --key office --not-before soon|--not-before: write a time as 90s, 30m, 12h, 7d or 2026-11-22T10:00:00Z
+2|check --key office --at soon|--at: write a time as 90s, 30m, 12h, 7d or 2026-11-22T10:00:00Z
+2|check --key office --leeway soon|--leeway: write a length of time as 5s, 30m, 12h or 7d
+1|issue --key office --claim a:=1.5|--claim: a number in a claim must be a whole number of at most 64 bits
+1|check --key office footed|footed: the token has another footer: give it by --footer or --footer-kid; paseto inspect shows it
+1|check --ring keys claims|claims: the token has no footer, which names its key in a ring
+1|check --ring keys footed|footed: the footer of the token is not a JSON object
+1|check --ring keys numbered|numbered: the footer of the token names no key: it has no string under kid
+1|check --ring keys stranger|stranger: The key 'another' is not in the ring
+1|check --key office --footer id letter|letter: the text of the token is not valid JSON
+1|check --key office odd|odd: a claim of the token has a number that is not a whole number of 64 bits
+1|check --key office --at 2026-11-22T10:03:00Z claims|claims: expired 3 minutes ago, at 2026-11-22T10:00:00Z
+1|check --key office --at 2026-11-22T08:59:00Z claims|claims: not valid before 2026-11-22T09:00:00Z, in 60 seconds
+1|check --key office --at 2026-11-22T09:30:00Z --claim aud=staff claims|claims: The claim 'aud' is 'customers', and not 'staff'
+1|check --key office --at 2026-11-22T09:30:00Z --require jti claims|claims: The expected claim 'jti' was not found in the payload
+1|issue --key office --claim a=1 --claim a=2|The claim 'a' appears more than once in the top level payload json
+1|check --ring keys.none claims|keys.none: The file 'one' of the ring is no key file
+1|check --ring keys.rsa claims|keys.rsa: The file 'one' of the ring is of version 1, whose key pairs have no id
+1|check --ring keys.locked claims|keys.locked: The file 'one' of the ring: the key is under a password: give it by --password-file or PASETO_PASSWORD
+3|encrypt --key nowhere|nowhere: no such file
+3|keygen v4.local --out office/key|office/key: the file cannot be opened or created
+3|keygen v4.local --out office|office: the file already exists and is not overwritten
+3|encrypt --key keys|a read or a write failed
+1|id --key locked.v4.local|locked.v4.local: the key is under a password: give it by --password-file or PASETO_PASSWORD
+1|id --key wrapped.4|wrapped.4: the key is wrapped or sealed: name the key that opens it by --unlock-key
+1|id --key locked.v4.local --password-file password.other|locked.v4.local: wrong key or password, or the text was changed
+1|id --key cut --password-file password|cut: what follows the header is no base64url of a wrapped key, or was cut off
+1|wrap --key half.v4.public --password-file password|half.v4.public: the key is public: it needs no password and no wrapping key
+1|wrap --key local.4 --wrapping-key nothing|nothing: this is no PASERK key
+1|wrap --key local.4 --wrapping-key wrapping.1|wrapping.1: this key is one of version 1, and the other one is not
+1|wrap --key local.4 --wrapping-key wrapping.2|wrapping.2: this key is one of version 2, and the other one is not
+1|wrap --key local.4 --wrapping-key wrapping.3|wrapping.3: this key is one of version 3, and the other one is not
+1|wrap --key local.3 --wrapping-key wrapping.4|wrapping.4: this key is one of version 4, and the other one is not
+1|unseal --key sealed.4 --unlock-key local.4|local.4: this key is one for local tokens, and another type is needed
+1|wrap --key local.4 --wrapping-key secret.4|secret.4: this key is a private one, and another type is needed
+1|wrap --key local.4 --wrapping-key public.4|public.4: this key is a public one, and another type is needed
+1|wrap --key local.4 --wrapping-key short|short: this key was not in the correct format
+1|seal --key local.1 --to rsa.public.pem|local.1: keys of version 1 are neither sealed nor unsealed here
+1|unwrap --key office --format pem|office: keys for local tokens have no PEM text
+1|unwrap --key v2.secret --format pem|v2.secret: keys of version 2 have no PEM text of their own: it would be read as one of version 4
+1|sign --key broken.pem|broken.pem: The text is no PEM
+1|sign --key encrypted.pem|encrypted.pem: The key is encrypted
+1|sign --key x25519.pem|x25519.pem: The key is one of another algorithm
+1|sign --key p256.pem|p256.pem: The key is one of another curve
+1|sign --key rsa3072.pem|rsa3072.pem: The key has another size
+LIST
+
 finish

@@ -1,6 +1,6 @@
 #!/usr/bin/env bash
 # Refuses each request for memory that a public call makes: the first, the second, and so on, and also each
-# with all that follow, until a run meets no refusal. The program `paseto_memory` asks the calls,
+# with all that follow, until a run meets no refusal. The program `test_memory` asks the calls,
 # `refused_memory.c` refuses, and the program `paseto_tool` is run the same way from its start to its end.
 #
 #   tests/memory.sh [PROGRAM TOOL]
@@ -16,9 +16,9 @@ export LC_ALL=C
 root=$(cd "$(dirname "$0")/.." && pwd)
 
 if [ $# -eq 0 ]; then
-    set -- "$root/crates/paseto_memory/out/paseto_memory" "$root/crates/paseto_tool/out/paseto_tool"
+    set -- "$root/crates/test_memory/out/test_memory" "$root/crates/paseto_tool/out/paseto_tool"
     if [ ! -x "$1" ] || [ ! -x "$2" ]; then
-        python3 "$root/tools/prove.py" paseto_memory paseto_tool
+        python3 "$root/tools/prove.py" test_memory paseto_tool
     fi
 fi
 program=$1

@@ -14,13 +14,13 @@ import sys
 
 ROOT = pathlib.Path(__file__).resolve().parent.parent
 TESTING = {
-    "paseto_bench",
-    "paseto_cases",
-    "paseto_doc_examples",
+    "test_bench",
+    "test_cases",
+    "test_doc_examples",
     "paseto_example",
-    "paseto_memory",
-    "paseto_rows",
-    "paseto_toys",
+    "test_memory",
+    "test_rows",
+    "test_toys",
     "paseto_vectors",
 }
 # Where the names stand for a type, or are matched: an import, a type's argument, a type behind a colon, a

@@ -47,42 +47,42 @@ wrong='wrong key, wrong footer or assertion, or the token was changed'
 bad_tag=$wrong
 bad_signature=$wrong
 bad_footer='The provided footer is invalid'
-bad_header='no token of a kind that is read here'
+bad_header='not a token of a supported kind'
 bad_count='This string has an incorrect number of parts and cannot be parsed into a token'
 no_key='The text is no PASERK key'
-no_pem='no valid PEM, in which the key pairs of version 1 are read'
+no_pem='not valid PEM; key pairs of version 1 are read from PEM'
 bad_key='The key was not in the correct format'
-too_long='longer than any key: it is no key file'
+too_long='too long for a key file'
 not_utf8='A Utf8 parsing error occurred'
 no_file='no such file'
-exists='the file is there already, and is not written over'
+exists='the file already exists and is not overwritten'
 bad_stream='a read or a write failed'
-bad_claim='--claim: a claim is as aud=customers, or as seats:=4 with a value of JSON'
-a_time='a time is as 90s, 30m, 12h, 7d or 2026-11-22T10:00:00Z'
-bad_leeway='--leeway: a length of time is as 5s, 30m, 12h or 7d'
-no_assertion='keys of versions 1 and 2 take no implicit assertion: leave --assertion out'
-time_claim='--claim: exp, nbf and iat are set by --expires and --not-before'
-other_footer='another footer: say it by --footer or --footer-kid; paseto inspect shows it'
-no_kind='no kind of key: v1.local, v2.local, v2.public, v3.local, v3.public, v4.local and v4.public are kinds'
-no_half='keys of this kind have no public half: leave --public out'
-unnamed='no key is named: give --key FILE, or the text of the key in PASETO_KEY'
+bad_claim='--claim: write a claim as aud=customers, or as seats:=4 with a value of JSON'
+a_time='write a time as 90s, 30m, 12h, 7d or 2026-11-22T10:00:00Z'
+bad_leeway='--leeway: write a length of time as 5s, 30m, 12h or 7d'
+no_assertion='keys of versions 1 and 2 take no implicit assertion: omit --assertion'
+time_claim='--claim: set exp and nbf by --expires and --not-before; iat is set already'
+other_footer='the token has another footer: give it by --footer or --footer-kid; paseto inspect shows it'
+no_kind='not a kind of key: use v1.local, v2.local, v2.public, v3.local, v3.public, v4.local or v4.public'
+no_half='keys of this kind have no public half: omit --public'
+unnamed='no key is given: use --key FILE, or put the text of the key into PASETO_KEY'
 one_input='standard input cannot be the key and the input: name a file for one of them'
 input='standard input'
 unset PASETO_KEY PASETO_PASSWORD
-
-# is NAME FOUND WANTED
-is() {
-    if [ "$2" = "$3" ]; then
-        pass
-    else
-        fail "$1: ${2:0:200} in place of ${3:0:200}"
-    fi
-}
 
 # The bytes of a file, and a dot, so that line feeds at its end are seen.
 bytes_of() {
     cat "$1"
     printf .
+}
+
+# keeps NAME COMMAND: in the streams of the last run stands no key that is to be kept secret, but for the output of a command
+# that writes one.
+keeps() {
+    local streams='out err'
+    case $2 in keygen | unwrap | unseal) streams=err ;; esac
+    # shellcheck disable=SC2086
+    is "$1, no key is told" "$(cat $streams | grep -cE 'k[1-4]\.(local|secret)\.')" 0
 }
 
 # gives NAME INPUT OUTPUT WORD..: status 0, just this output, and nothing on standard error.
@@ -94,6 +94,7 @@ gives() {
     is "$name, status" $? 0
     is "$name, output" "$(bytes_of out)" "$wanted."
     is "$name, standard error" "$(bytes_of err)" .
+    keeps "$name" "$1"
 }
 
 # refuses NAME STATUS INPUT LINE WORD..: this status, no output, and on standard error `paseto: ` and this line.
@@ -105,6 +106,7 @@ refuses() {
     is "$name, status" $? "$status"
     is "$name, output" "$(bytes_of out)" .
     is "$name, standard error" "$(cat err)" "paseto: $line"
+    keeps "$name" "$1"
 }
 
 # misused NAME LINE WORD..: status 2, no output, and this as the first line on standard error.
@@ -115,6 +117,7 @@ misused() {
     is "$name, status" $? 2
     is "$name, output" "$(bytes_of out)" .
     is "$name, standard error" "$(head -n 1 err)" "$line"
+    keeps "$name" "$1"
 }
 
 # made WORD..: what the program prints for the input `hello`.
@@ -236,7 +239,7 @@ refuses "a public key to sign" 1 hello "v4.public: The key is a public one, whic
 refuses "a local key to sign" 1 hello "v4.local: The key is one for local tokens" sign --key v4.local
 # The public half of this private key is another seed's.
 echo k4.secret.AAAAAAAAAAAAAAAAAAAAAAAAAAAAAAAAAAAAAAAAAADXWpgBgrEKt9VL_tPJZAc6DuFy89qmIyWvAhpo9wdRGg >mixed.secret
-refuses "halves of two keys" 1 hello "mixed.secret: the halves of the private key are of two keys" sign --key mixed.secret
+refuses "halves of two keys" 1 hello "mixed.secret: the two halves of the private key do not belong together" sign --key mixed.secret
 refuses "a changed text" 1 "v4.public.$(printf jello | base64 | tr -d =)${token:17}" "$input: $bad_signature" verify --key v4.public
 
 # -- key files
@@ -248,7 +251,7 @@ refuses "a truncated key file" 1 hello "cut: $bad_key" encrypt --key cut
 : >empty
 refuses "an empty key file" 1 hello "empty: $no_key" encrypt --key empty
 cat v4.local v4.local >two
-refuses "two keys in a file" 1 hello "two: line 2: a key file is one line of PASERK, or PEM" encrypt --key two
+refuses "two keys in a file" 1 hello "two: line 2: a key file has one line of PASERK, or is PEM" encrypt --key two
 refuses "a binary key file" 1 hello "binary: $no_key" encrypt --key binary
 refuses "no key file" 3 hello "nowhere: $no_file" encrypt --key nowhere
 truncate -s 1G huge
@@ -306,7 +309,7 @@ refuses "the public half of 0" 1 "" "zero.secret: $bad_key" public --key zero.se
 
 # -- keys among the words
 
-key_word='a key is among the words, where others can see it: name the file that holds it'
+key_word='a key is among the arguments, where others can see it: name the file that holds it'
 for words in "encrypt --key $(cat v4.local)" "encrypt --key=$(cat v4.local)" "check --ring=$(cat v4.secret)" "sign --key $(cat v4.secret)" "keygen $(cat v4.local)" "$(cat v4.secret)" \
     "check --ring $(cat v4.local)" "encrypt --key v4.local $(cat v4.local)" "nothing $(cat v4.secret)"; do
     # shellcheck disable=SC2086
@@ -413,7 +416,7 @@ refuses "no token for a ring" 1 "" "$input: $bad_count" check --ring ring
 refuses "a token of another kind for a ring" 1 v1.public.AAAA "$input: $bad_header" check --ring ring
 refuses "no footer for a ring" 1 "$("$program" issue --key 4.issues)" "$input: the token has no footer, which names its key in a ring" check --ring ring
 refuses "a footer that names no key" 1 "$("$program" issue --key 4.issues --footer id)" "$input: the footer of the token is not a JSON object" check --ring ring
-refuses "a footer with no id of a key" 1 "$("$program" issue --key 4.issues --footer '{"kid":4}')" "$input: the footer of the token names no key: it has no text under kid" check --ring ring
+refuses "a footer with no id of a key" 1 "$("$program" issue --key 4.issues --footer '{"kid":4}')" "$input: the footer of the token names no key: it has no string under kid" check --ring ring
 refuses "a key that is not in the ring" 1 "$("$program" issue --key 4.issues --footer-kid "$(printf 'a\nb')")" "$input: The key 'a?b' is not in the ring" check --ring ring
 refuses "no ring" 3 "$(cat token)" "nowhere: $no_file" check --ring nowhere
 cp -r ring rings && echo nothing >rings/notes && cp ring/4 rings/.hidden && echo nothing >rings/.notes
@@ -434,14 +437,14 @@ for time in "" h 1 1y -1h 1.5h 5000000000s tomorrow 2026-11-22; do
     refuses "the time '$time' of check" 2 "" "--at: $a_time" check --key v4.local --at="$time"
 done
 refuses "a claim twice" 1 "" "The claim 'a' appears more than once in the top level payload json" issue --key v4.local --claim a=1 --claim a=2
-refuses "a claim that is no whole number" 1 "" "--claim: a number in a claim is a whole one, of 64 bits at most" issue --key v4.local --claim a:=1.5
+refuses "a claim that is no whole number" 1 "" "--claim: a number in a claim must be a whole number of at most 64 bits" issue --key v4.local --claim a:=1.5
 is "claims of every kind" "$("$program" issue --key v4.local --claim 'a:={"b":[1,null,true]}' --claim 'c:d=e=f' --claim g= | "$program" check --key v4.local |
     sed -E 's/"(exp|iat|nbf)":"[^"]*",?//g; s/,}$/}/')" '{"a":{"b":[1,null,true]},"c:d":"e=f","g":""}'
 is "paseto_tool opens what is issued" "$("$program" issue --key v4.local --claim a=1 | "$tool" open v4 $hex | grep -c '"a":"1"')" 1
 is "check takes paseto_tool's" "$(printf '{"a":"1"}' | "$tool" seal v4 $hex $zero | "$program" check --key v4.local --claim a=1)" '{"a":"1"}'
-refuses "a claim that is no whole number to check" 1 "" "--claim: a number in a claim is a whole one, of 64 bits at most" check --key v4.local --claim a:=1.5
+refuses "a claim that is no whole number to check" 1 "" "--claim: a number in a claim must be a whole number of at most 64 bits" check --key v4.local --claim a:=1.5
 refuses "a token with a number that is not whole" 1 "$(printf '{"a":1.5}' | "$program" encrypt --key v4.local)" \
-    "$input: a claim of the token has a number that is not a whole one of 64 bits" check --key v4.local
+    "$input: a claim of the token has a number that is not a whole number of 64 bits" check --key v4.local
 refuses "a text that is no JSON" 1 "$(made encrypt --key v4.local)" "$input: the text of the token is not valid JSON" check --key v4.local
 "$program" issue --key open.local >out 2>err
 is "issue by a key file that others can read" "$? $(cat err)" "0 paseto: open.local: warning: others than its owner can read the key file"
@@ -491,7 +494,7 @@ for words in encrypt decrypt sign verify check; do
     refuses "$words with the key and the input from standard input" 2 "" "$one_input" $words --key -
 done
 "$program" >out 2>err
-is "no words" "$? $(cat out)$(head -n 1 err)" "2 Makes keys in files, and PASETO tokens by them"
+is "no words" "$? $(cat out)$(head -n 1 err)" "2 Generates keys, and issues and checks PASETO tokens"
 for words in keygen public id wrap unwrap seal unseal issue check encrypt decrypt sign verify inspect; do
     "$program" $words --help >out 2>err
     is "$words --help, status" $? 0
@@ -500,19 +503,119 @@ for words in keygen public id wrap unwrap seal unseal issue check encrypt decryp
     is "$words --help, an example" "$(grep -cE "^Example: (echo hello \\| )?paseto $words" out)" 1
     is "--help tells of $words" "$("$program" --help | grep -c "^  $words  *$(head -n 1 out | cut -c 1-20)")" 1
 done
-is "--version" "$("$program" --version)" "paseto 0.2.0"
+is "--version" "$("$program" --version)" "paseto 1.0.0"
 printf hello >text
 is "an input that is named" "$("$program" encrypt text --key v4.local | "$program" decrypt - --key v4.local)" hello
 is "words behind --" "$("$program" encrypt --key v4.local -- text | "$program" decrypt --key v4.local -- -)" hello
 refuses "an input that is not there" 3 hello "nowhere: $no_file" encrypt --key v4.local nowhere
 
+# -- bytes that are no text
+
+while read -r words; do
+    # shellcheck disable=SC2086
+    refuses "a binary key, $words" 1 hello "binary: $no_key" $words
+done <<'END'
+encrypt --key binary
+decrypt --key binary
+sign --key binary
+verify --key binary
+issue --key binary
+check --key binary
+id --key binary
+public --key binary
+wrap --key binary --wrapping-key v4.local
+wrap --key v4.local --wrapping-key binary
+unwrap --key binary
+unwrap --key v4.local --unlock-key binary
+seal --key binary --to v4.public
+seal --key v4.local --to binary
+unseal --key binary --unlock-key v4.secret
+unseal --key v4.local --unlock-key binary
+END
+for words in "encrypt --key v4.local" "decrypt --key v4.local" "sign --key v4.secret" "verify --key v4.public" "check --key v4.local" "check --ring ring" inspect; do
+    # shellcheck disable=SC2086
+    refuses "a binary input, $words" 1 "" "binary: $not_utf8" $words binary
+done
+mkdir binaries && cp binary binaries
+refuses "a ring with a binary file" 1 "" "binaries: $no_key" check --ring binaries
+PASETO_KEY=$(cat binary) refuses "a binary key in the environment" 1 hello "PASETO_KEY: $no_key" encrypt
+PASETO_PASSWORD=$(cat binary) refuses "a binary password in the environment" 1 "" "PASETO_PASSWORD: not a password: it must have 1 to 4095 bytes" id --key v4.local
+refuses "a binary word" 2 "" "an argument is not valid UTF-8: see paseto --help" encrypt --key v4.local --footer "$(cat binary)"
+
+# -- a folder of 300 key files
+
+mkdir many
+for number in $(seq 300); do "$program" keygen v4.local --out "many/$number" --quiet; done
+is "300 keys" "$(cat many/* | sort -u | wc -l)" 300
+for number in 1 150 300; do
+    "$program" issue --key "many/$number" --claim "number:=$number" --footer-kid "$("$program" id --key "many/$number")" >token
+    is "a ring of 300 keys, the key $number" "$("$program" check --ring many token | grep -o "\"number\":$number\b")" "\"number\":$number"
+done
+refuses "a key that 300 others are not" 1 "$("$program" issue --key v4.local --footer-kid k4.lid.none)" \
+    "$input: The key 'k4.lid.none' is not in the ring" check --ring many
+echo nothing >many/151
+refuses "a ring of 299 keys and a file that is none" 1 "$(cat token)" "many: The file '151' of the ring is no key file" check --ring many
+
 # -- closed and full outputs
 
+# Each command that writes, with words that are right.
 printf hello >in
-"$program" encrypt --key v4.local <in >/dev/full 2>err
-is "a full output" "$? $(cat err)" "3 paseto: $bad_stream"
-"$program" encrypt --key v4.local <in >&- 2>err
-is "a closed output" "$? $(cat err)" "3 paseto: $bad_stream"
+"$program" encrypt --key v4.local <in >letter
+"$program" sign --key v4.secret <in >ticket
+"$program" issue --key v4.local >claims
+"$program" seal --key v4.local --to v4.public >sealed
+commands='keygen v4.local
+keygen v3.public
+public --key v4.secret
+id --key v4.local
+wrap --key v4.local --wrapping-key other.local
+unwrap --key v4.local
+seal --key v4.local --to v4.public
+unseal --key sealed --unlock-key v4.secret
+issue --key v4.local
+check --key v4.local claims
+encrypt --key v4.local in
+decrypt --key v4.local letter
+sign --key v4.secret in
+verify --key v4.public ticket
+inspect ticket'
+# A pipe whose reader is gone.
+exec {gone}> >(:)
+wait $!
+while read -r words; do
+    # shellcheck disable=SC2086
+    "$program" $words </dev/null >out 2>err
+    is "$words" "$? $(cat err)" "0 "
+    keeps "$words" "${words%% *}"
+    # shellcheck disable=SC2086
+    "$program" $words </dev/null >/dev/full 2>err
+    is "$words, a full output" "$? $(cat err)" "3 paseto: $bad_stream"
+    # shellcheck disable=SC2086
+    "$program" $words </dev/null >&"$gone" 2>err
+    is "$words, a closed pipe" "$? $(cat err)" "3 paseto: $bad_stream"
+    # shellcheck disable=SC2086
+    "$program" $words </dev/null >&- 2>err
+    is "$words, a closed output" "$? $(cat err)" "3 paseto: $bad_stream"
+    for errors in /dev/full "&$gone"; do
+        # shellcheck disable=SC2086
+        case $errors in
+            /dev/full) "$program" $words --nothing </dev/null 2>/dev/full >out ;;
+            *) "$program" $words --nothing </dev/null 2>&"$gone" >out ;;
+        esac
+        is "$words, what is refused to $errors" "$(bytes_of out)" .
+    done
+done <<<"$commands"
+for stream in /dev/full closed; do
+    for words in "encrypt --key nowhere" "check --key nowhere" "inspect nowhere"; do
+        # shellcheck disable=SC2086
+        case $stream in
+            closed) "$program" $words <in 2>&"$gone" >out ;;
+            *) "$program" $words <in 2>/dev/full >out ;;
+        esac
+        is "$words, its line to $stream" "$? $(bytes_of out)" "3 ."
+    done
+done
+exec {gone}>&-
 "$program" encrypt --key v4.local <&- >out 2>err
 is "a closed input" "$? $(cat out)$(cat err)" "3 paseto: $bad_stream"
 "$program" encrypt --key nowhere <in >out 2>&-

@@ -60,7 +60,7 @@ check_format() {
 
 # prove WORD..: proves crates by tools/prove.py, which tells how far each is.
 prove() {
-    python3 tools/prove.py "$@" 2>&1 | tee -a "$work/said"
+    python3 tools/prove.py --keep "$@" 2>&1 | tee -a "$work/said"
     return "${PIPESTATUS[0]}"
 }
 

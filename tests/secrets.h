@@ -2,7 +2,7 @@
 #ifndef SECRETS_H
 #define SECRETS_H
 
-#include "../bench/paseto_bench.h"
+#include "../bench/test_bench.h"
 
 #include <stdbool.h>
 #include <stddef.h>

@@ -1,6 +1,6 @@
 #!/usr/bin/env bash
 # Asks the machine code whether a jump or an address tells a secret: valgrind runs the driver `secrets.c` over the
-# static library of `paseto_bench`, with the bytes of the key (and, in a second run, of the text) marked as
+# static library of `test_bench`, with the bytes of the key (and, in a second run, of the text) marked as
 # undefined, and reports each conditional jump and each address that depends on them.
 #
 #   tests/secrets.sh [--cpu NAME | --built]
@@ -31,20 +31,20 @@ source "$root/tests/counts.sh"
 needs cc gcc
 needs valgrind valgrind
 
-if [ "$is_built" -eq 0 ] && ! python3 "$root/tools/prove.py" "${cpu[@]}" paseto_bench >"$work/build" 2>&1; then
+if [ "$is_built" -eq 0 ] && ! python3 "$root/tools/prove.py" "${cpu[@]}" test_bench >"$work/build" 2>&1; then
     tail -n 30 "$work/build"
     fail 'the library is not built'
     finish
 fi
 kit=$(dirname "$(rt doc)")
 if ! cc -std=c11 -Wall -Wextra -Werror -O1 -o "$work/secrets" "$root/tests/secrets.c" "$root/tests/secrets_of_keys.c" \
-    "$root/crates/paseto_bench/out/libpaseto_bench.a" "$kit/c/liblibc_c.a" "$kit/c/libos_c.a"; then
+    "$root/crates/test_bench/out/libtest_bench.a" "$kit/c/liblibc_c.a" "$kit/c/libos_c.a"; then
     fail 'the driver is not built'
     finish
 fi
 
 # The private keys of RSA that OpenSSL made.
-sed -n 's/^rsa_signed \([0-9a-f]*\) .*/\1/p' "$root/crates/paseto_rows/data/rsa.txt" >"$work/keys"
+sed -n 's/^rsa_signed \([0-9a-f]*\) .*/\1/p' "$root/crates/test_rows/data/rsa.txt" >"$work/keys"
 
 # A line 'kind function' for each report: jump, address, or other.
 reports() {

@@ -1,7 +1,7 @@
 #!/usr/bin/env python3
-"""Prints crates/paseto_rows/data/sign_input.txt:
+"""Prints crates/test_rows/data/sign_input.txt:
 
-    python3 tests/sign_input_rows.py > crates/paseto_rows/data/sign_input.txt
+    python3 tests/sign_input_rows.py > crates/test_rows/data/sign_input.txt
 
 The rows are of the kind of `sign.input`, the test vectors of the authors of Ed25519
 (https://ed25519.cr.yp.to/python/sign.input): private key, public key, message, and signature with message, for messages

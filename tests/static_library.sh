@@ -47,7 +47,9 @@ for name in $(named "$crate"); do
     words+=(--extern "$name=$rlib")
 done
 mkdir -p "crates/$crate/out"
+# The crate is large, and nothing else is left to prove then: its check takes all processors.
+jobs=$(nproc)
 cd "crates/$crate"
-exec "$kit/bin/rattle" build "${words[@]}" --crate-type staticlib --links "$crate=" --jobs 1 --backend llvm \
+exec "$kit/bin/rattle" build "${words[@]}" --crate-type staticlib --links "$crate=" --jobs "$jobs" --backend llvm \
     --antt-project "$kit/rattle/logic/antt-project.json" --logic-built "$kit/logic_built" \
     --toolchain "$kit/toolchain" -o "out/lib$crate.a"

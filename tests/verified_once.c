@@ -5,7 +5,7 @@
    SCHEME is ed25519 or p384. A key pair is made, and a text of LENGTH bytes is signed under it, whatever the CALL is.
    Then, REPS times, the text is signed (sign), its signature is verified (verify), or its HMAC-SHA384 is made (hash), in
    which the text is hashed once. The status is 0 where each call answered as it should. */
-#include "../bench/paseto_bench.h"
+#include "../bench/test_bench.h"
 
 #include <stdbool.h>
 #include <stdlib.h>

@@ -29,14 +29,14 @@ source "$root/tests/counts.sh"
 needs cc gcc
 needs valgrind valgrind
 
-if [ "$is_built" -eq 0 ] && ! python3 "$root/tools/prove.py" paseto_bench >"$work/build" 2>&1; then
+if [ "$is_built" -eq 0 ] && ! python3 "$root/tools/prove.py" test_bench >"$work/build" 2>&1; then
     tail -n 30 "$work/build"
     fail 'the library is not built'
     finish
 fi
 kit=$(dirname "$(rt doc)")
 if ! cc -std=c11 -Wall -Wextra -Werror -O1 -o "$work/driver" "$root/tests/verified_once.c" \
-    "$root/crates/paseto_bench/out/libpaseto_bench.a" "$kit/c/liblibc_c.a" "$kit/c/libos_c.a"; then
+    "$root/crates/test_bench/out/libtest_bench.a" "$kit/c/liblibc_c.a" "$kit/c/libos_c.a"; then
     fail 'the driver is not built'
     finish
 fi

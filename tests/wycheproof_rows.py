@@ -1,5 +1,5 @@
 #!/usr/bin/env python3
-"""Prints crates/paseto_rows/data/wycheproof.txt: the cases of Wycheproof for the box and the schemes.
+"""Prints crates/test_rows/data/wycheproof.txt: the cases of Wycheproof for the box and the schemes.
 
     tests/wycheproof_rows.py FOLDER
 

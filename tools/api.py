@@ -132,7 +132,7 @@ def exports(text, crate):
         if path.split("::")[0] in CRATES or path.split("::")[0] in ("crate", "std"):
             continue
         names += [it.strip().split(" as ")[-1] for it in (many or one).split(",") if it.strip()]
-    return names, [it for it in re.findall(r"^pub mod (\w+);", text, re.M) if it not in ("prelude", "generic", "paseto_core")]
+    return names, [it for it in re.findall(r"^pub mod (\w+);", text, re.M) if it != "prelude"]
 
 
 def heading(item, level, owner=""):

@@ -1,16 +1,17 @@
 #!/usr/bin/env python3
 """Proves crates and those that they stand on, and builds what they are: libraries, programs and static libraries.
 
-    python3 tools/prove.py [--check] [--cpu NAME] CRATE..
+    python3 tools/prove.py [--check] [--keep] [--cpu NAME] CRATE..
 
 Each crate is begun as soon as those below it are done, those with the longest way to the top first, as many side by
 side as processors and memory allow. What is built lies in the crates' out/ as `rt lib` and `rt run` leave it, so that
 no other command proves it again, and a run that was cut off goes on where it was.
 
---check proves programs and static libraries, and does not build them. --cpu builds static libraries for another
-processor, as x86-64-v3. While it works, a line tells how far each crate is; what the prover says stands in the crate's
-out/prove.log. A crate that is refused ends with its log's last lines, and those above it are not run. The status is 0
-where all was proved.
+--check proves programs and static libraries, and does not build them. --keep keeps what is proved of each function, so
+that after an edit only what changed is proved again, as where `rt check` has kept it: a library then holds its proofs, and
+is larger and slower to read. --cpu builds static libraries for another processor, as x86-64-v3. While it works, a line tells
+how far each crate is; what the prover says stands in the crate's out/prove.log. A crate that is refused ends with its log's
+last lines, and those above it are not run. The status is 0 where all was proved.
 """
 import argparse
 import functools
@@ -18,6 +19,7 @@ import importlib.machinery
 import importlib.util
 import os
 import re
+import resource
 import shutil
 import subprocess
 import sys
@@ -29,16 +31,18 @@ ROOT = os.path.dirname(os.path.dirname(os.path.abspath(__file__)))
 EACH = 2_000_000_000
 # What one process took to prove each crate, in seconds, as measured once. It decides which crate goes first, and nothing
 # else. A crate that is not listed counts as OTHERS.
-OTHERS = 60
+OTHERS = 100
 SECONDS = {
-    "paseto": 300, "paseto_argon2": 60, "paseto_bench": 60, "paseto_c": 650, "paseto_ed25519": 45, "paseto_edwards": 24, "paseto_edwards25519": 100,
-    "paseto_key_files": 120, "paseto_montgomery": 100, "paseto_p384": 100, "paseto_pem": 100, "paseto_polynomials": 35, "paseto_primes": 70, "paseto_rsa": 90, "paseto_tasks": 240,
-    "paseto_streams": 15, "paseto_tool": 150, "paseto_weierstrass": 14, "paseto_words": 240, "paseto_wrapping": 120, "paseto_xchacha20poly1305": 25, "rusty_paseto": 200,
-    "rusty_paseto_claims": 130, "rusty_paseto_core": 246, "rusty_paseto_generic": 290, "rusty_paseto_parts": 120,
-    "rusty_paseto_paserk": 130, "rusty_paseto_primitives": 180,
+    "paseto": 450, "paseto_argon2": 124, "paseto_c": 950, "paseto_der": 24, "paseto_ed25519": 75, "paseto_edwards": 44,
+    "paseto_edwards25519": 130, "paseto_key_files": 335, "paseto_montgomery": 110, "paseto_p384": 108,
+    "paseto_pbkdf2": 14, "paseto_pem": 287, "paseto_polynomials": 19, "paseto_primes": 24, "paseto_rsa": 97,
+    "paseto_streams": 35, "paseto_tasks": 350, "paseto_tool": 280, "paseto_weierstrass": 18, "paseto_words": 330,
+    "paseto_wrapping": 270, "paseto_x25519": 45, "paseto_xchacha20poly1305": 64, "rusty_paseto": 560,
+    "rusty_paseto_claims": 235, "rusty_paseto_core": 475, "rusty_paseto_generic": 380, "rusty_paseto_parts": 280,
+    "rusty_paseto_paserk": 110, "rusty_paseto_primitives": 450,
 }
-# A crate leaves the processors to those at work with a longer way, by so much niceness for each, up to the most that there is.
-STEP, MOST = 6, 19
+# A crate whose way to the top is no longer than this share of the longest leaves the processors to the others.
+NEAR, NICENESS = 0.75, 15
 # A crate's line comes again after so many seconds at the earliest.
 PAUSE = 15
 
@@ -97,17 +101,19 @@ def build(rt, crate, flags, cpu):
     return status
 
 
-def work(rt, crate, jobs, cpu, is_check):
+def work(rt, crate, jobs, cpu, is_check, keeps):
     """Proves and builds one crate over those below it, which are built."""
-    rt.share_work(True)
-    # Processes that share a check keep no work, and are sooner done than batches, which do.
-    if jobs > 1 and not crate.has_kept():
-        rt.rtlib.KEPT = []
+    # Only some releases of the toolchain share what other checkouts proved.
+    if hasattr(rt, "share_work"):
+        rt.share_work(True)
     flags = ["--jobs", str(jobs)]
     os.makedirs(f"{crate.folder}/out", exist_ok=True)
     os.chdir(crate.folder)
+    keeps = keeps or crate.has_kept()
+    if not keeps:
+        rt.rtlib.KEPT = []
     if crate.makes_rlib():
-        return crate.build_rlib(flags, anew=False)
+        return crate.build_rlib([*flags, *["--statements"] * (not keeps)], anew=False)
     return crate.check(flags) if is_check else build(rt, crate, flags, cpu)
 
 
@@ -119,7 +125,7 @@ class Run:
 
     def __init__(self, rt, crates, given):
         self.rt, self.crates, self.given, self.begun = rt, crates, given, time.monotonic()
-        self.done, self.lost, self.at_work, self.turn = set(), {}, {}, threading.Condition()
+        self.done, self.lost, self.at_work, self.told, self.turn = set(), {}, {}, {}, threading.Condition()
         self.processes = max(min(rt.processors(), rt.free() // EACH), 1)
 
     @functools.lru_cache(maxsize=None)
@@ -148,19 +154,29 @@ class Run:
         return found
 
     def begin(self, name, waiting):
-        """Begins the first of so many crates that wait. Each process of a check reads the libraries below once more, so that one
-        alone costs least. But all wait for the crate with the longest way, which gets all processors where there are more than
-        two; and another gets its share of those that nobody uses."""
-        longer = sum(self.way(it) > self.way(name) for it in self.at_work)
-        unused = self.processes - len(self.at_work)
-        jobs = self.processes if longer == 0 and self.processes > 2 else max(unused // waiting, 1)
+        """Begins the first of so many crates that wait. One process proves a crate at the least cost. But all wait for the crate
+        with the longest way, so where there are processors enough several processes prove it, and two those that are near."""
+        longest = max(map(self.way, [name, *self.at_work]))
+        is_near = self.way(name) > NEAR * longest
+        share = max((self.processes - len(self.at_work)) // waiting, 1)
+        most = self.processes - 1 if self.way(name) == longest else 2 if is_near else 1
+        jobs = max(share, most) if self.processes > 2 else 1
         self.at_work[name] = time.monotonic()
-        threading.Thread(target=self.one, args=(name, jobs, min(STEP * longer, MOST))).start()
+        threading.Thread(target=self.one, args=(name, jobs, 0 if is_near else NICENESS)).start()
+
+    def tell(self):
+        """Says how long each crate is at work whose prover does not tell how far it is."""
+        for name, begun in self.at_work.items():
+            taken = time.monotonic() - begun
+            if taken >= PAUSE and time.monotonic() - self.told.get(name, begun) >= PAUSE:
+                self.told[name] = time.monotonic()
+                self.say(name, f"at work for {taken:.0f} seconds")
 
     def all(self):
         """Runs all that does not stand, and returns whether each is proved."""
         for name, crate in self.crates.items():
-            if not (self.given.check and not crate.makes_rlib()) and is_built(self.rt, crate, self.given.cpu):
+            below = all(it.name in self.done for it in crate.below())
+            if below and not (self.given.check and not crate.makes_rlib()) and is_built(self.rt, crate, self.given.cpu):
                 self.done.add(name)
                 self.say(name, "proved earlier")
         with self.turn:
@@ -169,14 +185,16 @@ class Run:
                 if ready and len(self.at_work) < self.processes:
                     self.begin(ready[0], len(ready))
                 elif self.at_work:
-                    self.turn.wait()
+                    self.turn.wait(PAUSE)
+                    self.tell()
         return not self.lost
 
     def one(self, name, jobs, niceness):
         """Runs a crate's process, and tells how far it is by its lines."""
         words = ["nice", "-n", str(niceness), sys.executable, os.path.abspath(__file__), "--one", str(jobs), name]
-        words += [*["--check"] * self.given.check, *(["--cpu", self.given.cpu] if self.given.cpu else [])]
-        log, told = f"{self.crates[name].folder}/out/prove.log", time.monotonic()
+        words += [*["--check"] * self.given.check, *["--keep"] * self.given.keep]
+        words += ["--cpu", self.given.cpu] if self.given.cpu else []
+        log = f"{self.crates[name].folder}/out/prove.log"
         os.makedirs(os.path.dirname(log), exist_ok=True)
         how = {"stdin": subprocess.DEVNULL, "stdout": subprocess.PIPE, "stderr": subprocess.STDOUT, "errors": "replace"}
         with open(log, "w", encoding="utf-8") as file:
@@ -184,8 +202,8 @@ class Run:
             for line in ran.stdout:
                 file.write(line)
                 far = re.match(r"so far: (\d+ of \d+ functions checked)", line)
-                if far and time.monotonic() - told > PAUSE:
-                    told = time.monotonic()
+                if far and time.monotonic() - self.told.get(name, 0) > PAUSE:
+                    self.told[name] = time.monotonic()
                     self.say(name, far[1])
         with self.turn:
             taken = time.monotonic() - self.at_work.pop(name)
@@ -202,6 +220,7 @@ class Run:
 def main():
     words = argparse.ArgumentParser(description=__doc__, formatter_class=argparse.RawDescriptionHelpFormatter)
     words.add_argument("--check", action="store_true", help="proves programs and static libraries, and builds none")
+    words.add_argument("--keep", action="store_true", help="keeps what is proved of each function, for checks after an edit")
     words.add_argument("--cpu", metavar="NAME", help="the processor that static libraries are built for")
     words.add_argument("--one", type=int, metavar="JOBS", help=argparse.SUPPRESS)
     words.add_argument("crates", nargs="+", metavar="CRATE")
@@ -209,7 +228,10 @@ def main():
     rt = toolchain()
     crates = crates_of(rt, given.crates)
     if given.one:
-        sys.exit(work(rt, crates[given.crates[0]], given.one, given.cpu, given.check))
+        status = work(rt, crates[given.crates[0]], given.one, given.cpu, given.check, given.keep)
+        used = resource.getrusage(resource.RUSAGE_CHILDREN)
+        print(f"processors worked {used.ru_utime:.0f} and {used.ru_stime:.0f} seconds, by {given.one} processes")
+        sys.exit(status)
     rt.rtlib.lock(crates.values())
     sys.exit(0 if Run(rt, crates, given).all() else 1)
 

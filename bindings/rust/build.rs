@@ -1,4 +1,5 @@
-//! Says where `libpaseto.a` lies: in the folder that `PASETO_LIB_DIR` names, or else where `build.sh` of the repository puts it.
+//! Tells Cargo where `libpaseto.a` is: in the folder that `PASETO_LIB_DIR` names, or else where the repository's
+//! `build.sh` puts it.
 
 use std::env;
 use std::path::PathBuf;

@@ -1,4 +1,4 @@
-// A token of version 4, built and parsed by the library for C:
+// A token of version 4, built and parsed with the library for C:
 //
 //	export PKG_CONFIG_PATH=PREFIX/lib/pkgconfig LD_LIBRARY_PATH=PREFIX/lib
 //	go run examples/go/token.go
@@ -15,7 +15,7 @@ import (
 	"time"
 )
 
-// first is the address of the first of some bytes, and their number, as each call of the library takes them.
+// first returns the address of the first byte and the number of bytes, as each call of the library takes them.
 func first(bytes []byte) (*C.uint8_t, C.size_t) {
 	if len(bytes) == 0 {
 		return nil, 0

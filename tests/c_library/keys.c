@@ -4,16 +4,11 @@
 
    where a row of the file is VERSION TYPE KEY TEXT ID, the key in hexadecimal. Each key is written, read and named, and a text is
    refused by its name where it is of another kind. The last line is 'N passed, M failed'. */
-#include <paseto.h>
-
-#include <stdbool.h>
-#include <stdio.h>
 #include <stdlib.h>
-#include <string.h>
 
 enum { MOST = 256, TYPES = 3, VERSIONS = 4 };
 
-typedef paseto_status call(const uint8_t *given, size_t length, uint8_t *room, size_t room_length, size_t *written);
+#include "asked_rooms.h"
 
 #define LOCAL(v) {paseto_v##v##_local_key_to_paserk, paseto_v##v##_local_key_from_paserk, paseto_v##v##_local_key_id}
 #define PRIVATE(v) {paseto_v##v##_private_key_to_paserk, paseto_v##v##_private_key_from_paserk, paseto_v##v##_private_key_id}
@@ -28,35 +23,6 @@ static const struct kind {
     {LOCAL(3), PRIVATE(3), PUBLIC(3)},
     {LOCAL(4), PRIVATE(4), PUBLIC(4)},
 };
-
-static unsigned passed, failed;
-
-static void check(bool holds, const char *what, const char *text) {
-    if (holds) {
-        passed++;
-    } else {
-        failed++;
-        printf("FAILED: %s, of %s\n", what, text);
-    }
-}
-
-/* Asks with no room, with a byte too few and with just enough, and wants the answer. */
-static bool answers(call *asked, const void *given, size_t length, const void *wanted, size_t wanted_length) {
-    uint8_t room[MOST];
-    size_t written = 7;
-    if (asked(given, length, NULL, 0, &written) != PASETO_ROOM || written != wanted_length) return false;
-    memset(room, '#', sizeof room);
-    if (asked(given, length, room, wanted_length - 1, &written) != PASETO_ROOM || room[0] != '#') return false;
-    return asked(given, length, room, wanted_length, &written) == PASETO_OK && written == wanted_length
-           && memcmp(room, wanted, wanted_length) == 0 && room[wanted_length] == '#';
-}
-
-static bool refuses(paseto_status wanted, call *asked, const void *given, size_t length) {
-    uint8_t room[MOST];
-    size_t written = 7;
-    memset(room, '#', sizeof room);
-    return asked(given, length, room, sizeof room, &written) == wanted && written == 0 && room[0] == '#';
-}
 
 static void ask(unsigned version, unsigned type, const uint8_t *key, size_t length, const char *text, const char *id) {
     const struct kind *kind = &kinds[version - 1][type - 1];

@@ -6,6 +6,7 @@
    request is one.
 
    It is linked with --wrap for malloc, realloc and free, so that what the library asks for goes through it. */
+#include "refused_requests.h"
 #include "rsa.h"
 
 #include <paseto.h>
@@ -18,41 +19,6 @@
 enum { MOST = 4096 };
 
 #define NOW INT64_C(1795608000)
-
-/* ---- memory */
-
-void *__real_malloc(size_t size);
-void *__real_realloc(void *place, size_t size);
-void __real_free(void *place);
-void *__wrap_malloc(size_t size);
-void *__wrap_realloc(void *place, size_t size);
-void __wrap_free(void *place);
-
-/* How many pieces are out, how many requests were made, and which of them are refused; 0 for none. */
-static long out;
-static unsigned requests, refuse_at, refuse_from;
-
-static bool refuses(void) {
-    requests++;
-    return requests == refuse_at || (refuse_from > 0 && requests >= refuse_from);
-}
-
-void *__wrap_malloc(size_t size) {
-    void *place = refuses() ? NULL : __real_malloc(size);
-    out += place != NULL;
-    return place;
-}
-
-void *__wrap_realloc(void *place, size_t size) {
-    void *moved = refuses() ? NULL : __real_realloc(place, size);
-    out += place == NULL && moved != NULL;
-    return moved;
-}
-
-void __wrap_free(void *place) {
-    out -= place != NULL;
-    __real_free(place);
-}
 
 /* ---- what is handed over */
 

@@ -4,16 +4,11 @@
 
    where the rows of the file are those of pem_rows.py. A key is written as the text, a text is read as the key, or it is refused
    by its name, with the room as it was. The last line is 'N passed, M failed'. */
-#include <paseto.h>
-
-#include <stdbool.h>
-#include <stdio.h>
 #include <stdlib.h>
-#include <string.h>
 
 enum { MOST = 4096, TYPES = 2, VERSIONS = 4 };
 
-typedef paseto_status call(const uint8_t *given, size_t length, uint8_t *room, size_t room_length, size_t *written);
+#include "asked_rooms.h"
 
 #define PAIR(v)                                                              \
     {                                                                        \
@@ -24,36 +19,6 @@ typedef paseto_status call(const uint8_t *given, size_t length, uint8_t *room, s
 static const struct kind {
     call *write, *read;
 } kinds[VERSIONS][TYPES] = {PAIR(1), PAIR(2), PAIR(3), PAIR(4)};
-
-static unsigned passed, failed;
-
-static void check(bool holds, const char *what, const char *row) {
-    if (holds) {
-        passed++;
-    } else {
-        failed++;
-        printf("FAILED: %s, of %.200s\n", what, row);
-    }
-}
-
-/* Asks with no room, with a byte too few and with just enough, and wants the answer. */
-static bool answers(call *asked, const uint8_t *given, size_t length, const uint8_t *wanted, size_t wanted_length) {
-    uint8_t room[MOST];
-    size_t written = 7;
-    if (asked(given, length, NULL, 0, &written) != PASETO_ROOM || written != wanted_length) return false;
-    memset(room, '#', sizeof room);
-    if (asked(given, length, room, wanted_length - 1, &written) != PASETO_ROOM || room[0] != '#') return false;
-    return asked(given, length, room, wanted_length, &written) == PASETO_OK && written == wanted_length
-           && memcmp(room, wanted, wanted_length) == 0 && room[wanted_length] == '#';
-}
-
-static bool refuses(paseto_status wanted, call *asked, const uint8_t *given, size_t length) {
-    uint8_t room[MOST], before[MOST];
-    size_t written = 7;
-    memset(room, '#', sizeof room);
-    memset(before, '#', sizeof before);
-    return asked(given, length, room, sizeof room, &written) == wanted && written == 0 && memcmp(room, before, sizeof room) == 0;
-}
 
 /* The bytes of a file, of which there is memory for just so many. */
 static uint8_t *content_of(const char *path, size_t *length) {

@@ -9,6 +9,8 @@
    PASETO_MEMORY. The last line is 'N passed, M failed', where a call is one.
 
    It is linked with --wrap for malloc, realloc and free, so that what the library asks for goes through the driver. */
+#include "refused_requests.h"
+
 #include <paseto.h>
 
 #include <stdbool.h>
@@ -37,41 +39,6 @@ static size_t below(size_t most) {
 
 static void fill(uint8_t *at, size_t length) {
     for (size_t i = 0; i < length; i++) at[i] = (uint8_t)next();
-}
-
-/* ---- memory */
-
-void *__real_malloc(size_t size);
-void *__real_realloc(void *place, size_t size);
-void __real_free(void *place);
-void *__wrap_malloc(size_t size);
-void *__wrap_realloc(void *place, size_t size);
-void __wrap_free(void *place);
-
-/* How many pieces are out, how many requests were made, and which of them are refused; 0 for none. */
-static long out;
-static unsigned long requests, refuse_at, refuse_from;
-
-static bool refuses(void) {
-    requests++;
-    return requests == refuse_at || (refuse_from > 0 && requests >= refuse_from);
-}
-
-void *__wrap_malloc(size_t size) {
-    void *place = refuses() ? NULL : __real_malloc(size);
-    out += place != NULL;
-    return place;
-}
-
-void *__wrap_realloc(void *place, size_t size) {
-    void *moved = refuses() ? NULL : __real_realloc(place, size);
-    out += place == NULL && moved != NULL;
-    return moved;
-}
-
-void __wrap_free(void *place) {
-    out -= place != NULL;
-    __real_free(place);
 }
 
 /* ---- what is handed over */

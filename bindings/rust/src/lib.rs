@@ -1,4 +1,5 @@
-//! PASETO tokens, versions 1 to 4, by the proved library `libpaseto.a`, with the core API of the crate rusty_paseto 0.8.0.
+//! PASETO tokens, versions 1 to 4, on top of the proved library `libpaseto.a`, with the core API of the crate
+//! rusty_paseto 0.8.0.
 //!
 //! A service that uses `rusty_paseto::core` changes one line of its `Cargo.toml`:
 //!
@@ -24,8 +25,7 @@
 //! # }
 //! ```
 //!
-//! All cryptography is in the library for C, whose calls are declared in one file of this crate; nothing else here is
-//! `unsafe`.
+//! All cryptography is in the C library. One file of this crate declares its functions; no other code here is `unsafe`.
 #![deny(missing_docs, unsafe_code)]
 
 pub mod core;

@@ -1,4 +1,5 @@
-//! The calls of `libpaseto.a`, as `paseto.h` declares them, each behind a function that is safe: the one file with `unsafe`.
+//! The functions of `libpaseto.a`, as `paseto.h` declares them, each behind a safe function. The only file with
+//! `unsafe`.
 
 use crate::core::PasetoError;
 use std::sync::atomic::{compiler_fence, Ordering};
@@ -103,7 +104,7 @@ extern "C" {
     fn getrandom(bytes: *mut u8, length: usize, flags: u32) -> isize;
 }
 
-/// Fills the bytes by getrandom(2), and says whether the system gave them.
+/// Fills the bytes by getrandom(2), and returns whether that succeeded.
 pub(crate) fn fill_random(bytes: &mut [u8]) -> bool {
     let mut filled = 0;
     while filled < bytes.len() {
@@ -120,7 +121,7 @@ pub(crate) fn fill_random(bytes: &mut [u8]) -> bool {
     true
 }
 
-/// Overwrites bytes with zeros that the compiler may not leave out.
+/// Overwrites bytes with zeros, which the compiler may not optimize away.
 pub(crate) fn wipe(bytes: &mut [u8]) {
     for byte in bytes {
         // Safety: `byte` is valid.

@@ -7,7 +7,7 @@ use paseto_proved::core::{
 };
 use std::error::Error;
 
-const ROWS: &str = include_str!("../../../crates/paseto_rows/data/published.txt");
+const ROWS: &str = include_str!("../../../crates/test_rows/data/published.txt");
 
 type Outcome = Result<(), Box<dyn Error>>;
 

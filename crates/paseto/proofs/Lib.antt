@@ -9,4 +9,5 @@ pub mod RingParsing
 pub mod Headers
 pub mod Checking
 pub mod Lines
+pub mod Blamed
 pub mod SameWords

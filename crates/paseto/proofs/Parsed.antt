@@ -1,5 +1,5 @@
 -- What is parsed under the keys of lines.
-use Rattle.std.proofs.Common.{◌≡◌, ◌⊎◌, ℕ, List, [], Bool, true, false, Option, None, Some, option_map, Result, Ok, Err, IfOk, IfErr, IsErrAnd, inl, inr, refl, sym, ap, subst₂, ◌∙◌}
+use Rattle.std.proofs.Common.{◌≡◌, ◌⊎◌, ℕ, List, [], Bool, true, false, Option, None, Some, option_map, Result, Ok, Err, IfOk, IfErr, IsErrAnd, inl, inr, refl, sym, ap, subst, subst₂, ◌∙◌}
 use Rattle.std.proofs.lemmas.List.{append_cancel_left}
 use Rattle.serde_json.specs.Data.{Data}
 use Rattle.serde_json.specs.View.{view}
@@ -19,9 +19,11 @@ use Rattle.rusty_paseto_paserk.specs.Header.{header}
 use Rattle.rusty_paseto_paserk.specs.declared.header.PaserkVersion.{PaserkVersion}
 use Rattle.rusty_paseto_paserk.specs.declared.header.PaserkType.{PaserkType}
 use Rattle.paseto_tasks.specs.declared.error.ProgramError.{ProgramError}
+use Rattle.paseto_tasks.specs.declared.error.ProgramError.TheVariants.{Refused}
+use Rattle.rusty_paseto_core.specs.declared.PasetoError.TheVariants.{WrongHeader}
 use Rattle.paseto.specs.Check.{IsTheValue, ParsesWith, bound_to}
 use Rattle.paseto_tasks.specs.Arguments.{assertion_where, binds_in}
-use Rattle.paseto_tasks.specs.Error.{IsOutside, Lacks, key_error_of}
+use Rattle.paseto_tasks.specs.Error.{IsOutside, IsPlain, Lacks, key_error_of}
 use Rattle.rusty_paseto_paserk.specs.Error.{IsMemory as IsKeyMemory}
 use Rattle.rusty_paseto_paserk.specs.declared.error.PaserkError.{PaserkError}
 use Rattle.rusty_paseto_paserk.specs.declared.error.PaserkError.TheVariants.{Memory as NoKeyMemory}
@@ -87,11 +89,13 @@ in_words_of A B into back (Err error) is = no_value B error (elim is.none [
 
 -- the same answer, but for an error that is told in other words
 pub in_other_error : (Is : Data → Type 0) (answer result : Result Value ProgramError) → IfOk result (λ value. answer ≡ Ok value)
-    → IfErr result (λ error. IsErrAnd answer (λ source. IsOutside source → IsOutside error)) → IsTheValue Is answer → IsTheValue Is result
+    → IfErr result (λ error. IsErrAnd answer (λ source. (source ≡ error) ⊎ ((source ≡ Refused WrongHeader) × IsPlain error)))
+    → IsTheValue Is answer → IsTheValue Is result
 in_other_error Is answer (Ok value) same kept is = rw same at is
 in_other_error Is (Ok value) (Err error) same kept is = absurd kept
-in_other_error Is (Err source) (Err error) same kept is = no_value Is error (elim is.none [
-  | inl outside ↦ inl (kept outside)
+in_other_error Is (Err source) (Err error) same (inl kept) is = rw kept at is
+in_other_error Is (Err source) (Err error) same (inr other) is = no_value Is error (elim (subst (Lacks Is) other.0 is.none) [
+  | inl outside ↦ absurd outside
   | inr none ↦ inr none
 ])
 

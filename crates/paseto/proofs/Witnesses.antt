@@ -13,7 +13,7 @@ use Rattle.paseto.proofs.SameWords.{same_demands, same_order}
 use Rattle.paseto_tasks.specs.Input.{line_of_input}
 use Rattle.paseto_tasks.specs.Output.{IsLeftOf}
 use Rattle.paseto_tasks.proofs.Outputs.{left_of_made}
-use Rattle.paseto_tasks.proofs.Statuses.{cause_says, says_so}
+use Rattle.paseto_tasks.proofs.Statuses.{cause_so, says_so}
 
 -- what each value that is answered is, it is in other words
 pub in_other_words : {T E : Type 0} (result : Result T E) (A B : T → Type 0) → ((t : T) → A t → B t) → IfOk result A → IfOk result B
@@ -108,4 +108,4 @@ checks_say (Some bytes) (Err error) token text claims options now keys demands r
 pub known_cause_says : {T : Type 0} (known : Option (List ℕ)) (IsLine : List ℕ → List ℕ → Type 0) (made : Result T ProgramError) (error : ProgramError)
     → IsCauseOf made error → IfErr made (λ cause. IfSome known (λ bytes. Says (IsLine bytes) cause)) → IfSome known (λ bytes. Says (IsLine bytes) error)
 known_cause_says None IsLine made error cause says = tt
-known_cause_says (Some bytes) IsLine made error cause says = cause_says (IsLine bytes) made error cause says
+known_cause_says (Some bytes) IsLine made error cause says = cause_so (Says (IsLine bytes)) made error cause says tt

@@ -1,6 +1,6 @@
 -- What the program says of what builders, parsers and rings refuse, where that has a line of its own. No key is among what
 -- these lines are made of: the claims and the footer of the token, the claims of the words, and a moment.
-use Rattle.std.specs.Prelude.{◌≡◌, ℕ, ℤ, pos, ◌/◌, ◌-ℤ◌, ◌==◌, List, [], ◌++◌, if◌then◌else◌, nat_lt, Result, Ok, Err, codes, map, string_bytes, unwrap_or, encode_utf8_all, chars, decimal, int_div, unsigned_abs}
+use Rattle.std.specs.Prelude.{◌≡◌, ℕ, ℤ, pos, ◌/◌, ◌-ℤ◌, ◌==◌, List, [], ◌++◌, if◌then◌else◌, nat_lt, ⊤, Result, Ok, Err, codes, map, string_bytes, unwrap_or, encode_utf8_all, chars, decimal, int_div, unsigned_abs}
 use Rattle.std.specs.Char.{is_control}
 use Rattle.jiff.specs.Types.{Timestamp}
 use Rattle.jiff.specs.Words.{parse_timestamp}
@@ -9,17 +9,19 @@ use Rattle.serde_json.specs.Find.{as_str}
 use Rattle.rusty_paseto_claims.specs.Error.{error_text}
 use Rattle.rusty_paseto_claims.specs.declared.error.PasetoClaimError.{PasetoClaimError}
 use Rattle.rusty_paseto_claims.specs.declared.error.PasetoClaimError.TheVariants.{Expired, Invalid, UseBeforeAvailable}
+use Rattle.rusty_paseto_core.specs.declared.PasetoError.{PasetoError}
+use Rattle.rusty_paseto_core.specs.declared.PasetoError.TheVariants.{Cipher, FooterInvalid}
 use Rattle.rusty_paseto_generic.specs.Parsers.Verdicts.{entry}
 use Rattle.rusty_paseto_generic.specs.declared.error.GenericBuilderError.{GenericBuilderError}
-use Rattle.rusty_paseto_generic.specs.declared.error.GenericBuilderError.TheVariants.{DuplicateTopLevelPayloadClaim}
+use Rattle.rusty_paseto_generic.specs.declared.error.GenericBuilderError.TheVariants.{DuplicateTopLevelPayloadClaim, CipherError as NotBuilt}
 use Rattle.rusty_paseto_generic.specs.declared.error.GenericParserError.{GenericParserError}
-use Rattle.rusty_paseto_generic.specs.declared.error.GenericParserError.TheVariants.{ClaimError}
+use Rattle.rusty_paseto_generic.specs.declared.error.GenericParserError.TheVariants.{ClaimError, CipherError as NotRead}
 use Rattle.rusty_paseto.specs.declared.error.KeyRingError.{KeyRingError}
-use Rattle.rusty_paseto.specs.declared.error.KeyRingError.TheVariants.{UnknownKey}
+use Rattle.rusty_paseto.specs.declared.error.KeyRingError.TheVariants.{Token, UnknownKey, Untrusted}
 use Rattle.rusty_paseto.specs.declared.error.KeyRingParserError.{KeyRingParserError}
-use Rattle.rusty_paseto.specs.declared.error.KeyRingParserError.TheVariants.{Ring}
+use Rattle.rusty_paseto.specs.declared.error.KeyRingParserError.TheVariants.{Parser, Ring}
 use Rattle.paseto_tasks.specs.declared.error.ProgramError.{ProgramError}
-use Rattle.paseto_tasks.specs.Error.{IsFixed, Says}
+use Rattle.paseto_tasks.specs.Error.{BlamesNone, BlamesOnly, IsFixed, Says}
 
 -- ---- lengths of time
 
@@ -94,6 +96,40 @@ abbrev pub unknown_text : List ℕ → List ℕ
 unknown_text id = codes "The key '" ++ (id ++ codes "' is not in the ring")
 
 -- ---- for private clauses
+
+-- the error of a token that a builder, a parser or a ring hands on is so
+abbrev pub OfBuilder : (PasetoError → Type 0) → GenericBuilderError → Type 0
+OfBuilder Is (NotBuilt source) = Is source
+OfBuilder Is _ = ⊥
+
+abbrev pub OfParser : (PasetoError → Type 0) → GenericParserError → Type 0
+OfParser Is (NotRead source) = Is source
+OfParser Is _ = ⊥
+
+abbrev pub OfRing : (PasetoError → Type 0) → KeyRingError → Type 0
+OfRing Is (Untrusted source) = Is source
+OfRing Is (Token source) = Is source
+OfRing Is _ = ⊥
+
+abbrev pub IsCipher : PasetoError → Type 0
+IsCipher Cipher = ⊤
+IsCipher _ = ⊥
+
+abbrev pub IsFooterInvalid : PasetoError → Type 0
+IsFooterInvalid FooterInvalid = ⊤
+IsFooterInvalid _ = ⊥
+
+-- what is said says that random bytes or the footer is at fault only where the library says so
+abbrev pub BlamesOfParser : GenericParserError → ProgramError → Type 0
+BlamesOfParser source = BlamesOnly (OfParser IsCipher source) ⊥ ⊥ (OfParser IsFooterInvalid source)
+
+abbrev pub BlamesOfRing : KeyRingError → ProgramError → Type 0
+BlamesOfRing source = BlamesOnly (OfRing IsCipher source) ⊥ ⊥ ⊥
+
+abbrev pub BlamesOfParsing : KeyRingParserError → ProgramError → Type 0
+BlamesOfParsing (Ring source) = BlamesOfRing source
+BlamesOfParsing (Parser source) = BlamesOfParser source
+BlamesOfParsing _ = BlamesNone
 
 abbrev pub SaysOfBuilder : GenericBuilderError → ProgramError → Type 0
 SaysOfBuilder (DuplicateTopLevelPayloadClaim name) error = Says (λ line. line ≡ one_line (repeated_text (string_bytes name))) error

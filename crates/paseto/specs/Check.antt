@@ -5,13 +5,14 @@ use Rattle.serde_json.specs.Data.{Data}
 use Rattle.serde_json.specs.View.{view}
 use Rattle.serde_json.specs.declared.value.Value.{Value}
 use Rattle.rusty_paseto_core.specs.Context.{Binding, assertion_of}
-use Rattle.rusty_paseto_core.specs.Reading.{Reading}
+use Rattle.rusty_paseto_core.specs.Reading.{HasFooter, Reading}
 use Rattle.rusty_paseto_generic.specs.Parsers.Held.{default_date}
 use Rattle.rusty_paseto_generic.specs.Parsers.Parsing.{IsParsed}
 use Rattle.rusty_paseto_generic.specs.Parsers.Rules.{Rules, edited, no_rule, with_both}
 use Rattle.rusty_paseto_generic.specs.Parsers.Times.{expiry, not_before, times_at}
 use Rattle.rusty_paseto_generic.specs.Parsers.Verdicts.{PassesAll}
 use Rattle.rusty_paseto_generic.specs.Validator.{Verdict}
+use Rattle.rusty_paseto_parts.specs.Section.{HasCount, sections}
 use Rattle.rusty_paseto_parts.specs.declared.texts.implicit_assertion.ImplicitAssertion.{ImplicitAssertion}
 use Rattle.rusty_paseto_paserk.specs.declared.header.PaserkVersion.{PaserkVersion}
 use Rattle.rusty_paseto_paserk.specs.declared.header.PaserkType.{PaserkType}
@@ -83,6 +84,10 @@ pub record IsDemanded (demands : Demanded) (value : Data) : Type 0 where
 -- and the assertion
 abbrev pub bound_to : List ℕ → Option (List ℕ) → List ℕ → Option ImplicitAssertion → Binding
 bound_to key footer own assertion = record { key = key; footer = unwrap_or footer own; assertion = assertion_of assertion }
+
+-- the token's footer is another one than this, or than the empty one where this is none
+abbrev pub IsOtherFooter : Option (List ℕ) → List ℕ → Type 0
+IsOtherFooter footer token = HasCount (sections token) × ¬ HasFooter (unwrap_or footer []) (sections token)
 
 -- the answer is the one value that is so, or there is none, or the error came from outside
 pub record IsTheValue (Is : Data → Type 0) (result : Result Value ProgramError) : Type 0 where

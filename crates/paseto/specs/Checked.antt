@@ -12,7 +12,7 @@ use Rattle.rusty_paseto_claims.specs.declared.error.PasetoClaimError.{PasetoClai
 use Rattle.rusty_paseto_generic.specs.Parsers.Parsing.{IsCheckFault}
 use Rattle.rusty_paseto_generic.specs.declared.error.GenericParserError.TheVariants.{ClaimError}
 use Rattle.paseto.specs.Answers.{claim_line}
-use Rattle.paseto.specs.Check.{AreDemands, Demanded, IsDemanded, ParsesByKey, demanded_rules}
+use Rattle.paseto.specs.Check.{AreDemands, Demanded, IsDemanded, IsOtherFooter, ParsesByKey, demanded_rules}
 use Rattle.paseto.specs.Ring.{IsRingLine, ParsesByRing}
 
 -- the value is that of the token under the key of the line, or the one of the lines that its footer names
@@ -39,6 +39,11 @@ pub record ChecksFor (claims : List (List ℕ)) (options : Options) (now : Times
 -- no line is printed for the token: it is none of the keys', or another one than the words demand
 abbrev pub ChecksNothing : List (List ℕ) → Options → Timestamp → Keys → List ℕ → Type 0
 ChecksNothing claims options now keys token = (line : List ℕ) → ¬ ChecksFor claims options now keys token line
+
+-- the token's footer is another one than words say, for the key of a line; the keys of a ring are found by the token's own
+abbrev pub IsOtherFooterFor : Keys → Option (List ℕ) → List ℕ → Type 0
+IsOtherFooterFor (One key) footer token = IsOtherFooter footer token
+IsOtherFooterFor (Ring lines) footer token = ⊥
 
 -- ---- what is said of a token that is refused, beside what stands in the table of errors
 

@@ -11,8 +11,11 @@ abbrev pub footer_for : Option (List ℕ) → Option (List ℕ) → Option (List
 footer_for (Some id) footer = Some (kid_footer id)
 footer_for None footer = footer
 
+abbrev pub footer_said : Options → Option (List ℕ)
+footer_said options = footer_for (option_map (λ id. id.now) options.kid) (option_map footer_text options.footer)
+
 abbrev pub IsFooter : Options → Option (List ℕ) → Type 0
-IsFooter options footer = footer ≡ footer_for (option_map (λ id. id.now) options.kid) (option_map footer_text options.footer)
+IsFooter options footer = footer ≡ footer_said options
 
 -- the footer has this text
 abbrev pub IsFooterOf : Option (String Global) → Option Footer → Type 0

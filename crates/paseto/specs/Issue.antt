@@ -14,7 +14,7 @@ use Rattle.rusty_paseto_core.specs.Public.Signing.{IsSigning}
 use Rattle.paseto_ed25519.specs.Ed25519.{Ed25519Verifies, IsDeclined, partner}
 use Rattle.paseto_p384.specs.P384.{P384Verifies, IsDeclined as IsDeclinedByP384, p384_public}
 use Rattle.paseto_rsa.specs.Keys.{rsa_public}
-use Rattle.paseto_rsa.specs.RsaPss.{RsaPssVerifies, IsDeclined as IsDeclinedByRsa}
+use Rattle.paseto_rsa.specs.RsaPss.{RsaPssVerifies}
 use Rattle.paseto_xchacha20poly1305.specs.Sealing.{box_sealing}
 use Rattle.rusty_paseto_generic.specs.Builders.Claims.{payload}
 use Rattle.rusty_paseto_generic.specs.Builders.GenericBuilder.{IsBoxAnswer, IsSealed}
@@ -33,7 +33,7 @@ use Rattle.paseto_tasks.specs.Arguments.{Takes, assertion_where}
 use Rattle.paseto_tasks.specs.KeyLine.{IsKeyIn}
 use Rattle.paseto_tasks.specs.Local.{IsLocalKey}
 use Rattle.paseto_tasks.specs.Output.{IsLineOf}
-use Rattle.paseto_tasks.specs.Public.{DeclinesKey}
+use Rattle.paseto_tasks.specs.Public.{DeclinesKey, IsUnsigned}
 use Rattle.paseto.specs.Times.{IsTimeSet, SaysTime, time_counted}
 
 -- what is ordered: a moment, claims, when the token expires and when it may first be used, and its footer and its assertion
@@ -164,7 +164,7 @@ pub record DeclinesOrder (declined : Declining) (half : List ℕ → List ℕ) (
 
 -- the line is that of a private key of a version whose scheme declines what is ordered for it
 abbrev pub DeclinesIn : PaserkVersion → List ℕ → Ordered → Type 0
-DeclinesIn V1 = λ key order. DeclinesKey V1 (DeclinesOrder IsDeclinedByRsa rsa_public v1_public order) key
+DeclinesIn V1 = λ key order. DeclinesKey V1 (DeclinesOrder IsUnsigned rsa_public v1_public order) key
 DeclinesIn V2 = λ key order. DeclinesKey V2 (DeclinesOrder IsDeclined partner v2_public order) key
 DeclinesIn V3 = λ key order. DeclinesKey V3 (DeclinesOrder IsDeclinedByP384 p384_public v3_public order) key
 DeclinesIn V4 = λ key order. DeclinesKey V4 (DeclinesOrder IsDeclined partner v4_public order) key

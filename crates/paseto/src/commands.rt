@@ -1,4 +1,4 @@
-//! The commands that go by claims, `issue` and `check`, over any generator, input and outputs.
+//! The commands on claims, `issue` and `check`, over any generator, input and outputs.
 
 pub mod answers;
 pub mod asserts;

@@ -1,10 +1,10 @@
-//! Why a command is not done.
+//! Why a command failed.
 
 ghost use Rattle.std.specs.Prelude.{◌≡◌};
 
 use paseto_tasks::{Names, ProgramError};
 
-/// Why a command is not done, and the file or the word that this is about.
+/// Why a command failed, and the file or the argument that this is about.
 #[derive(Drop)]
 pub struct Fault<'a> {
     about: &'a str,
@@ -12,7 +12,7 @@ pub struct Fault<'a> {
 }
 
 impl<'a> Fault<'a> {
-    /// An error about a file or a word.
+    /// An error about a file or an argument.
     pub fn about(about: &'a str, error: ProgramError) -> Fault<'a>
         ensures name { result.about.now ≡ about.now }
         ensures error { result.error ≡ error }
@@ -20,7 +20,7 @@ impl<'a> Fault<'a> {
         Fault { about, error }
     }
 
-    /// Says it on standard error, and returns the status.
+    /// Reports the error on standard error, and returns the status.
     pub fn report(&self, rt: &HostRuntime) -> u8 {
         let names = Names {
             key: self.about,

@@ -1,4 +1,4 @@
-//! The files and streams that words name.
+//! The files and streams that the arguments name.
 
 use crate::fault::Fault;
 use crate::folder;
@@ -6,15 +6,15 @@ use paseto_tasks::{ProgramError, write_whole};
 use std::fs::File;
 use std::os::unix::fs::OpenOptionsExt;
 
-/// What standard input is called in lines on standard error.
+/// The name of standard input in lines on standard error.
 const STANDARD_INPUT: &str = "standard input";
 
-/// Whether words mean standard input: by a hyphen, or by naming nothing.
+/// Whether an input is standard input: a hyphen, or no name.
 pub fn is_standard(input: Option<&str>) -> bool {
     input.is_none() || input == Some("-")
 }
 
-/// What an input is called in lines on standard error.
+/// The name of an input in lines on standard error.
 pub fn name_of(input: Option<&str>) -> &str {
     match input {
         None | Some("-") => STANDARD_INPUT,
@@ -22,7 +22,7 @@ pub fn name_of(input: Option<&str>) -> &str {
     }
 }
 
-/// The file that is named.
+/// Opens the named file.
 pub fn opened<'a>(rt: &HostRuntime, path: &'a str) -> Result<File, Fault<'a>> {
     match folder::opened(File::open(rt, path)) {
         Ok(file) => Ok(file),
@@ -30,7 +30,7 @@ pub fn opened<'a>(rt: &HostRuntime, path: &'a str) -> Result<File, Fault<'a>> {
     }
 }
 
-/// Writes bytes to a file that was not there before, for those alone that the mode says.
+/// Writes bytes to a new file, with the permissions of the mode.
 pub fn write_new<'a>(
     rt: &HostRuntime,
     path: &'a str,
@@ -52,7 +52,7 @@ fn new_file(rt: &HostRuntime, path: &str, mode: u32) -> Result<File, ProgramErro
     folder::opened(file)
 }
 
-/// Writes what was made to a new file, for those alone that the mode says, or to standard output.
+/// Writes the result to a new file, with the permissions of the mode, or to standard output.
 pub fn put<'a>(
     rt: &HostRuntime,
     out: Option<&'a str>,

@@ -13,7 +13,8 @@ use std::os::fd::AsRawFd;
 /// The number of standard error, the last of the standard streams.
 const LAST_STREAM: i32 = 2;
 
-/// The lines of the key files of a folder, opened where they are locked, but for files whose names begin with a dot.
+/// The lines of the key files of a folder, opened if they are locked. Files whose names begin with
+/// a dot are left out.
 pub fn key_lines(
     rt: &HostRuntime,
     folder: &str,
@@ -31,7 +32,8 @@ pub fn key_lines(
     Ok(lines)
 }
 
-/// The line of the key of a file of the folder. A key pair of version 1 has no id, by which a ring would find it.
+/// The line of the key in a file of the folder. A key pair of version 1 has no id by which a key
+/// ring could find it.
 fn line_of(alloc: Global, held: &Held<'_>, name: &str, text: &str) -> Result<String, ProgramError> {
     let line = match held.unlock(alloc, text) {
         Ok(line) => line,
@@ -54,7 +56,7 @@ fn line_of(alloc: Global, held: &Held<'_>, name: &str, text: &str) -> Result<Str
     }
 }
 
-/// A file of the folder is not opened.
+/// The error for a file of the folder that is not opened.
 fn not_opened(alloc: Global, name: &str, error: KeyFileError) -> ProgramError {
     match error {
         KeyFileError::Memory(source) => ProgramError::Memory(source),
@@ -65,8 +67,8 @@ fn not_opened(alloc: Global, name: &str, error: KeyFileError) -> ProgramError {
     }
 }
 
-/// A file, or why there is none. One that was given the number of a closed standard stream is refused, since it would
-/// be read or written as that stream.
+/// The opened file, or the error. A file that was given the number of a closed standard stream is
+/// refused, since it would be read or written as that stream.
 pub fn opened(file: io::Result<File>) -> Result<File, ProgramError> {
     match file {
         Ok(file) if file.as_raw_fd() <= LAST_STREAM => Err(ProgramError::InputOrOutput),

@@ -5,7 +5,7 @@ use paseto_key_files::pem_of;
 use paseto_tasks::{Format, ProgramError, with_line_feed};
 use std::alloc::Global;
 
-/// The format that a word names: PASERK where there is none.
+/// The format that an argument names, or PASERK if there is none.
 pub fn format_of(word: Option<&str>) -> Result<Format, ProgramError> {
     match word {
         None => Ok(Format::Paserk),
@@ -16,8 +16,8 @@ pub fn format_of(word: Option<&str>) -> Result<Format, ProgramError> {
     }
 }
 
-/// The text of a key line in a format, with a line feed at its end. A line in PEM, as the key pairs of version 1 have
-/// it, is written as it stands.
+/// The text of a key line in a format, with a line feed at its end. A line in PEM, as for key pairs
+/// of version 1, is written unchanged.
 pub fn formed<'a>(
     rt: &HostRuntime,
     name: &'a str,
@@ -38,7 +38,7 @@ fn ended(alloc: Global, text: &str) -> Result<String, ProgramError> {
     with_line_feed(String::from_str(alloc, text)?)
 }
 
-/// A text without the line feed at its end, where it has one.
+/// A text without the line feed at its end, if there is one.
 pub fn without_line_feed(text: &str) -> &str {
     text.strip_suffix('\n').unwrap_or(text)
 }

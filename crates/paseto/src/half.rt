@@ -10,7 +10,8 @@ use paseto_words::Written;
 use std::io::Write;
 use std::str;
 
-/// Writes the public half of a private key, to standard output or to a new file, which everyone may read.
+/// Writes the public half of a private key to standard output, or to a new file that everyone may
+/// read.
 pub fn tell<'a>(rt: &HostRuntime, words: &Written<'a>) -> Result<u8, Fault<'a>> {
     let format = format_of(words.format)?;
     let line = key_line(rt, &words.key)?;

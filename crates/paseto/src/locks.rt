@@ -16,7 +16,7 @@ const NO_OPENERS: Openers<'static> = Openers {
     key: None,
 };
 
-/// Prints a key under a password or a wrapping key.
+/// Prints a key wrapped under a password or a wrapping key.
 pub fn wrapped<'a>(rt: &HostRuntime, words: &Wrap<'a>) -> Result<u8, Fault<'a>> {
     let name = key_name(words.key);
     let text = key_text(rt, words.key)?;
@@ -29,7 +29,7 @@ pub fn wrapped<'a>(rt: &HostRuntime, words: &Wrap<'a>) -> Result<u8, Fault<'a>> 
     written(rt, words.out, made)
 }
 
-/// A key under the wrapping key of a file.
+/// A key wrapped under the wrapping key of a file.
 fn under_key<'a>(
     rt: &HostRuntime,
     name: &'a str,
@@ -45,7 +45,7 @@ fn under_key<'a>(
     by_other(made, name, path)
 }
 
-/// A key under the password of a file, or of the environment.
+/// A key wrapped under the password of a file, or of the environment.
 fn under_password<'a>(
     rt: &HostRuntime,
     name: &'a str,
@@ -60,7 +60,7 @@ fn under_password<'a>(
     by_other(made, name, name)
 }
 
-/// Prints the key of a key file, opened where it is locked.
+/// Prints the key of a key file, decrypted if it is protected, wrapped or sealed.
 pub fn unwrapped<'a>(rt: &HostRuntime, words: &Written<'a>) -> Result<u8, Fault<'a>> {
     let format = format_of(words.format)?;
     let line = key_line(rt, &words.key)?;
@@ -98,7 +98,8 @@ pub fn unsealed<'a>(rt: &HostRuntime, words: &Written<'a>) -> Result<u8, Fault<'
     Ok(0)
 }
 
-/// What was made of a key and another one, whose file is named where the other one was refused.
+/// The result of an operation with a key and a second one. If the second key was refused, the error
+/// names its file.
 fn by_other<'a>(
     made: Result<String, KeyFileError>,
     name: &'a str,

@@ -1,4 +1,5 @@
-//! Makes keys in files, and PASETO tokens by them: issues and checks claims, encrypts, decrypts, signs and verifies.
+//! The program `paseto` generates keys, issues and checks tokens of claims, and encrypts, decrypts,
+//! signs and verifies texts.
 #![tactic(auto)]
 
 mod commands;
@@ -32,7 +33,7 @@ fn main(rt: HostRuntime) -> ExitCode {
     ExitCode::from(status)
 }
 
-/// The words, the first of which is the program's name.
+/// The arguments, the first of which is the program's name.
 fn words(rt: &HostRuntime) -> Result<Vec<String>, ProgramError> {
     match env::args(rt) {
         Ok(words) => Ok(words.collect(rt.alloc())?),
@@ -40,7 +41,8 @@ fn words(rt: &HostRuntime) -> Result<Vec<String>, ProgramError> {
     }
 }
 
-/// Does what the words ask for, and returns the status. No line repeats a key that stands among them by mistake.
+/// Performs the requested action, and returns the status. No line repeats a key that is passed as
+/// an argument by mistake.
 fn serve(rt: &HostRuntime, words: &[String]) -> u8 {
     if words.iter().any(|word| is_secret(word.as_str())) {
         return Fault::from(ProgramError::KeyWord).report(rt);
@@ -54,7 +56,7 @@ fn serve(rt: &HostRuntime, words: &[String]) -> u8 {
     }
 }
 
-/// Whether a word is a key that is to be kept secret, or gives one to an option: `--key=k4.local..`.
+/// Whether an argument is a secret key, or passes one to an option: `--key=k4.local..`.
 fn is_secret(word: &str) -> bool {
     match word.split_once('=') {
         Some((_, value)) => is_secret_key(word) || is_secret_key(value),
@@ -62,7 +64,7 @@ fn is_secret(word: &str) -> bool {
     }
 }
 
-/// Whether a text begins as a key that is to be kept secret.
+/// Whether a text begins like a secret key.
 fn is_secret_key(text: &str) -> bool {
     matches!(
         header_of(text),
@@ -70,7 +72,7 @@ fn is_secret_key(text: &str) -> bool {
     )
 }
 
-/// Shows help, the version, or why the words are refused, and returns the status.
+/// Prints help, the version, or why the arguments are refused, and returns the status.
 fn shown(rt: &HostRuntime, error: &Error) -> u8 {
     match error.print(rt) {
         Ok(()) => status(error),
@@ -78,7 +80,7 @@ fn shown(rt: &HostRuntime, error: &Error) -> u8 {
     }
 }
 
-/// Does an action, and returns the status.
+/// Performs an action, and returns the status.
 fn done<'a>(rt: &HostRuntime, action: &Action<'a>) -> Result<u8, Fault<'a>> {
     match action {
         Action::Keygen(words) => new_key::make(rt, words),
@@ -115,7 +117,7 @@ fn tell_id<'a>(rt: &HostRuntime, key: &KeyFile<'a>) -> Result<u8, Fault<'a>> {
     ))
 }
 
-/// Prints what a token says of itself.
+/// Prints what a token says about itself.
 fn inspect<'a>(rt: &HostRuntime, input: Option<&'a str>) -> Result<u8, Fault<'a>> {
     let names = Names {
         key: name_of(input),

@@ -11,8 +11,9 @@ use paseto_words::Keygen;
 use paseto_wrapping::PasswordCost;
 use rand::rngs::SysRng;
 
-/// Writes a new key, under a password where one is named, to standard output or to a new file, and its public half to
-/// another new file. No file is written over, and nothing is printed where one cannot be made.
+/// Writes a new key, under a password if one is named, to standard output or to a new file, and its
+/// public half to another new file. No file is overwritten, and nothing is printed if a file cannot
+/// be created.
 pub fn make<'a>(rt: &HostRuntime, words: &Keygen<'a>) -> Result<u8, Fault<'a>> {
     let kind = kind_of(words)?;
     let format = format_of(words.format)?;
@@ -33,7 +34,8 @@ pub fn make<'a>(rt: &HostRuntime, words: &Keygen<'a>) -> Result<u8, Fault<'a>> {
     Ok(0)
 }
 
-/// The kind that the words name, of keys that have a public half where its file is named.
+/// The kind that the arguments name. If a file for the public half is named, keys of that kind must
+/// have one.
 fn kind_of<'a>(words: &Keygen<'a>) -> Result<Kind, Fault<'a>> {
     match Kind::parse(words.kind) {
         Some(kind) if words.public.is_none() || kind.is_pair() => Ok(kind),
@@ -42,7 +44,7 @@ fn kind_of<'a>(words: &Keygen<'a>) -> Result<Kind, Fault<'a>> {
     }
 }
 
-/// A key under a password, which is PASERK.
+/// A key under a password, in PASERK.
 fn locked(
     rt: &HostRuntime,
     line: &str,
@@ -57,7 +59,7 @@ fn locked(
     with_line_feed(text)
 }
 
-/// Says on standard error in which files what was made stands.
+/// Reports on standard error the files of what was made.
 fn tell(
     rt: &HostRuntime,
     words: &Keygen<'_>,

@@ -10,7 +10,8 @@ use rand::rngs::SysRng;
 use rusty_paseto_core::{Footer, ImplicitAssertion};
 use std::io::{Read, Write};
 
-/// Does a task with the key that the words name: in a file, on standard input or in the environment.
+/// Does a task with the key that the arguments name: in a file, on standard input or in the
+/// environment.
 pub fn keyed<'a>(rt: &HostRuntime, task: Task, words: &Keyed<'a>) -> Result<u8, Fault<'a>> {
     if words.key.file == Some("-") && is_standard(words.input) {
         return Err(Fault::from(ProgramError::OneInput));
@@ -23,7 +24,8 @@ pub fn keyed<'a>(rt: &HostRuntime, task: Task, words: &Keyed<'a>) -> Result<u8, 
     }
 }
 
-/// Hands a task its output: a new file, which is made once the task is done, or standard output.
+/// Passes a task its output: a new file, which is created after the task is done, or standard
+/// output.
 fn with_input<'a, K: Read, R: Read>(
     rt: &HostRuntime,
     task: Task,

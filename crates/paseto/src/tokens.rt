@@ -1,5 +1,9 @@
 //! The commands `issue` and `check`.
 
+ghost use Rattle.std.specs.Prelude.{◌≡◌, ◌*ℤ◌, IfErr, IfOk, IsErr, Ok, pos};
+ghost use Rattle.jiff.specs.Words.{IsTimestampNanos};
+ghost use Rattle.paseto.specs.Answers.{second_of};
+
 use crate::commands::check::Keys;
 use crate::commands::run::{run_check, run_issue};
 use crate::fault::Fault;
@@ -13,7 +17,7 @@ use rand::rngs::SysRng;
 use rusty_paseto_core::{Footer, ImplicitAssertion};
 use std::io::{Read, Write};
 
-/// Issues a token at the present second.
+/// Issues a token at the current second.
 pub fn issue<'a>(rt: &HostRuntime, words: &Issue<'a>) -> Result<u8, Fault<'a>> {
     let line = key_line(rt, &words.key)?;
     let now = second_of(clock(rt)?)?;
@@ -55,7 +59,7 @@ fn issued<W: Write>(
     )
 }
 
-/// What words say of a token.
+/// The options for a token from the arguments.
 fn options_of<'a>(
     foot: Foot<'a>,
     assertion: Option<&'a str>,
@@ -78,23 +82,36 @@ fn options_of<'a>(
     }
 }
 
-/// The second in which a moment lies.
-fn second_of(moment: Timestamp) -> Result<Timestamp, ProgramError> {
+/// The second that contains a moment.
+fn second_of(moment: Timestamp) -> Result<Timestamp, ProgramError>
+    ensures second { IfOk result (λ second. second.nanosecond
+        ≡ second_of moment.nanosecond *ℤ pos 1_000_000_000) }
+    ensures none { IfErr result (λ error. (error ≡ ProgramError.Clock)
+        × ¬ IsTimestampNanos (second_of moment.nanosecond *ℤ pos 1_000_000_000)) }
+{
     match Timestamp::from_second(moment.as_second()) {
         Ok(second) => Ok(second),
         Err(_) => Err(ProgramError::Clock),
     }
 }
 
-/// The present moment.
+/// The current moment.
 fn clock(rt: &HostRuntime) -> Result<Timestamp, ProgramError> {
-    match Timestamp::now(rt) {
+    told(Timestamp::now(rt))
+}
+
+/// Converts the result of reading the clock.
+fn told(read: Result<Timestamp, jiff::Error>) -> Result<Timestamp, ProgramError>
+    ensures now { IfOk result (λ now. read ≡ Ok now) }
+    ensures none { IfErr result (λ error. (error ≡ ProgramError.Clock) × IsErr read) }
+{
+    match read {
         Ok(now) => Ok(now),
         Err(_) => Err(ProgramError::Clock),
     }
 }
 
-/// Checks a token at the present moment.
+/// Checks a token at the current moment.
 pub fn check<'a>(rt: &HostRuntime, words: &Check<'a>) -> Result<u8, Fault<'a>> {
     match words.keys {
         KeyWords::Ring(folder) => {
@@ -110,7 +127,7 @@ pub fn check<'a>(rt: &HostRuntime, words: &Check<'a>) -> Result<u8, Fault<'a>> {
     }
 }
 
-/// Checks a token under the key that is named.
+/// Checks a token with the named key.
 fn with_key<'a>(
     rt: &HostRuntime,
     words: &Check<'a>,
@@ -121,7 +138,7 @@ fn with_key<'a>(
     with_keys(rt, words, key_name(file), &Keys::One(line.as_str()))
 }
 
-/// Hands `check` its input: the file that is named, or standard input.
+/// Passes `check` its input: the named file, or standard input.
 fn with_keys<'a>(
     rt: &HostRuntime,
     words: &Check<'a>,

@@ -1,22 +1,22 @@
-//! What Argon2id costs, and what is allowed (RFC 9106, section 3.1).
+//! The cost of Argon2id, and which costs are allowed (RFC 9106, section 3.1).
 
 ghost use Rattle.std.specs.Prelude.{◌≡◌, length};
 ghost use Rattle.paseto_argon2.specs.Allowed.{fault};
 
 use crate::error::Argon2Error;
 
-/// What Argon2id costs, who makes a key and who guesses passwords alike.
+/// The cost of Argon2id, for the caller as well as for an attacker who guesses passwords.
 ///
-/// RFC 9106, section 4, recommends 2 GiB with one pass and 4 lanes, and where there is less memory 64 MiB with three
-/// passes and 4 lanes.
+/// RFC 9106, section 4, recommends 2 GiB with one pass and 4 lanes, or, with less memory, 64 MiB with three passes and
+/// 4 lanes.
 #[derive(Debug, Clone, Copy, PartialEq, Eq)]
 pub struct Parameters {
     /// The memory in KiB, at least 8 for each lane.
     pub memory: u32,
     /// How often all of the memory is filled, at least once.
     pub passes: u32,
-    /// How many threads could fill the memory at once, 1 to 16,777,215. Here one does, so that more lanes cost the
-    /// same.
+    /// How many threads could fill the memory in parallel, 1 to 16,777,215. This implementation uses one thread, so
+    /// more lanes cost the same.
     pub lanes: u32,
 }
 

@@ -20,8 +20,8 @@ const VERSION: u32 = 0x13;
 // The type of Argon2 that Argon2id is.
 const TYPE: u32 = 2;
 
-/// Fills `output` with the key that Argon2id makes of a password and a salt. See `argon2id_with`, whose secret and
-/// associated data are empty here.
+/// Fills `output` with the key that Argon2id derives from a password and a salt. The same as `argon2id_with` with an
+/// empty secret and empty associated data.
 pub fn argon2id(
     alloc: Global,
     password: &[u8],
@@ -39,17 +39,16 @@ pub fn argon2id(
     argon2id_with(alloc, password, salt, &[], &[], parameters, output)
 }
 
-/// Fills `output` with the key that Argon2id makes of a password, a salt, a secret that is kept apart from both, and
-/// associated data.
+/// Fills `output` with the key that Argon2id derives from a password, a salt, a secret that is stored separately from
+/// both, and associated data.
 ///
-/// The salt has at least 8 bytes, best 16 that were drawn for this password; the secret and the associated data may
-/// be empty. The output has at least 4 bytes. As much memory is taken as the parameters say, and given back without
-/// being wiped. One thread fills it. Which places of it are read depends on the password from the second half of the
-/// first pass on.
+/// The salt has at least 8 bytes, best 16 random ones for each password; the secret and the associated data may be
+/// empty. The output has at least 4 bytes. It allocates as much memory as the parameters say, and frees it without
+/// wiping it. One thread fills it. From the second half of the first pass on, the positions that are read depend on the
+/// password.
 ///
-/// What is not allowed is refused by name (`Argon2Error`), and where there is less memory, `Memory` is told. The
-/// output is then as it was. Parameters that somebody else chose may ask for all memory and for hours: compare them
-/// with bounds of your own first.
+/// Arguments that are not allowed give an `Argon2Error`, and a failed allocation gives `Memory`. On an error the output
+/// is unchanged. Untrusted parameters may demand all memory, and take hours: compare them with your own bounds first.
 ///
 /// Source: RFC 9106, section 3.
 pub fn argon2id_with(

@@ -1,4 +1,4 @@
-//! Why no key was made of a password.
+//! Why no key was derived from a password.
 
 ghost use Rattle.paseto_argon2.specs.declared.error.Argon2Error.TheVariants.{Memory};
 ghost use Rattle.std.specs.Prelude.{◌≡◌};
@@ -6,17 +6,17 @@ ghost use Rattle.std.specs.Prelude.{◌≡◌};
 use std::alloc::AllocError;
 use thiserror::Error;
 
-/// Why Argon2id made no key. All but `Memory` say that the RFC, or this crate, does not allow what was given; of
-/// several, the first in this order is told.
+/// Why Argon2id derived no key. All variants except `Memory` mean that the RFC, or this crate, does not allow the
+/// arguments; of several errors, the first in this order is returned.
 #[derive(Debug, Drop, Error)]
 pub enum Argon2Error {
-    /// There is no lane.
+    /// The number of lanes is 0.
     #[error("Argon2id needs a lane")]
     NoLane,
     /// There are more than 16,777,215 lanes.
     #[error("Argon2id has at most 16,777,215 lanes")]
     TooManyLanes,
-    /// There is no pass.
+    /// The number of passes is 0.
     #[error("Argon2id needs a pass")]
     NoPass,
     /// There are fewer than 8 KiB of memory for each lane.
@@ -31,8 +31,8 @@ pub enum Argon2Error {
     /// The password, the salt, the secret, the associated data or the output has 4 GiB or more.
     #[error("an input or the output has 4 GiB or more")]
     TooLong,
-    /// Memory was refused.
-    #[error("no memory was found")]
+    /// An allocation failed.
+    #[error("out of memory")]
     Memory(AllocError),
 }
 

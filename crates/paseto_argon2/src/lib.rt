@@ -1,4 +1,5 @@
-//! Argon2id (RFC 9106): a key from a password, which costs an attacker who guesses passwords time and memory.
+//! Argon2id (RFC 9106): derives a key from a password, at a cost in time and memory for an attacker who guesses
+//! passwords.
 //!
 //! ```rust
 //! use paseto_argon2::{Argon2Error, Parameters, argon2id};

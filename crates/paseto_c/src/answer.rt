@@ -1,4 +1,4 @@
-//! How an answer is handed over to C.
+//! How results are returned to C.
 
 ghost use Rattle.std.specs.Prelude.{◌≡◌, ◌≤◌, ◌++◌, drop, length};
 ghost use Rattle.paseto_c.specs.Answer.{IsCut, IsGiven, IsHanded};
@@ -12,13 +12,13 @@ use crate::fault::{Fault, line_of};
 use crate::refusal::Refusal;
 use std::alloc::Global;
 
-/// The status of a text that stands in the room.
+/// The status of a text that is in the buffer.
 pub(crate) const OK: u8 = 0;
 
-/// The status of room that is too short for a text.
+/// The status of a buffer that is too short for a text.
 pub(crate) const ROOM: u8 = 1;
 
-/// Writes what was made into the room, and its length into `written`, and returns the status.
+/// Writes the result into the buffer, and its length into `written`, and returns the status.
 pub(crate) fn hand_over(made: Result<String, Refusal>, room: &mut [u8], written: &mut usize) -> u8
     ensures { IsHanded made room.old room.new written.new result }
 {
@@ -31,7 +31,7 @@ pub(crate) fn hand_over(made: Result<String, Refusal>, room: &mut [u8], written:
     }
 }
 
-/// Hands over a key, as `hand_over` does a text.
+/// Returns a key, as `hand_over` does a text.
 pub(crate) fn hand_over_key(
     made: Result<Vec<u8>, Refusal>,
     room: &mut [u8],
@@ -48,7 +48,7 @@ pub(crate) fn hand_over_key(
     }
 }
 
-/// Hands over what was made, as `hand_over` does, and tells a fault by a line in a room of its own.
+/// Returns the result, as `hand_over` does, and writes an error message into a buffer of its own.
 pub(crate) fn hand_over_telling(
     alloc: Global,
     made: Result<String, Fault>,
@@ -72,7 +72,7 @@ pub(crate) fn hand_over_telling(
     }
 }
 
-/// Writes the line of a fault into its room, and returns the status of the fault.
+/// Writes the message of an error into its buffer, and returns the status of the error.
 fn tell(alloc: Global, fault: &Fault, room: &mut [u8], told: &mut usize) -> u8
     ensures { IsTold fault.now result room.old room.new told.new }
 {
@@ -88,7 +88,7 @@ fn tell(alloc: Global, fault: &Fault, room: &mut [u8], told: &mut usize) -> u8
     }
 }
 
-/// Writes what the status of a refusal says into a room, and returns the status.
+/// Writes the text of a status into a buffer, and returns the status.
 fn tell_status(refusal: Refusal, room: &mut [u8], told: &mut usize) -> u8
     ensures status { result ≡ status_of refusal }
     ensures line { IsCut (status_text (status_of refusal)) room.old room.new told.new }
@@ -98,7 +98,7 @@ fn tell_status(refusal: Refusal, room: &mut [u8], told: &mut usize) -> u8
     status
 }
 
-/// Writes a line at the front of a room, or as much of it as there is room for.
+/// Writes a line at the beginning of a buffer, or as much of it as fits.
 fn cut(line: &[u8], room: &mut [u8], told: &mut usize)
     ensures { IsCut line.now room.old room.new told.new }
 {
@@ -111,7 +111,7 @@ fn cut(line: &[u8], room: &mut [u8], told: &mut usize)
     lay(line, room);
 }
 
-/// Writes a text into the room, where it has the length.
+/// Writes a text into the buffer, if it fits.
 pub(crate) fn give(text: &[u8], room: &mut [u8], written: &mut usize) -> u8
     ensures { IsGiven text.now room.old room.new written.new result }
 {
@@ -124,7 +124,7 @@ pub(crate) fn give(text: &[u8], room: &mut [u8], written: &mut usize) -> u8
     OK
 }
 
-/// Writes bytes at the front of the room.
+/// Writes bytes at the beginning of the buffer.
 pub(crate) fn lay(bytes: &[u8], room: &mut [u8])
     requires { length bytes.now ≤ length room.old }
     ensures { room.new ≡ bytes.now ++ drop (length bytes.now) room.old }

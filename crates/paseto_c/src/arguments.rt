@@ -1,4 +1,4 @@
-//! What C lends, as the library takes it.
+//! Converting C's arguments for the library.
 
 ghost use Rattle.std.specs.Prelude.{◌≡◌, [], ◌∷◌, IsUtf8, MatchResult, is_some, length};
 ghost use Rattle.rusty_paseto_core.specs.Context.{assertion_of, footer_of};
@@ -8,8 +8,8 @@ use crate::refusal::Refusal;
 use rusty_paseto_core::{Footer, ImplicitAssertion, Key};
 use std::str;
 
-/// What is to be text: a text or a token, a footer, and an implicit assertion. A footer or an implicit assertion of no
-/// bytes is none.
+/// The arguments that must be UTF-8: a text or a token, a footer, and an implicit assertion. An empty footer or
+/// implicit assertion means that there is none.
 #[derive(Clone, Copy)]
 pub(crate) struct Texts<'a> {
     pub(crate) text: &'a str,

@@ -1,4 +1,4 @@
-//! Which versions bind a token to an implicit assertion.
+//! Which versions have an implicit assertion.
 
 ghost use Rattle.std.specs.Prelude.{◌≡◌, Bool, None, false, true};
 ghost use Rattle.rusty_paseto_generic.specs.Builders.Held.{held};
@@ -6,12 +6,12 @@ ghost use Rattle.rusty_paseto_generic.specs.Builders.Held.{held};
 use rusty_paseto::{DefaultParser, PasetoBuilder};
 use rusty_paseto_core::{ImplicitAssertion, PurposeTrait, V1, V2, V3, V4, VersionTrait};
 
-/// A version, whose builders and parsers are given the implicit assertion, where the version has one.
+/// A version, whose builders and parsers get the implicit assertion, if the version has one.
 pub(crate) trait Attaches: VersionTrait {
     // Whether the version has an implicit assertion.
     ghost attaches: { Bool };
 
-    /// Sets the implicit assertion of a builder that has none, where there is one.
+    /// Sets the implicit assertion of a builder that has none, if there is one.
     fn attach<'a, P: PurposeTrait>(
         builder: &mut PasetoBuilder<'a, Self, P>,
         assertion: Option<ImplicitAssertion<'a>>,
@@ -23,7 +23,7 @@ pub(crate) trait Attaches: VersionTrait {
         ensures claims { held builder.new.builder.claims ≡ held builder.old.builder.claims }
         ensures keys { builder.new.keys ≡ builder.old.keys };
 
-    /// Sets the implicit assertion that a parser without one expects, where there is one.
+    /// Sets the implicit assertion that a parser without one expects, if there is one.
     fn expect<'a, P: PurposeTrait, B: Drop>(
         parser: &mut DefaultParser<'a, Self, P, B>,
         assertion: Option<ImplicitAssertion<'a>>,

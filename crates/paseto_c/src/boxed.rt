@@ -1,4 +1,4 @@
-//! Local tokens of version 2, sealed by XChaCha20-Poly1305.
+//! Local tokens of version 2, with XChaCha20-Poly1305.
 
 ghost use Rattle.std.specs.Prelude.{◌≡◌, ◌⊎◌, None, Some, IfOk, IfErr};
 ghost use Rattle.std.specs.String.{string_bytes};
@@ -16,7 +16,7 @@ use rusty_paseto_core::{
 };
 use std::alloc::Global;
 
-/// Seals a text in version 2 under a key of 32 bytes and a nonce of 32, of which the token's nonce is made.
+/// Encrypts a text in version 2 under a key of 32 bytes and a nonce of 32, from which the token's nonce is computed.
 ///
 /// Source: PASETO specification, "Version 2", "Encrypt".
 #[unsafe(no_mangle)]
@@ -36,7 +36,7 @@ pub extern "C" fn paseto_v2_local_encrypt(
     hand_over(sealed(alloc, key, nonce, text, footer), room, written)
 }
 
-/// Opens a token of version 2 under a key of 32 bytes.
+/// Decrypts a token of version 2 under a key of 32 bytes.
 ///
 /// Source: PASETO specification, "Version 2", "Decrypt".
 #[unsafe(no_mangle)]
@@ -98,7 +98,7 @@ fn seal(
     paseto.try_encrypt(alloc, &XChaCha20Poly1305, key, &PasetoNonce::from(nonce))
 }
 
-/// The text that a token opens to.
+/// The decrypted text of a token.
 fn opened(alloc: Global, key: &[u8], token: &[u8], footer: &[u8]) -> Result<String, Refusal>
     ensures made { IsMade (unboxing key.now token.now footer.now) result }
     ensures whole { IsMadeWhole (unboxing key.now token.now footer.now) result }

@@ -1,4 +1,4 @@
-//! Tokens that are built of claims.
+//! Building tokens from claims.
 
 ghost use Rattle.std.specs.Prelude.{◌≡◌, ◌⊎◌, ⊤, [], MatchResult, None, IfErr, IfOk, OnOk, false};
 ghost use Rattle.serde_json.specs.View.{members_view};
@@ -71,7 +71,7 @@ fn set_members<'a, V: VersionTrait, P: PurposeTrait>(
     Ok(())
 }
 
-/// Sets the footer, where there is one.
+/// Sets the footer, if there is one.
 fn attach_footer<'a, V: VersionTrait, P: PurposeTrait>(
     builder: &mut PasetoBuilder<'a, V, P>,
     footer: Option<Footer<'a>>,
@@ -111,8 +111,7 @@ fn begun<'a, V: Attaches, P: PurposeTrait>(
     Ok(builder)
 }
 
-/// The token of claims, whose version and purpose the maker decides. In a version without an implicit assertion none may
-/// be given.
+/// The token of claims, whose version and purpose the maker decides. It must be absent in a version that has none.
 pub(crate) fn built<V: Attaches, P: PurposeTrait, M: Makes<V, P>>(
     alloc: Global,
     maker: &mut M,

@@ -1,4 +1,4 @@
-//! Claims that C gives as the text of a JSON object.
+//! Claims that C passes as the text of a JSON object.
 
 ghost use Rattle.std.specs.Prelude.{◌≡◌, ◌⊎◌, MatchResult, Some, option_map};
 ghost use Rattle.serde_json.specs.Data.{object};
@@ -13,7 +13,7 @@ use rusty_paseto_claims::{PasetoClaim, PasetoClaimError};
 use serde_json::{Map, Value};
 use std::alloc::Global;
 
-/// A member of a JSON object as a claim, under whatever key it stands.
+/// A member of a JSON object as a claim, whatever its key is.
 #[derive(Drop)]
 pub(crate) struct MemberClaim<'a> {
     pub(crate) key: &'a str,

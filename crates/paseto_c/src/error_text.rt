@@ -1,4 +1,4 @@
-//! What a status says.
+//! The texts of the statuses.
 
 ghost use Rattle.std.specs.Prelude.{◌≡◌};
 ghost use Rattle.paseto_c.specs.Answer.{IsGiven};
@@ -6,8 +6,8 @@ ghost use Rattle.paseto_c.specs.ErrorText.{argument_text, claim_text, later_text
 
 use crate::answer::give;
 
-/// What a status says: one line, without its end. The texts are the library's own, without the names of claims and
-/// times that it puts in.
+/// The text of a status: one line, without a line end. The texts are the library's own, without the names of claims and
+/// the times in them.
 #[unsafe(no_mangle)]
 pub extern "C" fn paseto_error_text(status: u8, room: &mut [u8], written: &mut usize) -> u8
     ensures { IsGiven (status_text status) room.old room.new written.new result }

@@ -1,4 +1,4 @@
-//! Why a token is not parsed, and the line that tells it.
+//! Why a token is not parsed, and the error message for it.
 
 ghost use Rattle.std.specs.Prelude.{◌≡◌, MatchResult, Ok, Err, IfOk, string_bytes};
 ghost use Rattle.paseto_c.specs.Fault.{refusal_of};
@@ -10,10 +10,10 @@ use crate::refusal::Refusal;
 use rusty_paseto_generic::GenericParserError;
 use std::alloc::{AllocError, Global};
 
-/// Why a call that parses a token gives no text.
+/// Why a call that parses a token returns no text.
 #[derive(Drop)]
 pub enum Fault {
-    /// The arguments are refused, or memory was.
+    /// The arguments are refused, or an allocation failed.
     Refused(Refusal),
     /// The parser refuses the token.
     Unparsed(GenericParserError),

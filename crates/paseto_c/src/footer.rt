@@ -1,4 +1,4 @@
-//! The footer of a token, before the token is opened.
+//! The footer of a token, before the token is verified.
 
 ghost use Rattle.paseto_c.specs.Answer.{IsAnswered, IsComplete};
 ghost use Rattle.paseto_c.specs.Arguments.{IsMade, IsMadeWhole};
@@ -10,8 +10,8 @@ use crate::refusal::Refusal;
 use rusty_paseto_core::Footer;
 use std::alloc::Global;
 
-/// The text of a token's footer, which is not to be trusted before the token is opened or verified with it. A token
-/// without a footer has one of no bytes.
+/// The text of a token's footer. Do not trust it before the token has been decrypted or verified with it. It is empty
+/// if the token has no footer.
 #[unsafe(no_mangle)]
 pub extern "C" fn paseto_footer(
     alloc: Global,

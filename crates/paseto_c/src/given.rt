@@ -4,7 +4,7 @@ ghost use Rattle.std.specs.Prelude.{◌≡◌, length};
 
 use rand_core::{Infallible, TryRng};
 
-/// A generator that gives the caller's bytes to whoever asks for as many. It is asked once, for a nonce.
+/// A generator that returns the caller's bytes. It is called once, for a nonce.
 #[derive(Drop)]
 pub(crate) struct Given<'a> {
     pub(crate) bytes: &'a [u8],

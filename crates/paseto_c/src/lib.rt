@@ -1,9 +1,9 @@
-//! PASETO tokens for programs in C: a static library over `rusty_paseto`, the box of version 2, RSA,
-//! Ed25519 and P-384.
+//! PASETO tokens for programs in C: a static library on top of `rusty_paseto`, the box of version 2, RSA, Ed25519 and
+//! P-384.
 //!
-//! Each export calls the library once and says what it answers: a status, a text in the room that the caller lends, and
-//! its length. The header `c/paseto.h` declares them. C passes a slice as a pointer and a length, and passes nothing
-//! for the allocator. No export asks anything of its caller that C could not meet.
+//! Each export calls the library once and returns a status, a text in the caller's buffer, and its length. The header
+//! `c/paseto.h` declares them. C passes a slice as a pointer and a length, and passes nothing for the allocator. No
+//! export has a precondition.
 //!
 //! ```c
 //! uint8_t token[256];

@@ -1,4 +1,4 @@
-//! Local tokens of the versions 1, 3 and 4.
+//! Local tokens of versions 1, 3 and 4.
 #![tactic(auto, unfolding(rusty_paseto_core::specs::Local::V3::v3, rusty_paseto_core::specs::Local::V4::v4))]
 
 ghost use Rattle.std.specs.Prelude.{◌≡◌, [], false};
@@ -17,7 +17,7 @@ use rusty_paseto_core::{
 };
 use std::alloc::Global;
 
-/// Seals a text in version 1 under a key of 32 bytes and a nonce of 32, of which the token's nonce is made.
+/// Encrypts a text in version 1 under a key of 32 bytes and a nonce of 32, from which the token's nonce is computed.
 ///
 /// Source: PASETO specification, "Version 1", "Encrypt".
 #[unsafe(no_mangle)]
@@ -41,7 +41,7 @@ pub extern "C" fn paseto_v1_local_encrypt(
     )
 }
 
-/// Opens a token of version 1 under a key of 32 bytes.
+/// Decrypts a token of version 1 under a key of 32 bytes.
 ///
 /// Source: PASETO specification, "Version 1", "Decrypt".
 #[unsafe(no_mangle)]
@@ -60,7 +60,7 @@ pub extern "C" fn paseto_v1_local_decrypt(
     hand_over(opened::<V1>(alloc, key, token, footer, &[]), room, written)
 }
 
-/// Seals a text in version 3 under a key of 32 bytes and a nonce of 32, which stands in the token.
+/// Encrypts a text in version 3 under a key of 32 bytes and a nonce of 32, which is in the token.
 ///
 /// Source: PASETO specification, "Version 3", "Encrypt".
 #[unsafe(no_mangle)]
@@ -86,7 +86,7 @@ pub extern "C" fn paseto_v3_local_encrypt(
     )
 }
 
-/// Opens a token of version 3 under a key of 32 bytes.
+/// Decrypts a token of version 3 under a key of 32 bytes.
 ///
 /// Source: PASETO specification, "Version 3", "Decrypt".
 #[unsafe(no_mangle)]
@@ -111,7 +111,7 @@ pub extern "C" fn paseto_v3_local_decrypt(
     )
 }
 
-/// Seals a text in version 4 under a key of 32 bytes and a nonce of 32, which stands in the token.
+/// Encrypts a text in version 4 under a key of 32 bytes and a nonce of 32, which is in the token.
 ///
 /// Source: PASETO specification, "Version 4", "Encrypt".
 #[unsafe(no_mangle)]
@@ -137,7 +137,7 @@ pub extern "C" fn paseto_v4_local_encrypt(
     )
 }
 
-/// Opens a token of version 4 under a key of 32 bytes.
+/// Decrypts a token of version 4 under a key of 32 bytes.
 ///
 /// Source: PASETO specification, "Version 4", "Decrypt".
 #[unsafe(no_mangle)]
@@ -162,7 +162,7 @@ pub extern "C" fn paseto_v4_local_decrypt(
     )
 }
 
-/// The token of a text. In version 1, which has no implicit assertion, none may be given.
+/// The token of a text. In version 1 the implicit assertion must be absent.
 fn sealed<V: LocalVersion>(
     alloc: Global,
     key: &[u8],
@@ -188,7 +188,7 @@ fn sealed<V: LocalVersion>(
     }
 }
 
-/// The text that a token opens to. In version 1, which has no implicit assertion, none may be given.
+/// The decrypted text of a token. In version 1 the implicit assertion must be absent.
 fn opened<V: LocalVersion>(
     alloc: Global,
     key: &[u8],

@@ -1,23 +1,23 @@
-//! What C demands of a token beside claims.
+//! The options of parsing.
 
 ghost use Rattle.std.specs.Prelude.{◌≡◌};
 ghost use Rattle.paseto_c.specs.Options.{demanded};
 ghost use Rattle.paseto_c.specs.Parse.{limit_of, nothing_more};
 
-/// What a token has to meet beside the claims that are expected of it, as `struct paseto_options` of `c/paseto.h`.
+/// Further checks of a token beside the expected claims: `struct paseto_options` of `c/paseto.h`.
 #[repr(C)]
 #[derive(Clone, Copy)]
 pub struct Options<'a> {
     /// By how many seconds the clocks of issuer and reader may differ.
     pub leeway: u32,
-    /// How many bytes a token may have, and 0 for any number.
+    /// How many bytes a token may have, or 0 for any number.
     pub longest: usize,
-    /// The names of the claims that have to be there, as a JSON array of texts, and no bytes for none.
+    /// The names of required claims, as a JSON array of strings, or empty for none.
     pub required: &'a [u8],
 }
 
 impl Options<'_> {
-    /// The limit of a token's bytes, where there is one.
+    /// The limit of a token's bytes, if there is one.
     pub(crate) fn limit(&self) -> Option<usize>
         ensures { result ≡ limit_of self.now.longest }
     {

@@ -1,4 +1,4 @@
-//! Claims of tokens.
+//! Parsing tokens.
 
 ghost use Rattle.std.specs.Prelude.{◌≡◌, ◌⊎◌, ⊤, [], MatchResult, None, Some, IfErr, IfOk, IsErrAnd, IsOkAnd, OnOk, false, true, string_bytes};
 ghost use Rattle.jiff.specs.Words.{IsTimestampNanos};
@@ -82,7 +82,7 @@ fn expect_members<'a, V: VersionTrait, P: PurposeTrait, B: Drop>(
     Ok(())
 }
 
-/// The names that a text is, as the items of a JSON array, or `NotNames`. No bytes are no names.
+/// The names in a text, the items of a JSON array, or `NotNames`. An empty text has no names.
 fn names_of(alloc: Global, text: &str) -> Result<Vec<Value>, Refusal>
     ensures { MatchResult result (λ names. read_names text.now ≡ Some (array (items_view names.items)))
         (λ refusal. (refusal ≡ Refusal.Memory)
@@ -129,7 +129,7 @@ fn require_names<'a, V: VersionTrait, P: PurposeTrait, B: Drop>(
     Ok(())
 }
 
-/// Sets what is demanded beside claims, and the footer, where there is one.
+/// Sets what is demanded beside claims, and the footer, if there is one.
 fn demand<'a, V: VersionTrait, P: PurposeTrait, B: Drop>(
     parser: &mut DefaultParser<'a, V, P, B>,
     options: &Options<'_>,
@@ -204,8 +204,8 @@ fn text_of(alloc: Global, parsed: Result<Value, GenericParserError>) -> Result<S
     }
 }
 
-/// The claims of a token, whose version and purpose the reader decides, by a parser that has nothing yet. In a version
-/// without an implicit assertion none may be given.
+/// The claims of a token, whose version and purpose the reader decides, by a parser that has nothing yet. It must be
+/// absent in a version that has none.
 pub(crate) fn parsed<'a, V: Attaches, P: PurposeTrait, R: Reads<V, P>>(
     alloc: Global,
     parser: &mut PasetoParser<'a, V, P>,

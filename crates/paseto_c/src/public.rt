@@ -1,4 +1,4 @@
-//! Public tokens of version 1, by RSA, of the versions 2 and 4, by Ed25519, and of version 3, by P-384.
+//! Public tokens of version 1 (RSA), versions 2 and 4 (Ed25519) and version 3 (P-384).
 
 ghost use Rattle.std.specs.Prelude.{◌≡◌, [], Some, false, length};
 ghost use Rattle.rusty_paseto_core.specs.Public.{v2_public, v4_public};
@@ -18,8 +18,8 @@ use rusty_paseto_core::{
 };
 use std::alloc::Global;
 
-/// Signs a text in version 1 under a private key, which is a PrivateKeyInfo in DER of a key of 2048 bits, with a salt of 48
-/// bytes.
+/// Signs a text in version 1 with a private key, which is a PrivateKeyInfo in DER of a key of 2048 bits, with a salt of
+/// 48 bytes.
 ///
 /// Source: PASETO specification, "Version 1", "Sign".
 #[unsafe(no_mangle)]
@@ -44,7 +44,7 @@ pub extern "C" fn paseto_v1_public_sign(
     )
 }
 
-/// Verifies a token of version 1 under a public key, which is an RSAPublicKey in DER of a key of 2048 bits.
+/// Verifies a token of version 1 with a public key, which is an RSAPublicKey in DER of a key of 2048 bits.
 ///
 /// Source: PASETO specification, "Version 1", "Verify".
 #[unsafe(no_mangle)]
@@ -63,7 +63,7 @@ pub extern "C" fn paseto_v1_public_verify(
     hand_over(rsa_verified(alloc, public, token, footer), room, written)
 }
 
-/// Signs a text in version 2 under a private key of 64 bytes.
+/// Signs a text in version 2 with a private key of 64 bytes.
 ///
 /// Source: PASETO specification, "Version 2", "Sign".
 #[unsafe(no_mangle)]
@@ -88,7 +88,7 @@ pub extern "C" fn paseto_v2_public_sign(
     )
 }
 
-/// Verifies a token of version 2 under a public key of 32 bytes.
+/// Verifies a token of version 2 with a public key of 32 bytes.
 ///
 /// Source: PASETO specification, "Version 2", "Verify".
 #[unsafe(no_mangle)]
@@ -112,7 +112,7 @@ pub extern "C" fn paseto_v2_public_verify(
     )
 }
 
-/// Signs a text in version 3 under a private key of 48 bytes.
+/// Signs a text in version 3 with a private key of 48 bytes.
 ///
 /// Source: PASETO specification, "Version 3", "Sign".
 #[unsafe(no_mangle)]
@@ -137,7 +137,7 @@ pub extern "C" fn paseto_v3_public_sign(
     )
 }
 
-/// Verifies a token of version 3 under a public key of 49 bytes.
+/// Verifies a token of version 3 with a public key of 49 bytes.
 ///
 /// Source: PASETO specification, "Version 3", "Verify".
 #[unsafe(no_mangle)]
@@ -162,7 +162,7 @@ pub extern "C" fn paseto_v3_public_verify(
     )
 }
 
-/// Signs a text in version 4 under a private key of 64 bytes.
+/// Signs a text in version 4 with a private key of 64 bytes.
 ///
 /// Source: PASETO specification, "Version 4", "Sign".
 #[unsafe(no_mangle)]
@@ -188,7 +188,7 @@ pub extern "C" fn paseto_v4_public_sign(
     )
 }
 
-/// Verifies a token of version 4 under a public key of 32 bytes.
+/// Verifies a token of version 4 with a public key of 32 bytes.
 ///
 /// Source: PASETO specification, "Version 4", "Verify".
 #[unsafe(no_mangle)]
@@ -267,7 +267,7 @@ fn rsa_verified(
     }
 }
 
-/// The token of a text, signed by Ed25519. In version 2, which has no implicit assertion, none may be given.
+/// The token of a text, signed by Ed25519. In version 2 the implicit assertion must be absent.
 fn ed25519_signed<V: V2orV4 + Signs<Ed25519>>(
     alloc: Global,
     private: &[u8],
@@ -299,7 +299,7 @@ fn ed25519_signed<V: V2orV4 + Signs<Ed25519>>(
     }
 }
 
-/// The text of a token that Ed25519 verifies. In version 2, which has no implicit assertion, none may be given.
+/// The text of a token that Ed25519 verifies. In version 2 the implicit assertion must be absent.
 fn ed25519_verified<V: V2orV4 + Verifies<Ed25519>>(
     alloc: Global,
     public: &[u8],

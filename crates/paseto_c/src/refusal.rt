@@ -1,4 +1,4 @@
-//! Why a call gives C no text.
+//! Why a call returns no text to C.
 
 ghost use Rattle.std.specs.Prelude.{◌≡◌};
 ghost use Rattle.paseto_c.specs.declared.refusal.Refusal.TheVariants.{Memory};
@@ -11,84 +11,84 @@ use rusty_paseto_generic::{GenericBuilderError, GenericParserError};
 use rusty_paseto_paserk::PaserkError;
 use std::alloc::AllocError;
 
-/// Why a call gives no text. Each has its status in `c/paseto.h`.
+/// Why a call returns no text. Each has its status in `c/paseto.h`.
 #[derive(Clone, Copy, Debug)]
 pub enum Refusal {
-    /// Memory was refused.
+    /// An allocation failed.
     Memory,
-    /// A key has not the length or the form of its kind.
+    /// A key has the wrong length or form.
     InvalidKey,
-    /// A nonce or a seed has not its length.
+    /// A nonce, a seed or a salt has the wrong length.
     InvalidNonce,
-    /// What is to be a text is not UTF-8.
+    /// An argument is not UTF-8.
     NotUtf8,
-    /// What is to be the text of a JSON object is none.
+    /// Claims are not the text of a JSON object.
     NotObject,
-    /// The moment is one that no token can begin at or be checked by.
+    /// The moment is out of range.
     InvalidMoment,
-    /// A token has not three or four sections, or its payload is too short.
+    /// A token does not have three or four sections, or its payload is too short.
     IncorrectSize,
-    /// A token ends in another footer than the one that was expected.
+    /// A token has another footer than the expected one.
     FooterInvalid,
-    /// A token begins with another header.
+    /// A token has another version or purpose.
     WrongHeader,
-    /// A section is the base64url encoding of no bytes.
+    /// A section is not valid base64url.
     PayloadBase64Decode,
-    /// The tag of a token is another one.
+    /// The tag of a token is wrong.
     Cryption,
-    /// A box of version 2 did not open, or has no sealing of a text.
+    /// A box of version 2 did not open, or cannot encrypt a text.
     ChaChaCipherError,
     /// A signature is not valid.
     InvalidSignature,
-    /// What a token was opened to, or its footer, is not UTF-8.
+    /// The decrypted text of a token, or its footer, is not UTF-8.
     Utf8Error,
-    /// What was signed is not UTF-8.
+    /// The signed text is not UTF-8.
     FromUtf8Error,
-    /// A private key is none of its scheme.
+    /// A private key is not valid.
     KeyRejected,
-    /// A private key makes no valid signature: its halves are of two keys.
+    /// The two halves of a private key do not belong together.
     Signature,
-    /// The payload of a token is no JSON.
+    /// The payload of a token is not JSON.
     PayloadJsonError,
-    /// A token is expired.
+    /// A token has expired.
     Expired,
-    /// A token is not to be used yet.
+    /// A token may not be used yet.
     UseBeforeAvailable,
     /// A date and time of a token is malformed.
     Rfc3339Date,
-    /// A claim that is expected is missing.
+    /// An expected claim is missing.
     Missing,
-    /// A claim is not of the kind that is expected.
+    /// A claim has another type than the expected one.
     Unexpected,
-    /// A claim is another text than the one that is expected.
+    /// A claim has another text than the expected one.
     Invalid,
     /// A claim was set more than once.
     DuplicateTopLevelPayloadClaim,
-    /// An error that no call of this library gives.
+    /// An error that no call of this library returns.
     Other,
-    /// A private key of version 1 makes no valid signature: its numbers are not of one key.
+    /// The numbers of a version 1 private key are inconsistent.
     RsaCipher,
-    /// A token has more bytes than it may have.
+    /// A token is longer than the limit.
     TooLong,
-    /// What is to be the text of a JSON array of texts is none.
+    /// The required names are not a JSON array of strings.
     NotNames,
-    /// A text begins as no key of PASERK does.
+    /// A text does not begin like a PASERK key.
     NoPaserk,
-    /// A text begins as a key of another version.
+    /// A text begins like a key of another version.
     OtherVersion,
-    /// A text begins as a key of another type.
+    /// A text begins like a key of another type.
     OtherType,
-    /// A text is no PEM in the strict form, or has a label that no key has.
+    /// A text is not PEM in the strict form, or has a label that no key has.
     NotPem,
     /// A key in PEM is encrypted.
     EncryptedKey,
-    /// A text in PEM has the label of another thing than such a key.
+    /// A PEM text has another label than that of such a key.
     OtherLabel,
-    /// A key in PEM is one of another algorithm.
+    /// A key in PEM is of another algorithm.
     OtherAlgorithm,
-    /// A key in PEM is one of another curve.
+    /// A key in PEM is of another curve.
     OtherCurve,
-    /// A key in PEM is one of the algorithm, and of another size.
+    /// A key in PEM is of the right algorithm, but of another size.
     OtherSize,
 }
 

@@ -1,4 +1,4 @@
-//! The scheme of version 1 over a salt that C drew.
+//! The scheme of version 1 with a salt that C drew.
 
 ghost use Rattle.std.specs.Prelude.{◌≡◌};
 ghost use Rattle.paseto_rsa.specs.Keys.{rsa_public};

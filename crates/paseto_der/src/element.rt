@@ -3,7 +3,7 @@
 ghost use Rattle.std.specs.Prelude.{◌≡◌, ℕ, ◌++◌, List, slice_index, MatchOption};
 ghost use Rattle.paseto_der.specs.Element.{der_length, element};
 
-/// The contents of an element, and what stands behind it.
+/// The contents of an element, and what follows it.
 #[derive(Drop)]
 pub struct Element<'a> {
     pub contents: &'a [u8],
@@ -82,10 +82,10 @@ fn read_length(octets: &[u8]) -> Option<Length<'_>>
     None
 }
 
-/// The element with this tag that stands at the front, whose contents have at most 65,535 octets.
+/// The element with this tag at the beginning of the octets, whose contents have at most 65,535 octets.
 ///
-/// `None` comes where the octets begin otherwise: with another tag, with a length that is not in the fewest octets, or
-/// with fewer octets of contents than the length tells. No memory is taken.
+/// `None` is returned if the octets begin otherwise: with another tag, with a length that is not in the fewest octets,
+/// or with fewer octets of contents than the length says. Does not allocate.
 ///
 /// Source: X.690, sections 8.1 and 10.1.
 pub fn read_element(tag: u8, octets: &[u8]) -> Option<Element<'_>>

@@ -1,5 +1,5 @@
-//! The distinguished encoding of ASN.1 (X.690), DER, for what keys are made of: elements whose lengths are in the fewest
-//! octets. What is no such encoding is not read.
+//! DER, the distinguished encoding of ASN.1 (X.690), as far as keys need it: elements whose lengths are in the fewest
+//! octets. No other encoding is read.
 //!
 //! ```rust
 //! use paseto_der::read_element;

@@ -26,7 +26,7 @@ use rusty_paseto_parts::{
 use rusty_paseto_primitives::same_bytes;
 use std::alloc::Global;
 
-/// Ed25519 (RFC 8032, section 5.1), the signature scheme of the versions 2 and 4.
+/// Ed25519 (RFC 8032, section 5.1), the signature scheme of versions 2 and 4.
 #[derive(Drop)]
 pub struct Ed25519;
 
@@ -79,15 +79,15 @@ fn is_valid(public: &[u8], message: &[u8], signature: &[u8; 64]) -> bool
 }
 
 impl Ed25519 {
-    /// The public key, of 32 bytes, of a seed (RFC 8032, section 5.1.5). No memory is taken.
+    /// The public key, of 32 bytes, of a seed (RFC 8032, section 5.1.5). Does not allocate.
     pub fn public_key(seed: &[u8; 32]) -> [u8; 32]
         ensures { result ≡ ed25519_public seed.now }
     {
         encoded_multiple(&expanded(seed).scalar)
     }
 
-    /// A new private key, which is a seed that the generator gives and its public key, and that public key. No
-    /// memory is taken. `Cipher` comes exactly where the generator fails.
+    /// A new private key, which is a seed from the generator followed by its public key, and that public key. Does not
+    /// allocate. `Cipher` is returned if and only if the generator fails.
     pub fn key_pair<R: TryRng>(rng: &mut R) -> Result<(Key<64>, Key<32>), PasetoError>
         ensures ok { IfOk result (λ pair. R.may_fill rng.old (take 32 pair.0) rng.new
             × (pair.1 ≡ ed25519_public (take 32 pair.0)) × (drop 32 pair.0 ≡ pair.1)) }
@@ -102,9 +102,9 @@ impl Ed25519 {
         ))
     }
 
-    /// A new pair of keys of version 2 or 4, which owns its bytes: they are those that `key_pair` makes.
+    /// A new key pair of version 2 or 4, which owns its bytes: the keys that `key_pair` makes.
     ///
-    /// `Cipher` comes exactly where the generator fails, and else nothing but memory is refused.
+    /// `Cipher` is returned if and only if the generator fails, and otherwise it fails only if an allocation fails.
     ///
     /// ```rust
     /// use paseto_ed25519::Ed25519;
@@ -136,9 +136,9 @@ impl Ed25519 {
         ))
     }
 
-    /// The scheme for an issuer who signs many tokens under one private key: that its public half is its seed's is
-    /// asked here, once, and not for each token. `Signature` comes exactly where it is another seed's. No memory is
-    /// taken.
+    /// A scheme for an issuer that signs many tokens with one private key: it checks here, once, and not for each
+    /// token, that the public half belongs to the seed. `Signature` is returned if and only if it does not. Does not
+    /// allocate.
     pub fn with_key(private: &Key<64>) -> Result<Ed25519Signer, PasetoError>
         ensures ok { IfOk result (λ signer. (signer ≡ private.now) × IsOwn private.now) }
         ensures err { IfErr result (λ error. (error ≡ PasetoError.Signature) × ¬ IsOwn private.now) }
@@ -157,8 +157,8 @@ impl SignatureScheme<64> for Ed25519 {
     ghost declined = { IsDeclined };
 
     /// The signature of RFC 8032, section 5.1.6, which is valid for the private key's public half. `KeyRejected`
-    /// comes for a private key that has not 64 bytes, and `Signature` where its public half is another seed's, which
-    /// is asked at each call (`with_key` asks it once), or where the nonce is 0. No memory is taken.
+    /// is returned for a private key that does not have 64 bytes, and `Signature` if its public half does not belong to
+    /// its seed, which is checked at each call (`with_key` checks it once), or if the nonce is 0. Does not allocate.
     fn sign(
         &mut self,
         _alloc: Global,
@@ -182,7 +182,7 @@ impl SignatureScheme<64> for Ed25519 {
         sign(&secret, public, message)
     }
 
-    /// Is `Ok` exactly where the signature is valid, and else `InvalidSignature`. No memory is taken.
+    /// Returns `Ok` if and only if the signature is valid, and otherwise `InvalidSignature`. Does not allocate.
     fn verify(
         &self,
         _alloc: Global,

@@ -11,7 +11,7 @@ use paseto_edwards25519::laws::{
     decoding, encoding, multiples_of_base, number_of_bytes, signature_sum, small_multiples,
 };
 
-/// A signature under a private key whose public half is its seed's is valid for that half.
+/// A signature under a private key whose public half belongs to its seed is valid for that public key.
 pub fn signed_verifies()
     ensures { (private message : List ℕ) → IsSigned private message
         → Ed25519Verifies (partner private) message (ed25519_sign private message) }
@@ -24,7 +24,7 @@ pub fn signed_verifies()
     small_multiples();
 }
 
-/// Under a private key whose public half is its seed's nothing is answered but a signature, unless the nonce is 0.
+/// With a private key whose public half belongs to its seed, every message is signed, unless its nonce is 0.
 pub fn own_keys_sign()
     ensures { (private message : List ℕ) (error : PasetoError) → length private ≡ 64
         → IsSigned private message → ¬ IsDeclined private message error }

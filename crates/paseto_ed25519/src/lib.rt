@@ -1,4 +1,4 @@
-//! Ed25519 (RFC 8032), the signature scheme of PASETO's public tokens in the versions 2 and 4.
+//! Ed25519 (RFC 8032), the signature scheme of PASETO's public tokens in versions 2 and 4.
 #![tactic(auto)]
 
 mod bytes;

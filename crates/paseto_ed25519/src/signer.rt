@@ -1,4 +1,4 @@
-//! Ed25519 under one private key.
+//! Ed25519 with one private key.
 
 ghost use Rattle.std.specs.Prelude.{◌≡◌, ◌≢◌, List, ℕ, length, take, IfOk, IfErr, OnOk};
 ghost use Rattle.rusty_paseto_parts.specs.declared.error.PasetoError.TheVariants.{InvalidSignature, KeyRejected, Signature};
@@ -14,9 +14,8 @@ use rusty_paseto_primitives::same_bytes;
 use std::alloc::Global;
 use std::marker::Model;
 
-/// Ed25519 for an issuer who signs many tokens under one private key, of which it was asked once that its public half
-/// is its seed's (`Ed25519::with_key`). It signs and verifies as `Ed25519` does, and under another private key it asks as
-/// that does too.
+/// Ed25519 for an issuer that signs many tokens with one private key, whose public half `Ed25519::with_key` checked
+/// once. It signs and verifies as `Ed25519` does, and checks any other private key as `Ed25519` does.
 ///
 /// The private key is **not wiped**: it stays in memory when the signer is dropped.
 #[derive(Drop)]
@@ -33,7 +32,7 @@ impl Model for Ed25519Signer {
 }
 
 impl Ed25519Signer {
-    /// The scheme under a private key. `Signature` comes exactly where its public half is another seed's.
+    /// The scheme under a private key. `Signature` is returned if and only if its public half is another seed's.
     pub(crate) fn new(private: &Key<64>) -> Result<Self, PasetoError>
         ensures ok { IfOk result (λ signer. (signer ≡ private.now) × IsOwn private.now) }
         ensures err { IfErr result (λ error. (error ≡ PasetoError.Signature) × ¬ IsOwn private.now) }
@@ -58,7 +57,7 @@ impl SignatureScheme<64> for Ed25519Signer {
     ghost declined = { IsDeclined };
 
     /// The signature of RFC 8032, section 5.1.6, which is valid for the private key's public half. The errors are those of
-    /// `Ed25519`: under the signer's own private key `Signature` where the nonce is 0, and no other. No memory is taken.
+    /// `Ed25519`: with the signer's own private key only `Signature`, if the nonce is 0. Does not allocate.
     fn sign(
         &mut self,
         alloc: Global,
@@ -80,7 +79,7 @@ impl SignatureScheme<64> for Ed25519Signer {
         sign(&expanded(seed), public, message)
     }
 
-    /// Is `Ok` exactly where the signature is valid, and else `InvalidSignature`. No memory is taken.
+    /// Returns `Ok` if and only if the signature is valid, and otherwise `InvalidSignature`. Does not allocate.
     fn verify(
         &self,
         alloc: Global,

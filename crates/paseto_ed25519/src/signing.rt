@@ -83,7 +83,8 @@ fn signature(r: Scalar, scalar: &[u8; 32], public: &[u8], message: &[u8]) -> [u8
     joined(&commitment, &to_bytes(multiply_add(r, k, scalar)))
 }
 
-/// The signature of a message. `Signature` comes exactly where the nonce is 0, and no message is known where it is.
+/// The signature of a message. `Signature` is returned if and only if the nonce is 0, and no message is known where it
+/// is.
 pub(crate) fn sign(secret: &Secret, public: &[u8], message: &[u8]) -> Result<[u8; 64], PasetoError>
     ensures ok { let r = nonce_of secret.now.prefix message.now in
         IfOk result (λ signature. (r ≢ 0)

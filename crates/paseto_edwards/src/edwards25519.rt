@@ -5,7 +5,7 @@ ghost use Rattle.paseto_edwards.specs.Edwards25519.{base, d, order, prime};
 ghost use Rattle.paseto_edwards.specs.Group.{IsComplete, IsPoint, neutral};
 ghost use Rattle.paseto_edwards.specs.Multiples.{multiple_of};
 
-/// p is prime, -1 is a square modulo p, and d is none.
+/// p is prime, -1 is a square modulo p, and d is not.
 pub fn edwards25519_is_complete()
     ensures { IsComplete prime d }
 {}
@@ -20,7 +20,7 @@ pub fn order_of_base()
     ensures { multiple_of prime d order base ≡ neutral }
 {}
 
-/// [n]B is neutral exactly where L divides n.
+/// [n]B is neutral if and only if L divides n.
 pub fn multiples_of_base()
     ensures { (n : ℕ) → (multiple_of prime d n base ≡ neutral) ↔ (n % order ≡ 0) }
 {}

@@ -10,7 +10,7 @@ pub fn affine_coordinates()
     ensures { (p d : ℕ) → IsComplete p d → (a : Affine) → IsPoint p d a → Stands p d (of_affine p a) a }
 {}
 
-/// x and y are the quotients X / Z and Y / Z, by the power p - 2 of Z.
+/// x and y are the quotients X / Z and Y / Z, with the power p - 2 of Z as its inverse.
 pub fn quotients_of_coordinates()
     ensures x { (p d : ℕ) → IsComplete p d → (q : Extended) (a : Affine) → Stands p d q a
         → times p q.x (q.z ^ (p - 2) % p) ≡ a.x }
@@ -18,13 +18,13 @@ pub fn quotients_of_coordinates()
         → times p q.y (q.z ^ (p - 2) % p) ≡ a.y }
 {}
 
-/// The formulas for a sum give the sum.
+/// The addition formulas give the sum.
 pub fn added_is_sum()
     ensures { (p d : ℕ) → IsComplete p d → (q r : Extended) (a b : Affine) → Stands p d q a → Stands p d r b
         → Stands p d (added p d q r) (sum p d a b) }
 {}
 
-/// The formulas for a double give the sum of a point and itself.
+/// The doubling formulas give the sum of a point and itself.
 pub fn doubled_is_sum()
     ensures { (p d : ℕ) → IsComplete p d → (q : Extended) (a : Affine) → Stands p d q a
         → Stands p d (doubled p q) (sum p d a a) }

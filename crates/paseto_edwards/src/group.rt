@@ -1,4 +1,5 @@
-//! The points of a complete twisted Edwards curve with a = -1 are a commutative group, with plain equality.
+//! The points of a complete twisted Edwards curve with a = -1 form a commutative group, with plain
+//! equality.
 
 ghost use Rattle.std.specs.Prelude.{ℕ, ◌+◌, ◌-◌, ◌*◌, ◌%◌, ◌≡◌, ◌≢◌};
 ghost use Rattle.paseto_edwards.specs.Group.{Affine, IsComplete, IsOn, IsPoint, cross, neutral, opposite, sum};
@@ -10,7 +11,7 @@ pub fn sums_are_defined()
         → (d * (x * v * (y * w)) * (d * (x * v * (y * w)))) % p ≢ 1 % p }
 {}
 
-/// The coordinates of a sum are the quotients that its definition names.
+/// The coordinates of a sum are the quotients in its definition.
 pub fn sum_is_quotient()
     ensures x { (p d : ℕ) → IsComplete p d → (a b : Affine) → IsPoint p d a → IsPoint p d b
         → ((1 + cross d a b) * (sum p d a b).x) % p ≡ (a.x * b.y + a.y * b.x) % p }
@@ -23,12 +24,12 @@ pub fn sum_is_point()
     ensures { (p d : ℕ) → IsComplete p d → (a b : Affine) → IsPoint p d a → IsPoint p d b → IsPoint p d (sum p d a b) }
 {}
 
-/// Two points may be added in either order.
+/// Addition is commutative.
 pub fn sum_commutes()
     ensures { (p d : ℕ) (a b : Affine) → sum p d a b ≡ sum p d b a }
 {}
 
-/// Three points may be added from either end.
+/// Addition is associative.
 pub fn sum_associates()
     ensures { (p d : ℕ) → IsComplete p d → (a b c : Affine) → IsPoint p d a → IsPoint p d b → IsPoint p d c
         → sum p d (sum p d a b) c ≡ sum p d a (sum p d b c) }
@@ -39,7 +40,7 @@ pub fn neutral_is_point()
     ensures { (p d : ℕ) → IsComplete p d → IsPoint p d neutral }
 {}
 
-/// (0, 1) is neutral.
+/// (0, 1) is the neutral element.
 pub fn sum_with_neutral()
     ensures { (p d : ℕ) → IsComplete p d → (a : Affine) → IsPoint p d a → sum p d neutral a ≡ a }
 {}
@@ -49,7 +50,7 @@ pub fn opposite_is_point()
     ensures { (p d : ℕ) → IsComplete p d → (a : Affine) → IsPoint p d a → IsPoint p d (opposite p a) }
 {}
 
-/// A point and its opposite have the sum (0, 1).
+/// The sum of a point and its opposite is (0, 1).
 pub fn sum_with_opposite()
     ensures { (p d : ℕ) → IsComplete p d → (a : Affine) → IsPoint p d a → sum p d (opposite p a) a ≡ neutral }
 {}

@@ -34,20 +34,20 @@ pub fn multiple_of_opposite()
         → multiple_of p d n (opposite p a) ≡ opposite p (multiple_of p d n a) }
 {}
 
-/// Where [l]P is neutral, [n]P is [n mod l]P.
+/// If [l]P is neutral, [n]P is [n mod l]P.
 pub fn multiple_by_remainder()
     ensures { (p d : ℕ) → IsComplete p d → (l n : ℕ) (a : Affine) → IsPoint p d a → multiple_of p d l a ≡ neutral
         → multiple_of p d (n % l) a ≡ multiple_of p d n a }
 {}
 
-/// Where [l]P is neutral, l is prime and P is not neutral, [n]P is neutral only where l divides n.
+/// If [l]P is neutral, l is prime and P is not neutral, then [n]P is neutral only if l divides n.
 pub fn neutral_multiples()
     ensures { (p d : ℕ) → IsComplete p d → (l n : ℕ) (a : Affine) → IsPoint p d a → multiple_of p d l a ≡ neutral
         → IsPrime l → a ≢ neutral → multiple_of p d n a ≡ neutral → n % l ≡ 0 }
 {}
 
-/// What a verifier computes, [s]B - [k]A, is [r]B where A is [n]B and s is r + k * n modulo a number l for which [l]B is
-/// neutral (RFC 8032, sections 5.1.6 and 5.1.7).
+/// If A is [n]B, and s is r + k * n modulo a number l for which [l]B is neutral, then [s]B - [k]A,
+/// which a verifier computes, is [r]B (RFC 8032, sections 5.1.6 and 5.1.7).
 pub fn signature_sum()
     ensures { (p d : ℕ) → IsComplete p d → (l r k n : ℕ) (b : Affine) → IsPoint p d b → multiple_of p d l b ≡ neutral
         → sum p d (multiple_of p d ((r + k * n) % l) b) (multiple_of p d k (opposite p (multiple_of p d n b)))

@@ -1,4 +1,4 @@
-//! Points in 32 bytes (RFC 8032, sections 5.1.2 and 5.1.3).
+//! Points as 32 bytes (RFC 8032, sections 5.1.2 and 5.1.3).
 
 ghost use Rattle.std.specs.Prelude.{◌≡◌, ◌↔◌, ℕ, ◌+◌, ◌-◌, ◌*◌, ◌/◌, ◌%◌, ◌^◌, ◌<◌, Some, IfSome, IsTrue, length, option_map};
 ghost use Rattle.paseto_edwards25519.specs.Curve.{IsPoint};
@@ -115,7 +115,8 @@ fn root_at(y: FieldElement) -> Option<FieldElement>
     square_root(u, v)
 }
 
-/// The point of an encoding, if it is one: y is below p and x exists, and 0 has no sign.
+/// Decodes a point, or returns `None` if y is not below p, if there is no x, or if x is 0 and has a
+/// sign.
 pub fn decode(bytes: &[u8]) -> Option<ExtendedPoint>
     requires { length bytes.now ≡ 32 }
     ensures { option_map point result ≡ decoded bytes.now }

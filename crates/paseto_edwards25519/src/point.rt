@@ -207,7 +207,8 @@ fn sixteen_times(p: ProjectivePoint) -> ExtendedPoint
     to_extended(double(eight_times))
 }
 
-/// Whether a point is of small order, in a time that may depend on it: whether x or y of its double is 0.
+/// Whether a point has small order: whether x or y of its double is 0. The time may depend on the
+/// point.
 pub fn has_small_order(p: ProjectivePoint) -> bool
     ensures { IsTrue result ↔ HasSmallOrder (affine (projected p)) }
 {

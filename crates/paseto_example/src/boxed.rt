@@ -1,4 +1,4 @@
-//! Tickets of version 2 that the office alone can read. Their sealed box is handed in.
+//! Encrypted tickets of version 2. The caller passes in the sealed box.
 
 use anyhow::Result;
 use jiff::Timestamp;
@@ -24,7 +24,7 @@ pub fn issue<R: TryRng>(
     Ok(builder.build(&XChaCha20Poly1305, rng, key)?)
 }
 
-/// The claims of a ticket that is good at the moment, or why it is refused.
+/// The claims of a ticket that is valid at the moment, or the error.
 pub fn admit(
     alloc: Global,
     now: Timestamp,

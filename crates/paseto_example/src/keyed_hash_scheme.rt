@@ -1,5 +1,5 @@
-//! A lawful signature scheme for version 4, as an example of how one is written. **It is no secure signature**: who
-//! can verify can sign, since the signature is a hash under the public key. A real one is Ed25519.
+//! An example of a signature scheme for version 4. **It is not secure**: everyone who can verify can also sign, since
+//! the signature is a hash under the public key. A secure scheme is Ed25519.
 
 ghost use Rattle.std.specs.Prelude.{◌≡◌, length, IfErr, IfOk, OnOk};
 ghost use Rattle.paseto_example.specs.KeyedHashScheme.{IsDeclined, IsRefused, IsValid, partner};
@@ -44,8 +44,8 @@ impl SignatureScheme<64> for KeyedHashScheme {
         Ok(blake2b_keyed(public_key_of(private), message))
     }
 
-    /// Is `Ok` exactly where the signature is valid. Else it is `InvalidKey` for a public key of another length than
-    /// 32 bytes, and `InvalidSignature` for another signature.
+    /// Returns `Ok` if and only if the signature is valid. Otherwise it returns `InvalidKey` for a public key of
+    /// another length than 32 bytes, and `InvalidSignature` for an invalid signature.
     fn verify(
         &self,
         _alloc: Global,

@@ -1,6 +1,6 @@
-//! A ticket office, as a program over the library would be written: it issues tickets and sessions, lets them in,
-//! changes its keys, ends a session, and refuses what has expired, what is under a retired key or another one, what is too
-//! long, and what another key signed.
+//! A ticket office, as a user of the library would write it: it issues tickets and sessions, admits them, rotates its
+//! keys, ends a session, and refuses tokens that have expired, are under a retired or another key, are too long, or
+//! were signed by another key.
 #![tactic(auto)]
 
 mod boxed;
@@ -36,7 +36,7 @@ fn main(rt: HostRuntime) -> Result<()> {
     show_own_scheme(&rt, now, soon)
 }
 
-/// A ticket that the office alone can read is admitted soon, and refused tomorrow.
+/// An encrypted ticket is admitted soon, and refused tomorrow.
 fn show_local(rt: &HostRuntime, now: Timestamp, soon: Timestamp) -> Result<()> {
     let alloc = rt.alloc();
     let mut rng = SysRng::new(rt);
@@ -87,7 +87,7 @@ fn end_session(sessions: &mut Sessions, now: Timestamp, token: &str) -> Result<(
     Ok(())
 }
 
-/// What the service makes of a token, and what it would answer over HTTP.
+/// The session of a token, or the error and the status that the service would answer over HTTP.
 fn show_session(rt: &HostRuntime, sessions: &Sessions, now: Timestamp, token: &str) -> Result<()> {
     match sessions.admit(now, token) {
         Ok(session) => println!(rt; "200: {} with {} seats", session.sub, session.seats)?,
@@ -110,7 +110,7 @@ fn show_boxed(rt: &HostRuntime, now: Timestamp, soon: Timestamp) -> Result<()> {
     show_refusal(rt, boxed::admit(alloc, soon, token.as_str(), &other))
 }
 
-/// What is made of a ticket under another key than its own.
+/// The error for a ticket under another key.
 fn show_refusal(rt: &HostRuntime, answer: Result<Value, GenericParserError>) -> Result<()> {
     match answer {
         Ok(_) => println!(rt; "admitted under another key")?,
@@ -165,7 +165,7 @@ fn show_ring(
     Ok(())
 }
 
-/// A scheme that the program itself has is used in the same way.
+/// The program's own scheme is used in the same way.
 fn show_own_scheme(rt: &HostRuntime, now: Timestamp, soon: Timestamp) -> Result<()> {
     let alloc = rt.alloc();
     let mut scheme = KeyedHashScheme;

@@ -1,5 +1,5 @@
-//! The sessions of a service, under keys that change: issued under the newest key, admitted under each that is not
-//! retired, where the session was not ended, and refused with a status that says whose fault it is.
+//! The sessions of a service with rotating keys: issued under the newest key, admitted under each key that is not
+//! retired, unless the session was ended, and refused with an HTTP status that says which side caused the error.
 
 use anyhow::{Context, Result};
 use jiff::Timestamp;
@@ -16,21 +16,21 @@ use std::alloc::{AllocError, Global};
 use std::collections::BTreeSet;
 use thiserror::Error;
 
-/// How many seconds the clocks of our machines may differ by.
+/// By how many seconds the clocks of our machines may differ.
 const LEEWAY: u32 = 5;
 
-/// How many seconds a session lives.
+/// How many seconds a session is valid.
 const LIFETIME: u32 = 600;
 
 /// How many seats a session may have.
 const SEATS: i64 = 8;
 
-/// How many bytes a token may have, and its footer, which anybody may have written.
+/// How many bytes a token and its footer may have, which anybody may have written.
 const LONGEST: usize = 4_096;
 
 const LONGEST_FOOTER: usize = 64;
 
-/// What the claims of a session say. The id is another one in each token.
+/// The claims of a session. Each token has another id.
 #[derive(Debug, Deserialize, Drop)]
 pub struct Session {
     pub jti: String,
@@ -41,7 +41,7 @@ pub struct Session {
 /// Why a token is not admitted.
 #[derive(Debug, Drop, Error)]
 pub enum Refusal {
-    /// The ring opened no token, or its claims are not good at the moment, or not what is asked.
+    /// The ring did not open the token, or its claims are not valid at the moment, or not the expected ones.
     #[error("{0}")]
     Token(KeyRingParserError),
     /// The session was ended before its token expires.
@@ -61,7 +61,7 @@ pub fn status(refusal: &Refusal) -> u16 {
     }
 }
 
-/// The keys of the service, of which the newest seals, and the ids of the sessions that were ended.
+/// The keys of the service, of which the newest encrypts, and the ids of the sessions that were ended.
 #[derive(Drop)]
 pub struct Sessions {
     alloc: Global,
@@ -85,7 +85,7 @@ impl Sessions {
         })
     }
 
-    /// Seals under a new key from now on. Tokens of the old ones are admitted still.
+    /// Encrypts with a new key from now on. Tokens of the old keys are still admitted.
     pub fn rotate(&mut self, id: &str, key: PasetoSymmetricKey<V4, Local>) -> Result<()> {
         let newest = String::from_str(self.alloc, id)?;
         self.keys.add(id, key)?;
@@ -93,19 +93,19 @@ impl Sessions {
         Ok(())
     }
 
-    /// Admits no token of a key any more.
+    /// Retires a key: its tokens are refused from now on.
     pub fn retire(&mut self, id: &str) -> bool {
         self.keys.remove(id)
     }
 
-    /// Admits the session of this id no more. It is known by its id and not by the text of its token, since a token may
-    /// have two texts. Once the token has expired, the id may be forgotten.
+    /// Ends the session with this id. It is identified by its id and not by the text of its token, since a token may
+    /// have two spellings. Once the token has expired, the id may be forgotten.
     pub fn end(&mut self, id: &str) -> Result<()> {
         self.ended.insert(String::from_str(self.alloc, id)?)?;
         Ok(())
     }
 
-    /// The token of a session, which lives ten minutes.
+    /// The token of a session, which is valid for ten minutes.
     pub fn issue<R: TryRng>(
         &self,
         now: Timestamp,
@@ -127,7 +127,7 @@ impl Sessions {
         Ok(builder.build(rng, key)?)
     }
 
-    /// The session of a token that is good at the moment, where it was not ended.
+    /// The session of a token that is valid at the moment, unless the session was ended.
     pub fn admit(&self, now: Timestamp, token: &str) -> Result<Session, Refusal> {
         match self.parse(now, token) {
             Ok(session) if self.ended.contains(session.jti.as_str()) => Err(Refusal::Ended),

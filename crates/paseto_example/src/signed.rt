@@ -1,5 +1,5 @@
-//! Tickets that everybody can read and the office alone can make: public tokens, over any signature scheme of version
-//! 4. The program hands in `Ed25519`, and once a scheme of its own.
+//! Signed tickets, which everybody can read: public tokens with any signature scheme of version 4. The program passes
+//! in `Ed25519`, and once its own scheme.
 
 use anyhow::Result;
 use jiff::Timestamp;
@@ -38,7 +38,7 @@ pub fn issue_under<S: SignatureScheme<64>>(
     Ok(builder.build(scheme, key)?)
 }
 
-/// The claims of a signed ticket that is good at the moment, or why it is refused.
+/// The claims of a signed ticket that is valid at the moment, or the error.
 pub fn admit<S: SignatureScheme<64>>(
     alloc: Global,
     now: Timestamp,

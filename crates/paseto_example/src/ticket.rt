@@ -1,4 +1,4 @@
-//! Tickets that the office alone can read: local tokens.
+//! Encrypted tickets: local tokens.
 
 use anyhow::Result;
 use jiff::Timestamp;
@@ -21,7 +21,7 @@ pub fn issue<R: TryRng>(
     Ok(builder.build(rng, key)?)
 }
 
-/// The claims of a customer's ticket that is good at the moment, or why it is refused.
+/// The claims of a customer's ticket that is valid at the moment, or the error.
 pub fn admit(
     alloc: Global,
     now: Timestamp,

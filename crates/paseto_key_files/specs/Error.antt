@@ -48,7 +48,7 @@ opener_text (OtherType Local) = codes "this key is one for local tokens, and ano
 opener_text (OtherType Secret) = codes "this key is a private one, and another type is needed"
 opener_text (OtherType Public) = codes "this key is a public one, and another type is needed"
 opener_text InvalidKey = codes "this key was not in the correct format"
-opener_text (NoPaserkMemory _) = codes "no memory was found"
+opener_text (NoPaserkMemory _) = codes "out of memory"
 
 -- what each error says
 abbrev pub error_text : KeyFileError → List ℕ
@@ -62,5 +62,5 @@ error_text SecondInPem = codes "keys of version 2 have no PEM text of their own:
 error_text (Pem error) = pem_text error
 error_text (Wrap error) = wrap_text error
 error_text (Paserk error) = paserk_text error
-error_text Random = codes "the system gave no random bytes"
-error_text (Memory _) = codes "no memory was found"
+error_text Random = codes "the system returned no random bytes"
+error_text (Memory _) = codes "out of memory"

@@ -14,35 +14,35 @@ use thiserror::Error;
 /// Why the text of a key file was not opened, or not written.
 #[derive(Debug, Drop, Error)]
 pub enum KeyFileError {
-    /// The key is under a password, and there is none to open it with.
+    /// The key is password-protected, and no password was given.
     NeedsPassword,
-    /// The key is under a wrapping key or sealed, and there is no key to open it with.
+    /// The key is wrapped or sealed, and no key to open it with was given.
     NeedsKey,
-    /// The other key, which is to open, to wrap or to seal this one, is none that does: of another version or type, or no
-    /// key of PASERK.
+    /// The other key, which should open, wrap or seal this one, cannot do so: it has another version or type, or is not
+    /// a PASERK key.
     OtherOpener(PaserkError),
-    /// The key is public, and not put under a password or a wrapping key.
+    /// The key is public, and so is not protected by a password or a wrapping key.
     PublicKey,
-    /// A key of version 1 is sealed by RSA, which is left out here.
+    /// Sealing in version 1 uses RSA, which is not supported.
     NoSealing,
-    /// Keys for local tokens have no text in PEM.
+    /// Keys for local tokens cannot be written in PEM.
     LocalInPem,
-    /// Keys of version 2 have no text in PEM of their own: it would be read as that of a key of version 4.
+    /// Keys of version 2 are not written in PEM: the text would be read as a key of version 4.
     SecondInPem,
-    /// The text in PEM is none of a key.
+    /// The PEM text is not a supported key.
     Pem(PemError),
-    /// The key is not unwrapped, or not wrapped.
+    /// The key could not be unwrapped or wrapped.
     Wrap(WrapError),
-    /// The line is none of a key.
+    /// The line is not that of a key.
     Paserk(PaserkError),
-    /// The generator gave no bytes.
+    /// The random generator failed.
     Random,
-    /// Memory was refused.
+    /// An allocation failed.
     Memory(AllocError),
 }
 
 impl KeyFileError {
-    /// What `Display` shows: one line, without its end. No memory is taken.
+    /// What `Display` shows: one line, without a line end. Does not allocate.
     pub fn text(&self) -> &'static str
         ensures { result.now ≡ error_text self.now }
     {
@@ -61,8 +61,8 @@ impl KeyFileError {
             KeyFileError::Pem(error) => error.text(),
             KeyFileError::Wrap(error) => error.text(),
             KeyFileError::Paserk(error) => error.text(),
-            KeyFileError::Random => "the system gave no random bytes",
-            KeyFileError::Memory(_) => "no memory was found",
+            KeyFileError::Random => "the system returned no random bytes",
+            KeyFileError::Memory(_) => "out of memory",
         }
     }
 
@@ -98,7 +98,7 @@ fn opener_text(error: &PaserkError) -> &'static str
         PaserkError::OtherType(PaserkType::Public) =>
             "this key is a public one, and another type is needed",
         PaserkError::InvalidKey => "this key was not in the correct format",
-        PaserkError::Memory(_) => "no memory was found",
+        PaserkError::Memory(_) => "out of memory",
     }
 }
 

@@ -1,30 +1,30 @@
-//! Laws of key files. Each is the contract of a function that does nothing, over the definitions that the contracts of the
-//! calls name.
+//! Laws about key files. Each is the contract of a function that does nothing, about the definitions that the contracts
+//! use.
 
 ghost use Rattle.paseto_key_files.specs.Laws.{ProtectedUnlock, SealedUnlock, WrappedUnlock};
 
 use paseto_wrapping::laws;
 
-/// The text that `protect` writes of a line is opened as this line by `unlock` with the same password, want of memory aside,
-/// where the cost is within `PasswordCost::most()`. The line of a private key of version 1, whose text in PEM may have other
-/// line ends, is opened as `openssl pkey` writes it.
+/// `unlock` opens the text that `protect` writes for a line as this line, with the same password, if the cost is within
+/// `PasswordCost::most()`, and unless an allocation fails. The line of a private key of version 1, whose PEM may have
+/// other line ends, is returned as `openssl pkey` writes it.
 pub fn protected_keys_unlock()
     ensures { ProtectedUnlock }
 {
     laws::protected_keys_unwrap();
 }
 
-/// The text that `wrap` writes of a line is opened as this line by `unlock` with the same wrapping line, want of memory
-/// aside. Private keys of version 1 are as in `protected_keys_unlock`.
+/// `unlock` opens the text that `wrap` writes for a line as this line, with the same wrapping line, unless an
+/// allocation fails. Private keys of version 1 are as in `protected_keys_unlock`.
 pub fn wrapped_keys_unlock()
     ensures { WrappedUnlock }
 {
     laws::wrapped_keys_unwrap();
 }
 
-/// The text that `seal` writes of a line in version 3, to the public key of a private key, is opened as this line by `unlock`
-/// with the line of that private key, want of memory aside. In versions 2 and 4 this holds where X25519 of two secret keys
-/// commutes, which is not proved.
+/// In version 3 `unlock` opens the text that `seal` writes for a line, to the public key of a private key, as this
+/// line, with the line of that private key, unless an allocation fails. In versions 2 and 4 this holds if X25519 of two
+/// secret keys commutes, which is not proved.
 pub fn sealed_keys_unlock()
     ensures { SealedUnlock }
 {

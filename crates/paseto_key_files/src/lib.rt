@@ -1,8 +1,8 @@
-//! Key files as people have them, and the lines that programs keep keys as: a key's text in PASERK, as `k4.local...`, and
-//! for key pairs of version 1, which have none here, the text in PEM.
+//! Converts between key files in all their forms and the line that a program stores for a key: its PASERK text, such as
+//! `k4.local...`, or PEM for key pairs of version 1, which have no PASERK text here.
 //!
-//! `unlock` reads a key file: keys in PEM, keys under a password, keys under a wrapping key and sealed keys become lines.
-//! `protect`, `wrap`, `seal` and `pem_of` write these texts of a line.
+//! `unlock` reads a key file, in PEM, password-protected, wrapped or sealed, and returns the line of its key.
+//! `protect`, `wrap`, `seal` and `pem_of` write a line in these forms.
 //!
 //! ```rust
 //! use paseto_key_files::{KeyFileError, Openers, unlock};
@@ -18,8 +18,8 @@
 //! }
 //! ```
 //!
-//! A line of a key that is to be kept secret is as secret as the key. Nothing is wiped: lines, keys and what was drawn stay
-//! in memory when they are dropped.
+//! The line of a secret key is as secret as the key. Nothing is wiped: lines, keys and random bytes stay in memory when
+//! they are dropped.
 #![tactic(auto)]
 
 mod drawing;

@@ -22,7 +22,7 @@ use std::alloc::Global;
 
 /// A version whose keys have lines: 1 to 4. The line of a private key is its text in PASERK, and in version 1 that in PEM.
 pub(crate) trait LineVersion: KeyVersion + PemVersion {
-    /// The line of a private key. `Wrap(InvalidKey)` comes where its bytes are none of the version.
+    /// The line of a private key. `Wrap(InvalidKey)` is returned if its bytes are not a key of the version.
     fn private_line(alloc: Global, key: &PrivateKey<Self>) -> Result<String, KeyFileError>
         ensures { WritesLine (IsPrivateKey Self.paserk) (private_line Self.paserk) key.now result };
 
@@ -83,7 +83,7 @@ impl LineVersion for V4 {
     ghost is_unwrapped = { Prim.search rules };
 }
 
-/// The line of a key for local tokens. It fails only by `Memory`.
+/// The line of a key for local tokens. It fails only with `Memory`.
 pub(crate) fn local_line<V: KeyVersion>(
     alloc: Global,
     key: &PasetoSymmetricKey<V, Local>,
@@ -94,7 +94,7 @@ pub(crate) fn local_line<V: KeyVersion>(
     Ok(local_to_paserk(alloc, key)?)
 }
 
-/// The line of a public key. It fails only by `Memory`.
+/// The line of a public key. It fails only with `Memory`.
 pub(crate) fn public_line<V: KeyPairVersion>(
     alloc: Global,
     key: &PublicKey<V>,
@@ -105,7 +105,7 @@ pub(crate) fn public_line<V: KeyPairVersion>(
     Ok(public_to_paserk(alloc, &key.lend())?)
 }
 
-/// A line that is a text itself. It fails only by `Memory`.
+/// A line that is a text itself. It fails only with `Memory`.
 pub(crate) fn same_line(alloc: Global, text: &str) -> Result<String, KeyFileError>
     ensures ok { IfOk result (λ line. string_bytes line ≡ text.now) }
     ensures err { IfErr result IsMemory }
@@ -126,7 +126,7 @@ pub(crate) fn local_of<V: KeyVersion>(
     }
 }
 
-/// The text of a private key of version 1 in PEM. `Wrap(InvalidKey)` comes where its bytes are none of one.
+/// The text of a private key of version 1 in PEM. `Wrap(InvalidKey)` is returned if its bytes are not such a key.
 pub(crate) fn rsa_private_line(alloc: Global, key: &PrivateKey<V1>) -> Result<String, KeyFileError>
     ensures { WritesLine (IsPrivateKey PaserkVersion.V1) (private_line PaserkVersion.V1) key.now result }
 {
@@ -147,7 +147,8 @@ fn rsa_private_of(alloc: Global, line: &str) -> Result<PrivateKey<V1>, KeyFileEr
     }
 }
 
-/// The text of a private key in PASERK. `Wrap(InvalidKey)` comes where it has another length than the version's private keys.
+/// The text of a private key in PASERK. `Wrap(InvalidKey)` is returned if it has another length than the version's
+/// private keys.
 pub(crate) fn private_to_paserk<V: KeyPairVersion>(
     alloc: Global,
     key: &PrivateKey<V>,
@@ -175,7 +176,7 @@ fn private_from_paserk<V: KeyPairVersion>(
     }
 }
 
-/// The version and the type of the key that a line begins as.
+/// The version and the type in the header of a line.
 pub(crate) fn begins_as(line: &str) -> Result<(PaserkVersion, PaserkType), KeyFileError>
     ensures found { IfOk result (λ found. BeginsAs found.0 found.1 line.now) }
     ensures none { IfErr result (IsBeginFault line.now) }
@@ -189,7 +190,7 @@ pub(crate) fn begins_as(line: &str) -> Result<(PaserkVersion, PaserkType), KeyFi
     }
 }
 
-/// Whether a text begins as PEM does.
+/// Whether a text begins like PEM.
 pub(crate) fn is_pem(text: &str) -> bool
     ensures { MatchBool result (BeginsPem text.now) (¬ BeginsPem text.now) }
 {

@@ -1,11 +1,12 @@
-//! What opens a key file that is locked.
+//! The password or key that opens a key file.
 
-/// What opens a key file that is locked. What the file has no need of is not looked at.
+/// The password and the key that open a key file that is password-protected, wrapped or sealed. Whatever the file does
+/// not need is ignored.
 #[derive(Clone, Copy)]
 pub struct Openers<'a> {
     /// The password, in bytes.
     pub password: Option<&'a [u8]>,
-    /// The line of the key that opens: of the wrapping key, which is one for local tokens, or of the private key to
-    /// whose public half a key was sealed. It is of the same version as the locked key, and has no line feed.
+    /// The line of the key that opens the file: the wrapping key, which is a key for local tokens, or the private key
+    /// to whose public key a key was sealed. It has the same version as the key in the file. The line has no newline.
     pub key: Option<&'a str>,
 }

@@ -1,4 +1,4 @@
-//! The line of the key that a key file holds.
+//! Opening key files.
 
 ghost use Rattle.paseto_key_files.specs.Held.{GivesLine};
 ghost use Rattle.paseto_key_files.specs.Opening.{OpensAs, OpensAsNone, OpensLine, OpensNoLine, Unlocks, UnlocksNone};
@@ -14,17 +14,16 @@ use paseto_wrapping::{WrappedType, wrapped_header_of};
 use rusty_paseto_paserk::PaserkVersion;
 use std::alloc::Global;
 
-/// The line of the key that the text of a key file is, opened where it is locked.
+/// The line of the key in a key file, whatever its form.
 ///
-/// A text that begins as PEM is read as a key of `openssl`: of Ed25519 as one of version 4, of P-384 as one of version 3, and
-/// of RSA as one of version 1, whose line is the text as it stands. A text that begins as a wrapped key of PASERK is opened,
-/// by the password, within the bound `PasswordCost::most()`, or by the key that opens it. Any other text is a line already,
-/// and is not looked into: the line end at its end, LF or CR and LF, is left out.
+/// A text that begins like PEM is read as a key of `openssl`: an Ed25519 key as version 4, a P-384 key as version 3,
+/// and an RSA key as version 1, whose line is the text itself. A text that begins like a wrapped PASERK key is opened
+/// with the password, within the bound `PasswordCost::most()`, or with the key of `openers`. Any other text is returned
+/// as the line without being checked; a line end at its end, LF or CR and LF, is removed.
 ///
-/// `NeedsPassword` and `NeedsKey` come where the text is locked, and what opens it is lacking; `OtherOpener` where the key
-/// that opens is none of the version and the type that is needed; `NoSealing` for a sealed key of version 1; `Wrap` where
-/// nothing is unwrapped; and `Pem` where a text in PEM is none of these keys: of the readings that refuse it, the one that
-/// tells most is told.
+/// `NeedsPassword` and `NeedsKey` are returned if the password or key is missing; `OtherOpener` if the key does not
+/// have the version and the type that is needed; `NoSealing` for a sealed key of version 1; `Wrap` if the key cannot be
+/// unwrapped; and `Pem` if a PEM text is none of these keys, with the most informative of the errors.
 ///
 /// Source: RFC 7468; PASERK specification, types `local-pw`, `secret-pw`, `local-wrap`, `secret-wrap` and `seal`.
 pub fn unlock(alloc: Global, openers: &Openers<'_>, text: &str) -> Result<String, KeyFileError>

@@ -23,12 +23,12 @@ use rusty_paseto_parts::{V1, V2, V3, V4};
 use rusty_paseto_paserk::{KeyVersion, PaserkType, PaserkVersion};
 use std::alloc::Global;
 
-/// The text of the key of a line under a password: `local-pw` of a key for local tokens, and `secret-pw` of a private key, of
-/// the line's version. The salt and the nonce are drawn, after the line was read.
+/// The text of a line's key under a password: `local-pw` for a key for local tokens, and `secret-pw` for a private key,
+/// of the line's version. Salt and nonce are drawn after the line was read.
 ///
-/// `PublicKey` comes where the line begins as that of a public key, `Paserk` and `Pem` where it is that of no key,
-/// `Wrap(LongPassword)` where the password has 4 GiB or more, `Wrap(InvalidCost)` where PBKDF2 or Argon2id does not allow
-/// the cost, and `Random` where the generator fails. Nothing else is refused but memory.
+/// `PublicKey` is returned if the line begins like that of a public key, `Paserk` and `Pem` if it is not that of a key,
+/// `Wrap(LongPassword)` if the password has 4 GiB or more, `Wrap(InvalidCost)` if PBKDF2 or Argon2id does not allow the
+/// cost, and `Random` if the generator fails. Otherwise it fails only with `Memory`.
 ///
 /// Source: PASERK specification, types `local-pw` and `secret-pw`.
 pub fn protect<G: TryRng>(

@@ -24,8 +24,8 @@ use rusty_paseto_paserk::{
 };
 use std::alloc::Global;
 
-/// The line of the key whose text in PEM this is. A key of Ed25519 is taken as one of version 4, since PEM does not tell the
-/// versions 2 and 4 apart.
+/// The line of the key whose text in PEM this is. A key of Ed25519 is taken as one of version 4, since PEM does not
+/// tell versions 2 and 4 apart.
 pub(crate) fn line_of_pem(alloc: Global, text: &str) -> Result<String, KeyFileError>
     ensures { GivesLine (PemLine text.now) (PemLineFault text.now) result }
 {
@@ -113,13 +113,14 @@ fn line_of_rsa_public(alloc: Global, text: &str) -> Result<String, KeyFileError>
     }
 }
 
-/// The text in PEM of the key of a line, byte for byte as `openssl pkey` writes it. A line of version 1 is in PEM already, and
-/// is read and written again.
+/// The key of a line in PEM, byte for byte as `openssl pkey` writes it. A line of version 1 is in PEM already, and is
+/// read and written again.
 ///
-/// `LocalInPem` comes where the line begins as that of a key for local tokens, `SecondInPem` where it is one of version 2,
-/// `Paserk` where it is that of no key, and `Pem` where a text in PEM is none of RSA, and as `Pem(InvalidKey)` where the key
-/// has no text: a private key of version 4 whose last 32 bytes are not the public key of the others, or of version 3 that is
-/// no number of the curve, or a public key of version 3 that is no point. Nothing else is refused but memory.
+/// `LocalInPem` is returned if the line begins like that of a key for local tokens, `SecondInPem` if it is one of
+/// version 2, `Paserk` if it is not that of a key, `Pem` if a PEM text is not an RSA key, and `Pem(InvalidKey)` if the
+/// key is not valid: a private key of version 4 whose last 32 bytes are not the public key of the others, a private key
+/// of version 3 that is not one of the curve, or a public key of version 3 that is not a point. Otherwise it fails only
+/// with `Memory`.
 ///
 /// Source: RFC 7468, sections 3, 10 and 13.
 pub fn pem_of(alloc: Global, line: &str) -> Result<String, KeyFileError>

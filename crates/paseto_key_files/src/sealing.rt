@@ -24,13 +24,14 @@ use rusty_paseto_paserk::{
 };
 use std::alloc::Global;
 
-/// The text of the key of a line for local tokens, `seal`, sealed to the public key of another line of the same version: 2, 3
-/// or 4. The ephemeral key is drawn, after the lines were read.
+/// The text (`seal`) of the key of a line for local tokens, sealed to the public key of another line of the same
+/// version: 2, 3 or 4. The ephemeral key is drawn after the lines were read.
 ///
-/// `Paserk` comes where the line is that of no key for local tokens, `OtherOpener` where the public line is that of no public
-/// key, `NoSealing` where they are of version 1, `Wrap(InvalidPoint)` and `Wrap(SmallOrder)` where no secret can be shared
-/// with the public key, `Wrap(InvalidPrivateKey)` where what is drawn in version 3 is no private key of P-384, which a good
-/// generator gives less than once in 2^189 times, and `Random` where the generator fails. Nothing else is refused but memory.
+/// `Paserk` is returned if the line is not that of a key for local tokens, `OtherOpener` if the public line is not that
+/// of a public key, `NoSealing` if they are of version 1, `Wrap(InvalidPoint)` and `Wrap(SmallOrder)` if no secret can
+/// be shared with the public key, `Wrap(InvalidPrivateKey)` if the random bytes in version 3 are not a private key of
+/// P-384, which happens less than once in 2^189 times with a good generator, and `Random` if the generator fails.
+/// Otherwise it fails only with `Memory`.
 ///
 /// Source: PASERK specification, type `seal`.
 pub fn seal<G: TryRng>(

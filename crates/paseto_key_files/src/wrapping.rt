@@ -19,13 +19,13 @@ use rusty_paseto_parts::{Key, Local, PasetoSymmetricKey, V1, V2, V3, V4};
 use rusty_paseto_paserk::{PaserkType, PaserkVersion, local_from_paserk};
 use std::alloc::Global;
 
-/// The text of the key of a line under a wrapping key, which is the key of another line, for local tokens of the same
-/// version: `local-wrap.pie` of a key for local tokens, and `secret-wrap.pie` of a private key. The nonce is drawn, after
-/// the lines were read.
+/// The text of a line's key under a wrapping key, which is the key of another line, for local tokens of the same
+/// version: `local-wrap.pie` for a key for local tokens, and `secret-wrap.pie` for a private key. The nonce is drawn
+/// after the lines were read.
 ///
-/// `PublicKey` comes where the line begins as that of a public key, `Paserk` and `Pem` where it is that of no key,
-/// `OtherOpener` where the wrapping line is that of no such key, and `Random` where the generator fails. Nothing else is
-/// refused but memory.
+/// `PublicKey` is returned if the line begins like that of a public key, `Paserk` and `Pem` if it is not that of a key,
+/// `OtherOpener` if the wrapping line is not that of such a key, and `Random` if the generator fails. Otherwise it
+/// fails only with `Memory`.
 ///
 /// Source: PASERK specification, types `local-wrap` and `secret-wrap`.
 pub fn wrap<G: TryRng>(

@@ -13,13 +13,13 @@ use crate::point::{ProjectivePoint, multiply_secret};
 use paseto_montgomery::to_octets;
 use thiserror::Error;
 
-/// Why two parties have no shared secret.
+/// Why there is no shared secret.
 #[derive(Debug, Drop, Error)]
 pub enum AgreementError {
-    /// The own private key is none: another length than 48 bytes, 0, or a number that is not below n.
+    /// The own private key is not valid: another length than 48 bytes, 0, or a number that is not below n.
     #[error("the private key is no number above 0 and below n in 48 bytes: make one by key_pair")]
     InvalidPrivateKey,
-    /// The other party's public key is no point of the curve.
+    /// The other party's public key is not a point of the curve.
     #[error("the other party's public key is no point of P-384: ask for another")]
     InvalidPoint,
 }

@@ -1,4 +1,4 @@
-//! The laws of signing and of agreement. Each function does nothing: its contract is the law.
+//! Laws about signing and key agreement. Each function does nothing: its contract is the law.
 
 ghost use Rattle.std.specs.Prelude.{◌≡◌, ◌≢◌, ℕ, List, Some};
 ghost use Rattle.paseto_montgomery.specs.Octets.{os2ip};
@@ -8,23 +8,23 @@ ghost use Rattle.paseto_p384.specs.Encoding.{decoded};
 ghost use Rattle.paseto_p384.specs.Agreement.{p384_shared};
 ghost use Rattle.paseto_p384.specs.P384.{IsPrivate, P384Verifies, p384_public, p384_sign};
 
-/// What is signed under a private key is valid under its public key, for any message (FIPS 186-5, sections 6.4.1 and
-/// 6.4.2): [e / s]G + [r / s]Q is [k]G, where Q is [d]G, since G has the order n and (P + Q) + G is P + (Q + G).
+/// A signature under a private key is valid for its public key, for any message (FIPS 186-5, sections 6.4.1 and 6.4.2):
+/// [e / s]G + [r / s]Q is [k]G, where Q is [d]G, since G has the order n and (P + Q) + G is P + (Q + G).
 pub fn signatures_are_valid()
     ensures { (private message made : List ℕ) → IsPrivate private
         → p384_sign private message ≡ Some made
         → P384Verifies (p384_public private) message made }
 {}
 
-/// Two parties share one secret, whichever of them makes it (SEC 1, section 3.3.1): [d]([e]G) is [e]([d]G).
+/// Both parties compute the same secret (SEC 1, section 3.3.1): [d]([e]G) is [e]([d]G).
 pub fn shared_secret_is_common()
     ensures { (own other : List ℕ) → IsPrivate own → IsPrivate other
         → p384_shared own (p384_public other) ≡ p384_shared other (p384_public own) }
 {}
 
-/// The product of a private key and the point that a public key is, is not the point at infinity: it has an x. Else the
-/// sums of the n multiples of G and of three multiples of that point were 3 * n points, and for each of the p numbers x the
-/// curve has at most two, and one at infinity.
+/// The product of a private key and the point of a public key is not the point at infinity: it has an x. Otherwise the
+/// sums of the n multiples of G and of three multiples of that point would be 3 * n points, but the curve has at most
+/// two points for each of the p numbers x, and one at infinity.
 pub fn shared_point_is_finite()
     ensures { (private public : List ℕ) (q : Point) → IsPrivate private
         → decoded public ≡ Some q → (multiple_of (os2ip private) q).z ≢ 0 }

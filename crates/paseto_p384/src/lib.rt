@@ -1,5 +1,5 @@
-//! ECDSA over P-384 with SHA-384 (FIPS 186-5), the signature scheme of PASETO's public tokens in version 3, and what two
-//! parties agree on by keys of that curve (SEC 1, section 3.3.1).
+//! ECDSA over P-384 with SHA-384 (FIPS 186-5), the signature scheme of PASETO's public tokens in version 3, and key
+//! agreement with keys of that curve (SEC 1, section 3.3.1).
 #![tactic(auto)]
 
 mod agreement;

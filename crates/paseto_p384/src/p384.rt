@@ -133,9 +133,9 @@ fn is_valid(public: &[u8], e: &[u64; 6], signature: &[u8; 96]) -> bool
 }
 
 impl P384 {
-    /// A new private key, which the generator gives, and its public key. No memory is taken. `Cipher` comes just where
-    /// the generator fails, and `KeyRejected` where it gives 0 or a number that is not below n, which a good one
-    /// does less than once in 2^189 times.
+    /// A new private key from the generator, and its public key. Does not allocate. `Cipher` is returned if and only if
+    /// the generator fails, and `KeyRejected` if it gives 0 or a number that is not below n, which happens less than
+    /// once in 2^189 times with a good generator.
     pub fn key_pair<R: TryRng>(rng: &mut R) -> Result<(Key<48>, Key<49>), PasetoError>
         ensures ok { IfOk result (λ pair. R.may_fill rng.old pair.0 rng.new
             × IsPrivate pair.0 × (pair.1 ≡ p384_public pair.0)) }
@@ -151,8 +151,8 @@ impl P384 {
         }
     }
 
-    /// The coordinates of the point that a public key is, x and y of 48 bytes each, the greatest byte first, or `None`
-    /// where it is no point. No memory is taken.
+    /// The coordinates of a public key's point, x and y of 48 bytes each, most significant byte first, or `None` if it
+    /// is not a point. Does not allocate.
     ///
     /// Source: SEC 1, sections 2.3.3 and 2.3.4.
     pub fn coordinates(public: &[u8; 49]) -> Option<[u8; 96]>
@@ -164,13 +164,13 @@ impl P384 {
         }
     }
 
-    /// What two parties share, of the own private key and the other's public key: the coordinate x of [d]Q, in 48 bytes,
-    /// the greatest first. [d]Q is never the point at infinity, by the law `shared_point_is_finite`. No memory is taken, and
-    /// no branch and no address depends on the private key, but for the answer `InvalidPrivateKey`. Hash the secret together
-    /// with both public keys before it serves as a key.
+    /// The shared secret of the own private key and the other party's public key: the coordinate x of [d]Q, in 48
+    /// bytes, most significant first. [d]Q is never the point at infinity, by the law `shared_point_is_finite`. Does
+    /// not allocate, and no branch and no address depends on the private key, except for the result
+    /// `InvalidPrivateKey`. Hash the secret together with both public keys before you use it as a key.
     ///
-    /// `InvalidPrivateKey` comes exactly where the private key is none, and `InvalidPoint` exactly where it is one and the
-    /// public key is no point.
+    /// `InvalidPrivateKey` is returned if and only if the private key is not valid, and `InvalidPoint` if and only if
+    /// it is valid and the public key is not a point.
     ///
     /// Source: SEC 1, section 3.3.1; SP 800-56A, section 5.7.1.2.
     pub fn shared_secret(private: &[u8], public: &[u8; 49]) -> Result<[u8; 48], AgreementError>
@@ -187,9 +187,10 @@ impl P384 {
         Ok(agreed(&d, q))
     }
 
-    /// A new pair of keys of version 3, which owns its bytes: they are those that `key_pair` makes.
+    /// A new key pair of version 3, which owns its bytes: the keys that `key_pair` makes.
     ///
-    /// `Cipher` and `KeyRejected` come just where `key_pair` answers them, and else nothing but memory is refused.
+    /// `Cipher` and `KeyRejected` are returned if and only if `key_pair` returns them, and otherwise it fails only if
+    /// an allocation fails.
     pub fn try_new_pair<R: TryRng>(alloc: Global, rng: &mut R) -> Result<KeyPair<V3>, PasetoError>
         ensures ok { IfOk result (λ pair. R.may_fill rng.old pair.0 rng.new
             × IsPrivate pair.0 × (pair.1 ≡ p384_public pair.0)) }
@@ -215,10 +216,10 @@ impl SignatureScheme<96> for P384 {
 
     ghost declined = { IsDeclined };
 
-    /// The signature of FIPS 186-5, section 6.4.1, with the nonce of RFC 6979. It is valid under the public key of the
-    /// private key, by the law `signatures_are_valid`, and not verified before it is answered. `KeyRejected` comes for
-    /// what is no private key: another length than 48 bytes, 0, or a number that is not below n; and `Signature` just
-    /// where neither of two candidates for a nonce gives a signature. No memory is taken.
+    /// The signature of FIPS 186-5, section 6.4.1, with the nonce of RFC 6979. It is valid for the public key of the
+    /// private key, by the law `signatures_are_valid`, and is not verified before it is returned. `KeyRejected` is
+    /// returned for an invalid private key: another length than 48 bytes, 0, or a number that is not below n; and
+    /// `Signature` if and only if neither of two candidate nonces gives a signature. Does not allocate.
     fn sign(
         &mut self,
         _alloc: Global,
@@ -244,7 +245,7 @@ impl SignatureScheme<96> for P384 {
         }
     }
 
-    /// Is `Ok` exactly where the signature is valid, and else `InvalidSignature`. No memory is taken.
+    /// Returns `Ok` if and only if the signature is valid, and otherwise `InvalidSignature`. Does not allocate.
     fn verify(
         &self,
         _alloc: Global,
@@ -264,8 +265,8 @@ impl SignatureScheme<96> for P384 {
 }
 
 impl CompressedKey for P384 {
-    /// The public key of a private key, or `KeyRejected` for what is none: another length than 48 bytes, 0, or a
-    /// number that is not below n. No memory is taken.
+    /// The public key of a private key, or `KeyRejected` for an invalid one: another length than 48 bytes, 0, or a
+    /// number that is not below n. Does not allocate.
     fn public_key(&self, _alloc: Global, private: &[u8]) -> Result<[u8; 49], PasetoError>
         ensures ok { IfOk result (λ public. IsPrivate private.now
             × (public ≡ p384_public private.now)) }

@@ -1,4 +1,4 @@
-//! PBKDF2 (RFC 8018 section 5.2) with HMAC-SHA384: a key from a password.
+//! PBKDF2 (RFC 8018, section 5.2) with HMAC-SHA384: derives a key from a password.
 //!
 //! ```rust
 //! use paseto_pbkdf2::pbkdf2_sha384;

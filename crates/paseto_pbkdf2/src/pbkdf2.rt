@@ -9,11 +9,11 @@ use rusty_paseto_primitives::{HmacSha384, hmac_sha384};
 // The length in bytes of a block of the key, which is that of a code.
 const BLOCK_LEN: usize = 48;
 
-/// The key that a password and a salt, each of any length, give by so many iterations: the first block of PBKDF2, 48
-/// bytes. A shorter key is what it begins with.
+/// The key that is derived from a password and a salt, each of any length, with this many iterations: the first block
+/// of PBKDF2, 48 bytes. For a shorter key, truncate it.
 ///
-/// Each iteration costs an attacker who guesses passwords as much as it costs here. There is always one: 0 gives what 1
-/// gives. No memory is taken.
+/// Each iteration costs an attacker who guesses passwords as much as it costs here. There is at least one: 0 has the
+/// same result as 1. Does not allocate.
 ///
 /// Source: RFC 8018, section 5.2.
 pub fn pbkdf2_sha384(password: &[u8], salt: &[u8], iterations: u32) -> [u8; 48]

@@ -1,4 +1,4 @@
-//! Keys of Ed25519 (RFC 8410), of the versions 2 and 4.
+//! Keys of Ed25519 (RFC 8410), of versions 2 and 4.
 
 ghost use Rattle.std.specs.Prelude.{◌≡◌, length, IfErr, IfOk};
 ghost use Rattle.paseto_ed25519.specs.Ed25519.{ed25519_public};

@@ -1,4 +1,4 @@
-//! Why a key's text was refused.
+//! Why the text of a key was refused.
 
 ghost use Rattle.std.specs.Prelude.{◌≡◌, Some};
 ghost use Rattle.paseto_pem.specs.Error.{error_text};
@@ -10,30 +10,30 @@ use std::alloc::AllocError;
 use std::fmt;
 use thiserror::Error;
 
-/// Why a text was not read as a key, or a key not written.
+/// Why a text could not be read as a key, or a key could not be written.
 #[derive(Debug, Drop, Error)]
 pub enum PemError {
-    /// The text is none of RFC 7468 in the strict form, or has a label that no key has here.
+    /// The text is not PEM in the strict form of RFC 7468, or has a label that no supported key has.
     NotPem,
-    /// The key is encrypted, and no password is asked for.
+    /// The key is encrypted, which is not supported.
     Encrypted,
-    /// The text has this label, which no key has that was asked for.
+    /// The text has this label, and not that of the requested key.
     OtherLabel(Label),
-    /// The key is one of another algorithm.
+    /// The key is of another algorithm.
     OtherAlgorithm,
-    /// The key is one of another curve.
+    /// The key is of another curve.
     OtherCurve,
-    /// The key is one of the algorithm, and of another size.
+    /// The key is of the right algorithm, but of another size.
     OtherSize,
-    /// The contents are no key: not in DER, in a form that no key has here, or of two halves that do not belong
-    /// together. From writing, where the bytes of the key are none that a key has.
+    /// The contents are not a key: not DER, in an unsupported form, or with two halves that do not belong together.
+    /// When writing: the bytes are not a key.
     InvalidKey,
-    /// Memory was refused.
+    /// An allocation failed.
     Memory(AllocError),
 }
 
 impl PemError {
-    /// What `Display` shows: one line, without its end. No memory is taken.
+    /// What `Display` shows: one line, without a line end. Does not allocate.
     pub fn text(&self) -> &'static str
         ensures { result.now ≡ error_text self.now }
     {

@@ -1,4 +1,4 @@
-//! The keys of public tokens as texts, and back.
+//! Writing the keys of public tokens as PEM, and reading them.
 
 ghost use Rattle.paseto_pem.specs.Key.{ReadsKey, WritesKey};
 ghost use Rattle.paseto_pem.specs.declared.label.Label.TheVariants.{PrivateKey as PrivateLabel, PublicKey as PublicLabel};
@@ -12,12 +12,12 @@ use rusty_paseto_parts::{
 };
 use std::alloc::Global;
 
-/// The private key whose text this is.
+/// The private key with this text.
 ///
-/// The reading is exact: `NotPem` comes for what is no text of RFC 7468 in the strict form, `Encrypted` for a key that is
-/// encrypted, `OtherLabel` where another thing stands there, as a public key, `OtherAlgorithm`, `OtherCurve` and
-/// `OtherSize` where such a key of another one does, and `InvalidKey` where the contents are no key. A public half that
-/// stands there must be that of the private key. In version 3 `EC PRIVATE KEY` is read too.
+/// Reading is strict: `NotPem` is returned for anything but PEM in the strict form of RFC 7468, `Encrypted` for an
+/// encrypted key, `OtherLabel` for another label, for example that of a public key, `OtherAlgorithm`, `OtherCurve` and
+/// `OtherSize` for a key of another algorithm, curve or size, and `InvalidKey` if the contents are not a key. If the
+/// text contains the public key, it must belong to the private key. Version 3 also reads `EC PRIVATE KEY`.
 ///
 /// Source: RFC 7468, sections 3 and 10; RFC 5208, section 5; RFC 8410, section 7; RFC 5915, section 3; RFC 8017, appendix
 /// A.1.2.
@@ -35,8 +35,8 @@ pub fn private_key_from_pem<V: PemVersion>(
     }
 }
 
-/// The public key whose text this is. The errors are those of `private_key_from_pem`. In version 1 `RSA PUBLIC KEY` is
-/// read too, and in version 3 a point with compression or without.
+/// The public key with this text. The errors are those of `private_key_from_pem`. Version 1 also reads `RSA PUBLIC
+/// KEY`, and version 3 reads compressed and uncompressed points.
 ///
 /// Source: RFC 7468, sections 3 and 13; RFC 5280, section 4.1; RFC 8410, section 4; RFC 5480, section 2; RFC 8017, appendix
 /// A.1.1.
@@ -56,9 +56,9 @@ pub fn public_key_from_pem<V: PemVersion>(
 
 /// The text of a private key, byte for byte as `openssl pkey` writes it.
 ///
-/// `InvalidKey` comes exactly where no text has such a key: in versions 2 and 4 where it has not 64 bytes, or its last 32
-/// are not the public key of the others; in version 3 where it is no number of the curve; and in version 1 where it is no
-/// PrivateKeyInfo of a key of 2048 bits.
+/// `InvalidKey` is returned if and only if the key is not valid: in versions 2 and 4 if it does not have 64 bytes, or
+/// its last 32 are not the public key of the others; in version 3 if it is not a private key of the curve; and in
+/// version 1 if it is not a PrivateKeyInfo of a key of 2048 bits.
 pub fn private_key_to_pem<V: PemVersion>(
     alloc: Global,
     key: &PasetoAsymmetricPrivateKey<'_, V, Public>,
@@ -71,8 +71,8 @@ pub fn private_key_to_pem<V: PemVersion>(
 
 /// The text of a public key, byte for byte as `openssl pkey -pubout` writes it.
 ///
-/// `InvalidKey` comes exactly where no text has such a key: never in versions 2 and 4, in version 3 where it is no point of
-/// the curve, and in version 1 where it is no RSAPublicKey of 2048 bits.
+/// `InvalidKey` is returned if and only if the key is not valid: never in versions 2 and 4, in version 3 if it is not a
+/// point of the curve, and in version 1 if it is not an RSAPublicKey of 2048 bits.
 pub fn public_key_to_pem<V: PemVersion>(
     alloc: Global,
     key: &PasetoAsymmetricPublicKey<'_, V, Public>,

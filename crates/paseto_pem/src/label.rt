@@ -1,10 +1,10 @@
-//! What stands in a text, by the word of its first line and its last.
+//! Labels, which say what a text contains.
 
 ghost use Rattle.std.specs.Prelude.{◌≡◌, ◌↔◌, IsTrue, MatchOption};
 ghost use Rattle.paseto_pem.specs.Label.{HasLabel, begin_boundary, end_boundary};
 ghost use Rattle.paseto_pem.specs.declared.label.Label.{Label as TheLabel};
 
-/// What stands in a text, as its first line and its last tell.
+/// What a text contains, as its first and its last line say.
 #[derive(Clone, Copy, Debug, PartialEq, Eq)]
 pub enum Label {
     /// `PRIVATE KEY`: a private key in PKCS #8 (RFC 7468, section 10).
@@ -15,14 +15,14 @@ pub enum Label {
     PublicKey,
     /// `EC PRIVATE KEY`: a private key of a curve (RFC 5915, section 4).
     EcPrivateKey,
-    /// `RSA PRIVATE KEY`: a private key of RSA as PKCS #1 has it.
+    /// `RSA PRIVATE KEY`: an RSA private key in PKCS #1.
     RsaPrivateKey,
-    /// `RSA PUBLIC KEY`: a public key of RSA as PKCS #1 has it.
+    /// `RSA PUBLIC KEY`: an RSA public key in PKCS #1.
     RsaPublicKey,
 }
 
 impl Label {
-    /// The line before the contents, without its end.
+    /// The line before the contents, without a line end.
     pub(crate) fn begin_boundary(self) -> &'static str
         ensures { result.now ≡ begin_boundary self }
     {
@@ -36,7 +36,7 @@ impl Label {
         }
     }
 
-    /// The line behind the contents, without its end.
+    /// The line after the contents, without a line end.
     pub(crate) fn end_boundary(self) -> &'static str
         ensures { result.now ≡ end_boundary self }
     {

@@ -6,13 +6,13 @@ ghost use Rattle.paseto_pem.specs.declared.label.Label.{Label as TheLabel};
 
 use crate::version::PemVersion;
 
-/// The text that is written of a private key is one that is read as this key, and as no other.
+/// The text that is written for a private key is read as this key, and as no other.
 pub fn written_private_keys_are_read<V: PemVersion>()
     ensures { (label : TheLabel) (key text : List ℕ) → IsWritten V.is_private_of label key text
         → IsText V.is_private_of key text }
 {}
 
-/// The text that is written of a public key is one that is read as this key, and as no other.
+/// The text that is written for a public key is read as this key, and as no other.
 pub fn written_public_keys_are_read<V: PemVersion>()
     ensures { (label : TheLabel) (key text : List ℕ) → IsWritten V.is_public_of label key text
         → IsText V.is_public_of key text }

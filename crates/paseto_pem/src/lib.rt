@@ -1,5 +1,5 @@
 //! Keys in PEM (RFC 7468), as `openssl pkey` writes and reads them: private keys in PKCS #8 and public keys as
-//! SubjectPublicKeyInfo, of Ed25519 for the versions 2 and 4, of P-384 for version 3, and of RSA for version 1.
+//! SubjectPublicKeyInfo, of Ed25519 for versions 2 and 4, of P-384 for version 3, and of RSA for version 1.
 //!
 //! ```rust
 //! use paseto_pem::{PemError, private_key_from_pem, private_key_to_pem};
@@ -13,7 +13,8 @@
 //! }
 //! ```
 //!
-//! `EC PRIVATE KEY` of SEC 1 and `RSA PUBLIC KEY` of PKCS #1 are read too. What is no such key is refused by its name.
+//! `EC PRIVATE KEY` (SEC 1) and `RSA PUBLIC KEY` (PKCS #1) are read, too. Anything else is refused with an error that
+//! says what it is.
 #![tactic(auto)]
 
 mod ed25519;

@@ -81,7 +81,7 @@ fn push_lines(contents: &[u8], end: &str, text: &mut String) -> Result<(), Alloc
     Ok(())
 }
 
-/// The contents of a text with this label, or `None` where it is none.
+/// The contents of a text with this label, or `None` if it is not such a text.
 pub(crate) fn read(alloc: Global, label: Label, text: &str) -> Result<Option<Vec<u8>>, AllocError>
     ensures { IfOk result (λ read. MatchOption read
         ((contents : List ℕ) → IsBytes contents → IsPem label contents text.now → ⊥)

@@ -1,4 +1,4 @@
-//! The versions whose keys have texts.
+//! The versions whose keys can be written in PEM.
 
 ghost use Rattle.std.specs.Prelude.{IfOk, IsTrue};
 ghost use Rattle.paseto_pem.specs.Ed25519.{IsPrivateFault, IsPrivateOf, IsPublicFault, IsPublicOf};
@@ -13,7 +13,7 @@ use crate::{ed25519, p384, rsa};
 use rusty_paseto_parts::{V1, V2, V3, V4, VersionTrait};
 use std::alloc::Global;
 
-/// A version whose keys have texts: 1 to 4.
+/// A version whose keys can be written in PEM: 1 to 4.
 pub trait PemVersion: VersionTrait {
     // Which contents under which label are which private key.
     ghost is_private_of: { Contents };
@@ -27,12 +27,12 @@ pub trait PemVersion: VersionTrait {
     // Why contents under a label are no public key.
     ghost is_public_fault: { Faults };
 
-    /// The bytes of the private key that the contents of a text with this label are.
+    /// The bytes of the private key in the contents of a text with this label.
     fn read_private(alloc: Global, label: Label, contents: &[u8]) -> Result<Vec<u8>, PemError>
         ensures read { ReadsContents is_private_of is_private_fault label contents.now result }
         ensures form { IfOk result (λ key. IsTrue (Self.is_private_key key.items)) };
 
-    /// The bytes of the public key that the contents of a text with this label are.
+    /// The bytes of the public key in the contents of a text with this label.
     fn read_public(alloc: Global, label: Label, contents: &[u8]) -> Result<Vec<u8>, PemError>
         ensures read { ReadsContents is_public_of is_public_fault label contents.now result }
         ensures form { IfOk result (λ key. IsTrue (Self.is_public_key key.items)) };

@@ -1,5 +1,5 @@
-//! Identities by normal forms: two expressions are equal, or equal modulo a number, as their polynomials are computed,
-//! with multiples of equations that hold added to both.
+//! Identities by normal forms. Two expressions are shown to be equal, or equal modulo a number, by
+//! computing their polynomials, after multiples of equations that hold are added to both.
 
 ghost use Rattle.std.specs.Prelude.{ℕ, ◌%◌, ◌<◌, ◌≡◌, List, true};
 ghost use Rattle.paseto_polynomials.specs.Identity.{Equation, Hold, is_null, is_same, left_sides, right_sides};
@@ -18,16 +18,17 @@ pub fn equal_modulo()
         → value n m numbers a % m ≡ value n m numbers b % m }
 {}
 
-/// Expressions are equal modulo any m where they have the same polynomial, once multiples of equations that hold modulo
-/// m are added to both.
+/// Expressions are equal modulo any m if they have the same polynomial after multiples of equations
+/// that hold modulo m are added to both.
 pub fn equal_by_equations()
     ensures { (n m : ℕ) (numbers : ℕ → ℕ) (es : List Equation) → Hold n m numbers es → (a b : Expression)
         → is_same n (polynomial n m (sum a (right_sides es))) (polynomial n m (sum b (left_sides es))) ≡ true
         → value n m numbers a % m ≡ value n m numbers b % m }
 {}
 
-/// Expressions are equal modulo m if m divides each coefficient of their difference, once multiples of equations that
-/// hold modulo m are added to both. This is for a known m, whose multiples a check can tell.
+/// Expressions are equal modulo m if m divides each coefficient of their difference, after
+/// multiples of equations that hold modulo m are added to both. This is for a known m, whose
+/// multiples the check can recognize.
 pub fn equal_by_equations_modulo()
     ensures { (n m : ℕ) (numbers : ℕ → ℕ) → 0 < m → (es : List Equation) → Hold n m numbers es → (a b : Expression)
         → is_null n m (polynomial n m (difference (sum a (right_sides es)) (sum b (left_sides es)))) ≡ true

@@ -12,8 +12,9 @@ pub fn values_of_reduced()
         → at n numbers (reduced rules n m p) % m ≡ at n numbers p % m }
 {}
 
-/// Expressions are equal modulo m, at numbers that obey the rules, if each coefficient of their difference is 0 once it
-/// is reduced, where multiples of equations that hold modulo m are added to both.
+/// Expressions are equal modulo m, at numbers that obey the rules, if each coefficient of their
+/// difference is 0 after reduction, once multiples of equations that hold modulo m are added to
+/// both.
 pub fn equal_by_rules()
     ensures { (rules : ℕ → Option Cube) (n m : ℕ) (numbers : ℕ → ℕ) → 0 < m → Obey rules n m numbers
         → (es : List Equation) → Hold n m numbers es → (a b : Expression)
@@ -21,8 +22,8 @@ pub fn equal_by_rules()
         → value n m numbers a % m ≡ value n m numbers b % m }
 {}
 
-/// Expressions have the same value by operations modulo m, at numbers below m that obey the rules, under the same
-/// condition, where the equations hold by these operations.
+/// Under the same condition, expressions have the same value by operations modulo m, at numbers
+/// below m that obey the rules, if the equations hold by these operations.
 pub fn equal_elements_by_rules()
     ensures { (rules : ℕ → Option Cube) (n m : ℕ) (numbers : ℕ → ℕ) → 0 < m → AreBelow m numbers
         → Obey rules n m numbers → (es : List Equation) → HoldElements n m numbers es → (a b : Expression)

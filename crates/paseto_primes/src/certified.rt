@@ -4,22 +4,23 @@ ghost use Rattle.std.specs.Prelude.{ℕ, ◌+◌, ◌-◌, ◌*◌, ◌%◌, ◌
 ghost use Rattle.paseto_primes.specs.Certified.{Certificate, is_chain, number};
 ghost use Rattle.paseto_primes.specs.Prime.{IsPrime};
 
-/// A prime divisor q of n - 1 divides r - 1 for each prime divisor r of n, if a number a shows it: its power by n - 1
-/// is 1 modulo n, and its power by (n - 1) / q, less 1, has an inverse u (H. C. Pocklington, "The determination of the
-/// prime or composite nature of large numbers by Fermat's theorem", Proceedings of the Cambridge Philosophical
-/// Society 18, 1914).
+/// A prime divisor q of n - 1 divides r - 1 for each prime divisor r of n if there is a number a
+/// such that a^(n - 1) is 1 modulo n, and a^((n - 1) / q) - 1 has an inverse u (H. C. Pocklington,
+/// "The determination of the prime or composite nature of large numbers by Fermat's theorem",
+/// Proceedings of the Cambridge Philosophical Society 18, 1914).
 pub fn pocklington_divisor()
     ensures { (n a q m u r : ℕ) → IsPrime q → n ≡ q * m + 1 → 0 < m → a ^ (q * m) % n ≡ 1
         → (u * (a ^ m % n + (n - 1))) % n ≡ 1 → IsPrime r → n % r ≡ 0 → (r - 1) % q ≡ 0 }
 {}
 
-/// A number is prime if f divides r - 1 for each prime divisor r of it, and f + 1 is above its square root.
+/// A number n is prime if f divides r - 1 for each prime divisor r of n, and f + 1 is above the
+/// square root of n.
 pub fn pocklington()
     ensures { (n f : ℕ) → 1 < n → n < (f + 1) * (f + 1) → ((r : ℕ) → IsPrime r → n % r ≡ 0 → (r - 1) % f ≡ 0)
         → IsPrime n }
 {}
 
-/// The number of a certificate is prime, where each certificate of a chain rests on those behind it.
+/// The number of a certificate is prime if each certificate of its chain rests on those after it.
 pub fn chain_of_certificates()
     ensures { (c : Certificate) (smaller : List Certificate) → is_chain (c ∷ smaller) ≡ true → IsPrime (number c) }
 {}

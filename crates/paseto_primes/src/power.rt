@@ -9,12 +9,12 @@ pub fn repeated_squaring()
     ensures { (bits x n p : ℕ) → n < 2 ^ bits → raised bits x n p ≡ x ^ n % p }
 {}
 
-/// Fermat's little theorem: the power by p - 1 is 1.
+/// Fermat's little theorem: a^(p - 1) is 1 modulo p.
 pub fn fermat()
     ensures { (p a : ℕ) → IsPrime p → a % p ≢ 0 → a ^ (p - 1) % p ≡ 1 }
 {}
 
-/// The power by p - 2 is the inverse.
+/// a^(p - 2) is the inverse of a modulo p.
 pub fn inverse()
     ensures { (p a : ℕ) → IsPrime p → a % p ≢ 0 → (a * (a ^ (p - 2) % p)) % p ≡ 1 }
 {}

@@ -8,7 +8,7 @@ pub fn euclid()
     ensures { (p a b : ℕ) → IsPrime p → (a * b) % p ≡ 0 → (a % p ≡ 0) ⊎ (b % p ≡ 0) }
 {}
 
-/// A factor that the prime does not divide cancels.
+/// A common factor that the prime does not divide can be cancelled.
 pub fn common_factor()
     ensures { (p a b c : ℕ) → IsPrime p → a % p ≢ 0 → (a * b) % p ≡ (a * c) % p → b % p ≡ c % p }
 {}

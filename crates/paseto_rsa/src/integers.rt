@@ -11,14 +11,14 @@ use paseto_montgomery::from_short_octets;
 // The tag of an INTEGER.
 const INTEGER: u8 = 0x02;
 
-/// A number, the lowest word first, and what stands behind its INTEGER.
+/// A number, the lowest word first, and what follows its INTEGER.
 #[derive(Drop)]
 pub(crate) struct Number<'a, const N: usize> {
     pub(crate) words: [u64; N],
     pub(crate) behind: &'a [u8],
 }
 
-/// Three numbers, and what stands behind their INTEGERs.
+/// Three numbers, and what follows their INTEGERs.
 #[derive(Drop)]
 pub(crate) struct Triple<'a, const A: usize, const B: usize, const C: usize> {
     pub(crate) first: [u64; A],
@@ -67,7 +67,7 @@ fn digits(contents: &[u8], most: usize) -> Option<&[u8]>
     Some(rest)
 }
 
-/// The number whose INTEGER stands at the front, if it has at most N words.
+/// The number whose INTEGER the octets begin with, if it has at most N words.
 pub(crate) fn read_number<const N: usize>(octets: &[u8]) -> Option<Number<'_, N>>
     ensures { MatchOption result
         ((x : ℕ) (behind : List ℕ) → x < weight N → IsInteger x behind octets.now → ⊥)
@@ -87,7 +87,7 @@ pub(crate) fn read_number<const N: usize>(octets: &[u8]) -> Option<Number<'_, N>
     })
 }
 
-/// The three numbers whose INTEGERs stand at the front, if they have at most A, B and C words.
+/// The three numbers whose INTEGERs the octets begin with, if they have at most A, B and C words.
 pub(crate) fn read_triple<const A: usize, const B: usize, const C: usize>(
     octets: &[u8],
 ) -> Option<Triple<'_, A, B, C>>

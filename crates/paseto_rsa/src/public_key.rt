@@ -1,10 +1,10 @@
-//! A public key whose number is made ready.
+//! A public key that is prepared for verifying.
 
 ghost use Rattle.std.specs.Prelude.{◌<◌};
 
 use paseto_montgomery::Modulus;
 
-/// A public key of RSA with a modulus of 2048 bits, read and made ready, for who verifies many signatures by one key.
+/// An RSA public key with a modulus of 2048 bits, read and prepared for verifying many signatures.
 ///
 /// ```rust
 /// use paseto_rsa::PublicKey;

@@ -57,12 +57,12 @@ pub(crate) fn public_key(n: &[u64; 32], exponent: u64) -> Option<PublicKey>
 }
 
 impl PublicKey {
-    /// The public key of its encoding as an RSAPublicKey of PKCS #1 (RFC 8017, appendix A.1.1), in DER. No memory is
-    /// taken.
+    /// The public key of its encoding as an RSAPublicKey of PKCS #1 (RFC 8017, appendix A.1.1), in DER. Does not
+    /// allocate.
     ///
-    /// `None` comes for what is no such encoding: lengths and INTEGERs are in the fewest octets, and nothing stands
-    /// behind the end; for a modulus that has not 2048 bits or is even; and for another public exponent than 65537, which
-    /// version 1 asks for.
+    /// `None` is returned for anything but such an encoding, where lengths and INTEGERs are in the fewest octets, and
+    /// nothing follows the end; for a modulus that does not have 2048 bits or is even; and for a public exponent other
+    /// than 65537, which version 1 demands.
     pub fn from_der(key: &[u8]) -> Option<PublicKey>
         ensures { MatchOption result
             ((n e : ℕ) → IsInRange n e → IsPublicKey n e key.now → ⊥)

@@ -18,7 +18,7 @@ use std::alloc::Global;
 /// RSASSA-PSS with SHA-384, MGF1 over SHA-384 and a salt of 48 bytes (RFC 8017, section 8.1), the signature scheme of
 /// version 1, for keys of 2048 bits. It draws the salts from its generator.
 ///
-/// Private keys are PrivateKeyInfos of PKCS #8, and public keys RSAPublicKeys of PKCS #1, both in DER.
+/// Private keys are PKCS #8 PrivateKeyInfos, and public keys PKCS #1 RSAPublicKeys, both in DER.
 ///
 /// ```rust
 /// use paseto_rsa::RsaPss;
@@ -62,10 +62,10 @@ impl<R: TryRng> SignatureScheme<256> for RsaPss<R> {
 
     ghost declined = { IsDeclined };
 
-    /// The signature of RFC 8017, section 8.1.1, with a salt that the generator gives, made by both factors of the
-    /// modulus and checked against the public key before it is answered. `KeyRejected` comes for what is no private
-    /// key: an encoding that is none, or numbers that are out of range; `Cipher` where the generator fails; and
-    /// `RsaCipher` where what was made is not valid, since the numbers are not of one key. No memory is taken.
+    /// The signature of RFC 8017, section 8.1.1, with a salt from the generator, computed with both factors of the
+    /// modulus and checked against the public key before it is returned. `KeyRejected` is returned for an invalid
+    /// private key: a malformed encoding, or numbers that are out of range; `Cipher` if the generator fails; and
+    /// `RsaCipher` if the signature is not valid, since the numbers are inconsistent. Does not allocate.
     fn sign(
         &mut self,
         _alloc: Global,
@@ -96,8 +96,8 @@ impl<R: TryRng> SignatureScheme<256> for RsaPss<R> {
         Ok(made)
     }
 
-    /// Is `Ok` exactly where the signature is valid, and else `InvalidSignature`, for what is no public key too. No
-    /// memory is taken.
+    /// Returns `Ok` if and only if the signature is valid, and otherwise `InvalidSignature`, also for an invalid public
+    /// key. Does not allocate.
     fn verify(
         &self,
         _alloc: Global,

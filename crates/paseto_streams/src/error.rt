@@ -1,4 +1,4 @@
-//! Why an input was not read, or an output not written.
+//! Why reading an input or writing an output failed.
 
 ghost use Rattle.std.specs.Prelude.{◌≡◌};
 ghost use Rattle.paseto_streams.specs.declared.error.StreamError.TheVariants.{InputOrOutput, Memory};
@@ -6,12 +6,12 @@ ghost use Rattle.paseto_streams.specs.declared.error.StreamError.TheVariants.{In
 use std::alloc::AllocError;
 use std::io;
 
-/// Why an input was not read, or an output not written.
+/// Why reading an input or writing an output failed.
 #[derive(Debug, Drop)]
 pub enum StreamError {
-    /// A read or a write failed, or a write took no byte.
+    /// A read or a write failed, or a write accepted no bytes.
     InputOrOutput,
-    /// Memory was refused.
+    /// An allocation failed.
     Memory(AllocError),
 }
 

@@ -8,16 +8,16 @@ use crate::error::StreamError;
 use std::alloc::Global;
 use std::io::Read;
 
-/// How many bytes are asked for at first, and at most. Each read asks for twice as many as the one
-/// before, so that a long input takes few reads.
+/// The number of bytes that the first read requests, and the most that a read requests. Each read
+/// requests twice as many as the one before, so a long input takes few reads.
 const SHORTEST: usize = 4096;
 
 const LONGEST: usize = 65536;
 
-/// The bytes of the input, up to its end, which is the first read that gives none.
+/// Returns the bytes of the input, up to its end. The end is the first read that returns no bytes.
 ///
-/// Each other read lengthens the bytes that are kept, so this ends for every reader. A read that fails is
-/// `InputOrOutput`, and `Memory` comes where the bytes find no room.
+/// Every other read adds to the bytes that are kept, so this ends for every reader. A failed read
+/// returns `InputOrOutput`, and a failed allocation returns `Memory`.
 pub fn read_whole<R: Read>(alloc: Global, input: &mut R) -> Result<Vec<u8>, StreamError>
     ensures whole { IfOk result (λ bytes. IsInput (R.remaining input.old) bytes.items) }
     ensures ended { OnOk result (IsAtEnd (R.remaining input.new)) }

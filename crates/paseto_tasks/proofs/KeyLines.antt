@@ -98,27 +98,27 @@ module _ (IsKey IsSame : List ℕ → Type 0) (kind : PaserkType) (version : Pas
     found = record { bytes = read.bytes; is_key = into read.form; is_writing = read.written };
     one = λ other is. read.read other is.bytes (back other is.is_key) is.is_writing;
     none = tt;
-    fixed = tt;
+    plain = tt;
   }
 
   -- and none
   pub no_line_of_paserk : (error : PaserkError) → ReadsKey version kind IsKey line (Err error)
       → ReadsLine (IsKeyLine IsSame kind version) line (Err (key_error_of error))
-  no_line_of_paserk (NoKeyMemory source) read = record { found = tt; one = tt; none = inl tt; fixed = tt }
+  no_line_of_paserk (NoKeyMemory source) read = record { found = tt; one = tt; none = inl tt; plain = (tt, tt) }
   no_line_of_paserk error read = record {
     found = tt;
     one = tt;
     none = inr (λ key is. read.read key is.bytes (back key is.is_key) is.is_writing);
-    fixed = tt;
+    plain = (tt, tt);
   }
 
 module _ (IsKeyOf : Contents) (IsFaultOf : Faults) (line : List ℕ) where
   -- a key in PEM
   pub line_of_pem : (key : List ℕ) → ReadsPem IsKeyOf IsFaultOf line (Ok key) → ReadsLine (λ text key. IsText IsKeyOf key text) line (Ok key)
-  line_of_pem key read = record { found = read.found; one = read.read; none = tt; fixed = tt }
+  line_of_pem key read = record { found = read.found; one = read.read; none = tt; plain = tt }
 
   -- and none
   pub no_line_of_pem : (error : PemError) → ReadsPem IsKeyOf IsFaultOf line (Err error)
       → ReadsLine (λ text key. IsText IsKeyOf key text) line (Err (pem_error_of error))
-  no_line_of_pem (NoPemMemory source) read = record { found = tt; one = tt; none = inl tt; fixed = tt }
-  no_line_of_pem error read = record { found = tt; one = tt; none = inr read.read; fixed = tt }
+  no_line_of_pem (NoPemMemory source) read = record { found = tt; one = tt; none = inl tt; plain = (tt, tt) }
+  no_line_of_pem error read = record { found = tt; one = tt; none = inr read.read; plain = (tt, tt) }

@@ -4,6 +4,7 @@ pub mod Refusals
 pub mod Versions
 pub mod Boxes
 pub mod Statuses
+pub mod Blames
 pub mod Fronts
 pub mod Ids
 pub mod KeyLines

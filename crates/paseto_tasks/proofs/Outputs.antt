@@ -5,11 +5,11 @@ use Rattle.std.specs.Io.KnownBytes.{Appends, Keeps}
 use Rattle.std.proofs.KnownBytes.{Appends-kept, Appends-nil}
 use Rattle.paseto_key_files.specs.declared.error.KeyFileError.TheVariants.{Random as NoBytes, Memory as NoFileMemory}
 use Rattle.paseto_pem.specs.declared.error.PemError.TheVariants.{Memory as NoPemMemory}
-use Rattle.rusty_paseto_paserk.specs.declared.error.PaserkError.TheVariants.{NoKey, OtherVersion, OtherType, InvalidKey, Memory as NoKeyMemory}
+use Rattle.rusty_paseto_paserk.specs.declared.error.PaserkError.TheVariants.{Memory as NoKeyMemory}
 use Rattle.paseto_tasks.specs.declared.arguments.Options.{Options}
 use Rattle.paseto_tasks.specs.declared.arguments.Task.{Task}
 use Rattle.paseto_tasks.specs.declared.error.ProgramError.{ProgramError}
-use Rattle.paseto_tasks.specs.declared.error.ProgramError.TheVariants.{Usage, KeyWord, NoKind, NoHalf, NoFormat, LockedPem, NoKey, NoPassword, OddPassword, OneInput, Claim, TimeClaim, Time, Key, Pem, KeyFile, NotSealed, SecondLine, TooLong, Refused, OtherKind, NoAssertion, OddClaim, OtherFooter, NoFooter, NotAnObject, NoKeyId, NotJson, OddNumber, Unfit, NoFile, NoAccess, FileExists, Clock, Random, InputOrOutput, Memory}
+use Rattle.paseto_tasks.specs.declared.error.ProgramError.TheVariants.{Key, KeyFile, Pem}
 use Rattle.paseto_tasks.specs.Error.{status_of}
 use Rattle.paseto_streams.specs.Output.{IsCutShort}
 use Rattle.paseto_tasks.specs.Output.{IsLeftOf}
@@ -30,50 +30,14 @@ left_of_made (Err error) IsOutput left printed (inr cut) = absurd cut.1
 
 -- no error ends the program with the status of success
 pub status_of-some : (error : ProgramError) → (status_of error == 0) ≡ false
-status_of-some Usage = refl
-status_of-some KeyWord = refl
-status_of-some NoKind = refl
-status_of-some NoHalf = refl
-status_of-some NoFormat = refl
-status_of-some LockedPem = refl
-status_of-some NoKey = refl
-status_of-some NoPassword = refl
-status_of-some OneInput = refl
-status_of-some Claim = refl
-status_of-some TimeClaim = refl
-status_of-some (Time option) = refl
-status_of-some (Key NoKey) = refl
-status_of-some (Key (OtherVersion version)) = refl
-status_of-some (Key (OtherType kind)) = refl
-status_of-some (Key InvalidKey) = refl
 status_of-some (Key (NoKeyMemory source)) = refl
+status_of-some (Key error) = refl
 status_of-some (Pem (NoPemMemory source)) = refl
 status_of-some (Pem error) = refl
 status_of-some (KeyFile NoBytes) = refl
 status_of-some (KeyFile (NoFileMemory source)) = refl
 status_of-some (KeyFile error) = refl
-status_of-some NotSealed = refl
-status_of-some SecondLine = refl
-status_of-some OddPassword = refl
-status_of-some TooLong = refl
-status_of-some (Refused error) = refl
-status_of-some (OtherKind token key) = refl
-status_of-some NoAssertion = refl
-status_of-some OddClaim = refl
-status_of-some OtherFooter = refl
-status_of-some NoFooter = refl
-status_of-some NotAnObject = refl
-status_of-some NoKeyId = refl
-status_of-some NotJson = refl
-status_of-some OddNumber = refl
-status_of-some (Unfit line) = refl
-status_of-some NoFile = refl
-status_of-some NoAccess = refl
-status_of-some FileExists = refl
-status_of-some Clock = refl
-status_of-some Random = refl
-status_of-some InputOrOutput = refl
-status_of-some (Memory source) = refl
+status_of-some error = refl
 
 module _ (task : Task) (options : Options) (IsDrawn : List ℕ → Type 0) (file_known known : Option (List ℕ)) where
   -- what the known bytes of the key file and of the input say of what is written

@@ -6,7 +6,7 @@ use Rattle.paseto_pem.specs.declared.error.PemError.TheVariants.{Memory as NoPem
 use Rattle.rusty_paseto_paserk.specs.declared.error.PaserkError.TheVariants.{Memory as NoKeyMemory}
 use Rattle.paseto_tasks.specs.declared.error.ProgramError.{ProgramError}
 use Rattle.paseto_tasks.specs.declared.error.ProgramError.TheVariants.{Usage, KeyWord, NoKind, NoHalf, NoFormat, LockedPem, NoKey, NoPassword, OneInput, Claim, TimeClaim, Time, Key, Pem, KeyFile, Unfit, Clock, Random, InputOrOutput, Memory}
-use Rattle.paseto_tasks.specs.Error.{IsCauseOf, IsFixed, IsNoRefusal, IsNoUsage, IsOutside, Says, status_of}
+use Rattle.paseto_tasks.specs.Error.{IsCauseOf, IsFixed, IsNoRefusal, IsNoUsage, IsOutside, IsPlain, Says, status_of}
 
 -- ---- 2
 
@@ -41,17 +41,18 @@ fixed_no_usage (Unfit text) fixed = absurd fixed
 fixed_no_usage error fixed = fixed
 
 -- the same of the status of what was made
-pub not_2_made : {T : Type 0} (made : Result T ProgramError) (status : ℕ) → IsErrAnd made (λ error. status_of error ≡ status) → IfErr made IsFixed
+pub not_2_made : {T : Type 0} (made : Result T ProgramError) (status : ℕ) → IsErrAnd made (λ error. status_of error ≡ status) → IfErr made IsPlain
     → status ≢ 2
-not_2_made (Ok value) status is fixed = absurd is
-not_2_made (Err error) status is fixed = not_2 error status (sym is) (fixed_no_usage error fixed)
+not_2_made (Ok value) status is plain = absurd is
+not_2_made (Err error) status is plain = not_2 error status (sym is) (fixed_no_usage error plain.0)
 
--- where what was made has no text of its own, the error that ends the program has none
-pub fixed_cause : {T : Type 0} (made : Result T ProgramError) (error : ProgramError) → IsCauseOf made error → IfErr made IsFixed → IsFixed error
-fixed_cause (Ok value) error (inl is) fixed = absurd is
-fixed_cause (Ok value) error (inr is) fixed = subst IsFixed (sym is) tt
-fixed_cause (Err cause) error (inl is) fixed = subst IsFixed is fixed
-fixed_cause (Err cause) error (inr is) fixed = subst IsFixed (sym is) tt
+-- what is so of why nothing was made, and of a write that failed, is so of the error that ends the program
+pub cause_so : {T : Type 0} (IsSo : ProgramError → Type 0) (made : Result T ProgramError) (error : ProgramError) → IsCauseOf made error
+    → IfErr made IsSo → IsSo InputOrOutput → IsSo error
+cause_so IsSo (Ok value) error (inl is) so failed = absurd is
+cause_so IsSo (Ok value) error (inr is) so failed = subst IsSo (sym is) failed
+cause_so IsSo (Err cause) error (inl is) so failed = subst IsSo is so
+cause_so IsSo (Err cause) error (inr is) so failed = subst IsSo (sym is) failed
 
 -- ---- lines
 
@@ -69,14 +70,6 @@ fixed_says IsLine error fixed = tt
 pub no_refusal_says : (IsLine : List ℕ → Type 0) (error : ProgramError) → IsNoRefusal error → Says IsLine error
 no_refusal_says IsLine (Unfit line) none = absurd none
 no_refusal_says IsLine error none = tt
-
--- the error that ends the program says what that says why nothing was made, or is of the table
-pub cause_says : {T : Type 0} (IsLine : List ℕ → Type 0) (made : Result T ProgramError) (error : ProgramError) → IsCauseOf made error
-    → IfErr made (Says IsLine) → Says IsLine error
-cause_says IsLine (Ok value) error (inl is) says = absurd is
-cause_says IsLine (Ok value) error (inr is) says = subst (Says IsLine) (sym is) tt
-cause_says IsLine (Err cause) error (inl is) says = subst (Says IsLine) is says
-cause_says IsLine (Err cause) error (inr is) says = subst (Says IsLine) (sym is) tt
 
 -- what is so unless the error says nothing of the words
 pub usage_says : {T : Type 0} (made : Result T ProgramError) (status : ℕ) (X : Type 0) → IsErrAnd made (λ error. status_of error ≡ status)

@@ -71,62 +71,62 @@ abbrev pub refusal_text : PasetoError → List ℕ
 refusal_text Cryption = codes "wrong key, wrong footer or assertion, or the token was changed"
 refusal_text ChaChaCipherError = codes "wrong key, wrong footer or assertion, or the token was changed"
 refusal_text InvalidSignature = codes "wrong key, wrong footer or assertion, or the token was changed"
-refusal_text WrongHeader = codes "no token of a kind that is read here"
-refusal_text Signature = codes "the halves of the private key are of two keys"
-refusal_text KeyRejected = codes "no private key of its kind"
+refusal_text WrongHeader = codes "not a token of a supported kind"
+refusal_text Signature = codes "the two halves of the private key do not belong together"
+refusal_text KeyRejected = codes "not a valid private key of its kind"
 refusal_text error = error_text error
 
 -- what is said of a key that was refused as PEM: the text of the error, but where that leaves open what to do
 abbrev pub pem_text : PemError → List ℕ
-pem_text NotPem = codes "no valid PEM, in which the key pairs of version 1 are read"
+pem_text NotPem = codes "not valid PEM; key pairs of version 1 are read from PEM"
 pem_text error = pem_error_text error
 
 -- what is said where an option says no time
 abbrev pub time_text : TimeOption → List ℕ
-time_text Expires = codes "--expires: a time is as 90s, 30m, 12h, 7d or 2026-11-22T10:00:00Z"
-time_text NotBefore = codes "--not-before: a time is as 90s, 30m, 12h, 7d or 2026-11-22T10:00:00Z"
-time_text At = codes "--at: a time is as 90s, 30m, 12h, 7d or 2026-11-22T10:00:00Z"
-time_text Leeway = codes "--leeway: a length of time is as 5s, 30m, 12h or 7d"
+time_text Expires = codes "--expires: write a time as 90s, 30m, 12h, 7d or 2026-11-22T10:00:00Z"
+time_text NotBefore = codes "--not-before: write a time as 90s, 30m, 12h, 7d or 2026-11-22T10:00:00Z"
+time_text At = codes "--at: write a time as 90s, 30m, 12h, 7d or 2026-11-22T10:00:00Z"
+time_text Leeway = codes "--leeway: write a length of time as 5s, 30m, 12h or 7d"
 
 -- what each error says, which is the same whatever the words and the input are, but for what tells of a token
 abbrev pub text_of : ProgramError → List ℕ
-text_of Usage = codes "a word is no text: paseto --help tells what paseto does"
-text_of KeyWord = codes "a key is among the words, where others can see it: name the file that holds it"
-text_of NoKind = codes "no kind of key: v1.local, v2.local, v2.public, v3.local, v3.public, v4.local and v4.public are kinds"
-text_of NoHalf = codes "keys of this kind have no public half: leave --public out"
-text_of NoFormat = codes "--format: a format of keys is paserk or pem"
-text_of LockedPem = codes "a key under a password is not written in PEM: leave --format or the password out"
-text_of NoPassword = codes "no password is named: give --password-file FILE, or PASETO_PASSWORD"
-text_of OddPassword = codes "no password: one has 1 to 4095 bytes"
-text_of NoKey = codes "no key is named: give --key FILE, or the text of the key in PASETO_KEY"
+text_of Usage = codes "an argument is not valid UTF-8: see paseto --help"
+text_of KeyWord = codes "a key is among the arguments, where others can see it: name the file that holds it"
+text_of NoKind = codes "not a kind of key: use v1.local, v2.local, v2.public, v3.local, v3.public, v4.local or v4.public"
+text_of NoHalf = codes "keys of this kind have no public half: omit --public"
+text_of NoFormat = codes "--format: must be paserk or pem"
+text_of LockedPem = codes "a key under a password is not written in PEM: omit --format or the password"
+text_of NoPassword = codes "no password is given: use --password-file FILE, or PASETO_PASSWORD"
+text_of OddPassword = codes "not a password: it must have 1 to 4095 bytes"
+text_of NoKey = codes "no key is given: use --key FILE, or put the text of the key into PASETO_KEY"
 text_of OneInput = codes "standard input cannot be the key and the input: name a file for one of them"
 text_of (Key error) = key_error_text error
 text_of (Pem error) = pem_text error
 text_of (KeyFile error) = key_file_error_text error
-text_of NotSealed = codes "the key is not sealed: paseto unwrap opens it"
-text_of SecondLine = codes "line 2: a key file is one line of PASERK, or PEM"
-text_of TooLong = codes "longer than any key: it is no key file"
+text_of NotSealed = codes "the key is not sealed: use paseto unwrap"
+text_of SecondLine = codes "line 2: a key file has one line of PASERK, or is PEM"
+text_of TooLong = codes "too long for a key file"
 text_of (Refused error) = refusal_text error
-text_of Claim = codes "--claim: a claim is as aud=customers, or as seats:=4 with a value of JSON"
-text_of TimeClaim = codes "--claim: exp, nbf and iat are set by --expires and --not-before"
+text_of Claim = codes "--claim: write a claim as aud=customers, or as seats:=4 with a value of JSON"
+text_of TimeClaim = codes "--claim: set exp and nbf by --expires and --not-before; iat is set already"
 text_of (Time option) = time_text option
 text_of (OtherKind _ _) = codes "the token is "
-text_of NoAssertion = codes "keys of versions 1 and 2 take no implicit assertion: leave --assertion out"
-text_of OddClaim = codes "--claim: a number in a claim is a whole one, of 64 bits at most"
-text_of OtherFooter = codes "another footer: say it by --footer or --footer-kid; paseto inspect shows it"
+text_of NoAssertion = codes "keys of versions 1 and 2 take no implicit assertion: omit --assertion"
+text_of OddClaim = codes "--claim: a number in a claim must be a whole number of at most 64 bits"
+text_of OtherFooter = codes "the token has another footer: give it by --footer or --footer-kid; paseto inspect shows it"
 text_of NoFooter = codes "the token has no footer, which names its key in a ring"
 text_of NotAnObject = codes "the footer of the token is not a JSON object"
-text_of NoKeyId = codes "the footer of the token names no key: it has no text under kid"
+text_of NoKeyId = codes "the footer of the token names no key: it has no string under kid"
 text_of NotJson = codes "the text of the token is not valid JSON"
-text_of OddNumber = codes "a claim of the token has a number that is not a whole one of 64 bits"
+text_of OddNumber = codes "a claim of the token has a number that is not a whole number of 64 bits"
 text_of (Unfit line) = string_bytes line
-text_of Clock = codes "the system's clock tells no moment of the years 0 to 9999"
+text_of Clock = codes "the system clock is not within the years 0 to 9999"
 text_of NoFile = codes "no such file"
-text_of NoAccess = codes "the file cannot be opened or made"
-text_of FileExists = codes "the file is there already, and is not written over"
-text_of Random = codes "the system gave no random bytes"
+text_of NoAccess = codes "the file cannot be opened or created"
+text_of FileExists = codes "the file already exists and is not overwritten"
+text_of Random = codes "the system returned no random bytes"
 text_of InputOrOutput = codes "a read or a write failed"
-text_of (Memory _) = codes "no memory was found"
+text_of (Memory _) = codes "out of memory"
 
 -- the name of what was refused: the key file where the private key is none, and else the input
 abbrev pub refusal_about : Names → PasetoError → List ℕ
@@ -249,6 +249,22 @@ abbrev pub IsFixed : ProgramError → Type 0
 IsFixed (Unfit _) = ⊥
 IsFixed error = IsNoUsage error
 
+-- an error says that random bytes, the clock, the length of a key file or a footer is at fault only where it is
+abbrev pub BlamesOnly : (NoDraw NoMoment IsLong IsOther : Type 0) → ProgramError → Type 0
+BlamesOnly NoDraw NoMoment IsLong IsOther Random = NoDraw
+BlamesOnly NoDraw NoMoment IsLong IsOther Clock = NoMoment
+BlamesOnly NoDraw NoMoment IsLong IsOther TooLong = IsLong
+BlamesOnly NoDraw NoMoment IsLong IsOther OtherFooter = IsOther
+BlamesOnly NoDraw NoMoment IsLong IsOther _ = ⊤
+
+-- an error that says none of this
+abbrev pub BlamesNone : ProgramError → Type 0
+BlamesNone = BlamesOnly ⊥ ⊥ ⊥ ⊥
+
+-- one of them that has no text of its own
+abbrev pub IsPlain : ProgramError → Type 0
+IsPlain error = IsFixed error × BlamesNone error
+
 -- what is said of the error stands in this table, or is a line that is so
 abbrev pub Says : (List ℕ → Type 0) → ProgramError → Type 0
 Says IsLine (Unfit line) = IsLine (string_bytes line)
@@ -277,6 +293,10 @@ IsNoRefusal Random = ⊤
 IsNoRefusal InputOrOutput = ⊤
 IsNoRefusal (Memory _) = ⊤
 IsNoRefusal _ = ⊥
+
+-- one of the words, or memory was refused, or a read or a write failed
+abbrev pub IsOfWords : ProgramError → Type 0
+IsOfWords error = IsNoRefusal error × BlamesNone error
 
 -- the error came from outside, or there is nothing that is so
 abbrev pub Lacks : {X : Type 0} → (X → Type 0) → ProgramError → Type 0

@@ -6,10 +6,14 @@ use Rattle.std.specs.Io.BufRead.{strip_last}
 abbrev pub line_of_input : List ℕ → List ℕ
 line_of_input input = strip_last 10 input
 
+-- the bytes are too many for a key file
+abbrev pub IsLong : List ℕ → Type 0
+IsLong bytes = 4096 < length bytes
+
 -- the bytes are no key file: too many, or no text
 abbrev pub IsNoKeyFile : List ℕ → Type 0
-IsNoKeyFile bytes = (4096 < length bytes) ⊎ (¬ IsUtf8 (line_of_input bytes))
+IsNoKeyFile bytes = IsLong bytes ⊎ (¬ IsUtf8 (line_of_input bytes))
 
 -- the bytes are no password: too many, or none
 abbrev pub IsNoPassword : List ℕ → Type 0
-IsNoPassword bytes = (4096 < length bytes) ⊎ (line_of_input bytes ≡ [])
+IsNoPassword bytes = IsLong bytes ⊎ (line_of_input bytes ≡ [])

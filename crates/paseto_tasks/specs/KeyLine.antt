@@ -11,7 +11,7 @@ use Rattle.rusty_paseto_paserk.specs.declared.header.PaserkType.{PaserkType}
 use Rattle.rusty_paseto_paserk.specs.declared.header.PaserkType.TheVariants.{Local, Secret, Public}
 use Rattle.rusty_paseto_paserk.specs.Header.{HasHeader}
 use Rattle.paseto_tasks.specs.declared.error.ProgramError.{ProgramError}
-use Rattle.paseto_tasks.specs.Error.{IsFixed, Lacks}
+use Rattle.paseto_tasks.specs.Error.{IsPlain, Lacks}
 use Rattle.paseto_tasks.specs.Id.{IsKeyLine, IsKeyOf}
 
 -- the line begins as the PEM of a key of a type
@@ -23,6 +23,10 @@ BeginsAsPem Public line = HasLabel PublicKey line ⊎ HasLabel RsaPublicKey line
 -- the line begins as a key of a version and a type
 abbrev pub BeginsAs : PaserkVersion → PaserkType → List ℕ → Type 0
 BeginsAs version kind line = HasHeader version kind line ⊎ ((version ≡ V1) × BeginsAsPem kind line)
+
+-- a token under the key of the line takes bytes that are drawn: a nonce if it is a local one, and a salt in version 1
+abbrev pub TakesBytes : List ℕ → Type 0
+TakesBytes line = ((version : PaserkVersion) × BeginsAs version Local line) ⊎ BeginsAs V1 Secret line
 
 -- the line is the PEM of a private key of RSA, or of a public one
 abbrev pub IsPrivateText : List ℕ → List ℕ → Type 0
@@ -42,4 +46,4 @@ pub record ReadsLine (IsKey : List ℕ → List ℕ → Type 0) (line : List ℕ
   pub found : IfOk answer (λ key. IsKey line key)
   pub one : IfOk answer (λ key. (other : List ℕ) → IsKey line other → key ≡ other)
   pub none : IfErr answer (Lacks (λ key. IsKey line key))
-  pub fixed : IfErr answer IsFixed
+  pub plain : IfErr answer IsPlain

@@ -1,5 +1,5 @@
 -- The commands `sign` and `verify`.
-use Rattle.std.specs.Prelude.{◌≡◌, ◌≢◌, ◌⊎◌, ℕ, List, [], ◌∷◌, ◌++◌, is_some, IsUtf8}
+use Rattle.std.specs.Prelude.{◌≡◌, ◌≢◌, ◌⊎◌, ℕ, List, [], ◌∷◌, ◌++◌, length, is_some, IsUtf8}
 use Rattle.rusty_paseto_core.specs.Public.{PublicDesign, message, v1_public, v2_public, v3_public, v4_public}
 use Rattle.rusty_paseto_core.specs.Public.Scheme.{Declining, Refusal, Validity}
 use Rattle.rusty_paseto_core.specs.Public.Signing.{IsSigning}
@@ -7,10 +7,10 @@ use Rattle.rusty_paseto_core.specs.Public.Verifying.{verification}
 use Rattle.rusty_paseto_core.specs.Reading.{IsRead}
 use Rattle.paseto_ed25519.specs.Ed25519.{Ed25519Verifies, IsDeclined, IsRefused, partner}
 use Rattle.paseto_p384.specs.P384.{P384Verifies, IsDeclined as IsDeclinedByP384, IsRefused as IsRefusedByP384, p384_public}
-use Rattle.paseto_rsa.specs.Keys.{rsa_public}
-use Rattle.paseto_rsa.specs.RsaPss.{RsaPssVerifies, IsDeclined as IsDeclinedByRsa, IsRefused as IsRefusedByRsa}
+use Rattle.paseto_rsa.specs.Keys.{IsPrivate, rsa_public}
+use Rattle.paseto_rsa.specs.RsaPss.{HasNoSignature, RsaPssVerifies, IsRefused as IsRefusedByRsa}
 use Rattle.rusty_paseto_parts.specs.declared.error.PasetoError.{PasetoError}
-use Rattle.rusty_paseto_parts.specs.declared.error.PasetoError.TheVariants.{Cipher}
+use Rattle.rusty_paseto_parts.specs.declared.error.PasetoError.TheVariants.{Cipher, KeyRejected, RsaCipher}
 use Rattle.rusty_paseto_paserk.specs.declared.header.PaserkVersion.{PaserkVersion}
 use Rattle.rusty_paseto_paserk.specs.declared.header.PaserkVersion.TheVariants.{V1, V2, V3, V4}
 use Rattle.rusty_paseto_paserk.specs.declared.header.PaserkType.TheVariants.{Secret, Public}
@@ -70,6 +70,12 @@ abbrev pub VerifiesBy : List ℕ → Options → List ℕ → List ℕ → Type 
 VerifiesBy key options input text =
     (version : PaserkVersion) × Takes version options.assertion × VerifiesIn version key options (line_of_input input) text
 
+-- what is answered in version 1 for what is no private key, or where what one makes of the message with a salt is not valid
+abbrev pub IsUnsigned : Declining
+IsUnsigned private message error =
+    ((¬ IsPrivate private) × (error ≡ KeyRejected))
+    ⊎ (IsPrivate private × (error ≡ RsaCipher) × ((salt : List ℕ) × (length salt ≡ 48) × HasNoSignature private message salt))
+
 -- the line is that of a private key of a version, for which this error is answered
 pub record DeclinesKey (version : PaserkVersion) (Declined : List ℕ → PasetoError → Type 0) (key : List ℕ) : Type 0 where
   pub key_bytes : List ℕ
@@ -83,7 +89,7 @@ DeclinesText declined half design options text private error =
     (error ≢ Cipher) × declined private (message design (bound_by design.binds_assertion (half private) options) text) error
 
 abbrev pub DeclinesIn : PaserkVersion → List ℕ → Options → List ℕ → Type 0
-DeclinesIn V1 = λ key options text. DeclinesKey V1 (DeclinesText IsDeclinedByRsa rsa_public v1_public options text) key
+DeclinesIn V1 = λ key options text. DeclinesKey V1 (DeclinesText IsUnsigned rsa_public v1_public options text) key
 DeclinesIn V2 = λ key options text. DeclinesKey V2 (DeclinesText IsDeclined partner v2_public options text) key
 DeclinesIn V3 = λ key options text. DeclinesKey V3 (DeclinesText IsDeclinedByP384 p384_public v3_public options text) key
 DeclinesIn V4 = λ key options text. DeclinesKey V4 (DeclinesText IsDeclined partner v4_public options text) key
@@ -97,3 +103,12 @@ SignsNothing key options text = ((line : List ℕ) → ¬ SignsBy key options te
 -- no text is printed for the key and the input: the token is verified as none
 abbrev pub VerifiesNothing : List ℕ → Options → List ℕ → Type 0
 VerifiesNothing key options input = (text : List ℕ) → ¬ VerifiesBy key options input text
+
+-- ---- for private clauses
+
+-- a scheme may answer the error for a text, and for a token
+abbrev pub MayDecline : Declining → PasetoError → Type 0
+MayDecline declined error = (private : List ℕ) × (message : List ℕ) × declined private message error
+
+abbrev pub MayRefuse : Refusal → PasetoError → Type 0
+MayRefuse refused error = (public : List ℕ) × (message : List ℕ) × (signature : List ℕ) × refused public message signature error

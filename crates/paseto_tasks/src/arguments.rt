@@ -1,11 +1,11 @@
-//! What a command is asked for, beside its key and its input.
+//! The arguments of a command, apart from its key and its input.
 
 ghost use Rattle.std.specs.Prelude.{◌≡◌};
 ghost use Rattle.paseto_tasks.specs.Arguments.{format_of, is_pair, kind_of};
 
 use rusty_paseto_core::{Footer, ImplicitAssertion};
 
-/// The kinds of keys that the program makes.
+/// The kinds of keys that the program generates.
 #[derive(Clone, Copy)]
 pub enum Kind {
     /// `v1.local`
@@ -25,7 +25,7 @@ pub enum Kind {
 }
 
 impl Kind {
-    /// The kind that a word names.
+    /// The kind that an argument names.
     pub fn parse(word: &str) -> Option<Kind>
         ensures { result ≡ kind_of word.now }
     {
@@ -41,7 +41,7 @@ impl Kind {
         }
     }
 
-    /// Whether keys of this kind have two halves.
+    /// Whether keys of this kind are pairs.
     pub fn is_pair(self) -> bool
         ensures { result ≡ is_pair self }
     {
@@ -62,7 +62,7 @@ pub enum Format {
 }
 
 impl Format {
-    /// The format that a word names.
+    /// The format that an argument names.
     pub fn parse(word: &str) -> Option<Format>
         ensures { result ≡ format_of word.now }
     {
@@ -74,7 +74,7 @@ impl Format {
     }
 }
 
-/// What is to be done with a key and a text.
+/// What to do with a key and a text.
 #[derive(Clone, Copy)]
 pub enum Task {
     /// `encrypt`
@@ -87,23 +87,23 @@ pub enum Task {
     Verify,
 }
 
-/// What is said of a token, beside its claims.
+/// The options for a token, apart from its claims.
 #[derive(Clone, Copy)]
 pub struct Options<'a> {
     /// Its footer.
     pub footer: Option<Footer<'a>>,
-    /// The id of a key, which the footer names.
+    /// The id of a key that the footer names.
     pub kid: Option<&'a str>,
     /// Its implicit assertion.
     pub assertion: Option<ImplicitAssertion<'a>>,
-    /// When it expires, in the words of a moment.
+    /// When it expires, written as a moment.
     pub expires: Option<&'a str>,
-    /// When it may first be used, in the same words.
+    /// When it may first be used, written as a moment.
     pub not_before: Option<&'a str>,
-    /// At which moment it is checked, in the same words.
+    /// The moment at which it is checked.
     pub at: Option<&'a str>,
-    /// How far clocks may differ then, in the words of a length of time.
+    /// How far clocks may differ in the check, written as a length of time.
     pub leeway: Option<&'a str>,
-    /// The names of claims that it has to have, whatever their values.
+    /// The names of claims that it must have, whatever their values.
     pub required: &'a [&'a str],
 }

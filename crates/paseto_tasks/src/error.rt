@@ -1,4 +1,4 @@
-//! Why the program does not do what it was asked.
+//! Why the program failed.
 
 ghost use Rattle.std.specs.Prelude.{◌≡◌, ◌∷◌, [], ℕ, List, IfErr, IfOk, IsErrAnd, Ok, alloc_error, codes};
 ghost use Rattle.paseto_tasks.specs.Arguments.{texts};
@@ -7,7 +7,7 @@ ghost use Rattle.std.specs.Io.KnownBytes.{Appends};
 ghost use Rattle.std.specs.IoError.{error_kind};
 ghost use Rattle.rusty_paseto_parts.specs.declared.error.PasetoError.TheVariants.{Utf8Error as NotUtf8};
 ghost use Rattle.paseto_tasks.specs.declared.error.ProgramError.TheVariants.{InputOrOutput, Memory, Refused};
-ghost use Rattle.paseto_tasks.specs.Error.{IsFixed, IsOutside, IsTokenError, about_of, colon_behind, file_error, joined, key_error_of, key_file_error_of, line_of, pem_error_of, pem_text, program_error_of, refusal_about, refusal_text, status_of, text_of, time_text, words_error};
+ghost use Rattle.paseto_tasks.specs.Error.{IsFixed, IsOutside, IsPlain, IsTokenError, about_of, colon_behind, file_error, joined, key_error_of, key_file_error_of, line_of, pem_error_of, pem_text, program_error_of, refusal_about, refusal_text, status_of, text_of, time_text, words_error};
 
 use crate::output::write_whole;
 use crate::token_kind::TokenKind;
@@ -20,86 +20,86 @@ use std::alloc::{AllocError, AllocFailed};
 use std::io::{self, Write};
 use std::str::Utf8Error;
 
-/// Why the program ends with another status than 0.
+/// Why the program exits with a status other than 0.
 #[derive(Debug, Drop)]
 pub enum ProgramError {
-    /// A word is no text.
+    /// An argument is not text.
     Usage,
-    /// A word is a key.
+    /// An argument is a key.
     KeyWord,
-    /// A word names no kind of key.
+    /// An argument does not name a kind of key.
     NoKind,
-    /// Keys of the kind that is named have no public half.
+    /// Keys of the named kind have no public half.
     NoHalf,
-    /// A word names no format of keys.
+    /// An argument does not name a format of keys.
     NoFormat,
-    /// A key is to be written under a password and in PEM.
+    /// A key is to be written both under a password and in PEM.
     LockedPem,
     /// No key is named.
     NoKey,
     /// No password is named.
     NoPassword,
-    /// What is named as a password is none.
+    /// The named password is not a password.
     OddPassword,
-    /// Standard input is to be the key and the input.
+    /// Standard input is to be both the key and the input.
     OneInput,
     /// The text of the key file was refused.
     Key(PaserkError),
     /// The text of the key file was refused as PEM.
     Pem(PemError),
-    /// The key file was not opened, or a key not written to one.
+    /// The key file was not opened, or a key was not written to one.
     KeyFile(KeyFileError),
-    /// The key is to be unsealed, and is not sealed.
+    /// The key is to be unsealed, but is not sealed.
     NotSealed,
-    /// The key file has a second line, and is no PEM.
+    /// The key file has a second line, and is not PEM.
     SecondLine,
-    /// The key file or the input is longer than the program reads.
+    /// The key file or the input is longer than the program's limit.
     TooLong,
     /// A text or a token was refused.
     Refused(PasetoError),
-    /// The token is of the first kind, and the key is for tokens of the second.
+    /// The token is of the first kind, but the key is for tokens of the second.
     OtherKind(TokenKind, TokenKind),
     /// Keys of this version take no implicit assertion.
     NoAssertion,
-    /// A claim of the words is none.
+    /// A claim in the arguments is not a claim.
     Claim,
-    /// A claim of the words is one of the three that are times.
+    /// A claim in the arguments is one of the three that are times.
     TimeClaim,
-    /// What an option says is no time.
+    /// The value of an option is not a time.
     Time(TimeOption),
-    /// A claim of the words holds a number that is no whole one of 64 bits.
+    /// A claim in the arguments holds a number that is not a 64-bit integer.
     OddClaim,
-    /// The footer of a token is another one than the one that is demanded.
+    /// The footer of a token differs from the required one.
     OtherFooter,
-    /// The token has no footer, from which a ring knows its key.
+    /// The token has no footer, which a key ring needs to find its key.
     NoFooter,
-    /// The footer of the token is not the JSON of an object.
+    /// The footer of the token is not a JSON object.
     NotAnObject,
-    /// The footer of the token has no id of a key.
+    /// The footer of the token has no key id.
     NoKeyId,
-    /// The text of the token is no JSON.
+    /// The text of the token is not JSON.
     NotJson,
-    /// A claim of the token holds a number that is no whole one of 64 bits.
+    /// A claim of the token holds a number that is not a 64-bit integer.
     OddNumber,
-    /// A token, or what is to become one, was refused, as this line says.
+    /// A token, or the content of a new one, was refused, as this line says.
     Unfit(String),
-    /// The system's clock tells no moment at which a token can be issued.
+    /// The system's clock returns no moment at which a token can be issued.
     Clock,
-    /// A file that was named is not there.
+    /// A named file does not exist.
     NoFile,
-    /// A file that was named cannot be opened or made.
+    /// A named file cannot be opened or created.
     NoAccess,
-    /// A file that is to be made is there already.
+    /// A file to be created already exists.
     FileExists,
-    /// The system gave no random bytes.
+    /// The system returned no random bytes.
     Random,
-    /// A read or a write failed, or a write took no byte.
+    /// A read or a write failed, or a write accepted no bytes.
     InputOrOutput,
-    /// Memory was refused.
+    /// An allocation failed.
     Memory(AllocError),
 }
 
-/// An option that says a time.
+/// An option whose value is a time.
 #[derive(Clone, Copy, Debug, PartialEq, Eq)]
 pub enum TimeOption {
     /// `--expires`
@@ -112,76 +112,76 @@ pub enum TimeOption {
     Leeway,
 }
 
-/// What the files are called by which a command goes, in its lines on standard error.
+/// The names of a command's files in its lines on standard error.
 #[derive(Clone, Copy)]
 pub struct Names<'a> {
-    /// The key file, or another file or word that is refused before a key is read.
+    /// The key file, or another file or argument that is refused before a key is read.
     pub key: &'a str,
     /// The input.
     pub input: &'a str,
 }
 
 impl ProgramError {
-    /// What the program says of it on standard error, behind the name of what it is about.
+    /// The message on standard error, which follows the name of what the error is about.
     fn text(&self) -> &str
         ensures { result.now ≡ text_of self.now }
     {
         match self {
-            ProgramError::Usage => "a word is no text: paseto --help tells what paseto does",
+            ProgramError::Usage => "an argument is not valid UTF-8: see paseto --help",
             ProgramError::KeyWord =>
-                "a key is among the words, where others can see it: name the file that holds it",
+                "a key is among the arguments, where others can see it: name the file that holds it",
             ProgramError::NoKind =>
-                "no kind of key: v1.local, v2.local, v2.public, v3.local, v3.public, v4.local and v4.public are kinds",
-            ProgramError::NoHalf => "keys of this kind have no public half: leave --public out",
-            ProgramError::NoFormat => "--format: a format of keys is paserk or pem",
+                "not a kind of key: use v1.local, v2.local, v2.public, v3.local, v3.public, v4.local or v4.public",
+            ProgramError::NoHalf => "keys of this kind have no public half: omit --public",
+            ProgramError::NoFormat => "--format: must be paserk or pem",
             ProgramError::LockedPem =>
-                "a key under a password is not written in PEM: leave --format or the password out",
+                "a key under a password is not written in PEM: omit --format or the password",
             ProgramError::NoPassword =>
-                "no password is named: give --password-file FILE, or PASETO_PASSWORD",
-            ProgramError::OddPassword => "no password: one has 1 to 4095 bytes",
+                "no password is given: use --password-file FILE, or PASETO_PASSWORD",
+            ProgramError::OddPassword => "not a password: it must have 1 to 4095 bytes",
             ProgramError::NoKey =>
-                "no key is named: give --key FILE, or the text of the key in PASETO_KEY",
+                "no key is given: use --key FILE, or put the text of the key into PASETO_KEY",
             ProgramError::OneInput =>
                 "standard input cannot be the key and the input: name a file for one of them",
             ProgramError::Key(source) => source.text(),
             ProgramError::Pem(source) => pem_text(source),
             ProgramError::KeyFile(source) => source.text(),
-            ProgramError::NotSealed => "the key is not sealed: paseto unwrap opens it",
-            ProgramError::SecondLine => "line 2: a key file is one line of PASERK, or PEM",
-            ProgramError::TooLong => "longer than any key: it is no key file",
+            ProgramError::NotSealed => "the key is not sealed: use paseto unwrap",
+            ProgramError::SecondLine => "line 2: a key file has one line of PASERK, or is PEM",
+            ProgramError::TooLong => "too long for a key file",
             ProgramError::Refused(source) => refusal_text(source),
             ProgramError::Claim =>
-                "--claim: a claim is as aud=customers, or as seats:=4 with a value of JSON",
+                "--claim: write a claim as aud=customers, or as seats:=4 with a value of JSON",
             ProgramError::TimeClaim =>
-                "--claim: exp, nbf and iat are set by --expires and --not-before",
+                "--claim: set exp and nbf by --expires and --not-before; iat is set already",
             ProgramError::Time(option) => time_text(*option),
             ProgramError::OtherKind(_, _) => "the token is ",
             ProgramError::NoAssertion =>
-                "keys of versions 1 and 2 take no implicit assertion: leave --assertion out",
+                "keys of versions 1 and 2 take no implicit assertion: omit --assertion",
             ProgramError::OddClaim =>
-                "--claim: a number in a claim is a whole one, of 64 bits at most",
+                "--claim: a number in a claim must be a whole number of at most 64 bits",
             ProgramError::OtherFooter =>
-                "another footer: say it by --footer or --footer-kid; paseto inspect shows it",
+                "the token has another footer: give it by --footer or --footer-kid; paseto inspect shows it",
             ProgramError::NoFooter => "the token has no footer, which names its key in a ring",
             ProgramError::NotAnObject => "the footer of the token is not a JSON object",
             ProgramError::NoKeyId =>
-                "the footer of the token names no key: it has no text under kid",
+                "the footer of the token names no key: it has no string under kid",
             ProgramError::NotJson => "the text of the token is not valid JSON",
             ProgramError::OddNumber =>
-                "a claim of the token has a number that is not a whole one of 64 bits",
+                "a claim of the token has a number that is not a whole number of 64 bits",
             ProgramError::Unfit(text) => text.as_str(),
-            ProgramError::Clock => "the system's clock tells no moment of the years 0 to 9999",
+            ProgramError::Clock => "the system clock is not within the years 0 to 9999",
             ProgramError::NoFile => "no such file",
-            ProgramError::NoAccess => "the file cannot be opened or made",
-            ProgramError::FileExists => "the file is there already, and is not written over",
-            ProgramError::Random => "the system gave no random bytes",
+            ProgramError::NoAccess => "the file cannot be opened or created",
+            ProgramError::FileExists => "the file already exists and is not overwritten",
+            ProgramError::Random => "the system returned no random bytes",
             ProgramError::InputOrOutput => "a read or a write failed",
-            ProgramError::Memory(_) => "no memory was found",
+            ProgramError::Memory(_) => "out of memory",
         }
     }
 
-    /// The name of what it is about: a key file, another file or a word that is named, or the input. It is empty where
-    /// it is about neither.
+    /// The name of what the error is about: a key file, another named file or argument, or the input.
+    /// It is empty if the error is about none of these.
     fn about<'n>(&self, names: &Names<'n>) -> &'n str
         ensures { result.now ≡ about_of names.now self.now }
     {
@@ -212,8 +212,9 @@ impl ProgramError {
         }
     }
 
-    /// Writes a line on it: `paseto: `, the name of what it is about, and what is wrong; or a beginning of the line where
-    /// a write fails, which changes nothing else. No memory is taken.
+    /// Writes a line on the error: `paseto: `, the name of what it is about, and the message. If a
+    /// write fails, only a prefix of the line is written, and nothing else changes. This does not
+    /// allocate.
     pub fn say<E: Write>(&self, names: &Names<'_>, errors: &mut E)
         ensures { (said : List ℕ) × StartsWith (line_of names.now self.now) said × Appends
             (E.contents errors.old) (E.contents errors.new) said }
@@ -234,7 +235,7 @@ impl ProgramError {
         }
     }
 
-    /// The status that the program ends with.
+    /// The exit status of the program.
     pub fn status(&self) -> u8
         ensures { result ≡ status_of self.now }
     {
@@ -282,8 +283,8 @@ impl ProgramError {
         }
     }
 
-    /// Why the words after the program's name could not be read: memory was refused; a word is no text;
-    /// or else the system failed.
+    /// Why the arguments after the program's name could not be read: an allocation failed; an argument
+    /// is not text; or the system failed.
     pub fn of_words(source: &io::Error) -> ProgramError
         ensures { result ≡ words_error (error_kind source.now) }
     {
@@ -294,7 +295,7 @@ impl ProgramError {
         }
     }
 
-    /// Why a file could not be opened or made.
+    /// Why a file could not be opened or created.
     pub fn of_file(source: &io::Error) -> ProgramError
         ensures { result ≡ file_error (error_kind source.now) }
     {
@@ -307,7 +308,7 @@ impl ProgramError {
     }
 }
 
-/// The answer of opening or verifying a token by a key for tokens of a kind.
+/// Converts the result of opening or verifying a token with a key for tokens of a kind.
 pub fn answered(
     answer: Result<String, PasetoError>,
     token: &str,
@@ -325,44 +326,48 @@ pub fn answered(
     }
 }
 
-/// What is said of a key that was refused as PEM: the text of the error, but where that leaves open what to do.
+/// The message for a key that was refused as PEM: the text of the error, unless that leaves open
+/// what to do.
 fn pem_text(source: &PemError) -> &'static str
     ensures { result.now ≡ pem_text source.now }
 {
     match source {
-        PemError::NotPem => "no valid PEM, in which the key pairs of version 1 are read",
+        PemError::NotPem => "not valid PEM; key pairs of version 1 are read from PEM",
         _ => source.text(),
     }
 }
 
-/// What is said where an option says no time.
+/// The message for an option whose value is not a time.
 fn time_text(option: TimeOption) -> &'static str
     ensures { result.now ≡ time_text option }
 {
     match option {
-        TimeOption::Expires => "--expires: a time is as 90s, 30m, 12h, 7d or 2026-11-22T10:00:00Z",
+        TimeOption::Expires =>
+            "--expires: write a time as 90s, 30m, 12h, 7d or 2026-11-22T10:00:00Z",
         TimeOption::NotBefore =>
-            "--not-before: a time is as 90s, 30m, 12h, 7d or 2026-11-22T10:00:00Z",
-        TimeOption::At => "--at: a time is as 90s, 30m, 12h, 7d or 2026-11-22T10:00:00Z",
-        TimeOption::Leeway => "--leeway: a length of time is as 5s, 30m, 12h or 7d",
+            "--not-before: write a time as 90s, 30m, 12h, 7d or 2026-11-22T10:00:00Z",
+        TimeOption::At => "--at: write a time as 90s, 30m, 12h, 7d or 2026-11-22T10:00:00Z",
+        TimeOption::Leeway => "--leeway: write a length of time as 5s, 30m, 12h or 7d",
     }
 }
 
-/// What is said of a text or a token that was refused: the text of the error, but where that leaves open what to do.
+/// The message for a text or a token that was refused: the text of the error, unless that leaves
+/// open what to do.
 fn refusal_text(source: &PasetoError) -> &'static str
     ensures { result.now ≡ refusal_text source.now }
 {
     match source {
         PasetoError::Cryption | PasetoError::ChaChaCipherError | PasetoError::InvalidSignature =>
             "wrong key, wrong footer or assertion, or the token was changed",
-        PasetoError::WrongHeader => "no token of a kind that is read here",
-        PasetoError::Signature => "the halves of the private key are of two keys",
-        PasetoError::KeyRejected => "no private key of its kind",
+        PasetoError::WrongHeader => "not a token of a supported kind",
+        PasetoError::Signature => "the two halves of the private key do not belong together",
+        PasetoError::KeyRejected => "not a valid private key of its kind",
         _ => source.text(),
     }
 }
 
-/// The name of what was refused: the key file where the private key is none, and else the input.
+/// The name of what was refused: the key file if the private key is invalid, and otherwise the
+/// input.
 fn refusal_about<'n>(source: &PasetoError, names: &Names<'n>) -> &'n str
     ensures { result.now ≡ refusal_about names.now source.now }
 {
@@ -372,14 +377,14 @@ fn refusal_about<'n>(source: &PasetoError, names: &Names<'n>) -> &'n str
     }
 }
 
-/// What stands between a name and what is said of it, and nothing where the name is empty.
+/// The separator between a name and a message, or nothing if the name is empty.
 fn colon_behind(about: &str) -> &'static str
     ensures { result.now ≡ colon_behind about.now }
 {
     if about.is_empty() { "" } else { ": " }
 }
 
-/// Writes the parts of a line one behind the other, or a beginning of them where a write fails.
+/// Writes the parts of a line one after another, or a prefix of them if a write fails.
 fn write_line<'p, E: Write>(
     errors: &mut E,
     program: &'p str,
@@ -395,7 +400,8 @@ fn write_line<'p, E: Write>(
     write_pieces(errors, &[program, about, colon, text, end]);
 }
 
-/// Writes a line on a token of one kind and a key for tokens of another, or a beginning of it.
+/// Writes a line about a token of one kind and a key for tokens of another, or a prefix of it if a
+/// write fails.
 fn write_kinds<'p, E: Write>(
     errors: &mut E,
     about: &'p str,
@@ -422,7 +428,7 @@ fn write_kinds<'p, E: Write>(
     );
 }
 
-/// Writes texts one behind the other, or a beginning of them where a write fails.
+/// Writes texts one after another, or a prefix of them if a write fails.
 fn write_pieces<E: Write>(errors: &mut E, pieces: &[&str])
     ensures { (said : List ℕ) × StartsWith (joined (texts pieces.now)) said × Appends
         (E.contents errors.old) (E.contents errors.new) said }
@@ -490,7 +496,7 @@ impl From<io::Error> for ProgramError {
 }
 
 impl From<StreamError> for ProgramError {
-    ghost from_gives = { λ _ error. IsOutside error × IsFixed error };
+    ghost from_gives = { λ _ error. IsOutside error × IsPlain error };
 
     fn from(source: StreamError) -> ProgramError {
         match source {

@@ -1,11 +1,12 @@
-//! The command `id`: the id of the key that a line is.
+//! The command `id`: the id of the key in a line.
 
 ghost use Rattle.std.specs.Prelude.{◌⊎◌, IfErr, IfOk, string_bytes};
 ghost use Rattle.rusty_paseto_paserk.specs.declared.header.PaserkType.TheVariants.{Local as LocalKey, Public as PublicKey, Secret};
-ghost use Rattle.paseto_tasks.specs.Error.{IsFixed, IsOutside};
+ghost use Rattle.paseto_tasks.specs.Error.{IsOutside, IsPlain};
 ghost use Rattle.paseto_tasks.specs.Id.{Identifies, IdentifiesNothing, IsIdOf, IsNoKeyOf};
 
 use crate::error::ProgramError;
+use crate::key_line::not_in_paserk;
 use crate::output::with_line_feed;
 use crate::suite::Suite;
 use rusty_paseto_core::{V1, V2, V3, V4};
@@ -15,17 +16,17 @@ use rusty_paseto_paserk::{
 };
 use std::alloc::Global;
 
-/// The line of the id of the key of a line.
+/// Returns the line of the id of the key in a line.
 pub fn id(alloc: Global, key: &str) -> Result<String, ProgramError>
     ensures printed { IfOk result (λ line. Identifies key.now (string_bytes line)) }
     ensures refused { IfErr result (λ error. IsOutside error ⊎ IdentifiesNothing key.now) }
-    ensures fixed { IfErr result IsFixed }
+    ensures plain { IfErr result IsPlain }
 {
     let id = match header_of(key) {
         Some((version, PaserkType::Local, _)) => id_of_local(alloc, version, key)?,
         Some((version, PaserkType::Secret, _)) => id_of_secret(alloc, version, key)?,
         Some((version, PaserkType::Public, _)) => id_of_public(alloc, version, key)?,
-        None => return Err(ProgramError::Key(PaserkError::NoKey)),
+        None => return Err(ProgramError::Key(not_in_paserk(key))),
     };
     with_line_feed(id)
 }
@@ -33,7 +34,7 @@ pub fn id(alloc: Global, key: &str) -> Result<String, ProgramError>
 fn id_of_local(alloc: Global, version: PaserkVersion, key: &str) -> Result<String, ProgramError>
     ensures printed { IfOk result (λ id. IsIdOf key.now (string_bytes id)) }
     ensures refused { IfErr result (λ error. IsOutside error ⊎ IsNoKeyOf version LocalKey key.now) }
-    ensures fixed { IfErr result IsFixed }
+    ensures plain { IfErr result IsPlain }
 {
     match version {
         PaserkVersion::V1 => id_of_symmetric::<V1>(alloc, key),
@@ -43,11 +44,11 @@ fn id_of_local(alloc: Global, version: PaserkVersion, key: &str) -> Result<Strin
     }
 }
 
-/// The id of a key for local tokens, in one version.
+/// The id of a key for local tokens of one version.
 fn id_of_symmetric<V: KeyVersion>(alloc: Global, key: &str) -> Result<String, ProgramError>
     ensures printed { IfOk result (λ id. IsIdOf key.now (string_bytes id)) }
     ensures refused { IfErr result (λ error. IsOutside error ⊎ IsNoKeyOf V.paserk LocalKey key.now) }
-    ensures fixed { IfErr result IsFixed }
+    ensures plain { IfErr result IsPlain }
 {
     let symmetric = local_from_paserk::<V>(alloc, key)?;
     Ok(local_id(alloc, &symmetric)?)
@@ -56,7 +57,7 @@ fn id_of_symmetric<V: KeyVersion>(alloc: Global, key: &str) -> Result<String, Pr
 fn id_of_secret(alloc: Global, version: PaserkVersion, key: &str) -> Result<String, ProgramError>
     ensures printed { IfOk result (λ id. IsIdOf key.now (string_bytes id)) }
     ensures refused { IfErr result (λ error. IsOutside error ⊎ IsNoKeyOf version Secret key.now) }
-    ensures fixed { IfErr result IsFixed }
+    ensures plain { IfErr result IsPlain }
 {
     match version {
         PaserkVersion::V1 => Err(ProgramError::Key(PaserkError::OtherVersion(version))),
@@ -66,11 +67,11 @@ fn id_of_secret(alloc: Global, version: PaserkVersion, key: &str) -> Result<Stri
     }
 }
 
-/// The id of a private key, in one version.
+/// The id of a private key of one version.
 fn id_of_private<V: Suite>(alloc: Global, key: &str) -> Result<String, ProgramError>
     ensures printed { IfOk result (λ id. IsIdOf key.now (string_bytes id)) }
     ensures refused { IfErr result (λ error. IsOutside error ⊎ IsNoKeyOf V.paserk Secret key.now) }
-    ensures fixed { IfErr result IsFixed }
+    ensures plain { IfErr result IsPlain }
 {
     let private = private_key_from_paserk::<V>(alloc, key)?;
     Ok(secret_id(alloc, &private.lend())?)
@@ -80,7 +81,7 @@ fn id_of_public(alloc: Global, version: PaserkVersion, key: &str) -> Result<Stri
     ensures printed { IfOk result (λ id. IsIdOf key.now (string_bytes id)) }
     ensures refused { IfErr result (λ error. IsOutside error
         ⊎ IsNoKeyOf version PublicKey key.now) }
-    ensures fixed { IfErr result IsFixed }
+    ensures plain { IfErr result IsPlain }
 {
     match version {
         PaserkVersion::V1 => Err(ProgramError::Key(PaserkError::OtherVersion(version))),
@@ -90,12 +91,12 @@ fn id_of_public(alloc: Global, version: PaserkVersion, key: &str) -> Result<Stri
     }
 }
 
-/// The id of a public key, in one version.
+/// The id of a public key of one version.
 fn id_of_verifying<V: Suite>(alloc: Global, key: &str) -> Result<String, ProgramError>
     ensures printed { IfOk result (λ id. IsIdOf key.now (string_bytes id)) }
     ensures refused { IfErr result (λ error. IsOutside error
         ⊎ IsNoKeyOf V.paserk PublicKey key.now) }
-    ensures fixed { IfErr result IsFixed }
+    ensures plain { IfErr result IsPlain }
 {
     let public = public_key_from_paserk::<V>(alloc, key)?;
     Ok(public_id(alloc, &public.lend())?)

@@ -1,8 +1,8 @@
 //! The text of the input, and that of a key file.
 
-ghost use Rattle.std.specs.Prelude.{◌≡◌, ◌≢◌, [], ◌<◌, ◌⊎◌, IfOk, IfErr, IfSome, OnOk, length, string_bytes, IsUtf8};
-ghost use Rattle.paseto_tasks.specs.Error.{IsFixed, IsNoUsage, IsOutside};
-ghost use Rattle.paseto_tasks.specs.Input.{IsNoKeyFile, IsNoPassword, line_of_input};
+ghost use Rattle.std.specs.Prelude.{◌≡◌, ◌≢◌, [], ◌⊎◌, IfOk, IfErr, IfSome, string_bytes, IsUtf8};
+ghost use Rattle.paseto_tasks.specs.Error.{BlamesOnly, IsFixed, IsNoUsage, IsOutside, IsPlain};
+ghost use Rattle.paseto_tasks.specs.Input.{IsLong, IsNoKeyFile, IsNoPassword, line_of_input};
 ghost use Rattle.paseto_streams.specs.Input.{IsInput};
 
 use crate::error::ProgramError;
@@ -12,16 +12,17 @@ use std::alloc::Global;
 use std::io::Read;
 use std::str;
 
-/// How many bytes a key file has at most. The PEM of a key of RSA has fewer than 2,000, and a wrapped key no more.
+/// The maximum number of bytes in a key file. The PEM of an RSA key has fewer than 2,000 bytes, and
+/// a wrapped key has no more.
 const LIMIT: usize = 4096;
 
-/// The text that the input is. One that is not UTF-8 is refused.
+/// Reads the text of the input. Input that is not UTF-8 is refused.
 pub fn read_text<R: Read>(alloc: Global, input: &mut R) -> Result<String, ProgramError>
     ensures text { IfOk result (λ text. IfSome (R.remaining input.old)
         (λ bytes. bytes ≡ string_bytes text)) }
     ensures refused { IfErr result (λ error. IfSome (R.remaining input.old)
         (λ bytes. IsOutside error ⊎ (¬ IsUtf8 bytes))) }
-    ensures fixed { IfErr result IsFixed }
+    ensures plain { IfErr result IsPlain }
 {
     let bytes = read_whole(alloc, input)?;
     match String::from_utf8(bytes) {
@@ -30,23 +31,23 @@ pub fn read_text<R: Read>(alloc: Global, input: &mut R) -> Result<String, Progra
     }
 }
 
-/// The line that the input is: its text without the line feed at its end, where it has one. One that is not UTF-8 is
-/// refused.
+/// Reads the line of the input: its text without the line feed at its end, if there is one. Input
+/// that is not UTF-8 is refused.
 pub fn read_line<R: Read>(alloc: Global, input: &mut R) -> Result<String, ProgramError>
     ensures line { IfOk result (λ line. IfSome (R.remaining input.old)
         (λ bytes. line_of_input bytes ≡ string_bytes line)) }
     ensures refused { IfErr result (λ error. IfSome (R.remaining input.old)
         (λ bytes. IsOutside error ⊎ (¬ IsUtf8 (line_of_input bytes)))) }
     ensures no_usage { IfErr result IsNoUsage }
-    ensures fixed { IfErr result IsFixed }
+    ensures plain { IfErr result IsPlain }
 {
     let bytes = read_whole(alloc, input)?;
     let line = str::from_utf8(without_line_feed(&bytes))?;
     Ok(String::from_str(alloc, line)?)
 }
 
-/// The line of a key file. Not more is read of it than a little over the longest line that a key has, and a longer file
-/// is refused as `TooLong`, and bytes that are no text as `NoKey`.
+/// Reads the line of a key file. This reads little more than the longest line of a key. A longer
+/// file is refused as `TooLong`, and bytes that are not text as `Key(NoKey)`.
 pub fn read_key_line<K: Read>(alloc: Global, file: &mut K) -> Result<String, ProgramError>
     ensures line { IfOk result (λ line. IfSome (K.remaining file.old)
         (λ bytes. line_of_input bytes ≡ string_bytes line)) }
@@ -54,6 +55,7 @@ pub fn read_key_line<K: Read>(alloc: Global, file: &mut K) -> Result<String, Pro
         (λ bytes. IsOutside error ⊎ IsNoKeyFile bytes)) }
     ensures no_usage { IfErr result IsNoUsage }
     ensures fixed { IfErr result IsFixed }
+    ensures blames { IfErr result (BlamesOnly ⊥ ⊥ (IfSome (K.remaining file.old) IsLong) ⊥) }
 {
     let bytes = read_short(alloc, file)?;
     let Ok(line) = str::from_utf8(without_line_feed(&bytes)) else {
@@ -62,15 +64,15 @@ pub fn read_key_line<K: Read>(alloc: Global, file: &mut K) -> Result<String, Pro
     Ok(String::from_str(alloc, line)?)
 }
 
-/// The password that a file is: its bytes without the line feed at their end. Refused are no bytes, and more than a key
-/// file has.
+/// Reads the password of a file: its bytes without the line feed at their end. An empty password is
+/// refused, and so is a file with more bytes than a key file may have.
 pub fn read_password<P: Read>(alloc: Global, file: &mut P) -> Result<Vec<u8>, ProgramError>
     ensures password { IfOk result (λ password. IfSome (P.remaining file.old)
         (λ bytes. line_of_input bytes ≡ password.items)) }
     ensures some { IfOk result (λ password. password.items ≢ []) }
     ensures refused { IfErr result (λ error. IfSome (P.remaining file.old)
         (λ bytes. IsOutside error ⊎ IsNoPassword bytes)) }
-    ensures fixed { IfErr result IsFixed }
+    ensures plain { IfErr result IsPlain }
 {
     let bytes = match read_short(alloc, file) {
         Err(ProgramError::TooLong) => return Err(ProgramError::OddPassword),
@@ -83,12 +85,13 @@ pub fn read_password<P: Read>(alloc: Global, file: &mut P) -> Result<Vec<u8>, Pr
     Ok(Vec::from_slice(alloc, password)?)
 }
 
-/// The bytes of a file that has not more than a key file.
+/// Reads the bytes of a file that is not longer than a key file.
 fn read_short<K: Read>(alloc: Global, file: &mut K) -> Result<Vec<u8>, ProgramError>
     ensures whole { IfOk result (λ bytes. IsInput (K.remaining file.old) bytes.items) }
     ensures failed { IfErr result (λ error. IfSome (K.remaining file.old)
-        (λ bytes. IsOutside error ⊎ (4096 < length bytes))) }
+        (λ bytes. IsOutside error ⊎ IsLong bytes)) }
     ensures fixed { IfErr result IsFixed }
+    ensures blames { IfErr result (BlamesOnly ⊥ ⊥ (IfSome (K.remaining file.old) IsLong) ⊥) }
 {
     let mut bytes = Vec::new(alloc);
     let mut space = [0u8; LIMIT];
@@ -104,7 +107,7 @@ fn read_short<K: Read>(alloc: Global, file: &mut K) -> Result<Vec<u8>, ProgramEr
     }
 }
 
-/// The bytes without the line feed at their end, where they have one.
+/// The bytes without the line feed at their end, if there is one.
 fn without_line_feed(bytes: &[u8]) -> &[u8]
     ensures { result.now ≡ line_of_input bytes.now }
 {

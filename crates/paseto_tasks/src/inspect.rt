@@ -4,7 +4,7 @@ ghost use Rattle.std.specs.Prelude.{◌≡◌, ◌⊎◌, ◌++◌, ℕ, List, I
 ghost use Rattle.std.specs.List.{slice_get};
 ghost use Rattle.std.specs.Cmp.Lexicographic.{pointwise};
 ghost use Rattle.rusty_paseto_parts.specs.Section.{HasCount, sections};
-ghost use Rattle.paseto_tasks.specs.Error.{IsFixed, IsOutside};
+ghost use Rattle.paseto_tasks.specs.Error.{IsOutside, IsPlain};
 ghost use Rattle.paseto_tasks.specs.Inspect.{Inspects, InspectsNothing, IsTextLine, SaysText, footer_line, line, signature_length};
 
 use crate::error::ProgramError;
@@ -12,11 +12,11 @@ use rusty_paseto_core::{PasetoError, UntrustedToken, from_section, split_token};
 use std::alloc::{AllocError, Global};
 use std::str;
 
-/// The lines of what a token says of itself, none of which is to be trusted.
+/// Returns the lines that describe a token. Its content is not verified and must not be trusted.
 pub fn inspect(alloc: Global, token: &str) -> Result<String, ProgramError>
     ensures printed { IfOk result (λ lines. Inspects token.now (string_bytes lines)) }
     ensures refused { IfErr result (λ error. IsOutside error ⊎ InspectsNothing token.now) }
-    ensures fixed { IfErr result IsFixed }
+    ensures plain { IfErr result IsPlain }
 {
     let untrusted = UntrustedToken::try_parse(token)?;
     let (version, purpose) = (untrusted.version(), untrusted.purpose());
@@ -42,7 +42,7 @@ fn payload_of(token: &str) -> Result<&str, PasetoError>
     Ok(required[2])
 }
 
-/// Appends a line of a name and what stands there.
+/// Appends a line of a name and its value.
 fn push_line(lines: &mut String, name: &str, value: &str) -> Result<(), AllocError>
     ensures { OnOk result (string_bytes lines.new ≡ string_bytes lines.old
         ++ line name.now value.now) }
@@ -77,7 +77,7 @@ fn push_text_line(
     ensures refused { IfErr result (λ error. IsOutside error ⊎ ((added : List ℕ)
         → ¬ IsTextLine (pointwise nat_eq purpose.now (codes "public")) version.now section.now
         added)) }
-    ensures fixed { IfErr result IsFixed }
+    ensures plain { IfErr result IsPlain }
 {
     if purpose == "public" {
         push_text(alloc, lines, version, section)
@@ -87,7 +87,7 @@ fn push_text_line(
     }
 }
 
-/// Appends the line of the text of a public token, which stands in front of the signature.
+/// Appends the line of the text of a public token, which is in front of the signature.
 fn push_text(
     alloc: Global,
     lines: &mut String,
@@ -98,7 +98,7 @@ fn push_text(
         × (string_bytes lines.new ≡ string_bytes lines.old ++ added)) }
     ensures refused { IfErr result (λ error. IsOutside error
         ⊎ ((added : List ℕ) → ¬ SaysText version.now section.now added)) }
-    ensures fixed { IfErr result IsFixed }
+    ensures plain { IfErr result IsPlain }
 {
     let payload = from_section(alloc, section)?;
     let length = signature_length(version);
@@ -110,7 +110,7 @@ fn push_text(
     Ok(())
 }
 
-/// How many bytes the signature of a public token of a version has.
+/// The number of bytes in the signature of a public token of a version.
 fn signature_length(version: &str) -> usize
     ensures { result ≡ signature_length version.now }
 {

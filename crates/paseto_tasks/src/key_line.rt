@@ -1,10 +1,12 @@
-//! The lines of keys: the writing of a key in PASERK, or its PEM for a key pair of version 1.
+//! The lines of keys: a key in PASERK, or the PEM of a key pair of version 1.
 
 ghost use Rattle.std.specs.Prelude.{◌≡◌, ◌≢◌, ◌++◌, ℕ, List, IfSome, IsNone, MatchOption};
 ghost use Rattle.rusty_paseto_core.specs.Public.{HasPrivateLength};
 ghost use Rattle.rusty_paseto_paserk.specs.declared.header.PaserkType.{PaserkType as KeyType};
 ghost use Rattle.rusty_paseto_paserk.specs.declared.header.PaserkType.TheVariants.{Public as PublicKeys, Secret};
 ghost use Rattle.rusty_paseto_paserk.specs.declared.header.PaserkVersion.{PaserkVersion as Version};
+ghost use Rattle.rusty_paseto_paserk.specs.declared.header.PaserkVersion.TheVariants.{V1 as K1};
+ghost use Rattle.rusty_paseto_paserk.specs.declared.error.PaserkError.TheVariants.{NoKey, OtherVersion};
 ghost use Rattle.paseto_tasks.specs.Id.{IsKeyLine, IsKeyOf};
 ghost use Rattle.paseto_tasks.specs.KeyLine.{BeginsAs, BeginsAsPem, IsKeyIn, IsPrivateText, IsPublicText, ReadsLine};
 
@@ -13,13 +15,13 @@ use crate::suite::Suite;
 use paseto_pem::{private_key_from_pem, public_key_from_pem};
 use rusty_paseto_core::{PrivateKey, PublicKey, PublicVersion, V1, V2, V3, V4};
 use rusty_paseto_paserk::{
-    KeyVersion, PaserkType, PaserkVersion, header_of, private_key_from_paserk,
+    KeyVersion, PaserkError, PaserkType, PaserkVersion, header_of, private_key_from_paserk,
     public_key_from_paserk,
 };
 use std::alloc::Global;
 
-/// The version and the type of the key that a line begins as: those of its PASERK header, or version 1 where it begins as
-/// the PEM of a private or a public key.
+/// The version and the type of the key that a line begins like: those of its PASERK header, or
+/// version 1 if it begins like the PEM of a private or a public key.
 pub fn begins_as(line: &str) -> Option<(PaserkVersion, PaserkType)>
     ensures found { IfSome result (λ found. BeginsAs found.0 found.1 line.now) }
     ensures none { IsNone result → (version : Version) (kind : KeyType)
@@ -34,7 +36,7 @@ pub fn begins_as(line: &str) -> Option<(PaserkVersion, PaserkType)>
     }
 }
 
-/// The type of the key as whose PEM a line begins.
+/// The type of the key whose PEM a line begins like.
 fn pem_type(line: &str) -> Option<PaserkType>
     ensures found { IfSome result (λ kind. BeginsAsPem kind line.now) }
     ensures none { IsNone result → (kind : KeyType) → ¬ BeginsAsPem kind line.now }
@@ -50,7 +52,19 @@ fn pem_type(line: &str) -> Option<PaserkType>
     }
 }
 
-/// What stands after a front, where a line begins with it.
+/// Why a line without a PASERK header has no id and no public half here: it begins like the PEM of
+/// a key pair of version 1, or not like a key.
+pub fn not_in_paserk(line: &str) -> PaserkError
+    ensures pem { (kind : KeyType) → BeginsAsPem kind line.now → result ≡ OtherVersion K1 }
+    ensures none { ((kind : KeyType) → ¬ BeginsAsPem kind line.now) → result ≡ NoKey }
+{
+    match pem_type(line) {
+        Some(_) => PaserkError::OtherVersion(PaserkVersion::V1),
+        None => PaserkError::NoKey,
+    }
+}
+
+/// What follows a prefix, if a line begins with it.
 fn after<'a>(line: &'a str, front: &str) -> Option<&'a str>
     ensures { MatchOption result ((rest : List ℕ) → line.now ≢ front.now ++ rest)
         (λ rest. line.now ≡ front.now ++ rest.now) }
@@ -58,13 +72,16 @@ fn after<'a>(line: &'a str, front: &str) -> Option<&'a str>
     line.strip_prefix(front)
 }
 
-/// A version whose key pairs have lines: 1 to 4. Those of version 1 are in PEM, and the others in PASERK.
+/// A version whose key pairs have lines: 1 to 4. Key pairs of version 1 are in PEM, and the others
+/// in PASERK.
 pub trait PairLines: KeyVersion + PublicVersion {
-    /// The private key of a line. What is no line of one is refused as `Key`, or as `Pem` in version 1.
+    /// Reads the private key of a line. A line that is not a private key is refused as `Key`, or as
+    /// `Pem` in version 1.
     fn private_key(alloc: Global, line: &str) -> Result<PrivateKey<Self>, ProgramError>
         ensures { ReadsLine (IsKeyIn Secret Self.paserk) line.now result };
 
-    /// The public key of a line. What is no line of one is refused as `Key`, or as `Pem` in version 1.
+    /// Reads the public key of a line. A line that is not a public key is refused as `Key`, or as `Pem`
+    /// in version 1.
     fn public_key(alloc: Global, line: &str) -> Result<PublicKey<Self>, ProgramError>
         ensures { ReadsLine (IsKeyIn PublicKeys Self.paserk) line.now result };
 

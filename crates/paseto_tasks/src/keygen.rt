@@ -17,16 +17,17 @@ use std::alloc::Global;
 /// The lines of a new key, each with its line feed.
 #[derive(Drop)]
 pub struct NewKey {
-    /// The line that is to be kept secret: of a key for local tokens, or of the half that signs.
+    /// The secret line: of a key for local tokens, or of a private key.
     pub secret: String,
-    /// The line of the half that verifies, where there is one.
+    /// The line of the public half, if there is one.
     pub public: Option<String>,
 }
 
-/// The lines of a new key of a kind, of bytes that are drawn.
+/// Generates a new key of a kind and returns its lines.
 ///
-/// Refused are memory, as `Memory`; a generator that fails, as `Random`; and for a pair of version 3 bytes that are no
-/// private key of P-384, as `Refused(KeyRejected)`, which a good generator gives less than once in 2^189 times.
+/// If an allocation fails, this returns `Memory`; if the generator fails, `Random`. For a pair of
+/// version 3, bytes that are not a private key of P-384 are refused as `Refused(KeyRejected)`; a
+/// good generator returns such bytes less than once in 2^189 times.
 pub fn keygen<G: TryRng>(
     alloc: Global,
     kind: Kind,

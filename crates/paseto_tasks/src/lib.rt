@@ -1,5 +1,5 @@
-//! What the program `paseto` does with keys and texts, over any key file, generator, input and outputs: new
-//! keys and their ids, encryption, decryption, signing and verifying.
+//! The commands of the program `paseto` on keys and texts, over any key file, generator, input and
+//! outputs: new keys and their ids, encryption, decryption, signing and verifying.
 #![tactic(auto)]
 
 mod arguments;
@@ -24,7 +24,7 @@ pub use error::{Names, ProgramError, TimeOption};
 pub use input::{read_key_line, read_line, read_password};
 pub use key_line::{PairLines, begins_as};
 pub use output::{with_line_feed, write_whole};
-pub use rsa::{Salt, signer, verifier};
+pub use rsa::{SaltedRsa, signer, verifier};
 pub use suite::Suite;
 pub use token_kind::TokenKind;
 pub use version::takes;

@@ -1,4 +1,4 @@
-//! The commands `encrypt` and `decrypt`, with the key that a line is.
+//! The commands `encrypt` and `decrypt`, with the key of a line.
 
 ghost use Rattle.std.specs.Prelude.{◌≡◌, ◌⊎◌, ℕ, List, IfErr, IfOk, IfSome, None, Some, is_some, string_bytes};
 ghost use Rattle.rusty_paseto_parts.specs.Error.{IsMemory};
@@ -6,9 +6,10 @@ ghost use Rattle.rusty_paseto_core.specs.Context.{binding_of};
 ghost use Rattle.rusty_paseto_core.specs.Local.Boxed.{boxed_sealing, token_nonce};
 ghost use Rattle.paseto_xchacha20poly1305.specs.Sealing.{box_sealing};
 ghost use Rattle.rusty_paseto_paserk.specs.Header.{HasHeader};
-ghost use Rattle.paseto_tasks.specs.Error.{IsFixed, IsOutside};
+ghost use Rattle.paseto_tasks.specs.Error.{BlamesOnly, IsFixed, IsOutside, IsPlain};
 ghost use Rattle.paseto_tasks.specs.Local.{Decrypts, DecryptsNothing, Encrypts, EncryptsNothing, IsSealedLine, Opens, OpensIn, OpensBox, Seals, SealsBox, SealsIn};
 ghost use Rattle.paseto_tasks.specs.Input.{line_of_input};
+ghost use Rattle.paseto_tasks.specs.KeyLine.{TakesBytes};
 
 use crate::arguments::Options;
 use crate::error::{ProgramError, answered};
@@ -26,7 +27,8 @@ use rusty_paseto_paserk::{KeyVersion, PaserkType, PaserkVersion, local_from_pase
 use std::alloc::Global;
 use std::io::Read;
 
-/// The token of the input, which is the text, and a line feed. The nonce is drawn.
+/// Encrypts the input, which is the text, and returns the token and a line feed. The nonce is
+/// generated.
 pub fn encrypt<R: Read, G: TryRng>(
     alloc: Global,
     key: &str,
@@ -41,6 +43,7 @@ pub fn encrypt<R: Read, G: TryRng>(
         IsOutside error ⊎ EncryptsNothing key.now options.now
         (λ nonce. G.may_fill generator.old nonce generator.new) text)) }
     ensures fixed { IfErr result IsFixed }
+    ensures blames { IfErr result (BlamesOnly (TakesBytes key.now × G.Error) ⊥ ⊥ ⊥) }
 {
     let version = version_of(key, PaserkType::Local)?;
     takes(version, options.assertion)?;
@@ -62,6 +65,7 @@ fn sealed_in<R: Read, G: TryRng>(
         IsOutside error ⊎ ((line : List ℕ) → ¬ SealsIn version key.now options.now
         (λ nonce. G.may_fill generator.old nonce generator.new) text line))) }
     ensures fixed { IfErr result IsFixed }
+    ensures blames { IfErr result (BlamesOnly G.Error ⊥ ⊥ ⊥) }
 {
     match version {
         PaserkVersion::V1 => sealed::<V1, R, G>(alloc, key, options, generator, input),
@@ -86,6 +90,7 @@ fn sealed<V: LocalVersion + KeyVersion, R: Read, G: TryRng>(
         → ¬ Seals V.paserk V.design key.now options.now
         (λ nonce. G.may_fill generator.old nonce generator.new) text line))) }
     ensures fixed { IfErr result IsFixed }
+    ensures blames { IfErr result (BlamesOnly G.Error ⊥ ⊥ ⊥) }
 {
     let key = local_from_paserk::<V>(alloc, key)?;
     let text = read_text(alloc, input)?;
@@ -110,6 +115,7 @@ fn sealed_text<V: LocalVersion>(
     ensures sealed { IfOk result (λ line.
         IsSealedLine V.design key.now options.now nonce.now text.now (string_bytes line)) }
     ensures memory { IfErr result IsOutside }
+    ensures plain { IfErr result IsPlain }
 {
     let assertion = V::bound_assertion(options.assertion);
     let payload = Payload::from(text);
@@ -131,6 +137,7 @@ fn boxed<R: Read, G: TryRng>(
         (λ text. IsOutside error ⊎ ((line : List ℕ) → ¬ SealsBox key.now options.now
         (λ nonce. G.may_fill generator.old nonce generator.new) text line))) }
     ensures fixed { IfErr result IsFixed }
+    ensures blames { IfErr result (BlamesOnly G.Error ⊥ ⊥ ⊥) }
 {
     let key = local_from_paserk::<V2>(alloc, key)?;
     let text = read_text(alloc, input)?;
@@ -163,7 +170,7 @@ fn boxed_text(
     paseto.try_encrypt(alloc, &XChaCha20Poly1305, key, nonce)
 }
 
-/// The text of the token that the input is, with or without a line feed behind it.
+/// Decrypts the token in the input, with or without a line feed after it, and returns its text.
 pub fn decrypt<R: Read>(
     alloc: Global,
     key: &str,
@@ -174,7 +181,7 @@ pub fn decrypt<R: Read>(
         Decrypts key.now options.now bytes (string_bytes text))) }
     ensures refused { IfErr result (λ error. IfSome (R.remaining input.old) (λ bytes.
         IsOutside error ⊎ DecryptsNothing key.now options.now bytes)) }
-    ensures fixed { IfErr result IsFixed }
+    ensures plain { IfErr result IsPlain }
 {
     let version = version_of(key, PaserkType::Local)?;
     takes(version, options.assertion)?;
@@ -193,7 +200,7 @@ fn opened_in<R: Read>(
     ensures refused { IfErr result (λ error. IfSome (R.remaining input.old)
         (λ bytes. IsOutside error ⊎ ((text : List ℕ)
         → ¬ OpensIn version key.now options.now (line_of_input bytes) text))) }
-    ensures fixed { IfErr result IsFixed }
+    ensures plain { IfErr result IsPlain }
 {
     match version {
         PaserkVersion::V1 => opened::<V1, R>(alloc, TokenKind::V1Local, key, options, input),
@@ -215,7 +222,7 @@ fn opened<V: LocalVersion + KeyVersion, R: Read>(
     ensures refused { IfErr result (λ error. IfSome (R.remaining input.old)
         (λ bytes. IsOutside error ⊎ ((text : List ℕ)
         → ¬ Opens V.paserk V.design key.now options.now (line_of_input bytes) text))) }
-    ensures fixed { IfErr result IsFixed }
+    ensures plain { IfErr result IsPlain }
 {
     let key = local_from_paserk::<V>(alloc, key)?;
     let token = read_line(alloc, input)?;
@@ -237,7 +244,7 @@ fn unboxed<R: Read>(
     ensures refused { IfErr result (λ error. IfSome (R.remaining input.old)
         (λ bytes. IsOutside error ⊎ ((text : List ℕ)
         → ¬ OpensBox key.now options.now (line_of_input bytes) text))) }
-    ensures fixed { IfErr result IsFixed }
+    ensures plain { IfErr result IsPlain }
 {
     let key = local_from_paserk::<V2>(alloc, key)?;
     let token = read_line(alloc, input)?;

@@ -2,15 +2,15 @@
 
 ghost use Rattle.std.specs.Prelude.{◌≡◌, ℕ, List, IfErr, IfOk, OnErr, OnOk, string_bytes};
 ghost use Rattle.std.specs.Io.KnownBytes.{Appends};
-ghost use Rattle.paseto_tasks.specs.Error.{IsOutside};
+ghost use Rattle.paseto_tasks.specs.Error.{IsOutside, IsPlain};
 ghost use Rattle.paseto_tasks.specs.Output.{IsLineOf};
 ghost use Rattle.paseto_streams.specs.Output.{IsCutShort};
 
 use crate::error::ProgramError;
 use std::io::Write;
 
-/// Writes all the bytes. A write that fails or takes none is `InputOrOutput`, and the writer then
-/// has a beginning of them, and not all.
+/// Writes all the bytes. If a write fails or accepts no bytes, this returns `InputOrOutput`, and
+/// the writer has a proper prefix of the bytes.
 pub fn write_whole<W: Write>(output: &mut W, bytes: &[u8]) -> Result<(), ProgramError>
     ensures whole { OnOk result (Appends (W.contents output.old)
         (W.contents output.new) bytes.now) }
@@ -28,6 +28,7 @@ pub fn write_whole<W: Write>(output: &mut W, bytes: &[u8]) -> Result<(), Program
 pub fn with_line_feed(text: String) -> Result<String, ProgramError>
     ensures line { IfOk result (λ line. IsLineOf (string_bytes text) (string_bytes line)) }
     ensures memory { IfErr result IsOutside }
+    ensures plain { IfErr result IsPlain }
 {
     let mut line = text;
     line.push('\n')?;

@@ -1,22 +1,24 @@
-//! The commands `sign` and `verify`, with the key that a line is.
+//! The commands `sign` and `verify`, with the key of a line.
 
-ghost use Rattle.std.specs.Prelude.{◌⊎◌, ℕ, List, IfErr, IfOk, IfSome, string_bytes};
+ghost use Rattle.std.specs.Prelude.{◌≡◌, ◌⊎◌, ℕ, List, IfErr, IfOk, IfSome, string_bytes};
 ghost use Rattle.rusty_paseto_parts.specs.declared.error.PasetoError.{PasetoError};
+ghost use Rattle.rusty_paseto_parts.specs.declared.error.PasetoError.TheVariants.{Cipher};
 ghost use Rattle.rusty_paseto_core.specs.Public.{HasPrivateLength};
-ghost use Rattle.paseto_tasks.specs.Error.{IsFixed, IsOutside};
-ghost use Rattle.paseto_tasks.specs.Public.{DeclinesIn, DeclinesKey, DeclinesText, IsSigned, IsVerified, SignsBy, SignsIn, SignsNothing, SignsText, VerifiesBy, VerifiesIn, VerifiesNothing, VerifiesText};
+ghost use Rattle.paseto_tasks.specs.Error.{BlamesOnly, IsFixed, IsOutside, IsPlain};
+ghost use Rattle.paseto_tasks.specs.Public.{DeclinesIn, DeclinesKey, DeclinesText, IsSigned, IsVerified, MayDecline, MayRefuse, SignsBy, SignsIn, SignsNothing, SignsText, VerifiesBy, VerifiesIn, VerifiesNothing, VerifiesText};
 ghost use Rattle.paseto_tasks.specs.Input.{line_of_input};
+ghost use Rattle.paseto_tasks.specs.KeyLine.{TakesBytes};
+ghost use Rattle.rusty_paseto_paserk.specs.declared.header.PaserkVersion.TheVariants.{V1 as K1};
 
 use crate::arguments::Options;
 use crate::error::{ProgramError, answered};
 use crate::input::{read_line, read_text};
 use crate::key_line::PairLines;
-use crate::rsa::{Salt, signer, verifier};
+use crate::rsa::{SaltedRsa, signer, verifier};
 use crate::token_kind::TokenKind;
 use crate::version::{takes, version_of};
 use paseto_ed25519::Ed25519;
 use paseto_p384::P384;
-use paseto_rsa::RsaPss;
 use rand_core::TryRng;
 use rusty_paseto_core::{
     PasetoAsymmetricPrivateKey, PasetoAsymmetricPublicKey, Payload, Public, Signs, V1, V2, V3, V4,
@@ -26,7 +28,8 @@ use rusty_paseto_paserk::{PaserkType, PaserkVersion};
 use std::alloc::Global;
 use std::io::Read;
 
-/// The signed token of the input, which is the text, and a line feed. In version 1 a salt is drawn.
+/// Signs the input, which is the text, and returns the token and a line feed. In version 1 a salt
+/// is generated.
 pub fn sign<R: Read, G: TryRng>(
     alloc: Global,
     key: &str,
@@ -39,6 +42,7 @@ pub fn sign<R: Read, G: TryRng>(
     ensures refused { IfErr result (λ error. IfSome (R.remaining input.old) (λ text.
         IsOutside error ⊎ SignsNothing key.now options.now text)) }
     ensures fixed { IfErr result IsFixed }
+    ensures blames { IfErr result (BlamesOnly (TakesBytes key.now × G.Error) ⊥ ⊥ ⊥) }
 {
     let version = version_of(key, PaserkType::Secret)?;
     takes(version, options.assertion)?;
@@ -59,11 +63,12 @@ fn sign_in<R: Read, G: TryRng>(
         ⊎ (((line : List ℕ) → ¬ SignsIn version key.now options.now text line)
         ⊎ DeclinesIn version key.now options.now text))) }
     ensures fixed { IfErr result IsFixed }
+    ensures blames { IfErr result (BlamesOnly ((version ≡ K1) × G.Error) ⊥ ⊥ ⊥) }
 {
     match version {
         PaserkVersion::V1 => {
             let mut scheme = signer(generator)?;
-            sign_by::<V1, RsaPss<Salt>, R>(alloc, &mut scheme, key, options, input)
+            sign_by::<V1, SaltedRsa, R>(alloc, &mut scheme, key, options, input)
         }
         PaserkVersion::V2 => sign_by::<V2, Ed25519, R>(alloc, &mut Ed25519, key, options, input),
         PaserkVersion::V3 => sign_by::<V3, P384, R>(alloc, &mut P384, key, options, input),
@@ -87,6 +92,7 @@ fn sign_by<V: PairLines + Signs<S>, S, R: Read>(
         ⊎ DeclinesKey V.paserk (DeclinesText V.declined V.partner
         V.public_design options.now text) key.now))) }
     ensures fixed { IfErr result IsFixed }
+    ensures blames { IfErr result (BlamesOnly (MayDecline V.declined Cipher) ⊥ ⊥ ⊥) }
 {
     let key = V::private_key(alloc, key)?;
     let text = read_text(alloc, input)?;
@@ -108,6 +114,7 @@ fn signed<V: Signs<S>, S>(
         ⊎ ((source : PasetoError) × DeclinesText V.declined V.partner V.public_design options.now
         text.now key.now source)) }
     ensures fixed { IfErr result IsFixed }
+    ensures blames { HasPrivateLength V.public_design key.now → IfErr result (BlamesOnly (MayDecline V.declined Cipher) ⊥ ⊥ ⊥) }
 {
     let assertion = V::signed_assertion(options.assertion);
     let payload = Payload::from(text);
@@ -116,7 +123,8 @@ fn signed<V: Signs<S>, S>(
     Ok(line)
 }
 
-/// The text of the signed token that the input is, with or without a line feed behind it.
+/// Verifies the signed token in the input, with or without a line feed after it, and returns its
+/// text.
 pub fn verify<R: Read>(
     alloc: Global,
     key: &str,
@@ -127,7 +135,7 @@ pub fn verify<R: Read>(
         VerifiesBy key.now options.now bytes (string_bytes text))) }
     ensures refused { IfErr result (λ error. IfSome (R.remaining input.old) (λ bytes.
         IsOutside error ⊎ VerifiesNothing key.now options.now bytes)) }
-    ensures fixed { IfErr result IsFixed }
+    ensures plain { IfErr result IsPlain }
 {
     let version = version_of(key, PaserkType::Public)?;
     takes(version, options.assertion)?;
@@ -146,10 +154,10 @@ fn verify_in<R: Read>(
     ensures refused { IfErr result (λ error. IfSome (R.remaining input.old)
         (λ bytes. IsOutside error ⊎ ((text : List ℕ)
         → ¬ VerifiesIn version key.now options.now (line_of_input bytes) text))) }
-    ensures fixed { IfErr result IsFixed }
+    ensures plain { IfErr result IsPlain }
 {
     match version {
-        PaserkVersion::V1 => verify_by::<V1, RsaPss<Salt>, R>(
+        PaserkVersion::V1 => verify_by::<V1, SaltedRsa, R>(
             alloc,
             TokenKind::V1Public,
             &verifier(),
@@ -200,6 +208,7 @@ fn verify_by<V: PairLines + Verifies<S>, S, R: Read>(
         ⊎ ((text : List ℕ) → ¬ VerifiesText V.paserk V.valid V.refused V.public_design key.now
         options.now (line_of_input bytes) text))) }
     ensures fixed { IfErr result IsFixed }
+    ensures blames { IfErr result (BlamesOnly (MayRefuse V.refused Cipher) ⊥ ⊥ ⊥) }
 {
     let key = V::public_key(alloc, key)?;
     let token = read_line(alloc, input)?;
@@ -221,6 +230,7 @@ fn verified<V: Verifies<S>, S>(
     ensures refused { IfErr result (λ error. IsOutside error ⊎ ((text : List ℕ)
         → ¬ IsVerified V.valid V.refused V.public_design key.now options.now token.now text)) }
     ensures fixed { IfErr result IsFixed }
+    ensures blames { IfErr result (BlamesOnly (MayRefuse V.refused Cipher) ⊥ ⊥ ⊥) }
 {
     let assertion = V::signed_assertion(options.assertion);
     let answer = V::verify(alloc, scheme, token, key, options.footer, assertion);

@@ -1,19 +1,23 @@
-//! The scheme of version 1, by a salt that is drawn for one token.
+//! The scheme of version 1, with a salt generated for one token.
 
 ghost use Rattle.std.specs.Prelude.{◌≡◌, IfErr, length};
-ghost use Rattle.paseto_tasks.specs.Error.{IsFixed, IsOutside};
+ghost use Rattle.paseto_rsa.specs.Keys.{rsa_public};
+ghost use Rattle.paseto_rsa.specs.RsaPss.{IsRefused, RsaPssVerifies};
+ghost use Rattle.paseto_tasks.specs.Error.{BlamesOnly, IsFixed, IsOutside};
+ghost use Rattle.paseto_tasks.specs.Public.{IsUnsigned};
 
 use crate::error::ProgramError;
 use paseto_rsa::RsaPss;
 use rand_core::{Infallible, TryRng};
-use rusty_paseto_core::Key;
+use rusty_paseto_core::{Key, PasetoError, SignatureScheme};
+use std::alloc::Global;
 
-/// How many bytes a salt has.
+/// The number of bytes in a salt.
 const SALT_LEN: usize = 48;
 
-/// The salt of one signature, as the generator of the scheme that asks for it.
+/// The salt of one signature, as the generator of the scheme that requests it.
 #[derive(Drop)]
-pub struct Salt {
+struct Salt {
     bytes: [u8; 48],
 }
 
@@ -38,20 +42,62 @@ impl TryRng for Salt {
     }
 }
 
-/// The scheme for one signature, whose salt is drawn. It fails where the generator does, as `Random`.
-pub fn signer<G: TryRng>(generator: &mut G) -> Result<RsaPss<Salt>, ProgramError>
-    ensures outside { IfErr result IsOutside }
-    ensures fixed { IfErr result IsFixed }
-{
-    let salt = Key::<48>::try_new_random(generator)?;
-    Ok(RsaPss::new(Salt {
-        bytes: *salt.as_bytes(),
-    }))
+/// RSASSA-PSS for one signature, with a salt generated in advance. It always has the random bytes
+/// it needs.
+#[derive(Drop)]
+pub struct SaltedRsa {
+    scheme: RsaPss<Salt>,
 }
 
-/// The scheme that verifies, for which no salt is drawn.
-pub fn verifier() -> RsaPss<Salt> {
-    RsaPss::new(Salt {
-        bytes: [0; SALT_LEN],
-    })
+impl SaltedRsa {
+    fn new(bytes: [u8; SALT_LEN]) -> SaltedRsa {
+        SaltedRsa {
+            scheme: RsaPss::new(Salt { bytes }),
+        }
+    }
+}
+
+impl SignatureScheme<256> for SaltedRsa {
+    ghost valid = { RsaPssVerifies };
+
+    ghost partner = { rsa_public };
+
+    ghost refused = { IsRefused };
+
+    ghost declined = { IsUnsigned };
+
+    fn sign(
+        &mut self,
+        alloc: Global,
+        private: &[u8],
+        message: &[u8],
+    ) -> Result<[u8; 256], PasetoError> {
+        self.scheme.sign(alloc, private, message)
+    }
+
+    fn verify(
+        &self,
+        alloc: Global,
+        public: &[u8],
+        message: &[u8],
+        signature: &[u8; 256],
+    ) -> Result<(), PasetoError> {
+        self.scheme.verify(alloc, public, message, signature)
+    }
+}
+
+/// The scheme for one signature, with a generated salt. If the generator fails, this returns
+/// `Random`.
+pub fn signer<G: TryRng>(generator: &mut G) -> Result<SaltedRsa, ProgramError>
+    ensures outside { IfErr result IsOutside }
+    ensures fixed { IfErr result IsFixed }
+    ensures blames { IfErr result (BlamesOnly G.Error ⊥ ⊥ ⊥) }
+{
+    let salt = Key::<48>::try_new_random(generator)?;
+    Ok(SaltedRsa::new(*salt.as_bytes()))
+}
+
+/// The scheme for verification, for which no salt is generated.
+pub fn verifier() -> SaltedRsa {
+    SaltedRsa::new([0; SALT_LEN])
 }

@@ -6,11 +6,11 @@ ghost use Rattle.std.specs.Io.KnownBytes.{Appends};
 ghost use Rattle.paseto_tasks.specs.Half.{HasHalf, HasNoHalf};
 ghost use Rattle.paseto_tasks.specs.Id.{Identifies, IdentifiesNothing};
 ghost use Rattle.paseto_tasks.specs.declared.error.ProgramError.{ProgramError};
-ghost use Rattle.paseto_tasks.specs.Error.{IsCauseOf, IsFixed, IsOutside, line_of, status_of};
+ghost use Rattle.paseto_tasks.specs.Error.{IsCauseOf, IsFixed, IsOutside, IsPlain, line_of, status_of};
 ghost use Rattle.paseto_tasks.specs.Input.{line_of_input};
 ghost use Rattle.paseto_tasks.specs.Inspect.{Inspects, InspectsNothing};
 ghost use Rattle.paseto_tasks.specs.Output.{IsLeftOf};
-ghost use Rattle.paseto_tasks.specs.Run.{IsRefused, Prints, Writes};
+ghost use Rattle.paseto_tasks.specs.Run.{BlamesIn, IsRefused, Prints, Writes};
 
 use crate::arguments::{Options, Task};
 use crate::error::{Names, ProgramError};
@@ -27,10 +27,12 @@ use std::io::{Read, Write};
 
 /// Does a task with the key of a key file, and returns the status.
 ///
-/// It is 0 where the whole output was written, 1 where the key, the text or the token was refused, and 3 where memory
-/// or random bytes were, or a read or a write failed; then the error's text and a line feed go to `errors`, or a
-/// beginning of them where a write fails there, which changes no status. Such a text holds nothing of the key or of the
-/// input. What is refused writes nothing to `output`, and a write that fails leaves a beginning of the output there.
+/// The status is 0 if the whole output was written, 1 if the key, the text or the token was
+/// refused, and 3 if an allocation failed, the generator failed, or a read or a write failed. If it
+/// is not 0, the error's text and a line feed are written to `errors`; if a write fails there, a
+/// prefix of them is, and the status stays the same. The text contains nothing of the key or the
+/// input. A refusal writes nothing to `output`, and a write that fails leaves a prefix of the
+/// output there.
 pub fn run<K: Read, G: TryRng, R: Read, W: Write, E: Write>(
     alloc: Global,
     task: Task,
@@ -55,7 +57,7 @@ pub fn run<K: Read, G: TryRng, R: Read, W: Write, E: Write>(
         bytes)) }
     ensures quiet { result ≡ 0 → errors.new ≡ errors.old }
     ensures said { result ≢ 0 → (error : ProgramError) × (status_of error ≡ result) × IsFixed error
-        × ((said : List ℕ) × StartsWith (line_of names.now error) said × Appends (E.contents errors.old)
+        × BlamesIn task G.Error (K.remaining key_file.old) error × ((said : List ℕ) × StartsWith (line_of names.now error) said × Appends (E.contents errors.old)
         (E.contents errors.new) said) }
 {
     match print(alloc, task, options, key_file, generator, input, output) {
@@ -67,7 +69,7 @@ pub fn run<K: Read, G: TryRng, R: Read, W: Write, E: Write>(
     }
 }
 
-/// Writes the output, which is made whole before its first byte is written.
+/// Writes the output, which is complete before its first byte is written.
 fn print<K: Read, G: TryRng, R: Read, W: Write>(
     alloc: Global,
     task: Task,
@@ -83,6 +85,7 @@ fn print<K: Read, G: TryRng, R: Read, W: Write>(
         Writes task options.now (λ drawn. G.may_fill generator.old drawn generator.new) file bytes
         (is_ok result) written)) }
     ensures fixed { IfErr result IsFixed }
+    ensures blames { IfErr result (BlamesIn task G.Error (K.remaining key_file.old)) }
     ensures untouched { IfErr result (λ error. (status_of error ≡ 3) ⊎ (output.new ≡ output.old)) }
     ensures refused { IfErr result (λ error. IfSome (K.remaining key_file.old)
         (λ file. IfSome (R.remaining input.old) (λ bytes.
@@ -93,7 +96,7 @@ fn print<K: Read, G: TryRng, R: Read, W: Write>(
     write_whole(output, made.as_str().as_bytes())
 }
 
-/// Tells what a token says of itself, and returns the status, as `run` does.
+/// Prints what a token says about itself, and returns the status, as `run` does.
 pub fn run_inspect<R: Read, W: Write, E: Write>(
     alloc: Global,
     names: &Names<'_>,
@@ -113,7 +116,7 @@ pub fn run_inspect<R: Read, W: Write, E: Write>(
     ensures refused { result ≡ 1 → (output.new ≡ output.old)
         × IfSome (R.remaining input.old) (λ bytes. InspectsNothing (line_of_input bytes)) }
     ensures quiet { result ≡ 0 → errors.new ≡ errors.old }
-    ensures said { result ≢ 0 → (error : ProgramError) × (status_of error ≡ result) × IsFixed error
+    ensures said { result ≢ 0 → (error : ProgramError) × (status_of error ≡ result) × IsPlain error
         × ((said : List ℕ) × StartsWith (line_of names.now error) said × Appends (E.contents errors.old)
         (E.contents errors.new) said) }
 {
@@ -126,7 +129,7 @@ pub fn run_inspect<R: Read, W: Write, E: Write>(
     }
 }
 
-/// Writes what a token says of itself.
+/// Writes what a token says about itself.
 fn print_inspection<R: Read, W: Write>(
     alloc: Global,
     input: &mut R,
@@ -142,7 +145,7 @@ fn print_inspection<R: Read, W: Write>(
     ensures refused { IfErr result (λ error. (status_of error ≡ 3) ⊎ (output.new ≡ output.old)) }
     ensures nothing { IfErr result (λ error. IfSome (R.remaining input.old)
         (λ bytes. IsOutside error ⊎ InspectsNothing (line_of_input bytes))) }
-    ensures fixed { IfErr result IsFixed }
+    ensures plain { IfErr result IsPlain }
 {
     let token = read_line(alloc, input)?;
     let made = inspect(alloc, token.as_str())?;
@@ -163,6 +166,7 @@ fn make<K: Read, G: TryRng, R: Read>(
         Prints task options.now (λ drawn. G.may_fill generator.old drawn generator.new) file bytes
         (string_bytes made)))) }
     ensures fixed { IfErr result IsFixed }
+    ensures blames { IfErr result (BlamesIn task G.Error (K.remaining key_file.old)) }
     ensures refused { IfErr result (λ error. IfSome (K.remaining key_file.old)
         (λ file. IfSome (R.remaining input.old) (λ bytes.
         IsOutside error ⊎ IsRefused task options.now
@@ -196,7 +200,7 @@ pub fn run_id<W: Write, E: Write>(
         × IsLeftOf (Identifies key.now) written }
     ensures refused { result ≡ 1 → (output.new ≡ output.old) × IdentifiesNothing key.now }
     ensures quiet { result ≡ 0 → errors.new ≡ errors.old }
-    ensures said { result ≢ 0 → (error : ProgramError) × (status_of error ≡ result) × IsFixed error
+    ensures said { result ≢ 0 → (error : ProgramError) × (status_of error ≡ result) × IsPlain error
         × ((said : List ℕ) × StartsWith (line_of names.now error) said × Appends (E.contents errors.old)
         (E.contents errors.new) said) }
 {
@@ -221,14 +225,14 @@ pub fn run_public<W: Write, E: Write>(
         × IsLeftOf (HasHalf key.now) written }
     ensures refused { result ≡ 1 → (output.new ≡ output.old) × HasNoHalf key.now }
     ensures quiet { result ≡ 0 → errors.new ≡ errors.old }
-    ensures said { result ≢ 0 → (error : ProgramError) × (status_of error ≡ result) × IsFixed error
+    ensures said { result ≢ 0 → (error : ProgramError) × (status_of error ≡ result) × IsPlain error
         × ((said : List ℕ) × StartsWith (line_of names.now error) said × Appends (E.contents errors.old)
         (E.contents errors.new) said) }
 {
     finish(public(alloc, key), names, output, errors)
 }
 
-/// Writes what was made, or says why nothing was, and returns the status, as `run` does.
+/// Writes the result, or reports the error, and returns the status, as `run` does.
 pub fn finish<W: Write, E: Write>(
     made: Result<String, ProgramError>,
     names: &Names<'_>,
@@ -257,7 +261,7 @@ pub fn finish<W: Write, E: Write>(
     }
 }
 
-/// Writes what was made.
+/// Writes the result.
 fn written<W: Write>(made: Result<String, ProgramError>, output: &mut W) -> Result<(), ProgramError>
     ensures written { OnOk result (IsOkAnd made
         (λ text. Appends (W.contents output.old) (W.contents output.new) (string_bytes text))) }

@@ -24,12 +24,12 @@ pub enum TokenKind {
     V4Local,
     /// `v4.public`
     V4Public,
-    /// A text that begins as none of these.
+    /// A text that begins like none of these.
     Other,
 }
 
 impl TokenKind {
-    /// The kind that a token begins with.
+    /// The kind that the beginning of a token names.
     pub fn of(token: &str) -> TokenKind
         ensures { NamesKind result token.now }
     {
@@ -70,7 +70,7 @@ impl TokenKind {
         }
     }
 
-    /// What the kind is called.
+    /// The name of the kind.
     pub fn text(self) -> &'static str
         ensures { result.now ≡ kind_text self }
     {

@@ -1,8 +1,8 @@
-//! The version of a key, by which the commands go, and what it takes.
+//! The version of a key, on which the commands depend, and what it accepts.
 
 ghost use Rattle.std.specs.Prelude.{◌≡◌, IfErr, IfOk, OnErr, OnOk};
 ghost use Rattle.paseto_tasks.specs.Arguments.{Takes};
-ghost use Rattle.paseto_tasks.specs.Error.{IsFixed};
+ghost use Rattle.paseto_tasks.specs.Error.{IsPlain};
 ghost use Rattle.paseto_tasks.specs.KeyLine.{BeginsAs};
 
 use crate::error::ProgramError;
@@ -10,11 +10,11 @@ use crate::key_line::begins_as;
 use rusty_paseto_core::ImplicitAssertion;
 use rusty_paseto_paserk::{PaserkError, PaserkType, PaserkVersion};
 
-/// The version of the key of a type that a line begins as.
+/// The version of the key of a type, from the beginning of a line.
 pub fn version_of(line: &str, kind: PaserkType) -> Result<PaserkVersion, ProgramError>
     ensures begins { IfOk result (λ version. BeginsAs version kind line.now) }
     ensures none { OnErr result ((version : PaserkVersion) → ¬ BeginsAs version kind line.now) }
-    ensures fixed { IfErr result IsFixed }
+    ensures plain { IfErr result IsPlain }
 {
     match begins_as(line) {
         Some((version, found)) if found == kind => Ok(version),
@@ -23,7 +23,7 @@ pub fn version_of(line: &str, kind: PaserkType) -> Result<PaserkVersion, Program
     }
 }
 
-/// Refuses an assertion that is not empty in the versions 1 and 2, which bind their tokens to none.
+/// Refuses a non-empty assertion in versions 1 and 2, whose tokens are not bound to one.
 pub fn takes(
     version: PaserkVersion,
     assertion: Option<ImplicitAssertion<'_>>,

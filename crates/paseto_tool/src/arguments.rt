@@ -1,4 +1,4 @@
-//! What the words after the program's name ask for.
+//! The arguments after the program's name.
 
 ghost use Rattle.std.specs.Prelude.{◌↔◌, ◌∷◌, ℕ, List, Option, codes, IfSome, IsNone};
 ghost use Rattle.paseto_tool.specs.Arguments.{words_of, AreLast, IsUsageFault, Asks, given_footer, given_assertion};
@@ -9,7 +9,7 @@ use crate::seal::Sealing;
 use crate::version::Version;
 use rusty_paseto::paseto_core::{Footer, ImplicitAssertion};
 
-/// What the words ask for.
+/// The command that the arguments give.
 #[derive(Clone, Copy)]
 pub enum Command<'a> {
     /// `inspect TOKEN`
@@ -21,8 +21,8 @@ pub enum Command<'a> {
 }
 
 impl<'a> Command<'a> {
-    /// The command of the words, or nothing where they are none: their number, the command and the
-    /// version are checked, and nothing else.
+    /// Parses the arguments, or returns `None` if they are not a command. Only their number, the
+    /// command and the version are checked.
     pub fn parse(words: &'a [String]) -> Option<Command<'a>>
         ensures asked { IfSome result (Asks (words_of words.now)) }
         ensures fault { IsNone result ↔ IsUsageFault (words_of words.now) }
@@ -38,7 +38,7 @@ impl<'a> Command<'a> {
         }
     }
 
-    /// An inspection, of the words after `inspect`.
+    /// Parses the arguments after `inspect`.
     fn inspection(words: &'a [String]) -> Option<Command<'a>>
         ensures asked { IfSome result (Asks (codes "inspect" ∷ words_of words.now)) }
         ensures fault { IsNone result ↔ IsUsageFault (codes "inspect" ∷ words_of words.now) }
@@ -50,7 +50,7 @@ impl<'a> Command<'a> {
         Some(Command::Inspect(Inspection { token }))
     }
 
-    /// A sealing, of the words after `seal`.
+    /// Parses the arguments after `seal`.
     fn sealing(words: &'a [String]) -> Option<Command<'a>>
         ensures asked { IfSome result (Asks (codes "seal" ∷ words_of words.now)) }
         ensures fault { IsNone result ↔ IsUsageFault (codes "seal" ∷ words_of words.now) }
@@ -69,7 +69,7 @@ impl<'a> Command<'a> {
         }))
     }
 
-    /// An opening, of the words after `open`.
+    /// Parses the arguments after `open`.
     fn opening(words: &'a [String]) -> Option<Command<'a>>
         ensures asked { IfSome result (Asks (codes "open" ∷ words_of words.now)) }
         ensures fault { IsNone result ↔ IsUsageFault (codes "open" ∷ words_of words.now) }
@@ -88,7 +88,7 @@ impl<'a> Command<'a> {
     }
 }
 
-/// The footer and the implicit assertion, where they are given.
+/// The footer and the implicit assertion, if they are given.
 #[derive(Clone, Copy)]
 pub struct Attachments<'a> {
     pub footer: Option<Footer<'a>>,
@@ -96,8 +96,8 @@ pub struct Attachments<'a> {
 }
 
 impl<'a> Attachments<'a> {
-    /// The attachments of a command's last words, or nothing where these are more than two, or two
-    /// for a version whose tokens are bound to no implicit assertion.
+    /// Parses the last arguments of a command. Returns `None` if there are more than two, or two for a
+    /// version whose tokens are not bound to an implicit assertion.
     fn parse(version: Version, words: &'a [String]) -> Option<Attachments<'a>>
         ensures last { IfSome result (λ attachments.
             AreLast version (words_of words.now) (given_footer attachments)

@@ -1,4 +1,4 @@
-//! Why the program does not do what it was asked.
+//! Why the program failed.
 
 ghost use Rattle.std.specs.Prelude.{◌≡◌, ℕ, List};
 ghost use Rattle.paseto_tool.specs.declared.error.ToolError.TheVariants.{Refused, InputOrOutput, Memory};
@@ -18,21 +18,21 @@ use std::str::Utf8Error;
 const USAGE: &str =
     "usage: paseto_tool inspect TOKEN | seal VERSION KEY NONCE [FOOTER [ASSERTION]] | open VERSION KEY [FOOTER [ASSERTION]]";
 
-/// Why the program ends with another status than 0.
+/// Why the program exits with a status other than 0.
 #[derive(Debug, Drop)]
 pub enum ToolError {
-    /// The words ask for nothing that the program does.
+    /// The arguments are not a command of the program.
     Usage,
     /// A key, a nonce, a text or a token was refused.
     Refused(PasetoError),
-    /// A read or a write failed, or a write took no byte.
+    /// A read or a write failed, or a write accepted no bytes.
     InputOrOutput,
-    /// Memory was refused.
+    /// An allocation failed.
     Memory(AllocError),
 }
 
 impl ToolError {
-    /// What the program says of it on standard error: one line, without its end.
+    /// The message on standard error: one line, without its line feed.
     fn text(&self) -> &'static str
         ensures { result.now ≡ text_of self.now }
     {
@@ -44,8 +44,8 @@ impl ToolError {
         }
     }
 
-    /// Writes the text and a line feed, or a beginning of them where a write fails, which changes nothing else. No
-    /// memory is taken.
+    /// Writes the text and a line feed. If a write fails, only a prefix of them is written, and nothing
+    /// else changes. This does not allocate.
     pub fn say<E: Write>(&self, errors: &mut E)
         ensures { (said : List ℕ) × StartsWith (line_of self.now) said × Appends
             (E.contents errors.old) (E.contents errors.new) said }
@@ -55,7 +55,7 @@ impl ToolError {
         }
     }
 
-    /// The status that the program ends with.
+    /// The exit status of the program.
     pub fn status(&self) -> u8
         ensures { result ≡ status_of self.now }
     {
@@ -65,8 +65,8 @@ impl ToolError {
         }
     }
 
-    /// Why the words after the program's name could not be read: memory was refused; a word is no text, and so
-    /// asks for nothing that the program does; or else the system failed.
+    /// Why the arguments after the program's name could not be read: an allocation failed; an argument
+    /// is not text, and so not part of a command; or the system failed.
     pub fn of_words(source: &io::Error) -> ToolError
         ensures { result ≡ words_error (error_kind source.now) }
     {

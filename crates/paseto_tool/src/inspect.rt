@@ -14,9 +14,9 @@ pub struct Inspection<'a> {
 }
 
 impl Inspection<'_> {
-    /// The lines of what the token says of itself, none of which is to be trusted.
+    /// Returns the lines that describe the token. Its content is not verified and must not be trusted.
     ///
-    /// They are made whole before they are returned, so that a footer that can't be read leaves none.
+    /// The lines are complete before they are returned, so a footer that can't be read leaves none.
     pub fn lines(&self, alloc: Global) -> Result<String, ToolError>
         ensures printed { IfOk result (λ lines. Inspects self.now.token.now (string_bytes lines)) }
         ensures refused { IfErr result (IsInspectionReason self.now.token.now) }

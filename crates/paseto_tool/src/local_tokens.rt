@@ -1,4 +1,4 @@
-//! Local tokens, with what the words attach to them.
+//! Local tokens, with the footer and the implicit assertion of the arguments.
 
 ghost use Rattle.std.specs.Prelude.{◌≡◌, is_some, IfOk, IfErr, string_bytes};
 ghost use Rattle.rusty_paseto_parts.specs.Error.{IsMemory};
@@ -15,7 +15,7 @@ use rusty_paseto::paseto_core::{
 };
 use std::alloc::Global;
 
-/// The token of a text. It fails only by `Memory`.
+/// Returns the token of a text. The only error is `Memory`.
 pub fn seal<V: LocalVersion>(
     alloc: Global,
     key: &PasetoSymmetricKey<V, Local>,
@@ -39,7 +39,7 @@ pub fn seal<V: LocalVersion>(
     V::seal(alloc, key, nonce, payload, footer, implicit_assertion)
 }
 
-/// The text that a token opens to, or its first fault.
+/// Returns the text of a token, or the token's first fault.
 pub fn open<V: LocalVersion>(
     alloc: Global,
     token: &str,

@@ -1,4 +1,4 @@
-//! Looks at, seals and opens PASETO tokens.
+//! Inspects, seals and opens PASETO tokens.
 #![tactic(auto)]
 
 ghost use Rattle.std.specs.Prelude.{◌≡◌, drop};
@@ -33,7 +33,7 @@ fn main(rt: HostRuntime) -> ExitCode {
     }
 }
 
-/// The words after the program's name.
+/// The arguments after the program's name.
 fn words(rt: &HostRuntime) -> Result<Vec<String>, ToolError> {
     match env::args(rt) {
         Ok(words) => Ok(after_name(words.collect(rt.alloc())?)),
@@ -41,7 +41,7 @@ fn words(rt: &HostRuntime) -> Result<Vec<String>, ToolError> {
     }
 }
 
-/// The words without the first, which is the program's name.
+/// The arguments without the first, which is the program's name.
 fn after_name(words: Vec<String>) -> Vec<String>
     ensures { result.items ≡ drop 1 words.items }
 {

@@ -24,9 +24,9 @@ pub struct Opening<'a> {
 }
 
 impl Opening<'_> {
-    /// The text that the input opens to.
+    /// Opens the input and returns its text.
     ///
-    /// KEY is read before the input is, which is the token, with or without a line feed after it.
+    /// KEY is read before the input. The input is the token, with or without a line feed after it.
     pub fn text<R: Read>(&self, alloc: Global, input: &mut R) -> Result<String, ToolError>
         requires { IsBound (design_of self.now.version) (given_assertion self.now.attachments) }
         ensures printed { IfOk result (λ text. IfSome (R.remaining input.old) (λ token.
@@ -71,7 +71,7 @@ impl Opening<'_> {
     }
 }
 
-/// The bytes without the line feed at their end, where they have one.
+/// The bytes without the line feed at their end, if there is one.
 fn without_line_feed(bytes: &[u8]) -> &[u8]
     ensures { result.now ≡ token_of bytes.now }
 {

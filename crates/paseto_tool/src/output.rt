@@ -7,8 +7,8 @@ ghost use Rattle.paseto_streams.specs.Output.{IsCutShort};
 use crate::error::ToolError;
 use std::io::Write;
 
-/// Writes all the bytes. A write that fails or takes none is `InputOrOutput`, and the writer then
-/// has a beginning of them, and not all.
+/// Writes all the bytes. If a write fails or accepts no bytes, this returns `InputOrOutput`, and
+/// the writer has a proper prefix of the bytes.
 pub fn write_whole<W: Write>(output: &mut W, bytes: &[u8]) -> Result<(), ToolError>
     ensures whole { OnOk result (Appends (W.contents output.old)
         (W.contents output.new) bytes.now) }

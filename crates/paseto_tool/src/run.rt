@@ -14,15 +14,15 @@ use crate::output::write_whole;
 use std::alloc::Global;
 use std::io::{Read, Write};
 
-/// Does what the words after the program's name ask for, and returns the status.
+/// Runs the command that the arguments after the program's name give, and returns the status.
 ///
-/// It is 0 where the whole output was written, 2 where the words ask for nothing that the program
-/// does, and 1 where something was refused, where memory was, or where a read or a write failed; then
-/// the error's text and a line feed go to `errors`, or a beginning of them where a write fails there, which
-/// changes no status. Judged are, in this order, the words (their
-/// number, the command, the version), KEY, NONCE, and the input, which is read whole, save that
-/// `inspect` reads none of it. What is refused writes nothing to `output`, and a write that fails
-/// leaves a beginning of the output there.
+/// The status is 0 if the whole output was written, 2 if the arguments are not a command of the
+/// program, and 1 if something was refused, an allocation failed, or a read or a write failed. If
+/// it is not 0, the error's text and a line feed are written to `errors`; if a write fails there, a
+/// prefix of them is, and the status stays the same. The checks are, in this order: the arguments
+/// (their number, the command, the version), KEY, NONCE, and the input. The input is read whole,
+/// except that `inspect` reads none of it. A refusal writes nothing to `output`, and a write that
+/// fails leaves a prefix of the output there.
 pub fn run<R: Read, W: Write, E: Write>(
     alloc: Global,
     args: &[String],
@@ -59,7 +59,7 @@ pub fn run<R: Read, W: Write, E: Write>(
     }
 }
 
-/// Writes the output, which is made whole before its first byte is written.
+/// Writes the output, which is complete before its first byte is written.
 fn print<R: Read, W: Write>(
     alloc: Global,
     args: &[String],
@@ -86,7 +86,7 @@ fn print<R: Read, W: Write>(
     write_whole(output, made.as_str().as_bytes())
 }
 
-/// The output of the words and the input.
+/// The output for the arguments and the input.
 fn make<R: Read>(alloc: Global, args: &[String], input: &mut R) -> Result<String, ToolError>
     ensures printed { IfOk result (λ made. IfSome (R.remaining input.old) (λ bytes.
         Prints (words_of args.now) bytes (string_bytes made))) }

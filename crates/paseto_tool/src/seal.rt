@@ -27,9 +27,9 @@ pub struct Sealing<'a> {
 }
 
 impl Sealing<'_> {
-    /// The token of the input, and a line feed.
+    /// Returns the token of the input, and a line feed.
     ///
-    /// KEY and NONCE are read before the input is, which is the text and is to be UTF-8.
+    /// KEY and NONCE are read before the input. The input is the text, and must be UTF-8.
     pub fn line<R: Read>(&self, alloc: Global, input: &mut R) -> Result<String, ToolError>
         requires { IsBound (design_of self.now.version) (given_assertion self.now.attachments) }
         ensures printed { IfOk result (λ line. IfSome (R.remaining input.old) (λ text.

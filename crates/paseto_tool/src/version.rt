@@ -3,7 +3,7 @@
 ghost use Rattle.std.specs.Prelude.{◌≡◌, ◌≢◌, IfSome, IsNone};
 ghost use Rattle.paseto_tool.specs.Version.{design_of, version_word};
 
-/// What the word VERSION names.
+/// The version that the argument VERSION names.
 #[derive(Clone, Copy)]
 pub enum Version {
     V1,
@@ -12,7 +12,7 @@ pub enum Version {
 }
 
 impl Version {
-    /// The version that the word names, or nothing where it names none.
+    /// Parses a version, or returns `None` if the argument names none.
     pub fn parse(word: &str) -> Option<Version>
         ensures named { IfSome result (λ version. word.now ≡ version_word version) }
         ensures other { IsNone result → (version : Version) → word.now ≢ version_word version }

@@ -2,10 +2,10 @@
 
 use crate::expect::{expect_same, expect_that};
 use crate::hexadecimal::bytes_of;
-use paseto_toys::long::text_of;
 use rusty_paseto_core::PreAuthenticationEncoding;
 use std::alloc::Global;
 use std::process::Abort;
+use test_toys::long::text_of;
 
 fn check(rt: &impl Abort, alloc: Global, pieces: &[&[u8]], expected: &str) {
     let encoding = PreAuthenticationEncoding::parse(alloc, pieces).expect(rt, "an encoding");

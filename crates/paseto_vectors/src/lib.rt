@@ -2,7 +2,7 @@
 //! test what no proof can see: that the definitions are the standards', and that calls succeed.
 //!
 //! What a caller brings to tokens, as a sealed box or a signature scheme, are the toys of
-//! `paseto_toys`. The box and the schemes of the versions are tested in `boxes` and `schemes`.
+//! `test_toys`. The box and the schemes of the versions are tested in `boxes` and `schemes`.
 #![tactic(auto)]
 
 #[cfg(test)]

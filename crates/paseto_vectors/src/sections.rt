@@ -2,12 +2,12 @@
 
 use crate::expect::{expect_bytes, expect_same, expect_text, expect_that};
 use crate::hexadecimal::array_of;
-use paseto_toys::long::text_of;
 use rusty_paseto_parts::{
     PasetoError, from_section, is_section_of, laws, push_section, split_token, to_section,
 };
 use std::alloc::Global;
 use std::process::Abort;
+use test_toys::long::text_of;
 
 // The text is split into these sections and this footer.
 fn check_split(rt: &impl Abort, text: &str, sections: [&str; 3], footer: Option<&str>) {

@@ -3,10 +3,10 @@
 use crate::expect::{expect_bytes, expect_text, expect_that};
 use crate::hexadecimal::array_of;
 use crate::sections::{CHARACTERS, NUMBERS};
-use paseto_toys::long::{LENGTHS, text_of};
 use rusty_paseto_core::{Footer, PasetoError, UntrustedToken, to_section};
 use std::alloc::Global;
 use std::process::Abort;
+use test_toys::long::{LENGTHS, text_of};
 
 // The bytes of the footer of a token that has one.
 fn bytes_of(rt: &impl Abort, alloc: Global, token: &str) -> Vec<u8> {

@@ -5,13 +5,13 @@ ghost use Rattle.paseto_weierstrass.specs.Field.{inverse, prime, times};
 ghost use Rattle.paseto_weierstrass.specs.Group.{IsPoint, cubic};
 ghost use Rattle.paseto_weierstrass.specs.Point.{base, neutral};
 
-/// The power by p - 2 is the inverse, since p is prime.
+/// The power p - 2 of an element is its inverse, since p is prime.
 pub fn inverse_of_element()
     ensures { (a : ℕ) → a < prime → a ≢ 0 → times a (inverse a) ≡ 1 }
 {}
 
-/// x^3 - 3 * x + b has no root modulo p, and so the curve has no point of order 2. A root would be one of
-/// x^(p - 1) - 1, which has no factor in common with it.
+/// x^3 - 3 * x + b has no root modulo p, so the curve has no point of order 2. A root would also be
+/// a root of x^(p - 1) - 1, which has no factor in common with the cubic.
 pub fn no_point_of_order_two()
     ensures { (x : ℕ) → x < prime → cubic x 1 ≢ 0 }
 {}

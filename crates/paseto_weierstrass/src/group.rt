@@ -11,7 +11,7 @@ pub fn sum_is_point()
     ensures { (p q : Point) → IsPoint p → IsPoint q → IsPoint (point_add p q) }
 {}
 
-/// Two points may be added in either order.
+/// Addition is commutative.
 pub fn sum_commutes()
     ensures { (p q : Point) → IsPoint p → IsPoint q → point_add p q ≡ point_add q p }
 {}
@@ -22,18 +22,18 @@ pub fn sum_of_same()
         → Same (point_add p r) (point_add q s) }
 {}
 
-/// (0, 1, 0) is neutral.
+/// (0, 1, 0) is the neutral element.
 pub fn sum_with_neutral()
     ensures { (p : Point) → IsPoint p → Same p (point_add p neutral) }
 {}
 
-/// The formulas for a double give the sum of a point and itself.
+/// The doubling formulas give the sum of a point and itself.
 pub fn double_is_sum()
     ensures { (p : Point) → IsPoint p → point_double p ≡ point_add p p }
 {}
 
-/// Three points may be added from either end. Where each sum is by a line, the slopes of the four lines tell it; else two
-/// of the points, or one and the sum of the others, are opposites.
+/// Addition is associative. If each sum is by a line, this follows from the slopes of the four
+/// lines; otherwise two of the points, or one and the sum of the others, are opposites.
 pub fn sum_associates()
     ensures { (p q r : Point) → IsPoint p → IsPoint q → IsPoint r
         → Same (point_add (point_add p q) r) (point_add p (point_add q r)) }

@@ -28,7 +28,7 @@ pub fn order_of_base()
     ensures { Same (multiple_of order base) neutral }
 {}
 
-/// [k]G is neutral exactly where n divides k, since n is prime.
+/// [k]G is neutral if and only if n divides k, since n is prime.
 pub fn multiples_of_base()
     ensures { (k : ℕ) → Same (multiple_of k base) neutral ↔ (k % order ≡ 0) }
 {}

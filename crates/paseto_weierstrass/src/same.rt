@@ -1,29 +1,29 @@
-//! Coordinates of one point.
+//! Coordinates of the same point.
 
 ghost use Rattle.std.specs.Prelude.{◌≡◌};
 ghost use Rattle.paseto_weierstrass.specs.Field.{inverse, times};
 ghost use Rattle.paseto_weierstrass.specs.Group.{IsPoint, Same};
 ghost use Rattle.paseto_weierstrass.specs.Point.{Point};
 
-/// To be the same point is an equivalence.
+/// Being the same point is an equivalence relation.
 pub fn same_is_equivalence()
     ensures reflexive { (p : Point) → IsPoint p → Same p p }
     ensures symmetric { (p q : Point) → IsPoint p → IsPoint q → Same p q → Same q p }
     ensures transitive { (p q r : Point) → IsPoint p → Same p q → Same q r → Same p r }
 {}
 
-/// What is the same as a point is a point.
+/// Anything that is the same as a point is a point.
 pub fn same_is_point()
     ensures { (p q : Point) → IsPoint p → Same p q → IsPoint q }
 {}
 
-/// Points are the same if X / Z and Y / Z are equal, said with no division.
+/// Points are the same if X / Z and Y / Z are equal. The condition is stated without division.
 pub fn equal_quotients()
     ensures { (p q : Point) → IsPoint p → IsPoint q → times p.x q.z ≡ times q.x p.z
         → times p.y q.z ≡ times q.y p.z → Same p q }
 {}
 
-/// X / Z and Y / Z of the same point are equal, by the power p - 2 of Z.
+/// X / Z and Y / Z of the same point are equal, with the power p - 2 of Z as its inverse.
 pub fn quotients_of_same()
     ensures x { (p q : Point) → IsPoint p → Same p q
         → times q.x (inverse q.z) ≡ times p.x (inverse p.z) }

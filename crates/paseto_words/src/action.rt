@@ -1,6 +1,6 @@
-//! What words ask for, in plain texts that are borrowed from the words.
+//! What the arguments request, in plain texts borrowed from them.
 
-/// What opens key files that are locked: `[--password-file FILE] [--unlock-key FILE]`
+/// What opens locked key files: `[--password-file FILE] [--unlock-key FILE]`
 #[derive(Clone, Copy)]
 pub struct Openers<'a> {
     /// The file of a password.
@@ -9,7 +9,7 @@ pub struct Openers<'a> {
     pub key: Option<&'a str>,
 }
 
-/// `[--key FILE]`, and what opens it where it is locked
+/// `[--key FILE]`, and what opens it if it is locked
 #[derive(Clone, Copy)]
 pub struct KeyFile<'a> {
     /// The key file.
@@ -21,7 +21,7 @@ pub struct KeyFile<'a> {
 /// Where the keys of a token are.
 #[derive(Clone, Copy)]
 pub enum Keys<'a> {
-    /// None is said.
+    /// None is given.
     Unsaid,
     /// `--key FILE`
     File(&'a str),
@@ -32,7 +32,7 @@ pub enum Keys<'a> {
 /// What the footer of a token is.
 #[derive(Clone, Copy)]
 pub enum Foot<'a> {
-    /// None is said.
+    /// None is given.
     Unsaid,
     /// `--footer TEXT`
     Text(&'a str),
@@ -43,17 +43,17 @@ pub enum Foot<'a> {
 /// `keygen KIND [--password-file FILE] [--format FORMAT] [--out FILE] [--public FILE] [--quiet]`
 #[derive(Clone, Copy)]
 pub struct Keygen<'a> {
-    /// The kind of key, which may be none.
+    /// The kind of key. It may be invalid.
     pub kind: &'a str,
-    /// The file of the password under which the key is put.
+    /// The file of the password that protects the key.
     pub password: Option<&'a str>,
-    /// The format of the key and of its public half, which may be none.
+    /// The format of the key and of its public half. It may be invalid.
     pub format: Option<&'a str>,
     /// The file of the key.
     pub out: Option<&'a str>,
     /// The file of its public half.
     pub public: Option<&'a str>,
-    /// Whether nothing is said of what was made.
+    /// Whether to print nothing about what was made.
     pub quiet: bool,
 }
 
@@ -62,7 +62,7 @@ pub struct Keygen<'a> {
 pub struct Written<'a> {
     /// The key file.
     pub key: KeyFile<'a>,
-    /// The format of the key that is written, which may be none.
+    /// The format of the key that is written. It may be invalid.
     pub format: Option<&'a str>,
     /// The file of the key that is written.
     pub out: Option<&'a str>,
@@ -73,16 +73,16 @@ pub struct Written<'a> {
 pub struct Wrap<'a> {
     /// The key file.
     pub key: Option<&'a str>,
-    /// What the key is put under.
+    /// The wrapping key or the password.
     pub under: Under<'a>,
     /// The file of the wrapped key.
     pub out: Option<&'a str>,
 }
 
-/// What a key is put under.
+/// What wraps a key.
 #[derive(Clone, Copy)]
 pub enum Under<'a> {
-    /// None is said.
+    /// None is given.
     Unsaid,
     /// `--wrapping-key FILE`
     Key(&'a str),
@@ -107,7 +107,7 @@ pub struct Seal<'a> {
 pub struct Issue<'a> {
     /// The key file.
     pub key: KeyFile<'a>,
-    /// The claims, in their order.
+    /// The claims, in order.
     pub claims: Vec<&'a str>,
     /// When the token expires.
     pub expires: Option<&'a str>,
@@ -127,13 +127,13 @@ pub struct Issue<'a> {
 pub struct Check<'a> {
     /// The key file, or the folder of key files.
     pub keys: Keys<'a>,
-    /// What opens them where they are locked.
+    /// What opens them if they are locked.
     pub openers: Openers<'a>,
-    /// The claims that the token has to have, in their order.
+    /// The claims that the token must have, in order.
     pub claims: Vec<&'a str>,
-    /// The names of further claims that it has to have.
+    /// The names of further claims that it must have.
     pub required: Vec<&'a str>,
-    /// The moment of checking.
+    /// The moment at which the token is checked.
     pub at: Option<&'a str>,
     /// How far clocks may differ.
     pub leeway: Option<&'a str>,
@@ -145,8 +145,8 @@ pub struct Check<'a> {
     pub input: Option<&'a str>,
 }
 
-/// `encrypt`, `decrypt`, `sign` or `verify [--key FILE] [--password-file FILE] [--unlock-key FILE] [--footer TEXT]
-/// [--assertion TEXT] [INPUT]`, where `encrypt` and `sign` take `--out FILE` too
+/// `encrypt`, `decrypt`, `sign` or `verify [--key FILE] [--password-file FILE] [--unlock-key FILE]
+/// [--footer TEXT] [--assertion TEXT] [INPUT]`; `encrypt` and `sign` also take `--out FILE`
 #[derive(Clone, Copy)]
 pub struct Keyed<'a> {
     /// The key file.
@@ -161,7 +161,7 @@ pub struct Keyed<'a> {
     pub out: Option<&'a str>,
 }
 
-/// What is to be done.
+/// The action to perform.
 #[derive(Drop)]
 pub enum Action<'a> {
     /// `keygen`

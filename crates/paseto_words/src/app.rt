@@ -1,4 +1,4 @@
-//! What each command takes.
+//! The options and arguments of each command.
 
 ghost use Rattle.std.specs.Prelude.{◌≡◌, IfOk, codes, false};
 ghost use Rattle.clap.specs.Words.{App, new_app, rule_of};
@@ -15,7 +15,7 @@ fn option<'a>(alloc: Global, id: &'a str, value: &'a str, help: &'a str) -> Arg<
     Arg::new(alloc, id).long(id).value_name(value).help(help)
 }
 
-/// An option with a value that may stand many times.
+/// An option with a value that may be given many times.
 fn options<'a>(alloc: Global, id: &'a str, value: &'a str, help: &'a str) -> Arg<'a>
     ensures rule { rule_of result ≡ many_rule id.entry.now }
     ensures local { result.global ≡ false }
@@ -34,7 +34,7 @@ fn flag<'a>(alloc: Global, id: &'a str, help: &'a str) -> Arg<'a>
         .action(ArgAction::SetTrue)
 }
 
-/// A word that is no option.
+/// An argument that is not an option.
 fn place<'a>(alloc: Global, id: &'a str, value: &'a str, help: &'a str) -> Arg<'a>
     ensures rule { rule_of result ≡ place_rule id.entry.now }
     ensures local { result.global ≡ false }
@@ -50,7 +50,7 @@ fn key<'a>(alloc: Global) -> Arg<'a>
         alloc,
         "key",
         "FILE",
-        "The key file, PASERK or PEM; - is standard input; without it PASETO_KEY is the key",
+        "The key file (PASERK or PEM), or - for standard input; without it, PASETO_KEY holds the key",
     )
 }
 
@@ -69,11 +69,11 @@ fn opener<'a>(alloc: Global) -> Arg<'a>
         alloc,
         "unlock-key",
         "FILE",
-        "The key that opens a wrapped or a sealed key: the wrapping key or the private one",
+        "The key that unlocks a wrapped or sealed key: the wrapping key or the private key",
     )
 }
 
-/// A command with a key file, and what opens it where it is locked.
+/// A command with a key file, and what opens it if it is locked.
 fn with_key<'a>(command: Command<'a>, alloc: Global) -> Result<Command<'a>, AllocError>
     ensures { (a : App) → IsFor a command.entry → IfOk result (IsFor (with_key a)) }
 {
@@ -81,7 +81,7 @@ fn with_key<'a>(command: Command<'a>, alloc: Global) -> Result<Command<'a>, Allo
         .arg(key(alloc))?
         .arg(password(
             alloc,
-            "A file whose first line is the password of the key; without it PASETO_PASSWORD is",
+            "A file whose first line is the password of the key; without it, PASETO_PASSWORD holds it",
         ))?
         .arg(opener(alloc))
 }
@@ -94,7 +94,7 @@ fn format<'a>(alloc: Global) -> Arg<'a>
         alloc,
         "format",
         "FORMAT",
-        "How the key is written: paserk, or pem for key pairs of version 3 or 4",
+        "The format of the key: paserk, or pem for key pairs of version 3 or 4",
     )
 }
 
@@ -106,7 +106,7 @@ fn claim<'a>(alloc: Global) -> Arg<'a>
         alloc,
         "claim",
         "CLAIM",
-        "A claim, NAME=TEXT or NAME:=JSON; may stand many times",
+        "A claim, NAME=TEXT or NAME:=JSON; may be repeated",
     )
 }
 
@@ -125,7 +125,7 @@ fn kid<'a>(alloc: Global) -> Arg<'a>
         alloc,
         "footer-kid",
         "ID",
-        "The id of a key, for the footer, by which a ring finds the key",
+        "The id of a key, which goes into the footer so that a ring finds the key",
     )
 }
 
@@ -137,7 +137,7 @@ fn assertion<'a>(alloc: Global) -> Arg<'a>
         alloc,
         "assertion",
         "TEXT",
-        "The implicit assertion of the token, of version 3 or 4",
+        "The implicit assertion of the token (version 3 or 4)",
     )
 }
 
@@ -149,7 +149,7 @@ fn out<'a>(alloc: Global) -> Arg<'a>
         alloc,
         "out",
         "FILE",
-        "A new file for what is made, in place of standard output",
+        "A new file to write to, instead of standard output",
     )
 }
 
@@ -161,7 +161,7 @@ fn input<'a>(alloc: Global) -> Arg<'a>
         alloc,
         "input",
         "INPUT",
-        "A file, or - for standard input, which is taken too where none is named",
+        "A file, or - for standard input, which is the default",
     )
 }
 
@@ -175,30 +175,25 @@ fn with_keygen<'a>(alloc: Global) -> Result<Command<'a>, AllocError>
         "v1.local, v2.local, v2.public, v3.local, v3.public, v4.local or v4.public",
     );
     Command::new(alloc, "keygen")
-        .about("Makes a key: local kinds encrypt, public kinds sign")
+        .about("Generates a key: local kinds encrypt, public kinds sign")
         .after_help("Example: paseto keygen v4.public --out signing.key --public verifying.key")
         .arg(kind.required(true))?
         .arg(password(
             alloc,
-            "A file whose first line is the password for the key; without it PASETO_PASSWORD is",
+            "A file whose first line is the password for the key; without it, PASETO_PASSWORD holds it",
         ))?
         .arg(format(alloc))?
         .arg(option(
             alloc,
             "out",
             "FILE",
-            "A new file for the key, which its owner alone may read",
+            "A new file for the key, readable only by its owner",
         ))?
-        .arg(option(
-            alloc,
-            "public",
-            "FILE",
-            "A new file for the half that verifies",
-        ))?
-        .arg(flag(alloc, "quiet", "Says nothing of what was made"))
+        .arg(option(alloc, "public", "FILE", "A new file for the public key"))?
+        .arg(flag(alloc, "quiet", "Does not report what was written"))
 }
 
-/// A command that writes a key, and what `about` says of it.
+/// A command that writes a key, with `about` as its description.
 fn with_writing<'a>(
     alloc: Global,
     name: &'a str,
@@ -219,7 +214,7 @@ fn with_public<'a>(alloc: Global) -> Result<Command<'a>, AllocError>
     with_writing(
         alloc,
         "public",
-        "Prints the public half of a private key, which verifies",
+        "Prints the public key of a private key",
         "Example: paseto public --key signing.key --out verifying.key",
     )
 }
@@ -237,7 +232,7 @@ fn with_wrap<'a>(alloc: Global) -> Result<Command<'a>, AllocError>
     ensures { IfOk result (IsFor wrap_app) }
 {
     Command::new(alloc, "wrap")
-        .about("Prints a key under a password, or under a wrapping key")
+        .about("Encrypts a key under a password or a wrapping key")
         .after_help(
             "Example: paseto wrap --key office.key --password-file password --out locked.key",
         )
@@ -246,11 +241,11 @@ fn with_wrap<'a>(alloc: Global) -> Result<Command<'a>, AllocError>
             alloc,
             "wrapping-key",
             "FILE",
-            "The key file of the wrapping key, which is a local key of the same version",
+            "The key file of the wrapping key, a local key of the same version",
         ))?
         .arg(password(
             alloc,
-            "A file whose first line is the password for the key; without it PASETO_PASSWORD is",
+            "A file whose first line is the password for the key; without it, PASETO_PASSWORD holds it",
         ))?
         .arg(out(alloc))
 }
@@ -261,7 +256,7 @@ fn with_unwrap<'a>(alloc: Global) -> Result<Command<'a>, AllocError>
     with_writing(
         alloc,
         "unwrap",
-        "Prints the key of a key file, opened where it is locked",
+        "Prints the key of a key file, decrypted if it is protected, wrapped or sealed",
         "Example: paseto unwrap --key locked.key --password-file password --out office.key",
     )
 }
@@ -270,13 +265,13 @@ fn with_seal<'a>(alloc: Global) -> Result<Command<'a>, AllocError>
     ensures { IfOk result (IsFor seal_app) }
 {
     let command = Command::new(alloc, "seal")
-        .about("Prints a local key, sealed to a public key")
+        .about("Encrypts a local key to a public key")
         .after_help("Example: paseto seal --key office.key --to branch.public --out sealed.key");
     let to = option(
         alloc,
         "to",
         "FILE",
-        "The key file of the public key, whose private half opens the key",
+        "The key file of the recipient's public key",
     );
     with_key(command, alloc)?
         .arg(to.required(true))?
@@ -289,7 +284,7 @@ fn with_unseal<'a>(alloc: Global) -> Result<Command<'a>, AllocError>
     with_writing(
         alloc,
         "unseal",
-        "Prints the key that was sealed to a public key, by the private one",
+        "Decrypts a sealed key with the private key",
         "Example: paseto unseal --key sealed.key --unlock-key branch.secret --out office.key",
     )
 }
@@ -298,7 +293,7 @@ fn with_issue<'a>(alloc: Global) -> Result<Command<'a>, AllocError>
     ensures { IfOk result (IsFor issue_app) }
 {
     let command = Command::new(alloc, "issue")
-        .about("Prints a token of claims, which expires in an hour unless --expires says otherwise")
+        .about("Issues a token of claims, which expires in an hour unless --expires says otherwise")
         .after_help(
             "Example: paseto issue --key office.key --claim seats:=4 --claim aud=customers --expires 1h",
         );
@@ -314,7 +309,7 @@ fn with_issue<'a>(alloc: Global) -> Result<Command<'a>, AllocError>
             alloc,
             "not-before",
             "TIME",
-            "When it may first be used, as --expires",
+            "When it becomes valid, written like --expires",
         ))?
         .arg(footer(alloc))?
         .arg(kid(alloc))?
@@ -326,7 +321,7 @@ fn with_check<'a>(alloc: Global) -> Result<Command<'a>, AllocError>
     ensures { IfOk result (IsFor check_app) }
 {
     let command = Command::new(alloc, "check")
-        .about("Prints the claims of a token as JSON, or says why it is refused")
+        .about("Prints the claims of a valid token as JSON, or says why it is rejected")
         .after_help("Example: paseto check --key office.key --claim aud=customers token")
         .override_usage("paseto check [--key <FILE> | --ring <FOLDER>] [OPTIONS] [INPUT]");
     with_key(command, alloc)?
@@ -334,26 +329,21 @@ fn with_check<'a>(alloc: Global) -> Result<Command<'a>, AllocError>
             alloc,
             "ring",
             "FOLDER",
-            "A folder of key files, of which the footer names one by its id",
+            "A folder of key files; the token's footer names one by its id",
         ))?
         .arg(claim(alloc))?
         .arg(options(
             alloc,
             "require",
             "NAME",
-            "A claim that has to be there, whatever its value; may stand many times",
+            "A claim that must be present and not null; may be repeated",
         ))?
-        .arg(option(
-            alloc,
-            "at",
-            "TIME",
-            "The moment of checking, in place of the present one",
-        ))?
+        .arg(option(alloc, "at", "TIME", "The time to check at, instead of now"))?
         .arg(option(
             alloc,
             "leeway",
             "LENGTH",
-            "How far the clocks of issuer and reader may differ: 5s, 1m",
+            "How far the issuer's and the reader's clocks may differ: 5s, 1m",
         ))?
         .arg(footer(alloc))?
         .arg(kid(alloc))?
@@ -361,7 +351,7 @@ fn with_check<'a>(alloc: Global) -> Result<Command<'a>, AllocError>
         .arg(input(alloc))
 }
 
-/// A command that takes a token, and what `about` says of it.
+/// A command that takes a token, with `about` as its description.
 fn with_opening<'a>(
     alloc: Global,
     name: &'a str,
@@ -395,7 +385,7 @@ fn with_encrypt<'a>(alloc: Global) -> Result<Command<'a>, AllocError>
     with_sealing(
         alloc,
         "encrypt",
-        "Prints the token of a text, under a nonce that is drawn",
+        "Encrypts a text and prints the token",
         "Example: echo hello | paseto encrypt --key office.key",
     )
 }
@@ -406,7 +396,7 @@ fn with_decrypt<'a>(alloc: Global) -> Result<Command<'a>, AllocError>
     with_opening(
         alloc,
         "decrypt",
-        "Prints the text of a token that was encrypted",
+        "Decrypts a token and prints its text",
         "Example: paseto decrypt --key office.key token",
     )
 }
@@ -417,7 +407,7 @@ fn with_sign<'a>(alloc: Global) -> Result<Command<'a>, AllocError>
     with_sealing(
         alloc,
         "sign",
-        "Prints the signed token of a text, which everyone can read",
+        "Signs a text and prints the token, which everyone can read",
         "Example: echo hello | paseto sign --key signing.key",
     )
 }
@@ -428,7 +418,7 @@ fn with_verify<'a>(alloc: Global) -> Result<Command<'a>, AllocError>
     with_opening(
         alloc,
         "verify",
-        "Prints the text of a signed token",
+        "Verifies a signed token and prints its text",
         "Example: paseto verify --key verifying.key token",
     )
 }
@@ -437,7 +427,7 @@ fn with_inspect<'a>(alloc: Global) -> Result<Command<'a>, AllocError>
     ensures { IfOk result (IsFor inspect_app) }
 {
     Command::new(alloc, "inspect")
-        .about("Prints what a token says of itself, none of which is verified")
+        .about("Shows what a token contains, without verifying it")
         .after_help("Example: paseto inspect token")
         .arg(input(alloc))
 }
@@ -448,15 +438,16 @@ fn named<'a>(alloc: Global) -> Result<Command<'a>, AllocError>
     Command::new(alloc, "paseto").bin_name("paseto")
 }
 
-/// The commands of the program, for clap, which shows the help where no word stands behind the program's name.
+/// The commands of the program, for clap. It shows the help if there are no arguments after the
+/// program's name.
 ///
-/// Nothing but memory is refused.
+/// The only error is a failed allocation.
 pub fn paseto<'a>(alloc: Global) -> Result<Command<'a>, AllocError>
     ensures { IfOk result (IsFor paseto_app) }
 {
     named(alloc)?
-        .version("0.2.0")
-        .about("Makes keys in files, and PASETO tokens by them")
+        .version("1.0.0")
+        .about("Generates keys, and issues and checks PASETO tokens")
         .subcommand_required(true)
         .arg_required_else_help(true)
         .subcommand(with_keygen(alloc)?)?
@@ -475,17 +466,23 @@ pub fn paseto<'a>(alloc: Global) -> Result<Command<'a>, AllocError>
         .subcommand(with_inspect(alloc)?)
 }
 
-/// The command `issue` as it stands in the program, for its errors.
-pub fn issue_command<'a>(alloc: Global) -> Result<Command<'a>, AllocError> {
+/// The command `issue` of the program, for its errors.
+pub fn issue_command<'a>(alloc: Global) -> Result<Command<'a>, AllocError>
+    ensures { IfOk result (IsFor issue_app) }
+{
     with_issue(alloc)?.bin_name("paseto issue")
 }
 
-/// The command `wrap` as it stands in the program, for its errors.
-pub fn wrap_command<'a>(alloc: Global) -> Result<Command<'a>, AllocError> {
+/// The command `wrap` of the program, for its errors.
+pub fn wrap_command<'a>(alloc: Global) -> Result<Command<'a>, AllocError>
+    ensures { IfOk result (IsFor wrap_app) }
+{
     with_wrap(alloc)?.bin_name("paseto wrap")
 }
 
-/// The command `check` as it stands in the program, for its errors.
-pub fn check_command<'a>(alloc: Global) -> Result<Command<'a>, AllocError> {
+/// The command `check` of the program, for its errors.
+pub fn check_command<'a>(alloc: Global) -> Result<Command<'a>, AllocError>
+    ensures { IfOk result (IsFor check_app) }
+{
     with_check(alloc)?.bin_name("paseto check")
 }

@@ -1,4 +1,4 @@
-//! What words ask for, or why they are refused.
+//! What the arguments request, or why they are refused.
 
 ghost use Rattle.std.specs.Prelude.{◌≡◌, IfErr, IfOk, Some, [], ◌∷◌};
 ghost use Rattle.clap.specs.Words.{HasKind, kind_of};
@@ -19,11 +19,12 @@ const TWO_LOCKS: &str =
 
 const TWO_FOOTERS: &str = "the argument '--footer <TEXT>' cannot be used with '--footer-kid <ID>'";
 
-/// What the words ask for, of which the first is the program's name.
+/// Parses the arguments, the first of which is the program's name.
 ///
-/// Refused are the words that clap refuses, with its kinds of error, a call for help or the version among them, and with
-/// `ArgumentConflict` two options that exclude each other: `--key` and `--ring`, `--footer` and `--footer-kid`, and for
-/// `wrap` `--wrapping-key` and `--password-file`. Want of memory is `OutOfMemory`.
+/// Arguments that clap refuses are returned with clap's kinds of error; these include requests for
+/// help or the version. Two options that exclude each other are refused with `ArgumentConflict`:
+/// `--key` and `--ring`, `--footer` and `--footer-kid`, and for `wrap` `--wrapping-key` and
+/// `--password-file`. A failed allocation is `OutOfMemory`.
 pub fn parse<'a>(alloc: Global, words: &'a [String]) -> Result<Action<'a>, Error>
     ensures ok { IfOk result (λ action. asked (words_of words.entry.now) ≡ Some (plain action)) }
     ensures err { IfErr result (HasKind (faults (words_of words.entry.now))) }
@@ -36,7 +37,7 @@ pub fn parse<'a>(alloc: Global, words: &'a [String]) -> Result<Action<'a>, Error
     }
 }
 
-/// The error of options that exclude each other, with the usage of their command.
+/// The error for options that exclude each other, with the usage of their command.
 fn refused(alloc: Global, matches: &ArgMatches<'_>) -> Error
     ensures { HasKind (ErrorKind.ArgumentConflict ∷ []) result }
 {
@@ -60,8 +61,8 @@ fn conflict(alloc: Global, matches: &ArgMatches<'_>) -> Result<Error, AllocError
     }
 }
 
-/// The status of a program that is asked for nothing: 3 for want of memory, 0 where help or the version was asked for,
-/// and 2 for words that are refused.
+/// The status of a program that performs no action: 3 if an allocation failed, 0 if help or the
+/// version was requested, and 2 if the arguments were refused.
 pub fn status(error: &Error) -> u8
     ensures { result ≡ status_of (kind_of error.now) }
 {

@@ -1,5 +1,5 @@
-//! The words of the program `paseto`, as clap reads them: what each command takes, and what words ask for, in plain
-//! structs of texts.
+//! The command line of the program `paseto`, as clap parses it: what each command takes, and what
+//! the arguments request, in plain structs of texts.
 #![tactic(auto)]
 
 mod action;

@@ -1,4 +1,4 @@
-//! What the matches of a command ask for.
+//! What the matches of a command request.
 
 ghost use Rattle.std.specs.Prelude.{◌≡◌, IfOk, [], is_some, option_map, unwrap_or};
 ghost use Rattle.clap.specs.Words.{all_of, first_of, subcommand_rows_of};
@@ -12,7 +12,7 @@ use crate::action::{
 use clap::ArgMatches;
 use std::alloc::{AllocError, Global};
 
-/// What the matches of the program ask for, and nothing where two options exclude each other.
+/// What the matches of the program request, or `None` if two options exclude each other.
 pub fn found<'a>(alloc: Global, matches: &ArgMatches<'a>) -> Result<Option<Action<'a>>, AllocError>
     ensures { IfOk result (λ action. option_map plain action
         ≡ found_in (subcommand_rows_of matches.now)) }
@@ -23,14 +23,14 @@ pub fn found<'a>(alloc: Global, matches: &ArgMatches<'a>) -> Result<Option<Actio
     action_of(alloc, name, inner)
 }
 
-/// The first value of an option or a place.
+/// The first value of an option or a positional argument.
 fn text<'a>(matches: &ArgMatches<'a>, id: &str) -> Option<&'a str>
     ensures { option_map (λ s. s.now) result ≡ first_of id.now (rows_in matches.now) }
 {
     matches.get_str(id)
 }
 
-/// Whether an option stands among the words.
+/// Whether an option is given.
 pub fn has(matches: &ArgMatches<'_>, id: &str) -> bool
     ensures { result ≡ is_some (first_of id.now (rows_in matches.now)) }
 {
@@ -47,7 +47,7 @@ fn is_set(matches: &ArgMatches<'_>, id: &str) -> bool
     }
 }
 
-/// The values of an option that may stand many times, in their order.
+/// The values of an option that may be given many times, in order.
 fn values<'a>(alloc: Global, matches: &ArgMatches<'a>, id: &str) -> Result<Vec<&'a str>, AllocError>
     ensures { IfOk result (λ v. texts v.items ≡ unwrap_or (all_of id.now (rows_in matches.now)) []) }
 {

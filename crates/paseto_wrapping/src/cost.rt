@@ -1,4 +1,4 @@
-//! What a password costs: who unwraps a key and who guesses passwords alike.
+//! The cost of deriving a key from a password.
 
 ghost use Rattle.std.specs.Prelude.{◌≡◌, ◌↔◌, ◌++◌, List, IsTrue, IfErr, OnOk, length};
 ghost use Rattle.paseto_wrapping.specs.declared.cost.PasswordCost.{PasswordCost as Cost};
@@ -15,8 +15,8 @@ const TOO_MANY_LANES: u32 = 1 << 24;
 /// The first number of KiB that Argon2id does not allow.
 const TOO_MUCH_MEMORY: u64 = 1 << 32;
 
-/// What the key of a password costs: who unwraps a key and who guesses passwords alike. Versions 1 and 3 use the
-/// iterations, and versions 2 and 4 the other three.
+/// The cost of deriving a key from a password, for the caller as well as for an attacker who guesses passwords.
+/// Versions 1 and 3 use the iterations, and versions 2 and 4 the other three.
 #[derive(Debug, Clone, Copy, PartialEq, Eq)]
 pub struct PasswordCost {
     /// The iterations of PBKDF2, at least one.
@@ -29,7 +29,7 @@ pub struct PasswordCost {
     pub lanes: u32,
 }
 
-/// What the PASERK specification's vectors write with: 100,000 iterations; 64 MiB, 2 passes and 1 lane.
+/// The cost in the PASERK specification's test vectors: 100,000 iterations; 64 MiB, 2 passes and 1 lane.
 impl Default for PasswordCost {
     ghost is_default = { λ cost. (cost.iterations ≡ 100000) × (cost.memory ≡ 67108864)
         × (cost.passes ≡ 2) × (cost.lanes ≡ 1) };
@@ -45,8 +45,8 @@ impl Default for PasswordCost {
 }
 
 impl PasswordCost {
-    /// A bound for texts that nobody has vouched for: 10,000,000 iterations; 1 GiB, 32 passes and 16 lanes. A text may
-    /// then still ask for a minute's work: set what your callers can wait for.
+    /// A bound for untrusted texts: 10,000,000 iterations; 1 GiB, 32 passes and 16 lanes. A text may then still cost a
+    /// minute of work: set a bound for which your callers can wait.
     pub fn most() -> PasswordCost
         ensures iterations { result.iterations ≡ 10000000 }
         ensures memory { result.memory ≡ 1073741824 }
@@ -96,7 +96,7 @@ impl PasswordCost {
         }
     }
 
-    /// Appends the cost as it stands in a text. It fails only by `Memory`.
+    /// Appends the encoding of the cost. It fails only with `Memory`.
     #[tactic(auto, unfolding(crate::specs::Password::cost_bytes))]
     pub(crate) fn push(self, family: Family, out: &mut Vec<u8>) -> Result<(), WrapError>
         ensures ok { OnOk result (out.new.items ≡ out.old.items ++ cost_bytes family self) }
@@ -121,7 +121,7 @@ impl PasswordCost {
         Ok(())
     }
 
-    /// The cost that stands in a text. What the versions of the family do not use is 0.
+    /// Decodes a cost. What the versions of the family do not use is 0.
     pub(crate) fn read(family: Family, bytes: &[u8]) -> PasswordCost
         requires { length bytes.now ≡ cost_length family }
         ensures told { cost_bytes family result ≡ bytes.now }

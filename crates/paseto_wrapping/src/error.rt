@@ -10,46 +10,47 @@ use std::alloc::AllocError;
 use std::fmt;
 use thiserror::Error;
 
-/// Why a key was not wrapped, or a text not unwrapped. Of several, the first in this order is told.
+/// Why a key was not wrapped, or a text not unwrapped. Of several errors, the first in this order is returned.
 #[derive(Debug, Drop, Error)]
 pub enum WrapError {
-    /// The text begins as no wrapped key does: with none of `k1.` to `k4.`, or then with none of `local-wrap.pie.`,
-    /// `secret-wrap.pie.`, `local-pw.`, `secret-pw.` and `seal.`.
+    /// The text does not begin like a wrapped key: not with one of `k1.` to `k4.`, followed by one of
+    /// `local-wrap.pie.`, `secret-wrap.pie.`, `local-pw.`, `secret-pw.` and `seal.`.
     NoWrappedKey,
-    /// The text begins as a wrapped key of another version, which is this one.
+    /// The text begins like a wrapped key of another version, which is this one.
     OtherVersion(PaserkVersion),
-    /// The text begins as a wrapped key of the version, but of another type, which is this one.
+    /// The text begins like a wrapped key of the version, but of another type, which is this one.
     OtherType(WrappedType),
-    /// What stands behind the header is no base64url encoding without padding, or one of too few bytes; of a sealed key, of
-    /// another count than its version's.
+    /// What follows the header is not valid base64url without padding, or has too few bytes; for a sealed key, a number
+    /// of bytes other than its version's.
     InvalidText,
-    /// The salt or the nonce of a key under a password has another length than the version asks for.
+    /// The salt or the nonce of a password-protected key does not have the version's length.
     InvalidNonce,
     /// The password has 4 GiB or more.
     LongPassword,
     /// A cost that PBKDF2 or Argon2id does not allow: no iterations, no passes, no lanes or too many, or memory that is
-    /// less than 8 KiB for each lane, no multiple of 1024 bytes, or 4 TiB and more.
+    /// less than 8 KiB for each lane, not a multiple of 1024 bytes, or 4 TiB and more.
     InvalidCost,
-    /// The text asks for more iterations, memory, passes or lanes than the caller's bound.
+    /// The text demands more iterations, memory, passes or lanes than the caller's bound.
     TooCostly,
-    /// The private key is none of the version: in version 3 another length than 48 bytes, 0 or a number from n on; in versions
-    /// 2 and 4 another length than 64 bytes, or a public half that is no point or of small order. From sealing, the ephemeral
-    /// one.
+    /// The private key is not valid for the version: in version 3 another length than 48 bytes, 0 or a number not below
+    /// n; in versions 2 and 4 another length than 64 bytes, or a public half that is not a point or of small order.
+    /// When sealing, the ephemeral one.
     InvalidPrivateKey,
-    /// The public key to which a key is to be sealed, or the ephemeral one of a sealed key, is no point of the curve.
+    /// The public key to which a key is to be sealed, or the ephemeral one of a sealed key, is not a point of the
+    /// curve.
     InvalidPoint,
     /// No secret can be shared with a public key: it is of small order.
     SmallOrder,
-    /// The tag is another one.
+    /// The tag is wrong.
     WrongKey,
-    /// What was wrapped is no key of the version and the type.
+    /// The unwrapped bytes are not a key of the version and the type.
     InvalidKey,
-    /// Memory was refused.
+    /// An allocation failed.
     Memory(AllocError),
 }
 
 impl WrapError {
-    /// What `Display` shows: one line, without its end. No memory is taken.
+    /// What `Display` shows: one line, without a line end. Does not allocate.
     pub fn text(&self) -> &'static str
         ensures { result.now ≡ error_text self.now }
     {
@@ -82,7 +83,7 @@ impl WrapError {
             WrapError::SmallOrder => "the public key is of small order",
             WrapError::WrongKey => "wrong key or password, or the text was changed",
             WrapError::InvalidKey => "what was wrapped is no key of the version",
-            WrapError::Memory(_) => "no memory was found",
+            WrapError::Memory(_) => "out of memory",
         }
     }
 }

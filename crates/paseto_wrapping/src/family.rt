@@ -76,7 +76,7 @@ impl Digest {
     }
 }
 
-/// A copy of bytes, encrypted or decrypted. It fails only by `Memory`.
+/// A copy of bytes, encrypted or decrypted. It fails only with `Memory`.
 pub(crate) fn encrypted(
     alloc: Global,
     family: Family,

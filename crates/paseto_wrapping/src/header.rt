@@ -1,4 +1,4 @@
-//! What the text of a wrapped key begins with: its version and its type.
+//! The header of a wrapped key: its version and its type.
 
 ghost use Rattle.std.specs.Prelude.{◌≡◌, ◌≢◌, ◌++◌, ℕ, List, IfSome, IsNone, MatchOption};
 ghost use Rattle.rusty_paseto_paserk.specs.Header.{mark};
@@ -9,20 +9,20 @@ use rusty_paseto_paserk::PaserkVersion;
 /// The type of a wrapped key.
 #[derive(Clone, Copy, Debug, PartialEq, Eq)]
 pub enum WrappedType {
-    /// The key of local tokens, under a wrapping key.
+    /// A key for local tokens, under a wrapping key.
     LocalWrap,
-    /// The private half of a key pair, which signs, under a wrapping key.
+    /// A private key, under a wrapping key.
     SecretWrap,
-    /// The key of local tokens, under a password.
+    /// A key for local tokens, under a password.
     LocalPassword,
-    /// The private half of a key pair, which signs, under a password.
+    /// A private key, under a password.
     SecretPassword,
-    /// The key of local tokens, for whoever has a private key.
+    /// A key for local tokens, sealed to a public key.
     Seal,
 }
 
 impl WrappedType {
-    /// What stands behind the version's mark in the text, for example `local-wrap.pie.`.
+    /// What follows the version in the text, for example `local-wrap.pie.`.
     pub fn word(self) -> &'static str
         ensures { result.now ≡ word self }
     {
@@ -57,8 +57,8 @@ impl WrappedType {
     }
 }
 
-/// The version and the type of the wrapped key that a text begins as, and what stands behind them, which may be no
-/// wrapped key. `None` where it begins as no wrapped key does. No memory is taken.
+/// The version and the type in the header of a text, and the rest of the text, which is not checked. `None` if the text
+/// does not begin like a wrapped key. Does not allocate.
 ///
 /// Source: PASERK specification, "PASERK Message Format".
 pub fn wrapped_header_of(text: &str) -> Option<(PaserkVersion, WrappedType, &str)>

@@ -10,11 +10,11 @@ use rusty_paseto_paserk::{KeyVersion, PaserkVersion};
 use std::fmt;
 use std::marker::{Model, PhantomData};
 
-/// The key under which keys of a version are wrapped: 32 bytes. It is a type of its own, so that a key of tokens is not
-/// taken for one.
+/// The key under which keys of a version are wrapped: 32 bytes. It is a separate type, so that it is not confused with
+/// a key for tokens.
 ///
-/// It is not printed: its debug text is the same for all keys. It is **not wiped**: its bytes stay in memory when it is
-/// dropped.
+/// `Debug` does not show it: its debug text is the same for all keys. It is **not wiped**: its bytes stay in memory
+/// when it is dropped.
 #[derive(Drop)]
 pub struct WrappingKey<V> {
     key: Key<32>,
@@ -56,7 +56,7 @@ impl<V> fmt::Debug for WrappingKey<V> {
     }
 }
 
-/// The key of local tokens of these bytes. `InvalidKey` comes exactly where they are not 32.
+/// The key of local tokens of these bytes. `InvalidKey` is returned if and only if they are not 32.
 pub(crate) fn local_key<V>(bytes: Vec<u8>) -> Result<PasetoSymmetricKey<V, Local>, WrapError>
     ensures ok { IfOk result (λ key. (key ≡ bytes.items) × (length bytes.items ≡ 32)) }
     ensures err { IfErr result (λ error. (error ≡ InvalidKey) × (length bytes.items ≢ 32)) }
@@ -67,8 +67,8 @@ pub(crate) fn local_key<V>(bytes: Vec<u8>) -> Result<PasetoSymmetricKey<V, Local
     Ok(PasetoSymmetricKey::from(Key::from_slice(&bytes)))
 }
 
-/// The private key of these bytes. `InvalidKey` comes exactly where no private key of the version has them: of the versions
-/// 2 and 4 one has 64 bytes, of version 3 it has 48, and of version 1 it is an encoding of any length.
+/// The private key of these bytes. `InvalidKey` is returned if and only if no private key of the version has them: of
+/// versions 2 and 4 one has 64 bytes, of version 3 it has 48, and of version 1 it is an encoding of any length.
 pub(crate) fn private_key<V: KeyVersion>(bytes: Vec<u8>) -> Result<PrivateKey<V>, WrapError>
     ensures ok { IfOk result (λ key. (key ≡ bytes.items)
         × (HasPrivateLength V.paserk bytes.items × IsTrue (V.is_private_key bytes.items))) }

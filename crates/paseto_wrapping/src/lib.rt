@@ -1,5 +1,5 @@
-//! Keys under a wrapping key, under a password, or sealed to a public key as text, in PASERK, by which keys are kept and
-//! sent where others may read them.
+//! Keys under a wrapping key, under a password, or sealed to a public key, as PASERK text. Keys can be stored and sent
+//! in this form where others may read them.
 //!
 //! ```rust
 //! use paseto_wrapping::{WrapError, WrappingKey, unwrap_local, wrap_local};
@@ -18,8 +18,8 @@
 //! }
 //! ```
 //!
-//! A text of another version or type is refused by its own name. A text is bound to its header: what was wrapped as one
-//! version or type is not unwrapped as another.
+//! A text of another version or type is refused with an error that names it. A text is bound to its header: a key that
+//! was wrapped as one version or type is not unwrapped as another.
 #![tactic(auto)]
 
 mod cost;

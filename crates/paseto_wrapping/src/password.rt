@@ -35,14 +35,13 @@ const AUTHENTICATION: u8 = 0xfe;
 /// The first length of a password that Argon2id does not allow.
 const TOO_LONG: usize = 1 << 32;
 
-/// The text of a key of local tokens under a password, for example `k4.local-pw.` and 160 characters.
+/// The text of a key for local tokens under a password, for example `k4.local-pw.` and 160 characters.
 ///
-/// The salt and the nonce are drawn for this text. In versions 1 and 3 the salt has 32 bytes and the nonce 16, in
-/// versions 2 and 4 the salt has 16 bytes and the nonce 24. As much memory is taken as the cost says, and more for the
-/// text.
+/// Draw a fresh salt and nonce for each text. In versions 1 and 3 the salt has 32 bytes and the nonce 16, in versions 2
+/// and 4 the salt has 16 bytes and the nonce 24. It allocates as much memory as the cost says, and more for the text.
 ///
-/// `InvalidNonce` comes exactly where the salt or the nonce has another length, then `LongPassword` where the password has
-/// 4 GiB or more, and then `InvalidCost` where PBKDF2 or Argon2id does not allow the cost.
+/// `InvalidNonce` is returned if and only if the salt or the nonce has another length, then `LongPassword` if the
+/// password has 4 GiB or more, and then `InvalidCost` if PBKDF2 or Argon2id does not allow the cost.
 ///
 /// Source: PASERK specification, type `local-pw`.
 pub fn protect_local<V: KeyVersion>(
@@ -100,16 +99,17 @@ pub fn protect_secret<V: KeyVersion>(
     )
 }
 
-/// The key of local tokens that a text holds under a password.
+/// The key for local tokens that a text contains under a password.
 ///
-/// `most` bounds what the text may ask for: `PasswordCost::most()` suits texts that nobody has vouched for.
+/// `most` bounds the cost that the text may demand: `PasswordCost::most()` suits untrusted texts.
 ///
-/// The reading is exact: the key is answered where the text holds it under the password by an allowed cost within the
-/// bound, and else the first of these: `NoWrappedKey` where it begins as no wrapped key does, `OtherVersion` and
-/// `OtherType` where it begins as one of another version or type, `InvalidText` where what follows is no base64url or too
-/// short, `LongPassword` where the password has 4 GiB or more, `InvalidCost` where PBKDF2 or Argon2id does not allow the cost, `TooCostly` where it is beyond the bound,
-/// `WrongKey` where the tag is another one, and `InvalidKey` where other than 32 bytes were wrapped. `Memory` may come in
-/// place of any answer but the first three. A cost is refused before its work is done.
+/// Reading is strict: the key is returned if the text contains it under the password with an allowed cost within the
+/// bound, and otherwise the first of these errors: `NoWrappedKey` if it does not begin like a wrapped key,
+/// `OtherVersion` and `OtherType` if it begins like one of another version or type, `InvalidText` if what follows is
+/// not valid base64url or too short, `LongPassword` if the password has 4 GiB or more, `InvalidCost` if PBKDF2 or
+/// Argon2id does not allow the cost, `TooCostly` if it is beyond the bound, `WrongKey` if the tag is wrong, and
+/// `InvalidKey` if the unwrapped bytes are not 32. `Memory` may be returned in place of any result but the first three.
+/// A cost is refused before its work is done.
 ///
 /// Source: PASERK specification, type `local-pw`.
 pub fn unprotect_local<V: KeyVersion>(
@@ -133,8 +133,8 @@ pub fn unprotect_local<V: KeyVersion>(
     local_key(bytes)
 }
 
-/// The private key that a text holds under a password. The errors are those of `unprotect_local`; `InvalidKey` comes
-/// where no private key of the version has the bytes that were wrapped.
+/// The private key that a text contains under a password. The errors are those of `unprotect_local`; `InvalidKey` is
+/// returned if the unwrapped bytes cannot be a private key of the version.
 ///
 /// Source: PASERK specification, type `secret-pw`.
 pub fn unprotect_secret<V: KeyVersion>(

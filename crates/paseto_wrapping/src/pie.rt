@@ -30,10 +30,10 @@ const AUTHENTICATION: u8 = 0x81;
 /// How many bytes a nonce has.
 const NONCE_LENGTH: usize = 32;
 
-/// The text of a key of local tokens under a wrapping key, for example `k4.local-wrap.pie.` and 128 characters. It fails
-/// only by `Memory`.
+/// The text of a key for local tokens under a wrapping key, for example `k4.local-wrap.pie.` and 128 characters. It
+/// fails only with `Memory`.
 ///
-/// The nonce is drawn for this text: a nonce that comes twice under a wrapping key tells where two keys differ.
+/// Draw a fresh nonce for each text: a nonce that is used twice with a wrapping key reveals where the two keys differ.
 ///
 /// Source: PASERK specification, type `local-wrap`.
 pub fn wrap_local<V: KeyVersion>(
@@ -56,7 +56,7 @@ pub fn wrap_local<V: KeyVersion>(
     )
 }
 
-/// The text of a private key under a wrapping key. It fails only by `Memory`, and `nonce` is as for `wrap_local`.
+/// The text of a private key under a wrapping key. It fails only with `Memory`, and `nonce` is as for `wrap_local`.
 ///
 /// Source: PASERK specification, type `secret-wrap`.
 pub fn wrap_secret<V: KeyVersion>(
@@ -79,13 +79,13 @@ pub fn wrap_secret<V: KeyVersion>(
     )
 }
 
-/// The key of local tokens that a text holds under a wrapping key.
+/// The key for local tokens that a text contains under a wrapping key.
 ///
-/// The reading is exact: the key is answered where the text is its wrapping under some nonce, and else the first of
-/// these: `NoWrappedKey` where it begins as no wrapped key does, `OtherVersion` and `OtherType` where it begins as one of
-/// another version or type, `InvalidText` where what follows is no base64url or too short, `WrongKey` where the tag is
-/// another one, and `InvalidKey` where other than 32 bytes were wrapped. `Memory` may come in place of any answer but the
-/// first three.
+/// Reading is strict: the key is returned if the text is its wrapping under some nonce, and otherwise the first of
+/// these errors: `NoWrappedKey` if it does not begin like a wrapped key, `OtherVersion` and `OtherType` if it begins
+/// like one of another version or type, `InvalidText` if what follows is not valid base64url or too short, `WrongKey`
+/// if the tag is wrong, and `InvalidKey` if the unwrapped bytes are not 32. `Memory` may be returned in place of any
+/// result but the first three.
 ///
 /// Source: PASERK specification, type `local-wrap`.
 pub fn unwrap_local<V: KeyVersion>(
@@ -107,8 +107,8 @@ pub fn unwrap_local<V: KeyVersion>(
     local_key(bytes)
 }
 
-/// The private key that a text holds under a wrapping key. The errors are those of `unwrap_local`; `InvalidKey` comes
-/// where no private key of the version has the bytes that were wrapped.
+/// The private key that a text contains under a wrapping key. The errors are those of `unwrap_local`; `InvalidKey` is
+/// returned if the unwrapped bytes cannot be a private key of the version.
 ///
 /// Source: PASERK specification, type `secret-wrap`.
 pub fn unwrap_secret<V: KeyVersion>(

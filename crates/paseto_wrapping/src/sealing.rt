@@ -1,5 +1,5 @@
-//! Keys of local tokens that are sealed to the public half of a key pair, in versions 2, 3 and 4: whoever has it can
-//! seal, and only who has the private half can unseal. Version 1's are by RSA and left out: `V1` is no `KeyPairVersion`.
+//! Keys for local tokens that are sealed to a public key, in versions 2, 3 and 4: anyone who has the public key can
+//! seal, and the private key unseals. Version 1, which uses RSA, is not supported: `V1` is not a `KeyPairVersion`.
 
 ghost use Rattle.std.specs.Prelude.{◌≡◌, length, IfOk, IfErr, string_bytes};
 ghost use Rattle.paseto_wrapping.specs.declared.header.WrappedType.TheVariants.{Seal};
@@ -23,14 +23,15 @@ use rusty_paseto_parts::{
 use rusty_paseto_paserk::{KeyPairVersion, PaserkVersion};
 use std::alloc::Global;
 
-/// The text of a key of local tokens, sealed to a public key, for example `k4.seal.` and 128 characters.
+/// The text of a key for local tokens, sealed to a public key, for example `k4.seal.` and 128 characters.
 ///
-/// `ephemeral` is a secret key that serves once: a generator gives its bytes, 32 in versions 2 and 4 and 48 in version 3,
-/// for each call anew. It is not wiped.
+/// `ephemeral` is a secret key for a single use: draw fresh random bytes for each call, 32 in versions 2 and 4 and 48
+/// in version 3. It is not wiped.
 ///
-/// `InvalidPrivateKey` comes exactly where the ephemeral key is none, which in version 3 is 0 or a number from n on and
-/// never in the others; `InvalidPoint` where the public key is no point; and `SmallOrder` where no secret can be shared
-/// with it, which is never so in version 3. Nothing else is refused but memory.
+/// `InvalidPrivateKey` is returned if and only if the ephemeral key is not valid, which in version 3 means 0 or a
+/// number not below n, and never happens in the others; `InvalidPoint` if the public key is not a point; and
+/// `SmallOrder` if no secret can be shared with it, which never happens in version 3. Otherwise it fails only with
+/// `Memory`.
 ///
 /// Source: PASERK specification, type `seal`.
 pub fn seal<V: KeyPairVersion, const N: usize>(
@@ -72,13 +73,13 @@ fn sealed_payload(
     }
 }
 
-/// The key of local tokens that a text seals for whoever has this private key.
+/// The key for local tokens that is sealed to the public key of this private key.
 ///
-/// The reading is exact: `NoWrappedKey`, `OtherVersion` and `OtherType` come where the text begins as no sealed key of the
-/// version, `InvalidText` where what follows is not the base64url encoding of 96 bytes, or of 129 in version 3,
-/// `InvalidPrivateKey` where the private key is none, `InvalidPoint` in version 3 and `SmallOrder` in the others where no
-/// secret can be shared with the ephemeral public key, and `WrongKey` where the text was sealed to another public key or
-/// was changed. The tag is compared in one step, before anything is decrypted.
+/// Reading is strict: `NoWrappedKey`, `OtherVersion` and `OtherType` are returned if the text does not begin like a
+/// sealed key of the version, `InvalidText` if what follows is not the base64url encoding of 96 bytes, or of 129 in
+/// version 3, `InvalidPrivateKey` if the private key is not valid, `InvalidPoint` in version 3 and `SmallOrder` in the
+/// others if no secret can be shared with the ephemeral public key, and `WrongKey` if the text was sealed to another
+/// public key or was modified. The tag is compared in one step, before anything is decrypted.
 ///
 /// Source: PASERK specification, type `seal`.
 pub fn unseal<V: KeyPairVersion>(

@@ -13,7 +13,7 @@ use rusty_paseto_parts::{PasetoError, from_section};
 use rusty_paseto_paserk::PaserkVersion;
 use std::alloc::Global;
 
-/// The text of a wrapped key of this payload. It fails only by `Memory`.
+/// The text of a wrapped key of this payload. It fails only with `Memory`.
 pub(crate) fn write_text(
     alloc: Global,
     version: PaserkVersion,
@@ -38,7 +38,7 @@ fn push_encoded(bytes: &[u8], text: &mut String) -> Result<(), WrapError>
     Ok(())
 }
 
-/// The payload that stands behind the header of a wrapped key of this version and type.
+/// The payload after the header of a wrapped key of this version and type.
 pub(crate) fn read_payload(
     alloc: Global,
     version: PaserkVersion,

@@ -1,4 +1,4 @@
-//! The function X25519, and what two parties make of it.
+//! The function X25519, and key agreement with it.
 
 ghost use Rattle.std.specs.Prelude.{◌≡◌, ◌≢◌, length, replicate, IfOk, IfErr};
 ghost use Rattle.paseto_edwards25519.specs.Scalar.{number32};
@@ -13,10 +13,10 @@ use thiserror::Error;
 // What the highest bit counts in the upper half of a coordinate.
 const TOP_BIT: u128 = 1 << 127;
 
-/// Why two parties have no shared secret.
+/// Why there is no shared secret.
 #[derive(Debug, Drop, Error)]
 pub enum AgreementError {
-    /// The secret would be 0, whatever the own scalar: what the other party sent is the coordinate of a point of small
+    /// The secret would be 0 for any own secret key: the other party's public key is the coordinate of a point of small
     /// order (RFC 7748, section 6.1). From `shared_secret`.
     #[error("the other party's public key is of small order: ask for another")]
     SmallOrder,
@@ -33,7 +33,7 @@ fn clamped(scalar: &[u8; 32]) -> [u8; 32]
 }
 
 /// X25519(k, u) (RFC 7748, section 5), where `scalar` and `u` have 32 bytes each, lowest first. The highest bit of `u` is not
-/// read, and a `u` from p on is taken modulo p. No memory is taken, and no branch and no address depends on either.
+/// read, and a `u` from p on is taken modulo p. Does not allocate, and no branch and no address depends on either.
 pub fn x25519(scalar: &[u8; 32], u: &[u8; 32]) -> [u8; 32]
     ensures { result ≡ x25519 scalar.now u.now }
 {
@@ -44,7 +44,7 @@ pub fn x25519(scalar: &[u8; 32], u: &[u8; 32]) -> [u8; 32]
 }
 
 /// The public key of a secret key of 32 random bytes: X25519(secret, 9) (RFC 7748, section 6.1). The secret key is not
-/// wiped. No memory is taken.
+/// wiped. Does not allocate.
 pub fn public_key(secret: &[u8; 32]) -> [u8; 32]
     ensures { result ≡ x25519 secret.now base_point }
 {
@@ -53,9 +53,9 @@ pub fn public_key(secret: &[u8; 32]) -> [u8; 32]
     x25519(secret, &u)
 }
 
-/// What two parties share, of the own secret key and the other's public key: X25519(secret, public) (RFC 7748, section
-/// 6.1). `SmallOrder` comes exactly where that is 0, which is asked in one step, so that only the answer shows. Hash the
-/// secret together with both public keys before it serves as a key. No memory is taken.
+/// The shared secret of the own secret key and the other party's public key: X25519(secret, public) (RFC 7748, section
+/// 6.1). `SmallOrder` is returned if and only if that is 0, which is checked in one step. Hash the secret together with
+/// both public keys before you use it as a key. Does not allocate.
 pub fn shared_secret(secret: &[u8; 32], public: &[u8; 32]) -> Result<[u8; 32], AgreementError>
     ensures ok { IfOk result (λ shared. (shared ≡ x25519 secret.now public.now) × (shared ≢ replicate 32 0)) }
     ensures err { IfErr result (λ error. (error ≡ AgreementError.SmallOrder)

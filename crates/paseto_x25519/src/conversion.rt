@@ -1,4 +1,4 @@
-//! Keys of Ed25519 as keys of X25519, as libsodium's crypto_sign_ed25519_pk_to_curve25519 and its counterpart make them.
+//! Converting Ed25519 keys to X25519 keys, like libsodium's crypto_sign_ed25519_pk_to_curve25519 and its counterpart.
 
 ghost use Rattle.std.specs.Prelude.{◌≡◌, ◌≢◌, ◌≤◌, length, take, None, IfOk, IfErr};
 ghost use Rattle.sha2.specs.Sha512.{sha512};
@@ -17,14 +17,14 @@ use thiserror::Error;
 // What the sign of x counts in the upper half of a public key.
 const SIGN: u128 = 1 << 127;
 
-/// Why a public key of Ed25519 is not taken as one of X25519.
+/// Why a public key of Ed25519 is not converted.
 #[derive(Debug, Drop, Error)]
 pub enum ConversionError {
-    /// The 32 bytes are no point of edwards25519 (RFC 8032, section 5.1.3).
+    /// The 32 bytes are not a point of edwards25519 (RFC 8032, section 5.1.3).
     #[error("the public key is no point of edwards25519: ask for another")]
     InvalidPoint,
-    /// The point is of small order, so that no secret could be shared by it. The neutral point, where y = 1 and u would
-    /// be no number, is one of the eight.
+    /// The point is of small order, so no secret can be shared with it. The neutral point, where y = 1 and u does not
+    /// exist, is one of the eight.
     #[error("the public key is of small order: ask for another")]
     SmallOrder,
 }
@@ -40,10 +40,10 @@ fn montgomery(public: &[u8; 32]) -> [u8; 32]
     bytes32(low, high)
 }
 
-/// The public key of X25519 that a public key of Ed25519 is: its Montgomery form, u = (1 + y) / (1 - y) (RFC 7748, section
-/// 4.1), in 32 bytes, lowest first. Both are the same secret's, by `secret_from_ed25519`. `InvalidPoint` comes exactly where the
-/// bytes are no point, and `SmallOrder` exactly where the point is of small order; a point that is neither of small order
-/// nor a multiple of the base point is taken, which libsodium refuses. No memory is taken.
+/// Converts an Ed25519 public key to an X25519 public key, its Montgomery form u = (1 + y) / (1 - y) (RFC 7748, section
+/// 4.1), in 32 bytes, lowest first. It belongs to the secret key of `secret_from_ed25519`. `InvalidPoint` is returned
+/// if and only if the bytes are not a point, and `SmallOrder` if and only if the point is of small order; a point that
+/// is neither of small order nor a multiple of the base point is accepted, which libsodium refuses. Does not allocate.
 pub fn public_from_ed25519(public: &[u8; 32]) -> Result<[u8; 32], ConversionError>
     ensures ok { IfOk result (λ u. (u ≡ montgomery public.now) × (decoded public.now ≢ None)
         × ¬ IsOfSmallOrder public.now) }
@@ -58,9 +58,9 @@ pub fn public_from_ed25519(public: &[u8; 32]) -> Result<[u8; 32], ConversionErro
     Ok(montgomery(public))
 }
 
-/// The secret key of X25519 that a private key of Ed25519 is: the first half of SHA-512 of its seed, of 32 bytes (RFC 8032,
-/// section 5.1.5). `x25519` clamps it, as Ed25519 does. It is not wiped. No memory is taken, and no branch and no address
-/// depends on the seed.
+/// Converts an Ed25519 private key to an X25519 secret key: the first half of SHA-512 of its seed, of 32 bytes (RFC
+/// 8032, section 5.1.5). `x25519` clamps it, as Ed25519 does. It is not wiped. Does not allocate, and no branch and no
+/// address depends on the seed.
 pub fn secret_from_ed25519(seed: &[u8; 32]) -> [u8; 32]
     ensures { result ≡ take 32 (sha512 seed.now) }
 {

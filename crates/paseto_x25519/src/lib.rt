@@ -1,4 +1,4 @@
-//! X25519 (RFC 7748, sections 5 and 6.1), by which two parties agree on a secret over a channel that others read.
+//! X25519 (RFC 7748, sections 5 and 6.1), by which two parties agree on a secret over a channel that others can read.
 #![tactic(auto)]
 
 mod agreement;

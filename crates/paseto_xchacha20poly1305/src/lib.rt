@@ -1,4 +1,4 @@
-//! XChaCha20-Poly1305, the sealed box of local tokens of version 2, and Poly1305, by which it authenticates.
+//! XChaCha20-Poly1305, the sealed box of local tokens of version 2, and Poly1305, its authenticator.
 //!
 //! ```rust
 //! use paseto_xchacha20poly1305::XChaCha20Poly1305;

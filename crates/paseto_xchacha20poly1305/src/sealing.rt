@@ -19,12 +19,12 @@ const LONGEST_MESSAGE: usize = 274_877_906_880;
 
 /// The sealed box of local tokens of version 2: XChaCha20-Poly1305 (draft-irtf-cfrg-xchacha, section 2).
 ///
-/// A sealing is the ciphertext, as long as the message, and behind it the tag of 16 bytes. A message of more
-/// than 274,877,906,880 bytes, which is 64 * (2^32 - 1), has none. Opening compares the tag before anything is
-/// decrypted, and answers `None` where it differs.
+/// A sealing is the ciphertext, as long as the message, followed by the tag of 16 bytes. A message of more than
+/// 274,877,906,880 bytes, which is 64 * (2^32 - 1), cannot be sealed. Opening compares the tag before anything is
+/// decrypted, and returns `None` if it differs.
 ///
-/// **A nonce serves one message under a key.** `Paseto` makes the token's nonce of the text and of the given
-/// nonce, so that it is another one for another text.
+/// **Use a nonce for only one message under a key.** `Paseto` computes the token's nonce from the text and the given
+/// nonce, so that different texts get different nonces.
 ///
 /// ```rust
 /// use paseto_xchacha20poly1305::XChaCha20Poly1305;
@@ -66,8 +66,8 @@ impl SealedBox for XChaCha20Poly1305 {
         Ok(Some(boxed))
     }
 
-    /// The message, or `None` where the last 16 bytes are not the tag of what stands before them. Memory is asked for
-    /// only behind the right tag.
+    /// The message, or `None` if the last 16 bytes are not the tag of what precedes them. It allocates only after the
+    /// tag was found valid.
     fn open(
         &self,
         alloc: Global,

@@ -7,7 +7,7 @@ use super::hasher::Poly1305Hasher;
 
 /// The Poly1305 tag, of 16 bytes, of a message of any length under a key of 32 bytes (RFC 8439, section 2.5).
 ///
-/// **A key serves one message**, as with [`Poly1305Hasher`].
+/// **Use a key for only one message**, as with [`Poly1305Hasher`].
 ///
 /// ```rust
 /// use paseto_xchacha20poly1305::poly1305;

@@ -1,4 +1,4 @@
-//! The general error, and why a key ring refused a token.
+//! The general error, and the errors of key rings.
 
 ghost use Rattle.std.specs.Prelude.{◌≡◌, option_map};
 ghost use Rattle.rusty_paseto.specs.Error.{cause_of, parsing_blame, ring_blame, ring_cause_of};
@@ -12,14 +12,14 @@ use rusty_paseto_generic::{Blame, GenericParserError};
 use std::alloc::AllocError;
 use thiserror::Error;
 
-/// The error of that name of the Rust crate, for code that names it. No call of this library answers it: each call
-/// has an error of its own, which says more.
+/// The error of this name in the Rust crate, for code that refers to it. No call of this library returns it: each call
+/// has a more specific error.
 #[derive(Debug, Drop, Error)]
 pub enum GeneralPasetoError {
     /// Another error, passed on.
     #[error("A general paseto error occurred")]
     PasetoError(Box<GeneralPasetoError>),
-    /// An error of a call that has none.
+    /// An error of a call that cannot fail.
     #[error("An infallible error occurred")]
     Infallible,
     /// A date was malformed.
@@ -27,10 +27,10 @@ pub enum GeneralPasetoError {
     RFC3339Date,
 }
 
-/// Why a key ring took no key, or opened no token.
+/// Why a key ring did not add a key, or did not open a token.
 ///
-/// The variants stand in the order in which a token is checked: its footer, what the footer names, and then the
-/// token itself.
+/// The variants are in the order in which a token is checked: its footer, what the footer names, and then the token
+/// itself.
 #[derive(Debug, Drop, Error)]
 pub enum KeyRingError {
     /// The footer could not be read from the token, or the token is beyond a limit: `TooLong`.
@@ -45,20 +45,20 @@ pub enum KeyRingError {
     /// The object has no text under `kid`.
     #[error("The footer names no key")]
     NoKeyId,
-    /// The ring has no key of the id that the footer names. The id is whatever stood in the token: the error's text
+    /// The ring has no key with the id that the footer names. The id is untrusted text from the token: the error's text
     /// escapes each character of it that is not printable, so that it stays on one line of a log.
     #[error("The key '{}' is not in the ring", ShownId(.0.as_str()))]
     UnknownKey(String),
     /// The token was not opened under the key that its footer names.
     #[error("{0}")]
     Token(PasetoError),
-    /// Memory was refused.
+    /// An allocation failed.
     #[error("No memory was found")]
     Memory(AllocError),
 }
 
 impl KeyRingError {
-    /// Why the token was not read or opened, where it was not. The error's own text is that of its cause.
+    /// Why the token was not read or opened, if it was not. The error's own text is that of its cause.
     pub fn cause(&self) -> Option<&PasetoError>
         ensures { option_map (λ cause. cause.now) result ≡ ring_cause_of self.now }
     {
@@ -68,7 +68,7 @@ impl KeyRingError {
         }
     }
 
-    /// On which side the fault lies: `Memory` where memory was refused, and else `Foreign`: the token names no key of the
+    /// Which side caused the error: `Memory` if an allocation failed, and else `Foreign`: the token names no key of the
     /// ring, or was not opened under the one that it names.
     pub fn blame(&self) -> Blame
         ensures { result ≡ ring_blame self.now }
@@ -89,24 +89,24 @@ impl From<AllocError> for KeyRingError {
     }
 }
 
-/// Why a key ring answered no claims for a token.
+/// Why a key ring returned no claims for a token.
 ///
-/// The variants stand in the order in which a token is checked.
+/// The variants are in the order in which a token is checked.
 #[derive(Debug, Drop, Error)]
 pub enum KeyRingParserError {
     /// The ring opened no token. Never `KeyRingError::Memory`.
     #[error("{0}")]
     Ring(KeyRingError),
-    /// The text that was opened is no JSON, or did not pass the checks. Neither `CipherError` nor `Memory`.
+    /// The decrypted text is not JSON, or did not pass the checks. Neither `CipherError` nor `Memory`.
     #[error("{0}")]
     Parser(GenericParserError),
-    /// Memory was refused.
+    /// An allocation failed.
     #[error("No memory was found")]
     Memory(AllocError),
 }
 
 impl KeyRingParserError {
-    /// Why the token was not read or opened, where it was not. The error's own text is that of its cause.
+    /// Why the token was not read or opened, if it was not. The error's own text is that of its cause.
     ///
     /// ```rust
     /// use rusty_paseto::prelude::*;
@@ -126,7 +126,7 @@ impl KeyRingParserError {
         }
     }
 
-    /// On which side the fault lies: that of the ring's fault, or of the parser's.
+    /// Which side caused the error: that of the ring's fault, or of the parser's.
     ///
     /// ```rust
     /// use rusty_paseto::prelude::*;

@@ -1,4 +1,4 @@
-//! Rings of keys, in which a token's footer picks the key.
+//! Rings of keys: a token's footer picks the key.
 
 ghost use Rattle.std.specs.Prelude.{◌≡◌, ◌⊎◌, ℕ, List, length, map, true, false, Some, None, String, Err, IfOk, IfErr, OnOk, OnErr, MatchResult, is_some, option_map, string_bytes};
 ghost use Rattle.rusty_paseto_parts.specs.Limit.{is_beyond};
@@ -55,8 +55,8 @@ pub use naming::key_footer;
 /// ```
 pub type KeyRing<V> = Ring<PasetoSymmetricKey<V, Local>>;
 
-/// The public keys of a version by their ids: a [`Ring`] that verifies public tokens. The bytes of the keys are lent
-/// and not copied.
+/// The public keys of a version by their ids: a [`Ring`] that verifies public tokens. The ring borrows the bytes of the
+/// keys.
 ///
 /// ```rust
 /// use anyhow::Result;
@@ -80,8 +80,8 @@ pub type KeyRing<V> = Ring<PasetoSymmetricKey<V, Local>>;
 /// ```
 pub type PublicKeyRing<'a, V> = Ring<PasetoAsymmetricPublicKey<'a, V, Public>>;
 
-/// The public keys of a version by their ids, which own their bytes: a [`Ring`] that verifies public tokens, for a
-/// service that keeps its keys. It has `parse` and `parse_by`.
+/// The public keys of a version by their ids: a [`Ring`] that verifies public tokens and owns the bytes of its keys. It
+/// has `parse` and `parse_by`.
 ///
 /// ```rust
 /// use anyhow::Result;
@@ -113,18 +113,18 @@ pub type PublicKeyRing<'a, V> = Ring<PasetoAsymmetricPublicKey<'a, V, Public>>;
 /// ```
 pub type OwnedPublicKeyRing<V> = Ring<PublicKey<V>>;
 
-/// Keys by their ids, of which a token's footer names the one that opens it: the footer is the JSON of an object
-/// with the id as the text under `kid`, as `key_footer` makes it.
+/// Keys by their ids. A token's footer names the key that opens it: the footer is a JSON object with the id under
+/// `kid`, as `key_footer` makes it.
 ///
-/// `open` and `verify` check no claim: they answer the text of a token that has expired, too. `parse` answers the
-/// claims where they pass a parser's checks.
+/// `open` and `verify` check no claims: they also return the text of an expired token. `parse` returns the claims if
+/// they pass a parser's checks.
 ///
-/// A service that changes its keys puts the new one beside the old one, and seals under the new one with its id in
-/// the footer. Tokens of both open until the old key is removed from the ring.
+/// To rotate keys, add the new key beside the old one, and encrypt with the new one and its id in the footer. Tokens of
+/// both keys open until you remove the old key from the ring.
 ///
-/// The footer is not to be trusted before the token is opened. It picks one key of this ring, and the token must open
-/// under that key, with that footer as it stands; no other key is tried. Ids are compared by their bytes. A service on
-/// the open net sets `set_longest` and `set_longest_footer`, since a footer is read before anybody has vouched for it.
+/// The footer is untrusted until the token is opened. It picks one key of this ring, and the token must open under that
+/// key with exactly that footer; no other key is tried. Ids are compared by their bytes. A service on the internet
+/// should call `set_longest` and `set_longest_footer`, since a ring reads a footer before it is authenticated.
 #[derive(Drop)]
 pub struct Ring<K> {
     alloc: Global,
@@ -143,7 +143,7 @@ struct Found<'r, K> {
 }
 
 impl<K: Drop> Ring<K> {
-    /// A ring with no keys and no limits. All its memory is asked of the allocator, and none is taken yet.
+    /// A ring without keys and limits. It allocates with `alloc`, but not yet.
     pub fn new(alloc: Global) -> Self
         ensures keys { AreSame (keys_of result) (λ id. None) }
         ensures limits { result.limits ≡ no_limits }
@@ -155,9 +155,9 @@ impl<K: Drop> Ring<K> {
         }
     }
 
-    /// Sets how many bytes a token may have, and keeps the rest. A longer one is refused before anything of it is decoded,
-    /// by `Untrusted` of `TooLong`. There is no limit until it is set; where a parser has one too, both are kept. No memory
-    /// is taken.
+    /// Sets how many bytes a token may have, and changes nothing else. A longer one is refused with `Untrusted` of
+    /// `TooLong`, before any of it is decoded. There is no limit until you set one; if a parser has one too, both
+    /// apply. Does not allocate.
     ///
     /// ```rust
     /// use rusty_paseto::prelude::*;
@@ -179,8 +179,9 @@ impl<K: Drop> Ring<K> {
         self
     }
 
-    /// Sets how many bytes the footer of a token may have, and keeps the rest. A longer one is refused as a longer token is:
-    /// its section tells its length before it is decoded. There is no limit until it is set. No memory is taken.
+    /// Sets how many bytes the footer of a token may have, and changes nothing else. A longer one is refused like a
+    /// longer token: the length of its section determines its length before it is decoded. There is no limit until you
+    /// set one. Does not allocate.
     pub fn set_longest_footer(&mut self, bytes: usize) -> &mut Self
         ensures lent { result.ghost_name ≡ self.entry.ghost_name }
         ensures change { result.now ≡ record self.entry.now
@@ -190,9 +191,9 @@ impl<K: Drop> Ring<K> {
         self
     }
 
-    /// Puts a key under its id. An id that is there gets the new key.
+    /// Adds a key under an id. If the id has a key, the new key replaces it.
     ///
-    /// Nothing but memory is refused, and the ring is then unchanged.
+    /// It fails only if an allocation fails, and the ring is then unchanged.
     pub fn add(&mut self, id: &str, key: K) -> Result<(), KeyRingError>
         ensures ok { OnOk result (AreSame (keys_of self.new)
             (with_key id.now key (keys_of self.old))) }
@@ -204,8 +205,8 @@ impl<K: Drop> Ring<K> {
         Ok(())
     }
 
-    /// Takes the key of an id out, and answers whether there was one. Every other key stays, and tokens of this one
-    /// open no more. No memory is taken.
+    /// Removes the key of an id, and returns whether there was one. The other keys stay; tokens under the removed key
+    /// are refused from then on. Does not allocate.
     pub fn remove(&mut self, id: &str) -> bool
         ensures change { AreSame (keys_of self.new) (without_key id.now (keys_of self.old)) }
         ensures found { result ≡ is_some (keys_of self.old id.now) }
@@ -214,14 +215,14 @@ impl<K: Drop> Ring<K> {
         self.keys.remove(id).is_some()
     }
 
-    /// The key of an id, as the one to seal under. No memory is taken.
+    /// The key of an id, for example to encrypt with it. Does not allocate.
     pub fn key(&self, id: &str) -> Option<&K>
         ensures { option_map (λ key. key.now) result ≡ keys_of self.now id.now }
     {
         self.keys.get(id)
     }
 
-    /// The ids of the keys, in the order of their bytes. No memory is taken.
+    /// The ids of the keys, in the order of their bytes. Does not allocate.
     pub fn ids(&self) -> Keys<'_, String, K>
         ensures ids { map string_bytes result ≡ ids_of self.now }
         ensures runs { ShowsInOrder (deref {X = String Global}) }
@@ -229,18 +230,19 @@ impl<K: Drop> Ring<K> {
         self.keys.keys()
     }
 
-    /// How many keys there are. No memory is taken.
+    /// The number of keys. Does not allocate.
     pub fn len(&self) -> usize
         ensures { result ≡ length (ids_of self.now) }
     {
         self.keys.len()
     }
 
-    /// The key that a footer names, for a parser that is to open the token under it: the footer is that of
-    /// `Footer::try_from_token`, and the parser's has to be the same. `parse` does all of it.
+    /// The key that a footer names, to parse the token with it: get the footer with `Footer::try_from_token`, and set
+    /// the same footer in the parser. `parse` does all of this.
     ///
-    /// Else it answers the first of these: `Untrusted` of `TooLong` for a footer beyond the limit of footers, where one was
-    /// set; `NotAnObject`; `NoKeyId`; `UnknownKey` with the id. `Memory` may come in place of any answer but the first.
+    /// Otherwise it returns the first of these errors: `Untrusted` of `TooLong` for a footer beyond the limit for
+    /// footers, if one was set; `NotAnObject`; `NoKeyId`; `UnknownKey` with the id. `Memory` may be returned in place
+    /// of any result but the first.
     pub fn key_of(&self, footer: &str) -> Result<&K, KeyRingError>
         ensures ok { IfOk result (λ key. (id : List ℕ) × Names footer.now id
             × (keys_of self.now id ≡ Some key.now)) }

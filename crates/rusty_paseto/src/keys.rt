@@ -52,14 +52,14 @@ impl Keys {
         Ok(())
     }
 
-    /// Counts the key no more. No memory is taken.
+    /// Counts the key no more. Does not allocate.
     pub(crate) fn take_out(&mut self, key: &str)
         ensures { IsSame (not_counted key.now (counting self.old)) (counting self.new) }
     {
         self.counted.remove(key);
     }
 
-    /// Makes the key the last that was set again. No memory is taken.
+    /// Makes the key the last that was set again. Does not allocate.
     pub(crate) fn repeat(&mut self, key: String)
         ensures { counting self.new ≡ record
             (counting self.old) { repeated = Some (string_bytes key) } }

@@ -3,7 +3,7 @@
 
 ghost use Rattle.rusty_paseto.specs.Laws.{ExpirationStaysOut};
 
-/// What was made never to expire stays so, whatever claims are set: where no key was set again, there is no
+/// A builder whose tokens never expire stays so, whatever claims are set: unless a key was set again, there is no
 /// expiration among the claims.
 pub fn expiration_stays_out()
     ensures { ExpirationStaysOut }

@@ -1,5 +1,5 @@
-//! PASETO tokens, local and public, of versions 1 to 4: builders and parsers of tokens with the usual claims,
-//! over the generic ones and the core.
+//! PASETO tokens, local and public, of versions 1 to 4: builders and parsers of tokens with the usual claims, on top of
+//! the generic ones and the core.
 //!
 //! ```rust
 //! use anyhow::Result;
@@ -22,17 +22,15 @@
 //! }
 //! ```
 //!
-//! The program `paseto_example` is a whole one over this crate.
+//! `paseto_example` is a complete program that uses this crate.
 #![tactic(auto)]
 
 mod error;
-pub mod generic;
 mod key_ring;
 mod keys;
 pub mod laws;
 mod moment;
 mod paseto_builder;
-pub mod paseto_core;
 mod paseto_parser;
 pub mod prelude;
 mod setter;
@@ -45,5 +43,7 @@ pub use key_ring::{KeyRing, OwnedPublicKeyRing, PublicKeyRing, Ring, key_footer}
 pub use moment::fits_default;
 pub use paseto_builder::PasetoBuilder;
 pub use paseto_parser::{DefaultParser, PasetoParser};
+pub use rusty_paseto_core as paseto_core;
+pub use rusty_paseto_generic as generic;
 pub use setter::CountingSetter;
 pub use version::{DefaultAssertionVersion, DefaultLocalVersion};

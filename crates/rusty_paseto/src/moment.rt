@@ -13,8 +13,8 @@ const HOUR: i128 = 3_600_000_000_000;
 /// The nanoseconds of a second.
 const SECOND: i128 = 1_000_000_000;
 
-/// Whether a default builder can begin at the moment: exactly where the moment, and the moment an hour
-/// later, are in the years 0 to 9999 of UTC. No memory is taken.
+/// Whether a default builder can be made for the moment: whether the moment, and the moment an hour later, are in the
+/// years 0 to 9999 of UTC. Does not allocate.
 pub fn fits_default(now: Timestamp) -> bool
     ensures { MatchBool result (FitsDefault now) (¬ FitsDefault now) }
 {
@@ -24,7 +24,7 @@ pub fn fits_default(now: Timestamp) -> bool
     }
 }
 
-/// The moment an hour later, where there is one.
+/// The moment an hour later, if there is one.
 pub(crate) fn an_hour_later(now: Timestamp) -> Result<Timestamp, Error>
     ensures ok { IfOk result (λ later. later.nanosecond ≡ hour_later now) }
     ensures err { IsErr result → ¬ IsTimestampNanos (hour_later now) }
@@ -48,7 +48,7 @@ fn later(now: Timestamp, seconds: u32) -> Result<Timestamp, Error>
     Timestamp::from_nanosecond(now.as_nanosecond() + seconds as i128 * SECOND)
 }
 
-/// The moment so many seconds later, where there is one with a year from 0 to 9999.
+/// The moment so many seconds later, if there is one with a year from 0 to 9999.
 pub(crate) fn seconds_after(now: Timestamp, seconds: u32) -> Option<Timestamp>
     ensures found { IfSome result (λ later. (later.nanosecond ≡ seconds_later seconds now)
         × HasText (seconds_later seconds now)) }

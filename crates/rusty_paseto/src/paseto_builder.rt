@@ -35,15 +35,14 @@ use std::alloc::{AllocError, Global};
 /// The key of the expiration claim.
 const EXPIRATION: &str = "exp";
 
-/// A builder of tokens that begins with the usual claims: an expiration an hour from now, and now as the
-/// moment of issue and the first moment of use.
+/// A builder of tokens that begins with the usual claims: an expiration (`exp`) an hour from now, and now as the time
+/// of issue (`iat`) and the time from which the token may be used (`nbf`).
 ///
-/// It counts the keys that are set. For a key that was set twice nothing is built, so that no claim replaces
-/// another unseen; the three claims that it begins with may each be replaced once. `set_lifetime` replaces the
-/// expiration by one so many seconds after the builder's moment.
+/// If a key is set twice, `build` returns an error, so that no claim silently replaces another; the three initial
+/// claims may each be replaced once. `set_lifetime` replaces the expiration by one this many seconds after the
+/// builder's moment.
 ///
-/// A call that refuses leaves the builder as it was. The builder keeps its claims, so that it may make any
-/// number of tokens.
+/// On an error a call leaves the builder unchanged. The builder keeps its claims, so it can make any number of tokens.
 ///
 /// ```rust
 /// use anyhow::Result;
@@ -76,12 +75,11 @@ pub struct PasetoBuilder<'a, V, P> {
 }
 
 impl<'a, V: VersionTrait, P: PurposeTrait> PasetoBuilder<'a, V, P> {
-    /// A builder with the claims `exp`, an hour after the moment, and `iat` and `nbf`, the moment, and with
-    /// no footer and no implicit assertion. None of the keys is counted yet. All memory is asked of the
-    /// allocator, and nothing but memory is refused.
+    /// A builder with the claims `exp`, an hour after the moment, and `iat` and `nbf`, the moment, and without footer
+    /// and implicit assertion. None of the keys counts as set yet. It fails only if an allocation fails.
     ///
-    /// The moment is one that `fits_default`; `try_default` refuses any other. Moments are written in UTC, with the
-    /// fraction of the second where there is one, up to its last digit that is not zero.
+    /// The moment must be one that `fits_default`; `try_default` returns an error for any other. Moments are written in
+    /// UTC, with the fraction of the second if there is one, up to its last digit that is not zero.
     pub fn default(alloc: Global, now: Timestamp) -> Result<Self, GenericBuilderError>
         requires { FitsDefault now }
         ensures claims { IfOk result (λ made. IsDefaultClaims now (held made.builder.claims)) }
@@ -102,10 +100,10 @@ impl<'a, V: VersionTrait, P: PurposeTrait> PasetoBuilder<'a, V, P> {
         })
     }
 
-    /// The builder that `default` makes, where the moment is one that `fits_default`: the moment, and the one an hour
+    /// The builder that `default` makes, if the moment is one that `fits_default`: the moment, and the one an hour
     /// later, are in the years 0 to 9999 of UTC.
     ///
-    /// For any other moment it answers `ClaimError` of `RFC3339Date`, with the moment's text.
+    /// For any other moment it returns `ClaimError` of `RFC3339Date`, with the moment's text.
     pub fn try_default(alloc: Global, now: Timestamp) -> Result<Self, GenericBuilderError>
         ensures fits { OnOk result (FitsDefault now) }
         ensures claims { IfOk result (λ made. IsDefaultClaims now (held made.builder.claims)) }
@@ -160,7 +158,7 @@ impl<'a, V: VersionTrait, P: PurposeTrait> PasetoBuilder<'a, V, P> {
         self.builder.remove_claim(EXPIRATION);
     }
 
-    /// Sets the footer, the empty one too, and keeps the rest. No memory is taken.
+    /// Sets the footer, which may be empty, and changes nothing else. Does not allocate.
     pub fn set_footer(&mut self, footer: Footer<'a>) -> &mut Self
         ensures lent { result.ghost_name ≡ self.entry.ghost_name }
         ensures change { result.now.builder.paseto
@@ -223,7 +221,7 @@ impl<'a, V: VersionTrait, P: PurposeTrait> CountingSetter for PasetoBuilder<'a, 
 }
 
 impl<'a, V: ImplicitAssertionCapable, P: PurposeTrait> PasetoBuilder<'a, V, P> {
-    /// Sets the implicit assertion, the empty one too, and keeps the rest. No memory is taken.
+    /// Sets the implicit assertion, which may be empty, and changes nothing else. Does not allocate.
     pub fn set_implicit_assertion(&mut self, implicit_assertion: ImplicitAssertion<'a>) -> &mut Self
         ensures lent { result.ghost_name ≡ self.entry.ghost_name }
         ensures change { result.now.builder.paseto
@@ -239,10 +237,10 @@ impl<'a, V: ImplicitAssertionCapable, P: PurposeTrait> PasetoBuilder<'a, V, P> {
 }
 
 impl<V: DefaultLocalVersion> PasetoBuilder<'_, V, Local> {
-    /// Seals the payload of the claims, as `try_encrypt` of a `GenericBuilder` does.
+    /// Encrypts the claims, as `try_encrypt` of a `GenericBuilder` does.
     ///
-    /// `DuplicateTopLevelPayloadClaim` comes for the last key that was set again, before the generator is
-    /// asked. `CipherError` of `Cipher` comes where the generator fails.
+    /// `DuplicateTopLevelPayloadClaim` is returned for the last key that was set again, before the generator is called.
+    /// `CipherError` of `Cipher` is returned if the generator fails.
     ///
     /// Source: PASETO specification, "Version 1", "Version 3" and "Version 4", "Encrypt".
     pub fn build<R: TryRng>(
@@ -267,11 +265,11 @@ impl<V: DefaultLocalVersion> PasetoBuilder<'_, V, Local> {
 }
 
 impl PasetoBuilder<'_, V2, Local> {
-    /// Seals the payload of the claims by the caller's box, as `try_encrypt` of a `GenericBuilder` does.
+    /// Encrypts the claims with the caller's box, as `try_encrypt` of a `GenericBuilder` does.
     ///
-    /// `DuplicateTopLevelPayloadClaim` comes for the last key that was set again, before the generator is
-    /// asked. `CipherError` comes of `Cipher` where the generator fails, and of `ChaChaCipherError` where the
-    /// box has no sealing of the payload.
+    /// `DuplicateTopLevelPayloadClaim` is returned for the last key that was set again, before the generator is called.
+    /// `CipherError` of `Cipher` is returned if the generator fails, and of `ChaChaCipherError` if the box cannot
+    /// encrypt the payload.
     ///
     /// Source: PASETO specification, "Version 2", "Encrypt".
     pub fn build<B: SealedBox, R: TryRng>(
@@ -302,11 +300,11 @@ impl PasetoBuilder<'_, V2, Local> {
 }
 
 impl<V: PublicVersion> PasetoBuilder<'_, V, Public> {
-    /// Signs the payload of the claims, which stays readable, as `try_sign` of a `GenericBuilder` does.
+    /// Signs the claims, which stay readable, as `try_sign` of a `GenericBuilder` does.
     ///
-    /// `DuplicateTopLevelPayloadClaim` comes for the last key that was set again, before the scheme is asked.
-    /// `CipherError` comes in the versions 2 and 4 of `TryFromSlice` for a private key that is not 64 bytes,
-    /// and of the scheme's own errors.
+    /// `DuplicateTopLevelPayloadClaim` is returned for the last key that was set again, before the scheme is called.
+    /// `CipherError` is returned of the scheme's own errors, and in versions 2 and 4 of `TryFromSlice` for a private
+    /// key that does not have 64 bytes.
     ///
     /// Source: PASETO specification, "Version 1" to "Version 4", "Sign".
     pub fn build<S>(

@@ -25,18 +25,17 @@ use serde_json::Value;
 use std::alloc::Global;
 use std::collections::BTreeMap;
 
-/// A parser of tokens that refuses what has expired and what may not be used yet, where it is made by
-/// `default`: the usual parser beside a [`PasetoBuilder`](crate::PasetoBuilder).
+/// A parser of tokens. One that `default` makes refuses tokens that have expired or may not be used yet: the usual
+/// counterpart of a [`PasetoBuilder`](crate::PasetoBuilder).
 ///
-/// The moment of both is the one that the parser was made with, or that `set_now` brought since. `set_leeway` allows
-/// for clocks that differ. A token without `exp` never expires: `require_claim("exp")` demands it. A service on the open
-/// net sets `set_longest`, which refuses a longer token before anything of it is decoded. A claim that is to
-/// be checked beyond that comes with `check_claim`, or with `validate_key` and one of the crate's
-/// [`validators`](crate::validators), or the caller's own.
+/// It checks the times at the moment that it was made with, or that `set_now` set since. `set_leeway` allows for clocks
+/// that differ. A token without `exp` never expires: require it with `require_claim("exp")`. A service on the internet
+/// should call `set_longest`, which refuses a longer token before any of it is decoded. Check other claims with
+/// `check_claim`, or with `validate_key` and one of the crate's [`validators`](crate::validators) or your own.
 ///
-/// A call that refuses leaves the parser as it was. `check_claim`, `validate_key` and `require_claim` lend the parser
-/// back, for chains of calls; `put_check`, `put_key_validator` and `put_required` are the same edits for code that goes
-/// on after a refusal.
+/// On an error a call leaves the parser unchanged. `check_claim`, `validate_key` and `require_claim` return the parser,
+/// for chains of calls; `put_check`, `put_key_validator` and `put_required` do the same without returning it, for code
+/// that continues after an error.
 ///
 /// ```rust
 /// use jiff::Timestamp;
@@ -62,15 +61,15 @@ use std::collections::BTreeMap;
 /// ```
 pub type PasetoParser<'a, V, P> = DefaultParser<'a, V, P, ValidatorFn>;
 
-/// For code that is generic in the validators' type `B`; everybody else uses [`PasetoParser`], where `B` is a box.
+/// For code that is generic over the validators' type `B`; other code uses [`PasetoParser`], where `B` is a `Box`.
 #[derive(Drop)]
 pub struct DefaultParser<'a, V, P, B> {
     pub(crate) parser: TokenParser<'a, V, P, B>,
 }
 
 impl<'a, V: VersionTrait, P: PurposeTrait, B: Drop> DefaultParser<'a, V, P, B> {
-    /// A parser with no checks, not even of times, no footer, no implicit assertion and no limit. All its memory is
-    /// asked of the allocator, and none is taken yet.
+    /// A parser without checks, not even of times, and without footer, implicit assertion and limit. It allocates with
+    /// `alloc`, but not yet.
     pub fn new(alloc: Global) -> Self
         ensures checks { AreSame (rules_of result.parser.checks) (λ key. no_rule) }
         ensures leeway { result.parser.leeway ≡ 0 }
@@ -83,8 +82,8 @@ impl<'a, V: VersionTrait, P: PurposeTrait, B: Drop> DefaultParser<'a, V, P, B> {
         }
     }
 
-    /// A parser that checks the times at a moment, as `check_times` of a `GenericParser` does, with no other
-    /// check, no footer, no implicit assertion and no limit. Nothing but memory is refused.
+    /// A parser that checks the times at a moment, as `check_times` of a `GenericParser` does, without other checks,
+    /// footer, implicit assertion and limit. It fails only if an allocation fails.
     pub fn default(alloc: Global, now: Timestamp) -> Result<Self, GenericParserError>
         ensures checks { IfOk result (λ made. AreSame (rules_of made.parser.checks)
             (with_times (λ key. no_rule))) }
@@ -100,8 +99,8 @@ impl<'a, V: VersionTrait, P: PurposeTrait, B: Drop> DefaultParser<'a, V, P, B> {
         Ok(DefaultParser { parser })
     }
 
-    /// Sets the moment at which the times are checked, and keeps the rest. It changes no answer of a parser that
-    /// checks no times. No memory is taken.
+    /// Sets the moment at which the times are checked, and changes nothing else. It has no effect on a parser that
+    /// checks no times. Does not allocate.
     pub fn set_now(&mut self, now: Timestamp) -> &mut Self
         ensures lent { result.ghost_name ≡ self.entry.ghost_name }
         ensures change { result.now.parser ≡ record self.entry.now.parser { moment = now } }
@@ -110,8 +109,8 @@ impl<'a, V: VersionTrait, P: PurposeTrait, B: Drop> DefaultParser<'a, V, P, B> {
         self
     }
 
-    /// Sets how many seconds the clocks of issuer and reader may differ by, as `set_leeway` of a `GenericParser` does,
-    /// and keeps the rest: it is 0 until it is set. No memory is taken.
+    /// Sets by how many seconds the clocks of issuer and reader may differ, as `set_leeway` of a `GenericParser` does,
+    /// and changes nothing else. It is 0 until you set it. Does not allocate.
     pub fn set_leeway(&mut self, seconds: u32) -> &mut Self
         ensures lent { result.ghost_name ≡ self.entry.ghost_name }
         ensures change { result.now.parser ≡ record self.entry.now.parser { leeway = seconds } }
@@ -120,8 +119,8 @@ impl<'a, V: VersionTrait, P: PurposeTrait, B: Drop> DefaultParser<'a, V, P, B> {
         self
     }
 
-    /// Sets how many bytes a token may have, as `set_longest` of a `GenericParser` does, and keeps the rest: a longer one is
-    /// refused before anything of it is decoded. There is no limit until it is set. No memory is taken.
+    /// Sets how many bytes a token may have, as `set_longest` of a `GenericParser` does, and changes nothing else: a
+    /// longer one is refused before any of it is decoded. There is no limit until you set one. Does not allocate.
     pub fn set_longest(&mut self, bytes: usize) -> &mut Self
         ensures lent { result.ghost_name ≡ self.entry.ghost_name }
         ensures change { result.now.parser ≡ record self.entry.now.parser { longest = Some bytes } }
@@ -130,7 +129,7 @@ impl<'a, V: VersionTrait, P: PurposeTrait, B: Drop> DefaultParser<'a, V, P, B> {
         self
     }
 
-    /// Sets the footer, the empty one too, and keeps the rest. No memory is taken.
+    /// Sets the footer, which may be empty, and changes nothing else. Does not allocate.
     pub fn set_footer(&mut self, footer: Footer<'a>) -> &mut Self
         ensures lent { result.ghost_name ≡ self.entry.ghost_name }
         ensures change { result.now.parser
@@ -197,7 +196,7 @@ impl<'a, V: VersionTrait, P: PurposeTrait, B: Drop> CheckSetter<B> for DefaultPa
 }
 
 impl<'a, V: ImplicitAssertionCapable, P: PurposeTrait, B: Drop> DefaultParser<'a, V, P, B> {
-    /// Sets the implicit assertion, the empty one too, and keeps the rest. No memory is taken.
+    /// Sets the implicit assertion, which may be empty, and changes nothing else. Does not allocate.
     pub fn set_implicit_assertion(&mut self, implicit_assertion: ImplicitAssertion<'a>) -> &mut Self
         ensures lent { result.ghost_name ≡ self.entry.ghost_name }
         ensures change { result.now.parser
@@ -209,11 +208,11 @@ impl<'a, V: ImplicitAssertionCapable, P: PurposeTrait, B: Drop> DefaultParser<'a
 }
 
 impl<V: VersionTrait, P: PurposeTrait> DefaultParser<'_, V, P, ValidatorFn> {
-    /// Checks a value that was parsed in another way, as by a parser with no checks, which is how a program tells the
-    /// claims of a token that it refuses: whether the value passes what `parse` checks once a token is read.
+    /// Checks a value that was parsed in another way, for example by a parser without checks, so that a program can
+    /// show the claims of a token that it refuses: whether the value passes what `parse` checks once a token is read.
     ///
-    /// Else it answers `ClaimError` for the first key in byte order that fails its check. `Memory` may come in place
-    /// of any answer.
+    /// Otherwise it returns `ClaimError` for the first key in byte order that fails its check. `Memory` may be returned
+    /// in place of any result.
     pub fn check(&self, value: &Value) -> Result<(), GenericParserError>
         ensures { let parser = self.now.parser in
             IsCheckAnswer (verdicts_of (λ b. verdict b)
@@ -224,8 +223,8 @@ impl<V: VersionTrait, P: PurposeTrait> DefaultParser<'_, V, P, ValidatorFn> {
 }
 
 impl<V: DefaultLocalVersion> DefaultParser<'_, V, Local, ValidatorFn> {
-    /// Opens a token and answers the value of its text, which passes all checks, as `parse` of a `GenericParser`
-    /// does, at the parser's moment and with the same faults in the same order.
+    /// Decrypts a token and returns its claims, which pass all checks, as `parse` of a `GenericParser` does, at the
+    /// parser's moment and with the same errors in the same order.
     ///
     /// Source: PASETO specification, "Version 1", "Version 3" and "Version 4", "Decrypt".
     pub fn parse(
@@ -245,8 +244,8 @@ impl<V: DefaultLocalVersion> DefaultParser<'_, V, Local, ValidatorFn> {
 }
 
 impl DefaultParser<'_, V2, Local, ValidatorFn> {
-    /// Opens a token by the caller's box, and answers the value of its text, which passes all checks, as the
-    /// other versions' `parse` does.
+    /// Decrypts a token with the caller's box, and returns its claims, which pass all checks, as the other versions'
+    /// `parse` does.
     ///
     /// Source: PASETO specification, "Version 2", "Decrypt".
     pub fn parse<S: SealedBox>(
@@ -265,8 +264,8 @@ impl DefaultParser<'_, V2, Local, ValidatorFn> {
 }
 
 impl<V> DefaultParser<'_, V, Public, ValidatorFn> {
-    /// Verifies a token by the caller's scheme, and answers the value of its text, which passes all checks, as
-    /// `parse` of local tokens does.
+    /// Verifies a token with the caller's scheme, and returns its claims, which pass all checks, as `parse` of local
+    /// tokens does.
     ///
     /// Source: PASETO specification, "Version 1" to "Version 4", "Verify".
     pub fn parse<S>(

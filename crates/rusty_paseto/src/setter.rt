@@ -1,4 +1,4 @@
-//! The setters of default builders that lend the builder back.
+//! The setters of default builders that return the builder.
 
 ghost use Rattle.std.specs.Borrow.{sem, LendsSoOk};
 ghost use Rattle.std.specs.Prelude.{◌≡◌, ◌⊎◌, IfOk, IfErr, OnOk, OnErr};
@@ -11,8 +11,8 @@ ghost use Rattle.rusty_paseto.specs.PasetoBuilder.{Counting, GetsEnd, IsSame, Is
 
 use rusty_paseto_generic::{GenericBuilderError, Itself, PasetoClaim};
 
-/// A builder that counts the keys of its claims. Its setters lend it back, for chains of calls: as an `O`, which
-/// is the builder's own type under another name, and which the compiler finds by itself.
+/// A builder that counts the keys of its claims. Its setters return it, for chains of calls: as an `O`, which is the
+/// builder's own type under another name, and which the compiler infers.
 pub trait CountingSetter {
     // The claims.
     ghost claims: { Self → Members };
@@ -26,11 +26,11 @@ pub trait CountingSetter {
     // The first has what the second has beside claims and keys.
     ghost is_rest: { Self → Self → Type 0 };
 
-    /// Stores a claim under its key, as `put_claim` of a `GenericBuilder` does, and counts the key, the empty
-    /// one too. A key that was counted before becomes the repeated key.
+    /// Stores a claim under its key, as `put_claim` of a `GenericBuilder` does, and counts the key, even if it is
+    /// empty. A key that was counted before becomes the repeated key.
     ///
-    /// `ClaimError` comes for a value that holds another number than a whole one of 64 bits, `Unexpected`
-    /// with the key, and for a fault of the claim. The builder is then unchanged.
+    /// It returns `ClaimError` of `Unexpected` with the key if the value contains a number that is not a 64-bit
+    /// integer, and `ClaimError` of the claim's own errors. The builder is then unchanged.
     fn put_claim<C: PasetoClaim>(&mut self, claim: &C) -> Result<(), GenericBuilderError>
         ensures ok { OnOk result (claim_set (C.key claim.now) (C.json claim.now) (claims self.old)
             ≡ becomes (claims self.new)) }
@@ -42,7 +42,7 @@ pub trait CountingSetter {
         ensures fault { IfErr result (IsRefusal (claim_set (C.key claim.now) (C.json claim.now)
             (claims self.old))) };
 
-    /// Stores a claim, as `put_claim` does, and lends the builder back. Where it refuses, the builder is unchanged.
+    /// Stores a claim, as `put_claim` does, and returns the builder. On an error the builder is unchanged.
     final fn set_claim<C: PasetoClaim, O>(
         &mut self,
         claim: &C,
@@ -67,12 +67,12 @@ pub trait CountingSetter {
         Ok(self.itself())
     }
 
-    /// Stores the expiration of a token that lives so many seconds from the builder's moment on, and counts its key, as
-    /// `put_claim` of an `ExpirationClaim` does.
+    /// Stores an expiration this many seconds after the builder's moment, and counts its key, as `put_claim` of an
+    /// `ExpirationClaim` does.
     ///
-    /// `ClaimError` of `RFC3339Date`, with the text of the builder's moment, comes exactly where there is no moment so
-    /// many seconds later, or its year is none from 0 to 9999. Nothing else but memory is refused. The builder is then
-    /// unchanged.
+    /// `ClaimError` of `RFC3339Date`, with the text of the builder's moment, is returned if and only if there is no
+    /// moment that much later, or its year is not from 0 to 9999. Otherwise it fails only if an allocation fails. The
+    /// builder is then unchanged.
     fn put_lifetime(&mut self, seconds: u32) -> Result<(), GenericBuilderError>
         ensures ok { OnOk result (GetsEnd (seconds_later seconds (moment self.old))
             (claims self.old) (claims self.new)) }
@@ -84,8 +84,7 @@ pub trait CountingSetter {
         ensures fault { IfErr result (λ error. IsMemory error
             ⊎ IsUnfitEnd (moment self.old) (seconds_later seconds (moment self.old)) error) };
 
-    /// Stores the expiration, as `put_lifetime` does, and lends the builder back. Where it refuses, the builder is
-    /// unchanged.
+    /// Stores the expiration, as `put_lifetime` does, and returns the builder. On an error the builder is unchanged.
     ///
     /// ```rust
     /// use anyhow::Result;
@@ -127,11 +126,11 @@ pub trait CountingSetter {
         Ok(self.itself())
     }
 
-    /// Takes out the expiration and counts its key, which does not become a repeated key by that: what is
-    /// built from now on never expires. A token that never expires is a danger where it is stolen. An
-    /// expiration that is set later is set again, so that nothing is built.
+    /// Removes the expiration and counts its key, without making it a repeated key: tokens that are built from now on
+    /// never expire. Such a token is a danger if it is stolen. An expiration that is set later counts as set again, so
+    /// that `build` fails.
     ///
-    /// Nothing but memory is refused. The builder is then unchanged.
+    /// It fails only if an allocation fails. The builder is then unchanged.
     fn put_no_expiration_danger_acknowledged(&mut self) -> Result<(), GenericBuilderError>
         ensures ok { OnOk result (claims self.new ≡ without expiration_key (claims self.old)) }
         ensures keys { OnOk result (IsSame (acknowledged expiration_key (keys self.old))
@@ -142,8 +141,8 @@ pub trait CountingSetter {
         ensures err_keys { OnErr result (IsSame (keys self.old) (keys self.new)) }
         ensures fault { IfErr result IsMemory };
 
-    /// Takes out the expiration, as `put_no_expiration_danger_acknowledged` does, and lends the builder back.
-    /// Where it refuses, the builder is unchanged.
+    /// Removes the expiration, as `put_no_expiration_danger_acknowledged` does, and returns the builder. On an error
+    /// the builder is unchanged.
     final fn set_no_expiration_danger_acknowledged<O>(
         &mut self,
     ) -> Result<&mut O, GenericBuilderError>

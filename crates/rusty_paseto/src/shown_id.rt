@@ -3,7 +3,8 @@
 use std::fmt;
 
 /// Shows a key id on one line. The id may be anybody's text, so that each character that is not printable, as a line
-/// feed or another control, is escaped as in a Rust literal. All others stand as they are, quotes among them.
+/// feed or another control, is escaped as in a Rust literal. All other characters are shown as they are, including
+/// quotes.
 #[derive(Clone, Copy)]
 pub(crate) struct ShownId<'a>(pub(crate) &'a str);
 

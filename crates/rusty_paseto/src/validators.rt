@@ -1,6 +1,6 @@
-//! Validators that stand ready, for what services ask of a claim.
+//! Ready-made validators for common checks of claims.
 //!
-//! Each is handed in boxed, with the key that it checks:
+//! Pass each in a `Box`, with the key that it checks:
 //!
 //! ```rust
 //! use anyhow::Result;
@@ -15,14 +15,14 @@
 //! }
 //! ```
 //!
-//! Where a key has a validator, it checks alone: a claim that is stored under the key is not compared. A value that is
-//! not there, or null, is `Missing` with the key; one of another kind than the validator is for is `Unexpected`; one that
-//! may not stand there is `CustomValidation`.
+//! If a key has a validator, only the validator checks it: a claim that is stored under the key is not compared. A
+//! value that is absent or null is `Missing` with the key; one of another type than the validator's is `Unexpected`;
+//! one that is not allowed is `CustomValidation`.
 //!
-//! A validator of one's own is a type with its meaning beside it:
+//! To write your own validator, define a type, with its specification:
 //!
 //! ```rust
-//! ghost use Rattle.paseto_doc_examples.specs.Even.{even};
+//! ghost use Rattle.test_doc_examples.specs.Even.{even};
 //!
 //! use rusty_paseto::prelude::*;
 //! use serde_json::Value;
@@ -44,7 +44,7 @@
 //! }
 //! ```
 //!
-//! Here `even` is a definition in `specs/` of the crate, whose name stands in the first line:
+//! Here `even` is a definition in `specs/` of the crate, which the first line imports:
 //!
 //! ```text
 //! use Rattle.std.specs.Prelude.{◌%◌, ◌==◌, ℕ, List, if◌then◌else◌, Option, Some, None}

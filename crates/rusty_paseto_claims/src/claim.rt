@@ -9,9 +9,9 @@ use crate::error::PasetoClaimError;
 use serde_json::{Map, Value};
 use std::alloc::Global;
 
-/// A claim: a key of a token's payload, with what is to stand under it.
+/// A claim: a key of a token's payload, and its value.
 ///
-/// Both are functions of the claim's value: two calls on one value answer alike, memory aside.
+/// Both methods depend only on the claim: two calls return the same, unless an allocation fails.
 pub trait PasetoClaim {
     // The key.
     ghost key: { Self → List ℕ };
@@ -23,17 +23,15 @@ pub trait PasetoClaim {
     fn get_key(&self) -> &str
         ensures { result.now ≡ key self.now };
 
-    /// The claim as JSON. The claims of this library answer an object with one entry, the claim's key and
-    /// value.
+    /// The claim as JSON. The claims of this library return an object with one entry, the claim's key and value.
     ///
-    /// A claim of a caller's own may refuse by an error of its choice. `Memory` may come in place of any
-    /// answer where memory was refused.
+    /// A caller's own claim may return an error of its choice. It may return `Memory` instead if an allocation fails.
     fn to_json(&self, alloc: Global) -> Result<Value, PasetoClaimError>
         ensures ok { IfOk result (λ value. json self.now ≡ gives (view value)) }
         ensures err { IfErr result (IsRefusal (json self.now)) };
 }
 
-/// The object whose one entry is the key and the value.
+/// The object with only this key and value.
 pub(crate) fn to_object(alloc: Global, key: &str, value: Value) -> Result<Value, PasetoClaimError>
     ensures ok { IfOk result (λ made. view made ≡ one_member key.now (view value)) }
     ensures err { IfErr result IsMemory }

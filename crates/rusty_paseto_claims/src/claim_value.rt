@@ -1,4 +1,4 @@
-//! The values that a claim of a caller's own may have.
+//! The values that a custom claim may have.
 
 ghost use Rattle.std.specs.Prelude.{◌≡◌, IfOk, IfErr, string_bytes};
 ghost use Rattle.serde_json.specs.Data.{boolean, number, string, unsigned};
@@ -15,10 +15,10 @@ pub trait ClaimValue {
     // What `to_value` answers, memory aside.
     ghost written: { Self → Answer };
 
-    /// The value as JSON: a function of the value, memory aside.
+    /// The value as JSON, which depends only on the value, unless an allocation fails.
     ///
-    /// The values that this library knows are never refused for another cause than memory. A type of a
-    /// caller's own may refuse by an error of its choice.
+    /// For the types of this library it fails only if an allocation fails. A caller's own type may return an error of
+    /// its choice.
     fn to_value(&self, alloc: Global) -> Result<Value, PasetoClaimError>
         ensures ok { IfOk result (λ value. written self.now ≡ gives (view value)) }
         ensures err { IfErr result (IsRefusal (written self.now)) };
@@ -112,7 +112,7 @@ impl ClaimValue for u64 {
     }
 }
 
-/// A JSON value is taken as it is, whatever numbers it holds and however deep it is nested.
+/// A JSON value is used as it is, whatever numbers it contains and however deep it is nested.
 impl ClaimValue for Value {
     ghost written = { λ value. gives (view value) };
 

@@ -1,4 +1,4 @@
-//! Claims of a caller's own.
+//! Custom claims.
 
 ghost use Rattle.std.specs.Prelude.{◌≡◌, ◌↔◌, ℕ, List, [], string_bytes, IsOk, IfOk, IfErr, IsErr};
 ghost use Rattle.rusty_paseto_claims.specs.Claim.{under};
@@ -14,7 +14,7 @@ use serde_json::Value;
 use std::alloc::Global;
 use std::marker::Model;
 
-/// A claim under a key of a caller's own: any text but the seven that are reserved, the empty one too.
+/// A claim with the caller's own key: any text except the seven reserved keys; it may be empty.
 #[derive(Debug, Drop)]
 pub struct CustomClaim<T> {
     key: String,
@@ -30,9 +30,9 @@ impl<T> Model for CustomClaim<T> {
 }
 
 impl<T: Drop> CustomClaim<T> {
-    /// The claim of this key and value. No memory is taken.
+    /// The claim with this key and value. Does not allocate.
     ///
-    /// `Reserved` with the key comes exactly for `iss`, `sub`, `aud`, `exp`, `nbf`, `iat` and `jti`. Key
+    /// `Reserved` with the key is returned exactly for `iss`, `sub`, `aud`, `exp`, `nbf`, `iat` and `jti`. Key
     /// and value are then dropped.
     pub fn try_from_string(key: String, value: T) -> Result<Self, PasetoClaimError>
         ensures kept { IfOk result (λ claim. claim ≡ (string_bytes key, value)) }
@@ -45,10 +45,10 @@ impl<T: Drop> CustomClaim<T> {
         Ok(CustomClaim { key, value })
     }
 
-    /// The claim of this key, which is copied, and value.
+    /// The claim with this key, which is copied, and this value.
     ///
-    /// `Reserved` with the key comes exactly for `iss`, `sub`, `aud`, `exp`, `nbf`, `iat` and `jti`. The
-    /// value is dropped where the claim is refused.
+    /// `Reserved` with the key is returned exactly for `iss`, `sub`, `aud`, `exp`, `nbf`, `iat` and `jti`. The value is
+    /// dropped if the claim is refused.
     pub fn try_from_str(alloc: Global, key: &str, value: T) -> Result<Self, PasetoClaimError>
         ensures kept { IfOk result (λ claim. (claim ≡ (key.now, value)) × ¬ IsReserved key.now) }
         ensures err { IfErr result (IsReservedFault key.now) }
@@ -58,9 +58,9 @@ impl<T: Drop> CustomClaim<T> {
 }
 
 impl<'a> CustomClaim<&'a str> {
-    /// The claim of this key, which is copied, and the empty text.
+    /// The claim with this key, which is copied, and the empty text.
     ///
-    /// `Reserved` with the key comes exactly for `iss`, `sub`, `aud`, `exp`, `nbf`, `iat` and `jti`.
+    /// `Reserved` with the key is returned exactly for `iss`, `sub`, `aud`, `exp`, `nbf`, `iat` and `jti`.
     pub fn try_from_key(alloc: Global, key: &str) -> Result<Self, PasetoClaimError>
         ensures kept { IfOk result (λ claim. (claim.0 ≡ key.now) × (claim.1.now ≡ [])
             × ¬ IsReserved key.now) }
@@ -71,7 +71,7 @@ impl<'a> CustomClaim<&'a str> {
 }
 
 impl<T> CustomClaim<T> {
-    /// The key and the value, as they were given.
+    /// The key and the value.
     pub fn as_pair(&self) -> (&str, &T)
         ensures key { result.0.now ≡ self.now.0 }
         ensures value { result.1.now ≡ self.now.1 }

@@ -23,7 +23,7 @@ pub type ExpirationClaim = DateClaim<Expiration>;
 /// When a token was issued, under the key `iat`.
 pub type IssuedAtClaim = DateClaim<IssuedAt>;
 
-/// When a token may be used first, under the key `nbf`.
+/// From when on a token may be used, under the key `nbf`.
 pub type NotBeforeClaim = DateClaim<NotBefore>;
 
 /// A claim under a reserved key whose value is a text that `jiff` reads as an instant. The text is kept
@@ -45,18 +45,18 @@ impl<K> Model for DateClaim<K> {
 }
 
 impl<K: ReservedKey> DateClaim<K> {
-    /// The claim of this text, which is copied.
+    /// The claim with this text, which is copied.
     ///
-    /// `RFC3339Date` with the text comes exactly where `jiff` reads no `Timestamp` from it.
+    /// `RFC3339Date` with the text is returned if and only if `jiff` reads no `Timestamp` from it.
     pub fn try_from_str(alloc: Global, text: &str) -> Result<Self, PasetoClaimError>
         ensures { IsDateOf text.now result }
     {
         DateClaim::try_from_string(alloc, String::from_str(alloc, text)?)
     }
 
-    /// The claim of this text. No memory is taken.
+    /// The claim with this text. Does not allocate.
     ///
-    /// `RFC3339Date` with the text comes exactly where `jiff` reads no `Timestamp` from it.
+    /// `RFC3339Date` with the text is returned if and only if `jiff` reads no `Timestamp` from it.
     pub fn try_from_string(_alloc: Global, text: String) -> Result<Self, PasetoClaimError>
         ensures { IsDateAtOnce (string_bytes text) result }
     {
@@ -69,9 +69,11 @@ impl<K: ReservedKey> DateClaim<K> {
         })
     }
 
-    /// The claim of a moment, whose text is `moment_text`'s: `2026-11-25T12:00:00Z`. It is read as that moment again.
+    /// The claim for a moment, with the text of `moment_text`: `2026-11-25T12:00:00Z`. It is read back as the same
+    /// moment.
     ///
-    /// `RFC3339Date` with the moment's text comes exactly where its year in UTC is before 0, memory aside.
+    /// `RFC3339Date` with the moment's text is returned if and only if its year in UTC is before 0, unless an
+    /// allocation fails.
     ///
     /// ```rust
     /// use anyhow::Result;
@@ -101,7 +103,7 @@ impl<K: ReservedKey> DateClaim<K> {
         })
     }
 
-    /// The claim of the text `2019-01-01T00:00:00+00:00`. Nothing but memory is refused.
+    /// The claim with the text `2019-01-01T00:00:00+00:00`. It fails only if an allocation fails.
     #[tactic(auto, using(crate::proofs::DateLemmas::default_date))]
     pub fn default(alloc: Global) -> Result<Self, PasetoClaimError>
         ensures ok { IfOk result (λ claim. claim ≡ codes "2019-01-01T00:00:00+00:00") }
@@ -113,7 +115,7 @@ impl<K: ReservedKey> DateClaim<K> {
         })
     }
 
-    /// A claim of the same text. Nothing but memory is refused.
+    /// A claim with the same text. It fails only if an allocation fails.
     pub fn try_clone(&self, _alloc: Global) -> Result<Self, PasetoClaimError>
         ensures ok { IfOk result (λ claim. claim ≡ self.now) }
         ensures err { IfErr result IsMemory }
@@ -124,7 +126,7 @@ impl<K: ReservedKey> DateClaim<K> {
         })
     }
 
-    /// The key, and the text as it was given.
+    /// The key and the text.
     pub fn as_pair(&self) -> (&str, &str)
         ensures key { result.0.now ≡ K.key }
         ensures text { result.1.now ≡ self.now }

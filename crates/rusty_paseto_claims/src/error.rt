@@ -11,30 +11,29 @@ use thiserror::Error;
 /// Why a claim was refused, or why the claims of a token did not pass a check.
 #[derive(Debug, Drop, Error)]
 pub enum PasetoClaimError {
-    /// The moment at which a token expires has come.
+    /// The token has expired.
     Expired,
-    /// The token is used before its `nbf`, whose text this is.
+    /// The token may not be used yet: this is the text of its `nbf`.
     UseBeforeAvailable(String),
-    /// The text is no date and time.
+    /// The text is not a date and time.
     RFC3339Date(String),
-    /// The payload has no value, or null, under this key, and a value was expected.
+    /// A value was expected under this key, and the payload has none, or null.
     Missing(String),
-    /// The value under this key is not of a kind that is expected there.
+    /// The value under this key is not of an expected type.
     Unexpected(String),
-    /// A validator of the caller's own refused the value under this key.
+    /// A validator refused the value under this key.
     CustomValidation(String),
-    /// The text under the key, which comes first, is the second one, and the third was expected. The
-    /// message names them the other way round.
+    /// Key, actual text and expected text. The message names the two texts the other way round.
     Invalid(String, String, String),
     /// The key is one of the seven that the standard reserves.
     Reserved(String),
     /// The key was set more than once.
     DuplicateTopLevelPayloadClaim(String),
-    /// Memory was refused.
+    /// An allocation failed.
     Memory(AllocError),
 }
 
-/// One line, without its end, where the texts that the error holds are of one line.
+/// One line, without a line end, if the texts in the error have only one line.
 impl fmt::Display for PasetoClaimError {
     ghost output = { λ error. Some (error_text error) };
 

@@ -1,5 +1,5 @@
-//! Claims of PASETO tokens: what a claim is, the seven that the standard reserves, claims of a caller's
-//! own, and tests on the JSON values that claims have.
+//! Claims of PASETO tokens: the trait of claims, the seven claims that the standard reserves, custom claims, and tests
+//! on JSON values.
 //!
 //! ```rust
 //! use rusty_paseto_claims::{CustomClaim, PasetoClaim, PasetoClaimError};

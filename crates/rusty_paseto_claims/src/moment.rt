@@ -1,4 +1,4 @@
-//! Moments, and their texts.
+//! Moments and their texts.
 
 ghost use Rattle.std.specs.Prelude.{◌≡◌, ◌++◌, MatchBool, IfOk, codes, string_bytes};
 ghost use Rattle.jiff.specs.Names.{iso_datetime_text};
@@ -9,7 +9,7 @@ use jiff::civil::DateTime;
 use jiff::tz::Offset;
 use std::alloc::{AllocError, Global};
 
-/// Whether RFC 3339 has a text for the moment: exactly where its year in UTC is from 0 to 9999. No memory is taken.
+/// Whether RFC 3339 has a text for the moment, that is, whether its year in UTC is from 0 to 9999. Does not allocate.
 ///
 /// Source: RFC 3339, section 5.6.
 pub fn has_short_year(moment: Timestamp) -> bool
@@ -28,7 +28,7 @@ fn civil(moment: Timestamp) -> DateTime
     Offset::UTC.to_datetime(moment)
 }
 
-/// The text of a moment, `2026-11-25T12:00:00Z`: its date and time in UTC, the fraction of the second where there is one,
+/// The text of a moment, `2026-11-25T12:00:00Z`: its date and time in UTC, the fraction of the second if there is one,
 /// up to its last digit that is not zero, and `Z`. A year before 0 has a sign and six digits, as `jiff` reads it.
 ///
 /// Source: RFC 3339, section 5.6.

@@ -3,7 +3,7 @@
 ghost use Rattle.std.specs.Prelude.{◌≡◌, ◌↔◌, ℕ, List, IsTrue, codes};
 ghost use Rattle.rusty_paseto_claims.specs.Reserved.{IsReserved};
 
-/// A reserved key, as a type: it says which claim a type of claims is.
+/// A reserved key, as a type: it determines which claim a claim type is.
 ///
 /// Source: PASETO specification, "Claims".
 pub trait ReservedKey {
@@ -15,7 +15,7 @@ pub trait ReservedKey {
         ensures { result.now ≡ key };
 }
 
-/// The key `iss` of who issued a token.
+/// The key `iss`: who issued a token.
 pub enum Issuer {}
 
 impl ReservedKey for Issuer {
@@ -26,7 +26,7 @@ impl ReservedKey for Issuer {
     }
 }
 
-/// The key `sub` of whom a token is about.
+/// The key `sub`: whom a token is about.
 pub enum Subject {}
 
 impl ReservedKey for Subject {
@@ -37,7 +37,7 @@ impl ReservedKey for Subject {
     }
 }
 
-/// The key `aud` of whom a token is for.
+/// The key `aud`: whom a token is for.
 pub enum Audience {}
 
 impl ReservedKey for Audience {
@@ -48,7 +48,7 @@ impl ReservedKey for Audience {
     }
 }
 
-/// The key `exp` of when a token expires.
+/// The key `exp`: when a token expires.
 pub enum Expiration {}
 
 impl ReservedKey for Expiration {
@@ -59,7 +59,7 @@ impl ReservedKey for Expiration {
     }
 }
 
-/// The key `nbf` of when a token may be used first.
+/// The key `nbf`: from when on a token may be used.
 pub enum NotBefore {}
 
 impl ReservedKey for NotBefore {
@@ -70,7 +70,7 @@ impl ReservedKey for NotBefore {
     }
 }
 
-/// The key `iat` of when a token was issued.
+/// The key `iat`: when a token was issued.
 pub enum IssuedAt {}
 
 impl ReservedKey for IssuedAt {
@@ -81,7 +81,7 @@ impl ReservedKey for IssuedAt {
     }
 }
 
-/// The key `jti` of a token's own name.
+/// The key `jti`: a token's identifier.
 pub enum TokenIdentifier {}
 
 impl ReservedKey for TokenIdentifier {

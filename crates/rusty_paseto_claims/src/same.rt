@@ -6,12 +6,12 @@ ghost use Rattle.rusty_paseto_claims.specs.Same.{IsSame, same, same_items, same_
 
 use serde_json::{Map, Number, Value};
 
-/// Whether two values are the same, and every number in them is a whole number of 64 bits.
+/// Whether two values are the same, and every number in them is a 64-bit integer.
 ///
 /// Numbers are compared by value, and objects by what each key has: `{"a":1,"b":2}` is the same as
-/// `{"b":2,"a":1}`. A value that holds another number is not even the same as itself.
+/// `{"b":2,"a":1}`. A value that contains another number is not even the same as itself.
 ///
-/// No memory is taken.
+/// Does not allocate.
 #[tactic(auto, using(crate::proofs::SameLemmas::test_is_same))]
 pub fn same_value(left: &Value, right: &Value) -> bool
     ensures { IsTrue result ↔ IsSame (view left.now) (view right.now) }

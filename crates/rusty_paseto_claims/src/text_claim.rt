@@ -1,4 +1,4 @@
-//! The four claims that are any text.
+//! The four claims that may be any text.
 
 ghost use Rattle.std.specs.Prelude.{◌≡◌, []};
 ghost use Rattle.serde_json.specs.Data.{string};
@@ -21,10 +21,10 @@ pub type IssuerClaim<'a> = TextClaim<'a, Issuer>;
 /// Whom a token is about, under the key `sub`.
 pub type SubjectClaim<'a> = TextClaim<'a, Subject>;
 
-/// A token's own name, under the key `jti`.
+/// A token's identifier, under the key `jti`.
 pub type TokenIdentifierClaim<'a> = TextClaim<'a, TokenIdentifier>;
 
-/// A claim under a reserved key whose value is a text. The text is lent and not copied.
+/// A claim under a reserved key whose value is a text, which is borrowed.
 #[derive_where(Clone, Copy, Debug)]
 pub struct TextClaim<'a, K> {
     text: &'a str,
@@ -32,7 +32,7 @@ pub struct TextClaim<'a, K> {
 }
 
 impl<'a, K: ReservedKey> TextClaim<'a, K> {
-    /// The key, and the text as it was given.
+    /// The key and the text.
     pub fn as_pair(&self) -> (&str, &str)
         ensures key { result.0.now ≡ K.key }
         ensures text { result.1.now ≡ claim_text self.now }

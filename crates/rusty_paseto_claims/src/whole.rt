@@ -9,10 +9,10 @@ ghost use Rattle.rusty_paseto_claims.specs.Whole.{IsOdd, are_whole, first_odd, i
 
 use serde_json::{Map, Value};
 
-/// Whether every number in the value, at any depth, is a whole number of 64 bits: one from
-/// -9223372036854775808 to 18446744073709551615 that was not written with a fraction or an exponent.
+/// Whether every number in the value, at any depth, is a 64-bit integer: one from -9223372036854775808 to
+/// 18446744073709551615 that was not written with a fraction or an exponent.
 ///
-/// No memory is taken.
+/// Does not allocate.
 #[cycle(whole)]
 pub fn is_whole(value: &Value) -> bool
     ensures { result ≡ is_whole_data (view value.now) }
@@ -53,11 +53,10 @@ fn find_odd(members: &Map<String, Value>) -> Option<&str>
     None
 }
 
-/// The first key of an object, in byte order, whose value holds a number that is not a whole number of
-/// 64 bits, or the empty text for another value that holds one. `None` comes exactly where
-/// [`is_whole`] holds.
+/// The first key of an object, in byte order, whose value contains a number that is not a 64-bit integer, or the empty
+/// text for a value that is not an object and contains one. `None` is returned if and only if [`is_whole`] holds.
 ///
-/// No memory is taken.
+/// Does not allocate.
 pub fn odd_key(value: &Value) -> Option<&str>
     ensures key { option_map (λ key. key.now) result ≡ odd_key_of (view value.now) }
     ensures first { IsOdd (option_map (λ key. key.now) result) (view value.now) }

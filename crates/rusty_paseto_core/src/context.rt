@@ -9,7 +9,7 @@ ghost use Rattle.rusty_paseto_core.specs.Context.{Context, context_of};
 use rusty_paseto_parts::{Footer, ImplicitAssertion};
 use std::marker::Model;
 
-/// The footer and the implicit assertion, each lent by the caller.
+/// The footer and the implicit assertion, each borrowed from the caller.
 #[derive(Drop)]
 pub(crate) struct Context<'a> {
     footer: Footer<'a>,

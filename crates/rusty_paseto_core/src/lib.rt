@@ -1,5 +1,5 @@
-//! PASETO tokens sealed and opened, signed and verified. All memory is asked of the allocator that a
-//! call is handed.
+//! Encrypting and decrypting, signing and verifying PASETO tokens. All memory comes from the allocator that a call is
+//! passed.
 //!
 //! ```rust
 //! use rusty_paseto_core::{

@@ -21,7 +21,7 @@ pub(crate) mod v4;
 
 pub use tokens::LocalVersion;
 
-/// How many bytes a token's nonce has in the versions 1, 3 and 4.
+/// How many bytes a token's nonce has in versions 1, 3 and 4.
 pub(crate) const NONCE_LENGTH: usize = 32;
 
 /// Goes into the derivation of the encryption key, so that it differs from the authentication key.
@@ -32,8 +32,8 @@ const AUTHENTICATION: &[u8; 24] = b"paseto-auth-key-for-aead";
 
 /// The header, the key split, the cipher and the tag of a version's local tokens.
 ///
-/// Sealing and opening are written and proved once, over this trait. It is public for versions of tests alone, and
-/// hidden in the documentation: whoever implements it owes its laws.
+/// Sealing and opening are written and proved once, over this trait. It is public only for versions in tests, and
+/// hidden in the documentation: an implementation must prove its laws.
 pub trait LocalSuite: VersionTrait {
     /// The keys that one token is encrypted and authenticated with.
     type Keys: Copy;
@@ -83,7 +83,7 @@ pub trait LocalSuite: VersionTrait {
     ghost has_nonces_of_32_alone: { (n : ℕ) → IsTrue (Self.nonce_length n) → n ≡ 32 };
 }
 
-/// A separator, and the nonce behind it.
+/// A separator, followed by the nonce.
 pub(crate) fn info<const N: usize>(separator: &[u8], nonce: &[u8; 32]) -> [u8; N]
     requires { N ≡ length separator.now + 32 }
     ensures { result ≡ separator.now ++ nonce.now }

@@ -1,4 +1,4 @@
-//! What is to become a token.
+//! The parts of a token.
 
 ghost use Rattle.std.specs.Prelude.{◌≡◌, [], None, Some, true};
 ghost use Rattle.std.proofs.Common.{refl};
@@ -14,7 +14,7 @@ use rusty_paseto_parts::{
 };
 use std::marker::PhantomData;
 
-/// A version whose tokens are bound to an implicit assertion: 3 and 4.
+/// A version with implicit assertions: 3 and 4.
 pub trait AssertionVersion: LocalVersion + PublicVersion + ImplicitAssertionCapable {
     // Its local and its public tokens are.
     ghost binds_assertion: { (Self.design.binds_assertion ≡ true)
@@ -29,8 +29,8 @@ impl AssertionVersion for V4 {
     ghost binds_assertion = { (v4-binds_assertion, refl) };
 }
 
-/// A payload, and the footer and the implicit assertion where they are set: what is to become a
-/// token of a version and a purpose, by `try_encrypt` or `try_sign`.
+/// The parts of a token of a version and a purpose: a payload, and an optional footer and implicit assertion, from
+/// which `try_encrypt` or `try_sign` makes a token.
 ///
 /// ```rust
 /// use rusty_paseto_core::{
@@ -77,7 +77,7 @@ impl<'a, Version: VersionTrait, Purpose: PurposeTrait> Default for Paseto<'a, Ve
 }
 
 impl<'a, Version: VersionTrait, Purpose: PurposeTrait> Paseto<'a, Version, Purpose> {
-    /// The empty payload, with no footer and no implicit assertion.
+    /// An empty payload, without footer and implicit assertion.
     pub fn builder() -> Paseto<'a, Version, Purpose>
         ensures payload { payload_text result.payload ≡ [] }
         ensures footer { result.footer ≡ None }
@@ -86,7 +86,7 @@ impl<'a, Version: VersionTrait, Purpose: PurposeTrait> Paseto<'a, Version, Purpo
         Self::default()
     }
 
-    /// Sets the payload, and keeps the rest.
+    /// Sets the payload, and changes nothing else.
     pub fn set_payload(&mut self, payload: Payload<'a>) -> &mut Self
         ensures lent { result.ghost_name ≡ self.entry.ghost_name }
         ensures change { result.now ≡ record self.entry.now { payload = payload.entry } }
@@ -95,7 +95,7 @@ impl<'a, Version: VersionTrait, Purpose: PurposeTrait> Paseto<'a, Version, Purpo
         self
     }
 
-    /// Sets the footer, the empty one too, and keeps the rest.
+    /// Sets the footer, which may be empty, and changes nothing else.
     pub fn set_footer(&mut self, footer: Footer<'a>) -> &mut Self
         ensures lent { result.ghost_name ≡ self.entry.ghost_name }
         ensures change { result.now ≡ record self.entry.now { footer = Some footer.entry } }
@@ -106,7 +106,7 @@ impl<'a, Version: VersionTrait, Purpose: PurposeTrait> Paseto<'a, Version, Purpo
 }
 
 impl<'a, Version: ImplicitAssertionCapable, Purpose: PurposeTrait> Paseto<'a, Version, Purpose> {
-    /// Sets the implicit assertion, the empty one too, and keeps the rest.
+    /// Sets the implicit assertion, which may be empty, and changes nothing else.
     pub fn set_implicit_assertion(&mut self, implicit_assertion: ImplicitAssertion<'a>) -> &mut Self
         ensures lent { result.ghost_name ≡ self.entry.ghost_name }
         ensures change { result.now ≡ record self.entry.now

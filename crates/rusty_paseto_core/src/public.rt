@@ -44,7 +44,7 @@ pub(crate) trait PublicSuite: VersionTrait {
 
 /// A version of public tokens: each of the four.
 pub trait PublicVersion: PublicSuite {
-    /// The implicit assertion in a version that has one, and none in the versions 1 and 2.
+    /// The implicit assertion in a version that has one, and `None` in versions 1 and 2.
     final fn signed_assertion(
         implicit_assertion: Option<ImplicitAssertion<'_>>,
     ) -> Option<ImplicitAssertion<'_>>

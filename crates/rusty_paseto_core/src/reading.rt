@@ -11,8 +11,7 @@ use rusty_paseto_parts::{
 use std::alloc::Global;
 
 /// The payload of a token. Refused are, in this order: a number of sections other than three or
-/// four, a footer that is not the expected one, another header, and a third section that is the
-/// base64url of no bytes.
+/// four, a footer that is not the expected one, another header, and a third section that is not valid base64url.
 pub(crate) fn unframe<V: VersionTrait, P: PurposeTrait>(
     alloc: Global,
     token: &str,
@@ -55,7 +54,7 @@ fn is_expected(found: Option<&str>, footer: &[u8]) -> bool
     }
 }
 
-/// The nonce at the front of a payload.
+/// The nonce at the beginning of a payload.
 pub(crate) fn nonce_of<const N: usize>(payload: &[u8]) -> [u8; N]
     requires { N ≤ length payload.now }
     ensures { result ≡ take N payload.now }

@@ -1,4 +1,4 @@
-//! On which side the fault of a refusal lies.
+//! Which side caused an error.
 
 ghost use Rattle.std.specs.Prelude.{◌≡◌};
 ghost use Rattle.rusty_paseto_generic.specs.Blame.{cipher_blame, claim_blame};
@@ -6,7 +6,7 @@ ghost use Rattle.rusty_paseto_generic.specs.Blame.{cipher_blame, claim_blame};
 use rusty_paseto_claims::PasetoClaimError;
 use rusty_paseto_core::PasetoError;
 
-/// What a refusal comes from, as much of it as a service needs to answer: `blame` of an error says it.
+/// Which side caused an error, in as much detail as a service needs to answer: `blame` of an error returns it.
 ///
 /// ```rust
 /// use rusty_paseto::prelude::*;
@@ -22,18 +22,18 @@ use rusty_paseto_core::PasetoError;
 /// ```
 #[derive(Clone, Copy, Debug, PartialEq, Eq)]
 pub enum Blame {
-    /// The token is not one of ours, or was changed, or its key is gone.
+    /// The token is not one of ours, or was modified, or its key is gone.
     Foreign,
-    /// The token is ours, and not good at this moment: it has expired, or may not be used yet.
+    /// The token is ours, but not valid at this time: it has expired, or may not be used yet.
     Untimely,
-    /// What is refused is ours, and not what is asked: a claim is missing, has another value than the expected one, or was
-    /// refused when it was set.
+    /// The token is ours, but not what is expected: a claim is missing or has another value, or was refused when it was
+    /// set.
     Unfit,
-    /// Memory was refused. The same call may be tried again.
+    /// An allocation failed. The same call may be tried again.
     Memory,
 }
 
-/// `Untimely` for `Expired` and `UseBeforeAvailable`, `Memory` where memory was refused, and else `Unfit`.
+/// `Untimely` for `Expired` and `UseBeforeAvailable`, `Memory` if an allocation failed, and else `Unfit`.
 impl From<&PasetoClaimError> for Blame {
     ghost from_gives = { λ source blame. blame ≡ claim_blame source.now };
 
@@ -46,7 +46,7 @@ impl From<&PasetoClaimError> for Blame {
     }
 }
 
-/// `Memory` where memory was refused, and else `Foreign`: the token was not opened or verified.
+/// `Memory` if an allocation failed, and else `Foreign`: the token was not opened or verified.
 impl From<&PasetoError> for Blame {
     ghost from_gives = { λ source blame. blame ≡ cipher_blame source.now };
 

@@ -1,4 +1,4 @@
-//! What builds tokens from claims.
+//! Building tokens from claims.
 
 mod claims;
 mod generic_builder;

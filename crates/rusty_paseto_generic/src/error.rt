@@ -15,25 +15,25 @@ use std::alloc::AllocError;
 use std::fmt;
 use thiserror::Error;
 
-/// Why a builder refused a claim, or made no token.
+/// Why a builder refused a claim, or did not make a token.
 #[derive(Debug, Drop, Error)]
 pub enum GenericBuilderError {
     /// A claim was refused. The message is the claim's own.
     ClaimError { source: PasetoClaimError },
-    /// A text is no address. No call of this library answers it.
+    /// A text is not an e-mail address. No call of this library returns it.
     BadEmailAddress(String),
     /// A key was set more than once.
     DuplicateTopLevelPayloadClaim(String),
-    /// The token was not sealed or signed, or the generator of random bytes failed.
+    /// The token was not encrypted or signed, or the generator of random bytes failed.
     CipherError { source: PasetoError },
-    /// The claims could not be written as JSON. No call of this library answers it.
+    /// The claims could not be written as JSON. No call of this library returns it.
     PayloadJsonError { source: serde_json::Error },
-    /// Memory was refused.
+    /// An allocation failed.
     Memory(AllocError),
 }
 
 impl GenericBuilderError {
-    /// Why the token was not sealed or signed, where it was not. The error's own text does not say it.
+    /// Why the token was not encrypted or signed, if it was not. The error's own text does not say it.
     pub fn cause(&self) -> Option<&PasetoError>
         ensures { option_map (λ cause. cause.now) result ≡ cause_of self.now }
     {
@@ -43,8 +43,8 @@ impl GenericBuilderError {
         }
     }
 
-    /// On which side the fault lies: `Memory` where memory was refused, and else `Unfit`. What a builder refuses is
-    /// never `Foreign` or `Untimely`.
+    /// Which side caused the error: `Memory` if an allocation failed, and else `Unfit`. An error of a builder is never
+    /// `Foreign` or `Untimely`.
     pub fn blame(&self) -> Blame
         ensures { result ≡ builder_blame self.now }
     {
@@ -134,21 +134,21 @@ impl From<serde_json::Error> for GenericBuilderError {
     }
 }
 
-/// Why a parser refused a check, or answered no value for a token.
+/// Why a parser refused a check, or did not accept a token.
 #[derive(Debug, Drop, Error)]
 pub enum GenericParserError {
     /// A claim was refused, or did not pass a check. The message is the claim's own.
     ClaimError { source: PasetoClaimError },
     /// The token was not opened or verified.
     CipherError { source: PasetoError },
-    /// The payload was not read as JSON.
+    /// The payload could not be read as JSON.
     PayloadJsonError { source: serde_json::Error },
-    /// Memory was refused.
+    /// An allocation failed.
     Memory(AllocError),
 }
 
 impl GenericParserError {
-    /// Why the token was not opened or verified, where it was not. The error's own text does not say it.
+    /// Why the token was not decrypted or verified, if it was not. The error's own text does not say it.
     ///
     /// ```rust
     /// use rusty_paseto_generic::{GenericParserError, PasetoError};
@@ -167,9 +167,9 @@ impl GenericParserError {
         }
     }
 
-    /// On which side the fault lies: `Foreign` where the token was not opened or verified, `Untimely` where it has
-    /// expired or may not be used yet, `Unfit` where its text is no JSON or a claim does not pass another check, and
-    /// `Memory` where memory was refused.
+    /// Which side caused the error: `Foreign` if the token was not decrypted or verified, `Untimely` if it has expired
+    /// or may not be used yet, `Unfit` if its text is not JSON or a claim does not pass another check, and `Memory` if
+    /// an allocation failed.
     pub fn blame(&self) -> Blame
         ensures { result ≡ parser_blame self.now }
     {

@@ -1,4 +1,4 @@
-//! An error beside what caused it.
+//! An error together with its cause.
 
 ghost use Rattle.std.specs.Prelude.{◌≡◌, option_map};
 ghost use Rattle.rusty_paseto_generic.specs.Explained.{explained_text};
@@ -6,7 +6,7 @@ ghost use Rattle.rusty_paseto_generic.specs.Explained.{explained_text};
 use rusty_paseto_core::PasetoError;
 use std::fmt;
 
-/// What shows an error and, behind a colon, its cause where it has one: one line, without its end. `explained` of the
+/// Displays an error and, after a colon, its cause if it has one: one line, without a line end. `explained` of the
 /// errors of builders and parsers makes it.
 #[derive(Clone, Copy)]
 pub struct Explained<'a, E> {

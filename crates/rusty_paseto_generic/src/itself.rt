@@ -3,10 +3,10 @@
 ghost use Rattle.std.specs.Prelude.{◌≡◌};
 ghost use Rattle.std.specs.Borrow.{sem, Lends};
 
-/// A value that is lent as an `O`. Each type is an `O` of its own, and of no other.
+/// A value that is lent as an `O`. For each type the only such `O` is the type itself.
 ///
-/// A setter lends its builder back as an `O`: what a builder is after a refusal can be stated only where the
-/// result's type has another name than the builder's.
+/// A setter returns its builder as an `O`: a contract can state what the builder is after an error only if the result's
+/// type has another name than the builder's.
 pub trait Itself<O> {
     // The value that an `O` is.
     ghost whole: { O → Self };

@@ -1,5 +1,5 @@
-//! Builders of PASETO tokens from claims, and parsers that check them, for every version and purpose. The
-//! claims and the core, over which they stand, are shown too.
+//! Builders of PASETO tokens from claims, and parsers that check them, for every version and purpose. It also
+//! re-exports the claims and the core, which it is built on.
 //!
 //! ```rust
 //! use anyhow::Result;

@@ -1,4 +1,4 @@
-//! What reads the claims of tokens, and checks them.
+//! Reading the claims of tokens, and checking them.
 
 mod check_all;
 mod check_entry;

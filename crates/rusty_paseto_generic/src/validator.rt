@@ -1,4 +1,4 @@
-//! What checks a value under a key, on behalf of a caller.
+//! Validators: a caller's own checks of claims.
 
 ghost use Rattle.std.specs.Prelude.{◌≡◌, None, IfErr, OnOk};
 ghost use Rattle.serde_json.specs.View.{view};
@@ -9,17 +9,16 @@ use serde_json::Value;
 use std::alloc::Global;
 use std::collections::BTreeMap;
 
-/// A test of the value that a token has under a key, which a caller brings.
+/// A caller's own check of the value under a key.
 ///
-/// Its answer is a function of the validator, the key and the value: two calls on them answer alike, memory
-/// aside.
+/// Its result depends only on the validator, the key and the value: two calls return the same, unless an allocation
+/// fails.
 pub trait Validator: Drop {
     // The fault of a value under a key, or none.
     ghost verdict: { Self → Verdict };
 
-    /// Is `Ok` where the value may stand under the key, which is null where the token has none. Else it
-    /// fails by an error of the validator's choice. `Memory` may come in place of any answer where memory was
-    /// refused.
+    /// Returns `Ok` if the value is allowed under the key; the value is null if the token has none. Otherwise it
+    /// returns an error of the validator's choice. It may return `Memory` instead if an allocation fails.
     fn validate(&self, alloc: Global, key: &str, value: &Value) -> Result<(), PasetoClaimError>
         ensures ok { OnOk result (verdict self.now key.now (view value.now) ≡ None) }
         ensures err { IfErr result (IsFound (verdict self.now key.now (view value.now))) };

@@ -1,4 +1,4 @@
-//! Values whose numbers are whole.
+//! Values whose numbers are 64-bit integers.
 
 ghost use Rattle.std.specs.Prelude.{◌≡◌, None, IfErr, OnOk};
 ghost use Rattle.serde_json.specs.View.{members_view};

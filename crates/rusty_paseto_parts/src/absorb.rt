@@ -1,4 +1,4 @@
-//! What takes in bytes one after another.
+//! Sinks of bytes.
 
 ghost use Rattle.std.specs.Prelude.{◌≡◌, ◌++◌, ℕ, List, OnOk};
 ghost use Rattle.std.proofs.Common.{rules};
@@ -6,15 +6,15 @@ ghost use Rattle.std.proofs.lemmas.Grind.{common_steps};
 
 use std::alloc::AllocError;
 
-/// What takes in bytes one after another: a buffer, or a hasher.
+/// A sink of bytes: a buffer, or a hasher.
 pub trait Absorb {
-    /// Why bytes could not be taken in: `AllocError` for a buffer, and `Infallible` for a hasher.
+    /// Why bytes could not be absorbed: `AllocError` for a buffer, and `Infallible` for a hasher.
     type Error: Drop;
 
     // Whether the first, once it has taken in these bytes, is the second.
     ghost absorbed: { Self → List ℕ → Self → Type 0 };
 
-    /// Takes in some bytes, behind those that it has.
+    /// Absorbs bytes after those that it already has.
     fn absorb(&mut self, bytes: &[u8]) -> Result<(), Self::Error>
         ensures { OnOk result (absorbed self.old bytes.now self.new) };
 
@@ -24,7 +24,7 @@ pub trait Absorb {
         (front ++ back) third };
 }
 
-/// A buffer keeps the bytes, behind those that it has.
+/// A buffer appends the bytes.
 impl Absorb for Vec<u8> {
     type Error = AllocError;
 

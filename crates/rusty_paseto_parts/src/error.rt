@@ -1,4 +1,4 @@
-//! The error of this crate, and of all that seals and opens tokens.
+//! The error of this crate and of the core.
 
 ghost use Rattle.std.specs.Prelude.{◌≡◌, Some};
 ghost use Rattle.rusty_paseto_parts.specs.Error.{error_text};
@@ -12,69 +12,67 @@ use thiserror::Error;
 
 /// Why a key, a token or a part of one was refused.
 ///
-/// Each variant says which calls answer it. Those that this library itself does not answer are there for the
-/// signature schemes that a caller brings: what `sign`, `public_key` and `verify` of a scheme answer comes out
-/// of `try_sign` and `try_verify` as it is. Builders and parsers wrap the error of the core as `CipherError`.
+/// Each variant says which calls return it. Those that this library itself does not return are for the caller's
+/// signature schemes: `try_sign` and `try_verify` return the errors of `sign`, `public_key` and `verify` of a scheme as
+/// they are. Builders and parsers wrap the error of the core as `CipherError`.
 #[derive(Debug, Drop, Error)]
 pub enum PasetoError {
-    /// An error of a cipher, passed on. Only a scheme may answer it.
+    /// An error of a cipher, passed on. Only a scheme may return it.
     PasetoCipherError(Box<PasetoError>),
-    /// The tag of a token is not the tag of its contents under the key: the key, the footer or the implicit
-    /// assertion is another one, or the token was changed. From `try_decrypt` and `tag_collision` in versions
-    /// 1, 3 and 4.
+    /// The tag of a token is wrong: the key, the footer or the implicit assertion is a different one, or the token was
+    /// modified. From `try_decrypt` and `tag_collision` in versions 1, 3 and 4.
     Cryption,
-    /// A key has not the length or the digits that its kind asks for. From `try_from` of `Key` and of a public
-    /// key of version 3; a scheme may answer it.
+    /// A key has the wrong length or wrong digits. From `try_from` of `Key` and of a public key of version 3; a scheme
+    /// may return it.
     InvalidKey,
-    /// A signature could not be made. Only a scheme may answer it.
+    /// A signature could not be made. Only a scheme may return it.
     Signature,
-    /// A private RSA key was refused. Only a scheme may answer it.
+    /// A private key was refused. Only a scheme may return it.
     KeyRejected,
-    /// A source of random bytes failed. From `try_new_random` of `Key`, and from builders that draw a nonce; a
-    /// scheme may answer it.
+    /// A source of random bytes failed. From `try_new_random` of `Key`, and from builders that draw a nonce; a scheme
+    /// may return it.
     Cipher,
-    /// RSA failed. Only a scheme may answer it.
+    /// RSA failed. Only a scheme may return it.
     RsaCipher,
-    /// ECDSA failed. Only a scheme may answer it.
+    /// ECDSA failed. Only a scheme may return it.
     ECSDAError,
-    /// A length does not fit a primitive. Only a scheme may answer it.
+    /// A length does not fit a primitive. Only a scheme may return it.
     InvalidLength,
-    /// A signature is not valid. Only a scheme answers it, and `try_verify` hands it on.
+    /// A signature is not valid. Only a scheme returns it, and `try_verify` passes it on.
     InvalidSignature,
-    /// A private key of version 2 or 4 has not 64 bytes. From `try_sign`.
+    /// A private key of version 2 or 4 does not have 64 bytes. From `try_sign`.
     TryFromSlice,
-    /// A token has not three or four sections, or its payload is too short for a nonce and a tag or for a
+    /// A token does not have three or four sections, or its payload is too short for a nonce and a tag or for a
     /// signature. From `try_decrypt`, `try_verify`, `tag_collision`, `UntrustedToken::try_parse` and
-    /// `Footer::try_from_token`, the last two for the sections alone.
+    /// `Footer::try_from_token`, the last two only for the sections.
     IncorrectSize,
-    /// A token begins with another header than the one that was expected. From `try_decrypt`, `try_verify`
-    /// and `tag_collision`.
+    /// A token has another header than the expected one. From `try_decrypt`, `try_verify` and `tag_collision`.
     WrongHeader,
-    /// A token ends in another footer than the one that was expected, or in none where one was. From
-    /// `try_decrypt`, `try_verify` and `tag_collision`.
+    /// A token has another footer than the expected one, or lacks it. From `try_decrypt`, `try_verify` and
+    /// `tag_collision`.
     FooterInvalid,
     /// A section is not valid base64url. From `from_section`; from `try_decrypt`, `try_verify` and
     /// `tag_collision` for the payload; from `UntrustedToken` and `Footer::try_from_token` for the footer.
     PayloadBase64Decode { source: DecodeError },
-    /// The bytes of a text are not UTF-8. From `try_decrypt` and `tag_collision`, after the tag was found good,
-    /// and from `UntrustedToken` and `Footer::try_from_token`.
+    /// The bytes of a text are not UTF-8. From `try_decrypt` and `tag_collision`, after the tag was found valid, and
+    /// from `UntrustedToken` and `Footer::try_from_token`.
     Utf8Error { source: Utf8Error },
-    /// A box did not open, or has no sealing of a text. From `try_decrypt` and `try_encrypt` in version 2.
+    /// A box did not open, or cannot encrypt a text. From `try_decrypt` and `try_encrypt` in version 2.
     ChaChaCipherError,
-    /// A conversion that cannot fail has failed. Only a scheme may answer it.
+    /// A conversion that cannot fail has failed. Only a scheme may return it.
     Infallibale,
     /// The bytes of a signed text are not UTF-8. From `try_verify`, after the signature was found valid.
     FromUtf8Error,
-    /// Memory was refused. From every call that takes memory, in place of its answer.
+    /// An allocation failed. From every call that allocates, in place of its result.
     Memory(AllocError),
-    /// A token has more bytes than a limit that was set, or its footer has: nothing of it was decoded. From
-    /// `try_parse_within` of `UntrustedToken`, and from parsers and key rings where `set_longest` or
-    /// `set_longest_footer` set a limit: they have none before. A scheme may answer it.
+    /// A token or its footer has more bytes than the limit; none of it was decoded. From `try_parse_within` of
+    /// `UntrustedToken`, and from parsers and key rings with a limit that `set_longest` or `set_longest_footer` set. A
+    /// scheme may return it.
     TooLong,
 }
 
 impl PasetoError {
-    /// What `Display` shows: one line, without its end. No memory is taken.
+    /// What `Display` shows: one line, without a line end. Does not allocate.
     pub fn text(&self) -> &'static str
         ensures { result.now ≡ error_text self.now }
     {

@@ -1,12 +1,12 @@
-//! Lengths for which there may be no memory.
+//! Sums of lengths.
 
 ghost use Rattle.std.specs.Prelude.{◌≡◌, ◌+◌, ◌≤◌, ◌^◌, MatchResult};
 
 use std::alloc::AllocError;
 
-/// The sum of two lengths, or the refusal of memory where no `usize` holds it.
+/// The sum of two lengths, or an error if no `usize` holds it.
 ///
-/// A refusal is made up nowhere else: all others hand on what an allocation answered.
+/// No other place creates an out-of-memory error: all others pass on the error of an allocation.
 pub fn add_lengths(first: usize, second: usize) -> Result<usize, AllocError>
     ensures { MatchResult result (λ sum. sum ≡ first + second) (λ _. 2 ^ 64 ≤ first + second) }
 {

@@ -1,6 +1,5 @@
-//! The parts of PASETO tokens: versions and purposes, the texts that a token carries, keys and
-//! nonces, pre-authentication encoding, the sections of a token's text, and what a token says before
-//! it is opened.
+//! The parts of PASETO tokens: versions and purposes, the texts of a token, keys and nonces, pre-authentication
+//! encoding, the sections of a token, and reading a token before it is verified.
 //!
 //! ```rust
 //! use rusty_paseto_parts::{PasetoError, UntrustedToken};

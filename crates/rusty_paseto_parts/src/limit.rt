@@ -6,8 +6,8 @@ ghost use Rattle.rusty_paseto_parts.specs.Section.{sections};
 
 use crate::section::split_token;
 
-/// Whether a text has more bytes than a limit, where there is one: what parsers and key rings ask of a token before they
-/// read it. No memory is taken.
+/// Whether a text has more bytes than a limit, if there is one. Parsers and key rings check this before they read a
+/// token. Does not allocate.
 pub fn is_longer(text: &str, longest: Option<usize>) -> bool
     ensures { result ≡ is_beyond longest (length text.now) }
 {
@@ -17,8 +17,8 @@ pub fn is_longer(text: &str, longest: Option<usize>) -> bool
     }
 }
 
-/// Whether a token's footer has more bytes than a limit, where there is one, as its section's length tells before it is
-/// decoded. A token that has not four sections has no such footer. No memory is taken.
+/// Whether a token's footer has more bytes than a limit, if there is one, by the length of its section, without
+/// decoding it. `false` for a token that does not have four sections. Does not allocate.
 pub fn has_longer_footer(token: &str, longest: Option<usize>) -> bool
     ensures { result ≡ has_long_footer longest (sections token.now) }
 {

@@ -10,10 +10,10 @@ use crate::lengths::add_lengths;
 use std::alloc::{AllocError, Global};
 use std::marker::Model;
 
-/// The encoding of a list of pieces as one list of bytes, from which the pieces can be told.
+/// An unambiguous encoding of a list of pieces as one list of bytes.
 ///
-/// It is the number of pieces and then, for each piece, its length and its bytes. Numbers are
-/// written in eight bytes, the least first.
+/// It is the number of pieces and then, for each piece, its length and its bytes. Numbers are written in eight bytes,
+/// least significant first.
 ///
 /// Source: PASETO specification, "Authentication Padding".
 #[derive(Drop)]
@@ -28,7 +28,7 @@ impl Model for PreAuthenticationEncoding {
 }
 
 impl PreAuthenticationEncoding {
-    /// The encoding of these pieces, in their order. It fails only by `Memory`.
+    /// The encoding of these pieces, in their order. It fails only with `Memory`.
     pub fn parse(alloc: Global, pieces: &[&[u8]]) -> Result<Self, PasetoError>
         ensures ok { IfOk result (λ encoding. encoding
             ≡ pae (map (λ piece. piece.now) pieces.now)) }
@@ -48,8 +48,8 @@ impl PreAuthenticationEncoding {
     }
 }
 
-/// Feeds the encoding of these pieces, in their order, to what absorbs bytes, with no copy of the
-/// pieces. It fails where that fails, and then part of the encoding may have been taken in.
+/// Feeds the encoding of these pieces, in their order, to a sink, without copying the pieces. It fails if the sink
+/// fails, which may then have absorbed part of the encoding.
 ///
 /// Source: PASETO specification, "Authentication Padding".
 pub fn absorb_pieces<A: Absorb>(pieces: &[&[u8]], absorber: &mut A) -> Result<(), A::Error>

@@ -12,7 +12,7 @@ pub trait PurposeTrait: Display + Default + Drop {
     // The text of the purpose, as it stands in a token.
     ghost text: { List ℕ };
 
-    /// The purpose as it stands in a token, for example `local`.
+    /// The purpose as it is written in a token, for example `local`.
     fn as_str(&self) -> &str
         ensures { result.now ≡ text };
 }

@@ -22,10 +22,10 @@ const PIECE: usize = 48;
 
 const ENCODED_PIECE: usize = 64;
 
-/// The sections of a token, its parts between dots: version, purpose, payload and, where there is
-/// a fourth, the footer. `None` where the sections are not three or four.
+/// The sections of a token, its parts between dots: version, purpose, payload and, if there is a fourth, the footer.
+/// `None` unless there are three or four sections.
 ///
-/// Sections may be empty, and nothing else is asked of them. No memory is taken.
+/// Sections may be empty, and are not checked otherwise. Does not allocate.
 ///
 /// Source: PASETO specification, "PASETO Message Format".
 pub fn split_token(token: &str) -> Option<([&str; 3], Option<&str>)>
@@ -59,7 +59,7 @@ fn first_section(text: &str) -> (&str, Option<&str>)
     }
 }
 
-/// The base64url encoding of bytes without padding, as in a section. It fails only by `Memory`.
+/// The base64url encoding of bytes without padding, as in a section. It fails only with `Memory`.
 ///
 /// Source: RFC 4648, section 5.
 pub fn to_section(alloc: Global, bytes: &[u8]) -> Result<String, PasetoError>
@@ -69,8 +69,8 @@ pub fn to_section(alloc: Global, bytes: &[u8]) -> Result<String, PasetoError>
     Ok(URL_SAFE_NO_PAD.encode(alloc, bytes)?)
 }
 
-/// Appends the base64url encoding of bytes without padding to a text. It fails only by `Memory`, and
-/// then the text is as it was.
+/// Appends the base64url encoding of bytes without padding to a text. It fails only with `Memory`, and then the text is
+/// unchanged.
 ///
 /// Source: RFC 4648, section 5.
 pub fn push_section(bytes: &[u8], out: &mut String) -> Result<(), PasetoError>
@@ -82,7 +82,7 @@ pub fn push_section(bytes: &[u8], out: &mut String) -> Result<(), PasetoError>
     Ok(())
 }
 
-/// Whether a section's text is the base64url encoding of the bytes without padding. No memory is taken.
+/// Whether a section's text is the base64url encoding of the bytes without padding. Does not allocate.
 ///
 /// Source: RFC 4648, section 5.
 pub fn is_section_of(text: &str, bytes: &[u8]) -> bool
@@ -111,11 +111,11 @@ fn strip_base64url<'a>(text: &'a [u8], piece: &[u8]) -> Option<&'a [u8]>
     text.strip_prefix(&encoded[..len])
 }
 
-/// The bytes of which a section's text is the base64url encoding.
+/// The bytes that a section's text encodes in base64url.
 ///
-/// The reading is exact: padding, left-over bits other than zero and a length of 1 modulo 4 are
-/// refused. `PayloadBase64Decode` comes where the text is the encoding of no list of bytes, the
-/// empty one included, and `Memory` where memory is refused.
+/// Decoding is strict: padding, nonzero left-over bits and a length of 1 modulo 4 are refused. `PayloadBase64Decode` is
+/// returned if the text is not valid base64url, and `Memory` if an allocation fails. The empty text is valid, and
+/// encodes no bytes.
 ///
 /// Source: RFC 4648, section 5.
 pub fn from_section(alloc: Global, text: &str) -> Result<Vec<u8>, PasetoError>

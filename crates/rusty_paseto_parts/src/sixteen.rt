@@ -7,7 +7,7 @@ ghost use Rattle.rusty_paseto_parts.specs.Sixteen.{sixteen, value};
 
 use std::simd::u8x16;
 
-/// How many characters are read at once, and how many bytes they spell.
+/// How many characters are read at once, and how many bytes they encode.
 pub(crate) const CHARACTERS: usize = 16;
 
 pub(crate) const BYTES: usize = 12;
@@ -77,8 +77,8 @@ fn read_sixteen(text: &[u8], bytes: &mut [u8]) -> bool
     true
 }
 
-/// Decodes the front of a text in blocks of sixteen characters, twelve bytes each, and stops before the first block
-/// with a character that the alphabet has not. It answers how many blocks were decoded.
+/// Decodes the beginning of a text in blocks of sixteen characters, twelve bytes each, and stops before the first block
+/// with a character outside the alphabet. It returns how many blocks were decoded.
 pub(crate) fn read_sixteens(text: &[u8], bytes: &mut [u8]) -> usize
     requires room { 12 * (length text.now / 16) + 4 ≤ length bytes.old }
     ensures within { 16 * result ≤ length text.now }

@@ -1,4 +1,4 @@
-//! The texts that a token carries or is bound to.
+//! The texts of a token: payload, footer, implicit assertion and header.
 
 pub mod footer;
 pub mod header;

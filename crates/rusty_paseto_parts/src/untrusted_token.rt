@@ -1,4 +1,4 @@
-//! A token's sections, before the token is opened.
+//! A token's sections, before the token is verified.
 
 ghost use Rattle.std.specs.Prelude.{◌≡◌, ◌↔◌, ℕ, List, Option, Some, Err, length, true, false, option_map, IsOk, IfOk, IfErr, MatchResult};
 ghost use Rattle.std.specs.String.{string_bytes};
@@ -12,10 +12,9 @@ use crate::limit::is_longer;
 use crate::section::{from_section, split_token};
 use std::alloc::Global;
 
-/// What a token says of itself before it is opened, so that a service can choose a key for it.
+/// What a token says about itself before it is verified, so that a service can choose a key for it.
 ///
-/// Nothing of it is to be trusted: no key, tag or signature has been looked at, and anyone can
-/// write such a text.
+/// Do not trust any of it: no tag or signature has been checked, and anyone can write such a text.
 ///
 /// ```rust
 /// use rusty_paseto_parts::{PasetoError, UntrustedToken};
@@ -34,10 +33,10 @@ pub struct UntrustedToken<'a> {
 }
 
 impl<'a> UntrustedToken<'a> {
-    /// Keeps the sections of a token, which are lent and not copied: no memory is taken.
+    /// Keeps the sections of a token, which it borrows. Does not allocate.
     ///
-    /// `IncorrectSize` comes exactly where the sections are not three or four. They may be empty,
-    /// and nothing else is asked of them.
+    /// `IncorrectSize` is returned if and only if there are not three or four sections. They may be empty, and are not
+    /// checked otherwise.
     pub fn try_parse(token: &'a str) -> Result<UntrustedToken<'a>, PasetoError>
         ensures kept { IfOk result (AreKept (sections token.now)) }
         ensures count { IsOk result ↔ HasCount (sections token.now) }
@@ -54,10 +53,11 @@ impl<'a> UntrustedToken<'a> {
         })
     }
 
-    /// The same for a token of at most so many bytes, as a service on the open net asks it: `footer_decoded` and
-    /// `footer_str` take memory for the footer, and anybody may have written it. No memory is taken here.
+    /// The same for a token of at most this many bytes, for services on the internet: `footer_decoded` and `footer_str`
+    /// allocate memory for the footer, which anybody may have written. Does not allocate.
     ///
-    /// `TooLong` comes exactly where the token has more bytes, whatever it is, and else the answer of `try_parse`.
+    /// `TooLong` is returned if and only if the token has more bytes, whatever it is, and otherwise the result of
+    /// `try_parse`.
     ///
     /// ```rust
     /// use rusty_paseto_parts::{PasetoError, UntrustedToken};
@@ -86,31 +86,31 @@ impl<'a> UntrustedToken<'a> {
         UntrustedToken::try_parse(token)
     }
 
-    /// The first section, whatever it is. In a token it is the version's text, as `v4`.
+    /// The first section, whatever it is. In a valid token it is the version, for example `v4`.
     pub fn version(&self) -> &'a str
         ensures { result.now ≡ version_section self.now }
     {
         self.version
     }
 
-    /// The second section, whatever it is. In a token it is the purpose's text, as `local`.
+    /// The second section, whatever it is. In a valid token it is the purpose, for example `local`.
     pub fn purpose(&self) -> &'a str
         ensures { result.now ≡ purpose_section self.now }
     {
         self.purpose
     }
 
-    /// The fourth section as it stands in the token, or `None` where there are three.
+    /// The fourth section, still encoded, or `None` if there are only three.
     pub fn footer_base64(&self) -> Option<&'a str>
         ensures { option_map (λ section. section.now) result ≡ footer_section self.now }
     {
         self.footer
     }
 
-    /// The bytes of the footer, or `None` where there is no fourth section.
+    /// The bytes of the footer, or `None` if there is no fourth section.
     ///
-    /// `PayloadBase64Decode` comes exactly where the fourth section is the base64url encoding of no list
-    /// of bytes, the empty one included.
+    /// `PayloadBase64Decode` is returned if and only if the fourth section is not valid base64url. The empty section
+    /// encodes no bytes.
     pub fn footer_decoded(&self, alloc: Global) -> Result<Option<Vec<u8>>, PasetoError>
         ensures ok { IfOk result (λ found. HasFooterBytes (footer_section self.now)
             (option_map (λ bytes. bytes.items) found)) }
@@ -125,10 +125,10 @@ impl<'a> UntrustedToken<'a> {
         }
     }
 
-    /// The text of the footer, or `None` where there is no fourth section.
+    /// The text of the footer, or `None` if there is no fourth section.
     ///
-    /// `PayloadBase64Decode` comes exactly where the fourth section is the base64url encoding of no list
-    /// of bytes, and `Utf8Error` exactly where it is the encoding of bytes that are not UTF-8.
+    /// `PayloadBase64Decode` is returned if and only if the fourth section is not valid base64url, and `Utf8Error` if
+    /// and only if it encodes bytes that are not UTF-8.
     pub fn footer_str(&self, alloc: Global) -> Result<Option<String>, PasetoError>
         ensures ok { IfOk result (λ found. HasFooterText (footer_section self.now)
             (option_map string_bytes found)) }

@@ -23,17 +23,17 @@ pub trait VersionTrait: Display + Default + Drop {
     // Whether a public key of the version may have these bytes.
     ghost is_public_key: { List ℕ → Bool };
 
-    /// The version as a token begins with it, for example `v4`.
+    /// The version as it is written in a token, for example `v4`.
     fn as_str(&self) -> &str
         ensures { result.now ≡ text };
 
-    /// Whether a private key of the version may have these bytes: in version 3 where they are 48, and any bytes in the
-    /// other versions. No memory is taken.
+    /// Whether these bytes may be a private key of the version: 48 bytes in version 3, and any bytes in the other
+    /// versions. Does not allocate.
     fn is_private_key(bytes: &[u8]) -> bool
         ensures { result ≡ Self.is_private_key bytes.now };
 
-    /// Whether a public key of the version may have these bytes: 32 in versions 2 and 4, and in version 3 49, the first
-    /// of which is 2 or 3; any bytes in version 1. No memory is taken.
+    /// Whether these bytes may be a public key of the version: 32 bytes in versions 2 and 4, 49 in version 3, the first
+    /// of which is 2 or 3, and any bytes in version 1. Does not allocate.
     fn is_public_key(bytes: &[u8]) -> bool
         ensures { result ≡ Self.is_public_key bytes.now };
 
@@ -41,7 +41,7 @@ pub trait VersionTrait: Display + Default + Drop {
     ghost has_nonce_of_32: { IsTrue (nonce_length 32) };
 }
 
-/// A version whose tokens are bound to an implicit assertion: 3 and 4.
+/// A version with implicit assertions: 3 and 4.
 pub trait ImplicitAssertionCapable: VersionTrait {}
 
 /// A version of the NIST family: 1 and 3.

@@ -1,4 +1,4 @@
-//! Why a key's text was refused.
+//! Why the text of a key was refused.
 
 ghost use Rattle.std.specs.Prelude.{◌≡◌, Some};
 ghost use Rattle.rusty_paseto_paserk.specs.Error.{error_text};
@@ -9,25 +9,25 @@ use std::alloc::AllocError;
 use std::fmt;
 use thiserror::Error;
 
-/// Why a text was not read as a key, or a key not written.
+/// Why a text could not be read as a key, or a key could not be written.
 #[derive(Debug, Drop, Error)]
 pub enum PaserkError {
-    /// The text begins as no key does: with none of `k1.` to `k4.`, or then with none of `local.`, `secret.` and
+    /// The text does not begin like a key: not with one of `k1.` to `k4.`, followed by one of `local.`, `secret.` and
     /// `public.`.
     NoKey,
-    /// The text begins as a key of another version, which is this one.
+    /// The text begins like a key of another version, which is this one.
     OtherVersion(PaserkVersion),
-    /// The text begins as a key of the version, but of another type, which is this one.
+    /// The text begins like a key of the version, but of another type, which is this one.
     OtherType(PaserkType),
-    /// What stands behind the header is no key of the version and the type: its length, its characters or its first
-    /// byte are other ones. From writing, where a private key has another length than the version's keys.
+    /// What follows the header is not a key of the version and the type: its length, its characters or its first byte
+    /// are wrong. When writing: a private key does not have the length of the version's keys.
     InvalidKey,
-    /// Memory was refused.
+    /// An allocation failed.
     Memory(AllocError),
 }
 
 impl PaserkError {
-    /// What `Display` shows: one line, without its end. No memory is taken.
+    /// What `Display` shows: one line, without a line end. Does not allocate.
     pub fn text(&self) -> &'static str
         ensures { result.now ≡ error_text self.now }
     {

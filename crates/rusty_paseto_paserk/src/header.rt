@@ -1,9 +1,9 @@
-//! What a key's text begins with: its version and its type.
+//! The header of a key's text: its version and its type.
 
 ghost use Rattle.std.specs.Prelude.{◌≡◌, ◌≢◌, ◌++◌, ℕ, List, IfSome, IsNone, MatchOption};
 ghost use Rattle.rusty_paseto_paserk.specs.Header.{HasNoHeader, header, mark, word, id_word};
 
-/// A version of PASERK, whose keys are for the version of PASETO of the same number.
+/// A version of PASERK. Its keys are for the version of PASETO with the same number.
 #[derive(Clone, Copy, Debug, PartialEq, Eq)]
 pub enum PaserkVersion {
     V1,
@@ -13,7 +13,7 @@ pub enum PaserkVersion {
 }
 
 impl PaserkVersion {
-    /// What begins the texts of the version's keys, for example `k4.`.
+    /// The beginning of the texts of the version's keys, for example `k4.`.
     pub fn mark(self) -> &'static str
         ensures { result.now ≡ mark self }
     {
@@ -48,16 +48,16 @@ impl PaserkVersion {
 /// The type of a key.
 #[derive(Clone, Copy, Debug, PartialEq, Eq)]
 pub enum PaserkType {
-    /// The key of local tokens.
+    /// The key for local tokens.
     Local,
-    /// The private half of a key pair, which signs.
+    /// The private key of a key pair, which signs.
     Secret,
-    /// The public half of a key pair, which verifies.
+    /// The public key of a key pair, which verifies.
     Public,
 }
 
 impl PaserkType {
-    /// What stands behind the version's mark in the text of a key, for example `local.`.
+    /// What follows the version in the text of a key, for example `local.`.
     pub fn word(self) -> &'static str
         ensures { result.now ≡ word self }
     {
@@ -68,7 +68,7 @@ impl PaserkType {
         }
     }
 
-    /// What stands behind the version's mark in the id of a key, for example `lid.`.
+    /// What follows the version in the id of a key, for example `lid.`.
     pub fn id_word(self) -> &'static str
         ensures { result.now ≡ id_word self }
     {
@@ -97,8 +97,8 @@ impl PaserkType {
     }
 }
 
-/// The version and the type of the key that a text begins as, and what stands behind them, which may be no key. `None`
-/// where it begins as no key does. No memory is taken.
+/// The version and the type in the header of a text, and the rest of the text, which is not checked. `None` if the text
+/// does not begin like a key. Does not allocate.
 ///
 /// Source: PASERK specification, "PASERK Message Format".
 pub fn header_of(text: &str) -> Option<(PaserkVersion, PaserkType, &str)>

@@ -21,7 +21,7 @@ use std::alloc::Global;
 /// How many bytes of a hash an id has.
 const HASH_LEN: usize = 33;
 
-/// The id of a key of local tokens, for example `k4.lid.` and 44 characters. It fails only by `Memory`.
+/// The id of a key for local tokens, for example `k4.lid.` and 44 characters. It fails only with `Memory`.
 ///
 /// Source: PASERK specification, type `lid`.
 pub fn local_id<V: KeyVersion>(
@@ -35,9 +35,9 @@ pub fn local_id<V: KeyVersion>(
     id_of(alloc, V::paserk_version(), PaserkType::Local, text.as_str())
 }
 
-/// The id of the private half of a key pair, for example `k4.sid.` and 44 characters.
+/// The id of the private key of a key pair, for example `k4.sid.` and 44 characters.
 ///
-/// `InvalidKey` comes as from `secret_to_paserk`.
+/// `InvalidKey` is returned as from `secret_to_paserk`.
 ///
 /// Source: PASERK specification, type `sid`.
 pub fn secret_id<V: KeyPairVersion>(
@@ -55,7 +55,7 @@ pub fn secret_id<V: KeyPairVersion>(
     )
 }
 
-/// The id of the public half of a key pair, for example `k4.pid.` and 44 characters. It fails only by `Memory`.
+/// The id of the public key of a key pair, for example `k4.pid.` and 44 characters. It fails only with `Memory`.
 ///
 /// Source: PASERK specification, type `pid`.
 pub fn public_id<V: KeyPairVersion>(

@@ -1,4 +1,4 @@
-//! The keys of tokens as text, and back.
+//! Writing the keys of tokens as text, and reading them.
 
 ghost use Rattle.std.specs.Prelude.{◌≡◌, length, IsTrue, IfOk, IfErr, MatchResult, string_bytes};
 ghost use Rattle.rusty_paseto_paserk.specs.declared.header.PaserkType.TheVariants.{Local as LocalKey, Secret, Public as PublicKeys};
@@ -15,7 +15,7 @@ use rusty_paseto_parts::{
 };
 use std::alloc::Global;
 
-/// The text of a key of local tokens, for example `k4.local.` and 43 characters. It fails only by `Memory`.
+/// The text of a key for local tokens, for example `k4.local.` and 43 characters. It fails only with `Memory`.
 ///
 /// Source: PASERK specification, type `local`.
 pub fn local_to_paserk<V: KeyVersion>(
@@ -33,11 +33,11 @@ pub fn local_to_paserk<V: KeyVersion>(
     )
 }
 
-/// The key of local tokens whose text this is.
+/// The key for local tokens with this text.
 ///
-/// The reading is exact: a text that is the writing of no key of version `V` is refused. `NoKey` comes where it begins
-/// as no key does, `OtherVersion` and `OtherType` where it begins as a key of another version or type, and `InvalidKey`
-/// where what follows is not the base64url encoding of 32 bytes.
+/// Reading is strict: any text that is not the text of a key of version `V` is refused. `NoKey` is returned if it does
+/// not begin like a key, `OtherVersion` and `OtherType` if it begins like a key of another version or type, and
+/// `InvalidKey` if what follows is not the base64url encoding of 32 bytes.
 ///
 /// Source: PASERK specification, type `local`.
 pub fn local_from_paserk<V: KeyVersion>(
@@ -53,10 +53,10 @@ pub fn local_from_paserk<V: KeyVersion>(
     Ok(PasetoSymmetricKey::from(Key::from_slice(&bytes)))
 }
 
-/// The text of the private half of a key pair, for example `k4.secret.` and 86 characters.
+/// The text of the private key of a key pair, for example `k4.secret.` and 86 characters.
 ///
-/// `InvalidKey` comes exactly where the key has not the length of the version's private keys: 64 bytes in versions 2
-/// and 4, 48 in version 3.
+/// `InvalidKey` is returned if and only if the key does not have the length of the version's private keys: 64 bytes in
+/// versions 2 and 4, 48 in version 3.
 ///
 /// Source: PASERK specification, type `secret`.
 pub fn secret_to_paserk<V: KeyPairVersion>(
@@ -72,10 +72,10 @@ pub fn secret_to_paserk<V: KeyPairVersion>(
     write_key(alloc, V::paserk_version(), PaserkType::Secret, bytes)
 }
 
-/// The bytes of the private key whose text this is: `N` is 64 in versions 2 and 4, and 48 in version 3.
+/// The bytes of the private key with this text: `N` is 64 in versions 2 and 4, and 48 in version 3.
 ///
-/// The errors are those of `local_from_paserk`. In versions 2 and 4 the last 32 bytes are the public key, and it is not
-/// asked here whether they belong to the others.
+/// The errors are those of `local_from_paserk`. In versions 2 and 4 the last 32 bytes are the public key; this does not
+/// check that they belong to the others.
 ///
 /// Source: PASERK specification, type `secret`.
 pub fn secret_from_paserk<V: KeyPairVersion, const N: usize>(
@@ -92,7 +92,7 @@ pub fn secret_from_paserk<V: KeyPairVersion, const N: usize>(
     Ok(Key::from_slice(&bytes))
 }
 
-/// The private key whose text this is, which owns its bytes. The errors are those of `secret_from_paserk`.
+/// The private key with this text, which owns its bytes. The errors are those of `secret_from_paserk`.
 ///
 /// Source: PASERK specification, type `secret`.
 pub fn private_key_from_paserk<V: KeyPairVersion>(
@@ -111,7 +111,7 @@ pub fn private_key_from_paserk<V: KeyPairVersion>(
     }
 }
 
-/// The text of the public half of a key pair, for example `k4.public.` and 43 characters. It fails only by `Memory`.
+/// The text of the public key of a key pair, for example `k4.public.` and 43 characters. It fails only with `Memory`.
 ///
 /// Source: PASERK specification, type `public`.
 pub fn public_to_paserk<V: KeyPairVersion>(
@@ -129,10 +129,10 @@ pub fn public_to_paserk<V: KeyPairVersion>(
     )
 }
 
-/// The bytes of the public key whose text this is: `N` is 32 in versions 2 and 4, and 49 in version 3.
+/// The bytes of the public key with this text: `N` is 32 in versions 2 and 4, and 49 in version 3.
 ///
-/// The errors are those of `local_from_paserk`, and `InvalidKey` comes also where the first byte of a key of version 3
-/// is neither 2 nor 3.
+/// The errors are those of `local_from_paserk`, and `InvalidKey` is also returned if the first byte of a key of version
+/// 3 is neither 2 nor 3.
 ///
 /// Source: PASERK specification, type `public`.
 pub fn public_from_paserk<V: KeyPairVersion, const N: usize>(
@@ -150,7 +150,7 @@ pub fn public_from_paserk<V: KeyPairVersion, const N: usize>(
     Ok(Key::from_slice(&bytes))
 }
 
-/// The public key whose text this is, which owns its bytes. The errors are those of `public_from_paserk`.
+/// The public key with this text, which owns its bytes. The errors are those of `public_from_paserk`.
 ///
 /// Source: PASERK specification, type `public`.
 pub fn public_key_from_paserk<V: KeyPairVersion>(

@@ -1,5 +1,5 @@
-//! Keys as text, in PASERK, by which other programs read them: one line for each key, which names its version and its
-//! type, and a short id that identifies the key without revealing it.
+//! Keys as PASERK text, which other programs can read: one line for each key, which names its version and its type, and
+//! a short id that identifies the key without revealing it.
 //!
 //! ```rust
 //! use rusty_paseto_parts::{Local, PasetoSymmetricKey, V4};
@@ -17,7 +17,7 @@
 //! }
 //! ```
 //!
-//! A key of another version or type is refused by its own name.
+//! A key of another version or type is refused with an error that names it.
 #![tactic(auto)]
 
 mod error;

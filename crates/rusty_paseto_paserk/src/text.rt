@@ -12,7 +12,7 @@ use base64::engine::general_purpose::URL_SAFE_NO_PAD;
 use rusty_paseto_parts::{PasetoError, from_section};
 use std::alloc::Global;
 
-/// The text of a key of these bytes. It fails only by `Memory`.
+/// The text of a key of these bytes. It fails only with `Memory`.
 pub(crate) fn write_key(
     alloc: Global,
     version: PaserkVersion,
@@ -28,7 +28,7 @@ pub(crate) fn write_key(
     Ok(text)
 }
 
-/// The bytes that stand behind the header of a key of this version and type.
+/// The bytes after the header of a key of this version and type.
 pub(crate) fn read_bytes(
     alloc: Global,
     version: PaserkVersion,
@@ -45,7 +45,7 @@ pub(crate) fn read_bytes(
     }
 }
 
-/// What stands behind the header of a key of this version and type.
+/// What follows the header of a key of this version and type.
 fn payload_of(version: PaserkVersion, kind: PaserkType, text: &str) -> Result<&str, PaserkError>
     ensures found { IfOk result (λ payload. text.now ≡ header version kind ++ payload.now) }
     ensures none { IsErr result → ¬ HasHeader version kind text.now }
@@ -63,7 +63,7 @@ fn payload_of(version: PaserkVersion, kind: PaserkType, text: &str) -> Result<&s
     Ok(payload)
 }
 
-/// Appends the base64url encoding of bytes to a text. It fails only by `Memory`.
+/// Appends the base64url encoding of bytes to a text. It fails only with `Memory`.
 pub(crate) fn push_encoded(bytes: &[u8], text: &mut String) -> Result<(), PaserkError>
     ensures ok { OnOk result (string_bytes text.new ≡ string_bytes text.old
         ++ base64url bytes.now) }

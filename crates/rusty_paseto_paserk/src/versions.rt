@@ -1,4 +1,4 @@
-//! The versions of PASETO whose keys have texts in PASERK.
+//! The versions of PASETO whose keys have PASERK texts.
 
 ghost use Rattle.std.specs.Prelude.{◌≡◌, ℕ, List, IsTrue, length};
 ghost use Rattle.std.proofs.Common.{rules};
@@ -20,7 +20,7 @@ pub trait KeyVersion: VersionTrait {
 
 /// A version whose key pairs have texts: 2, 3 and 4, whose keys have a fixed number of bytes.
 ///
-/// Version 1 is left out: its key pairs are for RSA, and have encodings of any length.
+/// Version 1 is not supported: its key pairs are RSA keys, whose encodings have any length.
 pub trait KeyPairVersion: KeyVersion {
     // How many bytes a private key has in its text.
     ghost secret_length: { ℕ };

@@ -1,9 +1,8 @@
-//! The comparison of tags: where they differ shows in no branch.
+//! The comparison of tags: no branch depends on where they differ.
 
 ghost use Rattle.std.specs.Prelude.{◌≡◌, ◌↔◌, IsTrue};
 
-/// Whether two lists of bytes are the same. The differences of all bytes are joined, and one
-/// comparison with zero ends it.
+/// Whether two lists of bytes are the same. The differences of all bytes are combined, and compared with zero once.
 pub fn same_bytes(a: &[u8], b: &[u8]) -> bool
     ensures { IsTrue result ↔ (a.now ≡ b.now) }
 {

@@ -10,7 +10,7 @@ use crate::hmac::{HmacSha384, hmac_sha384};
 const BLOCK_LEN: usize = 48;
 
 /// The pseudorandom key of a salt and the input keying material, both of any length (RFC 5869 section
-/// 2.2). The empty salt stands for 48 zeros.
+/// 2.2). An empty salt means 48 zeros.
 pub fn hkdf_sha384_extract(salt: &[u8], material: &[u8]) -> [u8; 48]
     ensures { result ≡ hkdf_extract salt.now material.now }
 {

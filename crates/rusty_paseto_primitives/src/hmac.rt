@@ -17,7 +17,7 @@ const INNER_PAD: u8 = 0x36;
 // The byte that opad repeats.
 const OUTER_PAD: u8 = 0x5c;
 
-/// An HMAC-SHA384 hasher (RFC 2104) that takes the message piece by piece. No call takes memory.
+/// An HMAC-SHA384 hasher (RFC 2104) that takes the message piece by piece. No call allocates.
 #[derive(Drop)]
 pub struct HmacSha384 {
     // Has taken in the inner key, and the message so far.

@@ -7,7 +7,7 @@ use std::simd::u8x16;
 
 const VECTOR_LEN: usize = 16;
 
-/// Masks `data` by the front of `keystream`.
+/// Masks `data` with the beginning of `keystream`.
 #[inline(always)]
 pub(crate) fn apply_keystream(data: &mut [u8], keystream: &[u8])
     requires { length «data».old ≤ length keystream.now }

@@ -1,4 +1,4 @@
-//! The primitives that PASETO tokens are made with. No call takes memory.
+//! The cryptographic primitives of PASETO tokens. No call allocates.
 //!
 //! ```rust
 //! use rusty_paseto_primitives::{blake2b_keyed, hmac_sha384};
@@ -9,7 +9,7 @@
 //! }
 //! ```
 //!
-//! They are for those who build a protocol: a cipher alone authenticates nothing.
+//! They are for building protocols: a cipher alone does not authenticate.
 #![tactic(auto)]
 
 mod aes;

@@ -1,4 +1,4 @@
-"""PASETO tokens, versions 1 to 4, by the library for C that is proved.
+"""PASETO tokens, versions 1 to 4, on top of the proved C library.
 
     >>> import paseto
     >>> key = paseto.LocalKey.generate()
@@ -6,12 +6,12 @@
     >>> paseto.admit(token, key, aud="customers")["sub"]
     'ada'
 
-A token under a ``LocalKey`` is encrypted. One that a ``PrivateKey`` issues is signed, everybody can read it, and its
-``PublicKey`` admits it. Each fault of the library is an exception of its own: ``Refused`` is what they are that come of the
-token, so that a service answers 401 for ``Refused`` and looks at its own code for the others. All calls may be made from
-several threads at once.
+A token that a ``LocalKey`` issues is encrypted. One that a ``PrivateKey`` issues is signed: everybody can read it, and the
+``PublicKey`` verifies it. Each error is an exception class of its own. Exceptions that the token caused are subclasses of
+``Refused``: a service answers them with 401, while the others point to its own code. All calls may be made from several
+threads at once.
 
-The library is the ``libpaseto.so`` of the package, or what the environment's ``PASETO_LIBRARY`` names.
+The library is the ``libpaseto.so`` of the package, or the one that the environment variable ``PASETO_LIBRARY`` names.
 """
 
 from ._errors import (

@@ -1,4 +1,4 @@
-"""What is handed to the calls of the library, and what they answer."""
+"""Arguments and results of the library's calls."""
 
 from __future__ import annotations
 
@@ -16,24 +16,24 @@ Slice = tuple[bytes, int]
 
 
 def lent(value: bytes) -> Slice:
-    """A slice as C takes it."""
+    """Bytes as a pointer and a length, as C takes them."""
     return value, len(value)
 
 
 def bytes_of(text: str) -> bytes:
-    """The text's bytes; what is no text the library refuses."""
+    """The text's bytes. A lone surrogate is passed on, and the library refuses it."""
     return text.encode("utf-8", "surrogatepass")
 
 
 def json_of(claims: Mapping[str, Any]) -> bytes:
-    """The text of a JSON object. Moments are written as RFC 3339 has them; what else JSON cannot say is refused."""
+    """The text of a JSON object. A datetime is written as RFC 3339; other values that JSON does not have are refused."""
     if not all(isinstance(key, str) for key in claims):
         raise TypeError("a claim's key is a str")
     return bytes_of(json.dumps(claims, ensure_ascii=False, allow_nan=False, separators=(",", ":"), default=_said))
 
 
 def _said(value: object) -> str:
-    """A claim that is a moment, which has to name its zone."""
+    """The text of a claim that is a datetime, which must have a time zone."""
     if isinstance(value, datetime):
         if value.tzinfo is None:
             raise TypeError("a datetime among the claims names its time zone")
@@ -42,7 +42,7 @@ def _said(value: object) -> str:
 
 
 def moment_of(now: int | datetime | None) -> int:
-    """The moment in seconds after 1970, or the clock's."""
+    """The given time, or the current time, in seconds after 1970."""
     if isinstance(now, datetime):
         if now.tzinfo is None:
             raise TypeError("a datetime names its time zone")
@@ -54,7 +54,7 @@ def moment_of(now: int | datetime | None) -> int:
 
 
 def date_of(moment: int, later: int | timedelta) -> str:
-    """The text of RFC 3339 of a moment so much later."""
+    """The RFC 3339 text of a time so much later."""
     try:
         gap = later if isinstance(later, timedelta) else timedelta(seconds=later)
         return (datetime(1970, 1, 1, tzinfo=timezone.utc) + timedelta(seconds=moment) + gap).isoformat()
@@ -63,7 +63,7 @@ def date_of(moment: int, later: int | timedelta) -> str:
 
 
 def ask(call: str, words: tuple[Any, ...], length: int) -> bytes:
-    """The answer of a call, in a room of this length or of the one that is needed."""
+    """The result of a call, first with a buffer of this length, then with one of the length that is needed."""
     while True:
         room, written = ctypes.create_string_buffer(max(length, 1)), ctypes.c_size_t()
         status = CALLS[call](*words, room, length, ctypes.byref(written))
@@ -74,7 +74,7 @@ def ask(call: str, words: tuple[Any, ...], length: int) -> bytes:
 
 
 def ask_with_reason(call: str, words: tuple[Any, ...], length: int) -> bytes:
-    """The same of a call that says why it refuses, in a line, which becomes the text of the exception."""
+    """The same for a call that writes an error message, which becomes the text of the exception."""
     line_length = 200
     while True:
         room, line = ctypes.create_string_buffer(max(length, 1)), ctypes.create_string_buffer(line_length)

@@ -1,4 +1,4 @@
-"""The faults of the library, an exception each."""
+"""The errors of the library, an exception class each."""
 
 from __future__ import annotations
 
@@ -6,7 +6,7 @@ from ._library import OK, status_text
 
 
 class PasetoError(Exception):
-    """A fault of the library, whose text it says: that of its status, or a line that tells more."""
+    """An error of the library. Its text is that of its status, or a message with more detail."""
 
     status: int
 
@@ -15,32 +15,32 @@ class PasetoError(Exception):
 
 
 class Refused(PasetoError):
-    """The token is not admitted: a fault of the token, and not of the program that asks."""
+    """The token is rejected: the fault lies in the token, and not in the calling program."""
 
 
 # ---- the statuses, from c/statuses.txt
 
 
 class NoMemory(PasetoError, MemoryError):
-    """Memory was refused."""
+    """Out of memory."""
 
     status = 2
 
 
 class InvalidKey(PasetoError):
-    """A key has not the length of its kind."""
+    """A key has the wrong length or form."""
 
     status = 3
 
 
 class InvalidNonce(PasetoError):
-    """A nonce or a seed has not its length."""
+    """A nonce, a seed or a salt has the wrong length."""
 
     status = 4
 
 
 class NotUtf8(Refused):
-    """A token, claims, a footer or an implicit assertion are not text, as a lone surrogate is none."""
+    """A token, claims, a footer or an implicit assertion is not UTF-8 text, for example because of a lone surrogate."""
 
     status = 5
 
@@ -52,25 +52,25 @@ class NotObject(Refused):
 
 
 class InvalidMoment(PasetoError):
-    """The moment, or the one at which the token would expire, is out of range."""
+    """The current time, or the time at which the token would expire, is out of range."""
 
     status = 7
 
 
 class IncorrectSize(Refused):
-    """The token has not three or four sections, or too short a payload."""
+    """The token does not have three or four sections, or its payload is too short."""
 
     status = 8
 
 
 class FooterInvalid(Refused):
-    """The token has another footer."""
+    """The token has a different footer."""
 
     status = 9
 
 
 class WrongHeader(Refused):
-    """The token is of another version or purpose."""
+    """The token has a different version or purpose."""
 
     status = 10
 
@@ -82,7 +82,7 @@ class PayloadBase64Decode(Refused):
 
 
 class Cryption(Refused):
-    """The token is under another key or another implicit assertion, or it was changed."""
+    """The token was made with a different key or implicit assertion, or was modified."""
 
     status = 12
 
@@ -100,31 +100,31 @@ class InvalidSignature(Refused):
 
 
 class Utf8Error(Refused):
-    """What was decrypted, or the token's footer, is not text."""
+    """The decrypted text, or the token's footer, is not UTF-8."""
 
     status = 15
 
 
 class FromUtf8Error(Refused):
-    """What was signed is not text."""
+    """The signed text is not UTF-8."""
 
     status = 16
 
 
 class KeyRejected(PasetoError):
-    """These bytes are no private key."""
+    """These bytes are not a private key."""
 
     status = 17
 
 
 class Signature(PasetoError):
-    """The halves of the private key are of two keys."""
+    """The two halves of the private key do not belong together."""
 
     status = 18
 
 
 class PayloadJsonError(Refused):
-    """What the token holds is not JSON."""
+    """The payload of the token is not JSON."""
 
     status = 19
 
@@ -142,7 +142,7 @@ class UseBeforeAvailable(Refused):
 
 
 class Rfc3339Date(Refused):
-    """``exp`` or ``nbf`` is no date and time of RFC 3339."""
+    """``exp`` or ``nbf`` is not an RFC 3339 date and time."""
 
     status = 22
 
@@ -154,13 +154,13 @@ class Missing(Refused):
 
 
 class Unexpected(Refused):
-    """A claim is of another kind, or holds a number that is not a whole one of 64 bits."""
+    """A claim has another type, or contains a number that is not a 64-bit integer."""
 
     status = 24
 
 
 class Invalid(Refused):
-    """An expected claim is another text."""
+    """An expected claim has another text."""
 
     status = 25
 
@@ -172,49 +172,49 @@ class DuplicateTopLevelPayloadClaim(PasetoError):
 
 
 class Other(PasetoError):
-    """A fault that no call gives."""
+    """No call raises it."""
 
     status = 27
 
 
 class RsaCipher(PasetoError):
-    """The numbers of a private key of version 1 are not of one key."""
+    """The numbers of a version 1 private key are inconsistent."""
 
     status = 28
 
 
 class TooLong(Refused):
-    """The token has more bytes than it may have."""
+    """The token is longer than ``longest``."""
 
     status = 29
 
 
 class NotNames(PasetoError):
-    """The names of claims are no list of texts."""
+    """The required names are not a list of strings."""
 
     status = 30
 
 
 class NoPaserk(InvalidKey):
-    """The text begins as no key of PASERK does."""
+    """The text does not begin as a PASERK key."""
 
     status = 31
 
 
 class OtherVersion(InvalidKey):
-    """The text is a key of another version."""
+    """The key is of another version."""
 
     status = 32
 
 
 class OtherType(InvalidKey):
-    """The text is a key of another type: for local tokens, private or public."""
+    """The key has another type (local, private or public)."""
 
     status = 33
 
 
 class NotPem(InvalidKey):
-    """The text is no PEM of a key in the strict form of RFC 7468."""
+    """The text is not a key in PEM, in the strict form of RFC 7468."""
 
     status = 34
 
@@ -226,25 +226,25 @@ class EncryptedKey(InvalidKey):
 
 
 class OtherLabel(InvalidKey):
-    """The text in PEM is another thing than such a key, as its first line tells."""
+    """The PEM text has another label, for example that of a public key in place of a private one."""
 
     status = 36
 
 
 class OtherAlgorithm(InvalidKey):
-    """The key in PEM is one of another algorithm."""
+    """The key in PEM is of another algorithm."""
 
     status = 37
 
 
 class OtherCurve(InvalidKey):
-    """The key in PEM is one of another curve."""
+    """The key in PEM is of another curve."""
 
     status = 38
 
 
 class OtherSize(InvalidKey):
-    """The key in PEM is one of RSA of another size than 2048 bits."""
+    """The key in PEM is an RSA key of another size than 2048 bits."""
 
     status = 39
 
@@ -253,11 +253,11 @@ class OtherSize(InvalidKey):
 
 
 class UnknownKey(Refused):
-    """The footer of the token names no key, or none of the ring."""
+    """The footer of the token names no key, or a key that is not in the ring."""
 
 
 def _faults(of: type[PasetoError]) -> dict[int, type[PasetoError]]:
-    """The exceptions by their statuses."""
+    """The exceptions by status."""
     found: dict[int, type[PasetoError]] = {}
     for fault in of.__subclasses__():
         found.update(_faults(fault))
@@ -270,6 +270,6 @@ FAULTS = _faults(PasetoError)
 
 
 def raise_for(status: int) -> None:
-    """Raises the exception of a status that is a fault."""
+    """Raises the exception of a status, unless it is OK."""
     if status != OK:
         raise FAULTS[status]

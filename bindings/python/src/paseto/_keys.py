@@ -1,4 +1,4 @@
-"""Keys of every version, by their bytes, and as PASERK and PEM text."""
+"""Keys of every version, as bytes, PASERK and PEM."""
 
 from __future__ import annotations
 
@@ -12,7 +12,7 @@ from ._library import CALLS
 
 
 class Key:
-    """A key of a version, which neither shows itself nor lets itself be pickled."""
+    """A key of a version. Its ``repr`` does not show it, and it cannot be pickled."""
 
     __slots__ = ("_bytes", "_version")
     # How many bytes a key of each version has; one of RSA is DER of any length.
@@ -36,7 +36,7 @@ class Key:
 
     @property
     def version(self) -> int:
-        """The version of the tokens that the key is for."""
+        """The version of tokens that the key is for."""
         return self._version
 
     def to_bytes(self) -> bytes:
@@ -44,15 +44,15 @@ class Key:
         return self._bytes
 
     def to_text(self) -> str:
-        """The key as PASERK text, ``k4.local..``, as the program ``paseto`` writes it into key files.
+        """The key as PASERK text, ``k4.local..``, as in the key files of the program ``paseto``.
 
-        A key pair of version 1 has no such text here.
+        Not available for key pairs of version 1.
         """
         return self._told("to_paserk")
 
     def to_pem(self) -> str:
-        """A private key or a public one as PEM text, byte for byte as ``openssl pkey`` writes it. A key for local tokens has no
-        such text.
+        """A private or a public key in PEM, byte for byte as ``openssl pkey`` writes it. A key for local tokens has no PEM
+        text.
 
         >>> PrivateKey.generate().public.to_pem().splitlines()[0]
         '-----BEGIN PUBLIC KEY-----'
@@ -67,18 +67,17 @@ class Key:
         return self._told("id")
 
     def _told(self, call: str) -> str:
-        """What a call of the library makes of the key."""
+        """The text that a call of the library makes from the key."""
         if self._version == 1 and not isinstance(self, LocalKey):
             raise InvalidKey("a key pair of version 1 has no PASERK text here")
         return ask(f"paseto_v{self._version}_{self._type}_key_{call}", lent(self._bytes), 128).decode()
 
     @staticmethod
     def from_text(text: str) -> LocalKey | PrivateKey | PublicKey:
-        """The key of a text: of PASERK, a line of a key file, with a line feed behind it or none; or of PEM, as ``openssl``
-        writes it, for public tokens.
+        """Reads a key from PASERK text, which may end in one newline, or a key pair's key from PEM, as ``openssl`` writes it.
 
-        A key of Ed25519 in PEM counts as one of version 4, one of P-384 as one of version 3, and one of RSA as one of version
-        1. For version 2 it is taken by its bytes: ``PrivateKey(key.to_bytes(), 2)``.
+        In PEM, an Ed25519 key is read as version 4, a P-384 key as version 3, and an RSA key as version 1. For version 2, make
+        the key from its bytes: ``PrivateKey(key.to_bytes(), 2)``.
 
         >>> key = LocalKey.generate()
         >>> Key.from_text(key.to_text()).id == key.id
@@ -93,7 +92,7 @@ class Key:
 
 
 class LocalKey(Key):
-    """A key of 32 bytes, under which tokens are encrypted and decrypted."""
+    """A key of 32 bytes, which encrypts and decrypts tokens."""
 
     __slots__ = ()
     _lengths = {1: 32, 2: 32, 3: 32, 4: 32}
@@ -101,13 +100,13 @@ class LocalKey(Key):
 
     @classmethod
     def generate(cls, version: int = 4) -> LocalKey:
-        """A new key, drawn by ``os.urandom``."""
+        """A new random key from ``os.urandom``."""
         return cls(os.urandom(32), version)
 
 
 class PublicKey(Key):
-    """A key under which signed tokens are verified: of 32 bytes in the versions 2 and 4, of 49 in version 3 (a compressed
-    point), and in version 1 an RSAPublicKey of PKCS #1 in DER."""
+    """A key that verifies signed tokens: 32 bytes in versions 2 and 4, 49 in version 3 (a compressed point), and in version 1 a
+    PKCS #1 RSAPublicKey in DER."""
 
     __slots__ = ()
     _lengths = {1: None, 2: 32, 3: 49, 4: 32}
@@ -120,8 +119,8 @@ class PublicKey(Key):
 
 
 class PrivateKey(Key):
-    """A key under which tokens are signed: of 64 bytes in the versions 2 and 4 (the seed and the public key), of 48 in
-    version 3, and in version 1 a PrivateKeyInfo of PKCS #8 in DER."""
+    """A key that signs tokens: 64 bytes in versions 2 and 4 (the seed and the public key), 48 in version 3, and in version 1 a
+    PKCS #8 PrivateKeyInfo in DER."""
 
     __slots__ = ()
     _lengths = {1: None, 2: 64, 3: 48, 4: 64}
@@ -129,7 +128,7 @@ class PrivateKey(Key):
 
     @classmethod
     def generate(cls, version: int = 4) -> PrivateKey:
-        """A new key, of a seed that is drawn by ``os.urandom``. Keys of version 1 are made elsewhere, as by ``openssl``."""
+        """A new key from a random seed of ``os.urandom``. Make keys of version 1 with ``openssl``."""
         if version == 1:
             raise ValueError("a key of version 1 is made by openssl genpkey")
         while True:
@@ -140,7 +139,7 @@ class PrivateKey(Key):
 
     @property
     def public(self) -> PublicKey:
-        """The public key of this private key. That of version 1 has to be kept beside it."""
+        """The public key of this private key. Not available in version 1: keep the public key with the private one."""
         if self._version == 1:
             raise InvalidKey("the public key of version 1 is made elsewhere, as by openssl")
         seed = self._bytes if self._version == 3 else self._bytes[:32]
@@ -148,7 +147,7 @@ class PrivateKey(Key):
 
 
 def _read(text: str, kind_call: str, form: str, length: int) -> LocalKey | PrivateKey | PublicKey:
-    """The key of a text, whose version and type a first call tells."""
+    """The key of a text, whose version and type a first call returns."""
     read, version, number = bytes_of(text), ctypes.c_uint8(), ctypes.c_uint8()
     raise_for(CALLS[kind_call](*lent(read), ctypes.byref(version), ctypes.byref(number)))
     kinds: dict[int, type[LocalKey] | type[PrivateKey] | type[PublicKey]] = {1: LocalKey, 2: PrivateKey, 3: PublicKey}
@@ -160,7 +159,7 @@ def _read(text: str, kind_call: str, form: str, length: int) -> LocalKey | Priva
 
 
 def _pair(seed: bytes, version: int) -> tuple[bytes, bytes]:
-    """The bytes of the private and of the public key of a seed."""
+    """The bytes of the private and the public key of a seed."""
     private, public = (48, 49) if version == 3 else (64, 32)
     rooms = ctypes.create_string_buffer(private), ctypes.create_string_buffer(public)
     raise_for(CALLS[f"paseto_v{version}_public_keypair"](*lent(seed), rooms[0], private, rooms[1], public))

@@ -1,4 +1,4 @@
-"""``libpaseto.so``, and what its calls take."""
+"""``libpaseto.so``, and the argument types of its calls."""
 
 from __future__ import annotations
 
@@ -15,9 +15,9 @@ ASSERTING = (3, 4)
 
 
 def _found() -> str:
-    """Where the library is: what ``PASETO_LIBRARY`` names, in the package, or where the loader finds it."""
+    """The path of the library: that of ``PASETO_LIBRARY``, that in the package, or one that the loader finds."""
     own = Path(__file__).with_name("libpaseto.so")
-    return os.environ.get("PASETO_LIBRARY") or (str(own) if own.exists() else "libpaseto.so.0")
+    return os.environ.get("PASETO_LIBRARY") or (str(own) if own.exists() else "libpaseto.so.1")
 
 
 class Options(ctypes.Structure):
@@ -41,7 +41,7 @@ _KIND: list[Any] = [ctypes.POINTER(ctypes.c_uint8), ctypes.POINTER(ctypes.c_uint
 
 
 def _kinds() -> dict[str, list[Any]]:
-    """What each call takes, by its name."""
+    """The argument types of each call, by its name."""
     kinds: dict[str, list[Any]] = {
         "paseto_footer": [*_SLICE, *_ANSWER],
         "paseto_error_text": [ctypes.c_uint8, *_ANSWER],
@@ -82,7 +82,7 @@ for _name, _kind in _kinds().items():
 
 
 def status_text(status: int) -> str:
-    """What the library says of a status, in one line."""
+    """The library's text for a status, in one line."""
     room, written = ctypes.create_string_buffer(100), ctypes.c_size_t()
     CALLS["paseto_error_text"](status, room, 100, ctypes.byref(written))
     return room.raw[: written.value].decode()

@@ -1,4 +1,4 @@
-"""Rings of keys, of which the footer of a token names one."""
+"""Rings of keys: the footer of a token names the key."""
 
 from __future__ import annotations
 
@@ -13,7 +13,7 @@ from ._tokens import admit, footer_of, issue
 
 
 def key_footer(kid: str) -> str:
-    """The footer from which a ring knows the key with an id.
+    """The footer that tells a ring the id of the key.
 
     >>> key_footer("2026-11")
     '{"kid":"2026-11"}'
@@ -22,7 +22,7 @@ def key_footer(kid: str) -> str:
 
 
 def kid_of(footer: str) -> str | None:
-    """The id of the key that a footer names, and ``None`` where it names none.
+    """The id of the key that a footer names, or ``None`` if it names none.
 
     >>> kid_of(key_footer("2026-11"))
     '2026-11'
@@ -38,7 +38,7 @@ def kid_of(footer: str) -> str | None:
 
 
 class KeyRing:
-    """Keys by their ids. The footer of a token names one of them, and no other key is tried.
+    """Keys by id. The footer of a token names one of them, and only that key is tried.
 
     >>> ring = KeyRing()
     >>> kid = ring.add(LocalKey.generate())
@@ -50,14 +50,14 @@ class KeyRing:
         self._keys: dict[str, LocalKey | PrivateKey | PublicKey] = {}
 
     def add(self, key: LocalKey | PrivateKey | PublicKey, kid: str | None = None) -> str:
-        """Adds a key under an id, which is its PASERK id where none is given, and returns the id. A private key issues, and
-        its public half admits; its PASERK id is that of the public half."""
+        """Adds a key under an id, by default its PASERK id, and returns the id. A private key issues tokens, and its public key
+        verifies them; its default id is that of the public key."""
         found = kid if kid is not None else (key.public.id if isinstance(key, PrivateKey) else key.id)
         self._keys[found] = key
         return found
 
     def remove(self, kid: str) -> None:
-        """Removes the key with an id, where there is one."""
+        """Removes the key with an id, if there is one."""
         self._keys.pop(kid, None)
 
     def __contains__(self, kid: str) -> bool:
@@ -75,7 +75,7 @@ class KeyRing:
         now: int | datetime | None = None,
         assertion: str = "",
     ) -> str:
-        """Issues a token under the key with an id, which its footer names."""
+        """Issues a token under the key with an id. The footer of the token names the key."""
         key = self._keys.get(kid)
         if key is None:
             raise KeyError(kid)
@@ -95,8 +95,8 @@ class KeyRing:
         now: int | datetime | None = None,
         assertion: str = "",
     ) -> dict[str, Any]:
-        """The claims of a token, as ``admit`` has them, under the key that its footer names. ``UnknownKey`` is raised where
-        the footer names no key of the ring."""
+        """Returns the claims of a token like ``admit``, with the key that its footer names. Raises ``UnknownKey`` if the footer
+        names no key of the ring."""
         footer = footer_of(token)
         kid = kid_of(footer)
         key = None if kid is None else self._keys.get(kid)

@@ -1,4 +1,4 @@
-"""Tokens of claims, and of texts."""
+"""Tokens with claims, and tokens with texts."""
 
 from __future__ import annotations
 
@@ -24,13 +24,13 @@ def issue(
     footer: str = "",
     assertion: str = "",
 ) -> str:
-    """Makes a token of claims, which are what JSON can say, with whole numbers of 64 bits alone; a ``datetime`` with a time
-    zone becomes its text of RFC 3339, and a ``Decimal`` is refused by a ``TypeError``.
+    """Makes a token with claims. The claims are JSON values; numbers must be 64-bit integers. A ``datetime`` with a time zone
+    becomes an RFC 3339 string, and a ``Decimal`` raises a ``TypeError``.
 
-    The token expires so many seconds after the moment, is issued at it, and is usable from it on, unless the claims say
-    otherwise by ``exp``, ``iat`` and ``nbf``. The moment ``now``, in seconds after 1970 or a ``datetime``, is the clock's where
-    it is left out. A footer, as the id of the key, everybody can read; an implicit assertion is not in the token, and whoever
-    admits it has to know it.
+    The token is usable at once and expires ``expires_in`` seconds after ``now``, unless the claims set ``exp``, ``iat`` and
+    ``nbf`` otherwise. ``now`` is in seconds after 1970 or a ``datetime``, and the current time by default. Everybody can
+    read the footer, which often holds the id of the key. The implicit assertion is not in the token: ``admit`` needs the
+    same one.
     """
     moment = moment_of(now)
     dated = json_of({"exp": date_of(moment, expires_in), "nbf": date_of(moment, -1), **claims})
@@ -51,12 +51,12 @@ def admit(
     footer: str = "",
     assertion: str = "",
 ) -> dict[str, Any]:
-    """The claims of a token, if it is one of the key, the footer and the implicit assertion, usable at the moment, and has
-    the audience ``aud``, where that is given, and each claim that is expected; else raises what ``Refused`` is, whose text
-    says which claim failed.
+    """Returns the claims of a token, if it was made with this key, footer and implicit assertion, is usable at the time
+    ``now``, and has the audience ``aud``, if given, and each expected claim. Otherwise raises a subclass of ``Refused``, whose
+    text says which claim failed.
 
-    A token whose claims have no ``exp`` never expires: ``require=["exp"]`` demands it. The clocks of issuer and reader may
-    differ by ``leeway`` seconds. A token of more than ``longest`` bytes is refused before it is read; 0 is no limit.
+    A token without ``exp`` never expires: use ``require=["exp"]`` to refuse it. The clocks of issuer and reader may differ by
+    ``leeway`` seconds. A token of more than ``longest`` bytes is refused before it is decoded; 0 means no limit.
     """
     wanted = dict(expected or {})
     if aud is not None:
@@ -76,7 +76,7 @@ def admit(
 
 
 def encrypt(key: LocalKey, text: str, *, footer: str = "", assertion: str = "") -> str:
-    """The local token of a text, under a nonce that is drawn by ``os.urandom``.
+    """Encrypts a text as a local token, with a nonce from ``os.urandom``.
 
     >>> key = LocalKey.generate()
     >>> decrypt(encrypt(key, "hello"), key)
@@ -88,14 +88,14 @@ def encrypt(key: LocalKey, text: str, *, footer: str = "", assertion: str = "") 
 
 
 def decrypt(token: str, key: LocalKey, *, footer: str = "", assertion: str = "") -> str:
-    """The text of a local token of this key, this footer and this implicit assertion."""
+    """Decrypts a local token with this key, footer and implicit assertion, and returns its text."""
     if not isinstance(key, LocalKey):
         raise TypeError("a token is decrypted under a LocalKey")
     return _text("decrypt", token, key, footer, assertion)
 
 
 def sign(key: PrivateKey, text: str, *, footer: str = "", assertion: str = "") -> str:
-    """The public token of a text, which everybody can read.
+    """Signs a text as a public token, which everybody can read.
 
     >>> key = PrivateKey.generate()
     >>> verify(sign(key, "hello"), key.public)
@@ -107,28 +107,28 @@ def sign(key: PrivateKey, text: str, *, footer: str = "", assertion: str = "") -
 
 
 def verify(token: str, key: PublicKey, *, footer: str = "", assertion: str = "") -> str:
-    """The text of a public token that is signed for this key, this footer and this implicit assertion."""
+    """Verifies a public token with this key, footer and implicit assertion, and returns its text."""
     if not isinstance(key, PublicKey):
         raise TypeError("a token is verified under a PublicKey")
     return _text("verify", token, key, footer, assertion)
 
 
 def footer_of(token: str) -> str:
-    """The footer of a token, as the id of the key that is to admit it, and the empty text where it has none.
+    """The footer of a token, for example the id of its key, or the empty string if it has none.
 
-    It is not to be trusted before the token is admitted with it.
+    Do not trust it before the token has been admitted with it.
     """
     read = bytes_of(token)
     return ask("paseto_footer", lent(read), len(read)).decode()
 
 
 def _kind(key: Key) -> str:
-    """How the calls for the tokens of a key begin."""
+    """The prefix of the calls for tokens under a key."""
     return f"paseto_v{key.version}_{'local' if isinstance(key, LocalKey) else 'public'}"
 
 
 def _drawn(key: LocalKey | PrivateKey, call: str) -> tuple[Any, ...]:
-    """The key, and the nonce, the seed or the salt that the call takes beside it."""
+    """The key, and the random nonce, seed or salt that the call takes with it."""
     if isinstance(key, LocalKey):
         drawn = os.urandom(24 if (key.version, call) == (2, "build") else 32)
         return (*lent(key.to_bytes()), *lent(drawn))
@@ -144,7 +144,7 @@ def _reader(key: LocalKey | PublicKey) -> LocalKey | PublicKey:
 
 
 def _tail(key: Key, footer: str, assertion: str) -> tuple[Any, ...]:
-    """The footer, and the implicit assertion in the versions that bind their tokens to one."""
+    """The footer, and the implicit assertion in the versions that have one."""
     if key.version in ASSERTING:
         return (*lent(bytes_of(footer)), *lent(bytes_of(assertion)))
     if assertion:

@@ -1,7 +1,7 @@
-//! Base64url without padding (RFC 4648, section 5), for footers of tokens that nobody has opened.
+//! Base64url without padding (RFC 4648, section 5), for footers of tokens that are not verified yet.
 
-/// The bytes that a text encodes, or `None` where it is not valid base64url: another character, a length of 4n + 1, or bits
-/// behind the last byte that are not zero.
+/// The bytes that a text encodes, or `None` if it is not valid base64url: it has another character, a length of 4n + 1,
+/// or nonzero bits after the last byte.
 pub(super) fn decode(text: &str) -> Option<Vec<u8>> {
     let mut bytes = Vec::with_capacity(text.len() / 4 * 3 + 2);
     for group in text.as_bytes().chunks(4) {

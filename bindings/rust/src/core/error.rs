@@ -1,43 +1,43 @@
-//! Why a call was refused.
+//! The error type.
 
 use std::error::Error;
 use std::fmt;
 use std::str::Utf8Error;
 
-/// Why a token was not made, or not opened. The names and the texts are those of the crate rusty_paseto, without the errors
-/// of the crates that it stands on.
+/// Why a token was not made or not accepted. The names and the texts are those of the crate rusty_paseto, without the
+/// errors of the crates that it depends on.
 #[derive(Clone, Copy, Debug, PartialEq, Eq)]
 #[non_exhaustive]
 pub enum PasetoError {
-    /// The key or the implicit assertion is another one, or the token was changed: local tokens of versions 1, 3 and 4.
+    /// The key or the implicit assertion is wrong, or the token was modified: local tokens of versions 1, 3 and 4.
     Cryption,
-    /// The same in version 2. From encrypting, where the text is too long for the cipher.
+    /// The same in version 2. When encrypting: the text is too long for the cipher.
     ChaChaCipherError,
-    /// A key has not the length or the form of its kind.
+    /// A key has the wrong length or form.
     InvalidKey,
-    /// A private key is none of its kind.
+    /// A private key is not valid.
     KeyRejected,
-    /// The halves of a private key are of two keys.
+    /// The two halves of a private key do not belong together.
     Signature,
-    /// The numbers of a private key of version 1 are not of one key.
+    /// The numbers of a version 1 private key are inconsistent.
     RsaCipher,
     /// The signature is not valid.
     InvalidSignature,
-    /// The token has not three or four sections, or too short a payload.
+    /// The token does not have three or four sections, or its payload is too short.
     IncorrectSize,
-    /// The token is of another version or purpose.
+    /// The token has another version or purpose.
     WrongHeader,
-    /// The token has another footer.
+    /// The token has a different footer.
     FooterInvalid,
     /// A section of the token is not valid base64url.
     PayloadBase64Decode,
-    /// The decrypted text, or the footer that is read, is not UTF-8.
+    /// The decrypted text, or the token's footer, is not UTF-8.
     Utf8Error,
     /// The signed text is not UTF-8.
     FromUtf8Error,
     /// The system gave no random bytes.
     Cipher,
-    /// The library found no memory.
+    /// Out of memory.
     Memory,
 }
 

@@ -1,4 +1,4 @@
-//! Keys and nonces, each with the version and the purpose that it is for.
+//! Keys and nonces, typed by version and purpose.
 
 use crate::core::{Local, PasetoError, Public, V2orV4, V1, V2, V3, V4};
 use crate::library;
@@ -11,7 +11,7 @@ use std::ops::Deref;
 pub struct Key<const N: usize>([u8; N]);
 
 impl<const N: usize> Key<N> {
-    /// Random bytes of the system. `Cipher` comes where it gives none.
+    /// Random bytes from the system. Fails with `Cipher` if the system gives none.
     pub fn try_new_random() -> Result<Self, PasetoError> {
         let mut key = Key([0; N]);
         if library::fill_random(&mut key.0) {
@@ -71,7 +71,7 @@ impl<const N: usize> From<&[u8]> for Key<N> {
     ///
     /// # Panics
     ///
-    /// Where there are not `N` bytes, as in the crate rusty_paseto.
+    /// Panics if there are not exactly `N` bytes, as in the crate rusty_paseto.
     fn from(bytes: &[u8]) -> Self {
         let mut key = Key([0; N]);
         key.0.copy_from_slice(bytes);
@@ -82,7 +82,8 @@ impl<const N: usize> From<&[u8]> for Key<N> {
 impl<const N: usize> TryFrom<&str> for Key<N> {
     type Error = PasetoError;
 
-    /// The key of these hexadecimal digits. `InvalidKey` comes where there are not `2 * N`, or other characters.
+    /// The key of these hexadecimal digits. Fails with `InvalidKey` unless there are exactly `2 * N` of them and no
+    /// other characters.
     fn try_from(digits: &str) -> Result<Self, PasetoError> {
         if digits.len() != 2 * N {
             return Err(PasetoError::InvalidKey);
@@ -104,7 +105,7 @@ fn digit(letter: u8) -> Result<u8, PasetoError> {
     }
 }
 
-/// The key of local tokens of a version.
+/// The key for local tokens of a version.
 pub struct PasetoSymmetricKey<Version, Purpose> {
     kind: PhantomData<(Version, Purpose)>,
     key: Key<32>,
@@ -148,16 +149,17 @@ macro_rules! lent {
 }
 
 lent! {
-    /// The nonce of a local token, drawn anew for each one.
+    /// The nonce of a local token. Draw a fresh one for each token.
     PasetoNonce
 }
 lent! {
-    /// The private half of a key pair, which signs: 64 bytes in versions 2 and 4, 48 in version 3, and PKCS #8 in version 1.
+    /// The private key of a key pair, which signs: 64 bytes in versions 2 and 4, 48 in version 3, and PKCS #8 in
+    /// version 1.
     PasetoAsymmetricPrivateKey
 }
 lent! {
-    /// The public half of a key pair, which verifies: 32 bytes in versions 2 and 4, 49 in version 3, and in version 1 a
-    /// `RSAPublicKey` of PKCS #1.
+    /// The public key of a key pair, which verifies: 32 bytes in versions 2 and 4, 49 in version 3, and in version 1 a
+    /// PKCS #1 `RSAPublicKey`.
     PasetoAsymmetricPublicKey
 }
 
@@ -182,15 +184,16 @@ macro_rules! nonce {
 nonce!(V1, V2, V3, V4);
 
 impl<'a> From<&'a [u8]> for PasetoAsymmetricPrivateKey<'a, V1, Public> {
-    /// The key of a `PrivateKeyInfo` of PKCS #8 in DER, of an RSA key of 2048 bits with the exponent 65537. Nothing is asked of it
-    /// here: signing refuses what is none.
+    /// The key of a PKCS #8 `PrivateKeyInfo` in DER, of an RSA key of 2048 bits with the exponent 65537. The bytes are
+    /// not checked here: signing rejects an invalid key.
     fn from(key: &'a [u8]) -> Self {
         PasetoAsymmetricPrivateKey::of(key)
     }
 }
 
 impl<'a> From<&'a [u8]> for PasetoAsymmetricPublicKey<'a, V1, Public> {
-    /// The key of a `RSAPublicKey` of PKCS #1 in DER. Nothing is asked of it here: under what is none no signature is valid.
+    /// The key of a PKCS #1 `RSAPublicKey` in DER. The bytes are not checked here: under an invalid key every signature
+    /// is invalid.
     fn from(key: &'a [u8]) -> Self {
         PasetoAsymmetricPublicKey::of(key)
     }
@@ -223,7 +226,7 @@ impl<'a, Version: V2orV4> From<&'a Key<32>> for PasetoAsymmetricPublicKey<'a, Ve
 impl<'a> TryFrom<&'a Key<49>> for PasetoAsymmetricPublicKey<'a, V3, Public> {
     type Error = PasetoError;
 
-    /// The key of a compressed point. `InvalidKey` comes where the first byte is neither 2 nor 3.
+    /// The key of a compressed point. Fails with `InvalidKey` if the first byte is neither 2 nor 3.
     fn try_from(key: &'a Key<49>) -> Result<Self, PasetoError> {
         match key[0] {
             2 | 3 => Ok(PasetoAsymmetricPublicKey::of(key.as_ref())),

@@ -8,9 +8,10 @@ use crate::core::{
 use crate::library;
 use std::marker::PhantomData;
 
-/// What a token is made of: a payload, a footer or none, and in versions 3 and 4 an implicit assertion or none.
+/// The parts of a token: a payload, an optional footer, and in versions 3 and 4 an optional implicit assertion.
 ///
-/// `try_encrypt` and `try_sign` make a token of it and leave it as it is; `try_decrypt` and `try_verify` open one.
+/// `try_encrypt` and `try_sign` make a token of these parts and do not change them; `try_decrypt` and `try_verify` read
+/// a token.
 #[derive(Clone, Copy)]
 pub struct Paseto<'a, Version: VersionTrait, Purpose: PurposeTrait> {
     kind: PhantomData<(Version, Purpose)>,
@@ -26,7 +27,7 @@ impl<'a, Version: VersionTrait, Purpose: PurposeTrait> Default for Paseto<'a, Ve
 }
 
 impl<'a, Version: VersionTrait, Purpose: PurposeTrait> Paseto<'a, Version, Purpose> {
-    /// The empty payload, with no footer and no implicit assertion.
+    /// An empty payload, without footer and implicit assertion.
     pub fn builder() -> Self {
         Paseto {
             kind: PhantomData,
@@ -42,7 +43,7 @@ impl<'a, Version: VersionTrait, Purpose: PurposeTrait> Paseto<'a, Version, Purpo
         self
     }
 
-    /// Sets the footer, and keeps the rest. A footer that is set and empty makes a token that ends in a dot.
+    /// Sets the footer, and keeps the rest. With an empty footer the token ends in a dot.
     pub fn set_footer(&mut self, footer: Footer<'a>) -> &mut Self {
         self.footer = Some(footer);
         self
@@ -68,10 +69,10 @@ impl<'a, Version: ImplicitAssertionCapable, Purpose: PurposeTrait> Paseto<'a, Ve
 macro_rules! local {
     ($version:ident, $encrypt:ident, $decrypt:ident $(, $assertion:ident)?) => {
         impl<'a> Paseto<'a, $version, Local> {
-            /// The token of the payload, encrypted under a key and a nonce that no other token of the key has.
+            /// Encrypts the payload under a key and a nonce, which must not be used for another token under this key.
             ///
-            /// `Memory` comes where the library finds none; in version 2 `ChaChaCipherError` for a text of 2^38 - 63 bytes
-            /// or more.
+            /// Fails with `Memory` if the library is out of memory, and in version 2 with `ChaChaCipherError` for a
+            /// text of 2^38 - 63 bytes or more.
             pub fn try_encrypt(
                 &self,
                 key: &PasetoSymmetricKey<$version, Local>,
@@ -87,11 +88,12 @@ macro_rules! local {
                 Ok(self.finished(token))
             }
 
-            /// The text of a token, opened under the footer and the implicit assertion that are expected; none is the empty
-            /// one.
+            /// Decrypts a token with the expected footer and implicit assertion, and returns its text. `None` is the
+            /// same as an empty one.
             ///
-            /// Else the first of these: `IncorrectSize`, `FooterInvalid`, `WrongHeader`, `PayloadBase64Decode`, `Cryption`
-            /// (in version 2 `ChaChaCipherError`) and `Utf8Error`. `Memory` may come in place of any.
+            /// Otherwise returns the first error of `IncorrectSize`, `FooterInvalid`, `WrongHeader`,
+            /// `PayloadBase64Decode`, `Cryption` (in version 2 `ChaChaCipherError`) and `Utf8Error`. `Memory` may take
+            /// the place of any.
             pub fn try_decrypt(
                 token: &str,
                 key: &PasetoSymmetricKey<$version, Local>,
@@ -115,10 +117,10 @@ local!(V3, v3_local_encrypt, v3_local_decrypt, implicit_assertion);
 local!(V4, v4_local_encrypt, v4_local_decrypt, implicit_assertion);
 
 impl<'a> Paseto<'a, V1, Public> {
-    /// The token of the payload, signed by a private key and with a salt that the system draws.
+    /// Signs the payload with a private key and a random salt from the system.
     ///
-    /// `KeyRejected` comes for what is no private key, `RsaCipher` where its numbers are not of one key, `Cipher` where the
-    /// system gives no random bytes, and `Memory` where the library finds none.
+    /// Fails with `KeyRejected` if the private key is not valid, `RsaCipher` if its numbers are inconsistent, `Cipher`
+    /// if the system gives no random bytes, and `Memory` if the library is out of memory.
     pub fn try_sign(
         &self,
         key: &PasetoAsymmetricPrivateKey<'_, V1, Public>,
@@ -129,10 +131,10 @@ impl<'a> Paseto<'a, V1, Public> {
         Ok(self.finished(token))
     }
 
-    /// The text of a token, verified under the footer that is expected; none is the empty one.
+    /// Verifies a token with the expected footer, and returns its text. `None` is the same as an empty footer.
     ///
-    /// Else the first of these: `IncorrectSize`, `FooterInvalid`, `WrongHeader`, `PayloadBase64Decode`, `InvalidSignature` and
-    /// `FromUtf8Error`. `Memory` may come in place of any.
+    /// Otherwise returns the first error of `IncorrectSize`, `FooterInvalid`, `WrongHeader`, `PayloadBase64Decode`,
+    /// `InvalidSignature` and `FromUtf8Error`. `Memory` may take the place of any.
     pub fn try_verify(
         token: &str,
         key: &PasetoAsymmetricPublicKey<'_, V1, Public>,
@@ -146,10 +148,11 @@ impl<'a> Paseto<'a, V1, Public> {
 macro_rules! public {
     ($version:ident, $sign:ident, $verify:ident $(, $assertion:ident)?) => {
         impl<'a> Paseto<'a, $version, Public> {
-            /// The token of the payload, signed by a private key.
+            /// Signs the payload with a private key.
             ///
-            /// `InvalidKey` comes for a key of another length, `KeyRejected` and `Signature` for one that is none or whose
-            /// halves are of two keys, and `Memory` where the library finds none.
+            /// Fails with `InvalidKey` for a key of another length, `KeyRejected` for one that is not valid,
+            /// `Signature` for one whose two halves do not belong together, and `Memory` if the library is out of
+            /// memory.
             pub fn try_sign(
                 &self,
                 key: &PasetoAsymmetricPrivateKey<'_, $version, Public>,
@@ -163,11 +166,11 @@ macro_rules! public {
                 Ok(self.finished(token))
             }
 
-            /// The text of a token, verified under the footer and the implicit assertion that are expected; none is the empty
-            /// one.
+            /// Verifies a token with the expected footer and implicit assertion, and returns its text. `None` is the
+            /// same as an empty one.
             ///
-            /// Else the first of these: `InvalidKey`, `IncorrectSize`, `FooterInvalid`, `WrongHeader`, `PayloadBase64Decode`,
-            /// `InvalidSignature` and `FromUtf8Error`. `Memory` may come in place of any.
+            /// Otherwise returns the first error of `InvalidKey`, `IncorrectSize`, `FooterInvalid`, `WrongHeader`,
+            /// `PayloadBase64Decode`, `InvalidSignature` and `FromUtf8Error`. `Memory` may take the place of any.
             pub fn try_verify(
                 token: &str,
                 key: &PasetoAsymmetricPublicKey<'_, $version, Public>,

@@ -1,4 +1,4 @@
-//! The texts that a token is made of, each with a type of its own.
+//! The texts of a token, a type for each.
 
 use crate::core::{PasetoError, UntrustedToken};
 use std::fmt;
@@ -43,19 +43,19 @@ text! {
     Payload
 }
 text! {
-    /// A text that stands in the token, readable by everybody and authenticated with it: often the id of its key, as JSON.
+    /// A text in the token that is authenticated but not encrypted: often the id of the key, as JSON.
     Footer
 }
 text! {
-    /// A text that is not in the token, and to which it is bound: who opens it has to say the same one. Versions 3 and 4.
+    /// A text that is not in the token, but authenticated with it: the reader must pass the same one. Versions 3 and 4.
     ImplicitAssertion
 }
 
 impl Footer<'_> {
-    /// The footer of a token that nobody has opened, or `None` where it has none. Trust nothing of it before the token opens
-    /// under it.
+    /// The footer of a token that is not verified yet, or `None` if it has none. Do not trust it before the token has
+    /// been decrypted or verified with it.
     ///
-    /// `IncorrectSize`, `PayloadBase64Decode` and `Utf8Error` are those of [`UntrustedToken`].
+    /// Fails with `IncorrectSize`, `PayloadBase64Decode` or `Utf8Error`, as [`UntrustedToken`] does.
     pub fn try_from_token(token: &str) -> Result<Option<String>, PasetoError> {
         UntrustedToken::try_parse(token)?.footer_str()
     }

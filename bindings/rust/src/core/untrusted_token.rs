@@ -1,10 +1,10 @@
-//! A token that nobody has opened.
+//! A token that is not verified yet.
 
 use crate::core::base64url::decode;
 use crate::core::PasetoError;
 use std::str;
 
-/// The sections of a token that nobody has opened: trust nothing of it.
+/// The sections of a token that is not verified yet: do not trust them.
 ///
 /// ```rust
 /// use paseto_proved::core::UntrustedToken;
@@ -24,7 +24,7 @@ pub struct UntrustedToken<'a> {
 }
 
 impl<'a> UntrustedToken<'a> {
-    /// Takes a token apart at its dots. `IncorrectSize` comes where it has not three or four sections.
+    /// Splits a token at its dots. Fails with `IncorrectSize` unless it has three or four sections.
     pub fn try_parse(token: &'a str) -> Result<Self, PasetoError> {
         let mut sections = token.split('.');
         let mut next = || sections.next().ok_or(PasetoError::IncorrectSize);
@@ -40,30 +40,30 @@ impl<'a> UntrustedToken<'a> {
         }
     }
 
-    /// The first section, as `v4`.
+    /// The first section, for example `v4`.
     pub fn version(&self) -> &'a str {
         self.version
     }
 
-    /// The second section, as `local`.
+    /// The second section, for example `local`.
     pub fn purpose(&self) -> &'a str {
         self.purpose
     }
 
-    /// The fourth section as it stands, or `None` where there is none.
+    /// The fourth section, still encoded, or `None` if there is none.
     pub fn footer_base64(&self) -> Option<&'a str> {
         self.footer
     }
 
-    /// The bytes of the footer, or `None` where there is none. `PayloadBase64Decode` comes where the section is not valid
-    /// base64url.
+    /// The bytes of the footer, or `None` if there is none. Fails with `PayloadBase64Decode` if the section is not
+    /// valid base64url.
     pub fn footer_decoded(&self) -> Result<Option<Vec<u8>>, PasetoError> {
         self.footer
             .map(|section| decode(section).ok_or(PasetoError::PayloadBase64Decode))
             .transpose()
     }
 
-    /// The text of the footer, or `None` where there is none. `Utf8Error` comes where its bytes are no text.
+    /// The text of the footer, or `None` if there is none. Fails with `Utf8Error` if its bytes are not UTF-8.
     pub fn footer_str(&self) -> Result<Option<String>, PasetoError> {
         match self.footer_decoded()? {
             Some(bytes) => Ok(Some(str::from_utf8(&bytes)?.to_owned())),

@@ -2,16 +2,16 @@
 
 use std::fmt::Display;
 
-/// A version of PASETO, which a type names.
+/// A version of PASETO, as a type.
 pub trait VersionTrait: Display + Default + AsRef<str> {}
 
-/// A purpose of tokens, which a type names.
+/// A purpose of tokens, as a type.
 pub trait PurposeTrait: Display + Default + AsRef<str> {}
 
-/// A version whose tokens are bound to an implicit assertion: 3 and 4.
+/// A version with implicit assertions: 3 and 4.
 pub trait ImplicitAssertionCapable: VersionTrait {}
 
-/// A version whose key pairs are those of Ed25519: 2 and 4.
+/// A version whose key pairs are Ed25519 keys: 2 and 4.
 pub trait V2orV4: VersionTrait {}
 
 macro_rules! named {
@@ -37,27 +37,27 @@ macro_rules! named {
 }
 
 named! {
-    /// Version 1: AES-256, HMAC-SHA384 and RSA-PSS. For tokens that exist already.
+    /// Version 1: AES-256, HMAC-SHA384 and RSA-PSS. Use it only for existing tokens.
     V1, "v1", VersionTrait
 }
 named! {
-    /// Version 2: XChaCha20-Poly1305 and Ed25519. For tokens that exist already.
+    /// Version 2: XChaCha20-Poly1305 and Ed25519. Use it only for existing tokens.
     V2, "v2", VersionTrait
 }
 named! {
-    /// Version 3: AES-256, HMAC-SHA384 and ECDSA over P-384, for those who need NIST's algorithms.
+    /// Version 3: AES-256, HMAC-SHA384 and ECDSA over P-384, for projects that need NIST algorithms.
     V3, "v3", VersionTrait
 }
 named! {
-    /// Version 4: XChaCha20, BLAKE2b and Ed25519, which new projects should use.
+    /// Version 4: XChaCha20, BLAKE2b and Ed25519. New projects should use it.
     V4, "v4", VersionTrait
 }
 named! {
-    /// Tokens that are encrypted and authenticated by one secret key.
+    /// Tokens that are encrypted and authenticated with a secret key.
     Local, "local", PurposeTrait
 }
 named! {
-    /// Tokens that are signed by a private key, and readable by everybody.
+    /// Tokens that are signed with a private key and readable by everybody.
     Public, "public", PurposeTrait
 }
 

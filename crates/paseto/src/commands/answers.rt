@@ -1,4 +1,4 @@
-//! What the program says of the errors of builders, parsers and rings.
+//! The program's messages for the errors of builders, parsers and key rings.
 
 ghost use Rattle.std.specs.Prelude.{◌≡◌, ◌≢◌, ◌⊎◌, ◌++◌, ◌∷◌, [], Ok, IfErr, IfOk, IsErrAnd, IsOk, IsOkAnd, OnOk, codes, encode_utf8_all, map, string_bytes};
 ghost use Rattle.serde_json.specs.View.{view};
@@ -7,8 +7,8 @@ ghost use Rattle.rusty_paseto_core.specs.declared.PasetoError.TheVariants.{Ciphe
 ghost use Rattle.rusty_paseto_generic.specs.Error.{IsMemory as IsMemoryOfBuilder};
 ghost use Rattle.rusty_paseto_generic.specs.Error.Parser.{IsMemory};
 ghost use Rattle.rusty_paseto_generic.specs.declared.error.GenericBuilderError.TheVariants.{CipherError};
-ghost use Rattle.paseto_tasks.specs.Error.{IsFixed, IsNoUsage, IsOutside, Says};
-ghost use Rattle.paseto.specs.Answers.{SaysOfBuilder, SaysOfCheck, SaysOfParsing, SaysOfRing, claim_line, early_line, expired_line, mismatch_text, one_line, repeated_text, shown_letter, text_under, unknown_text};
+ghost use Rattle.paseto_tasks.specs.Error.{BlamesNone, BlamesOnly, IsFixed, IsNoUsage, IsOutside, IsPlain, Says};
+ghost use Rattle.paseto.specs.Answers.{BlamesOfParser, BlamesOfParsing, BlamesOfRing, IsCipher, IsFooterInvalid, OfBuilder, SaysOfBuilder, SaysOfCheck, SaysOfParsing, SaysOfRing, claim_line, early_line, expired_line, mismatch_text, one_line, repeated_text, shown_letter, text_under, unknown_text};
 ghost use Rattle.paseto.specs.Times.{claim_error_of};
 
 use crate::commands::times::between;
@@ -21,7 +21,7 @@ use rusty_paseto::prelude::{
 use serde_json::Value;
 use std::alloc::{AllocError, Global};
 
-/// The answer of a builder.
+/// Converts the result of a builder.
 pub fn built<T: Drop>(
     alloc: Global,
     answer: Result<T, GenericBuilderError>,
@@ -30,6 +30,8 @@ pub fn built<T: Drop>(
     ensures refused { IfErr result (λ error. IsErrAnd answer (λ source. IsOutside error
         ⊎ ((¬ IsMemoryOfBuilder source) × (source ≢ CipherError Cipher)))) }
     ensures no_usage { IfErr result IsNoUsage }
+    ensures blames { IfErr result (λ error. IsErrAnd answer
+        (λ source. BlamesOnly (OfBuilder IsCipher source) ⊥ ⊥ ⊥ error)) }
     ensures said { IfErr result (λ error. IsErrAnd answer (λ source. SaysOfBuilder source error)) }
 {
     match answer {
@@ -44,9 +46,10 @@ pub fn built<T: Drop>(
     }
 }
 
-/// A claim is set twice.
+/// The error for a claim that is set twice.
 fn repeated(alloc: Global, key: &str) -> ProgramError
     ensures no_usage { IsNoUsage result }
+    ensures blames { BlamesNone result }
     ensures said { Says (λ line. line ≡ one_line (repeated_text key.now)) result }
 {
     told(one_line_of(
@@ -55,7 +58,7 @@ fn repeated(alloc: Global, key: &str) -> ProgramError
     ))
 }
 
-/// Why the text of a moment that an option says makes no claim.
+/// Converts the error for the moment of an option that does not make a claim.
 pub fn dated(option: TimeOption, source: PasetoClaimError) -> ProgramError
     ensures { result ≡ claim_error_of option source }
 {
@@ -65,12 +68,12 @@ pub fn dated(option: TimeOption, source: PasetoClaimError) -> ProgramError
     }
 }
 
-/// The answer of a setter of a parser, which refuses a claim of the words alone.
+/// Converts the result of a parser's setter, which refuses only claims of the arguments.
 pub fn demanded<T: Drop>(answer: Result<T, GenericParserError>) -> Result<T, ProgramError>
     ensures value { IfOk result (λ value. answer ≡ Ok value) }
     ensures refused { IfErr result (λ error. IsErrAnd answer
         (λ source. IsOutside error ⊎ (¬ IsMemory source))) }
-    ensures fixed { IfErr result IsFixed }
+    ensures plain { IfErr result IsPlain }
 {
     match answer {
         Ok(value) => Ok(value),
@@ -79,12 +82,14 @@ pub fn demanded<T: Drop>(answer: Result<T, GenericParserError>) -> Result<T, Pro
     }
 }
 
-/// The answer of a parser that checks no claim.
+/// Converts the result of a parser that checks no claims.
 pub fn parsed<T: Drop>(answer: Result<T, GenericParserError>) -> Result<T, ProgramError>
     ensures value { IfOk result (λ value. answer ≡ Ok value) }
     ensures refused { IfErr result (λ error. IsErrAnd answer
         (λ source. IsOutside error ⊎ (¬ IsMemory source))) }
     ensures fixed { IfErr result IsFixed }
+    ensures blames { IfErr result (λ error. IsErrAnd answer
+        (λ source. BlamesOfParser source error)) }
 {
     match answer {
         Ok(value) => Ok(value),
@@ -92,7 +97,7 @@ pub fn parsed<T: Drop>(answer: Result<T, GenericParserError>) -> Result<T, Progr
     }
 }
 
-/// The answer of a check of these claims, which a token has, at a moment.
+/// Converts the result of checking these claims, which a token has, at a moment.
 pub fn checked(
     alloc: Global,
     claims: &Value,
@@ -103,6 +108,8 @@ pub fn checked(
     ensures refused { IfErr result (λ error. IsErrAnd answer
         (λ source. IsOutside error ⊎ (¬ IsMemory source))) }
     ensures no_usage { IfErr result IsNoUsage }
+    ensures blames { IfErr result (λ error. IsErrAnd answer
+        (λ source. BlamesOfParser source error)) }
     ensures said { IfErr result (λ error. IsErrAnd answer
         (λ source. SaysOfCheck (view claims.now) at source error)) }
 {
@@ -113,7 +120,7 @@ pub fn checked(
     }
 }
 
-/// The answer of a ring, without the id of the key.
+/// Converts the result of a key ring, without the id of the key.
 pub fn found(
     alloc: Global,
     answer: Result<(String, Value), KeyRingParserError>,
@@ -122,6 +129,7 @@ pub fn found(
     ensures refused { IfErr result (λ error. IsErrAnd answer
         (λ source. IsOutside error ⊎ (¬ IsNoMemory source))) }
     ensures no_usage { IfErr result IsNoUsage }
+    ensures blames { IfErr result (λ error. IsErrAnd answer (λ source. BlamesOfParsing source error)) }
     ensures said { IfErr result (λ error. IsErrAnd answer (λ source. SaysOfParsing source error)) }
 {
     match answer {
@@ -132,12 +140,13 @@ pub fn found(
     }
 }
 
-/// The answer of a setter of a ring.
+/// Converts the result of a setter of a key ring.
 pub fn put(alloc: Global, answer: Result<(), KeyRingError>) -> Result<(), ProgramError>
     ensures put { OnOk result (IsOk answer) }
     ensures refused { IfErr result (λ error. IsErrAnd answer
         (λ source. IsOutside error ⊎ (¬ IsMemoryOfRing source))) }
     ensures no_usage { IfErr result IsNoUsage }
+    ensures blames { IfErr result (λ error. IsErrAnd answer (λ source. BlamesOfRing source error)) }
     ensures said { IfErr result (λ error. IsErrAnd answer (λ source. SaysOfRing source error)) }
 {
     match answer {
@@ -149,6 +158,7 @@ pub fn put(alloc: Global, answer: Result<(), KeyRingError>) -> Result<(), Progra
 fn by_parser(source: GenericParserError) -> ProgramError
     ensures memory { IsOutside result ⊎ (¬ IsMemory source) }
     ensures fixed { IsFixed result }
+    ensures blames { BlamesOfParser source result }
 {
     match source {
         GenericParserError::Memory(source) => ProgramError::Memory(source),
@@ -159,7 +169,8 @@ fn by_parser(source: GenericParserError) -> ProgramError
 }
 
 fn by_token(source: PasetoError) -> ProgramError
-    ensures { IsFixed result }
+    ensures fixed { IsFixed result }
+    ensures blames { BlamesOnly (IsCipher source) ⊥ ⊥ (IsFooterInvalid source) result }
 {
     match source {
         PasetoError::FooterInvalid => ProgramError::OtherFooter,
@@ -170,6 +181,7 @@ fn by_token(source: PasetoError) -> ProgramError
 fn by_ring(alloc: Global, source: KeyRingError) -> ProgramError
     ensures memory { IsOutside result ⊎ (¬ IsMemoryOfRing source) }
     ensures no_usage { IsNoUsage result }
+    ensures blames { BlamesOfRing source result }
     ensures said { SaysOfRing source result }
 {
     match source {
@@ -182,9 +194,10 @@ fn by_ring(alloc: Global, source: KeyRingError) -> ProgramError
     }
 }
 
-/// The ring has no key of the id that the footer names.
+/// The error for a key ring that has no key with the id in the footer.
 fn unknown(alloc: Global, id: &str) -> ProgramError
     ensures no_usage { IsNoUsage result }
+    ensures blames { BlamesNone result }
     ensures said { Says (λ line. line ≡ one_line (unknown_text id.now)) result }
 {
     told(one_line_of(
@@ -195,6 +208,7 @@ fn unknown(alloc: Global, id: &str) -> ProgramError
 
 fn by_claim(alloc: Global, claims: &Value, at: Timestamp, source: PasetoClaimError) -> ProgramError
     ensures no_usage { IsNoUsage result }
+    ensures blames { BlamesNone result }
     ensures said { Says (λ line. line ≡ claim_line (view claims.now) at source) result }
 {
     match source {
@@ -210,9 +224,10 @@ fn by_claim(alloc: Global, claims: &Value, at: Timestamp, source: PasetoClaimErr
     }
 }
 
-/// A text stands under a key that is another one than the one that is demanded.
+/// The error for a claim whose text is not the required one.
 fn mismatch(alloc: Global, key: &str, found: &str, wanted: &str) -> ProgramError
     ensures no_usage { IsNoUsage result }
+    ensures blames { BlamesNone result }
     ensures said { Says (λ line. line ≡ one_line (mismatch_text key.now found.now wanted.now)) result }
 {
     told(one_line_of(
@@ -221,9 +236,10 @@ fn mismatch(alloc: Global, key: &str, found: &str, wanted: &str) -> ProgramError
     ))
 }
 
-/// A refusal that a line of our own tells.
+/// A refusal with a message of this program.
 pub fn told(line: Result<String, AllocError>) -> ProgramError
     ensures no_usage { IsNoUsage result }
+    ensures blames { BlamesNone result }
     ensures said { Says (λ text. IsOkAnd line (λ line. text ≡ string_bytes line)) result }
 {
     match line {
@@ -232,7 +248,8 @@ pub fn told(line: Result<String, AllocError>) -> ProgramError
     }
 }
 
-/// A text in which each control character is a question mark: it may tell of a token that anyone wrote.
+/// A text with each control character replaced by a question mark, since it may come from a token
+/// that anyone wrote.
 pub fn one_line_of(alloc: Global, text: Result<String, AllocError>) -> Result<String, AllocError>
     ensures { IfOk result (λ line. IsOkAnd text
         (λ text. string_bytes line ≡ one_line (string_bytes text))) }
@@ -253,7 +270,7 @@ fn one_line(alloc: Global, text: &str) -> Result<String, AllocError>
     Ok(line)
 }
 
-/// Appends a character as it stands in a line.
+/// Appends a character as it is shown in a line.
 fn push_shown(line: &mut String, letter: char) -> Result<(), AllocError>
     ensures { OnOk result (string_bytes line.new ≡ string_bytes line.old
         ++ encode_utf8_all (map shown_letter (letter ∷ []))) }
@@ -261,7 +278,7 @@ fn push_shown(line: &mut String, letter: char) -> Result<(), AllocError>
     line.push(if letter.is_control() { '?' } else { letter })
 }
 
-/// The text under `exp`, or the empty one where there is none.
+/// The text of `exp`, or an empty text if there is none.
 fn expiry_of(claims: &Value) -> &str
     ensures { result.now ≡ text_under (codes "exp") (view claims.now) }
 {

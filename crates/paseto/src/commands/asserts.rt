@@ -10,8 +10,8 @@ use rusty_paseto::prelude::{
 };
 use rusty_paseto_paserk::KeyVersion;
 
-/// A version whose builders and parsers are given an implicit assertion where it binds its tokens to one, as versions 3
-/// and 4 do, and versions 1 and 2 do not.
+/// A version whose builders and parsers take an implicit assertion if its tokens are bound to one:
+/// in versions 3 and 4 they are, and in versions 1 and 2 they are not.
 pub trait Asserts: VersionTrait + KeyVersion {
     /// Gives the assertion to a builder that has none.
     fn give_builder<'a, P: PurposeTrait>(

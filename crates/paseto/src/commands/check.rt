@@ -11,10 +11,11 @@ ghost use Rattle.rusty_paseto_generic.specs.Parsers.Held.{rules_of, verdicts_of,
 ghost use Rattle.rusty_paseto_generic.specs.Parsers.Rules.{AreSame, no_rule};
 ghost use Rattle.rusty_paseto_generic.specs.Parsers.Times.{times_at};
 ghost use Rattle.paseto_tasks.specs.Arguments.{assertion_where, binds_in, texts};
-ghost use Rattle.paseto.specs.Check.{AreDemands, IsCheckedAt, IsTheValue, ParsesByKey, ParsesWith, demanded, demanded_rules};
-ghost use Rattle.paseto.specs.Checked.{ChecksBy, IsCheckLine, IsJsonLine, ParsesBy};
+ghost use Rattle.paseto.specs.Check.{AreDemands, IsCheckedAt, IsOtherFooter, IsTheValue, ParsesByKey, ParsesWith, demanded, demanded_rules};
+ghost use Rattle.paseto.specs.Checked.{ChecksBy, IsCheckLine, IsJsonLine, IsOtherFooterFor, ParsesBy};
 ghost use Rattle.paseto.specs.Claims.{all_demanded, all_named, all_required, are_whole};
-ghost use Rattle.paseto_tasks.specs.Error.{IsFixed, IsNoRefusal, IsNoUsage, IsOutside, Lacks, Says};
+ghost use Rattle.paseto_tasks.specs.Error.{BlamesOnly, IsFixed, IsNoUsage, IsOfWords, IsOutside, IsPlain, Lacks, Says};
+ghost use Rattle.paseto_tasks.specs.Public.{MayRefuse};
 ghost use Rattle.paseto.specs.Readers.{IsReader, reading_of};
 ghost use Rattle.paseto.specs.Ring.{IsRingLine};
 
@@ -27,9 +28,8 @@ use crate::commands::times::{leeway_of, moment_of};
 use jiff::Timestamp;
 use paseto_ed25519::Ed25519;
 use paseto_p384::P384;
-use paseto_rsa::RsaPss;
 use paseto_tasks::{
-    Options, PairLines, ProgramError, Salt, TimeOption, TokenKind, begins_as, takes, verifier,
+    Options, PairLines, ProgramError, SaltedRsa, TimeOption, TokenKind, begins_as, takes, verifier,
 };
 use paseto_xchacha20poly1305::XChaCha20Poly1305;
 use rusty_paseto::DefaultParser;
@@ -41,7 +41,7 @@ use rusty_paseto_paserk::{PaserkError, PaserkType, PaserkVersion, local_from_pas
 use serde_json::Value;
 use std::alloc::Global;
 
-/// The keys under which a token may be: that of a line, or those of a ring's lines.
+/// The keys to check a token with: the key of a line, or the keys of a ring's lines.
 #[derive(Clone, Copy)]
 pub enum Keys<'k> {
     /// The line of a key file.
@@ -50,7 +50,7 @@ pub enum Keys<'k> {
     Ring(&'k [String]),
 }
 
-/// What a token has to be.
+/// What is required of a token.
 #[derive(Drop)]
 pub struct Demands<'w> {
     at: Timestamp,
@@ -62,7 +62,7 @@ pub struct Demands<'w> {
 }
 
 impl<'w> Demands<'w> {
-    /// What the words of a command demand.
+    /// Parses the requirements in a command's arguments.
     pub fn parse(
         alloc: Global,
         words: &[&str],
@@ -73,7 +73,7 @@ impl<'w> Demands<'w> {
             (texts words.now) options.now now (demanded demands)) }
         ensures none { IfErr result (Lacks (λ demands. AreDemands
             (texts words.now) options.now now demands)) }
-        ensures no_refusal { IfErr result IsNoRefusal }
+        ensures of_words { IfErr result IsOfWords }
     {
         Ok(Demands {
             at: checked_at(options.at, now)?,
@@ -85,7 +85,7 @@ impl<'w> Demands<'w> {
         })
     }
 
-    /// The parser under whose footer and assertion a token is read, which checks no claim.
+    /// The parser that reads a token with the required footer and assertion, and checks no claims.
     pub fn reader<V: Asserts, P: PurposeTrait>(&self, alloc: Global) -> PasetoParser<'_, V, P>
         ensures rules { verdicts_of (λ b. verdict b)
             (times_at result.parser.moment result.parser.leeway) result.parser.checks
@@ -104,7 +104,7 @@ impl<'w> Demands<'w> {
         parser
     }
 
-    /// The parser that checks the claims of what was read, whatever the token's version and purpose.
+    /// The parser that checks the claims of a token that was read, whatever its version and purpose.
     fn checker(&self, alloc: Global) -> Result<PasetoParser<'static, V4, Local>, ProgramError>
         ensures rules { IfOk result (λ made. verdicts_of (λ b. verdict b)
             (times_at made.parser.moment made.parser.leeway) made.parser.checks
@@ -112,7 +112,7 @@ impl<'w> Demands<'w> {
         ensures whole { OnOk result (are_whole (all_named self.now.claims.items) ≡ true) }
         ensures refused { IfErr result (λ error. IsOutside error
             ⊎ (are_whole (all_named self.now.claims.items) ≡ false)) }
-        ensures fixed { IfErr result IsFixed }
+        ensures plain { IfErr result IsPlain }
     {
         let mut parser = timed(alloc, self.at, self.leeway)?;
         put_checks(alloc, &mut parser, &self.claims)?;
@@ -132,6 +132,7 @@ fn timed(
     ensures times { IfOk result (λ made. (made.parser.moment ≡ at)
         × (made.parser.leeway ≡ leeway)) }
     ensures refused { IfErr result IsOutside }
+    ensures plain { IfErr result IsPlain }
 {
     let mut parser = taken(PasetoParser::default(alloc, at))?;
     parser.set_leeway(leeway);
@@ -144,7 +145,7 @@ fn checked_at(word: Option<&str>, now: Timestamp) -> Result<Timestamp, ProgramEr
         (option_map (λ text. text.now) word.entry) now at) }
     ensures none { IfErr result (Lacks (λ at. IsCheckedAt
         (option_map (λ text. text.now) word.entry) now at)) }
-    ensures no_refusal { IfErr result IsNoRefusal }
+    ensures of_words { IfErr result IsOfWords }
 {
     let Some(word) = word else {
         return Ok(now);
@@ -170,7 +171,7 @@ fn put_checks<V: VersionTrait, P: PurposeTrait, B: Drop>(
     ensures footer { parser.new.parser.footer ≡ parser.old.parser.footer }
     ensures assertion { parser.new.parser.implicit_assertion
         ≡ parser.old.parser.implicit_assertion }
-    ensures fixed { IfErr result IsFixed }
+    ensures plain { IfErr result IsPlain }
 {
     let [claim, rest @ ..] = claims else {
         return Ok(());
@@ -189,6 +190,7 @@ fn put_requirements<V: VersionTrait, P: PurposeTrait, B: Drop>(
     ensures set { OnOk result (rules_of parser.new.parser.checks
         ≡ all_required (texts names.now) (rules_of parser.old.parser.checks)) }
     ensures refused { IfErr result IsOutside }
+    ensures plain { IfErr result IsPlain }
     ensures times { (parser.new.parser.moment ≡ parser.old.parser.moment)
         × (parser.new.parser.leeway ≡ parser.old.parser.leeway) }
 {
@@ -201,7 +203,7 @@ fn put_requirements<V: VersionTrait, P: PurposeTrait, B: Drop>(
     }
 }
 
-/// The line of the claims of a token that is what is demanded.
+/// The line of the claims of a token that meets the requirements.
 pub fn check(
     alloc: Global,
     keys: &Keys<'_>,
@@ -214,6 +216,7 @@ pub fn check(
         line)) }
     ensures no_usage { IfErr result IsNoUsage }
     ensures said { IfErr result (Says (IsCheckLine keys.now (demanded demands.now) token.now)) }
+    ensures blames { IfErr result (BlamesOnly ⊥ ⊥ ⊥ (IsOtherFooterFor keys.now (demanded demands.now).footer token.now)) }
 {
     let checker = demands.checker(alloc)?;
     let claims = claims_by(alloc, keys, demands, token)?;
@@ -225,6 +228,7 @@ pub fn check(
 fn json_line(alloc: Global, value: &Value) -> Result<String, ProgramError>
     ensures line { IfOk result (λ line. IsJsonLine (view value.now) (string_bytes line)) }
     ensures memory { IfErr result IsOutside }
+    ensures plain { IfErr result IsPlain }
 {
     let mut line = value.to_string(alloc)?;
     line.push('\n')?;
@@ -241,6 +245,7 @@ fn claims_by(
         token.now value) result }
     ensures no_usage { IfErr result IsNoUsage }
     ensures said { IfErr result (Says (IsRingLine token.now)) }
+    ensures blames { IfErr result (BlamesOnly ⊥ ⊥ ⊥ (IsOtherFooterFor keys.now (demanded demands.now).footer token.now)) }
 {
     match keys {
         Keys::One(key) => with_kinds(claims_by_key(alloc, key, demands, token), token, key),
@@ -248,15 +253,16 @@ fn claims_by(
     }
 }
 
-/// The answer for a token under the key of a line. Where the token is of another kind than the key is for, it names both.
+/// The result for a token and the key of a line. If the token is of another kind than the key is
+/// for, the error names both.
 fn with_kinds(
     answer: Result<Value, ProgramError>,
     token: &str,
     key: &str,
 ) -> Result<Value, ProgramError>
     ensures value { IfOk result (λ value. answer ≡ Ok value) }
-    ensures refused { IfErr result (λ error. IsErrAnd answer
-        (λ source. IsOutside source → IsOutside error)) }
+    ensures refused { IfErr result (λ error. IsErrAnd answer (λ source. (source ≡ error)
+        ⊎ ((source ≡ ProgramError.Refused PasetoError.WrongHeader) × IsPlain error))) }
     ensures no_usage { IfErr answer IsNoUsage → IfErr result IsNoUsage }
     ensures fixed { IfErr answer IsFixed → IfErr result IsFixed }
 {
@@ -272,7 +278,7 @@ fn with_kinds(
     }
 }
 
-/// The claims of a token under the key of a line.
+/// The claims of a token, with the key of a line.
 fn claims_by_key(
     alloc: Global,
     key: &str,
@@ -282,6 +288,7 @@ fn claims_by_key(
     ensures answer { IsTheValue (λ value. ParsesByKey key.now (demanded demands.now).footer (demanded demands.now).assertion
         token.now value) result }
     ensures fixed { IfErr result IsFixed }
+    ensures blames { IfErr result (BlamesOnly ⊥ ⊥ ⊥ (IsOtherFooter (demanded demands.now).footer token.now)) }
 {
     let Some((version, kind)) = begins_as(key) else {
         return Err(ProgramError::Key(PaserkError::NoKey));
@@ -305,6 +312,7 @@ fn by_local_key(
         (reading_of LocalKey version) key.now (demanded demands.now).footer (demanded demands.now).assertion token.now value)
         result }
     ensures fixed { IfErr result IsFixed }
+    ensures blames { IfErr result (BlamesOnly ⊥ ⊥ ⊥ (IsOtherFooter (demanded demands.now).footer token.now)) }
 {
     match version {
         PaserkVersion::V1 => opened::<V1>(alloc, key, demands, token),
@@ -325,9 +333,10 @@ fn by_public_key(
         version (reading_of PublicKey version) key.now (demanded demands.now).footer (demanded demands.now).assertion token.now
         value) result }
     ensures fixed { IfErr result IsFixed }
+    ensures blames { IfErr result (BlamesOnly ⊥ ⊥ ⊥ (IsOtherFooter (demanded demands.now).footer token.now)) }
 {
     match version {
-        PaserkVersion::V1 => verified::<V1, RsaPss<Salt>>(alloc, &verifier(), key, demands, token),
+        PaserkVersion::V1 => verified::<V1, SaltedRsa>(alloc, &verifier(), key, demands, token),
         PaserkVersion::V2 => verified::<V2, Ed25519>(alloc, &Ed25519, key, demands, token),
         PaserkVersion::V3 => verified::<V3, P384>(alloc, &P384, key, demands, token),
         PaserkVersion::V4 => verified::<V4, Ed25519>(alloc, &Ed25519, key, demands, token),
@@ -344,6 +353,7 @@ fn opened<V: DefaultLocalVersion + Asserts>(
     ensures answer { IsTheValue (λ value. ParsesWith LocalKey V.paserk (opening V.design) key.now
         (demanded demands.now).footer (demanded demands.now).assertion token.now value) result }
     ensures fixed { IfErr result IsFixed }
+    ensures blames { IfErr result (BlamesOnly ⊥ ⊥ ⊥ (IsOtherFooter (demanded demands.now).footer token.now)) }
 {
     let key = local_from_paserk::<V>(alloc, key)?;
     let parser = demands.reader::<V, Local>(alloc);
@@ -359,6 +369,7 @@ fn unboxed(
     ensures answer { IsTheValue (λ value. ParsesWith LocalKey K2 (reading_of LocalKey K2) key.now
         (demanded demands.now).footer (demanded demands.now).assertion token.now value) result }
     ensures fixed { IfErr result IsFixed }
+    ensures blames { IfErr result (BlamesOnly ⊥ ⊥ ⊥ (IsOtherFooter (demanded demands.now).footer token.now)) }
 {
     let key = local_from_paserk::<V2>(alloc, key)?;
     let parser = demands.reader::<V2, Local>(alloc);
@@ -376,6 +387,9 @@ fn verified<V: PairLines + Asserts + Verifies<S>, S>(
     ensures answer { IsTheValue (λ value. ParsesWith PublicKey V.paserk (verification V.valid
         V.refused V.public_design) key.now (demanded demands.now).footer (demanded demands.now).assertion token.now value) result }
     ensures fixed { IfErr result IsFixed }
+    ensures blames { IfErr result (BlamesOnly (MayRefuse V.refused PasetoError.Cipher) ⊥ ⊥
+        (IsOtherFooter (demanded demands.now).footer token.now
+        ⊎ MayRefuse V.refused PasetoError.FooterInvalid)) }
 {
     let key = V::public_key(alloc, key)?;
     let parser = demands.reader::<V, Public>(alloc);

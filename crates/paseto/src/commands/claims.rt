@@ -1,4 +1,4 @@
-//! Claims by name, as words say them.
+//! Claims by name, as the arguments give them.
 
 ghost use Rattle.std.specs.Prelude.{◌≡◌, ◌≢◌, ◌⊎◌, ◌++◌, ◌<◌, ◌∷◌, ◌||◌, [], ℕ, List, IfErr, IfOk, IfSome, MatchOption, None, OnOk, Some, codes, false, length, not, string_bytes, true};
 ghost use Rattle.std.specs.Option.{option_map_or};
@@ -7,14 +7,14 @@ ghost use Rattle.serde_json.specs.Read.{read};
 ghost use Rattle.rusty_paseto_claims.specs.Claim.{gives, one_member};
 ghost use Rattle.paseto_tasks.specs.Arguments.{texts};
 ghost use Rattle.paseto.specs.Claims.{AreClaims, IsClaimOf, IsFirstOf, all_named, is_time, named};
-ghost use Rattle.paseto_tasks.specs.Error.{IsNoRefusal, IsOutside, Lacks};
+ghost use Rattle.paseto_tasks.specs.Error.{IsOfWords, IsOutside, Lacks};
 
 use paseto_tasks::ProgramError;
 use rusty_paseto::prelude::{PasetoClaim, PasetoClaimError};
 use serde_json::{Map, Value};
 use std::alloc::{AllocError, Global};
 
-/// A claim under a name, which may be any but that of a time.
+/// A claim with any name except that of a time.
 #[derive(Drop)]
 pub struct NamedClaim {
     name: String,
@@ -39,11 +39,11 @@ impl PasetoClaim for NamedClaim {
 }
 
 impl NamedClaim {
-    /// The claim of a word `NAME=TEXT` or `NAME:=JSON`.
+    /// Parses the claim of an argument `NAME=TEXT` or `NAME:=JSON`.
     fn parse(alloc: Global, word: &str) -> Result<NamedClaim, ProgramError>
         ensures found { IfOk result (λ claim. IsClaimOf word.now (named claim)) }
         ensures none { IfErr result (Lacks (λ claim. IsClaimOf word.now claim)) }
-        ensures no_refusal { IfErr result IsNoRefusal }
+        ensures of_words { IfErr result IsOfWords }
     {
         let Some((front, text)) = word.split_once('=') else {
             return Err(ProgramError::Claim);
@@ -60,7 +60,7 @@ impl NamedClaim {
         ensures named { OnOk result ((name.now ≢ []) × (is_time name.now ≡ false)) }
         ensures refused { IfErr result (λ error. IsOutside error
             ⊎ ((name.now ≡ []) ⊎ (is_time name.now ≡ true))) }
-        ensures no_refusal { IfErr result IsNoRefusal }
+        ensures of_words { IfErr result IsOfWords }
     {
         if name.is_empty() {
             return Err(ProgramError::Claim);
@@ -73,7 +73,7 @@ impl NamedClaim {
     }
 }
 
-/// What stands in front of a colon at the end of a text, where there is one.
+/// What is in front of a colon at the end of a text, if there is one.
 fn without_colon(text: &str) -> Option<&str>
     ensures { MatchOption result ((other : List ℕ) → text.now ≢ other ++ codes ":")
         (λ name. text.now ≡ name.now ++ codes ":") }
@@ -81,11 +81,11 @@ fn without_colon(text: &str) -> Option<&str>
     text.strip_suffix(":")
 }
 
-/// The value that a text is as JSON.
+/// Parses a text as JSON.
 fn json_of(alloc: Global, text: &str) -> Result<Value, ProgramError>
     ensures read { IfOk result (λ value. read text.now ≡ Some (view value)) }
     ensures refused { IfErr result (λ error. IsOutside error ⊎ (read text.now ≡ None)) }
-    ensures no_refusal { IfErr result IsNoRefusal }
+    ensures of_words { IfErr result IsOfWords }
 {
     match Value::from_str(alloc, text) {
         Ok(value) => Ok(value),
@@ -101,11 +101,11 @@ fn is_time(name: &str) -> bool
     matches!(name, "exp" | "nbf" | "iat")
 }
 
-/// The claims that words say, in their order.
+/// Parses the claims of the arguments, in order.
 pub fn claims_of(alloc: Global, words: &[&str]) -> Result<Vec<NamedClaim>, ProgramError>
     ensures found { IfOk result (λ claims. AreClaims (texts words.now) (all_named claims.items)) }
     ensures none { IfErr result (Lacks (λ claims. AreClaims (texts words.now) claims)) }
-    ensures no_refusal { IfErr result IsNoRefusal }
+    ensures of_words { IfErr result IsOfWords }
 {
     let [word, rest @ ..] = words else {
         return Ok(Vec::new(alloc));
@@ -116,7 +116,7 @@ pub fn claims_of(alloc: Global, words: &[&str]) -> Result<Vec<NamedClaim>, Progr
     }
 }
 
-/// The claim of a word, and others behind it.
+/// The claim of an argument, and others after it.
 fn with_claim(
     alloc: Global,
     word: &str,
@@ -124,7 +124,7 @@ fn with_claim(
 ) -> Result<Vec<NamedClaim>, ProgramError>
     ensures found { IfOk result (λ found. IsFirstOf word.now claims.items found.items) }
     ensures none { IfErr result (Lacks (λ claim. IsClaimOf word.now claim)) }
-    ensures no_refusal { IfErr result IsNoRefusal }
+    ensures of_words { IfErr result IsOfWords }
 {
     let mut claims = claims;
     claims.insert(0, NamedClaim::parse(alloc, word)?)?;

@@ -1,19 +1,20 @@
-//! The footer that words say.
+//! The footer that the arguments give.
 
 ghost use Rattle.std.specs.Prelude.{IfErr, IfOk, option_map, string_bytes};
-ghost use Rattle.paseto_tasks.specs.Error.{IsOutside};
+ghost use Rattle.paseto_tasks.specs.Error.{IsOutside, IsPlain};
 ghost use Rattle.paseto.specs.Footers.{IsFooter};
 
 use paseto_tasks::{Options, ProgramError};
 use rusty_paseto::key_footer;
 use std::alloc::Global;
 
-/// The text of the footer that is said by `--footer`, or by `--footer-kid`: then the JSON of an object with the id under
-/// `kid`, from which a ring knows the key.
+/// The text of the footer that `--footer` or `--footer-kid` gives. For `--footer-kid` it is a JSON
+/// object with the id under `kid`, by which a key ring finds the key.
 pub fn footer_of(alloc: Global, options: &Options<'_>) -> Result<Option<String>, ProgramError>
     ensures footer { IfOk result (λ footer. IsFooter options.now
         (option_map string_bytes footer)) }
     ensures memory { IfErr result IsOutside }
+    ensures plain { IfErr result IsPlain }
 {
     if let Some(id) = options.kid {
         return Ok(Some(key_footer(alloc, id)?));

@@ -5,12 +5,16 @@ ghost use Rattle.rusty_paseto_generic.specs.Builders.Held.{held};
 ghost use Rattle.rusty_paseto_parts.specs.Footer.{footer_text};
 ghost use Rattle.rusty_paseto_core.specs.Public.{HasPrivateLength};
 ghost use Rattle.rusty_paseto_core.specs.declared.PasetoError.{PasetoError as TokenError};
+ghost use Rattle.rusty_paseto_core.specs.declared.PasetoError.TheVariants.{Cipher};
+ghost use Rattle.rusty_paseto_paserk.specs.declared.header.PaserkVersion.TheVariants.{V1 as K1};
 ghost use Rattle.rusty_paseto.specs.Held.{counting};
+ghost use Rattle.rusty_paseto.specs.Moment.{FitsDefault};
 ghost use Rattle.rusty_paseto.specs.PasetoBuilder.{IsSame};
 ghost use Rattle.paseto_tasks.specs.Arguments.{assertion_where, binds_in, texts};
 ghost use Rattle.paseto.specs.Claims.{AreNeverSet, AreSet, all_counted, all_named};
-ghost use Rattle.paseto_tasks.specs.Error.{IsNoRefusal, IsNoUsage, IsOutside, Lacks, Says};
-ghost use Rattle.paseto_tasks.specs.Public.{DeclinesKey};
+ghost use Rattle.paseto_tasks.specs.Error.{BlamesNone, BlamesOnly, IsNoUsage, IsOfWords, IsOutside, Lacks, Says};
+ghost use Rattle.paseto_tasks.specs.KeyLine.{TakesBytes};
+ghost use Rattle.paseto_tasks.specs.Public.{DeclinesKey, MayDecline};
 ghost use Rattle.paseto.specs.Issue.{AreNever, AreOrdered, BoxesClaims, DeclinesOrder, IsOrder, IsRepeatedLine, Issues, IssuesNone, SealsClaims, SealsIn, SignsClaims, SignsIn, SignsNone, SignsOrder, keys_set, ordered};
 ghost use Rattle.paseto.specs.Times.{IsNeverSet, IsTimeSet, SaysTime, time_counted};
 
@@ -22,9 +26,9 @@ use crate::commands::times::moment_of;
 use jiff::Timestamp;
 use paseto_ed25519::Ed25519;
 use paseto_p384::P384;
-use paseto_rsa::RsaPss;
 use paseto_tasks::{
-    Options, PairLines, ProgramError, Salt, TimeOption, begins_as, signer, takes, with_line_feed,
+    Options, PairLines, ProgramError, SaltedRsa, TimeOption, begins_as, signer, takes,
+    with_line_feed,
 };
 use paseto_xchacha20poly1305::XChaCha20Poly1305;
 use rand_core::TryRng;
@@ -37,7 +41,7 @@ use rusty_paseto_claims::moment_text;
 use rusty_paseto_paserk::{PaserkError, PaserkType, PaserkVersion, local_from_paserk};
 use std::alloc::Global;
 
-/// What a token is to say, beside what a default builder says at a moment.
+/// The content of a token, apart from what a default builder adds at a moment.
 #[derive(Drop)]
 pub struct Order<'w> {
     moment: Timestamp,
@@ -49,7 +53,7 @@ pub struct Order<'w> {
 }
 
 impl<'w> Order<'w> {
-    /// What the words of a command say.
+    /// Parses the content in a command's arguments.
     pub fn parse(
         alloc: Global,
         words: &[&str],
@@ -60,7 +64,7 @@ impl<'w> Order<'w> {
             (texts words.now) options.now now (ordered order)) }
         ensures none { IfErr result (Lacks (λ order. IsOrder
             (texts words.now) options.now now order)) }
-        ensures no_refusal { IfErr result IsNoRefusal }
+        ensures of_words { IfErr result IsOfWords }
     {
         Ok(Order {
             moment: now,
@@ -73,7 +77,7 @@ impl<'w> Order<'w> {
     }
 }
 
-/// The moment that the word of an option says, where there is one.
+/// The moment that an option gives, if it is given.
 fn time_of(
     option: TimeOption,
     word: Option<&str>,
@@ -83,7 +87,7 @@ fn time_of(
         (option_map (λ text. text.now) word.entry) now moment) }
     ensures none { IfErr result (Lacks (λ moment. SaysTime
         (option_map (λ text. text.now) word.entry) now moment)) }
-    ensures no_refusal { IfErr result IsNoRefusal }
+    ensures of_words { IfErr result IsOfWords }
 {
     let Some(word) = word else {
         return Ok(None);
@@ -94,7 +98,7 @@ fn time_of(
     }
 }
 
-/// The line of the token that is ordered, under the key of a line.
+/// The line of the requested token, with the key of a line.
 pub fn issue<G: TryRng>(
     alloc: Global,
     key: &str,
@@ -107,6 +111,7 @@ pub fn issue<G: TryRng>(
         ⊎ IssuesNone key.now (ordered order.now)) }
     ensures usage { IfErr result (λ error. IsNoUsage error ⊎ AreNever (ordered order.now)) }
     ensures said { IfErr result (Says (IsRepeatedLine (ordered order.now))) }
+    ensures blames { IfErr result (BlamesOnly (TakesBytes key.now × G.Error) (¬ FitsDefault order.now.moment) ⊥ ⊥) }
 {
     let Some((version, kind)) = begins_as(key) else {
         return Err(ProgramError::Key(PaserkError::NoKey));
@@ -132,6 +137,7 @@ fn by_local_key<G: TryRng>(
         (λ nonce. ⊤) line)) }
     ensures usage { IfErr result (λ error. IsNoUsage error ⊎ AreNever (ordered order.now)) }
     ensures said { IfErr result (Says (IsRepeatedLine (ordered order.now))) }
+    ensures blames { IfErr result (BlamesOnly G.Error (¬ FitsDefault order.now.moment) ⊥ ⊥) }
 {
     match version {
         PaserkVersion::V1 => sealed::<V1, G>(alloc, key, order, generator),
@@ -154,11 +160,12 @@ fn by_private_key<G: TryRng>(
         ⊎ SignsNone version key.now (ordered order.now)) }
     ensures usage { IfErr result (λ error. IsNoUsage error ⊎ AreNever (ordered order.now)) }
     ensures said { IfErr result (Says (IsRepeatedLine (ordered order.now))) }
+    ensures blames { IfErr result (BlamesOnly ((version ≡ K1) × G.Error) (¬ FitsDefault order.now.moment) ⊥ ⊥) }
 {
     match version {
         PaserkVersion::V1 => {
             let mut scheme = signer(generator)?;
-            signed::<V1, RsaPss<Salt>>(alloc, &mut scheme, key, order)
+            signed::<V1, SaltedRsa>(alloc, &mut scheme, key, order)
         }
         PaserkVersion::V2 => signed::<V2, Ed25519>(alloc, &mut Ed25519, key, order),
         PaserkVersion::V3 => signed::<V3, P384>(alloc, &mut P384, key, order),
@@ -179,6 +186,7 @@ fn sealed<V: DefaultLocalVersion + Asserts, G: TryRng>(
         SealsClaims V.paserk V.design key.now (ordered order.now) (λ nonce. ⊤) line)) }
     ensures usage { IfErr result (λ error. IsNoUsage error ⊎ AreNever (ordered order.now)) }
     ensures said { IfErr result (Says (IsRepeatedLine (ordered order.now))) }
+    ensures blames { IfErr result (BlamesOnly G.Error (¬ FitsDefault order.now.moment) ⊥ ⊥) }
 {
     let key = local_from_paserk::<V>(alloc, key)?;
     let builder = builder_of::<V, Local>(alloc, order)?;
@@ -197,6 +205,7 @@ fn boxed<G: TryRng>(
         (λ nonce. ⊤) line)) }
     ensures usage { IfErr result (λ error. IsNoUsage error ⊎ AreNever (ordered order.now)) }
     ensures said { IfErr result (Says (IsRepeatedLine (ordered order.now))) }
+    ensures blames { IfErr result (BlamesOnly G.Error (¬ FitsDefault order.now.moment) ⊥ ⊥) }
 {
     let key = local_from_paserk::<V2>(alloc, key)?;
     let builder = builder_of::<V2, Local>(alloc, order)?;
@@ -220,6 +229,7 @@ fn signed<V: PairLines + Asserts + Signs<S>, S>(
         (ordered order.now)) key.now)) }
     ensures usage { IfErr result (λ error. IsNoUsage error ⊎ AreNever (ordered order.now)) }
     ensures said { IfErr result (Says (IsRepeatedLine (ordered order.now))) }
+    ensures blames { IfErr result (BlamesOnly (MayDecline V.declined Cipher) (¬ FitsDefault order.now.moment) ⊥ ⊥) }
 {
     let key = V::private_key(alloc, key)?;
     signed_by(alloc, scheme, &key.lend(), order)
@@ -244,12 +254,14 @@ fn signed_by<V: Asserts + Signs<S>, S>(
     ensures usage { IfErr result (λ error. IsNoUsage error ⊎ AreNever (ordered order.now)) }
     ensures said { HasPrivateLength V.public_design key.now
         → IfErr result (Says (IsRepeatedLine (ordered order.now))) }
+    ensures blames { HasPrivateLength V.public_design key.now
+        → IfErr result (BlamesOnly (MayDecline V.declined Cipher) (¬ FitsDefault order.now.moment) ⊥ ⊥) }
 {
     let builder = builder_of::<V, Public>(alloc, order)?;
     with_line_feed(built(alloc, builder.build(scheme, key))?)
 }
 
-/// A default builder with what is ordered.
+/// A default builder with the requested content.
 fn builder_of<'o, V: Asserts, P: PurposeTrait>(
     alloc: Global,
     order: &'o Order<'_>,
@@ -265,6 +277,7 @@ fn builder_of<'o, V: Asserts, P: PurposeTrait>(
     ensures never { IfErr result (λ error. IsOutside error ⊎ AreNever (ordered order.now)) }
     ensures usage { IfErr result (λ error. IsNoUsage error ⊎ AreNever (ordered order.now)) }
     ensures said { IfErr result (Says (λ line. ⊥)) }
+    ensures blames { IfErr result (BlamesOnly ⊥ (¬ FitsDefault order.now.moment) ⊥ ⊥) }
 {
     if !fits_default(order.moment) {
         return Err(ProgramError::Clock);
@@ -293,6 +306,7 @@ fn set_claims<V: VersionTrait, P: PurposeTrait>(
     ensures rest { builder.new.builder.paseto ≡ builder.old.builder.paseto }
     ensures never { IfErr result (λ error. IsOutside error ⊎ AreNeverSet (all_named claims.now)) }
     ensures said { IfErr result (Says (λ line. ⊥)) }
+    ensures blames { IfErr result (BlamesNone) }
 {
     let [claim, rest @ ..] = claims else {
         return Ok(());
@@ -314,6 +328,7 @@ fn set_expiry<V: VersionTrait, P: PurposeTrait>(
     ensures rest { builder.new.builder.paseto ≡ builder.old.builder.paseto }
     ensures never { IfErr result (λ error. IsOutside error ⊎ IsNeverSet (codes "exp") moment) }
     ensures said { IfErr result (Says (λ line. ⊥)) }
+    ensures blames { IfErr result (BlamesNone) }
 {
     let Some(moment) = moment else {
         return Ok(());
@@ -337,6 +352,7 @@ fn set_begin<V: VersionTrait, P: PurposeTrait>(
     ensures rest { builder.new.builder.paseto ≡ builder.old.builder.paseto }
     ensures never { IfErr result (λ error. IsOutside error ⊎ IsNeverSet (codes "nbf") moment) }
     ensures said { IfErr result (Says (λ line. ⊥)) }
+    ensures blames { IfErr result (BlamesNone) }
 {
     let Some(moment) = moment else {
         return Ok(());

@@ -1,4 +1,4 @@
-//! Rings: the keys of lines, each by its id.
+//! Key rings: the keys of lines, each by its id.
 
 ghost use Rattle.std.specs.Prelude.{◌≡◌, ◌⊎◌, IfErr, IfOk, IsTrue, OnOk};
 ghost use Rattle.serde_json.specs.View.{view};
@@ -11,8 +11,9 @@ ghost use Rattle.rusty_paseto_paserk.specs.declared.header.PaserkVersion.TheVari
 ghost use Rattle.rusty_paseto_paserk.specs.declared.header.PaserkType.TheVariants.{Local as LocalKey, Public as PublicKeys};
 ghost use Rattle.paseto_tasks.specs.Arguments.{binds_in, words_of};
 ghost use Rattle.paseto.specs.Check.{IsTheValue, demanded};
-ghost use Rattle.paseto_tasks.specs.Error.{IsFixed, IsNoUsage, IsOutside, Lacks, Says, key_error_of};
+ghost use Rattle.paseto_tasks.specs.Error.{BlamesNone, BlamesOnly, IsNoUsage, IsOutside, IsPlain, Lacks, Says, key_error_of};
 ghost use Rattle.paseto_tasks.specs.Id.{IsKeyOf};
+ghost use Rattle.paseto_tasks.specs.Public.{MayRefuse};
 ghost use Rattle.paseto.specs.Readers.{IsRingReader, reading_of, type_in, version_in};
 ghost use Rattle.paseto.specs.Ring.{AreKeysOf, IsAdded, IsInserted, IsNoLine, IsPassedOver, IsRingLine, IsRingOf, ParsesByRing, ParsesIn, ring_of};
 
@@ -33,8 +34,8 @@ use rusty_paseto_paserk::{
 use serde_json::Value;
 use std::alloc::Global;
 
-/// The claims of a token under the key of the lines that its footer names. The keys of the token's version and purpose
-/// alone are in the ring.
+/// The claims of a token, with the key of the lines that its footer names. The ring contains only
+/// keys of the token's version and purpose.
 pub fn claims_by_ring(
     alloc: Global,
     lines: &[String],
@@ -44,6 +45,7 @@ pub fn claims_by_ring(
     ensures answer { IsTheValue (λ value. ParsesByRing (words_of lines.now) (demanded demands.now).footer (demanded demands.now).assertion token.now value) result }
     ensures no_usage { IfErr result IsNoUsage }
     ensures said { IfErr result (Says (IsRingLine token.now)) }
+    ensures blames { IfErr result (BlamesNone) }
 {
     let untrusted = UntrustedToken::try_parse(token)?;
     let Some(version) = version_of(untrusted.version()) else {
@@ -96,6 +98,7 @@ fn by_local_keys(
         value) result }
     ensures no_usage { IfErr result IsNoUsage }
     ensures said { IfErr result (Says (IsRingLine token.now)) }
+    ensures blames { IfErr result (BlamesNone) }
 {
     match version {
         PaserkVersion::V1 => opened::<V1>(alloc, lines, demands, token),
@@ -116,6 +119,7 @@ fn by_public_keys(
         version (reading_of PublicKeys version) (words_of lines.now) (demanded demands.now).footer (demanded demands.now).assertion token.now value) result }
     ensures no_usage { IfErr result IsNoUsage }
     ensures said { IfErr result (Says (IsRingLine token.now)) }
+    ensures blames { IfErr result (BlamesNone) }
 {
     match version {
         PaserkVersion::V1 => Err(ProgramError::Refused(PasetoError::WrongHeader)),
@@ -136,6 +140,7 @@ fn opened<V: DefaultLocalVersion + Asserts>(
         lines.now) (demanded demands.now).footer (demanded demands.now).assertion token.now value) result }
     ensures no_usage { IfErr result IsNoUsage }
     ensures said { IfErr result (Says (IsRingLine token.now)) }
+    ensures blames { IfErr result (BlamesNone) }
 {
     let ring = local_ring::<V>(alloc, lines)?;
     let parser = demands.reader::<V, Local>(alloc);
@@ -152,6 +157,7 @@ fn unboxed(
         lines.now) (demanded demands.now).footer (demanded demands.now).assertion token.now value) result }
     ensures no_usage { IfErr result IsNoUsage }
     ensures said { IfErr result (Says (IsRingLine token.now)) }
+    ensures blames { IfErr result (BlamesNone) }
 {
     let ring = local_ring::<V2>(alloc, lines)?;
     let parser = demands.reader::<V2, Local>(alloc);
@@ -170,6 +176,7 @@ fn verified<V: Suite + Asserts + Verifies<V::Scheme>>(
         value) result }
     ensures no_usage { IfErr result IsNoUsage }
     ensures said { IfErr result (Says (IsRingLine token.now)) }
+    ensures blames { IfErr result (BlamesOnly (MayRefuse V.refused PasetoError.Cipher) ⊥ ⊥ ⊥) }
 {
     let keys = public_keys::<V>(alloc, lines)?;
     let ring = public_ring(alloc, &keys)?;
@@ -184,7 +191,7 @@ fn local_ring<V: KeyVersion>(alloc: Global, lines: &[String]) -> Result<KeyRing<
     ensures none { IfErr result (Lacks (λ keys. AreKeysOf (IsKeyOf LocalKey V.paserk) LocalKey
         V.paserk (words_of lines.now) keys)) }
     ensures limits { IfOk result (λ ring. ring.limits ≡ no_limits) }
-    ensures fixed { IfErr result IsFixed }
+    ensures plain { IfErr result IsPlain }
 {
     let [line, rest @ ..] = lines else {
         return Ok(KeyRing::new(alloc));
@@ -194,7 +201,7 @@ fn local_ring<V: KeyVersion>(alloc: Global, lines: &[String]) -> Result<KeyRing<
     Ok(ring)
 }
 
-/// Puts the key of a line into a ring, under its id.
+/// Adds the key of a line to a ring, under its id.
 fn add_line<V: KeyVersion>(
     alloc: Global,
     ring: &mut KeyRing<V>,
@@ -205,7 +212,7 @@ fn add_line<V: KeyVersion>(
     ensures none { IfErr result (λ error. IsOutside error
         ⊎ IsNoLine (IsKeyOf LocalKey V.paserk) LocalKey V.paserk line.now) }
     ensures limits { ring.new.limits ≡ ring.old.limits }
-    ensures fixed { IfErr result IsFixed }
+    ensures plain { IfErr result IsPlain }
 {
     match local_from_paserk::<V>(alloc, line) {
         Ok(key) => put(alloc, ring.add(local_id(alloc, &key)?.as_str(), key)),
@@ -221,6 +228,7 @@ fn public_ring<'k, V: KeyPairVersion>(
     ensures ring { IfOk result (λ ring. keys_of ring ≡ ring_of PublicKeys V.paserk keys.now) }
     ensures limits { IfOk result (λ ring. ring.limits ≡ no_limits) }
     ensures memory { IfErr result IsOutside }
+    ensures plain { IfErr result IsPlain }
 {
     let [key, rest @ ..] = keys else {
         return Ok(PublicKeyRing::new(alloc));
@@ -240,7 +248,7 @@ fn public_keys<V: KeyPairVersion>(
         V.paserk (words_of lines.now) keys.items) }
     ensures none { IfErr result (Lacks (λ keys. AreKeysOf (λ key. IsTrue (V.is_public_key key))
         PublicKeys V.paserk (words_of lines.now) keys)) }
-    ensures fixed { IfErr result IsFixed }
+    ensures plain { IfErr result IsPlain }
 {
     let [line, rest @ ..] = lines else {
         return Ok(Vec::new(alloc));
@@ -260,7 +268,7 @@ fn insert_line<V: KeyPairVersion>(
         V.paserk line.now keys.old.items keys.new.items) }
     ensures none { IfErr result (λ error. IsOutside error ⊎ IsNoLine
         (λ key. IsTrue (V.is_public_key key)) PublicKeys V.paserk line.now) }
-    ensures fixed { IfErr result IsFixed }
+    ensures plain { IfErr result IsPlain }
 {
     match public_key_from_paserk::<V>(alloc, line) {
         Ok(key) => Ok(keys.insert(0, key)?),
@@ -268,12 +276,12 @@ fn insert_line<V: KeyPairVersion>(
     }
 }
 
-/// A key of another version or type is none of the ring, which is no fault.
+/// A key of another version or type does not belong to the ring, which is not an error.
 fn passed_over(error: PaserkError) -> Result<(), ProgramError>
     ensures passed { OnOk result (IsPassedOver error) }
     ensures refused { IfErr result (λ refusal. (refusal ≡ key_error_of error)
         × ¬ IsPassedOver error) }
-    ensures fixed { IfErr result IsFixed }
+    ensures plain { IfErr result IsPlain }
 {
     match error {
         PaserkError::OtherVersion(_) | PaserkError::OtherType(_) => Ok(()),

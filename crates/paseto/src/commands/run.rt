@@ -1,15 +1,18 @@
-//! The commands of claims, over any generator, input and outputs.
+//! The commands on claims, over any generator, input and outputs.
 
 ghost use Rattle.std.specs.Prelude.{◌≡◌, ◌≢◌, ◌≤◌, ◌⊎◌, ℕ, List, IfOk, IfErr, IfSome, string_bytes};
 ghost use Rattle.std.specs.Io.{StartsWith};
 ghost use Rattle.std.specs.Io.KnownBytes.{Appends};
 ghost use Rattle.paseto_tasks.specs.Arguments.{texts};
 ghost use Rattle.paseto.specs.Check.{AreDemands, Demanded, DemandsNothing};
-ghost use Rattle.paseto.specs.Checked.{ChecksFor, ChecksNothing, IsCheckLineFor};
+ghost use Rattle.paseto.specs.Checked.{ChecksFor, ChecksNothing, IsCheckLineFor, IsOtherFooterFor};
+ghost use Rattle.paseto.specs.Footers.{footer_said};
 ghost use Rattle.paseto.specs.Issue.{IsIssueLineFor, IsOrder, IssuesFor, IssuesNothing, Ordered, OrdersNothing};
 ghost use Rattle.paseto_tasks.specs.declared.error.ProgramError.{ProgramError};
-ghost use Rattle.paseto_tasks.specs.Error.{IsNoRefusal, IsNoUsage, IsOutside, Says, line_of, status_of};
+ghost use Rattle.paseto_tasks.specs.Error.{BlamesOnly, IsNoRefusal, IsNoUsage, IsOutside, Says, line_of, status_of};
 ghost use Rattle.paseto_tasks.specs.Input.{line_of_input};
+ghost use Rattle.paseto_tasks.specs.KeyLine.{TakesBytes};
+ghost use Rattle.rusty_paseto.specs.Moment.{FitsDefault};
 ghost use Rattle.paseto_tasks.specs.Output.{IsLeftOf};
 
 use crate::commands::check::{Demands, Keys, check};
@@ -21,7 +24,7 @@ use rand_core::TryRng;
 use std::alloc::Global;
 use std::io::{Read, Write};
 
-/// Prints the token of claims that is ordered, and returns the status, as `run` does.
+/// Prints the requested token of claims, and returns the status, as `run` does.
 pub fn run_issue<G: TryRng, W: Write, E: Write>(
     alloc: Global,
     names: &Names<'_>,
@@ -51,6 +54,7 @@ pub fn run_issue<G: TryRng, W: Write, E: Write>(
     ensures quiet { result ≡ 0 → errors.new ≡ errors.old }
     ensures said { result ≢ 0 → (error : ProgramError) × (status_of error ≡ result)
         × Says (IsIssueLineFor (texts claims.now) options.now now) error
+        × BlamesOnly (TakesBytes key.now × G.Error) (¬ FitsDefault now) ⊥ ⊥ error
         × ((said : List ℕ) × StartsWith (line_of names.now error) said × Appends (E.contents errors.old)
         (E.contents errors.new) said) }
 {
@@ -58,7 +62,7 @@ pub fn run_issue<G: TryRng, W: Write, E: Write>(
     finish(made, names, output, errors)
 }
 
-/// The line of the token of claims that is ordered.
+/// The line of the requested token of claims.
 fn token_of<G: TryRng>(
     alloc: Global,
     claims: &[&str],
@@ -77,6 +81,7 @@ fn token_of<G: TryRng>(
     ensures ordered { IfErr result (λ error. IsNoRefusal error ⊎ ((order : Ordered)
         × IsOrder (texts claims.now) options.now now order)) }
     ensures said { IfErr result (Says (IsIssueLineFor (texts claims.now) options.now now)) }
+    ensures blames { IfErr result (BlamesOnly (TakesBytes key.now × G.Error) (¬ FitsDefault now) ⊥ ⊥) }
 {
     let order = Order::parse(alloc, claims, options, now)?;
     issue(alloc, key, &order, generator)
@@ -116,6 +121,8 @@ pub fn run_check<R: Read, W: Write, E: Write>(
     ensures said { result ≢ 0 → (error : ProgramError) × (status_of error ≡ result)
         × IfSome (R.remaining input.old) (λ bytes. Says (IsCheckLineFor (texts claims.now)
         options.now now keys.now (line_of_input bytes)) error)
+        × BlamesOnly ⊥ ⊥ ⊥ (IfSome (R.remaining input.old) (λ bytes.
+        IsOtherFooterFor keys.now (footer_said options.now) (line_of_input bytes))) error
         × ((said : List ℕ) × StartsWith (line_of names.now error) said × Appends (E.contents errors.old)
         (E.contents errors.new) said) }
 {
@@ -145,6 +152,8 @@ fn claims_line<R: Read>(
     ensures said { IfErr result (λ error. IfSome (R.remaining input.old) (λ bytes.
         Says (IsCheckLineFor (texts claims.now) options.now now keys.now
         (line_of_input bytes)) error)) }
+    ensures blames { IfErr result (BlamesOnly ⊥ ⊥ ⊥ (IfSome (R.remaining input.old) (λ bytes.
+        IsOtherFooterFor keys.now (footer_said options.now) (line_of_input bytes)))) }
 {
     let demands = Demands::parse(alloc, claims, options, now)?;
     let token = read_line(alloc, input)?;

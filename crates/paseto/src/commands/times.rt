@@ -1,10 +1,10 @@
-//! Moments and lengths of time, as words say them.
+//! Moments and lengths of time, as the arguments give them.
 
 ghost use Rattle.std.specs.Prelude.{◌≡◌, ◌≢◌, ◌≤◌, ◌*◌, ◌++◌, ◌+ℤ◌, ◌-ℤ◌, ℕ, List, pos, IfErr, IfOk, IfSome, MatchOption, option_map, string_bytes, unsigned_abs};
 ghost use Rattle.jiff.specs.Words.{IsTimestampNanos};
 ghost use Rattle.paseto.specs.Answers.{between_text, count_text, length_text, second_of};
 ghost use Rattle.paseto.specs.Times.{HasUnit, IsLeeway, IsLength, IsNumber, SaysMoment, SaysNone};
-ghost use Rattle.paseto_tasks.specs.Error.{IsNoRefusal, Lacks};
+ghost use Rattle.paseto_tasks.specs.Error.{IsOfWords, Lacks};
 
 use jiff::Timestamp;
 use paseto_tasks::{ProgramError, TimeOption};
@@ -13,7 +13,7 @@ use std::alloc::{AllocError, Global};
 /// The nanoseconds of a second.
 const SECOND: i128 = 1_000_000_000;
 
-/// The moment that a word says: a moment of RFC 3339, or a length of time after the present one.
+/// Parses a moment: a moment of RFC 3339, or a length of time after now.
 pub fn moment_of(word: &str, now: Timestamp) -> Option<Timestamp>
     ensures { MatchOption result (SaysNone word.now now)
         (λ moment. SaysMoment word.now now moment) }
@@ -27,14 +27,14 @@ pub fn moment_of(word: &str, now: Timestamp) -> Option<Timestamp>
     }
 }
 
-/// How many seconds clocks may differ by, as a word says.
+/// Parses the number of seconds by which clocks may differ.
 #[tactic(auto, using(crate::proofs::SameWords::long_leeway))]
 pub fn leeway_of(word: Option<&str>) -> Result<u32, ProgramError>
     ensures found { IfOk result (λ seconds. IsLeeway
         (option_map (λ text. text.now) word.entry) seconds) }
     ensures none { IfErr result (Lacks (λ seconds. IsLeeway
         (option_map (λ text. text.now) word.entry) seconds)) }
-    ensures no_refusal { IfErr result IsNoRefusal }
+    ensures of_words { IfErr result IsOfWords }
 {
     let Some(word) = word else {
         return Ok(0);
@@ -48,7 +48,7 @@ pub fn leeway_of(word: Option<&str>) -> Result<u32, ProgramError>
     Ok(seconds as u32)
 }
 
-/// The moment so many seconds later.
+/// The moment that many seconds later.
 fn moment_after(seconds: u64, now: Timestamp) -> Option<Timestamp>
     ensures { MatchOption result
         (¬ IsTimestampNanos (now.nanosecond +ℤ pos (seconds * 1_000_000_000)))
@@ -60,7 +60,7 @@ fn moment_after(seconds: u64, now: Timestamp) -> Option<Timestamp>
     }
 }
 
-/// How many seconds a word says: a number and `s`, `m`, `h` or `d`.
+/// Parses a length of time, a number and `s`, `m`, `h` or `d`, and returns its seconds.
 fn seconds_of(word: &str) -> Option<u64>
     ensures { MatchOption result ((seconds : ℕ) → ¬ IsLength word.now seconds)
         (λ seconds. IsLength word.now seconds) }
@@ -74,7 +74,8 @@ fn seconds_of(word: &str) -> Option<u64>
     }
 }
 
-/// What stands in front of the letter of a unit at the end of a word, and the seconds of that unit.
+/// What is in front of the letter of a unit at the end of an argument, and the seconds of that
+/// unit.
 fn unit_of(word: &str) -> Option<(&str, u64)>
     ensures small { IfSome result (λ found. found.1 ≤ 86_400) }
     ensures unit { MatchOption result
@@ -94,7 +95,7 @@ fn unit_of(word: &str) -> Option<(&str, u64)>
     }
 }
 
-/// What stands in front of the end of a text, where it ends so.
+/// What is in front of `end`, if the text ends with it.
 fn before<'a>(text: &'a str, end: &str) -> Option<&'a str>
     ensures { MatchOption result ((front : List ℕ) → text.now ≢ front ++ end.now)
         (λ front. text.now ≡ front.now ++ end.now) }
@@ -102,7 +103,7 @@ fn before<'a>(text: &'a str, end: &str) -> Option<&'a str>
     text.strip_suffix(end)
 }
 
-/// The number that a word is.
+/// Parses a number.
 fn number_of(word: &str) -> Option<u64>
     ensures { MatchOption result ((number : ℕ) → ¬ IsNumber word.now number)
         (λ number. IsNumber word.now number) }
@@ -113,7 +114,7 @@ fn number_of(word: &str) -> Option<u64>
     }
 }
 
-/// How long it is from one moment to another, in words: `3 minutes`. It is rounded down.
+/// The time between two moments, in words: `3 minutes`. It is rounded down.
 pub fn between(alloc: Global, one: Timestamp, other: Timestamp) -> Result<String, AllocError>
     ensures { IfOk result (λ text. string_bytes text
         ≡ between_text one.nanosecond other.nanosecond) }
@@ -121,7 +122,7 @@ pub fn between(alloc: Global, one: Timestamp, other: Timestamp) -> Result<String
     length_of(alloc, seconds_between(one, other))
 }
 
-/// How many whole seconds it is from one moment to another, or back.
+/// The number of whole seconds between two moments, in either order.
 fn seconds_between(one: Timestamp, other: Timestamp) -> u64
     ensures { result ≡ unsigned_abs
         (second_of other.nanosecond -ℤ second_of one.nanosecond) }
@@ -130,7 +131,7 @@ fn seconds_between(one: Timestamp, other: Timestamp) -> u64
     other.abs_diff(one)
 }
 
-/// A length of so many seconds, in words.
+/// A length of time in words.
 fn length_of(alloc: Global, seconds: u64) -> Result<String, AllocError>
     ensures { IfOk result (λ text. string_bytes text ≡ length_text seconds) }
 {

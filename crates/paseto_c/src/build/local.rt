@@ -1,4 +1,4 @@
-//! Local tokens that are built of claims.
+//! Building local tokens from claims.
 #![tactic(auto, unfolding(rusty_paseto_core::specs::Local::V3::v3, rusty_paseto_core::specs::Local::V4::v4))]
 
 ghost use Rattle.std.specs.Prelude.{◌≡◌, [], false};
@@ -20,11 +20,11 @@ use rusty_paseto::DefaultLocalVersion;
 use rusty_paseto_core::{Local, PasetoSymmetricKey, V1, V2, V3, V4};
 use std::alloc::Global;
 
-/// Builds a local token of version 1 of claims, which are the text of a JSON object, under a key of 32 bytes and a seed
-/// of 32 as its nonce.
+/// Builds a local token of version 1 from claims, which are the text of a JSON object, with a key of 32 bytes and a
+/// seed of 32 as its nonce.
 ///
-/// The token expires an hour after the moment, and is issued and usable at it, unless the claims say otherwise. The
-/// moment is in seconds after 1970-01-01T00:00:00Z.
+/// By default `exp` is an hour after the moment, and `iat` and `nbf` are the moment; the claims may set them otherwise.
+/// The moment is in seconds after 1970-01-01T00:00:00Z.
 ///
 /// Source: PASETO specification, "Version 1", "Encrypt".
 #[unsafe(no_mangle)]
@@ -49,8 +49,8 @@ pub extern "C" fn paseto_v1_local_build(
     )
 }
 
-/// Builds a local token of version 2 of claims, which are the text of a JSON object, under a key of 32 bytes and a seed
-/// of 24 as its nonce.
+/// Builds a local token of version 2 from claims, which are the text of a JSON object, with a key of 32 bytes and a
+/// seed of 24 as its nonce.
 ///
 /// The times are those of `paseto_v1_local_build`.
 ///
@@ -73,8 +73,8 @@ pub extern "C" fn paseto_v2_local_build(
     hand_over(boxed(alloc, key, seed, claims, now, footer), room, written)
 }
 
-/// Builds a local token of version 3 of claims, which are the text of a JSON object, under a key of 32 bytes and a seed
-/// of 32 as its nonce.
+/// Builds a local token of version 3 from claims, which are the text of a JSON object, with a key of 32 bytes and a
+/// seed of 32 as its nonce.
 ///
 /// The times are those of `paseto_v1_local_build`.
 ///
@@ -102,8 +102,8 @@ pub extern "C" fn paseto_v3_local_build(
     )
 }
 
-/// Builds a local token of version 4 of claims, which are the text of a JSON object, under a key of 32 bytes and a seed
-/// of 32 as its nonce.
+/// Builds a local token of version 4 from claims, which are the text of a JSON object, with a key of 32 bytes and a
+/// seed of 32 as its nonce.
 ///
 /// The times are those of `paseto_v1_local_build`.
 ///
@@ -131,7 +131,7 @@ pub extern "C" fn paseto_v4_local_build(
     )
 }
 
-/// The token of claims in version 1, 3 or 4. In version 1, which has no implicit assertion, none may be given.
+/// The token of claims in version 1, 3 or 4. In version 1 the implicit assertion must be absent.
 fn sealed<V: DefaultLocalVersion + Attaches>(
     alloc: Global,
     key: &[u8],

@@ -52,7 +52,7 @@ pub(crate) trait Makes<V, P> {
             × (error ≡ of_cipher refusal))) };
 }
 
-/// Seals in the versions 1, 3 and 4: a key, and a seed of 32 bytes as the nonce.
+/// Seals in versions 1, 3 and 4: a key, and a seed of 32 bytes as the nonce.
 #[derive(Drop)]
 pub(crate) struct Sealer<'a, V> {
     pub(crate) key: PasetoSymmetricKey<V, Local>,

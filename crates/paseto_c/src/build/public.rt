@@ -1,4 +1,4 @@
-//! Public tokens that are built of claims.
+//! Building public tokens from claims.
 
 ghost use Rattle.std.specs.Prelude.{◌≡◌, ⊤, [], Some, false, length};
 ghost use Rattle.rusty_paseto_core.specs.Public.{v2_public, v4_public};
@@ -19,8 +19,8 @@ use paseto_p384::P384;
 use rusty_paseto_core::{PasetoAsymmetricPrivateKey, Public, Signs, V1, V2, V2orV4, V3, V4};
 use std::alloc::Global;
 
-/// Builds a public token of version 1 of claims, as `paseto_v1_local_build` does, under a private key, which is a PrivateKeyInfo in DER of a key of 2048
-/// bits, with a salt of 48 bytes.
+/// Builds a public token of version 1 from claims, as `paseto_v1_local_build` does, with a private key, which is a
+/// PrivateKeyInfo in DER of a key of 2048 bits, with a salt of 48 bytes.
 ///
 /// Source: PASETO specification, "Version 1", "Sign".
 #[unsafe(no_mangle)]
@@ -47,7 +47,7 @@ pub extern "C" fn paseto_v1_public_build(
     )
 }
 
-/// Builds a public token of version 2 of claims, as `paseto_v2_local_build` does, under a private key of 64 bytes.
+/// Builds a public token of version 2 from claims, as `paseto_v2_local_build` does, with a private key of 64 bytes.
 ///
 /// Source: PASETO specification, "Version 2", "Sign".
 #[unsafe(no_mangle)]
@@ -73,7 +73,7 @@ pub extern "C" fn paseto_v2_public_build(
     )
 }
 
-/// Builds a public token of version 3 of claims, as `paseto_v3_local_build` does, under a private key of 48 bytes.
+/// Builds a public token of version 3 from claims, as `paseto_v3_local_build` does, with a private key of 48 bytes.
 ///
 /// Source: PASETO specification, "Version 3", "Sign".
 #[unsafe(no_mangle)]
@@ -100,7 +100,7 @@ pub extern "C" fn paseto_v3_public_build(
     )
 }
 
-/// Builds a public token of version 4 of claims, as `paseto_v4_local_build` does, under a private key of 64 bytes.
+/// Builds a public token of version 4 from claims, as `paseto_v4_local_build` does, with a private key of 64 bytes.
 ///
 /// Source: PASETO specification, "Version 4", "Sign".
 #[unsafe(no_mangle)]
@@ -146,7 +146,7 @@ fn rsa_built(
     built::<V1, Public, Signer<'_, V1, Salted<'_>>>(alloc, &mut maker, claims, now, footer, &[])
 }
 
-/// The token of claims, signed by Ed25519. In version 2, which has no implicit assertion, none may be given.
+/// The token of claims, signed by Ed25519. In version 2 the implicit assertion must be absent.
 fn ed25519_built<V: V2orV4 + Signs<Ed25519> + Attaches>(
     alloc: Global,
     private: &[u8],

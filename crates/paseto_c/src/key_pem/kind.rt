@@ -1,4 +1,4 @@
-//! Which key a text in PEM is.
+//! The kind of a key in PEM.
 
 ghost use Rattle.std.specs.Prelude.{◌≡◌, IfOk, MatchResult};
 ghost use Rattle.paseto_c.specs.Arguments.{Refuses};
@@ -15,8 +15,8 @@ use rusty_paseto_core::{V1, V3, V4};
 use rusty_paseto_paserk::{PaserkType, PaserkVersion};
 use std::alloc::{AllocError, Global};
 
-/// The version of the key that a text in PEM is, and its type: 2 for a private key, 3 for a public one. A key of Ed25519 is
-/// one of version 4, one of P-384 of version 3, and one of RSA of version 1.
+/// The version of a key in PEM, and its type: 2 for a private key, 3 for a public one. An Ed25519 key has version 4, a
+/// P-384 key version 3, and an RSA key version 1.
 ///
 /// Source: RFC 7468, section 3; RFC 8410; RFC 5480; RFC 8017, appendix A.1.
 #[unsafe(no_mangle)]

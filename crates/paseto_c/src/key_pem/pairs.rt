@@ -29,7 +29,7 @@ pub extern "C" fn paseto_v1_private_key_to_pem(
     hand_over(private_text::<V1>(alloc, key), room, written)
 }
 
-/// The private key of version 1, a PrivateKeyInfo in DER of an RSA key of 2048 bits, whose text this is.
+/// The private key of version 1, a PrivateKeyInfo in DER of an RSA key of 2048 bits, with this text.
 ///
 /// Source: RFC 7468, section 10; RFC 5208, section 5; RFC 8017, appendix A.1.2.
 #[unsafe(no_mangle)]
@@ -61,7 +61,7 @@ pub extern "C" fn paseto_v1_public_key_to_pem(
     hand_over(public_text::<V1>(alloc, key), room, written)
 }
 
-/// The public key of version 1, an RSAPublicKey in DER of a key of 2048 bits, whose text this is.
+/// The public key of version 1, an RSAPublicKey in DER of a key of 2048 bits, with this text.
 ///
 /// Source: RFC 7468, section 13; RFC 5280, section 4.1; RFC 8017, appendix A.1.1.
 #[unsafe(no_mangle)]
@@ -93,7 +93,7 @@ pub extern "C" fn paseto_v2_private_key_to_pem(
     hand_over(private_text::<V2>(alloc, key), room, written)
 }
 
-/// The private key of 64 bytes of version 2, whose text this is.
+/// The private key of 64 bytes of version 2, with this text.
 ///
 /// Source: RFC 7468, section 10; RFC 8410, section 7.
 #[unsafe(no_mangle)]
@@ -125,7 +125,7 @@ pub extern "C" fn paseto_v2_public_key_to_pem(
     hand_over(public_text::<V2>(alloc, key), room, written)
 }
 
-/// The public key of 32 bytes of version 2, whose text this is.
+/// The public key of 32 bytes of version 2, with this text.
 ///
 /// Source: RFC 7468, section 13; RFC 8410, section 4.
 #[unsafe(no_mangle)]
@@ -157,7 +157,7 @@ pub extern "C" fn paseto_v3_private_key_to_pem(
     hand_over(private_text::<V3>(alloc, key), room, written)
 }
 
-/// The private key of 48 bytes of version 3, whose text this is.
+/// The private key of 48 bytes of version 3, with this text.
 ///
 /// Source: RFC 7468, section 10; RFC 5208, section 5; RFC 5915, section 3.
 #[unsafe(no_mangle)]
@@ -189,7 +189,7 @@ pub extern "C" fn paseto_v3_public_key_to_pem(
     hand_over(public_text::<V3>(alloc, key), room, written)
 }
 
-/// The public key of 49 bytes of version 3, whose text this is.
+/// The public key of 49 bytes of version 3, with this text.
 ///
 /// Source: RFC 7468, section 13; RFC 5480, section 2.
 #[unsafe(no_mangle)]
@@ -221,7 +221,7 @@ pub extern "C" fn paseto_v4_private_key_to_pem(
     hand_over(private_text::<V4>(alloc, key), room, written)
 }
 
-/// The private key of 64 bytes of version 4, whose text this is.
+/// The private key of 64 bytes of version 4, with this text.
 ///
 /// Source: RFC 7468, section 10; RFC 8410, section 7.
 #[unsafe(no_mangle)]
@@ -253,7 +253,7 @@ pub extern "C" fn paseto_v4_public_key_to_pem(
     hand_over(public_text::<V4>(alloc, key), room, written)
 }
 
-/// The public key of 32 bytes of version 4, whose text this is.
+/// The public key of 32 bytes of version 4, with this text.
 ///
 /// Source: RFC 7468, section 13; RFC 8410, section 4.
 #[unsafe(no_mangle)]

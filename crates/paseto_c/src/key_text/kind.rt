@@ -1,4 +1,4 @@
-//! Which key a text is.
+//! The kind of a key in PASERK.
 
 ghost use Rattle.std.specs.Prelude.{◌≡◌};
 ghost use Rattle.paseto_c.specs.KeyText.{IsKindAnswered, type_number, version_number};
@@ -8,8 +8,8 @@ use crate::arguments::str_of;
 use crate::refusal::Refusal;
 use rusty_paseto_paserk::{PaserkType, PaserkVersion, header_of};
 
-/// The version of the key that a text begins as, from 1 to 4, and its type: 1 for a key of local tokens, 2 for a private
-/// key, 3 for a public one. What stands behind may be no key.
+/// The version in the header of a key's text, from 1 to 4, and the type: 1 for a key for local tokens, 2 for a private
+/// key, 3 for a public one. It does not check what follows the header.
 #[unsafe(no_mangle)]
 pub extern "C" fn paseto_key_kind(text: &[u8], version: &mut u8, kind: &mut u8) -> u8
     ensures { IsKindAnswered text.now version.new kind.new result }

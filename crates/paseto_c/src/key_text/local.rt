@@ -26,7 +26,7 @@ pub extern "C" fn paseto_v1_local_key_to_paserk(
     hand_over(local_text::<V1>(alloc, key), room, written)
 }
 
-/// The key of 32 bytes for local tokens of version 1 that a text is.
+/// Reads a key of 32 bytes for local tokens of version 1 from its text.
 ///
 /// Source: PASERK specification, type `local`.
 #[unsafe(no_mangle)]
@@ -74,7 +74,7 @@ pub extern "C" fn paseto_v2_local_key_to_paserk(
     hand_over(local_text::<V2>(alloc, key), room, written)
 }
 
-/// The key of 32 bytes for local tokens of version 2 that a text is.
+/// Reads a key of 32 bytes for local tokens of version 2 from its text.
 ///
 /// Source: PASERK specification, type `local`.
 #[unsafe(no_mangle)]
@@ -122,7 +122,7 @@ pub extern "C" fn paseto_v3_local_key_to_paserk(
     hand_over(local_text::<V3>(alloc, key), room, written)
 }
 
-/// The key of 32 bytes for local tokens of version 3 that a text is.
+/// Reads a key of 32 bytes for local tokens of version 3 from its text.
 ///
 /// Source: PASERK specification, type `local`.
 #[unsafe(no_mangle)]
@@ -170,7 +170,7 @@ pub extern "C" fn paseto_v4_local_key_to_paserk(
     hand_over(local_text::<V4>(alloc, key), room, written)
 }
 
-/// The key of 32 bytes for local tokens of version 4 that a text is.
+/// Reads a key of 32 bytes for local tokens of version 4 from its text.
 ///
 /// Source: PASERK specification, type `local`.
 #[unsafe(no_mangle)]

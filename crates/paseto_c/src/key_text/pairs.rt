@@ -30,7 +30,7 @@ pub extern "C" fn paseto_v2_private_key_to_paserk(
     hand_over(private_text::<V2>(alloc, key), room, written)
 }
 
-/// The private key of 64 bytes of version 2 that a text is.
+/// Reads a private key of 64 bytes of version 2 from its text.
 ///
 /// Source: PASERK specification, type `secret`.
 #[unsafe(no_mangle)]
@@ -78,7 +78,7 @@ pub extern "C" fn paseto_v2_public_key_to_paserk(
     hand_over(public_text::<V2>(alloc, key), room, written)
 }
 
-/// The public key of 32 bytes of version 2 that a text is.
+/// Reads a public key of 32 bytes of version 2 from its text.
 ///
 /// Source: PASERK specification, type `public`.
 #[unsafe(no_mangle)]
@@ -126,7 +126,7 @@ pub extern "C" fn paseto_v3_private_key_to_paserk(
     hand_over(private_text::<V3>(alloc, key), room, written)
 }
 
-/// The private key of 48 bytes of version 3 that a text is.
+/// Reads a private key of 48 bytes of version 3 from its text.
 ///
 /// Source: PASERK specification, type `secret`.
 #[unsafe(no_mangle)]
@@ -174,7 +174,7 @@ pub extern "C" fn paseto_v3_public_key_to_paserk(
     hand_over(public_text::<V3>(alloc, key), room, written)
 }
 
-/// The public key of 49 bytes of version 3 that a text is.
+/// Reads a public key of 49 bytes of version 3 from its text.
 ///
 /// Source: PASERK specification, type `public`.
 #[unsafe(no_mangle)]
@@ -222,7 +222,7 @@ pub extern "C" fn paseto_v4_private_key_to_paserk(
     hand_over(private_text::<V4>(alloc, key), room, written)
 }
 
-/// The private key of 64 bytes of version 4 that a text is.
+/// Reads a private key of 64 bytes of version 4 from its text.
 ///
 /// Source: PASERK specification, type `secret`.
 #[unsafe(no_mangle)]
@@ -270,7 +270,7 @@ pub extern "C" fn paseto_v4_public_key_to_paserk(
     hand_over(public_text::<V4>(alloc, key), room, written)
 }
 
-/// The public key of 32 bytes of version 4 that a text is.
+/// Reads a public key of 32 bytes of version 4 from its text.
 ///
 /// Source: PASERK specification, type `public`.
 #[unsafe(no_mangle)]

@@ -1,4 +1,4 @@
-//! Claims of local tokens.
+//! Parsing local tokens.
 #![tactic(auto, unfolding(rusty_paseto_core::specs::Local::V1::v1, rusty_paseto_core::specs::Local::V3::v3, rusty_paseto_core::specs::Local::V4::v4))]
 
 ghost use Rattle.std.specs.Prelude.{◌≡◌, [], false};
@@ -22,10 +22,10 @@ use rusty_paseto::{DefaultLocalVersion, PasetoParser};
 use rusty_paseto_core::{Local, PasetoSymmetricKey, V1, V2, V3, V4};
 use std::alloc::Global;
 
-/// Opens a local token of version 1 under a key of 32 bytes, and answers its claims as compact JSON.
+/// Decrypts a local token of version 1 with a key of 32 bytes, checks it, and returns its claims as compact JSON.
 ///
-/// The times are checked at the moment, which is in seconds after 1970-01-01T00:00:00Z. Each member of the JSON object
-/// `expected` is to be among the claims.
+/// The times are compared with the moment, which is in seconds after 1970-01-01T00:00:00Z. Each member of the JSON
+/// object `expected` must be among the claims.
 ///
 /// Source: PASETO specification, "Version 1", "Decrypt".
 #[unsafe(no_mangle)]
@@ -60,7 +60,7 @@ pub extern "C" fn paseto_v1_local_parse(
     )
 }
 
-/// The same with what more is demanded, and with the line that tells a refusal.
+/// The same with options, and with an error message.
 #[unsafe(no_mangle)]
 pub extern "C" fn paseto_v1_local_parse_with(
     alloc: Global,
@@ -89,9 +89,9 @@ pub extern "C" fn paseto_v1_local_parse_with(
     )
 }
 
-/// Opens a local token of version 2 under a key of 32 bytes, and answers its claims as compact JSON.
+/// Decrypts a local token of version 2 with a key of 32 bytes, checks it, and returns its claims as compact JSON.
 ///
-/// What is checked is what `paseto_v1_local_parse` checks.
+/// It checks the same as `paseto_v1_local_parse`.
 ///
 /// Source: PASETO specification, "Version 2", "Decrypt".
 #[unsafe(no_mangle)]
@@ -117,7 +117,7 @@ pub extern "C" fn paseto_v2_local_parse(
     )
 }
 
-/// The same with what more is demanded, and with the line that tells a refusal.
+/// The same with options, and with an error message.
 #[unsafe(no_mangle)]
 pub extern "C" fn paseto_v2_local_parse_with(
     alloc: Global,
@@ -146,9 +146,9 @@ pub extern "C" fn paseto_v2_local_parse_with(
     )
 }
 
-/// Opens a local token of version 3 under a key of 32 bytes, and answers its claims as compact JSON.
+/// Decrypts a local token of version 3 with a key of 32 bytes, checks it, and returns its claims as compact JSON.
 ///
-/// What is checked is what `paseto_v1_local_parse` checks.
+/// It checks the same as `paseto_v1_local_parse`.
 ///
 /// Source: PASETO specification, "Version 3", "Decrypt".
 #[unsafe(no_mangle)]
@@ -184,7 +184,7 @@ pub extern "C" fn paseto_v3_local_parse(
     )
 }
 
-/// The same with what more is demanded, and with the line that tells a refusal.
+/// The same with options, and with an error message.
 #[unsafe(no_mangle)]
 pub extern "C" fn paseto_v3_local_parse_with(
     alloc: Global,
@@ -214,9 +214,9 @@ pub extern "C" fn paseto_v3_local_parse_with(
     )
 }
 
-/// Opens a local token of version 4 under a key of 32 bytes, and answers its claims as compact JSON.
+/// Decrypts a local token of version 4 with a key of 32 bytes, checks it, and returns its claims as compact JSON.
 ///
-/// What is checked is what `paseto_v1_local_parse` checks.
+/// It checks the same as `paseto_v1_local_parse`.
 ///
 /// Source: PASETO specification, "Version 4", "Decrypt".
 #[unsafe(no_mangle)]
@@ -252,7 +252,7 @@ pub extern "C" fn paseto_v4_local_parse(
     )
 }
 
-/// The same with what more is demanded, and with the line that tells a refusal.
+/// The same with options, and with an error message.
 #[unsafe(no_mangle)]
 pub extern "C" fn paseto_v4_local_parse_with(
     alloc: Global,
@@ -282,7 +282,7 @@ pub extern "C" fn paseto_v4_local_parse_with(
     )
 }
 
-/// The claims of a token of version 1, 3 or 4. In version 1, which has no implicit assertion, none may be given.
+/// The claims of a token of version 1, 3 or 4. In version 1 the implicit assertion must be absent.
 fn opened<V: DefaultLocalVersion + Attaches>(
     alloc: Global,
     key: &[u8],

@@ -1,4 +1,4 @@
-//! Claims of public tokens.
+//! Parsing public tokens.
 
 ghost use Rattle.std.specs.Prelude.{◌≡◌, ⊤, [], false, length};
 ghost use Rattle.rusty_paseto_core.specs.Public.{v2_public, v4_public};
@@ -23,9 +23,8 @@ use rusty_paseto::PasetoParser;
 use rusty_paseto_core::{PasetoAsymmetricPublicKey, Public, V1, V2, V2orV4, V3, V4, Verifies};
 use std::alloc::Global;
 
-/// Verifies a public token of version 1 under a public key, which is an RSAPublicKey in DER of a key of 2048
-/// bits, and answers its claims, as
-/// `paseto_v1_local_parse` does.
+/// Verifies a public token of version 1 with a public key, which is an RSAPublicKey in DER of a key of 2048 bits, and
+/// returns its claims, as `paseto_v1_local_parse` does.
 ///
 /// Source: PASETO specification, "Version 1", "Verify".
 #[unsafe(no_mangle)]
@@ -51,7 +50,7 @@ pub extern "C" fn paseto_v1_public_parse(
     )
 }
 
-/// The same with what more is demanded, and with the line that tells a refusal.
+/// The same with options, and with an error message.
 #[unsafe(no_mangle)]
 pub extern "C" fn paseto_v1_public_parse_with(
     alloc: Global,
@@ -80,7 +79,7 @@ pub extern "C" fn paseto_v1_public_parse_with(
     )
 }
 
-/// Verifies a public token of version 2 under a public key of 32 bytes, and answers its claims, as
+/// Verifies a public token of version 2 with a public key of 32 bytes, and returns its claims, as
 /// `paseto_v2_local_parse` does.
 ///
 /// Source: PASETO specification, "Version 2", "Verify".
@@ -116,7 +115,7 @@ pub extern "C" fn paseto_v2_public_parse(
     )
 }
 
-/// The same with what more is demanded, and with the line that tells a refusal.
+/// The same with options, and with an error message.
 #[unsafe(no_mangle)]
 pub extern "C" fn paseto_v2_public_parse_with(
     alloc: Global,
@@ -145,7 +144,7 @@ pub extern "C" fn paseto_v2_public_parse_with(
     )
 }
 
-/// Verifies a public token of version 3 under a public key of 49 bytes, and answers its claims, as
+/// Verifies a public token of version 3 with a public key of 49 bytes, and returns its claims, as
 /// `paseto_v3_local_parse` does.
 ///
 /// Source: PASETO specification, "Version 3", "Verify".
@@ -182,7 +181,7 @@ pub extern "C" fn paseto_v3_public_parse(
     )
 }
 
-/// The same with what more is demanded, and with the line that tells a refusal.
+/// The same with options, and with an error message.
 #[unsafe(no_mangle)]
 pub extern "C" fn paseto_v3_public_parse_with(
     alloc: Global,
@@ -214,7 +213,7 @@ pub extern "C" fn paseto_v3_public_parse_with(
     )
 }
 
-/// Verifies a public token of version 4 under a public key of 32 bytes, and answers its claims, as
+/// Verifies a public token of version 4 with a public key of 32 bytes, and returns its claims, as
 /// `paseto_v4_local_parse` does.
 ///
 /// Source: PASETO specification, "Version 4", "Verify".
@@ -251,7 +250,7 @@ pub extern "C" fn paseto_v4_public_parse(
     )
 }
 
-/// The same with what more is demanded, and with the line that tells a refusal.
+/// The same with options, and with an error message.
 #[unsafe(no_mangle)]
 pub extern "C" fn paseto_v4_public_parse_with(
     alloc: Global,
@@ -316,7 +315,7 @@ fn rsa_parsed(
     )
 }
 
-/// The claims of a token that Ed25519 verifies. In version 2, which has no implicit assertion, none may be given.
+/// The claims of a token that Ed25519 verifies. In version 2 the implicit assertion must be absent.
 fn ed25519_parsed<V: V2orV4 + Verifies<Ed25519> + Attaches>(
     alloc: Global,
     public: &[u8],

@@ -43,7 +43,7 @@ pub(crate) trait Reads<V, P> {
             token.now result };
 }
 
-/// Opens tokens of the versions 1, 3 and 4 under a key.
+/// Opens tokens of versions 1, 3 and 4 under a key.
 #[derive(Drop)]
 pub(crate) struct Opener<V> {
     pub(crate) key: PasetoSymmetricKey<V, Local>,

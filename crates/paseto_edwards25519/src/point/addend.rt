@@ -1,11 +1,12 @@
-//! A point that is added, as what a sum reads of it.
+//! A point to be added, as the values that a sum reads.
 
 ghost use Rattle.paseto_edwards25519.specs.Extended.{IsExtended, between};
 ghost use Rattle.paseto_edwards25519.specs.Field.{IsCarried, number};
 
 use crate::field::FieldElement;
 
-/// What each sum needs of a point, made once: Y - X, Y + X, Z and 2 * d * T (RFC 8032, section 5.1.4).
+/// The values that each sum needs of a point, computed once: Y - X, Y + X, Z and 2 * d * T (RFC
+/// 8032, section 5.1.4).
 #[derive(Clone, Copy)]
 pub(crate) struct Addend {
     pub(crate) difference: FieldElement,

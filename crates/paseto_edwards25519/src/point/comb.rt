@@ -1,4 +1,5 @@
-//! The multiple of the base point, by a table of multiples. No branch and no address depends on the scalar.
+//! Multiples of the base point, from a table of multiples. No branch and no address depends on the
+//! scalar.
 
 ghost use Rattle.std.specs.Prelude.{◌≡◌, ◌≢◌, ℕ, ◌+◌, ◌*◌, ◌/◌, ◌%◌, ◌^◌, ◌<◌, replicate};
 ghost use Rattle.paseto_edwards.specs.Group.{neutral};
@@ -99,7 +100,7 @@ fn multiple_at(row: usize, at: u128) -> Addend
     entry_addend(&select(row, at), row, at)
 }
 
-/// The multiple of the base point by a number below 16 that is no secret.
+/// The multiple of the base point by a number below 16 that is not secret.
 pub(crate) fn known_multiple(at: u128) -> Addend
     requires { at < 16 }
     ensures is { affine (prepared result) ≡ multiple at base }

@@ -5,8 +5,8 @@ ghost use Rattle.paseto_edwards25519.specs.Field.{number};
 
 use crate::field::FieldElement;
 
-/// The point (E * F, G * H, F * G, E * H), with the names of RFC 8032, section 5.1.4: what a sum or a double is before
-/// the products of which T is not always asked.
+/// The point (E * F, G * H, F * G, E * H), with the names of RFC 8032, section 5.1.4: a sum or a
+/// double before its last products, of which T is not always needed.
 #[derive(Clone, Copy)]
 pub(crate) struct Completed {
     pub(crate) e: FieldElement,

@@ -1,4 +1,5 @@
-//! The sum of a multiple of the base point and of a multiple of another point. Neither number is a secret.
+//! The sum of a multiple of the base point and a multiple of another point. Neither number is
+//! secret.
 
 ghost use Rattle.std.specs.Prelude.{◌≡◌, ◌≢◌, ℕ, ◌+◌, ◌*◌, ◌%◌, ◌^◌, ◌<◌, get_or};
 ghost use Rattle.paseto_edwards.specs.Group.{Affine};
@@ -91,8 +92,8 @@ fn add_listed(p: Completed, digit: u8, table: &[Addend; 16]) -> Completed
     add(to_extended(p), &table[digit as usize / 2])
 }
 
-/// The sum of the multiple of the base point by `s` and of the multiple of another point by `k`, in a time that
-/// may depend on all of them.
+/// The sum of the multiple of the base point by `s` and the multiple of another point by `k`. The
+/// time may depend on all of them.
 pub fn multiply_both(s: &[u8; 32], k: &[u8; 32], a: ExtendedPoint) -> ProjectivePoint
     ensures { affine (projected result) ≡ sum (multiple (number32 s.now) base)
         (multiple (number32 k.now) (point a)) }

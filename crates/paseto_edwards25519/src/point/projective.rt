@@ -5,8 +5,8 @@ ghost use Rattle.paseto_edwards25519.specs.Field.{IsCarried, number};
 
 use crate::field::FieldElement;
 
-/// A point (X, Y, Z) of the curve, with x = X / Z and y = Y / Z: an extended one without T, which a double does not
-/// read.
+/// A point (X, Y, Z) of the curve, with x = X / Z and y = Y / Z: an extended point without T, which
+/// doubling does not read.
 #[derive(Clone, Copy)]
 pub struct ProjectivePoint {
     pub(crate) x: FieldElement,

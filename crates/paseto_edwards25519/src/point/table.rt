@@ -1,12 +1,12 @@
-//! The multiples of the base point that are added up to any other.
+//! The multiples of the base point that sum to any other multiple.
 
 ghost use Rattle.std.specs.Prelude.{◌≡◌, ◌*◌, ◌^◌, ◌<◌};
 ghost use Rattle.paseto_edwards25519.specs.Table.{IsEntry};
 
-/// How many multiples a row of the table has.
+/// The number of multiples in a row of the table.
 pub(crate) const ENTRIES: usize = 16;
 
-/// How many rows the table has.
+/// The number of rows of the table.
 pub(crate) const ROWS: usize = 16;
 
 // Entry j of row m is the multiple of B by j * 2^(16 * m), by Y - X, Y + X and 2 * d * T where Z is 1: of each the

@@ -1,8 +1,8 @@
-//! What the sum of two points is told by.
+//! The products that the sum of two points needs.
 
 use crate::field::FieldElement;
 
-/// The products of the coordinates of two points by which their sum is told, with the names of its definition.
+/// The products of the coordinates of two points that their sum needs, with the names of its definition.
 #[derive(Clone, Copy)]
 pub(crate) struct Products {
     pub(crate) xx: FieldElement,

@@ -1,11 +1,11 @@
 //! The toy box by itself.
 
 use crate::expect::{expect_same, expect_that};
-use paseto_toys::ToyBox;
-use paseto_toys::long::text_of;
 use rusty_paseto_core::SealedBox;
 use std::alloc::{AllocError, Global};
 use std::process::Abort;
+use test_toys::ToyBox;
+use test_toys::long::text_of;
 
 const KEY: [u8; 32] = [7; 32];
 

@@ -209,8 +209,8 @@ const LINES: &[(&str, &str)] = &[
     ("k1.secret.abcd", "The text is no PEM"),
     (RSA_PUBLIC, "The text is a public key"),
     (P384_PRIVATE, "The key is one of another algorithm"),
-    (LOCAL4, "the system gave no random bytes"),
-    (EDWARDS_SECRET, "the system gave no random bytes"),
+    (LOCAL4, "the system returned no random bytes"),
+    (EDWARDS_SECRET, "the system returned no random bytes"),
 ];
 
 #[test]
@@ -282,7 +282,11 @@ fn lines_that_are_not_sealed(rt: HostRuntime) {
             LOCAL4,
             "this key is one for local tokens, and another type is needed",
         ),
-        (SEALING_PUBLIC4, LOCAL4, "the system gave no random bytes"),
+        (
+            SEALING_PUBLIC4,
+            LOCAL4,
+            "the system returned no random bytes",
+        ),
     ] {
         let mut generator = Given { bytes: &[] };
         expect_fault(&rt, seal(alloc, public, &mut generator, line), wanted);

@@ -4,10 +4,10 @@ use super::Repeated;
 use crate::expect::{expect_digits, expect_text, expect_that};
 use crate::hexadecimal::{array_of, bytes_of};
 use paseto_rsa::{PublicKey, RsaPss};
-use paseto_toys::generators::Failing;
 use rusty_paseto_core::{
     Footer, Paseto, PasetoAsymmetricPublicKey, PasetoError, Public, SignatureScheme, V1,
 };
+use test_toys::generators::Failing;
 
 // A private key of OpenSSL in PKCS #8.
 pub(crate) const PRIVATE: &str = concat!(

@@ -2,10 +2,10 @@
 
 use crate::expect::{expect_same, expect_that};
 use crate::hexadecimal::array_of;
-use paseto_toys::{Refusing, ToyV1, ToyV2, ToyV3, ToyV4, toy_partner, toy_partner_v3};
 use rusty_paseto_core::{CompressedKey, PasetoError, SignatureScheme};
 use std::alloc::Global;
 use std::process::Abort;
+use test_toys::{Refusing, ToyV1, ToyV2, ToyV3, ToyV4, toy_partner, toy_partner_v3};
 
 const PRIVATE: &[u8] = b"private";
 

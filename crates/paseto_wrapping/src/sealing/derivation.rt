@@ -20,7 +20,7 @@ const AUTHENTICATION: u8 = 2;
 // How many bytes an encryption key has.
 const KEY_LENGTH: usize = 32;
 
-/// The encryption key and, behind it, the nonce of the cipher.
+/// The encryption key, followed by the nonce of the cipher.
 #[tactic(auto, unfolding(crate::specs::Sealing::encryption_of))]
 pub(crate) fn encryption_key(version: PaserkVersion, xk: &[u8], epk: &[u8], public: &[u8]) -> Digest
     ensures value { digest_bytes result ≡ encryption_of (family_of version)

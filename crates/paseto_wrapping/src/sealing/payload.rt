@@ -45,7 +45,7 @@ fn tag_of(version: PaserkVersion, xk: &[u8], epk: &[u8], public: &[u8], cipherte
     family::tag_of(key.as_bytes(), version, WrappedType::Seal, epk, ciphertext)
 }
 
-/// The payload that seals a key. It fails only by `Memory`.
+/// The payload that seals a key. It fails only with `Memory`.
 pub(crate) fn sealed(
     alloc: Global,
     version: PaserkVersion,
@@ -66,8 +66,8 @@ pub(crate) fn sealed(
     Ok(payload)
 }
 
-/// The key that a payload seals, whose tag is compared in one step before anything is decrypted. `WrongKey` comes
-/// exactly where the tag is another one.
+/// The key that a payload seals, whose tag is compared in one step before anything is decrypted. `WrongKey` is returned
+/// if and only if the tag is another one.
 pub(crate) fn opened(
     alloc: Global,
     version: PaserkVersion,

@@ -1,4 +1,4 @@
-//! Rings that open local tokens of version 2, by a box.
+//! Rings that open local tokens of version 2 with a box.
 
 ghost use Rattle.std.specs.Prelude.{[], None};
 ghost use Rattle.rusty_paseto_core.specs.Local.Boxed.{box_opening};
@@ -17,8 +17,8 @@ use rusty_paseto_generic::GenericParser;
 use serde_json::Value;
 
 impl Ring<PasetoSymmetricKey<V2, Local>> {
-    /// Opens a token by the caller's box under the key that its footer names, and checks no claim: the id, and the
-    /// text that was sealed. The faults are those of the other versions' `open`, in the same order.
+    /// Decrypts a token with the caller's box and the key that its footer names, without checking claims: returns the
+    /// id and the text. The errors are those of the other versions' `open`, in the same order.
     pub fn open<S: SealedBox>(
         &self,
         sealed_box: &S,
@@ -31,8 +31,8 @@ impl Ring<PasetoSymmetricKey<V2, Local>> {
         self.open_bound(sealed_box, token, None, None)
     }
 
-    /// Opens a token by the caller's box, and answers the id and the value of its text, which passes the parser's
-    /// checks, as the other versions' `parse` does.
+    /// Decrypts a token with the caller's box, and returns the id and the claims, which pass the parser's checks, as
+    /// the other versions' `parse` does.
     pub fn parse<S: SealedBox>(
         &self,
         sealed_box: &S,
@@ -49,7 +49,7 @@ impl Ring<PasetoSymmetricKey<V2, Local>> {
         self.parse_by(sealed_box, &parser.parser, token)
     }
 
-    /// The same by a generic parser.
+    /// The same with a generic parser.
     pub fn parse_by<S: SealedBox>(
         &self,
         sealed_box: &S,

@@ -9,7 +9,7 @@ use rusty_paseto_core::{PurposeTrait, VersionTrait};
 use rusty_paseto_generic::GenericParser;
 use serde_json::Value;
 
-/// The id with the value of the text that a ring opened, which passes the parser's checks, or why there is none.
+/// The id with the value of the text that a ring decrypted, which passes the parser's checks, or the error.
 pub(super) fn claims_of<V: VersionTrait, P: PurposeTrait>(
     parser: &GenericParser<'_, V, P>,
     opened: Result<(String, String), KeyRingError>,

@@ -5,7 +5,7 @@ ghost use Rattle.rusty_paseto.specs.KeyRing.{is_too_long, no_limits};
 
 use rusty_paseto_parts::{has_longer_footer, is_longer};
 
-/// The most bytes of a token, and of its footer, where there are limits.
+/// The most bytes of a token, and of its footer, if there are limits.
 #[derive(Clone, Copy)]
 pub(crate) struct Limits {
     pub(crate) token: Option<usize>,

@@ -21,13 +21,14 @@ use rusty_paseto_generic::GenericParser;
 use serde_json::Value;
 
 impl<V: DefaultLocalVersion> Ring<PasetoSymmetricKey<V, Local>> {
-    /// Opens a token under the key that its footer names and under the parser's implicit assertion, and answers the
-    /// id and the value of its text, which passes the parser's checks at the parser's moment. Where a footer was set
-    /// in the parser, the token's has to be that one.
+    /// Decrypts a token with the key that its footer names and with the parser's implicit assertion, and returns the id
+    /// and the claims, which pass the parser's checks at the parser's moment. If a footer was set in the parser, the
+    /// token's footer must be the same.
     ///
-    /// Else it answers the first of these: `Ring` with the fault of `open`, where `Token` of `FooterInvalid` tells of
-    /// another footer than the parser's, and `Untrusted` of `TooLong` also of a token beyond the parser's limit; `Parser` with the fault of the text, as `parse` of the parser answers it.
-    /// `Memory` may come in place of any answer but those of a token that is too long and of a wrong number of sections.
+    /// Otherwise it returns the first of these errors: `Ring` with the error of `open`, which is `Token` of
+    /// `FooterInvalid` also for another footer than the parser's, and `Untrusted` of `TooLong` also for a token beyond
+    /// the parser's limit; `Parser` with the error for the text, as `parse` of the parser returns it. `Memory` may be
+    /// returned in place of any result, except for a token that is too long or has a wrong number of sections.
     pub fn parse(
         &self,
         parser: &PasetoParser<'_, V, Local>,
@@ -45,7 +46,7 @@ impl<V: DefaultLocalVersion> Ring<PasetoSymmetricKey<V, Local>> {
         self.parse_by(&parser.parser, token)
     }
 
-    /// The same by a generic parser.
+    /// The same with a generic parser.
     pub fn parse_by(
         &self,
         parser: &GenericParser<'_, V, Local>,
@@ -93,13 +94,13 @@ impl<V: DefaultLocalVersion> Ring<PasetoSymmetricKey<V, Local>> {
 }
 
 impl Ring<PasetoSymmetricKey<V1, Local>> {
-    /// Opens a token under the key that its footer names, and checks no claim: the id, and the text that was sealed.
+    /// Decrypts a token with the key that its footer names, without checking claims: returns the id and the text.
     ///
-    /// Else it answers the first of these: `Untrusted` of `TooLong` for a token beyond the ring's limits, where it has
-    /// any, of `IncorrectSize` for a number of sections other than three or four, and of `PayloadBase64Decode` or
-    /// `Utf8Error` for a fourth section that holds no text; `NoFooter`;
-    /// `NotAnObject`; `NoKeyId`; `UnknownKey` with the id; `Token` with the fault of `try_decrypt` under that key
-    /// and that footer. `Memory` may come in place of any answer but the first two.
+    /// Otherwise it returns the first of these errors: `Untrusted` of `TooLong` for a token beyond the ring's limits,
+    /// if it has any, of `IncorrectSize` unless there are three or four sections, and of `PayloadBase64Decode` or
+    /// `Utf8Error` for a fourth section that does not encode a text; `NoFooter`; `NotAnObject`; `NoKeyId`; `UnknownKey`
+    /// with the id; `Token` with the error of `try_decrypt` with that key and that footer. `Memory` may be returned in
+    /// place of any result but the first two.
     pub fn open(&self, token: &str) -> Result<(String, String), KeyRingError>
         ensures { IsRingAnswerWithin None self.now.limits (keys_of self.now)
             (λ key footer. opening v1 (record { key = key; footer = footer; assertion = [] }))
@@ -110,9 +111,9 @@ impl Ring<PasetoSymmetricKey<V1, Local>> {
 }
 
 impl<V: DefaultAssertionVersion> Ring<PasetoSymmetricKey<V, Local>> {
-    /// Opens a token under the key that its footer names, and under the implicit assertion, and checks no claim: the
-    /// id, and the text that was sealed. An absent assertion and the empty one are the same. The faults are those of
-    /// version 1, in the same order.
+    /// Decrypts a token with the key that its footer names and with the implicit assertion, without checking claims:
+    /// returns the id and the text. An absent assertion and the empty one are the same. The errors are those of version
+    /// 1, in the same order.
     pub fn open(
         &self,
         token: &str,

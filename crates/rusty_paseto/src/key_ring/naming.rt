@@ -12,8 +12,8 @@ use rusty_paseto_core::{Footer, PasetoError};
 use serde_json::{Map, Value};
 use std::alloc::{AllocError, Global};
 
-/// The footer that names a key, from which a ring finds it: the compact JSON of an object with the id under `kid`, as
-/// `{"kid":"2026-11"}`. The id may be any text: what JSON escapes is escaped. Nothing but memory is refused.
+/// The footer that names a key, by which a ring finds it: a compact JSON object with the id under `kid`, such as
+/// `{"kid":"2026-11"}`. The id may be any text; it is escaped as JSON requires. It fails only if an allocation fails.
 ///
 /// ```rust
 /// use anyhow::Result;
@@ -45,7 +45,7 @@ pub fn key_footer(alloc: Global, id: &str) -> Result<String, AllocError>
     Value::Object(members).to_string(alloc)
 }
 
-/// The text of the footer that stands in a token.
+/// The text of a token's footer.
 pub(super) fn footer_of(alloc: Global, token: &str) -> Result<String, KeyRingError>
     ensures ok { IfOk result (λ footer. HasFooter token.now (Some (string_bytes footer))) }
     ensures count { ¬ HasCount (sections token.now) → result ≡ Err (Untrusted IncorrectSize) }

@@ -1,4 +1,4 @@
-//! What a ring answers for what its key opened.
+//! What a ring returns for what its key opened.
 
 ghost use Rattle.rusty_paseto.specs.KeyRing.{IsOpenedUnder};
 

@@ -19,9 +19,9 @@ use rusty_paseto_generic::GenericParser;
 use serde_json::Value;
 
 impl<V: PublicVersion> Ring<PublicKey<V>> {
-    /// Verifies a token by the caller's scheme under the key that its footer names and under the parser's implicit
-    /// assertion, and answers the id and the value of its text, which passes the parser's checks, as `parse` of a
-    /// ring of lent keys does, with the same faults in the same order.
+    /// Verifies a token with the caller's scheme, the key that its footer names and the parser's implicit assertion,
+    /// and returns the id and the claims, which pass the parser's checks, as `parse` of a ring of borrowed keys does,
+    /// with the same errors in the same order.
     pub fn parse<S>(
         &self,
         scheme: &S,
@@ -42,7 +42,7 @@ impl<V: PublicVersion> Ring<PublicKey<V>> {
         self.parse_by(scheme, &parser.parser, token)
     }
 
-    /// The same by a generic parser.
+    /// The same with a generic parser.
     pub fn parse_by<S>(
         &self,
         scheme: &S,

@@ -1,4 +1,4 @@
-//! Rings of public keys, that verify public tokens by a scheme.
+//! Rings of public keys, which verify public tokens with a scheme.
 
 ghost use Rattle.std.specs.Prelude.{◌≡◌, [], false, None};
 ghost use Rattle.rusty_paseto_core.specs.Context.{assertion_of};
@@ -24,9 +24,9 @@ use rusty_paseto_generic::GenericParser;
 use serde_json::Value;
 
 impl<V: PublicVersion> Ring<PasetoAsymmetricPublicKey<'_, V, Public>> {
-    /// Verifies a token by the caller's scheme under the key that its footer names and under the parser's implicit
-    /// assertion, and answers the id and the value of its text, which passes the parser's checks, as `parse` of a
-    /// ring of local keys does. The faults are those of `verify` and then of the text, in the same order.
+    /// Verifies a token with the caller's scheme, the key that its footer names and the parser's implicit assertion,
+    /// and returns the id and the claims, which pass the parser's checks, as `parse` of a ring of local keys does. The
+    /// errors are those of `verify` and then those for the text, in the same order.
     pub fn parse<S>(
         &self,
         scheme: &S,
@@ -47,7 +47,7 @@ impl<V: PublicVersion> Ring<PasetoAsymmetricPublicKey<'_, V, Public>> {
         self.parse_by(scheme, &parser.parser, token)
     }
 
-    /// The same by a generic parser.
+    /// The same with a generic parser.
     pub fn parse_by<S>(
         &self,
         scheme: &S,
@@ -114,14 +114,14 @@ impl<V: PublicVersion> Ring<PasetoAsymmetricPublicKey<'_, V, Public>> {
 }
 
 impl Ring<PasetoAsymmetricPublicKey<'_, V1, Public>> {
-    /// Verifies a token by the caller's scheme under the key that its footer names, and checks no claim: the id, and
+    /// Verifies a token with the caller's scheme under the key that its footer names, and checks no claim: the id, and
     /// the text that was signed.
     ///
-    /// Else it answers the first of these: `Untrusted` of `TooLong` for a token beyond the ring's limits, where it has
-    /// any, of `IncorrectSize` for a number of sections other than three or four, and of `PayloadBase64Decode` or
-    /// `Utf8Error` for a fourth section that holds no text; `NoFooter`;
-    /// `NotAnObject`; `NoKeyId`; `UnknownKey` with the id; `Token` with the fault of `try_verify` under that key
-    /// and that footer. `Memory` may come in place of any answer but the first two.
+    /// Otherwise it returns the first of these errors: `Untrusted` of `TooLong` for a token beyond the ring's limits,
+    /// if it has any, of `IncorrectSize` unless there are three or four sections, and of `PayloadBase64Decode` or
+    /// `Utf8Error` for a fourth section that does not encode a text; `NoFooter`; `NotAnObject`; `NoKeyId`; `UnknownKey`
+    /// with the id; `Token` with the error of `try_verify` with that key and that footer. `Memory` may be returned in
+    /// place of any result but the first two.
     pub fn verify<S: SignatureScheme<256>>(
         &self,
         scheme: &S,
@@ -136,8 +136,8 @@ impl Ring<PasetoAsymmetricPublicKey<'_, V1, Public>> {
 }
 
 impl Ring<PasetoAsymmetricPublicKey<'_, V2, Public>> {
-    /// Verifies a token by the caller's scheme under the key that its footer names, and checks no claim: the id, and
-    /// the text that was signed. The faults are those of version 1, in the same order.
+    /// Verifies a token with the caller's scheme and the key that its footer names, without checking claims: returns
+    /// the id and the text. The errors are those of version 1, in the same order.
     pub fn verify<S: SignatureScheme<64>>(
         &self,
         scheme: &S,
@@ -152,9 +152,9 @@ impl Ring<PasetoAsymmetricPublicKey<'_, V2, Public>> {
 }
 
 impl<V: DefaultAssertionVersion> Ring<PasetoAsymmetricPublicKey<'_, V, Public>> {
-    /// Verifies a token by the caller's scheme under the key that its footer names, and under the implicit assertion,
-    /// and checks no claim: the id, and the text that was signed. An absent assertion and the empty one are the same.
-    /// The faults are those of version 1, in the same order.
+    /// Verifies a token with the caller's scheme, the key that its footer names and the implicit assertion, without
+    /// checking claims: returns the id and the text. An absent assertion and the empty one are the same. The errors are
+    /// those of version 1, in the same order.
     pub fn verify<S>(
         &self,
         scheme: &S,

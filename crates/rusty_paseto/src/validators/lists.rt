@@ -1,4 +1,4 @@
-//! Lists that hold a text.
+//! Lists that contain a text.
 
 ghost use Rattle.std.specs.Prelude.{◌≡◌, ℕ, List, IfErr, IfOk, Some, string_bytes};
 ghost use Rattle.rusty_paseto_generic.specs.Validator.{IfFault};
@@ -11,7 +11,7 @@ use rusty_paseto_generic::{PasetoClaimError, Validator};
 use serde_json::Value;
 use std::alloc::Global;
 
-/// Lets an array pass that has this text among its items, as an audience of several.
+/// Accepts an array that contains this text, for example an audience of several.
 #[derive(Drop)]
 pub struct Holding(pub String);
 

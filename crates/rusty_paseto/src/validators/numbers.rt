@@ -1,4 +1,4 @@
-//! Whole numbers within bounds.
+//! Integers within bounds.
 
 ghost use Rattle.std.specs.Prelude.{◌≡◌, ℤ, Bool, IfErr, IfOk, Some, int_le};
 ghost use Rattle.rusty_paseto_generic.specs.Validator.{IfFault};
@@ -10,7 +10,7 @@ use rusty_paseto_generic::{PasetoClaimError, Validator};
 use serde_json::Value;
 use std::alloc::Global;
 
-/// Lets a whole number pass that is this or less.
+/// Accepts an integer up to this one.
 #[derive(Drop)]
 pub struct AtMost(pub i64);
 
@@ -23,7 +23,7 @@ impl Validator for AtMost {
     }
 }
 
-/// Lets a whole number pass that is this or more.
+/// Accepts an integer from this one on.
 #[derive(Drop)]
 pub struct AtLeast(pub i64);
 
@@ -36,7 +36,7 @@ impl Validator for AtLeast {
     }
 }
 
-/// Lets a whole number pass that lies between these two, or is one of them.
+/// Accepts an integer from the lower to the upper bound, both included.
 #[derive(Drop)]
 pub struct Within {
     pub least: i64,

@@ -1,4 +1,4 @@
-//! A claim that has to be there.
+//! A claim that must be present.
 
 ghost use Rattle.rusty_paseto.specs.Validators.{present};
 
@@ -6,7 +6,7 @@ use rusty_paseto_generic::{PasetoClaimError, Validator};
 use serde_json::Value;
 use std::alloc::Global;
 
-/// Lets any value pass but null.
+/// Accepts any value but null.
 #[derive(Drop)]
 pub struct Present;
 

@@ -1,4 +1,4 @@
-//! How the validators that stand ready refuse.
+//! How the ready-made validators refuse.
 
 ghost use Rattle.std.specs.Prelude.{◌≡◌, IfErr, None, OnOk, Some};
 ghost use Rattle.rusty_paseto_claims.specs.Error.{IsFault, missing, unexpected};
@@ -11,7 +11,7 @@ use rusty_paseto_generic::PasetoClaimError;
 use serde_json::Value;
 use std::alloc::Global;
 
-/// Is `Ok` where the value may stand under the key, and else `CustomValidation` with the key.
+/// Returns `Ok` if the value is allowed under the key, and otherwise `CustomValidation` with the key.
 pub(super) fn allow(alloc: Global, key: &str, test: bool) -> Result<(), PasetoClaimError>
     ensures ok { OnOk result (allowed test key.now ≡ None) }
     ensures err { IfErr result (IsFound (allowed test key.now)) }

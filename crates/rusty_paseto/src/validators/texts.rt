@@ -12,14 +12,14 @@ use rusty_paseto_generic::{PasetoClaimError, Validator};
 use serde_json::Value;
 use std::alloc::{AllocError, Global};
 
-/// Lets a text pass that is one of these.
+/// Accepts a text that is one of these.
 #[derive(Drop)]
 pub struct OneOf {
     texts: Vec<String>,
 }
 
 impl OneOf {
-    /// The validator that lets these texts pass, which are copied.
+    /// The validator that accepts these texts, which are copied.
     pub fn new(alloc: Global, texts: &[&str]) -> Result<OneOf, AllocError>
         ensures { IfOk result (λ made. map string_bytes made.texts.items
             ≡ map (λ text. text.now) texts.now) }
@@ -41,7 +41,7 @@ impl Validator for OneOf {
     }
 }
 
-/// Lets a text pass that has so many characters at most.
+/// Accepts a text with at most this many characters.
 #[derive(Drop)]
 pub struct AtMostCharacters(pub usize);
 
@@ -54,7 +54,7 @@ impl Validator for AtMostCharacters {
     }
 }
 
-/// Lets a text pass that begins with this one.
+/// Accepts a text that begins with this one.
 #[derive(Drop)]
 pub struct BeginsWith(pub String);
 

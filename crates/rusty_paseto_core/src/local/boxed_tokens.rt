@@ -16,12 +16,12 @@ use rusty_paseto_parts::{Footer, Local, PasetoError, PasetoNonce, PasetoSymmetri
 use std::alloc::Global;
 
 impl Paseto<'_, V2, Local> {
-    /// Seals the payload by the caller's box: encrypts it and binds it to the footer. The nonce that
-    /// stands in the token is made of the given nonce, of 24 bytes or 32, and the payload, so that the
-    /// given one is not seen. Use each nonce once under a key.
+    /// Encrypts the payload with the caller's box, and authenticates it together with the footer. The nonce in the
+    /// token is computed from the given nonce, of 24 or 32 bytes, and the payload, so the given one stays hidden. Use
+    /// each nonce only once under a key.
     ///
-    /// The token has a footer section exactly where a footer was set. The errors are
-    /// `ChaChaCipherError`, where the box has no sealing of the payload, and `Memory`.
+    /// The token has a footer section if and only if a footer was set. The errors are `ChaChaCipherError`, if the box
+    /// cannot encrypt the payload, and `Memory`.
     ///
     /// Source: PASETO specification, "Version 2", "Encrypt".
     pub fn try_encrypt<B: SealedBox>(
@@ -46,15 +46,14 @@ impl Paseto<'_, V2, Local> {
         seal(alloc, sealed_box, key, nonce, text, self.footer)
     }
 
-    /// Opens a token by the caller's box: the text that was sealed under this key and footer. An
-    /// absent footer and the empty one are the same.
+    /// Decrypts a token with the caller's box, this key and this footer, and returns its text. An absent footer and the
+    /// empty one are the same.
     ///
-    /// Else it answers the first of these: `IncorrectSize` for a number of sections other than three
-    /// or four, `FooterInvalid` for a fourth section that is not the footer's, or for none where the
-    /// footer is not empty, `WrongHeader`, `PayloadBase64Decode`,
-    /// `IncorrectSize` for a payload with no room for a nonce of 24 bytes,
-    /// `ChaChaCipherError` for what the box does not open, `Utf8Error` for bytes that are no text.
-    /// `Memory` may come in place of any answer but the first.
+    /// Otherwise it returns the first of these errors: `IncorrectSize` unless there are three or four sections,
+    /// `FooterInvalid` for a fourth section that is not the footer's, or for a missing one if the footer is not empty,
+    /// `WrongHeader`, `PayloadBase64Decode`, `IncorrectSize` for a payload that is too short for a nonce of 24 bytes,
+    /// `ChaChaCipherError` if the box does not open the rest, `Utf8Error` for bytes that are not UTF-8. `Memory` may be
+    /// returned in place of any result but the first.
     ///
     /// Source: PASETO specification, "Version 2", "Decrypt".
     pub fn try_decrypt<B: SealedBox>(

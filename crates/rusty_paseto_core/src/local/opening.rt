@@ -1,4 +1,4 @@
-//! The opening of a token, for the versions 1, 3 and 4.
+//! The opening of a token, for versions 1, 3 and 4.
 
 ghost use Rattle.std.specs.Prelude.{◌≡◌, ◌↔◌, ◌+◌, ◌≤◌, ℕ, List, IsTrue, IfOk, IfErr, take, drop, vec_len};
 ghost use Rattle.std.specs.String.{string_bytes};

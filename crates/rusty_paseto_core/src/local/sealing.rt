@@ -1,4 +1,4 @@
-//! The sealing of a text, for the versions 1, 3 and 4.
+//! The sealing of a text, for versions 1, 3 and 4.
 
 ghost use Rattle.std.specs.Prelude.{◌≡◌, ◌++◌, IfOk, IfErr, OnOk, length, is_some, take, drop, vec_len, ◌≤◌, ℕ, List};
 ghost use Rattle.std.specs.String.{string_bytes};

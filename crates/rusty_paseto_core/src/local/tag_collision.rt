@@ -1,4 +1,4 @@
-//! A tag that several tokens share, shown as the collision that it is.
+//! Finding two tokens with the same nonce and tag.
 
 ghost use Rattle.std.specs.Prelude.{◌≡◌, ◌↔◌, ◌++◌, ◌<◌, ◌^◌, ◌≤◌, ◌⊎◌, All, IsTrue, IfOk, IfErr, length, map};
 ghost use Rattle.rusty_paseto_parts.specs.Error.{IsMemory};
@@ -19,7 +19,7 @@ use rusty_paseto_parts::{
 use std::alloc::{AllocError, Global};
 use std::collections::BTreeMap;
 
-/// A token, and the key, the footer and the implicit assertion under which it is to be opened.
+/// A token, and the key, the footer and the implicit assertion to decrypt it with.
 #[derive_where(Clone, Copy)]
 pub struct Opening<'a, V> {
     /// The key.
@@ -28,20 +28,19 @@ pub struct Opening<'a, V> {
     pub token: &'a str,
     /// The footer. An absent one is the empty one.
     pub footer: Option<Footer<'a>>,
-    /// The implicit assertion. An absent one is the empty one. Version 1 does not look at it.
+    /// The implicit assertion. An absent one is the empty one. Version 1 ignores it.
     pub assertion: Option<ImplicitAssertion<'a>>,
 }
 
-/// Two tokens that have one nonce and one tag, and that hold two texts, or are bound to two keys, footers
-/// or implicit assertions.
+/// Two tokens with the same nonce and the same tag, but different texts, keys, footers or implicit assertions.
 #[derive(Drop)]
 pub struct TagCollision {
-    /// Where the two stand among the openings, from 0.
+    /// The positions of the two among the openings, from 0.
     pub places: [usize; 2],
-    /// What the tag of the first is made of: the encoding of its header, nonce, ciphertext, footer and, in
-    /// the versions 3 and 4, implicit assertion.
+    /// What the tag of the first covers: the encoding of its header, nonce, ciphertext, footer and, in versions 3 and
+    /// 4, implicit assertion.
     pub first: PreAuthenticationEncoding,
-    /// The same of the second.
+    /// The same for the second.
     pub second: PreAuthenticationEncoding,
     /// The tag of both, of 48 bytes, or of 32 in version 4.
     pub tag: Vec<u8>,
@@ -51,25 +50,25 @@ pub struct TagCollision {
 #[derive(Drop)]
 struct Opened<'a, V> {
     opening: Opening<'a, V>,
-    /// The token's nonce, and its tag behind it.
+    /// The token's nonce, followed by its tag.
     nonce_and_tag: Vec<u8>,
     text: String,
 }
 
 impl<V: LocalVersion> Paseto<'_, V, Local> {
-    /// Looks for two of the openings that have one nonce and one tag, though they differ in the key, the
-    /// text, the footer or, in the versions 3 and 4, the implicit assertion.
+    /// Looks for two of the openings with the same nonce and tag that differ in the key, the text, the footer or, in
+    /// versions 3 and 4, the implicit assertion.
     ///
-    /// Such two are a collision: of SHA-384 in the versions 1 and 3, of BLAKE2b in version 4, or of the split
-    /// of the key, as `laws::collisions_show_sha384` and `laws::collisions_show_tag` say. `None` says that
-    /// there are no such two: a nonce and a tag name one key and one content. The same content twice under
-    /// one key is no collision.
+    /// Two such tokens are a collision: of SHA-384 in versions 1 and 3, of BLAKE2b in version 4, or of the derivation
+    /// of the authentication key, as `laws::collisions_show_sha384` and `laws::collisions_show_tag` say. `None` means
+    /// that there are none: each nonce and tag determine one key and one content. The same content twice under one key
+    /// is not a collision.
     ///
-    /// All tokens are opened first, and all texts are kept until the end. The openings are then looked up by
-    /// nonce and tag, so that the time grows with their number, and not with its square.
+    /// All tokens are decrypted first, and all texts are kept until the end. The openings are then looked up by nonce
+    /// and tag, so the time does not grow with the square of their number.
     ///
-    /// Where a token does not open, the answer is the fault of the first such, as `try_decrypt` gives it.
-    /// `Memory` may come in place of any answer.
+    /// If a token cannot be decrypted, the error is that of `try_decrypt` for the first such token. `Memory` may be
+    /// returned in place of any result.
     ///
     /// ```rust
     /// use rusty_paseto_core::{

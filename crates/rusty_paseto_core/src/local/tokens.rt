@@ -1,4 +1,4 @@
-//! Local tokens of the versions that need nothing handed in: 1, 3 and 4.
+//! Local tokens of the versions that need no box: 1, 3 and 4.
 
 ghost use Rattle.std.specs.Prelude.{◌≡◌, true, false, None, IfOk, IfErr, is_some};
 ghost use Rattle.std.specs.String.{string_bytes};
@@ -21,12 +21,12 @@ use rusty_paseto_parts::{
 };
 use std::alloc::Global;
 
-/// A version whose local tokens are sealed and opened with nothing handed in: 1, 3 and 4.
+/// A version whose local tokens need no box from the caller: 1, 3 and 4.
 ///
-/// Code that serves these versions alike is written over this trait. Code for one of them uses
-/// `try_encrypt` and `try_decrypt` of `Paseto`.
+/// Use this trait for code that is generic over these versions. Code for one of them uses `try_encrypt` and
+/// `try_decrypt` of `Paseto`.
 pub trait LocalVersion: LocalSuite {
-    /// The implicit assertion in a version that has one, and none in version 1.
+    /// The implicit assertion in a version that has one, and `None` in version 1.
     final fn bound_assertion(
         implicit_assertion: Option<ImplicitAssertion<'_>>,
     ) -> Option<ImplicitAssertion<'_>>
@@ -40,8 +40,7 @@ pub trait LocalVersion: LocalSuite {
         }
     }
 
-    /// Seals a payload, as `try_encrypt` of `Paseto` does. In version 1, which has no implicit assertion,
-    /// none may be given.
+    /// Encrypts a payload, as `try_encrypt` of `Paseto` does. In version 1 the implicit assertion must be `None`.
     final fn seal(
         alloc: Global,
         key: &PasetoSymmetricKey<Self, Local>,
@@ -62,8 +61,8 @@ pub trait LocalVersion: LocalSuite {
         seal::<Self>(alloc, key, nonce, text, footer, implicit_assertion)
     }
 
-    /// Opens a token, as `try_decrypt` of `Paseto` does, with the same faults. In version 1, which has no
-    /// implicit assertion, none may be given.
+    /// Decrypts a token, as `try_decrypt` of `Paseto` does, with the same errors. In version 1 the implicit assertion
+    /// must be `None`.
     final fn open(
         alloc: Global,
         token: &str,
@@ -83,13 +82,13 @@ pub trait LocalVersion: LocalSuite {
 impl<V: LocalSuite> LocalVersion for V {}
 
 impl<V: LocalVersion> Paseto<'_, V, Local> {
-    /// Seals the payload: encrypts it and authenticates it together with the footer and, in the versions
-    /// 3 and 4, the implicit assertion. Use each nonce once under a key.
+    /// Encrypts the payload, and authenticates it together with the footer and, in versions 3 and 4, the implicit
+    /// assertion. Use each nonce only once under a key.
     ///
-    /// In the versions 3 and 4 the nonce stands in the token as it is given. In version 1 the token's
-    /// nonce is made of the given one and the payload, so that the given one is not seen.
+    /// In versions 3 and 4 the token contains the given nonce. In version 1 the token's nonce is computed from the
+    /// given one and the payload, so the given one stays hidden.
     ///
-    /// The token has a footer section exactly where a footer was set. The only error is `Memory`.
+    /// The token has a footer section if and only if a footer was set. The only error is `Memory`.
     ///
     /// Source: PASETO specification, "Version 1", "Version 3" and "Version 4", "Encrypt".
     pub fn try_encrypt(
@@ -112,15 +111,14 @@ impl<V: LocalVersion> Paseto<'_, V, Local> {
 }
 
 impl<V: AssertionVersion> Paseto<'_, V, Local> {
-    /// Opens a token: the text that was sealed under this key, footer and implicit assertion. An
-    /// absent footer or assertion and the empty one are the same.
+    /// Decrypts a token with this key, footer and implicit assertion, and returns its text. An absent footer or
+    /// assertion and the empty one are the same.
     ///
-    /// Else it answers the first of these: `IncorrectSize` for a number of sections other than three
-    /// or four, `FooterInvalid` for a fourth section that is not the footer's, or for none where the
-    /// footer is not empty, `WrongHeader`, `PayloadBase64Decode`,
-    /// `IncorrectSize` for a payload with no room for a nonce and a tag,
-    /// `Cryption` for another tag, `Utf8Error` for bytes that are no text. `Memory` may come in place
-    /// of any answer but the first.
+    /// Otherwise it returns the first of these errors: `IncorrectSize` unless there are three or four sections,
+    /// `FooterInvalid` for a fourth section that is not the footer's, or for a missing one if the footer is not empty,
+    /// `WrongHeader`, `PayloadBase64Decode`, `IncorrectSize` for a payload that is too short for a nonce and a tag,
+    /// `Cryption` for a wrong tag, `Utf8Error` for bytes that are not UTF-8. `Memory` may be returned in place of any
+    /// result but the first.
     ///
     /// Source: PASETO specification, "Version 3" and "Version 4", "Decrypt".
     pub fn try_decrypt(
@@ -139,8 +137,8 @@ impl<V: AssertionVersion> Paseto<'_, V, Local> {
 }
 
 impl Paseto<'_, V1, Local> {
-    /// Opens a token of version 1: the text that was sealed under this key and footer. An absent footer
-    /// and the empty one are the same. The faults are those of the versions 3 and 4, in the same order.
+    /// Decrypts a token of version 1 with this key and footer, and returns its text. An absent footer and the empty one
+    /// are the same. The errors are those of versions 3 and 4, in the same order.
     ///
     /// Source: PASETO specification, "Version 1", "Decrypt".
     pub fn try_decrypt(

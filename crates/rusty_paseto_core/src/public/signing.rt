@@ -14,8 +14,8 @@ use rusty_paseto_parts::{Footer, Header, ImplicitAssertion, PasetoError, Public}
 use std::alloc::Global;
 
 /// The token of a text and its signature, with the footer's section where a footer is given. `public` is
-/// the private key's public key, or any bytes where the version does not bind it. The scheme is asked
-/// once, and not where the private key has another length than the version tells.
+/// the private key's public key, or any bytes if the version does not sign it. The scheme is called once, unless the
+/// private key has another length than the version's.
 pub(crate) fn sign<V: PublicSuite, S: SignatureScheme<SIG>, const SIG: usize>(
     alloc: Global,
     scheme: &mut S,

@@ -25,8 +25,7 @@ use std::alloc::Global;
 /// A version whose public tokens a scheme signs: version 1 with a `SignatureScheme<256>`, 2 and 4 with a
 /// `SignatureScheme<64>`, and 3 with a `CompressedKey`.
 ///
-/// Code that serves the versions alike is written over this trait. Code for one of them uses `try_sign`
-/// of `Paseto`.
+/// Use this trait for code that is generic over the versions. Code for one of them uses `try_sign` of `Paseto`.
 pub trait Signs<S>: PublicVersion {
     // Whether a signature is valid for a public key and a message.
     ghost valid: { Validity };
@@ -37,8 +36,7 @@ pub trait Signs<S>: PublicVersion {
     // The errors that the scheme may answer for a private key and a message.
     ghost declined: { Declining };
 
-    /// Signs a payload, as `try_sign` of `Paseto` does. In the versions 1 and 2, which have no implicit
-    /// assertion, none may be given.
+    /// Signs a payload, as `try_sign` of `Paseto` does. In versions 1 and 2 the implicit assertion must be `None`.
     fn sign(
         alloc: Global,
         scheme: &mut S,
@@ -57,8 +55,7 @@ pub trait Signs<S>: PublicVersion {
 /// A version whose public tokens a scheme verifies: version 1 with a `SignatureScheme<256>`, 2 and 4 with
 /// a `SignatureScheme<64>`, and 3 with a `SignatureScheme<96>`.
 ///
-/// Code that serves the versions alike is written over this trait. Code for one of them uses `try_verify`
-/// of `Paseto`.
+/// Use this trait for code that is generic over the versions. Code for one of them uses `try_verify` of `Paseto`.
 pub trait Verifies<S>: PublicVersion {
     // Whether a signature is valid for a public key and a message.
     ghost valid: { Validity };
@@ -66,8 +63,8 @@ pub trait Verifies<S>: PublicVersion {
     // The errors that the scheme may answer for a signature that is not valid.
     ghost refused: { Refusal };
 
-    /// Verifies a token, as `try_verify` of `Paseto` does, with the same faults. In the versions 1 and 2,
-    /// which have no implicit assertion, none may be given.
+    /// Verifies a token, as `try_verify` of `Paseto` does, with the same errors. In versions 1 and 2 the implicit
+    /// assertion must be `None`.
     fn verify(
         alloc: Global,
         scheme: &S,
@@ -235,13 +232,13 @@ impl<S: SignatureScheme<64>> Verifies<S> for V4 {
 }
 
 impl<V: PublicVersion> Paseto<'_, V, Public> {
-    /// Signs the payload, which stays readable, together with the footer and, in the versions 3 and 4, the
-    /// implicit assertion, by the caller's scheme, which is asked once. In version 3 the public key is
-    /// signed too: there the scheme is first asked for the public key of the private key.
+    /// Signs the payload, which stays readable, together with the footer and, in versions 3 and 4, the implicit
+    /// assertion. It calls `sign` of the caller's scheme once. In version 3 it also signs the public key, which it
+    /// first gets from the scheme.
     ///
-    /// The token has a footer section exactly where a footer was set. The errors are, in the versions 2
-    /// and 4, `TryFromSlice` for a private key that is not 64 bytes, before the scheme is asked; and those
-    /// of the scheme, `Memory` among them.
+    /// The token has a footer section if and only if a footer was set. The errors are, in versions 2 and 4,
+    /// `TryFromSlice` for a private key that does not have 64 bytes, before the scheme is called; and those of the
+    /// scheme, including `Memory`.
     ///
     /// Source: PASETO specification, "Version 1" to "Version 4", "Sign".
     pub fn try_sign<S>(
@@ -263,16 +260,14 @@ impl<V: PublicVersion> Paseto<'_, V, Public> {
 }
 
 impl<V: AssertionVersion> Paseto<'_, V, Public> {
-    /// Verifies a token by the caller's scheme: the text that was signed for this public key, footer and
-    /// implicit assertion. An absent footer or assertion and the empty one are the same.
+    /// Verifies a token with the caller's scheme, this public key, footer and implicit assertion, and returns its text.
+    /// An absent footer or assertion and the empty one are the same.
     ///
-    /// Else it answers the first of these: `IncorrectSize` for a number of sections other than three
-    /// or four, `FooterInvalid` for a fourth section that is not the footer's, or for none where the
-    /// footer is not empty, `WrongHeader`, `PayloadBase64Decode`,
-    /// `IncorrectSize` for a payload with no room for a signature, the scheme's own
-    /// error for a signature that is not valid, `FromUtf8Error` for bytes that are no text. The scheme is
-    /// asked once, and only where none of the faults before its own is there. `Memory` may come in place
-    /// of any answer but the first.
+    /// Otherwise it returns the first of these errors: `IncorrectSize` unless there are three or four sections,
+    /// `FooterInvalid` for a fourth section that is not the footer's, or for a missing one if the footer is not empty,
+    /// `WrongHeader`, `PayloadBase64Decode`, `IncorrectSize` for a payload that is too short for a signature, the
+    /// scheme's own error for an invalid signature, `FromUtf8Error` for bytes that are not UTF-8. The scheme is called
+    /// once, and only if there is no earlier error. `Memory` may be returned in place of any result but the first.
     ///
     /// Source: PASETO specification, "Version 3" and "Version 4", "Verify".
     pub fn try_verify<S>(
@@ -293,9 +288,8 @@ impl<V: AssertionVersion> Paseto<'_, V, Public> {
 }
 
 impl Paseto<'_, V1, Public> {
-    /// Verifies a token of version 1 by the caller's scheme: the text that was signed for this public key
-    /// and footer. An absent footer and the empty one are the same. The faults are those of the versions 3
-    /// and 4, in the same order.
+    /// Verifies a token of version 1 with the caller's scheme, this public key and this footer, and returns its text.
+    /// An absent footer and the empty one are the same. The errors are those of versions 3 and 4, in the same order.
     ///
     /// Source: PASETO specification, "Version 1", "Verify".
     pub fn try_verify<S: SignatureScheme<256>>(
@@ -313,9 +307,8 @@ impl Paseto<'_, V1, Public> {
 }
 
 impl Paseto<'_, V2, Public> {
-    /// Verifies a token of version 2 by the caller's scheme: the text that was signed for this public key
-    /// and footer. An absent footer and the empty one are the same. The faults are those of the versions 3
-    /// and 4, in the same order.
+    /// Verifies a token of version 2 with the caller's scheme, this public key and this footer, and returns its text.
+    /// An absent footer and the empty one are the same. The errors are those of versions 3 and 4, in the same order.
     ///
     /// Source: PASETO specification, "Version 2", "Verify".
     pub fn try_verify<S: SignatureScheme<64>>(

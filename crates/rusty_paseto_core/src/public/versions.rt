@@ -8,7 +8,7 @@ ghost use Rattle.rusty_paseto_core.specs.Public.{lawful, public, v1_public, v2_p
 use crate::public::PublicSuite;
 use rusty_paseto_parts::{V1, V2, V3, V4};
 
-/// How many bytes a private key of Ed25519 has, in the versions 2 and 4: a seed and the public key.
+/// How many bytes a private key of Ed25519 has, in versions 2 and 4: a seed and the public key.
 const PRIVATE_KEY_LENGTH: usize = 64;
 
 #[tactic(auto, unfolding(rusty_paseto_parts::specs::Header::header_text))]

@@ -30,7 +30,7 @@ pub(crate) struct Claims {
 impl Claims {
     ghost use Rattle.rusty_paseto_generic.specs.Builders.Held.{held};
 
-    /// No claims. All memory for them is asked of the allocator.
+    /// No claims. They take their memory from the allocator.
     pub(crate) fn new(alloc: Global) -> Self
         ensures { held result ≡ no_members }
     {
@@ -48,10 +48,10 @@ impl Claims {
     }
 
     /// Stores a claim under its key: the value of an object whose only key is the claim's, and else the
-    /// claim's JSON as it is. The empty key changes nothing, and the claim is then not asked for its JSON.
+    /// claim's JSON as it is. A claim with an empty key is ignored, and its `to_json` is not called.
     ///
-    /// `ClaimError` comes for a value that holds another number than a whole one of 64 bits, `Unexpected`
-    /// with the key, and for a fault of the claim. The claims are then unchanged.
+    /// `ClaimError` is returned for a value that contains a number that is not a 64-bit integer, `Unexpected` with the
+    /// key, and for a fault of the claim. The claims are then unchanged.
     pub(crate) fn set<C: PasetoClaim>(&mut self, claim: &C) -> Result<(), GenericBuilderError>
         ensures ok { OnOk result (claim_set (C.key claim.now) (C.json claim.now) (held self.old)
             ≡ becomes (held self.new)) }
@@ -87,8 +87,8 @@ impl Claims {
 
     /// Stores all values as they are, each under its key, the empty one too.
     ///
-    /// `ClaimError` of `Unexpected` with the key comes for the first key in byte order whose value holds
-    /// another number than a whole one of 64 bits. The claims are then unchanged.
+    /// `ClaimError` of `Unexpected` with the key is returned for the first key in byte order whose value contains a
+    /// number that is not a 64-bit integer. The claims are then unchanged.
     pub(crate) fn extend(&mut self, more: Map<String, Value>) -> Result<(), GenericBuilderError>
         ensures ok { OnOk result (extended (members_view more.entries) (held self.old)
             ≡ becomes (held self.new)) }
@@ -104,7 +104,7 @@ impl Claims {
         Ok(())
     }
 
-    /// Takes out the claim under the key, where there is one. No memory is taken.
+    /// Takes out the claim under the key, if there is one. Does not allocate.
     pub(crate) fn remove(&mut self, key: &str)
         ensures rest { held self.new ≡ without key.now (held self.old) }
         ensures gone { get_member key.now (held self.new) ≡ None }
@@ -116,7 +116,7 @@ impl Claims {
     }
 
     /// The text of the claims: the object of them as JSON, with no space, its keys in byte order. It is
-    /// read as that object, where the values are nested at most 126 deep. Nothing but memory is refused.
+    /// read as that object, where the values are nested at most 126 deep. It fails only if an allocation fails.
     pub(crate) fn to_text(&self) -> Result<String, AllocError>
         ensures text { IfOk result (λ text. string_bytes text ≡ payload (held self.now)) }
         ensures read_back { OnOk result (IsReadBack (held self.now)) }

@@ -25,7 +25,7 @@ use serde_json::Value;
 use std::alloc::Global;
 use std::collections::BTreeMap;
 
-/// A version whose local tokens are sealed with nothing handed in: 1, 3 and 4.
+/// A version whose local tokens need no sealed box from the caller: 1, 3 and 4.
 pub trait GenericLocalVersion: LocalVersion {}
 
 impl GenericLocalVersion for V1 {}
@@ -34,15 +34,13 @@ impl GenericLocalVersion for V3 {}
 
 impl GenericLocalVersion for V4 {}
 
-/// Claims, and the footer and the implicit assertion where they are set: what is to become a token of a
-/// version and a purpose, by `try_encrypt` or `try_sign`.
+/// A builder of tokens of any version and purpose: holds claims, and an optional footer and implicit assertion, from
+/// which `try_encrypt` or `try_sign` makes a token.
 ///
-/// The claims have whole numbers of 64 bits alone. The builder keeps them, so that it may make any number
-/// of tokens.
+/// Numbers in claims must be 64-bit integers. The builder keeps its claims, so it can make any number of tokens.
 ///
-/// A call that refuses leaves the builder as it was. `set_claim` and `extend_claims` lend the builder back,
-/// for chains of calls; `put_claim` and `put_claims` are the same edits for code that goes on after a
-/// refusal.
+/// On an error a call leaves the builder unchanged. `set_claim` and `extend_claims` return the builder, for chains of
+/// calls; `put_claim` and `put_claims` do the same without returning it, for code that continues after an error.
 ///
 /// ```rust
 /// use rand_core::TryRng;
@@ -73,8 +71,7 @@ pub struct GenericBuilder<'a, V, P> {
 }
 
 impl<'a, V: VersionTrait, P: PurposeTrait> GenericBuilder<'a, V, P> {
-    /// A builder with no claims, no footer and no implicit assertion. All its memory is asked of the
-    /// allocator, and none is taken yet.
+    /// A builder without claims, footer and implicit assertion. It allocates with `alloc`, but not yet.
     pub fn new(alloc: Global) -> Self
         ensures claims { held result.claims ≡ no_members }
         ensures footer { result.paseto.footer ≡ None }
@@ -95,7 +92,7 @@ impl<'a, V: VersionTrait, P: PurposeTrait> GenericBuilder<'a, V, P> {
         GenericBuilder::new(alloc)
     }
 
-    /// Takes out the claim under the key, where there is one. No memory is taken.
+    /// Removes the claim under the key, if there is one. Does not allocate.
     pub fn remove_claim(&mut self, key: &str) -> &mut Self
         ensures lent { result.ghost_name ≡ self.entry.ghost_name }
         ensures claims { held result.now.claims ≡ without key.now (held self.entry.now.claims) }
@@ -106,7 +103,7 @@ impl<'a, V: VersionTrait, P: PurposeTrait> GenericBuilder<'a, V, P> {
         self
     }
 
-    /// Sets the footer, the empty one too, and keeps the rest. No memory is taken.
+    /// Sets the footer, which may be empty, and changes nothing else. Does not allocate.
     pub fn set_footer(&mut self, footer: Footer<'a>) -> &mut Self
         ensures lent { result.ghost_name ≡ self.entry.ghost_name }
         ensures change { result.now.paseto
@@ -117,9 +114,8 @@ impl<'a, V: VersionTrait, P: PurposeTrait> GenericBuilder<'a, V, P> {
         self
     }
 
-    /// The payload that a token of the claims has: the object of them as JSON, with no space, its keys in
-    /// byte order. It is read as that object, where the values are nested at most 126 deep. Nothing but memory
-    /// is refused.
+    /// The payload of a token with these claims: a compact JSON object, its keys in byte order. It is read back as that
+    /// object if the values are nested at most 126 deep. It fails only if an allocation fails.
     pub fn build_payload_from_claims(&self) -> Result<String, GenericBuilderError>
         ensures ok { IfOk result (λ text. string_bytes text ≡ payload (held self.now.claims)) }
         ensures read_back { OnOk result (IsReadBack (held self.now.claims)) }
@@ -163,7 +159,7 @@ impl<'a, V: VersionTrait, P: PurposeTrait> ClaimSetter for GenericBuilder<'a, V,
 }
 
 impl<'a, V: ImplicitAssertionCapable, P: PurposeTrait> GenericBuilder<'a, V, P> {
-    /// Sets the implicit assertion, the empty one too, and keeps the rest. No memory is taken.
+    /// Sets the implicit assertion, which may be empty, and changes nothing else. Does not allocate.
     pub fn set_implicit_assertion(&mut self, implicit_assertion: ImplicitAssertion<'a>) -> &mut Self
         ensures lent { result.ghost_name ≡ self.entry.ghost_name }
         ensures change { result.now.paseto
@@ -176,10 +172,10 @@ impl<'a, V: ImplicitAssertionCapable, P: PurposeTrait> GenericBuilder<'a, V, P> 
 }
 
 impl<V: GenericLocalVersion> GenericBuilder<'_, V, Local> {
-    /// Seals the payload of the claims, with the footer and, in the versions 3 and 4, the implicit assertion,
-    /// under 32 bytes that the generator gives.
+    /// Encrypts the claims, with the footer and, in versions 3 and 4, the implicit assertion, and a nonce of 32 bytes
+    /// from the generator.
     ///
-    /// `CipherError` of `Cipher` comes where the generator fails. It is asked once, when the payload is made.
+    /// `CipherError` of `Cipher` is returned if the generator fails. It is called once, after the payload is made.
     ///
     /// Source: PASETO specification, "Version 1", "Version 3" and "Version 4", "Encrypt".
     pub fn try_encrypt<R: TryRng>(
@@ -203,11 +199,10 @@ impl<V: GenericLocalVersion> GenericBuilder<'_, V, Local> {
 }
 
 impl GenericBuilder<'_, V2, Local> {
-    /// Seals the payload of the claims, with the footer, by the caller's box, under 24 bytes that the
-    /// generator gives.
+    /// Encrypts the claims, with the footer, the caller's box, and a nonce of 24 bytes from the generator.
     ///
-    /// `CipherError` comes of `Cipher` where the generator fails, and of `ChaChaCipherError` where the box has
-    /// no sealing of the payload. The generator is asked once, when the payload is made.
+    /// `CipherError` of `Cipher` is returned if the generator fails, and of `ChaChaCipherError` if the box cannot
+    /// encrypt the payload. The generator is called once, after the payload is made.
     ///
     /// Source: PASETO specification, "Version 2", "Encrypt".
     pub fn try_encrypt<B: SealedBox, R: TryRng>(
@@ -236,11 +231,11 @@ impl GenericBuilder<'_, V2, Local> {
 }
 
 impl<V: PublicVersion> GenericBuilder<'_, V, Public> {
-    /// Signs the payload of the claims, which stays readable, with the footer and, in the versions 3 and 4,
-    /// the implicit assertion, by the caller's scheme.
+    /// Signs the claims, which stay readable, with the footer and, in versions 3 and 4, the implicit assertion, using
+    /// the caller's scheme.
     ///
-    /// `CipherError` comes in the versions 2 and 4 of `TryFromSlice` for a private key that is not 64 bytes,
-    /// and of the scheme's own errors.
+    /// `CipherError` is returned of the scheme's own errors, and in versions 2 and 4 of `TryFromSlice` for a private
+    /// key that does not have 64 bytes.
     ///
     /// Source: PASETO specification, "Version 1" to "Version 4", "Sign".
     pub fn try_sign<S>(

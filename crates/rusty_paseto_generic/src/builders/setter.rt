@@ -1,4 +1,4 @@
-//! The setters of builders that lend the builder back.
+//! The setters of builders that return the builder.
 
 ghost use Rattle.std.specs.Borrow.{sem, LendsSoOk};
 ghost use Rattle.std.specs.Prelude.{◌≡◌, ℕ, List, [], IsOk, IfOk, IfErr, OnOk, OnErr};
@@ -13,8 +13,8 @@ use rusty_paseto_claims::PasetoClaim;
 use serde_json::Value;
 use std::collections::BTreeMap;
 
-/// A builder, into which claims are put. Its setters lend it back, for chains of calls: as an `O`, which is the
-/// builder's own type under another name, and which the compiler finds by itself.
+/// A builder that stores claims. Its setters return it, for chains of calls: as an `O`, which is the builder's own type
+/// under another name, and which the compiler infers.
 pub trait ClaimSetter {
     // The claims.
     ghost claims: { Self → Members };
@@ -22,12 +22,12 @@ pub trait ClaimSetter {
     // The first has what the second has beside claims.
     ghost is_rest: { Self → Self → Type 0 };
 
-    /// Stores a claim under its key: the value of an object whose only key is the claim's, as the claims of
-    /// this library answer it, and else the claim's JSON as it is. A key that is there gets the new value.
-    /// The empty key changes nothing, and the claim is then not asked for its JSON.
+    /// Stores a claim under its key: if the claim's JSON is an object whose only key is the claim's, as for the claims
+    /// of this library, the value of that key; otherwise the JSON as it is. It replaces a value that is already there.
+    /// A claim with an empty key is ignored, and its `to_json` is not called.
     ///
-    /// `ClaimError` comes for a value that holds another number than a whole one of 64 bits, `Unexpected`
-    /// with the key, and for a fault of the claim. The builder is then unchanged.
+    /// It returns `ClaimError` of `Unexpected` with the key if the value contains a number that is not a 64-bit
+    /// integer, and `ClaimError` of the claim's own errors. The builder is then unchanged.
     fn put_claim<C: PasetoClaim>(&mut self, claim: &C) -> Result<(), GenericBuilderError>
         ensures ok { OnOk result (claim_set (C.key claim.now) (C.json claim.now) (claims self.old)
             ≡ becomes (claims self.new)) }
@@ -37,11 +37,11 @@ pub trait ClaimSetter {
             (claims self.old))) }
         ensures empty { C.key claim.now ≡ [] → IsOk result };
 
-    /// Stores all values as they are, each under its key, the empty one too. Keys that are there get the
-    /// new values.
+    /// Stores all values as they are, each under its key, which may be empty. They replace values that are already
+    /// there.
     ///
-    /// `ClaimError` of `Unexpected` with the key comes for the first key in byte order whose value holds
-    /// another number than a whole one of 64 bits. None of the values is then stored.
+    /// `ClaimError` of `Unexpected` with the key is returned for the first key in byte order whose value contains a
+    /// number that is not a 64-bit integer. None of the values is then stored.
     fn put_claims(&mut self, more: BTreeMap<String, Value>) -> Result<(), GenericBuilderError>
         ensures ok { OnOk result (extended (members_view more.entries) (claims self.old)
             ≡ becomes (claims self.new)) }
@@ -50,7 +50,7 @@ pub trait ClaimSetter {
         ensures fault { IfErr result (IsRefusal (extended (members_view more.entries)
             (claims self.old))) };
 
-    /// Stores a claim, as `put_claim` does, and lends the builder back. Where it refuses, the builder is unchanged.
+    /// Stores a claim, as `put_claim` does, and returns the builder. On an error the builder is unchanged.
     final fn set_claim<C: PasetoClaim, O>(
         &mut self,
         claim: &C,
@@ -73,7 +73,7 @@ pub trait ClaimSetter {
         Ok(self.itself())
     }
 
-    /// Stores all values, as `put_claims` does, and lends the builder back. Where it refuses, the builder is unchanged.
+    /// Stores all values, as `put_claims` does, and returns the builder. On an error the builder is unchanged.
     final fn extend_claims<O>(
         &mut self,
         more: BTreeMap<String, Value>,

@@ -16,7 +16,7 @@ use serde_json::Value;
 use std::alloc::{AllocError, Global};
 
 /// Checks what a token's value has under a key, null where it has none: null fails where the key is required; then
-/// by the checker alone, where there is one, and else by the stored value.
+/// by the checker alone, if there is one, and else by the stored value.
 pub(crate) fn check_entry(
     alloc: Global,
     times: &Times,

@@ -46,7 +46,7 @@ pub(crate) struct Checks<B> {
 }
 
 impl<B: Drop> Checks<B> {
-    /// No checks. All memory for them is asked of the allocator.
+    /// No checks. They take their memory from the allocator.
     pub(crate) fn new(alloc: Global) -> Self
         ensures { (key : List ℕ) → rules_of result key ≡ no_rule }
     {
@@ -65,8 +65,8 @@ impl<B: Drop> Checks<B> {
 
     /// Stores the JSON of a claim, as it is, under its key, and keeps the key's checker.
     ///
-    /// `ClaimError` comes for a value that holds another number than a whole one of 64 bits, `Unexpected`
-    /// with the key, and for a fault of the claim. The checks are then unchanged.
+    /// `ClaimError` is returned for a value that contains a number that is not a 64-bit integer, `Unexpected` with the
+    /// key, and for a fault of the claim. The checks are then unchanged.
     pub(crate) fn store<C: PasetoClaim>(&mut self, claim: &C) -> Result<(), GenericParserError>
         ensures ok { OnOk result (IsStored (C.key claim.now) (C.json claim.now) with_stored
             (rules_of self.old) (rules_of self.new)) }
@@ -104,8 +104,8 @@ impl<B: Drop> Checks<B> {
 
     /// Stores all values as they are, each under its key, and keeps the keys' checkers.
     ///
-    /// `ClaimError` of `Unexpected` with the key comes for the first key in byte order whose value holds
-    /// another number than a whole one of 64 bits. The checks are then unchanged.
+    /// `ClaimError` of `Unexpected` with the key is returned for the first key in byte order whose value contains a
+    /// number that is not a 64-bit integer. The checks are then unchanged.
     pub(crate) fn store_all(&mut self, more: Map<String, Value>) -> Result<(), GenericParserError>
         ensures ok { OnOk result (AreSame (rules_of self.new)
             (all_stored (members_view more.entries) (rules_of self.old))) }
@@ -119,8 +119,8 @@ impl<B: Drop> Checks<B> {
         Ok(())
     }
 
-    /// Stores what is to check each of the keys from now on, and keeps the keys' stored values. Nothing
-    /// but memory is refused, and the checks are then unchanged.
+    /// Stores what is to check each of the keys from now on, and keeps the keys' stored values. It fails only if an
+    /// allocation fails, and the checks are then unchanged.
     pub(crate) fn store_validators(&mut self, more: BTreeMap<String, B>) -> Result<(), AllocError>
         ensures ok { OnOk result (AreSame (rules_of self.new)
             (all_with_checkers (checkers_of more.entries) (rules_of self.old))) }
@@ -131,8 +131,8 @@ impl<B: Drop> Checks<B> {
         Ok(())
     }
 
-    /// Stores what is to check the key from now on, and keeps what is stored and required under it. Nothing but memory is
-    /// refused, and the checks are then unchanged.
+    /// Stores what is to check the key from now on, and keeps what is stored and required under it. It fails only if an
+    /// allocation fails, and the checks are then unchanged.
     pub(crate) fn store_checker(&mut self, key: &str, checker: B) -> Result<(), AllocError>
         ensures ok { OnOk result (AreSame (rules_of self.new)
             (edited key.now (with_checker (Checker.Boxed checker)) (rules_of self.old))) }
@@ -144,7 +144,7 @@ impl<B: Drop> Checks<B> {
     }
 
     /// Stores `exp` and `nbf` with their claims by default, and what checks them by the moment from now on. A
-    /// key that is there gets the new ones. Nothing but memory is refused, and the checks are then unchanged.
+    /// key that is there gets the new ones. It fails only if an allocation fails, and the checks are then unchanged.
     pub(crate) fn check_times(&mut self) -> Result<(), GenericParserError>
         ensures ok { OnOk result (AreSame (rules_of self.new) (with_times (rules_of self.old))) }
         ensures err { OnErr result (AreSame (rules_of self.new) (rules_of self.old)) }
@@ -159,8 +159,8 @@ impl<B: Drop> Checks<B> {
         Ok(())
     }
 
-    /// Requires that a value is there under the key, and not null, and keeps what else is checked under it. Nothing
-    /// but memory is refused, and the checks are then unchanged.
+    /// Requires that a value is there under the key, and not null, and keeps what else is checked under it. It fails
+    /// only if an allocation fails, and the checks are then unchanged.
     pub(crate) fn require(&mut self, key: &str) -> Result<(), AllocError>
         ensures ok { OnOk result (AreSame (rules_of self.new)
             (edited key.now with_required (rules_of self.old))) }

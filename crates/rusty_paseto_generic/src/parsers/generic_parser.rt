@@ -37,16 +37,16 @@ use std::marker::PhantomData;
 /// The checks that `parse` applies to a token of a version and a purpose before it returns the claims: the expected
 /// footer, the implicit assertion, and the checks of single claims.
 ///
-/// A key is checked by a stored value, with `check_claim` or `extend_check_claims`, or by a validator of the
-/// caller's own, with `validate_key`, `validate_claim` or `extend_validation_claims`. A key with a validator is checked
-/// by it alone. `check_times` brings the validators of `exp` and `nbf`, which check at the parser's moment, with a leeway
-/// where `set_leeway` set one, and let a token without these claims pass: `require_claim` demands that a claim is
-/// there. The stored values have whole numbers of 64 bits alone.
+/// A key is checked against a stored value (`check_claim`, `extend_check_claims`), or by the caller's own validator
+/// (`validate_key`, `validate_claim`, `extend_validation_claims`). A key with a validator is checked only by it.
+/// `check_times` adds checks of `exp` and `nbf` at the parser's moment, with a leeway if `set_leeway` set one. They
+/// accept a token without these claims: require a claim with `require_claim`. Numbers in stored values must be 64-bit
+/// integers.
 ///
-/// A call that refuses leaves the parser as it was. `check_claim`, `validate_claim`, `validate_key`, `require_claim`,
-/// `extend_check_claims`, `extend_validation_claims` and `check_times` lend the parser back, for chains of calls;
-/// `put_check`, `put_validator`, `put_key_validator`, `put_required`, `put_checks`, `put_validators` and `put_times` are
-/// the same edits for code that goes on after a refusal.
+/// On an error a call leaves the parser unchanged. `check_claim`, `validate_claim`, `validate_key`, `require_claim`,
+/// `extend_check_claims`, `extend_validation_claims` and `check_times` return the parser, for chains of calls;
+/// `put_check`, `put_validator`, `put_key_validator`, `put_required`, `put_checks`, `put_validators` and `put_times` do
+/// the same without returning it, for code that continues after an error.
 ///
 /// ```rust
 /// use rusty_paseto_generic::{
@@ -71,7 +71,7 @@ use std::marker::PhantomData;
 /// ```
 pub type GenericParser<'a, V, P> = TokenParser<'a, V, P, ValidatorFn>;
 
-/// For code that is generic in the validators' type `B`; everybody else uses [`GenericParser`], where `B` is a box.
+/// For code that is generic over the validators' type `B`; other code uses [`GenericParser`], where `B` is a `Box`.
 #[derive(Drop)]
 pub struct TokenParser<'a, V, P, B> {
     version: PhantomData<V>,
@@ -87,8 +87,7 @@ pub struct TokenParser<'a, V, P, B> {
 }
 
 impl<'a, V: VersionTrait, P: PurposeTrait, B: Drop> TokenParser<'a, V, P, B> {
-    /// A parser with no checks, no footer, no implicit assertion and no limit. All its memory is asked of the
-    /// allocator, and none is taken yet.
+    /// A parser without checks, footer, implicit assertion and limit. It allocates with `alloc`, but not yet.
     pub fn new(alloc: Global) -> Self
         ensures checks { (key : List ℕ) → rules_of result.checks key ≡ no_rule }
         ensures leeway { result.leeway ≡ 0 }
@@ -119,8 +118,8 @@ impl<'a, V: VersionTrait, P: PurposeTrait, B: Drop> TokenParser<'a, V, P, B> {
         TokenParser::new(alloc)
     }
 
-    /// Sets the moment at which the times are checked, and keeps the rest. It changes no answer of a parser that
-    /// checks no times. No memory is taken.
+    /// Sets the moment at which the times are checked, and changes nothing else. It has no effect on a parser that
+    /// checks no times. Does not allocate.
     pub fn set_now(&mut self, now: Timestamp) -> &mut Self
         ensures lent { result.ghost_name ≡ self.entry.ghost_name }
         ensures change { result.now ≡ record self.entry.now { moment = now } }
@@ -129,9 +128,9 @@ impl<'a, V: VersionTrait, P: PurposeTrait, B: Drop> TokenParser<'a, V, P, B> {
         self
     }
 
-    /// Sets how many seconds the clocks of issuer and reader may differ by, 0 until it is set, and keeps the rest:
-    /// `exp` is checked that much earlier than the moment, and `nbf` that much later. It changes no answer of a parser
-    /// that checks no times. No memory is taken.
+    /// Sets by how many seconds the clocks of issuer and reader may differ, 0 by default, and changes nothing else:
+    /// `exp` is compared with a moment that much earlier, and `nbf` with one that much later. It has no effect on a
+    /// parser that checks no times. Does not allocate.
     ///
     /// ```rust
     /// use jiff::Timestamp;
@@ -156,9 +155,9 @@ impl<'a, V: VersionTrait, P: PurposeTrait, B: Drop> TokenParser<'a, V, P, B> {
         self
     }
 
-    /// Sets how many bytes a token may have, and keeps the rest. `parse` refuses a longer one before anything of it is
-    /// decoded, by `CipherError` of `TooLong`: without a limit, whoever sends a token says how much memory is asked for it.
-    /// There is none until it is set. No memory is taken.
+    /// Sets how many bytes a token may have, and changes nothing else. `parse` refuses a longer one with `CipherError`
+    /// of `TooLong`, before any of it is decoded: without a limit, the sender of a token determines how much memory is
+    /// allocated for it. There is no limit until you set one. Does not allocate.
     ///
     /// ```rust
     /// use rusty_paseto_generic::{GenericParser, Local, PasetoError, PasetoSymmetricKey, V4};
@@ -182,7 +181,7 @@ impl<'a, V: VersionTrait, P: PurposeTrait, B: Drop> TokenParser<'a, V, P, B> {
         self
     }
 
-    /// How many bytes a token may have, or `None` where no limit was set. No memory is taken.
+    /// How many bytes a token may have, or `None` if no limit was set. Does not allocate.
     pub fn longest(&self) -> Option<usize>
         ensures { result ≡ self.now.longest }
     {
@@ -199,29 +198,28 @@ impl<'a, V: VersionTrait, P: PurposeTrait, B: Drop> TokenParser<'a, V, P, B> {
         }
     }
 
-    /// The footer that a token is to be bound to: what was set last, and the empty one before. No memory is
-    /// taken.
+    /// The expected footer: the one that was set last, or the empty one. Does not allocate.
     pub fn get_footer(&self) -> Footer<'_>
         ensures { footer_text result ≡ footer_of self.now.footer }
     {
         self.footer.unwrap_or_default()
     }
 
-    /// The footer that was set, the empty one too, or `None` where none was. No memory is taken.
+    /// The footer that was set, which may be empty, or `None` if none was set. Does not allocate.
     pub fn expected_footer(&self) -> Option<Footer<'a>>
         ensures { result ≡ self.now.footer }
     {
         self.footer
     }
 
-    /// The implicit assertion that was set, the empty one too, or `None` where none was. No memory is taken.
+    /// The implicit assertion that was set, which may be empty, or `None` if none was set. Does not allocate.
     pub fn expected_assertion(&self) -> Option<ImplicitAssertion<'a>>
         ensures { result ≡ self.now.implicit_assertion }
     {
         self.implicit_assertion
     }
 
-    /// Sets the footer, the empty one too, and keeps the rest. No memory is taken.
+    /// Sets the footer, which may be empty, and changes nothing else. Does not allocate.
     pub fn set_footer(&mut self, footer: Footer<'a>) -> &mut Self
         ensures lent { result.ghost_name ≡ self.entry.ghost_name }
         ensures change { result.now ≡ record self.entry.now { footer = Some footer.entry } }
@@ -285,15 +283,14 @@ impl<'a, V: VersionTrait, P: PurposeTrait, B: Drop> CheckSetter<B> for TokenPars
 }
 
 impl<'a, V: ImplicitAssertionCapable, P: PurposeTrait, B: Drop> TokenParser<'a, V, P, B> {
-    /// The implicit assertion that a token is to be bound to: what was set last, and the empty one before. No
-    /// memory is taken.
+    /// The expected implicit assertion: the one that was set last, or the empty one. Does not allocate.
     pub fn get_implicit_assertion(&self) -> ImplicitAssertion<'_>
         ensures { assertion_text result ≡ assertion_of self.now.implicit_assertion }
     {
         self.implicit_assertion.unwrap_or_default()
     }
 
-    /// Sets the implicit assertion, the empty one too, and keeps the rest. No memory is taken.
+    /// Sets the implicit assertion, which may be empty, and changes nothing else. Does not allocate.
     pub fn set_implicit_assertion(&mut self, implicit_assertion: ImplicitAssertion<'a>) -> &mut Self
         ensures lent { result.ghost_name ≡ self.entry.ghost_name }
         ensures change { result.now ≡ record self.entry.now
@@ -305,11 +302,11 @@ impl<'a, V: ImplicitAssertionCapable, P: PurposeTrait, B: Drop> TokenParser<'a, 
 }
 
 impl<V: VersionTrait, P: PurposeTrait> TokenParser<'_, V, P, ValidatorFn> {
-    /// The value of a text that was opened or verified in another way, as by a key ring: what `parse` answers for a
-    /// token that holds this text.
+    /// The claims in a text that was decrypted or verified in another way, for example by a key ring: what `parse`
+    /// returns for a token with this text.
     ///
-    /// Else it answers the first fault of `parse` that is none of the token: `PayloadJsonError` or `ClaimError`.
-    /// `Memory` may come in place of any answer.
+    /// Otherwise it returns the first error of `parse` that is not about decrypting or verifying: `PayloadJsonError` or
+    /// `ClaimError`. `Memory` may be returned in place of any result.
     pub fn value_of(&self, text: &str) -> Result<Value, GenericParserError>
         ensures { IsTextAnswer (verdicts_of (λ b. verdict b)
             (times_at self.now.moment self.now.leeway) self.now.checks) text.now result }
@@ -317,11 +314,11 @@ impl<V: VersionTrait, P: PurposeTrait> TokenParser<'_, V, P, ValidatorFn> {
         parse_text(&self.checks, &self.times(), text)
     }
 
-    /// Checks a value that was parsed in another way, as by a parser with no checks: whether it passes what `parse`
-    /// checks once a token is read. The parser's footer and implicit assertion are of no account.
+    /// Checks a value that was parsed in another way, for example by a parser without checks: whether it passes what
+    /// `parse` checks once a token is read. It ignores the parser's footer and implicit assertion.
     ///
-    /// Else it answers `ClaimError` for the first key in byte order that fails its check. `Memory` may come in place
-    /// of any answer.
+    /// Otherwise it returns `ClaimError` for the first key in byte order that fails its check. `Memory` may be returned
+    /// in place of any result.
     pub fn check(&self, value: &Value) -> Result<(), GenericParserError>
         ensures { IsCheckAnswer (verdicts_of (λ b. verdict b)
             (times_at self.now.moment self.now.leeway) self.now.checks) (view value.now) result }
@@ -331,16 +328,15 @@ impl<V: VersionTrait, P: PurposeTrait> TokenParser<'_, V, P, ValidatorFn> {
 }
 
 impl<V: GenericLocalVersion> TokenParser<'_, V, Local, ValidatorFn> {
-    /// Opens a token under the parser's footer and, in the versions 3 and 4, its implicit assertion, and answers
-    /// the value of its text, which passes all checks.
+    /// Decrypts a token with the parser's footer and, in versions 3 and 4, its implicit assertion, and returns its text
+    /// as a JSON value, which passes all checks.
     ///
-    /// Else it answers the first of these: `CipherError` of `TooLong` for a token beyond the limit, where one was set;
-    /// `CipherError` of what `try_decrypt` of `Paseto` answers;
-    /// `PayloadJsonError` for a text that is no JSON, nested at most 127 deep; `ClaimError` of `Unexpected` for a
-    /// number that is not a whole number of 64 bits, with the first key in byte order whose value holds one, the
-    /// empty text where the value is no object; `ClaimError` for the first key in byte order that fails its
-    /// check. `Memory` may come in place of any answer but those of a token that is too long and of a wrong number of
-    /// sections.
+    /// Otherwise it returns the first of these errors: `CipherError` of `TooLong` for a token beyond the limit, if one
+    /// was set; `CipherError` of the error of `try_decrypt` of `Paseto`; `PayloadJsonError` for a text that is not
+    /// JSON, nested at most 127 deep; `ClaimError` of `Unexpected` for a number that is not a 64-bit integer, with the
+    /// first key in byte order whose value contains one, or the empty text if the value is not an object; `ClaimError`
+    /// for the first key in byte order that fails its check. `Memory` may be returned in place of any result, except
+    /// for a token that is too long or has a wrong number of sections.
     ///
     /// Source: PASETO specification, "Version 1", "Version 3" and "Version 4", "Decrypt".
     pub fn parse(
@@ -367,8 +363,8 @@ impl<V: GenericLocalVersion> TokenParser<'_, V, Local, ValidatorFn> {
 }
 
 impl TokenParser<'_, V2, Local, ValidatorFn> {
-    /// Opens a token by the caller's box under the parser's footer, and answers the value of its text, which
-    /// passes all checks. The faults are those of the other versions' `parse`, in the same order.
+    /// Decrypts a token with the caller's box and the parser's footer, and returns its text as a JSON value, which
+    /// passes all checks. The errors are those of the other versions' `parse`, in the same order.
     ///
     /// Source: PASETO specification, "Version 2", "Decrypt".
     pub fn parse<S: SealedBox>(
@@ -394,11 +390,11 @@ impl TokenParser<'_, V2, Local, ValidatorFn> {
 }
 
 impl<V> TokenParser<'_, V, Public, ValidatorFn> {
-    /// Verifies a token by the caller's scheme under the parser's footer and, in the versions 3 and 4, its
-    /// implicit assertion, and answers the value of its text, which passes all checks.
+    /// Verifies a token with the caller's scheme, the parser's footer and, in versions 3 and 4, its implicit assertion,
+    /// and returns its text as a JSON value, which passes all checks.
     ///
-    /// The faults are those of `parse` of local tokens, in the same order, with those of `try_verify` of `Paseto`
-    /// in place of those of `try_decrypt`.
+    /// The errors are those of `parse` of local tokens, in the same order, with those of `try_verify` of `Paseto` in
+    /// place of those of `try_decrypt`.
     ///
     /// Source: PASETO specification, "Version 1" to "Version 4", "Verify".
     pub fn parse<S>(

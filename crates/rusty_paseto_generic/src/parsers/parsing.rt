@@ -1,4 +1,4 @@
-//! From a text that a token holds to the value that a parser answers: read as JSON, and checked.
+//! From a text that a token holds to the value that a parser returns: read as JSON, and checked.
 
 ghost use Rattle.std.specs.Prelude.{◌⊎◌, IfOk, IfErr, OnOk};
 ghost use Rattle.serde_json.specs.View.{view};
@@ -17,10 +17,10 @@ use rusty_paseto_core::PasetoError;
 use serde_json::Value;
 use std::alloc::Global;
 
-/// The value that a text is as JSON, nested at most 127 deep, whose numbers are whole numbers of 64 bits.
+/// The value that a text is as JSON, nested at most 127 deep, whose numbers are 64-bit integers.
 ///
-/// `PayloadJsonError` comes for a text that is no such JSON, and `ClaimError` of `Unexpected` for one that
-/// holds another number, with the first key in byte order under which it does.
+/// `PayloadJsonError` is returned for a text that is not such JSON, and `ClaimError` of `Unexpected` for one that holds
+/// another number, with the first key in byte order under which it does.
 fn read_value(alloc: Global, text: &str) -> Result<Value, GenericParserError>
     ensures ok { IfOk result (λ value. IsReadAs text.now (view value)) }
     ensures err { IfErr result (λ error. IsMemory error ⊎ IsReadingFault text.now error) }
@@ -33,7 +33,7 @@ fn read_value(alloc: Global, text: &str) -> Result<Value, GenericParserError>
     Ok(value)
 }
 
-/// Checks a value, or answers `ClaimError` for the first key in byte order that fails its check.
+/// Checks a value, or returns `ClaimError` for the first key in byte order that fails its check.
 pub(crate) fn check_value(
     checks: &Checks<ValidatorFn>,
     times: &Times,
@@ -48,9 +48,9 @@ pub(crate) fn check_value(
     Ok(())
 }
 
-/// The value of a text, which passes all checks. Else it answers the first of these: `PayloadJsonError` for a text
-/// that is no JSON, `ClaimError` of `Unexpected` for a number that is not a whole number of 64 bits, and
-/// `ClaimError` for the first key in byte order that fails its check.
+/// The value of a text, which passes all checks. Otherwise it returns the first of these errors: `PayloadJsonError` for
+/// a text that is not JSON, `ClaimError` of `Unexpected` for a number that is not a 64-bit integer, and `ClaimError`
+/// for the first key in byte order that fails its check.
 pub(crate) fn parse_text(
     checks: &Checks<ValidatorFn>,
     times: &Times,

@@ -1,4 +1,4 @@
-//! The setters of parsers that lend the parser back.
+//! The setters of parsers that return the parser.
 
 ghost use Rattle.std.specs.Borrow.{sem, LendsSoOk};
 ghost use Rattle.std.specs.Prelude.{◌≡◌, None, IfOk, IfErr, OnOk, OnErr};
@@ -18,8 +18,8 @@ use rusty_paseto_claims::PasetoClaim;
 use serde_json::Value;
 use std::collections::BTreeMap;
 
-/// A parser, into which checks are put. Its setters lend it back, for chains of calls: as an `O`, which is the
-/// parser's own type under another name, and which the compiler finds by itself.
+/// A parser that stores checks. Its setters return it, for chains of calls: as an `O`, which is the parser's own type
+/// under another name, and which the compiler infers.
 pub trait CheckSetter<B> {
     // What is checked under each key.
     ghost rules: { Self → Rules (CheckerOf B) };
@@ -73,7 +73,7 @@ pub trait CheckSetter<B> {
         ensures err { OnErr result (AreSame (rules self.new) (rules self.old)) }
         ensures fault { IfErr result IsMemory };
 
-    /// Stores a validator under a key, with no claim.
+    /// Stores a validator under a key, without a claim.
     fn put_key_validator(&mut self, key: &str, validator: B) -> Result<(), GenericParserError>
         ensures ok { OnOk result (AreSame (rules self.new)
             (edited key.now (with_checker (Checker.Boxed validator)) (rules self.old))) }
@@ -100,7 +100,7 @@ pub trait CheckSetter<B> {
         ensures kept { OnErr result (moment self.new ≡ moment self.old) }
         ensures fault { IfErr result IsMemory };
 
-    /// Stores a claim's JSON, as `put_check` does, and lends the parser back.
+    /// Stores a claim's JSON, as `put_check` does, and returns the parser.
     final fn check_claim<C: PasetoClaim, O>(
         &mut self,
         claim: &C,
@@ -124,7 +124,7 @@ pub trait CheckSetter<B> {
         Ok(self.itself())
     }
 
-    /// Stores a claim's JSON and a validator, as `put_validator` does, and lends the parser back.
+    /// Stores a claim's JSON and a validator, as `put_validator` does, and returns the parser.
     final fn validate_claim<C: PasetoClaim, O>(
         &mut self,
         claim: &C,
@@ -150,7 +150,7 @@ pub trait CheckSetter<B> {
         Ok(self.itself())
     }
 
-    /// Stores all values, as `put_checks` does, and lends the parser back.
+    /// Stores all values, as `put_checks` does, and returns the parser.
     final fn extend_check_claims<O>(
         &mut self,
         claims: BTreeMap<String, Value>,
@@ -174,7 +174,7 @@ pub trait CheckSetter<B> {
         Ok(self.itself())
     }
 
-    /// Stores all validators, as `put_validators` does, and lends the parser back.
+    /// Stores all validators, as `put_validators` does, and returns the parser.
     final fn extend_validation_claims<O>(
         &mut self,
         validators: BTreeMap<String, B>,
@@ -197,9 +197,9 @@ pub trait CheckSetter<B> {
         Ok(self.itself())
     }
 
-    /// Makes a validator check the value under a key, with no claim, and lends the parser back, as `put_key_validator`
-    /// does not. From then on it checks alone: a claim that is stored under the key is kept, and is not compared any more.
-    /// Nothing but memory is refused.
+    /// Makes a validator check the value under a key, without a claim, and returns the parser, unlike
+    /// `put_key_validator`. From then on only the validator checks the key: a claim that is stored under it is kept,
+    /// but no longer compared. It fails only if an allocation fails.
     final fn validate_key<O>(
         &mut self,
         key: &str,
@@ -223,9 +223,9 @@ pub trait CheckSetter<B> {
         Ok(self.itself())
     }
 
-    /// Requires that a token has a value under the key, and not null: else `parse` answers `ClaimError` of `Missing`
-    /// with the key, in the place of the key's other checks and before them. What else is checked under the key is
-    /// kept. It lends the parser back, as `put_required` does not. Nothing but memory is refused.
+    /// Requires that a token has a value other than null under the key: otherwise `parse` returns `ClaimError` of
+    /// `Missing` with the key, before the key's other checks, which are kept. Returns the parser, unlike
+    /// `put_required`. It fails only if an allocation fails.
     ///
     /// ```rust
     /// use rusty_paseto_generic::{CheckSetter, GenericParser, GenericParserError, Local, V4};
@@ -259,7 +259,7 @@ pub trait CheckSetter<B> {
         Ok(self.itself())
     }
 
-    /// Checks the times at a moment, as `put_times` does, and lends the parser back.
+    /// Checks the times at a moment, as `put_times` does, and returns the parser.
     final fn check_times<O>(&mut self, now: Timestamp) -> Result<&mut O, GenericParserError>
     where
         Self: Itself<O>,

@@ -41,8 +41,8 @@ impl Times {
 }
 
 /// Checks when a token expires: it is `Expired` where the instant is at or before the moment, less the leeway. A
-/// null value is skipped. Another one that is no text is `Unexpected` with the key, and a text from which `jiff`
-/// reads no `Timestamp` is `RFC3339Date` with the text.
+/// null value is skipped. Another one that is not text is `Unexpected` with the key, and a text from which `jiff` reads
+/// no `Timestamp` is `RFC3339Date` with the text.
 pub(crate) fn check_expiry(
     alloc: Global,
     times: &Times,

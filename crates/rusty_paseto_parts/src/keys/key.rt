@@ -1,4 +1,4 @@
-//! Bytes of a fixed number that are to be kept secret.
+//! Secret bytes of a fixed number.
 
 ghost use Rattle.std.specs.Prelude.{◌≡◌, ℕ, List, Some, codes, length, replicate, IfOk, IfErr, OnErr};
 ghost use Rattle.rusty_paseto_parts.specs.Key.{ReadsKey};
@@ -11,9 +11,8 @@ use std::marker::Model;
 
 /// A key of `N` bytes.
 ///
-/// It is not printed: its debug text is the same for all keys. It is **not wiped**: its bytes stay in memory
-/// when it is dropped, and `clone` and `as_bytes` let copies be made. The default key is all zeros, and no
-/// secret.
+/// `Debug` does not show it: its debug text is the same for all keys. It is **not wiped**: its bytes stay in memory
+/// when it is dropped, and `clone` and `as_bytes` allow copies. The default key is all zeros, and not secret.
 #[derive(Drop)]
 pub struct Key<const N: usize> {
     bytes: [u8; N],
@@ -28,7 +27,7 @@ impl<const N: usize> Model for Key<N> {
 }
 
 impl<const N: usize> Key<N> {
-    /// The key of these `N` bytes.
+    /// The key with these `N` bytes.
     pub fn from_slice(bytes: &[u8]) -> Self
         requires { length bytes.now ≡ N }
         ensures { result ≡ bytes.now }
@@ -38,9 +37,9 @@ impl<const N: usize> Key<N> {
         Key { bytes: key }
     }
 
-    /// A key of `N` bytes that the generator gives. No memory is taken.
+    /// A new key with `N` bytes from the generator. Does not allocate.
     ///
-    /// `Cipher` comes exactly where the generator fails.
+    /// `Cipher` is returned if and only if the generator fails.
     pub fn try_new_random<R: TryRng>(rng: &mut R) -> Result<Self, PasetoError>
         ensures given { IfOk result (λ key. R.may_fill rng.old key rng.new) }
         ensures err { IfErr result (λ error. error ≡ PasetoError.Cipher) }
@@ -61,7 +60,7 @@ impl<const N: usize> Key<N> {
         &self.bytes
     }
 
-    /// A key of the same bytes. No memory is taken.
+    /// A key with the same bytes. Does not allocate.
     pub fn clone(&self) -> Self
         ensures { result ≡ self.now }
     {
@@ -93,7 +92,7 @@ impl<const N: usize> From<&[u8; N]> for Key<N> {
     }
 }
 
-/// Reads exactly `2 * N` hexadecimal digits, of either case. Another text is `InvalidKey`.
+/// Reads exactly `2 * N` hexadecimal digits, of either case. Any other text gives `InvalidKey`.
 impl<const N: usize> TryFrom<&str> for Key<N> {
     type Error = PasetoError;
 

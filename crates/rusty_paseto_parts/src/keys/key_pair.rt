@@ -1,4 +1,4 @@
-//! A private key beside its public key.
+//! A private key with its public key.
 
 ghost use Rattle.std.specs.Prelude.{◌≡◌, ℕ, List, Some, codes};
 
@@ -10,11 +10,11 @@ use crate::version::VersionTrait;
 use std::fmt;
 use std::marker::Model;
 
-/// The two keys of an issuer, which own their bytes: the private key signs, and the public key verifies what it signed.
-/// A scheme makes them, as `Ed25519::try_new_pair` does.
+/// The two keys of an issuer, which own their bytes: the private key signs, and the public key verifies. A scheme makes
+/// them, for example `Ed25519::try_new_pair`.
 ///
-/// It is not printed: its debug text is the same for all pairs. It is **not wiped**: its bytes stay in memory when it is
-/// dropped.
+/// `Debug` does not show it: its debug text is the same for all pairs. It is **not wiped**: its bytes stay in memory
+/// when it is dropped.
 #[derive(Drop)]
 pub struct KeyPair<V: VersionTrait> {
     private: PrivateKey<V>,
@@ -28,28 +28,28 @@ impl<V: VersionTrait> Model for KeyPair<V> {
 }
 
 impl<V: VersionTrait> KeyPair<V> {
-    /// The pair of a private key and a public key. Whether they belong together is not asked here.
+    /// The pair of a private key and a public key. This does not check that they belong together.
     pub fn new(private: PrivateKey<V>, public: PublicKey<V>) -> Self
         ensures { result ≡ (private, public) }
     {
         KeyPair { private, public }
     }
 
-    /// The key that signs. Its bytes are lent.
+    /// The key that signs, borrowed from the pair.
     pub fn private(&self) -> PasetoAsymmetricPrivateKey<'_, V, Public>
         ensures { result ≡ self.now.0 }
     {
         self.private.lend()
     }
 
-    /// The key that verifies. Its bytes are lent.
+    /// The key that verifies, borrowed from the pair.
     pub fn public(&self) -> PasetoAsymmetricPublicKey<'_, V, Public>
         ensures { result ≡ self.now.1 }
     {
         self.public.lend()
     }
 
-    /// The private key and the public key, each of which owns its bytes: a verifier gets the second alone.
+    /// The private key and the public key, each of which owns its bytes: give a verifier only the second.
     pub fn into_keys(self) -> (PrivateKey<V>, PublicKey<V>)
         ensures { result ≡ self }
     {

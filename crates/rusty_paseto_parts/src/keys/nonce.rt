@@ -9,7 +9,7 @@ use crate::version::v2::V2;
 use std::fmt;
 use std::marker::{Model, PhantomData};
 
-/// A nonce for sealing tokens, of a length that the version has. Use each nonce once under a key.
+/// A nonce for encrypting tokens, of a length that the version allows. Use each nonce only once under a key.
 #[derive(Drop)]
 pub struct PasetoNonce<'a, V: VersionTrait, P> {
     bytes: &'a [u8],

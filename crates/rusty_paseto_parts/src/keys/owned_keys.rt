@@ -1,4 +1,4 @@
-//! Keys that own their bytes, for whoever keeps them.
+//! Keys that own their bytes.
 
 ghost use Rattle.std.specs.Prelude.{◌≡◌, ℕ, List, Some, codes, IfOk, IsTrue};
 ghost use Rattle.rusty_paseto_parts.specs.OwnedKeys.{TakesKey};
@@ -12,10 +12,10 @@ use std::alloc::{AllocError, Global};
 use std::fmt;
 use std::marker::{Model, PhantomData};
 
-/// A private key of a version that owns its bytes, and lends the key that signs.
+/// A private key of a version that owns its bytes. `lend` borrows the key that signs.
 ///
-/// It is not printed: its debug text is the same for all keys. It is **not wiped**: its bytes stay in memory when it is
-/// dropped.
+/// `Debug` does not show it: its debug text is the same for all keys. It is **not wiped**: its bytes stay in memory
+/// when it is dropped.
 #[derive(Drop)]
 pub struct PrivateKey<V: VersionTrait> {
     bytes: Vec<u8>,
@@ -31,7 +31,7 @@ impl<V: VersionTrait> Model for PrivateKey<V> {
 }
 
 impl<V: VersionTrait> PrivateKey<V> {
-    /// A key that owns a copy of the bytes of a lent one. Nothing but memory is refused.
+    /// A key that owns a copy of the bytes of a borrowed one. It fails only if an allocation fails.
     pub fn copy_of(
         alloc: Global,
         key: &PasetoAsymmetricPrivateKey<'_, V, Public>,
@@ -44,7 +44,7 @@ impl<V: VersionTrait> PrivateKey<V> {
         })
     }
 
-    /// The key that signs. Its bytes are lent.
+    /// The key that signs, which borrows the bytes.
     pub fn lend(&self) -> PasetoAsymmetricPrivateKey<'_, V, Public>
         ensures { result ≡ self.now }
     {
@@ -52,8 +52,8 @@ impl<V: VersionTrait> PrivateKey<V> {
     }
 }
 
-/// The key of these bytes, of which no copy is made. `InvalidKey` comes exactly where no private key of the version has
-/// them: in version 3 where they are not 48, and never in the other versions. The bytes are then dropped.
+/// The key with these bytes, which are moved. `InvalidKey` is returned if and only if no private key of the version can
+/// have them: in version 3 if there are not 48, and never in the other versions. The bytes are then dropped.
 impl<V: VersionTrait> TryFrom<Vec<u8>> for PrivateKey<V> {
     type Error = PasetoError;
 
@@ -78,7 +78,7 @@ impl<V: VersionTrait> fmt::Debug for PrivateKey<V> {
     }
 }
 
-/// A public key of a version that owns its bytes, and lends the key that verifies.
+/// A public key of a version that owns its bytes. `lend` borrows the key that verifies.
 #[derive(Drop)]
 pub struct PublicKey<V: VersionTrait> {
     bytes: Vec<u8>,
@@ -94,7 +94,7 @@ impl<V: VersionTrait> Model for PublicKey<V> {
 }
 
 impl<V: VersionTrait> PublicKey<V> {
-    /// A key that owns a copy of the bytes of a lent one. Nothing but memory is refused.
+    /// A key that owns a copy of the bytes of a borrowed one. It fails only if an allocation fails.
     pub fn copy_of(
         alloc: Global,
         key: &PasetoAsymmetricPublicKey<'_, V, Public>,
@@ -107,7 +107,7 @@ impl<V: VersionTrait> PublicKey<V> {
         })
     }
 
-    /// The key that verifies. Its bytes are lent.
+    /// The key that verifies, which borrows the bytes.
     pub fn lend(&self) -> PasetoAsymmetricPublicKey<'_, V, Public>
         ensures { result ≡ self.now }
     {
@@ -115,9 +115,9 @@ impl<V: VersionTrait> PublicKey<V> {
     }
 }
 
-/// The key of these bytes, of which no copy is made. `InvalidKey` comes exactly where no public key of the version has
-/// them: in versions 2 and 4 where they are not 32, in version 3 where they are not 49 or the first of them is neither 2
-/// nor 3, and never in version 1. The bytes are then dropped.
+/// The key with these bytes, which are moved. `InvalidKey` is returned if and only if no public key of the version can
+/// have them: in versions 2 and 4 if there are not 32, in version 3 if there are not 49 or the first of them is neither
+/// 2 nor 3, and never in version 1. The bytes are then dropped.
 impl<V: VersionTrait> TryFrom<Vec<u8>> for PublicKey<V> {
     type Error = PasetoError;
 

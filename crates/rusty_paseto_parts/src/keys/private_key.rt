@@ -10,11 +10,10 @@ use crate::version::{V2orV4, VersionTrait};
 use std::fmt;
 use std::marker::{Model, PhantomData};
 
-/// The key that signs the public tokens of a version. Its bytes are lent and not copied: no memory is
-/// taken.
+/// The key that signs the public tokens of a version. It borrows its bytes.
 ///
-/// A key of version 3 has 48 bytes. Those of the other versions may have any number of bytes. It is not
-/// printed: its debug text is the same for all keys.
+/// A key of version 3 has 48 bytes. Those of the other versions may have any number of bytes. `Debug` does not show it:
+/// its debug text is the same for all keys.
 ///
 /// Source: PASETO specification, "Version 1" to "Version 4".
 #[derive(Drop)]
@@ -33,7 +32,7 @@ impl<'a, V: VersionTrait, P> Model for PasetoAsymmetricPrivateKey<'a, V, P> {
 }
 
 impl<'a, V: VersionTrait, P> PasetoAsymmetricPrivateKey<'a, V, P> {
-    /// The key of these bytes, which a private key of the version may have.
+    /// The key with these bytes, which a private key of the version may have.
     pub(crate) fn of(bytes: &'a [u8]) -> Self
         requires { IsTrue (V.is_private_key bytes.now) }
         ensures { result ≡ bytes.now }
@@ -45,7 +44,7 @@ impl<'a, V: VersionTrait, P> PasetoAsymmetricPrivateKey<'a, V, P> {
         }
     }
 
-    /// The bytes of the key, as they were given.
+    /// The bytes of the key.
     pub fn as_bytes(&self) -> &[u8]
         ensures bytes { result.now ≡ self.now }
         ensures form { IsTrue (V.is_private_key self.now) }
@@ -53,7 +52,7 @@ impl<'a, V: VersionTrait, P> PasetoAsymmetricPrivateKey<'a, V, P> {
         self.bytes
     }
 
-    /// A key of the same bytes, which are not copied.
+    /// A key that borrows the same bytes.
     pub fn clone(&self) -> Self
         ensures { result ≡ self.now }
     {
@@ -65,7 +64,7 @@ impl<'a, V: VersionTrait, P> PasetoAsymmetricPrivateKey<'a, V, P> {
     }
 }
 
-/// An RSA key's encoding, of any length. Nothing is asked of it here.
+/// An RSA key's encoding, of any length. It is not checked here.
 impl<'a> From<&'a [u8]> for PasetoAsymmetricPrivateKey<'a, V1, Public> {
     ghost from_gives = { λ encoding private. private ≡ encoding.now };
 
@@ -78,7 +77,7 @@ impl<'a> From<&'a [u8]> for PasetoAsymmetricPrivateKey<'a, V1, Public> {
     }
 }
 
-/// The bytes of an Ed25519 key. Nothing is asked of them here: those that sign have 64 bytes.
+/// The bytes of an Ed25519 key. They are not checked here: a key that signs has 64 bytes.
 impl<'a, V: V2orV4> From<&'a [u8]> for PasetoAsymmetricPrivateKey<'a, V, Public> {
     ghost from_gives = { λ bytes private. private ≡ bytes.now };
 
@@ -104,7 +103,7 @@ impl<'a, V: V2orV4> From<&'a Key<64>> for PasetoAsymmetricPrivateKey<'a, V, Publ
     }
 }
 
-/// A P-384 key: the 48 bytes of the scalar, the greatest byte first.
+/// A P-384 key: the 48 bytes of the scalar, most significant byte first.
 impl<'a> From<&'a Key<48>> for PasetoAsymmetricPrivateKey<'a, V3, Public> {
     ghost from_gives = { λ scalar private. private ≡ scalar.now };
 

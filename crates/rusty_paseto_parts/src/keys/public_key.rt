@@ -12,8 +12,7 @@ use crate::version::{V2orV4, VersionTrait};
 use std::fmt;
 use std::marker::{Model, PhantomData};
 
-/// The key that verifies the public tokens of a version. Its bytes are lent and not copied: no memory
-/// is taken.
+/// The key that verifies the public tokens of a version. It borrows its bytes.
 ///
 /// A key of version 2 or 4 has 32 bytes. One of version 3 has 49, of which the first is 2 or 3. One of
 /// version 1 may have any number of bytes.
@@ -35,7 +34,7 @@ impl<'a, V: VersionTrait, P> Model for PasetoAsymmetricPublicKey<'a, V, P> {
 }
 
 impl<'a, V: VersionTrait, P> PasetoAsymmetricPublicKey<'a, V, P> {
-    /// The key of these bytes, which a public key of the version may have.
+    /// The key with these bytes, which a public key of the version may have.
     pub(crate) fn of(bytes: &'a [u8]) -> Self
         requires { IsTrue (V.is_public_key bytes.now) }
         ensures { result ≡ bytes.now }
@@ -47,7 +46,7 @@ impl<'a, V: VersionTrait, P> PasetoAsymmetricPublicKey<'a, V, P> {
         }
     }
 
-    /// The bytes of the key, as they were given.
+    /// The bytes of the key.
     pub fn as_bytes(&self) -> &[u8]
         ensures bytes { result.now ≡ self.now }
         ensures form { IsTrue (V.is_public_key self.now) }
@@ -55,7 +54,7 @@ impl<'a, V: VersionTrait, P> PasetoAsymmetricPublicKey<'a, V, P> {
         self.bytes
     }
 
-    /// A key of the same bytes, which are not copied.
+    /// A key that borrows the same bytes.
     pub fn clone(&self) -> Self
         ensures { result ≡ self.now }
     {
@@ -67,7 +66,7 @@ impl<'a, V: VersionTrait, P> PasetoAsymmetricPublicKey<'a, V, P> {
     }
 }
 
-/// An RSA key's encoding, of any length. Nothing is asked of it here.
+/// An RSA key's encoding, of any length. It is not checked here.
 impl<'a> From<&'a [u8]> for PasetoAsymmetricPublicKey<'a, V1, Public> {
     ghost from_gives = { λ encoding public. public ≡ encoding.now };
 
@@ -80,7 +79,7 @@ impl<'a> From<&'a [u8]> for PasetoAsymmetricPublicKey<'a, V1, Public> {
     }
 }
 
-/// The 32 bytes of an Ed25519 key. Nothing else is asked of them here.
+/// The 32 bytes of an Ed25519 key. They are not checked here.
 impl<'a, V: V2orV4> From<&'a Key<32>> for PasetoAsymmetricPublicKey<'a, V, Public> {
     ghost from_gives = { λ key public. public ≡ key.now };
 
@@ -95,8 +94,8 @@ impl<'a, V: V2orV4> From<&'a Key<32>> for PasetoAsymmetricPublicKey<'a, V, Publi
 
 /// A compressed point of P-384: a byte that is 2 or 3, and then the 48 bytes of a coordinate.
 ///
-/// `InvalidKey` comes exactly where the first byte is neither 2 nor 3. Whether the other bytes are a
-/// point's is not asked here.
+/// `InvalidKey` is returned if and only if the first byte is neither 2 nor 3. This does not check that the bytes are a
+/// point of the curve.
 impl<'a> TryFrom<&'a Key<49>> for PasetoAsymmetricPublicKey<'a, V3, Public> {
     type Error = PasetoError;
 

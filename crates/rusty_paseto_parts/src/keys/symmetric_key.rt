@@ -1,4 +1,4 @@
-//! The key of local tokens.
+//! The key for local tokens.
 
 ghost use Rattle.std.specs.Prelude.{◌≡◌, ℕ, List, Some, codes, length, IfOk, IfErr, OnErr};
 
@@ -9,9 +9,9 @@ use rand_core::TryRng;
 use std::fmt;
 use std::marker::{Model, PhantomData};
 
-/// The key that seals and opens the local tokens of a version: 32 bytes.
+/// The key that encrypts and decrypts the local tokens of a version: 32 bytes.
 ///
-/// It is not printed: its debug text is the same for all keys.
+/// `Debug` does not show it: its debug text is the same for all keys.
 #[derive(Drop)]
 pub struct PasetoSymmetricKey<V, P> {
     key: Key<32>,
@@ -34,7 +34,7 @@ impl<V, P> PasetoSymmetricKey<V, P> {
         self.key.as_bytes()
     }
 
-    /// A key of the same bytes. No memory is taken.
+    /// A key with the same bytes. Does not allocate.
     pub fn clone(&self) -> Self
         ensures { result ≡ self.now }
     {
@@ -47,9 +47,9 @@ impl<V, P> PasetoSymmetricKey<V, P> {
 }
 
 impl<V> PasetoSymmetricKey<V, Local> {
-    /// A new key of 32 bytes that the generator gives. No memory is taken.
+    /// A new key with 32 bytes from the generator. Does not allocate.
     ///
-    /// `Cipher` comes exactly where the generator fails.
+    /// `Cipher` is returned if and only if the generator fails.
     ///
     /// ```rust
     /// use rand_core::TryRng;

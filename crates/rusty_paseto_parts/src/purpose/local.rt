@@ -5,7 +5,7 @@ ghost use Rattle.std.specs.Prelude.{codes, Some};
 use crate::purpose::PurposeTrait;
 use std::fmt;
 
-/// Symmetric encryption: whoever holds the key seals and opens.
+/// Symmetric encryption: the same key encrypts and decrypts.
 #[derive(Clone, Copy, Debug, Default)]
 pub struct Local;
 

@@ -5,7 +5,7 @@ ghost use Rattle.std.specs.Prelude.{codes, Some};
 use crate::purpose::PurposeTrait;
 use std::fmt;
 
-/// Signatures: whoever holds the private key signs, and whoever has the public key verifies.
+/// Signatures: the private key signs, and the public key verifies.
 #[derive(Clone, Copy, Debug, Default)]
 pub struct Public;
 

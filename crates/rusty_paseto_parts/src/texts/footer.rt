@@ -15,14 +15,14 @@ use crate::untrusted_token::UntrustedToken;
 use std::alloc::Global;
 use std::fmt;
 
-/// A text that stands in a token unencrypted, and that the token's tag covers.
+/// A text in a token that is authenticated but not encrypted.
 #[derive(Clone, Copy, Debug)]
 pub struct Footer<'a> {
     text: &'a str,
 }
 
 impl<'a> Footer<'a> {
-    /// The text, as it was given.
+    /// The text.
     pub fn as_str(&self) -> &'a str
         ensures { result.now ≡ footer_text self.now }
     {
@@ -36,12 +36,12 @@ impl<'a> Footer<'a> {
         self.as_str().as_bytes()
     }
 
-    /// The text of a token's footer, before the token is opened, or `None` where it has no fourth
-    /// section: what `UntrustedToken::footer_str` answers on that token. It is not to be trusted.
+    /// The text of a token's footer, before the token is verified, or `None` if it has no fourth section: the result of
+    /// `UntrustedToken::footer_str`. Do not trust it.
     ///
-    /// `IncorrectSize` comes exactly where the sections are not three or four, whatever memory there
-    /// is; `PayloadBase64Decode` exactly where the fourth section is the base64url encoding of no
-    /// list of bytes; `Utf8Error` exactly where it is the encoding of bytes that are not UTF-8.
+    /// `IncorrectSize` is returned if and only if there are not three or four sections, even if memory is short;
+    /// `PayloadBase64Decode` if and only if the fourth section is not valid base64url; `Utf8Error` if and only if it
+    /// encodes bytes that are not UTF-8.
     pub fn try_from_token(alloc: Global, token: &str) -> Result<Option<String>, PasetoError>
         ensures ok { IfOk result (λ found. HasCount (sections token.now)
             × HasFooterText (slice_get (sections token.now) 3) (option_map string_bytes found)) }

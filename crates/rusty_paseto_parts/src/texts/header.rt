@@ -10,8 +10,8 @@ use std::marker::PhantomData;
 
 /// The header of the tokens of a version and a purpose, for example `v4.local.`.
 ///
-/// The versions `v1` to `v4` with the purposes `local` and `public` have one. For any other pair of
-/// texts the header is empty.
+/// The versions `v1` to `v4` with the purposes `local` and `public` have one. For any other pair of texts the header is
+/// empty.
 ///
 /// Source: PASETO specification, "PASETO Message Format".
 #[derive_where(Clone, Copy, Debug, Default)]

@@ -7,14 +7,14 @@ ghost use Rattle.rusty_paseto_parts.specs.ImplicitAssertion.{assertion_text};
 
 use std::fmt;
 
-/// A text that a token's tag covers and that does not stand in the token.
+/// A text that is not in the token, but is authenticated with it.
 #[derive(Clone, Copy, Debug)]
 pub struct ImplicitAssertion<'a> {
     text: &'a str,
 }
 
 impl<'a> ImplicitAssertion<'a> {
-    /// The text, as it was given.
+    /// The text.
     pub fn as_str(&self) -> &'a str
         ensures { result.now ≡ assertion_text self.now }
     {

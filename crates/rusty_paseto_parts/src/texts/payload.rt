@@ -14,7 +14,7 @@ pub struct Payload<'a> {
 }
 
 impl<'a> Payload<'a> {
-    /// The text, as it was given.
+    /// The text.
     pub fn as_str(&self) -> &'a str
         ensures { result.now ≡ payload_text self.now }
     {

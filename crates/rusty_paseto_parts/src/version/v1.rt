@@ -7,7 +7,7 @@ use crate::version::{V1orV3, VersionTrait};
 use std::fmt;
 
 /// Version 1, NIST Compatibility: AES-256 in counter mode and HMAC-SHA384 for local tokens, whose
-/// nonces have 32 bytes, and RSASSA-PSS for public tokens. Its tokens are bound to no implicit assertion.
+/// nonces have 32 bytes, and RSASSA-PSS for public tokens. It has no implicit assertions.
 ///
 /// Source: PASETO specification, "Version 1".
 #[derive(Clone, Copy, Debug, Default)]

@@ -7,7 +7,7 @@ use crate::version::{V2orV4, VersionTrait};
 use std::fmt;
 
 /// Version 2, Sodium Original: XChaCha20-Poly1305 for local tokens, whose nonces have 24 bytes or 32,
-/// and Ed25519 for public tokens. Its tokens are bound to no implicit assertion.
+/// and Ed25519 for public tokens. It has no implicit assertions.
 ///
 /// Source: PASETO specification, "Version 2".
 #[derive(Clone, Copy, Debug, Default)]

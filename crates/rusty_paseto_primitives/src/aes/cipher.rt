@@ -8,8 +8,7 @@ ghost use Rattle.rusty_paseto_primitives.specs.Aes.State.{add_round_key};
 use crate::aes::key_schedule::key_expansion;
 use crate::aes::state;
 
-/// AES with a key of 32 bytes, as it was made for the key: what a cipher does for a key, once for
-/// all blocks.
+/// AES with a key of 32 bytes, with the key schedule computed once for all blocks.
 #[derive(Drop)]
 pub struct Aes256 {
     // The round keys of rounds 0 to 14, 16 bytes each.
@@ -26,7 +25,7 @@ impl Aes256 {
         }
     }
 
-    /// The block of 16 bytes that the cipher makes of `block` under its key (FIPS 197, section 5.1).
+    /// The encryption of the block of 16 bytes (FIPS 197, section 5.1).
     pub fn encrypt_block(&self, block: &[u8; 16]) -> [u8; 16]
         ensures { (key : List ℕ) → IsKeyed self.now key → result ≡ aes256 key block.now }
     {

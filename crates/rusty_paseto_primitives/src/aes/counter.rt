@@ -46,15 +46,15 @@ fn apply_rest(keys: &[[u8x16; 8]; 15], start: u128, data: &mut [u8])
     apply_keystream(data, &bytes);
 }
 
-/// Encrypts or decrypts `data`, in place, by AES with a key of 256 bits in counter mode: the byte-wise
-/// exclusive or with the keystream (SP 800-38A, section 6.5). `data` may have any length.
+/// Encrypts or decrypts `data`, in place, with AES with a key of 256 bits in counter mode: the byte-wise exclusive or
+/// with the keystream (SP 800-38A, section 6.5). `data` may have any length.
 ///
-/// **Nothing is authenticated**: a changed ciphertext decrypts to a changed text, and no error tells. Never
-/// encrypt two texts with the same key where their ranges of counters meet: the exclusive or of the two
-/// ciphertexts is that of the texts. Tokens are sealed by `Paseto` of `rusty_paseto_core`.
+/// **Nothing is authenticated**: a modified ciphertext decrypts to a modified text, without an error. Never encrypt two
+/// texts with the same key and overlapping ranges of counters: the exclusive or of the two ciphertexts is that of the
+/// texts. To encrypt tokens, use `Paseto` of `rusty_paseto_core`.
 ///
-/// `counter` is the first counter block. It is one number of 128 bits, high byte first, that goes
-/// up by one from block to block, and after the greatest number comes 0.
+/// `counter` is the first counter block. It is one number of 128 bits, most significant byte first, which increases by
+/// one from block to block, and wraps to 0.
 pub fn aes256_ctr_apply(key: &[u8; 32], counter: &[u8; 16], data: &mut [u8])
     ensures { «data».new ≡ xored (aes256_ctr_stream key.now counter.now) «data».old }
 {

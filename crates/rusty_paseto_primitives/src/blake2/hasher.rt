@@ -5,7 +5,7 @@ ghost use Rattle.std.specs.Prelude.{◌≡◌, ℕ, ◌≤◌, ◌++◌, List, [
 use super::block::{BLOCK_LEN, hash_bytes, initial_hash, zero_padded};
 use super::chain::Chain;
 
-/// A BLAKE2b hasher (RFC 7693) that takes the message piece by piece. No call takes memory.
+/// A BLAKE2b hasher (RFC 7693) that takes the message piece by piece. No call allocates.
 #[derive(Drop)]
 pub struct Blake2b {
     chain: Chain,
@@ -62,8 +62,7 @@ impl Blake2b {
         self.held = tail.len();
     }
 
-    /// Writes the hash of the message into `out`, whose length is the output length that `new` was
-    /// given.
+    /// Writes the hash of the message into `out`, whose length must be the output length that was passed to `new`.
     pub fn finalize_into(self, out: &mut [u8])
         requires { length out.old ≡ output_length self }
         ensures { (key : List ℕ) (n : ℕ) (message : List ℕ) → Holds self key n message

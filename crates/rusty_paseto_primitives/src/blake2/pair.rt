@@ -10,8 +10,8 @@ use super::lanes::{compress, hash_in_lane, hashes_side_by_side, words_side_by_si
 use std::simd::u64x2;
 
 /// The BLAKE2b hashes of two messages under one key of up to 64 bytes, the first of `N` bytes and the
-/// second of `M`, each 1 to 64 (RFC 7693). They are those of `blake2b_keyed`. Where there is a key, and
-/// each message has 1 to 128 bytes, both are made at once.
+/// second of `M`, each 1 to 64 (RFC 7693). They are those of `blake2b_keyed`. If there is a key, and each message has 1
+/// to 128 bytes, both are computed at once.
 pub fn blake2b_keyed_pair<const N: usize, const M: usize>(
     key: &[u8],
     first: &[u8],

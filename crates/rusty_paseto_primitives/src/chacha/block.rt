@@ -153,8 +153,8 @@ pub(crate) fn start_of(key: &[u8; 32], tail: &[u8; 16]) -> [u32; 16]
     )
 }
 
-/// One block of ChaCha20: the 64 bytes of keystream of a key and of `tail`, which is the block
-/// counter and the nonce, words 12 to 15, in little-endian bytes (RFC 8439, section 2.3).
+/// One block of ChaCha20: the 64 bytes of keystream for a key and `tail`, which is the block counter and the nonce,
+/// words 12 to 15, in little-endian bytes (RFC 8439, section 2.3).
 pub fn chacha20_block(key: &[u8; 32], tail: &[u8; 16]) -> [u8; 64]
     ensures { result ≡ chacha20_block key.now tail.now }
 {

@@ -72,24 +72,23 @@ fn apply_rest(key: &[u32; 8], tail: &[u32; 2], first: u64, data: &mut [u8])
     apply_keystream(data, &bytes);
 }
 
-/// Encrypts or decrypts `data`, in place, by XChaCha20: the byte-wise exclusive or with the keystream from
-/// its start on (draft-irtf-cfrg-xchacha, section 2.3). `data` may have any length.
+/// Encrypts or decrypts `data`, in place, with XChaCha20: the byte-wise exclusive or with the keystream from its start
+/// (draft-irtf-cfrg-xchacha, section 2.3). `data` may have any length.
 ///
-/// **Nothing is authenticated**: a changed ciphertext decrypts to a changed text, and no error tells. Never
-/// encrypt two texts with the same key and nonce: the exclusive or of the two ciphertexts is that of the
-/// texts. Tokens are sealed by `Paseto` of `rusty_paseto_core`.
+/// **Nothing is authenticated**: a modified ciphertext decrypts to a modified text, without an error. Never encrypt two
+/// texts with the same key and nonce: the exclusive or of the two ciphertexts is that of the texts. To encrypt tokens,
+/// use `Paseto` of `rusty_paseto_core`.
 ///
-/// Blocks are numbered by 64 bits, in words 12 and 13 of a block, so that no length of data comes to
-/// the end of the keystream.
+/// Block numbers have 64 bits, in words 12 and 13 of a block, so no data is too long for the keystream.
 pub fn xchacha20_apply(key: &[u8; 32], nonce: &[u8; 24], data: &mut [u8])
     ensures { «data».new ≡ xored (xchacha20_stream key.now nonce.now) «data».old }
 {
     xchacha20_apply_from(key, nonce, 0, data);
 }
 
-/// The same as [`xchacha20_apply`], with the keystream from block number `first_block` on, which is its byte
-/// `64 * first_block`: for a protocol that uses the first blocks otherwise, as XChaCha20-Poly1305 uses
-/// block 0 (RFC 8439, section 2.8).
+/// The same as [`xchacha20_apply`], with the keystream from block number `first_block` on, that is from byte `64 *
+/// first_block`: for protocols that use the first blocks otherwise, as XChaCha20-Poly1305 uses block 0 (RFC 8439,
+/// section 2.8).
 ///
 /// The block after number 2^64 - 1 is block 0 again.
 ///

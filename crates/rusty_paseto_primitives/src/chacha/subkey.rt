@@ -1,4 +1,4 @@
-//! HChaCha20, by which XChaCha20 makes a subkey of a key and the front of a nonce.
+//! HChaCha20, by which XChaCha20 derives a subkey from a key and the beginning of a nonce.
 
 ghost use Rattle.std.specs.Prelude.{◌≡◌};
 ghost use Rattle.rusty_paseto_primitives.specs.ChaCha.Subkey.{hchacha20};
@@ -6,8 +6,7 @@ ghost use Rattle.rusty_paseto_primitives.specs.ChaCha.Subkey.{hchacha20};
 use super::block;
 use super::rows::twenty_rounds;
 
-/// HChaCha20: a subkey of 32 bytes, of a key and 16 bytes of nonce
-/// (draft-irtf-cfrg-xchacha, section 2.2).
+/// HChaCha20: derives a subkey of 32 bytes from a key and 16 bytes of a nonce (draft-irtf-cfrg-xchacha, section 2.2).
 pub fn hchacha20(key: &[u8; 32], nonce: &[u8; 16]) -> [u8; 32]
     ensures { result ≡ hchacha20 key.now nonce.now }
 {

@@ -2,6 +2,8 @@ use Rattle.std.proofs.lemmas.Result.{err_from_is_err_and}
 use Rattle.rusty_paseto_paserk.specs.declared.header.PaserkType.TheVariants.{Local}
 use Rattle.paseto_tasks.specs.Local.{SealsIn}
 use Rattle.paseto_tasks.proofs.Versions.{made_by, nothing_begun, nothing_by, nothing_taken, seals_begins}
+use Rattle.std.proofs.Common.{inl}
+use Rattle.paseto_tasks.proofs.Blames.{bytes_so}
 use Rattle.paseto_tasks.proofs.local.encrypt.Goals as goal
 
 pub returns-clause-printed : goal.returns-clause-printed
@@ -33,3 +35,6 @@ returns-in_err-takes-clause-refused g c =
     (λ v text line. SealsIn v c.args.key.now c.args.options.now _ text line)
     (seals_begins c.args.options.now c.args.key.now _)
     c.in_err-takes.field-0.0 _ c.in_ok-version.version c.in_ok-version.ensures.begins c.in_err-takes.ensures.refused.1)
+
+pub returns-clause-blames : goal.returns-clause-blames
+returns-clause-blames g c = bytes_so c.sealed_in.result (λ failed. (inl (c.in_ok-version.version, c.in_ok-version.ensures.begins), failed)) c.sealed_in.ensures.blames

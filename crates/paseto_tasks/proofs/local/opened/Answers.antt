@@ -3,6 +3,7 @@ use Rattle.std.proofs.lemmas.Result.{err_from_is_err_and}
 use Rattle.paseto_tasks.specs.Input.{line_of_input}
 use Rattle.paseto_tasks.specs.Local.{Opens}
 use Rattle.paseto_tasks.proofs.Refusals.{bound_is, line_not_read, line_read, no_input, no_key}
+use Rattle.paseto_tasks.proofs.Blames.{plain_of, token_blames}
 use Rattle.paseto_tasks.proofs.local.opened.Goals as goal
 
 pub returns-clause-printed : goal.returns-clause-printed
@@ -51,3 +52,7 @@ returns-in_err-token-clause-refused g c =
     let p = err_from_is_err_and c.from_residual-in_err-token.result c.from_residual-in_err-token.ensures.1 in
     rw (p.1, p.2) (no_input (g.R.Read.remaining c.args.input.now) c.in_err-token.field-0.0 (λ bytes. IsUtf8 (line_of_input bytes)) (λ bytes text. Opens g.V.KeyVersion.paserk g.V.LocalSuite.design c.args.key.now c.args.options.now (line_of_input bytes) text)
     (λ bytes text o. o.utf8) c.in_err-token.ensures.refused)
+
+pub returns-clause-plain : goal.returns-clause-plain
+returns-clause-plain g c = plain_of c.answered.result c.answered.ensures.fixed
+    (token_blames _ c.as_str-text.result.now c.args.kind c.open-answer.result c.open-answer.ensures ⊥ (λ payload is. is) c.answered.result c.answered.ensures.refused)

@@ -4,6 +4,7 @@ use Rattle.paseto_tasks.specs.declared.token_kind.TokenKind.TheVariants.{V2Local
 use Rattle.paseto_tasks.specs.Input.{line_of_input}
 use Rattle.paseto_tasks.specs.Local.{OpensBox}
 use Rattle.paseto_tasks.proofs.Refusals.{line_not_read, line_read, no_input, no_key}
+use Rattle.paseto_tasks.proofs.Blames.{plain_of, token_blames}
 use Rattle.paseto_tasks.proofs.local.unboxed.Goals as goal
 
 pub returns-clause-printed : goal.returns-clause-printed
@@ -46,3 +47,7 @@ returns-in_err-token-clause-refused g c =
     let p = err_from_is_err_and c.from_residual-in_err-token.result c.from_residual-in_err-token.ensures.1 in
     rw (p.1, p.2) (no_input (g.R.Read.remaining c.args.input.now) c.in_err-token.field-0.0 (λ bytes. IsUtf8 (line_of_input bytes)) (λ bytes text. OpensBox c.args.key.now c.args.options.now (line_of_input bytes) text)
     (λ bytes text o. o.utf8) c.in_err-token.ensures.refused)
+
+pub returns-clause-plain : goal.returns-clause-plain
+returns-clause-plain g c = plain_of c.answered.result c.answered.ensures.fixed
+    (token_blames _ c.as_str-text.result.now V2Local c.try_decrypt-answer.result c.try_decrypt-answer.ensures ⊥ (λ payload is. is) c.answered.result c.answered.ensures.refused)

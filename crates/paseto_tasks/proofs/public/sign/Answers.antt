@@ -2,6 +2,10 @@ use Rattle.std.proofs.lemmas.Result.{err_from_is_err_and}
 use Rattle.rusty_paseto_paserk.specs.declared.header.PaserkType.TheVariants.{Secret}
 use Rattle.paseto_tasks.specs.Public.{DeclinesIn, SignsIn}
 use Rattle.paseto_tasks.proofs.Versions.{made_by, more_than, nothing_begun, nothing_or_declined, nothing_taken, signs_begins}
+use Rattle.std.proofs.Common.{ℕ, List, inr, subst}
+use Rattle.rusty_paseto_paserk.specs.declared.header.PaserkVersion.{PaserkVersion}
+use Rattle.paseto_tasks.specs.KeyLine.{BeginsAs}
+use Rattle.paseto_tasks.proofs.Blames.{bytes_so}
 use Rattle.paseto_tasks.proofs.public.sign.Goals as goal
 
 pub returns-clause-printed : goal.returns-clause-printed
@@ -42,3 +46,7 @@ returns-in_err-takes-clause-refused g c =
     (λ v text line. SignsIn v c.args.key.now c.args.options.now text line)
     (signs_begins c.args.options.now c.args.key.now)
     c.in_err-takes.field-0.0 _ c.in_ok-version.version c.in_ok-version.ensures.begins c.in_err-takes.ensures.refused.1))
+
+pub returns-clause-blames : goal.returns-clause-blames
+returns-clause-blames g c = bytes_so c.sign_in.result
+    (λ failed. (inr (subst (λ (v : PaserkVersion). BeginsAs v Secret c.args.key.now) failed.0 c.in_ok-version.ensures.begins), failed.1)) c.sign_in.ensures.blames

@@ -11,4 +11,4 @@ returns-in-Err-clause-refused g c = λ one. (
 )
 
 pub returns-in-Err-clause-no_usage : goal.returns-in-Err-clause-no_usage
-returns-in-Err-clause-no_usage g c = not_2 c.in-Err.error _ c.status.ensures (fixed_no_usage c.in-Err.error c.in-Err.ensures.fixed)
+returns-in-Err-clause-no_usage g c = not_2 c.in-Err.error _ c.status.ensures (fixed_no_usage c.in-Err.error c.in-Err.ensures.plain.0)

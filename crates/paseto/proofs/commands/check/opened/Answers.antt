@@ -7,6 +7,8 @@ use Rattle.paseto_tasks.specs.Arguments.{binds_in}
 use Rattle.paseto.specs.Check.{demanded}
 use Rattle.paseto.proofs.Parsed.{parses, same_binding}
 use Rattle.rusty_paseto_parts.proofs.LimitLemmas.{unlimited}
+use Rattle.paseto.specs.Check.{IsOtherFooter}
+use Rattle.paseto.proofs.Blamed.{other_footer, parsed_blames}
 use Rattle.paseto.proofs.commands.check.opened.Goals as goal
 
 pub returns-clause-answer : goal.returns-clause-answer
@@ -21,3 +23,9 @@ returns-clause-answer g c =
     (ap (λ (b : Bool). binding_of c.in_ok-key.key held.footer (assertion_in b held.implicit_assertion)) c.requires
     ∙ same_binding _ held.footer held.implicit_assertion demands.assertion (binds_in g.V.KeyVersion.paserk) _ made.assertion made.footer) made.rules
     c.parsed.result c.parse.result c.parsed.ensures.value c.parsed.ensures.refused (c.parse.ensures.answer (unlimited _ _ made.longest))
+
+pub returns-clause-blames : goal.returns-clause-blames
+returns-clause-blames g c =
+    parsed_blames _ _ c.args.token.now ⊥ (IsOtherFooter (demanded c.args.demands.now).footer c.args.token.now) (λ payload is. is)
+    (other_footer c.reader-parser.result.parser.footer _ c.args.token.now c.reader-parser.ensures.footer) (λ payload is. absurd is)
+    c.parsed.result c.parse.result c.parsed.ensures.blames (c.parse.ensures.answer (unlimited _ _ c.reader-parser.ensures.longest))

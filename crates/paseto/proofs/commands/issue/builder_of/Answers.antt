@@ -4,6 +4,8 @@ use Rattle.rusty_paseto.specs.Held.{counting}
 use Rattle.paseto_tasks.proofs.Statuses.{no_usage_or}
 use Rattle.paseto.specs.Issue.{ordered}
 use Rattle.paseto.proofs.Orders.{begin_never, claims_never, counted_all, expiry_never}
+use Rattle.paseto_tasks.proofs.Blames.{blames_so, nothing}
+use Rattle.paseto.proofs.Blamed.{begun_blames}
 use Rattle.paseto.proofs.commands.issue.builder_of.Goals.{in-Some, in_default}
 use Rattle.paseto.proofs.commands.issue.builder_of.Goals as goal
 
@@ -38,3 +40,24 @@ pub returns-in_err-set_begin-clause-usage : goal.returns-in_err-set_begin-clause
 returns-in_err-set_begin-clause-usage g c =
     let p = err_from_is_err_and c.from_residual-in_err-set_begin.result c.from_residual-in_err-set_begin.ensures.1 in
     rw (p.1, p.2) (no_usage_or c.in_err-set_begin.field-0.0 (begin_never (ordered c.args.order.now) c.in_err-set_begin.field-0.0 c.in_err-set_begin.ensures.never))
+
+pub returns-in_err-builder-clause-blames : goal.returns-in_err-builder-clause-blames
+returns-in_err-builder-clause-blames g c =
+    let p = err_from_is_err_and c.from_residual.result c.from_residual.ensures.1 in
+    rw (p.1, p.2) (blames_so c.in_err-builder.field-0.0 nothing nothing nothing nothing
+    (begun_blames c.in_err-builder.field-0.0 c.default.result c.default.ensures.err c.in_err-builder.ensures.blames))
+
+pub returns-in_err-set_claims-clause-blames : goal.returns-in_err-set_claims-clause-blames
+returns-in_err-set_claims-clause-blames g c =
+    let p = err_from_is_err_and c.from_residual-in_err-set_claims.result c.from_residual-in_err-set_claims.ensures.1 in
+    rw (p.1, p.2) (blames_so c.in_err-set_claims.field-0.0 nothing nothing nothing nothing c.in_err-set_claims.ensures.blames)
+
+pub returns-in_err-set_expiry-clause-blames : goal.returns-in_err-set_expiry-clause-blames
+returns-in_err-set_expiry-clause-blames g c =
+    let p = err_from_is_err_and c.from_residual-in_err-set_expiry.result c.from_residual-in_err-set_expiry.ensures.1 in
+    rw (p.1, p.2) (blames_so c.in_err-set_expiry.field-0.0 nothing nothing nothing nothing c.in_err-set_expiry.ensures.blames)
+
+pub returns-in_err-set_begin-clause-blames : goal.returns-in_err-set_begin-clause-blames
+returns-in_err-set_begin-clause-blames g c =
+    let p = err_from_is_err_and c.from_residual-in_err-set_begin.result c.from_residual-in_err-set_begin.ensures.1 in
+    rw (p.1, p.2) (blames_so c.in_err-set_begin.field-0.0 nothing nothing nothing nothing c.in_err-set_begin.ensures.blames)

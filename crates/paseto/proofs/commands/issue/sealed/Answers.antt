@@ -7,6 +7,8 @@ use Rattle.paseto.specs.Issue.{ordered}
 use Rattle.paseto.proofs.Issued.{seals_found, seals_never, seals_none}
 use Rattle.paseto.proofs.Parsed.{no_key_value}
 use Rattle.paseto.proofs.Lines.{sealed_no_repeat, told_built}
+use Rattle.paseto_tasks.proofs.Blames.{blames_so, nothing, plain_blames}
+use Rattle.paseto.proofs.Blamed.{built_blames, sealed_wants}
 use Rattle.paseto.proofs.commands.issue.sealed.Goals as goal
 
 pub returns-clause-found : goal.returns-clause-found
@@ -45,3 +47,17 @@ pub returns-in_err-key-clause-none : goal.returns-in_err-key-clause-none
 returns-in_err-key-clause-none g c =
     let p = err_from_is_err_and c.from_residual.result c.from_residual.ensures.1 in
     rw (p.1, p.2) (no_key_value c.in_err-key.field-0.0 _ (λ line is. c.in_err-key.ensures.read is.key_bytes is.is_key.bytes is.is_key.size is.is_key.is_writing))
+
+pub returns-in_err-builder-clause-blames : goal.returns-in_err-builder-clause-blames
+returns-in_err-builder-clause-blames g c =
+    let p = err_from_is_err_and c.from_residual-in_err-builder.result c.from_residual-in_err-builder.ensures.1 in
+    rw (p.1, p.2) (blames_so c.in_err-builder.field-0.0 nothing (λ none. none) nothing nothing c.in_err-builder.ensures.blames)
+
+pub returns-in_err-built-clause-blames : goal.returns-in_err-built-clause-blames
+returns-in_err-built-clause-blames g c =
+    let p = err_from_is_err_and c.from_residual-in_err-built.result c.from_residual-in_err-built.ensures.1 in
+    rw (p.1, p.2) (blames_so c.in_err-built.field-0.0 (λ failed. failed) nothing nothing nothing
+    (built_blames _ (counting c.in_ok-builder.builder.keys).repeated c.build.result c.in_err-built.field-0.0 c.build.ensures.repeated (λ none. sealed_wants _ c.build.result (c.build.ensures.err none)) c.in_err-built.ensures.blames))
+
+pub returns-clause-blames : goal.returns-clause-blames
+returns-clause-blames g c = plain_blames _ _ _ _ c.with_line_feed.result c.with_line_feed.ensures.plain

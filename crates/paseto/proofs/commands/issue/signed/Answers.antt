@@ -15,3 +15,7 @@ pub returns-clause-said : goal.returns-clause-said
 returns-clause-said g c =
     let key = c.in_ok-key.ensures in
     c.signed_by.ensures.said (rw c.lend.ensures (g.met.V.PairLines.has_private_length c.args.key.now c.in_ok-key.key key.found))
+
+pub returns-clause-blames : goal.returns-clause-blames
+returns-clause-blames g c =
+    c.signed_by.ensures.blames (rw c.lend.ensures (g.met.V.PairLines.has_private_length c.args.key.now c.in_ok-key.key c.in_ok-key.ensures.found))

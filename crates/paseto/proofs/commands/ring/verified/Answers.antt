@@ -9,6 +9,10 @@ use Rattle.paseto.proofs.Parsed.{no_value}
 use Rattle.paseto.proofs.RingParsing.{no_keys, ring_parses}
 use Rattle.paseto.proofs.Rings.{in_words}
 use Rattle.rusty_paseto.proofs.KeyRingLemmas.{unlimited}
+use Rattle.rusty_paseto_core.specs.declared.PasetoError.TheVariants.{Cipher}
+use Rattle.paseto_tasks.specs.Public.{MayRefuse}
+use Rattle.paseto_tasks.proofs.Blames.{verifying_wants}
+use Rattle.paseto.proofs.Blamed.{found_blames}
 use Rattle.paseto.proofs.commands.ring.verified.Goals as goal
 
 pub returns-in_err-keys-clause-answer : goal.returns-in_err-keys-clause-answer
@@ -28,3 +32,8 @@ returns-clause-answer g c =
     (words_of c.args.lines.now) c.in_ok-keys.keys.items c.in_ok-keys.ensures.found)
     (rw c.deref.ensures.value at c.in_ok-ring.ensures.ring) c.requires made.assertion made.footer made.rules
     c.found.result c.parse.result c.found.ensures.value c.found.ensures.refused (c.parse.ensures.answer (unlimited _ _ _ made.longest c.in_ok-ring.ensures.limits))
+
+pub returns-clause-blames : goal.returns-clause-blames
+returns-clause-blames g c =
+    found_blames _ _ _ c.args.token.now (MayRefuse g.V.Verifies.refused Cipher) (λ key footer payload is. verifying_wants g.V.Verifies.valid g.V.Verifies.refused g.V.PublicSuite.public_design _ payload is)
+    c.found.result c.parse.result c.found.ensures.blames (c.parse.ensures.answer (unlimited _ _ _ c.reader-parser.ensures.longest c.in_ok-ring.ensures.limits))

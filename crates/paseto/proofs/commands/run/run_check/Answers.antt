@@ -4,8 +4,9 @@ use Rattle.paseto_tasks.specs.Input.{line_of_input}
 use Rattle.paseto.specs.Check.{AreDemands, Demanded, DemandsNothing}
 use Rattle.paseto.specs.Checked.{ChecksFor, ChecksNothing, IsCheckLineFor}
 use Rattle.paseto.proofs.Witnesses.{known_cause_says, left_of_known}
+use Rattle.paseto_tasks.specs.Error.{BlamesOnly}
 use Rattle.paseto_tasks.proofs.Refusals.{known_refused_as}
-use Rattle.paseto_tasks.proofs.Statuses.{refusal_says, usage_says}
+use Rattle.paseto_tasks.proofs.Statuses.{cause_so, refusal_says, usage_says}
 use Rattle.paseto.proofs.commands.run.run_check.Goals as goal
 
 pub returns-clause-refused : goal.returns-clause-refused
@@ -46,5 +47,6 @@ returns-clause-said g c = λ failed.
       known_cause_says (g.R.Read.remaining c.args.input.now)
           (λ bytes line. IsCheckLineFor (texts c.args.claims.now) c.args.options.now c.args.now c.args.keys.now (line_of_input bytes) line)
           c.claims_line-made.result said.0 said.2 c.claims_line-made.ensures.said,
+      cause_so (BlamesOnly _ _ _ _) c.claims_line-made.result said.0 said.2 c.claims_line-made.ensures.blames tt,
       said.3,
     )

@@ -1,9 +1,10 @@
 use Rattle.std.proofs.Common.{inl, inr}
 use Rattle.paseto_tasks.specs.Arguments.{texts}
 use Rattle.paseto.specs.Issue.{IsIssueLineFor, IsOrder, IssuesFor, IssuesNothing, Ordered, OrdersNothing}
+use Rattle.paseto_tasks.specs.Error.{BlamesOnly, Says}
 use Rattle.paseto_tasks.proofs.Outputs.{left_of_made}
 use Rattle.paseto_tasks.proofs.Refusals.{refused_as}
-use Rattle.paseto_tasks.proofs.Statuses.{cause_says, refusal_says, usage_says}
+use Rattle.paseto_tasks.proofs.Statuses.{cause_so, refusal_says, usage_says}
 use Rattle.paseto.proofs.commands.run.run_issue.Goals as goal
 
 pub returns-clause-refused : goal.returns-clause-refused
@@ -31,5 +32,10 @@ returns-clause-cut g c = λ failed.
 
 pub returns-clause-said : goal.returns-clause-said
 returns-clause-said g c = λ failed.
-    let said = c.finish.ensures.said failed in
-    (said.0, said.1, cause_says (IsIssueLineFor (texts c.args.claims.now) c.args.options.now c.args.now) c.token_of-made.result said.0 said.2 c.token_of-made.ensures.said, said.3)
+    let said = c.finish.ensures.said failed in (
+      said.0,
+      said.1,
+      cause_so (Says (IsIssueLineFor (texts c.args.claims.now) c.args.options.now c.args.now)) c.token_of-made.result said.0 said.2 c.token_of-made.ensures.said tt,
+      cause_so (BlamesOnly _ _ _ _) c.token_of-made.result said.0 said.2 c.token_of-made.ensures.blames tt,
+      said.3,
+    )

@@ -3,6 +3,10 @@ use Rattle.paseto_tasks.specs.Error.{IsNoRefusal}
 use Rattle.paseto_tasks.specs.Arguments.{texts}
 use Rattle.paseto.specs.Issue.{IsIssueLineFor, IsOrder, IsRepeatedLine, Ordered, ordered}
 use Rattle.paseto.proofs.Witnesses.{all_so, in_other_words, issues_none, known_for, orders_none, usage_of_order}
+use Rattle.std.proofs.Common.{subst}
+use Rattle.jiff.specs.Types.{Timestamp}
+use Rattle.rusty_paseto.specs.Moment.{FitsDefault}
+use Rattle.paseto_tasks.proofs.Blames.{blame_so, nothing}
 use Rattle.paseto.proofs.commands.run.token_of.Goals as goal
 
 pub returns-clause-found : goal.returns-clause-found
@@ -33,3 +37,7 @@ pub returns-clause-said : goal.returns-clause-said
 returns-clause-said g c =
     all_so (IsRepeatedLine (ordered c.in_ok-order.order)) (IsIssueLineFor (texts c.args.claims.now) c.args.options.now c.args.now) c.issue.result
     (λ line is. (ordered c.in_ok-order.order, c.in_ok-order.ensures.found, is)) c.issue.ensures.said
+
+pub returns-clause-blames : goal.returns-clause-blames
+returns-clause-blames g c =
+    blame_so c.issue.result (λ failed. failed) (λ none. subst (λ (m : Timestamp). ¬ FitsDefault m) c.in_ok-order.ensures.found.moment none) nothing nothing c.issue.ensures.blames

@@ -1,4 +1,0 @@
-use Rattle.paseto_cases.proofs.defaults.primes.+has_divisor.Given as goal
-
-abbrev pub decreases-has_divisor : goal.decreases-has_divisor
-decreases-has_divisor l = l.count

@@ -1,6 +1,0 @@
-use Rattle.std.proofs.Common.{◌≡◌, ◌*◌, length, take}
-use Rattle.paseto_toys.specs.ToySignature.{toy_blocks}
-use Rattle.paseto_toys.proofs.toy_signature.toy_signature.Given as goal
-
-abbrev pub invariant-each : goal.invariant-each
-invariant-each g l = (length l.joined ≡ 256) × (take (64 * l.i) l.joined ≡ toy_blocks l.key l.message l.i)

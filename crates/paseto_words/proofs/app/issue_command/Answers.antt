@@ -1,0 +1,12 @@
+use Rattle.std.proofs.Common.{◌∙◌, ap}
+use Rattle.std.proofs.lemmas.Result.{IfOk-weaker}
+use Rattle.clap.specs.Simple.{app_of_fields}
+use Rattle.clap.specs.declared.builder.command.Command.{Command}
+use Rattle.clap.specs.declared.builder.command.Command.TheOpen.{Command-F}
+use Rattle.paseto_words.proofs.app.issue_command.Goals as goal
+
+pub returns : goal.returns
+returns c = IfOk-weaker c.bin_name.result _ _ (λ r h. (
+  ap app_of_fields h.0 ∙ c.in_ok-with_issue.ensures.0,
+  ap (λ (f : Command-F Command). f.has_globals) h.0 ∙ c.in_ok-with_issue.ensures.1,
+)) c.bin_name.ensures
