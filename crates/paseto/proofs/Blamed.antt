@@ -1,8 +1,7 @@
 -- What the errors of builders, parsers and rings say of random bytes and the footer.
-use Rattle.std.proofs.Common.{◌≡◌, ◌⊎◌, ◌∙◌, ℕ, List, [], Bool, true, false, ap, Option, None, Some, option_map, IsSome, Result, Ok, Err, IfErr, IsErrAnd, String, Global, inl, inr, refl, sym, subst}
+use Rattle.std.proofs.Common.{◌≡◌, ◌⊎◌, ◌∙◌, ℕ, List, [], Bool, true, false, ap, Option, None, Some, option_map, Result, Ok, Err, IfErr, IsErrAnd, String, Global, inl, inr, refl, sym, subst}
 use Rattle.std.proofs.lemmas.Bool.{false≢true}
 use Rattle.std.specs.List.{slice_get}
-use Rattle.serde_json.specs.Data.{Data}
 use Rattle.serde_json.specs.declared.value.Value.{Value}
 use Rattle.rusty_paseto_parts.specs.Footer.{footer_text}
 use Rattle.rusty_paseto_parts.specs.declared.texts.footer.Footer.{Footer}
@@ -37,7 +36,7 @@ use Rattle.paseto_tasks.specs.declared.error.ProgramError.{ProgramError}
 use Rattle.paseto_tasks.specs.declared.error.ProgramError.TheVariants.{Refused}
 use Rattle.paseto_tasks.specs.Error.{BlamesNone, BlamesOnly, IsPlain}
 use Rattle.paseto_tasks.proofs.Blames.{blames_so, nothing}
-use Rattle.paseto.specs.Answers.{BlamesOfParser, BlamesOfParsing, BlamesOfRing, IsCipher, IsFooterInvalid, OfBuilder}
+use Rattle.paseto.specs.Answers.{BlamesOfParser, BlamesOfParsing, BlamesOfRing, IsCipher, OfBuilder}
 use Rattle.paseto.specs.Check.{IsOtherFooter}
 
 -- ---- builders

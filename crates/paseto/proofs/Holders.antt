@@ -1,5 +1,5 @@
 -- The one type and version of keys under which a token is parsed.
-use Rattle.std.proofs.Common.{◌≡◌, ℕ, List, Option, Result, subst, subst₂}
+use Rattle.std.proofs.Common.{ℕ, List, Option, Result, subst, subst₂}
 use Rattle.serde_json.specs.Data.{Data}
 use Rattle.serde_json.specs.declared.value.Value.{Value}
 use Rattle.rusty_paseto_paserk.specs.declared.header.PaserkVersion.{PaserkVersion}

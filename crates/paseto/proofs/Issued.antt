@@ -1,5 +1,5 @@
 -- What is issued under the keys of lines, and why nothing is.
-use Rattle.std.proofs.Common.{◌≡◌, ◌≢◌, ◌⊎◌, ℕ, List, [], ◌++◌, Bool, true, false, if◌then◌else◌, nat_le, length, Option, None, Some, option_map, is_some, Result, Ok, Err, IfErr, IfOk, IsErrAnd, OnOk, String, Global, string_bytes, inl, inr, refl, sym, ap, subst, ◌∙◌}
+use Rattle.std.proofs.Common.{◌≡◌, ◌≢◌, ◌⊎◌, ℕ, List, [], Bool, true, false, length, Option, None, Some, option_map, is_some, Result, Ok, Err, IfErr, IfOk, IsErrAnd, OnOk, String, Global, string_bytes, inl, inr, refl, sym, ap, subst, ◌∙◌}
 use Rattle.std.specs.Bool.{⊤}
 use Rattle.std.proofs.lemmas.Bool.{false≢true}
 use Rattle.serde_json.specs.Data.{Members}
@@ -9,7 +9,7 @@ use Rattle.rusty_paseto_parts.specs.declared.texts.footer.Footer.{Footer}
 use Rattle.rusty_paseto_parts.specs.declared.texts.implicit_assertion.ImplicitAssertion.{ImplicitAssertion}
 use Rattle.rusty_paseto_core.specs.Context.{Binding, binding_of}
 use Rattle.rusty_paseto_core.specs.Local.{Design}
-use Rattle.rusty_paseto_core.specs.Local.Boxed.{boxed_sealing, token_nonce}
+use Rattle.rusty_paseto_core.specs.Local.Boxed.{token_nonce}
 use Rattle.rusty_paseto_core.specs.Public.{HasPrivateLength, PublicDesign, message}
 use Rattle.rusty_paseto_core.specs.Public.Scheme.{Declining, Validity}
 use Rattle.rusty_paseto_core.specs.declared.PasetoError.{PasetoError}

@@ -1,5 +1,5 @@
 -- What errors say of random bytes, the clock, the length of a key file and the footer.
-use Rattle.std.proofs.Common.{◌≡◌, ◌⊎◌, ◌∙◌, ℕ, List, Bool, true, false, Option, IfSome, Result, Ok, Err, IfErr, IsErrAnd, String, Global, inl, inr, refl, sym, ap, subst}
+use Rattle.std.proofs.Common.{◌≡◌, ◌⊎◌, ◌∙◌, ℕ, List, Bool, true, false, Option, IfSome, Result, Ok, Err, IfErr, String, Global, inl, inr, refl, sym, ap, subst}
 use Rattle.std.proofs.lemmas.Bool.{false≢true}
 use Rattle.rusty_paseto_parts.specs.Error.{IsMemory}
 use Rattle.rusty_paseto_parts.specs.declared.error.PasetoError.{PasetoError}
@@ -7,7 +7,7 @@ use Rattle.rusty_paseto_parts.specs.declared.error.PasetoError.TheVariants.{Ciph
 use Rattle.rusty_paseto_core.specs.Context.{Binding}
 use Rattle.rusty_paseto_core.specs.Public.{PublicDesign}
 use Rattle.rusty_paseto_core.specs.Public.Scheme.{Refusal, Validity}
-use Rattle.rusty_paseto_core.specs.Public.Verifying.{IsSignedFault, verification}
+use Rattle.rusty_paseto_core.specs.Public.Verifying.{IsSignedFault}
 use Rattle.rusty_paseto_core.specs.Reading.{IsAnswer, IsFault, Reading}
 use Rattle.paseto_ed25519.specs.Ed25519.{IsDeclined, IsRefused}
 use Rattle.paseto_p384.specs.P384.{IsDeclined as IsDeclinedByP384}

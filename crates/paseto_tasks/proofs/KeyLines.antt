@@ -1,5 +1,5 @@
 -- What lines begin as.
-use Rattle.std.proofs.Common.{◌≡◌, ◌⊎◌, ℕ, ◌==◌, List, ◌++◌, if◌then◌else◌, get_or, Ok, Err, inl, inr, refl, sym, ap, ◌∙◌}
+use Rattle.std.proofs.Common.{◌≡◌, ℕ, ◌==◌, List, if◌then◌else◌, get_or, Ok, Err, inl, inr, refl, sym, ap, ◌∙◌}
 use Rattle.std.proofs.lemmas.Bool.{false≢true}
 use Rattle.paseto_pem.specs.Key.{Contents, Faults, IsText, ReadsKey as ReadsPem}
 use Rattle.paseto_pem.specs.Rsa.{IsHeld}

@@ -2,7 +2,7 @@ use Rattle.std.proofs.lemmas.Result.{err_from_is_err_and}
 use Rattle.rusty_paseto_paserk.specs.declared.header.PaserkType.TheVariants.{Secret}
 use Rattle.paseto_tasks.specs.Public.{DeclinesIn, SignsIn}
 use Rattle.paseto_tasks.proofs.Versions.{made_by, more_than, nothing_begun, nothing_or_declined, nothing_taken, signs_begins}
-use Rattle.std.proofs.Common.{ℕ, List, inr, subst}
+use Rattle.std.proofs.Common.{inr, subst}
 use Rattle.rusty_paseto_paserk.specs.declared.header.PaserkVersion.{PaserkVersion}
 use Rattle.paseto_tasks.specs.KeyLine.{BeginsAs}
 use Rattle.paseto_tasks.proofs.Blames.{bytes_so}
