@@ -1,12 +1,7 @@
-use Rattle.std.proofs.Common.{◌∙◌, ap}
-use Rattle.std.proofs.lemmas.Result.{IfOk-weaker}
-use Rattle.clap.specs.Simple.{app_of_fields}
-use Rattle.clap.specs.declared.builder.command.Command.{Command}
-use Rattle.clap.specs.declared.builder.command.Command.TheOpen.{Command-F}
+use Rattle.std.proofs.Common.{codes, refl}
+use Rattle.clap.specs.Words.{new_app}
+use Rattle.paseto_words.proofs.Adding.{as_before}
 use Rattle.paseto_words.proofs.app.named.Goals as goal
 
 pub returns : goal.returns
-returns c = IfOk-weaker c.bin_name.result _ _ (λ r h. (
-  ap app_of_fields h.0 ∙ c.new.ensures.app,
-  ap (λ (f : Command-F Command). f.has_globals) h.0 ∙ c.new.ensures.local,
-)) c.bin_name.ensures
+returns c = as_before (new_app (codes "paseto")) c.new.result _ _ (c.new.ensures.app, c.new.ensures.local) c.about.ensures refl refl
