@@ -33,13 +33,13 @@ EACH = 2_000_000_000
 # else. A crate that is not listed counts as OTHERS.
 OTHERS = 100
 SECONDS = {
-    "paseto": 450, "paseto_argon2": 124, "paseto_c": 950, "paseto_der": 24, "paseto_ed25519": 75, "paseto_edwards": 44,
-    "paseto_edwards25519": 130, "paseto_key_files": 335, "paseto_montgomery": 110, "paseto_p384": 108,
-    "paseto_pbkdf2": 14, "paseto_pem": 287, "paseto_polynomials": 19, "paseto_primes": 24, "paseto_rsa": 97,
-    "paseto_streams": 35, "paseto_tasks": 350, "paseto_tool": 280, "paseto_weierstrass": 18, "paseto_words": 330,
-    "paseto_wrapping": 270, "paseto_x25519": 45, "paseto_xchacha20poly1305": 64, "rusty_paseto": 560,
-    "rusty_paseto_claims": 235, "rusty_paseto_core": 475, "rusty_paseto_generic": 380, "rusty_paseto_parts": 280,
-    "rusty_paseto_paserk": 110, "rusty_paseto_primitives": 450,
+    "paseto": 1240, "paseto_argon2": 97, "paseto_c": 716, "paseto_der": 25, "paseto_ed25519": 59, "paseto_edwards": 23,
+    "paseto_edwards25519": 124, "paseto_key_files": 289, "paseto_montgomery": 69, "paseto_p384": 143,
+    "paseto_pbkdf2": 14, "paseto_pem": 234, "paseto_polynomials": 16, "paseto_primes": 14, "paseto_rsa": 97,
+    "paseto_streams": 33, "paseto_tasks": 650, "paseto_tool": 280, "paseto_weierstrass": 19, "paseto_words": 360,
+    "paseto_wrapping": 248, "paseto_x25519": 30, "paseto_xchacha20poly1305": 56, "rusty_paseto": 564,
+    "rusty_paseto_claims": 217, "rusty_paseto_core": 349, "rusty_paseto_generic": 567, "rusty_paseto_parts": 192,
+    "rusty_paseto_paserk": 83, "rusty_paseto_primitives": 333,
 }
 # A crate whose way to the top is no longer than this share of the longest leaves the processors to the others.
 NEAR, NICENESS = 0.75, 15
