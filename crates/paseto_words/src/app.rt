@@ -1,10 +1,11 @@
 //! The options and arguments of each command.
 
 ghost use Rattle.std.specs.Prelude.{◌≡◌, IfOk, codes, false, map};
-ghost use Rattle.clap.specs.Words.{App, new_app, rule_of};
-ghost use Rattle.paseto_words.specs.App.{IsFor, app_for, check_app, issue_app, paseto_app, rule_for, top_app, with_rules, with_subcommands, wrap_app};
+ghost use Rattle.clap.specs.Words.{App, kind_of, new_app, rule_of};
+ghost use Rattle.paseto_words.specs.App.{IsFor, app_for, paseto_app, rule_for, top_app, with_rules, with_subcommands};
 
-use clap::{Arg, ArgAction, Command};
+use clap::error::ErrorKind;
+use clap::{Arg, ArgAction, Command, Error};
 use std::alloc::{AllocError, Global};
 
 /// How arguments give a parameter, and what the help calls its value.
@@ -424,34 +425,48 @@ pub fn paseto<'a>(alloc: Global) -> Result<Command<'a>, AllocError>
     with_subcommands(top(alloc), alloc, SUBCOMMANDS)?.bin_name("paseto")
 }
 
-/// A command of the program with its name after that of the program, for errors.
-fn full_command<'a>(
-    alloc: Global,
-    subcommand: &Subcommand,
-    full_name: &str,
-) -> Result<Command<'a>, AllocError>
-    ensures { IfOk result (IsFor (app_for subcommand.now)) }
-{
-    command_of(alloc, subcommand)?.bin_name(full_name)
+/// Two options of a command that exclude each other, which clap does not know.
+#[derive(Clone, Copy)]
+pub struct Conflict {
+    subcommand: &'static Subcommand,
+    full_name: &'static str,
+    text: &'static str,
 }
 
-/// The command `issue` of the program, for its errors.
-pub fn issue_command<'a>(alloc: Global) -> Result<Command<'a>, AllocError>
-    ensures { IfOk result (IsFor issue_app) }
-{
-    full_command(alloc, &ISSUE, "paseto issue")
-}
+/// `--key` and `--ring` of `check`.
+pub const TWO_KEYS: Conflict = Conflict {
+    subcommand: &CHECK,
+    full_name: "paseto check",
+    text: "the argument '--key <FILE>' cannot be used with '--ring <FOLDER>'",
+};
 
-/// The command `wrap` of the program, for its errors.
-pub fn wrap_command<'a>(alloc: Global) -> Result<Command<'a>, AllocError>
-    ensures { IfOk result (IsFor wrap_app) }
-{
-    full_command(alloc, &WRAP, "paseto wrap")
-}
+/// `--footer` and `--footer-kid` of `check`.
+pub const TWO_FOOTERS_TO_CHECK: Conflict = Conflict {
+    subcommand: &CHECK,
+    full_name: "paseto check",
+    text: "the argument '--footer <TEXT>' cannot be used with '--footer-kid <ID>'",
+};
 
-/// The command `check` of the program, for its errors.
-pub fn check_command<'a>(alloc: Global) -> Result<Command<'a>, AllocError>
-    ensures { IfOk result (IsFor check_app) }
-{
-    full_command(alloc, &CHECK, "paseto check")
+/// `--footer` and `--footer-kid` of `issue`.
+pub const TWO_FOOTERS_TO_ISSUE: Conflict = Conflict {
+    subcommand: &ISSUE,
+    full_name: "paseto issue",
+    text: "the argument '--footer <TEXT>' cannot be used with '--footer-kid <ID>'",
+};
+
+/// `--wrapping-key` and `--password-file` of `wrap`.
+pub const TWO_LOCKS: Conflict = Conflict {
+    subcommand: &WRAP,
+    full_name: "paseto wrap",
+    text: "the argument '--wrapping-key <FILE>' cannot be used with '--password-file <FILE>'",
+};
+
+impl Conflict {
+    /// The error, with the usage of the command.
+    pub fn error(&self, alloc: Global) -> Result<Error, AllocError>
+        ensures { IfOk result (λ error. kind_of error ≡ ErrorKind.ArgumentConflict) }
+    {
+        let mut command = command_of(alloc, self.subcommand)?.bin_name(self.full_name)?;
+        command.error(ErrorKind::ArgumentConflict, self.text)
+    }
 }

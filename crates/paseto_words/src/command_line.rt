@@ -1,23 +1,20 @@
 //! What the arguments request, or why they are refused.
 
 ghost use Rattle.std.specs.Prelude.{◌≡◌, IfErr, IfOk, Some, [], ◌∷◌};
-ghost use Rattle.clap.specs.Words.{HasKind, kind_of};
+ghost use Rattle.clap.specs.Words.{HasKind, fault_of, kind_of, subcommand_rows_of};
 ghost use Rattle.paseto_words.specs.Action.{plain};
-ghost use Rattle.paseto_words.specs.CommandLine.{asked, faults, status_of, words_of};
+ghost use Rattle.paseto_words.specs.App.{paseto_app};
+ghost use Rattle.paseto_words.specs.CommandLine.{IsFoundIn, asked, faults, own_faults, status_of, words_of};
+ghost use Rattle.paseto_words.specs.Reading.{found_in};
 
 use crate::action::Action;
-use crate::app::{check_command, issue_command, paseto, wrap_command};
+use crate::app::{
+    Conflict, TWO_FOOTERS_TO_CHECK, TWO_FOOTERS_TO_ISSUE, TWO_KEYS, TWO_LOCKS, paseto,
+};
 use crate::reading::{found, has};
 use clap::error::ErrorKind;
 use clap::{ArgMatches, Error};
-use std::alloc::{AllocError, Global};
-
-const TWO_KEYS: &str = "the argument '--key <FILE>' cannot be used with '--ring <FOLDER>'";
-
-const TWO_LOCKS: &str =
-    "the argument '--wrapping-key <FILE>' cannot be used with '--password-file <FILE>'";
-
-const TWO_FOOTERS: &str = "the argument '--footer <TEXT>' cannot be used with '--footer-kid <ID>'";
+use std::alloc::Global;
 
 /// Parses the arguments, the first of which is the program's name.
 ///
@@ -29,11 +26,28 @@ pub fn parse<'a>(alloc: Global, words: &'a [String]) -> Result<Action<'a>, Error
     ensures ok { IfOk result (λ action. asked (words_of words.entry.now) ≡ Some (plain action)) }
     ensures err { IfErr result (HasKind (faults (words_of words.entry.now))) }
 {
+    let matches = matches_of(alloc, words)?;
+    action_of(alloc, &matches)
+}
+
+/// What clap finds in the arguments.
+fn matches_of<'a>(alloc: Global, words: &'a [String]) -> Result<ArgMatches<'a>, Error>
+    ensures ok { IfOk result (IsFoundIn paseto_app (words_of words.entry.now)) }
+    ensures err { IfErr result (HasKind (fault_of paseto_app (words_of words.entry.now))) }
+{
     let mut command = paseto(alloc)?;
-    let matches = command.try_get_matches_from_mut(words)?;
-    match found(alloc, &matches)? {
+    command.try_get_matches_from_mut(words)
+}
+
+/// What the matches request, or the error for options that exclude each other.
+fn action_of<'a>(alloc: Global, matches: &ArgMatches<'a>) -> Result<Action<'a>, Error>
+    ensures ok { IfOk result (λ action. found_in (subcommand_rows_of matches.now)
+        ≡ Some (plain action)) }
+    ensures err { IfErr result (HasKind (own_faults (subcommand_rows_of matches.now))) }
+{
+    match found(alloc, matches)? {
         Some(action) => Ok(action),
-        None => Err(refused(alloc, &matches)),
+        None => Err(refused(alloc, matches)),
     }
 }
 
@@ -41,23 +55,18 @@ pub fn parse<'a>(alloc: Global, words: &'a [String]) -> Result<Action<'a>, Error
 fn refused(alloc: Global, matches: &ArgMatches<'_>) -> Error
     ensures { HasKind (ErrorKind.ArgumentConflict ∷ []) result }
 {
-    match conflict(alloc, matches) {
+    match conflict_in(matches).error(alloc) {
         Ok(error) => error,
         Err(error) => Error::from(error),
     }
 }
 
-fn conflict(alloc: Global, matches: &ArgMatches<'_>) -> Result<Error, AllocError>
-    ensures { IfOk result (λ error. kind_of error ≡ ErrorKind.ArgumentConflict) }
-{
-    let kind = ErrorKind::ArgumentConflict;
+fn conflict_in(matches: &ArgMatches<'_>) -> Conflict {
     match matches.subcommand() {
-        Some(("check", inner)) if has(inner, "key") && has(inner, "ring") => check_command(
-            alloc,
-        )?.error(kind, TWO_KEYS),
-        Some(("check", _)) => check_command(alloc)?.error(kind, TWO_FOOTERS),
-        Some(("wrap", _)) => wrap_command(alloc)?.error(kind, TWO_LOCKS),
-        _ => issue_command(alloc)?.error(kind, TWO_FOOTERS),
+        Some(("check", inner)) if has(inner, "key") && has(inner, "ring") => TWO_KEYS,
+        Some(("check", _)) => TWO_FOOTERS_TO_CHECK,
+        Some(("wrap", _)) => TWO_LOCKS,
+        _ => TWO_FOOTERS_TO_ISSUE,
     }
 }
 
