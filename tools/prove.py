@@ -29,20 +29,20 @@ import time
 ROOT = os.path.dirname(os.path.dirname(os.path.abspath(__file__)))
 # What one process of a check takes of memory, in bytes, as measured over the crates of this repository.
 EACH = 2_000_000_000
-# What one process took to prove each crate, in seconds, as measured once. It decides which crate goes first, and nothing
-# else. A crate that is not listed counts as OTHERS.
-OTHERS = 100
+# What one process takes to prove each crate, in seconds, as measured once. It decides which crate goes first and how many
+# processes it gets, and nothing else. A crate that is not listed counts as OTHERS.
+OTHERS = 60
 SECONDS = {
-    "paseto": 1240, "paseto_argon2": 97, "paseto_c": 716, "paseto_der": 25, "paseto_ed25519": 59, "paseto_edwards": 23,
-    "paseto_edwards25519": 124, "paseto_key_files": 289, "paseto_montgomery": 69, "paseto_p384": 143,
-    "paseto_pbkdf2": 14, "paseto_pem": 234, "paseto_polynomials": 16, "paseto_primes": 14, "paseto_rsa": 97,
-    "paseto_streams": 33, "paseto_tasks": 650, "paseto_tool": 280, "paseto_weierstrass": 19, "paseto_words": 360,
-    "paseto_wrapping": 248, "paseto_x25519": 30, "paseto_xchacha20poly1305": 56, "rusty_paseto": 564,
-    "rusty_paseto_claims": 217, "rusty_paseto_core": 349, "rusty_paseto_generic": 567, "rusty_paseto_parts": 192,
-    "rusty_paseto_paserk": 83, "rusty_paseto_primitives": 333,
+    "paseto": 590, "paseto_argon2": 63, "paseto_c": 350, "paseto_der": 10, "paseto_ed25519": 35, "paseto_edwards": 15,
+    "paseto_edwards25519": 75, "paseto_key_files": 130, "paseto_montgomery": 38, "paseto_p384": 65, "paseto_pbkdf2": 7,
+    "paseto_pem": 120, "paseto_polynomials": 5, "paseto_primes": 7, "paseto_rsa": 48, "paseto_streams": 15,
+    "paseto_tasks": 260, "paseto_tool": 110, "paseto_weierstrass": 12, "paseto_words": 120, "paseto_wrapping": 128,
+    "paseto_x25519": 18, "paseto_xchacha20poly1305": 20, "rusty_paseto": 240, "rusty_paseto_claims": 97,
+    "rusty_paseto_core": 200, "rusty_paseto_generic": 230, "rusty_paseto_parts": 112, "rusty_paseto_paserk": 54,
+    "rusty_paseto_primitives": 165,
 }
-# A crate whose way to the top is no longer than this share of the longest leaves the processors to the others.
-NEAR, NICENESS = 0.75, 15
+# A crate whose way to the top is no longer than this share of the longest leaves the processors to the others, by this much.
+NEAR, NICENESS = 0.9, 5
 # A crate's line comes again after so many seconds at the earliest.
 PAUSE = 15
 
@@ -126,6 +126,7 @@ class Run:
     def __init__(self, rt, crates, given):
         self.rt, self.crates, self.given, self.begun = rt, crates, given, time.monotonic()
         self.done, self.lost, self.at_work, self.told, self.turn = set(), {}, {}, {}, threading.Condition()
+        self.jobs = {}
         self.processes = max(min(rt.processors(), rt.free() // EACH), 1)
 
     @functools.lru_cache(maxsize=None)
@@ -153,15 +154,27 @@ class Run:
                 found.append(name)
         return found
 
-    def begin(self, name, waiting):
-        """Begins the first of so many crates that wait. One process proves a crate at the least cost. But all wait for the crate
-        with the longest way, so where there are processors enough several processes prove it, and two those that are near."""
+    def share(self, name, waiting):
+        """How many processes prove the first of so many crates that wait. One does it at the least cost. But all wait for the crate
+        with the longest way, so it gets two, or nearly all processors if no crate stands on it; those that are near get two
+        while there is room. Processors for which no crate waits are shared, too."""
+        if self.processes <= 2:
+            return 1
         longest = max(map(self.way, [name, *self.at_work]))
-        is_near = self.way(name) > NEAR * longest
-        share = max((self.processes - len(self.at_work)) // waiting, 1)
-        most = self.processes - 1 if self.way(name) == longest else 2 if is_near else 1
-        jobs = max(share, most) if self.processes > 2 else 1
-        self.at_work[name] = time.monotonic()
+        busy = sum(self.jobs[it] for it in self.at_work)
+        is_top = not any(name in [dep.name for dep in it.deps] for it in self.crates.values())
+        wanted = 1
+        if self.way(name) == longest:
+            wanted = self.processes - 1 if is_top else 2
+        elif self.way(name) > NEAR * longest and busy + 2 <= self.processes + 1:
+            wanted = 2
+        return max(wanted, (self.processes - busy) // waiting)
+
+    def begin(self, name, waiting):
+        """Begins the first of so many crates that wait."""
+        jobs = self.share(name, waiting)
+        is_near = self.way(name) > NEAR * max(map(self.way, [name, *self.at_work]))
+        self.at_work[name], self.jobs[name] = time.monotonic(), jobs
         threading.Thread(target=self.one, args=(name, jobs, 0 if is_near else NICENESS)).start()
 
     def tell(self):

@@ -226,8 +226,7 @@ fn collision_of<V: LocalSuite>(
 {
     let first = &opened[i];
     let second = &opened[j];
-    let mut tag = Vec::new(alloc);
-    tag.extend_from_slice(&first.nonce_and_tag[NONCE_LENGTH..])?;
+    let tag = Vec::from_slice(alloc, &first.nonce_and_tag[NONCE_LENGTH..])?;
     Ok(TagCollision {
         places: [i, j],
         first: encoding_of::<V>(alloc, first)?,
@@ -249,8 +248,7 @@ fn encoding_of<V: LocalSuite>(
 {
     let nonce = nonce_of::<NONCE_LENGTH>(&opened.nonce_and_tag);
     let keys = V::split(opened.opening.key.as_bytes(), &nonce);
-    let mut ciphertext = Vec::with_capacity(alloc, opened.text.len())?;
-    ciphertext.extend_from_slice(opened.text.as_bytes())?;
+    let mut ciphertext = Vec::from_slice(alloc, opened.text.as_bytes())?;
     V::apply_keystream(&keys, &mut ciphertext);
     let context = Context::new(opened.opening.footer, opened.opening.assertion);
     let header = Header::<V, Local>::default();

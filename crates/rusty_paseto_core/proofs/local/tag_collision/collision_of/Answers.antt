@@ -15,4 +15,4 @@ returns-clause-ok g c =
     pair_collides design c.args.opened.now c.requires.each c.args.i c.args.j pair c.index-opened-i.result c.index-opened-j.result first second _ refl
     c.in_ok-encoding_of.ensures.ok c.in_ok-encoding_of.ensures.fits
     c.in_ok-encoding_of-2.ensures.ok c.in_ok-encoding_of-2.ensures.fits
-    (rw (c.in_ok-extend_from_slice.ensures.items, c.new-tag.ensures.items, c.deref.ensures.value) (take_rest c.index-opened-i.result.nonce_and_tag.items 32))
+    (rw (c.in_ok-tag.ensures.items, c.deref.ensures.value) (take_rest c.index-opened-i.result.nonce_and_tag.items 32))
