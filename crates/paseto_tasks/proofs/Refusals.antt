@@ -37,6 +37,13 @@ pub of_line : (known : Option (List ℕ)) (line token : List ℕ) (Q : List ℕ 
 of_line None line token Q is same h = tt
 of_line (Some bytes) line token Q is same h = subst Q (same ∙ sym is) h
 
+-- the same of why nothing was made
+pub line_refused : {T : Type 0} (made : Result T ProgramError) (known : Option (List ℕ)) (line token : List ℕ) (Q : ProgramError → List ℕ → Type 0)
+    → IfSome known (λ bytes. line_of_input bytes ≡ line) → token ≡ line → IfErr made (λ error. Q error token)
+    → IfErr made (λ error. IfSome known (λ bytes. Q error (line_of_input bytes)))
+line_refused (Ok value) known line token Q is same h = tt
+line_refused (Err error) known line token Q is same h = of_line known line token (Q error) is same h
+
 -- what is said of a token that is refused
 abbrev pub IsRefusedBy : List ℕ → TokenKind → Result (String Global) PasetoError → ProgramError → Type 0
 IsRefusedBy token kind answer error = IsErrAnd answer (λ source. IsTokenError token kind source error)
@@ -168,14 +175,6 @@ inside : (error : ProgramError) (status : ℕ) → status ≡ status_of error �
 inside error status is (inl one) outside = let three : 1 ≡ 3 = sym one ∙ is ∙ outside_status error outside in absurd (false≢true (sym (ap (eqb 1) three)))
 inside error status is (inr two) outside = let three : 2 ≡ 3 = sym two ∙ is ∙ outside_status error outside in absurd (false≢true (sym (ap (eqb 2) three)))
 
-pub status_refused : (error : ProgramError) (status : ℕ) (file_known known : Option (List ℕ)) (X : List ℕ → List ℕ → Type 0) → status ≡ status_of error
-    → status ≡ 1 → IfSome file_known (λ file. IfSome known (λ bytes. IsOutside error ⊎ X file bytes))
-    → IfSome file_known (λ file. IfSome known (λ bytes. X file bytes))
-status_refused error status None known X is one h = tt
-status_refused error status (Some file) None X is one h = tt
-status_refused error status (Some file) (Some bytes) X is one (inl outside) = absurd (inside error status is (inl one) outside)
-status_refused error status (Some file) (Some bytes) X is one (inr refused) = refused
-
 -- what is not done, where its error is no one from outside
 pub refused_as : {T : Type 0} (made : Result T ProgramError) (status : ℕ) (X : Type 0) → (status ≡ 1) ⊎ (status ≡ 2)
     → IsErrAnd made (λ error. status_of error ≡ status) → IfErr made (λ error. IsOutside error ⊎ X) → X
@@ -191,18 +190,6 @@ known_refused_as (Ok value) status known X some is h = absurd is
 known_refused_as (Err error) status None X some is h = tt
 known_refused_as (Err error) status (Some bytes) X some is (inl outside) = absurd (inside error status (sym is) some outside)
 known_refused_as (Err error) status (Some bytes) X some is (inr x) = x
-
--- what is refused and is no failure of the output leaves it
-pub unless_three : (error : ProgramError) (status : ℕ) (X : Type 0) → status ≡ status_of error → status ≡ 1 → (status_of error ≡ 3) ⊎ X → X
-unless_three error status X is one (inl three) = let other : 1 ≡ 3 = sym one ∙ is ∙ three in absurd (false≢true (sym (ap (eqb 1) other)))
-unless_three error status X is one (inr x) = x
-
--- what is refused of a known input
-pub input_refused : (error : ProgramError) (status : ℕ) (known : Option (List ℕ)) (X : List ℕ → Type 0) → status ≡ status_of error
-    → status ≡ 1 → IfSome known (λ bytes. IsOutside error ⊎ X bytes) → IfSome known X
-input_refused error status None X is one h = tt
-input_refused error status (Some bytes) X is one (inl outside) = absurd (inside error status is (inl one) outside)
-input_refused error status (Some bytes) X is one (inr refused) = refused
 
 -- what a scheme declines for a private key and a text that was read, it declines for the key's line and the input
 pub declined_line : {T : Type 0} (result : Result T ProgramError) (known : Option (List ℕ)) (X : List ℕ → Type 0) (version : PaserkVersion)

@@ -7,7 +7,7 @@ use Rattle.paseto_pem.specs.declared.error.PemError.TheVariants.{Memory as NoPem
 use Rattle.rusty_paseto_paserk.specs.declared.error.PaserkError.TheVariants.{Memory as NoKeyMemory}
 use Rattle.paseto_tasks.specs.declared.error.ProgramError.{ProgramError}
 use Rattle.paseto_tasks.specs.declared.error.ProgramError.TheVariants.{Usage, KeyWord, NoKind, NoHalf, NoFormat, LockedPem, NoKey, NoPassword, OneInput, Claim, TimeClaim, Time, Key, Pem, KeyFile, Unfit, Clock, Random, InputOrOutput, Memory}
-use Rattle.paseto_tasks.specs.Error.{IsCauseOf, IsFixed, IsNoRefusal, IsNoUsage, IsOutside, IsPlain, Says, entry_of, status_of}
+use Rattle.paseto_tasks.specs.Error.{IsCauseOf, IsFixed, IsNoRefusal, IsNoUsage, IsOutside, Says, entry_of, status_of}
 
 -- ---- 2
 
@@ -29,12 +29,6 @@ not_2 error status is none two = false≢true (sym (no_2 error none) ∙ ap (λ 
 pub fixed_no_usage : (error : ProgramError) → IsFixed error → IsNoUsage error
 fixed_no_usage (Unfit text) fixed = absurd fixed
 fixed_no_usage error fixed = fixed
-
--- the same of the status of what was made
-pub not_2_made : {T : Type 0} (made : Result T ProgramError) (status : ℕ) → IsErrAnd made (λ error. status_of error ≡ status) → IfErr made IsPlain
-    → status ≢ 2
-not_2_made (Ok value) status is plain = absurd is
-not_2_made (Err error) status is plain = not_2 error status (sym is) (fixed_no_usage error plain.0)
 
 -- what is so of why nothing was made, and of a write that failed, is so of the error that ends the program
 pub cause_so : {T : Type 0} (IsSo : ProgramError → Type 0) (made : Result T ProgramError) (error : ProgramError) → IsCauseOf made error

@@ -1,5 +1,7 @@
 -- The line that is printed, and what a write that fails leaves of it.
-use Rattle.std.specs.Prelude.{◌≡◌, ◌⊎◌, ℕ, List, [], ◌∷◌, ◌++◌}
+use Rattle.std.specs.Prelude.{◌≡◌, ◌⊎◌, ℕ, List, [], ◌∷◌, ◌++◌, Result, IsOkAnd, string_bytes}
+use Rattle.std.specs.declared.alloc.Global.{Global}
+use Rattle.std.specs.declared.string.String.{String}
 use Rattle.paseto_streams.specs.Output.{IsCutShort}
 
 -- the line is that of a text
@@ -9,3 +11,7 @@ IsLineOf text line = line ≡ text ++ (10 ∷ [])
 -- what is written of an output that is not written whole: nothing, or the output cut short
 abbrev pub IsLeftOf : (List ℕ → Type 0) → List ℕ → Type 0
 IsLeftOf IsOutput written = (written ≡ []) ⊎ ((output : List ℕ) × IsOutput output × IsCutShort output written)
+
+-- the output is the text that was made
+abbrev pub IsTextOf : {E : Type 0} → Result (String Global) E → List ℕ → Type 0
+IsTextOf made output = IsOkAnd made (λ text. string_bytes text ≡ output)
