@@ -182,15 +182,6 @@ refused_as (Ok value) status X some is h = absurd is
 refused_as (Err error) status X some is (inl outside) = absurd (inside error status (sym is) some outside)
 refused_as (Err error) status X some is (inr x) = x
 
--- the same of a known input
-pub known_refused_as : {T : Type 0} (made : Result T ProgramError) (status : ℕ) (known : Option (List ℕ)) (X : List ℕ → Type 0)
-    → (status ≡ 1) ⊎ (status ≡ 2) → IsErrAnd made (λ error. status_of error ≡ status)
-    → IfErr made (λ error. IfSome known (λ bytes. IsOutside error ⊎ X bytes)) → IfSome known X
-known_refused_as (Ok value) status known X some is h = absurd is
-known_refused_as (Err error) status None X some is h = tt
-known_refused_as (Err error) status (Some bytes) X some is (inl outside) = absurd (inside error status (sym is) some outside)
-known_refused_as (Err error) status (Some bytes) X some is (inr x) = x
-
 -- what a scheme declines for a private key and a text that was read, it declines for the key's line and the input
 pub declined_line : {T : Type 0} (result : Result T ProgramError) (known : Option (List ℕ)) (X : List ℕ → Type 0) (version : PaserkVersion)
     (Declined : List ℕ → List ℕ → PasetoError → Type 0) (line key_bytes private text read : List ℕ)
