@@ -17,9 +17,10 @@ use Rattle.rusty_paseto_parts.specs.declared.texts.implicit_assertion.ImplicitAs
 use Rattle.paseto_tasks.specs.declared.arguments.Task.{Task}
 use Rattle.paseto_tasks.specs.declared.error.ProgramError.{ProgramError}
 use Rattle.paseto_tasks.specs.declared.error.ProgramError.TheVariants.{Clock, Random, InputOrOutput, Memory}
-use Rattle.paseto_tasks.specs.Error.{IsOutside, IsTokenError, key_error_of, program_error_of, status_of}
+use Rattle.paseto_tasks.specs.Error.{IsOutside, IsPlainBut, IsTokenError, key_error_of, program_error_of, status_of}
 use Rattle.paseto_tasks.specs.Input.{IsNoKeyFile, line_of_input}
 use Rattle.paseto_tasks.specs.KeyLine.{IsKeyIn}
+use Rattle.paseto_tasks.specs.Output.{Makes}
 use Rattle.paseto_tasks.specs.Public.{DeclinesKey}
 use Rattle.paseto_tasks.specs.Run.{IsRefused, PrintsNothing}
 
@@ -126,6 +127,19 @@ pub no_input : (known : Option (List ℕ)) (error : ProgramError) (P : List ℕ 
 no_input None error P N needs h = tt
 no_input (Some bytes) error P N needs (inl outside) = inl outside
 no_input (Some bytes) error P N needs (inr none) = inr (λ text is. none (needs bytes text is))
+
+-- what is made where no key, and where no input is read
+key_plain : (NoDraw : Type 0) (error : PaserkError) → IsPlainBut NoDraw (key_error_of error)
+key_plain NoDraw (NoKeyMemory source) = (tt, tt)
+key_plain NoDraw error = (tt, tt)
+
+pub makes_keyless : (NoDraw : Type 0) (known : Option (List ℕ)) (error : PaserkError) (N : List ℕ → List ℕ → Type 0)
+    → ((bytes text : List ℕ) → N bytes text → IsKeyMemory error) → Makes known N (IsPlainBut NoDraw) (Err (key_error_of error))
+makes_keyless NoDraw known error N h = record { printed = tt; refused = no_key known error N h; so = key_plain NoDraw error }
+
+pub makes_unread : {IsSo : ProgramError → Type 0} (known : Option (List ℕ)) (error : ProgramError) (P : List ℕ → Type 0) (N : List ℕ → List ℕ → Type 0)
+    → ((bytes text : List ℕ) → N bytes text → P bytes) → IfSome known (λ bytes. IsOutside error ⊎ (¬ P bytes)) → IsSo error → Makes known N IsSo (Err error)
+makes_unread known error P N needs h so = record { printed = tt; refused = no_input known error P N needs h; so = so }
 
 -- a token that is verified as no text, where the line that was read is that of the known input
 pub not_verified : {T : Type 0} (result : Result T ProgramError) (known : Option (List ℕ)) (line token : List ℕ) (V : List ℕ → List ℕ → Type 0) (A : List ℕ → Type 0)

@@ -12,6 +12,7 @@ use Rattle.paseto_tasks.specs.Arguments.{Takes}
 use Rattle.paseto_tasks.specs.Error.{IsOutside}
 use Rattle.paseto_tasks.specs.KeyLine.{BeginsAs}
 use Rattle.paseto_tasks.specs.Local.{OpensIn, SealsIn}
+use Rattle.paseto_tasks.specs.Output.{Makes as MakesSo}
 use Rattle.paseto_tasks.specs.Public.{SignsIn, VerifiesIn}
 use Rattle.paseto_tasks.proofs.KeyLines.{begins_as_key, same_beginning}
 
@@ -92,6 +93,23 @@ module _ (kind : PaserkType) (key : List ℕ) (assertion : Option ImplicitAssert
       → IfSome known (λ bytes. IsOutside error ⊎ ((text : List ℕ) → ¬ Some_makes bytes text))
   nothing_begun error None none = tt
   nothing_begun error (Some bytes) none = inr (λ text some. none some.0 (begins some.0 bytes text some.2))
+
+  -- the same of all that is said of what is made
+  pub makes_by : {IsSo IsOther : ProgramError → Type 0} (made : Result (String Global) ProgramError) (known : Option (List ℕ)) (version : PaserkVersion)
+      → BeginsAs version kind key → Takes version assertion → IfErr made IsOther → MakesSo known (Makes version) IsSo made → MakesSo known Some_makes IsOther made
+  makes_by made known version header takes so makes = record {
+    printed = made_by made known version takes makes.printed;
+    refused = nothing_by made known version header makes.refused;
+    so = so;
+  }
+
+  pub makes_untaken : {IsSo : ProgramError → Type 0} (error : ProgramError) (known : Option (List ℕ)) (version : PaserkVersion) → BeginsAs version kind key
+      → ¬ Takes version assertion → IsSo error → MakesSo known Some_makes IsSo (Err error)
+  makes_untaken error known version header none so = record { printed = tt; refused = nothing_taken error known version header none; so = so }
+
+  pub makes_unbegun : {IsSo : ProgramError → Type 0} (error : ProgramError) (known : Option (List ℕ)) → ((version : PaserkVersion) → ¬ BeginsAs version kind key)
+      → IsSo error → MakesSo known Some_makes IsSo (Err error)
+  makes_unbegun error known none so = record { printed = tt; refused = nothing_begun error known none; so = so }
 
   -- the same beside what a scheme declines
   module _ (Declines : PaserkVersion → List ℕ → Type 0) where

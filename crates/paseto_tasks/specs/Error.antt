@@ -205,6 +205,10 @@ BlamesNone = BlamesOnly ⊥ ⊥ ⊥ ⊥
 abbrev pub IsPlain : ProgramError → Type 0
 IsPlain error = IsFixed error × BlamesNone error
 
+-- the same, but for random bytes, which are at fault only for a reason
+abbrev pub IsPlainBut : Type 0 → ProgramError → Type 0
+IsPlainBut NoDraw error = IsFixed error × BlamesOnly NoDraw ⊥ ⊥ ⊥ error
+
 -- what is said of the error stands in this table, or is a line that is so
 abbrev pub Says : (List ℕ → Type 0) → ProgramError → Type 0
 Says IsLine (Unfit line) = IsLine (string_bytes line)

@@ -7,7 +7,7 @@ use Rattle.paseto_tasks.specs.declared.arguments.Task.{Task}
 use Rattle.paseto_tasks.specs.declared.arguments.Task.TheVariants.{Encrypt, Decrypt, Sign, Verify}
 use Rattle.paseto_tasks.specs.declared.error.Names.{Names}
 use Rattle.paseto_tasks.specs.declared.error.ProgramError.{ProgramError}
-use Rattle.paseto_tasks.specs.Error.{BlamesOnly, line_of, status_of}
+use Rattle.paseto_tasks.specs.Error.{BlamesOnly, IsFixed, line_of, status_of}
 use Rattle.paseto_tasks.specs.Input.{IsLong, IsNoKeyFile, line_of_input}
 use Rattle.paseto_tasks.specs.KeyLine.{TakesBytes}
 use Rattle.paseto_tasks.specs.Output.{IsLeftOf}
@@ -44,7 +44,11 @@ abbrev pub BlamesIn : Task → Type 0 → Option (List ℕ) → ProgramError →
 BlamesIn task Failure file =
     BlamesOnly (IfSome file (λ bytes. Draws task (line_of_input bytes)) × Failure) ⊥ (IfSome file IsLong) ⊥
 
--- the same of a key file and an input that are known: what the task prints, and that it is refused
+-- the same of one that has no text of its own
+abbrev pub IsPlainIn : Task → Type 0 → Option (List ℕ) → ProgramError → Type 0
+IsPlainIn task Failure file error = IsFixed error × BlamesIn task Failure file error
+
+-- of a key file and an input as far as they are known: what the task prints, and that it is refused
 abbrev pub PrintsOf : Task → Options → (List ℕ → Type 0) → Option (List ℕ) → Option (List ℕ) → List ℕ → Type 0
 PrintsOf task options IsDrawn file input output = IfSome file (λ f. IfSome input (λ i. Prints task options IsDrawn f i output))
 

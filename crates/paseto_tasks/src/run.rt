@@ -4,11 +4,11 @@ ghost use Rattle.std.specs.Prelude.{◌≡◌, ◌≢◌, ◌⊎◌, ℕ, List, 
 ghost use Rattle.std.specs.Io.KnownBytes.{Appends};
 ghost use Rattle.paseto_tasks.specs.Half.{HasHalf, HasNoHalf};
 ghost use Rattle.paseto_tasks.specs.Id.{Identifies, IdentifiesNothing};
-ghost use Rattle.paseto_tasks.specs.Error.{IsCauseOf, IsFixed, IsOutside, IsPlain, status_of};
+ghost use Rattle.paseto_tasks.specs.Error.{IsCauseOf, IsOutside, IsPlain, status_of};
 ghost use Rattle.paseto_tasks.specs.Input.{line_of_input};
 ghost use Rattle.paseto_tasks.specs.Inspect.{Inspects, InspectsNothing};
 ghost use Rattle.paseto_tasks.specs.Output.{IsLeftOf, IsTextOf};
-ghost use Rattle.paseto_tasks.specs.Run.{BlamesIn, IsRefused, IsRefusedOf, Leaves, Prints, PrintsOf, Tells};
+ghost use Rattle.paseto_tasks.specs.Run.{IsPlainIn, IsRefused, IsRefusedOf, Leaves, PrintsOf, Tells};
 
 use crate::arguments::{Options, Task};
 use crate::error::{Names, ProgramError};
@@ -49,8 +49,7 @@ pub fn run<K: Read, G: TryRng, R: Read, W: Write, E: Write>(
         (IsRefusedOf task options.now (λ drawn. G.may_fill generator.old drawn generator.new)
         (K.remaining key_file.old) (R.remaining input.old)) result output.old output.new }
     ensures errors { Tells E.contents names.now
-        (λ error. IsFixed error × BlamesIn task G.Error (K.remaining key_file.old) error)
-        result errors.old errors.new }
+        (IsPlainIn task G.Error (K.remaining key_file.old)) result errors.old errors.new }
 {
     let made = make(alloc, task, options, key_file, generator, input);
     finish(made, names, output, errors)
@@ -95,16 +94,14 @@ fn make<K: Read, G: TryRng, R: Read>(
     generator: &mut G,
     input: &mut R,
 ) -> Result<String, ProgramError>
-    ensures printed { IfOk result (λ made. IfSome (K.remaining key_file.old)
-        (λ file. IfSome (R.remaining input.old) (λ bytes.
-        Prints task options.now (λ drawn. G.may_fill generator.old drawn generator.new) file bytes
-        (string_bytes made)))) }
-    ensures fixed { IfErr result IsFixed }
-    ensures blames { IfErr result (BlamesIn task G.Error (K.remaining key_file.old)) }
+    ensures printed { IfOk result (λ made. PrintsOf task options.now
+        (λ drawn. G.may_fill generator.old drawn generator.new)
+        (K.remaining key_file.old) (R.remaining input.old) (string_bytes made)) }
     ensures refused { IfErr result (λ error. IfSome (K.remaining key_file.old)
         (λ file. IfSome (R.remaining input.old) (λ bytes.
         IsOutside error ⊎ IsRefused task options.now
         (λ drawn. G.may_fill generator.old drawn generator.new) file bytes))) }
+    ensures so { IfErr result (IsPlainIn task G.Error (K.remaining key_file.old)) }
 {
     let key = read_key_line(alloc, key_file)?;
     let key = key.as_str();

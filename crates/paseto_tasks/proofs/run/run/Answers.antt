@@ -1,6 +1,5 @@
-use Rattle.paseto_tasks.specs.Error.{IsFixed}
-use Rattle.paseto_tasks.specs.Run.{BlamesIn, IsRefused, IsRefusedOf, PrintsOf}
-use Rattle.paseto_tasks.proofs.Outputs.{both_so, leaves_made, made_or_both, tells_made, tells_no_usage}
+use Rattle.paseto_tasks.specs.Run.{IsPlainIn, IsRefused, IsRefusedOf, PrintsOf}
+use Rattle.paseto_tasks.proofs.Outputs.{leaves_made, made_or_both, tells_made, tells_no_usage}
 use Rattle.paseto_tasks.proofs.Statuses.{fixed_no_usage}
 use Rattle.paseto_tasks.proofs.run.run.Goals as goal
 
@@ -13,11 +12,11 @@ returns-clause-output g c =
 
 pub returns-clause-errors : goal.returns-clause-errors
 returns-clause-errors g c =
-    let file = g.K.Read.remaining c.args.key_file.now in
-    tells_made _ _ _ _ c.make-made.result (λ error. IsFixed error × BlamesIn c.args.task _ file error) c.finish.result
-    (both_so c.make-made.result IsFixed (BlamesIn c.args.task _ file) c.make-made.ensures.fixed c.make-made.ensures.blames) (tt, tt) c.finish.ensures.errors
+    tells_made _ _ _ _ c.make-made.result (IsPlainIn c.args.task _ (g.K.Read.remaining c.args.key_file.now)) c.finish.result c.make-made.ensures.so (tt, tt)
+    c.finish.ensures.errors
 
 pub returns-clause-no_usage : goal.returns-clause-no_usage
 returns-clause-no_usage g c =
-    tells_no_usage _ _ _ _ IsFixed c.finish.result (λ error fixed. fixed_no_usage error fixed)
-    (tells_made _ _ _ _ c.make-made.result IsFixed c.finish.result c.make-made.ensures.fixed tt c.finish.ensures.errors)
+    let IsSo = IsPlainIn c.args.task _ (g.K.Read.remaining c.args.key_file.now) in
+    tells_no_usage _ _ _ _ IsSo c.finish.result (λ error so. fixed_no_usage error so.0)
+    (tells_made _ _ _ _ c.make-made.result IsSo c.finish.result c.make-made.ensures.so (tt, tt) c.finish.ensures.errors)
