@@ -1,19 +1,17 @@
 -- What is printed of what was parsed from words and input, or issued of words.
-use Rattle.std.proofs.Common.{◌≡◌, ◌⊎◌, ℕ, List, Option, None, Some, IfSome, Result, Ok, Err, IfErr, IfOk, IsOkAnd, String, Global, string_bytes, IsUtf8, inl, inr, sym, subst, subst₂, ◌∙◌}
+use Rattle.std.proofs.Common.{◌≡◌, ◌⊎◌, ℕ, List, Option, None, Some, IfSome, Result, Ok, Err, IfErr, IfOk, String, Global, string_bytes, IsUtf8, inl, inr, sym, subst, subst₂, ◌∙◌}
 use Rattle.std.specs.Bool.{⊤}
 use Rattle.jiff.specs.Types.{Timestamp}
 use Rattle.paseto_tasks.specs.declared.arguments.Options.{Options}
 use Rattle.paseto.specs.declared.commands.check.Keys.{Keys}
 use Rattle.paseto.specs.Check.{AreDemands, Demanded}
 use Rattle.paseto.specs.Checked.{ChecksBy, ChecksFor, ChecksNothing, IsCheckLine, IsCheckLineFor}
-use Rattle.paseto_tasks.specs.Error.{IsCauseOf, IsNoUsage, IsOutside, Lacks, Says}
+use Rattle.paseto_tasks.specs.Error.{IsNoUsage, IsOutside, Lacks, Says}
 use Rattle.paseto_tasks.specs.declared.error.ProgramError.{ProgramError}
 use Rattle.paseto.specs.Issue.{AreNever, IsOrder, Issues, IssuesNone, IssuesNothing, Ordered, OrdersNothing}
 use Rattle.paseto.proofs.SameWords.{same_demands, same_order}
 use Rattle.paseto_tasks.specs.Input.{line_of_input}
-use Rattle.paseto_tasks.specs.Output.{IsLeftOf}
-use Rattle.paseto_tasks.proofs.Outputs.{left_of_made}
-use Rattle.paseto_tasks.proofs.Statuses.{cause_so, says_so}
+use Rattle.paseto_tasks.proofs.Statuses.{says_so}
 
 -- what each value that is answered is, it is in other words
 pub in_other_words : {T E : Type 0} (result : Result T E) (A B : T → Type 0) → ((t : T) → A t → B t) → IfOk result A → IfOk result B
@@ -25,12 +23,10 @@ pub known_for : {T : Type 0} (result : Result T ProgramError) (P : ProgramError 
 known_for (Ok value) P X x = tt
 known_for (Err error) P X x = inr x
 
--- what is left of what was made is left of the output that it is for the known input
-pub left_of_known : {E : Type 0} (made : Result (String Global) E) (known : Option (List ℕ)) (Printed : List ℕ → List ℕ → Type 0) (left : List ℕ)
-    → IfOk made (λ text. IfSome known (λ bytes. Printed bytes (string_bytes text)))
-    → IsLeftOf (λ line. IsOkAnd made (λ text. string_bytes text ≡ line)) left → IfSome known (λ bytes. IsLeftOf (Printed bytes) left)
-left_of_known made None Printed left printed is = tt
-left_of_known made (Some bytes) Printed left printed is = left_of_made made (Printed bytes) left printed is
+-- what holds in any case
+pub known_anyway : (known : Option (List ℕ)) → IfSome known (λ bytes. ⊤)
+known_anyway None = tt
+known_anyway (Some bytes) = tt
 
 -- a token that is checked is the line of the input
 pub checks_for : {E : Type 0} (known : Option (List ℕ)) (result : Result (String Global) E) (line text : List ℕ)
@@ -103,9 +99,3 @@ checks_say known (Ok line) token text claims options now keys demands read same 
 checks_say None (Err error) token text claims options now keys demands read same are says = tt
 checks_say (Some bytes) (Err error) token text claims options now keys demands read same are says =
     rw read (says_so (IsCheckLine keys demands text) (IsCheckLineFor claims options now keys token) (λ line is. (demands, are, rw same at is)) error says)
-
--- of the error that ends the program, where the input is known
-pub known_cause_says : {T : Type 0} (known : Option (List ℕ)) (IsLine : List ℕ → List ℕ → Type 0) (made : Result T ProgramError) (error : ProgramError)
-    → IsCauseOf made error → IfErr made (λ cause. IfSome known (λ bytes. Says (IsLine bytes) cause)) → IfSome known (λ bytes. Says (IsLine bytes) error)
-known_cause_says None IsLine made error cause says = tt
-known_cause_says (Some bytes) IsLine made error cause says = cause_so (Says (IsLine bytes)) made error cause says tt

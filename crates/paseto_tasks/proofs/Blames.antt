@@ -14,11 +14,12 @@ use Rattle.paseto_p384.specs.P384.{IsDeclined as IsDeclinedByP384}
 use Rattle.paseto_tasks.specs.declared.error.ProgramError.{ProgramError}
 use Rattle.paseto_tasks.specs.declared.error.ProgramError.TheVariants.{Clock, OtherFooter, Random, TooLong}
 use Rattle.paseto_tasks.specs.declared.token_kind.TokenKind.{TokenKind}
-use Rattle.paseto_tasks.specs.Error.{BlamesNone, BlamesOnly, IsFixed, IsPlain, IsTokenError, program_error_of}
+use Rattle.paseto_tasks.specs.Error.{BlamesNone, BlamesOnly, IsFixed, IsPlain, IsPlainBut, IsTokenError, program_error_of}
+use Rattle.paseto_tasks.specs.Output.{Makes}
 use Rattle.paseto_tasks.specs.Public.{IsUnsigned, MayDecline, MayRefuse}
 use Rattle.paseto_tasks.specs.declared.arguments.Task.{Task}
 use Rattle.paseto_tasks.specs.Input.{line_of_input}
-use Rattle.paseto_tasks.specs.Run.{BlamesIn, Draws}
+use Rattle.paseto_tasks.specs.Run.{Draws, IsPlainIn}
 use Rattle.paseto_tasks.proofs.Refusals.{IsRefusedBy, of_line}
 
 -- what is at fault is so in other words
@@ -55,13 +56,26 @@ pub plain_blames : (A B C D : Type 0) {T : Type 0} (result : Result T ProgramErr
 plain_blames A B C D (Ok value) plain = tt
 plain_blames A B C D (Err error) plain = none_so A B C D error plain
 
+-- the same beside an error that has no text of its own
+pub plain_but : (NoDraw : Type 0) (error : ProgramError) → IsPlain error → IsPlainBut NoDraw error
+plain_but NoDraw error plain = (plain.0, none_so NoDraw ⊥ ⊥ ⊥ error plain)
+
+pub but_so : {A A2 : Type 0} {T : Type 0} (result : Result T ProgramError) → (A → A2) → IfErr result (IsPlainBut A) → IfErr result (IsPlainBut A2)
+but_so (Ok value) so is = tt
+but_so (Err error) so is = (is.0, blames_so error so nothing nothing nothing is.1)
+
+-- what is made where no random bytes are at fault
+pub makes_plain : {A : Type 0} {known : Option (List ℕ)} {P : List ℕ → List ℕ → Type 0} (made : Result (String Global) ProgramError) → (A → ⊥)
+    → Makes known P (IsPlainBut A) made → Makes known P IsPlain made
+makes_plain made never makes = record { printed = makes.printed; refused = makes.refused; so = but_so made never makes.so }
+
 -- of a task, with the line of the key file
-pub task_blames : {T : Type 0} (task : Task) (Failure : Type 0) (known : Option (List ℕ)) (result : Result T ProgramError) (line other : List ℕ)
-    → other ≡ line → IfSome known (λ file. line_of_input file ≡ line) → IfErr result (BlamesOnly (Draws task other × Failure) ⊥ ⊥ ⊥)
-    → IfErr result (BlamesIn task Failure known)
-task_blames task Failure known (Ok value) line other same is blames = tt
-task_blames task Failure known (Err error) line other same is blames =
-    blames_so error (λ failed. (of_line known line other (Draws task) is same failed.0, failed.1)) nothing nothing nothing blames
+pub task_so : {T : Type 0} (task : Task) (Failure : Type 0) (known : Option (List ℕ)) (result : Result T ProgramError) (line other : List ℕ)
+    → other ≡ line → IfSome known (λ file. line_of_input file ≡ line) → IfErr result (IsPlainBut (Draws task other × Failure))
+    → IfErr result (IsPlainIn task Failure known)
+task_so task Failure known (Ok value) line other same is so = tt
+task_so task Failure known (Err error) line other same is so =
+    (so.0, blames_so error (λ failed. (of_line known line other (Draws task) is same failed.0, failed.1)) nothing nothing nothing so.1)
 
 -- ---- tokens
 

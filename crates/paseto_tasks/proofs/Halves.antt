@@ -10,7 +10,7 @@ use Rattle.paseto_p384.specs.Encoding.{encoded}
 use Rattle.paseto_weierstrass.specs.Field.{inverse, times}
 use Rattle.paseto_weierstrass.specs.Point.{Point}
 use Rattle.rusty_paseto_paserk.specs.declared.header.PaserkVersion.{PaserkVersion}
-use Rattle.rusty_paseto_paserk.specs.declared.header.PaserkVersion.TheVariants.{V1, V2, V3, V4}
+use Rattle.rusty_paseto_paserk.specs.declared.header.PaserkVersion.TheVariants.{V1, V3}
 use Rattle.rusty_paseto_paserk.specs.declared.header.PaserkType.{PaserkType}
 use Rattle.rusty_paseto_paserk.specs.declared.header.PaserkType.TheVariants.{Secret}
 use Rattle.rusty_paseto_paserk.specs.Header.{HasHeader, HasNoHeader, header}
@@ -27,9 +27,7 @@ use Rattle.paseto_tasks.proofs.Ids.{same_header}
 -- a key with a half begins as a private key of a version
 begins_secret : (version : PaserkVersion) (key line : List ℕ) → HasHalfIn version key line → HasHeader version Secret key
 begins_secret V1 key line h = absurd h
-begins_secret V2 key line h = (base64url h.private, h.is_writing)
-begins_secret V3 key line h = (base64url h.private, h.is_writing)
-begins_secret V4 key line h = (base64url h.private, h.is_writing)
+begins_secret version key line h = (base64url h.private, h.is_writing)
 
 pub no_header_half : (key : List ℕ) → HasNoHeader key → HasNoHalf key
 no_header_half key none line h = none h.0 Secret (begins_secret h.0 key line h.1)

@@ -21,32 +21,18 @@ type_at byte = if byte == 108 then Local else if byte == 115 then Secret else Pu
 version_known : (version : PaserkVersion) (kind : PaserkType) (rest : List ℕ) → version_at (get_or (header version kind ++ rest) 1 0) ≡ version
 unfolding version_at
 version_known V1 Local rest = refl
-version_known V1 Secret rest = refl
-version_known V1 Public rest = refl
 version_known V2 Local rest = refl
-version_known V2 Secret rest = refl
-version_known V2 Public rest = refl
 version_known V3 Local rest = refl
-version_known V3 Secret rest = refl
-version_known V3 Public rest = refl
 version_known V4 Local rest = refl
-version_known V4 Secret rest = refl
-version_known V4 Public rest = refl
+version_known version kind rest = refl
 
 type_known : (version : PaserkVersion) (kind : PaserkType) (rest : List ℕ) → type_at (get_or (header version kind ++ rest) 3 0) ≡ kind
 unfolding type_at
 type_known V1 Local rest = refl
-type_known V1 Secret rest = refl
-type_known V1 Public rest = refl
 type_known V2 Local rest = refl
-type_known V2 Secret rest = refl
-type_known V2 Public rest = refl
 type_known V3 Local rest = refl
-type_known V3 Secret rest = refl
-type_known V3 Public rest = refl
 type_known V4 Local rest = refl
-type_known V4 Secret rest = refl
-type_known V4 Public rest = refl
+type_known version kind rest = refl
 
 -- a line begins as a key of one version and one type
 pub same_header : (version other : PaserkVersion) (kind found : PaserkType) (line rest more : List ℕ)

@@ -11,7 +11,7 @@ use Rattle.paseto_pem.specs.declared.label.Label.{Label}
 use Rattle.paseto_pem.specs.declared.label.Label.TheVariants.{PrivateKey, PublicKey, RsaPublicKey}
 use Rattle.rusty_paseto_parts.specs.Section.{base64url}
 use Rattle.rusty_paseto_paserk.specs.declared.header.PaserkVersion.{PaserkVersion}
-use Rattle.rusty_paseto_paserk.specs.declared.header.PaserkVersion.TheVariants.{V1, V2, V3, V4}
+use Rattle.rusty_paseto_paserk.specs.declared.header.PaserkVersion.TheVariants.{V1}
 use Rattle.rusty_paseto_paserk.specs.declared.header.PaserkType.{PaserkType}
 use Rattle.rusty_paseto_paserk.specs.declared.header.PaserkType.TheVariants.{Local, Secret, Public}
 use Rattle.rusty_paseto_paserk.specs.Header.{HasHeader}
@@ -27,9 +27,7 @@ use Rattle.paseto_tasks.proofs.Ids.{same_header}
 
 header_front : (version : PaserkVersion) (kind : PaserkType) (line : List ℕ) → HasHeader version kind line → get_or line 0 0 ≡ 107
 header_front V1 kind line is = ap (λ (l : List ℕ). get_or l 0 0) is.1
-header_front V2 kind line is = ap (λ (l : List ℕ). get_or l 0 0) is.1
-header_front V3 kind line is = ap (λ (l : List ℕ). get_or l 0 0) is.1
-header_front V4 kind line is = ap (λ (l : List ℕ). get_or l 0 0) is.1
+header_front version kind line is = ap (λ (l : List ℕ). get_or l 0 0) is.1
 
 pem_front : (kind : PaserkType) (line : List ℕ) → BeginsAsPem kind line → get_or line 0 0 ≡ 45
 pem_front Local line is = absurd is
@@ -79,13 +77,8 @@ public_pem label contents key line written held = absurd held
 pub begins_as_key : (kind : PaserkType) (version : PaserkVersion) (line key : List ℕ) → IsKeyIn kind version line key → BeginsAs version kind line
 begins_as_key Local version line key is = inl (base64url key, is.is_writing)
 begins_as_key Secret V1 line key is = inr (refl, private_pem is.label is.contents key line is.written is.held.is_private)
-begins_as_key Secret V2 line key is = inl (base64url key, is.is_writing)
-begins_as_key Secret V3 line key is = inl (base64url key, is.is_writing)
-begins_as_key Secret V4 line key is = inl (base64url key, is.is_writing)
 begins_as_key Public V1 line key is = inr (refl, public_pem is.label is.contents key line is.written is.held.held)
-begins_as_key Public V2 line key is = inl (base64url key, is.is_writing)
-begins_as_key Public V3 line key is = inl (base64url key, is.is_writing)
-begins_as_key Public V4 line key is = inl (base64url key, is.is_writing)
+begins_as_key kind version line key is = inl (base64url key, is.is_writing)
 
 -- ---- lines that are read
 

@@ -1,23 +1,19 @@
--- What is written of an output.
-use Rattle.std.proofs.Common.{◌≡◌, ℕ, ◌==◌, List, [], Bool, false, Option, None, Some, IfSome, Result, Ok, Err, IfOk, IsOkAnd, OnOk, OnErr, is_ok, String, Global, string_bytes, inl, inr, refl, subst}
+-- What is written of an output, and said of an error.
+use Rattle.std.proofs.Common.{◌≡◌, ◌≢◌, ◌≤◌, ◌⊎◌, ◌∙◌, ℕ, ◌==◌, List, false, Option, None, Some, IfSome, Result, Ok, Err, IfErr, IfOk, IsErrAnd, IsOkAnd, String, Global, string_bytes, inl, inr, refl, sym, ap, subst, rules}
+use Rattle.std.proofs.lemmas.Bool.{false≢true}
+use Rattle.std.specs.Io.{StartsWith}
 use Rattle.std.specs.Io.KnownBytes.{Appends}
-use Rattle.std.proofs.KnownBytes.{Appends-nil}
 use Rattle.paseto_key_files.specs.declared.error.KeyFileError.TheVariants.{Random as NoBytes, Memory as NoFileMemory}
 use Rattle.paseto_pem.specs.declared.error.PemError.TheVariants.{Memory as NoPemMemory}
 use Rattle.rusty_paseto_paserk.specs.declared.error.PaserkError.TheVariants.{Memory as NoKeyMemory}
-use Rattle.paseto_tasks.specs.declared.arguments.Options.{Options}
-use Rattle.paseto_tasks.specs.declared.arguments.Task.{Task}
+use Rattle.paseto_tasks.specs.declared.error.Names.{Names}
 use Rattle.paseto_tasks.specs.declared.error.ProgramError.{ProgramError}
-use Rattle.paseto_tasks.specs.declared.error.ProgramError.TheVariants.{Key, KeyFile, Pem}
-use Rattle.paseto_tasks.specs.Error.{status_of}
-use Rattle.paseto_streams.specs.Output.{IsCutShort}
-use Rattle.paseto_tasks.specs.Output.{IsLeftOf}
-use Rattle.paseto_tasks.specs.Run.{Prints, Writes}
-
--- what holds of every value holds of the one that is known
-pub IfSome-all : {X : Type 0} (known : Option X) (P : X → Type 0) → ((x : X) → P x) → IfSome known P
-IfSome-all None P h = tt
-IfSome-all (Some x) P h = h x
+use Rattle.paseto_tasks.specs.declared.error.ProgramError.TheVariants.{InputOrOutput, Key, KeyFile, Pem}
+use Rattle.paseto_tasks.specs.Error.{IsCauseOf, IsNoUsage, IsOutside, line_of, status_of}
+use Rattle.paseto_tasks.specs.Output.{IsLeftOf, IsTextOf}
+use Rattle.paseto_tasks.specs.Run.{Leaves, Tells}
+use Rattle.paseto_tasks.proofs.Refusals.{refused_as}
+use Rattle.paseto_tasks.proofs.Statuses.{cause_so, not_2}
 
 -- what is left of what was made is left of the output that it is
 pub left_of_made : {E : Type 0} (made : Result (String Global) E) (IsOutput : List ℕ → Type 0) (left : List ℕ)
@@ -38,31 +34,115 @@ status_of-some (KeyFile (NoFileMemory source)) = refl
 status_of-some (KeyFile error) = refl
 status_of-some error = refl
 
-module _ (task : Task) (options : Options) (IsDrawn : List ℕ → Type 0) (file_known known : Option (List ℕ)) where
-  -- what the known bytes of the key file and of the input say of what is written
-  abbrev pub Says : Bool → List ℕ → Type 0
-  Says done written = IfSome file_known (λ file. IfSome known (λ bytes. Writes task options IsDrawn file bytes done written))
+-- nor with one above 3
+status_of-most : (error : ProgramError) → status_of error ≤ 3
+status_of-most error = search rules
 
-  nothing_said : (file_known2 known2 : Option (List ℕ)) → IfSome file_known2 (λ file. IfSome known2 (λ bytes. Writes task options IsDrawn file bytes false []))
-  nothing_said None known2 = tt
-  nothing_said (Some file) None = tt
-  nothing_said (Some file) (Some bytes) = inl refl
+not_zero : (error : ProgramError) (status : ℕ) → status ≡ status_of error → status ≢ 0
+not_zero error status is zero = false≢true (sym (status_of-some error) ∙ ap (λ (n : ℕ). n == 0) (sym is ∙ zero))
 
-  -- nothing is written
-  pub nothing_written : (a : Option (List ℕ)) → (written : List ℕ) × Appends a a written × Says false written
-  nothing_written a = ([], Appends-nil a, nothing_said file_known known)
+not_three : (error : ProgramError) (status : ℕ) → status ≡ status_of error → status_of error ≡ 3 → (status ≡ 1) ⊎ (status ≡ 2) → ⊥
+not_three error status is three (inl one) = false≢true (ap (λ (n : ℕ). n == 3) (sym one ∙ is ∙ three))
+not_three error status is three (inr two) = false≢true (ap (λ (n : ℕ). n == 3) (sym two ∙ is ∙ three))
 
-  prints_cut : (file_known2 known2 : Option (List ℕ)) (made cut : List ℕ) → IsCutShort made cut
-      → IfSome file_known2 (λ file. IfSome known2 (λ bytes. Prints task options IsDrawn file bytes made))
-      → IfSome file_known2 (λ file. IfSome known2 (λ bytes. Writes task options IsDrawn file bytes false cut))
-  prints_cut None known2 made cut short prints = tt
-  prints_cut (Some file) None made cut short prints = tt
-  prints_cut (Some file) (Some bytes) made cut short prints = inr (made, prints, short)
+-- ---- what a command leaves in its output
 
-  -- what was written of an output is the whole where no write failed, and is else cut short
-  pub written_made : {T E : Type 0} (result : Result T E) (before after : Option (List ℕ)) (made : List ℕ)
-      → OnOk result (Appends before after made) → OnErr result ((cut : List ℕ) × IsCutShort made cut × Appends before after cut)
-      → IfSome file_known (λ file. IfSome known (λ bytes. Prints task options IsDrawn file bytes made))
-      → (written : List ℕ) × Appends before after written × Says (is_ok result) written
-  written_made (Ok x) before after made ok err prints = (made, ok, prints)
-  written_made (Err e) before after made ok err prints = (err.0, err.2, prints_cut file_known known made err.0 err.1 prints)
+same_status : {T : Type 0} (made : Result T ProgramError) (error : ProgramError) (status : ℕ) → status ≡ status_of error
+    → IsErrAnd made (λ cause. cause ≡ error) → IsErrAnd made (λ cause. status_of cause ≡ status)
+same_status (Ok value) error status is same = absurd same
+same_status (Err cause) error status is same = ap status_of same ∙ sym is
+
+text_printed : {E : Type 0} (made : Result (String Global) E) (IsOutput : List ℕ → Type 0) (output : List ℕ)
+    → IfOk made (λ text. IsOutput (string_bytes text)) → IsTextOf made output → IsOutput output
+text_printed (Ok text) IsOutput output printed is = subst IsOutput is printed
+text_printed (Err error) IsOutput output printed is = absurd is
+
+module _ {W : Type 0} (contents : W → Option (List ℕ)) (before after : W) where
+  -- where the whole of it was written
+  pub leaves_whole : (Printed : List ℕ → Type 0) (Refused : Type 0)
+      → (whole : List ℕ) × Appends (contents before) (contents after) whole × Printed whole → Leaves contents Printed Refused 0 before after
+  leaves_whole Printed Refused whole = record {
+    written = λ zero. whole;
+    cut = λ some. absurd (some refl);
+    refused = λ is. elim is [ inl one ↦ absurd (false≢true (ap (λ (n : ℕ). n == 1) one)) | inr two ↦ absurd (false≢true (ap (λ (n : ℕ). n == 2) two)) ];
+  }
+
+  -- and where an error ends the program
+  pub leaves_cut : (made : Result (String Global) ProgramError) (error : ProgramError) (status : ℕ) → status ≡ status_of error
+      → (left : List ℕ) × Appends (contents before) (contents after) left × IsLeftOf (IsTextOf made) left
+      → (status_of error ≡ 3) ⊎ ((after ≡ before) × IsErrAnd made (λ cause. cause ≡ error))
+      → Leaves contents (IsTextOf made) (IsErrAnd made (λ cause. status_of cause ≡ status)) status before after
+  leaves_cut made error status is left (inl three) = record {
+    written = λ zero. absurd (not_zero error status is zero);
+    cut = λ some. left;
+    refused = λ some. absurd (not_three error status is three some);
+  }
+  leaves_cut made error status is left (inr same) = record {
+    written = λ zero. absurd (not_zero error status is zero);
+    cut = λ some. left;
+    refused = λ some. (same.0, same_status made error status is same.1);
+  }
+
+  -- in the words of what was made
+  pub leaves_made : (made : Result (String Global) ProgramError) (Printed : List ℕ → Type 0) (Refused : Type 0) (status : ℕ)
+      → IfOk made (λ text. Printed (string_bytes text)) → IfErr made (λ error. IsOutside error ⊎ Refused)
+      → Leaves contents (IsTextOf made) (IsErrAnd made (λ error. status_of error ≡ status)) status before after
+      → Leaves contents Printed Refused status before after
+  leaves_made made Printed Refused status printed refused leaves = record {
+    written = λ zero. let whole = leaves.written zero in (whole.0, whole.1, text_printed made Printed whole.0 printed whole.2);
+    cut = λ some. let left = leaves.cut some in (left.0, left.1, left_of_made made Printed left.0 printed left.2);
+    refused = λ some. let none = leaves.refused some in (none.0, refused_as made status Refused some none.1 refused);
+  }
+
+-- ---- what it says on standard error
+
+module _ {E : Type 0} (contents : E → Option (List ℕ)) (names : Names) (before after : E) where
+  pub tells_nothing : (IsSo : ProgramError → Type 0) → after ≡ before → Tells contents names IsSo 0 before after
+  tells_nothing IsSo same = record { most = search rules; quiet = λ zero. same; said = λ some. absurd (some refl) }
+
+  pub tells_error : (IsSo : ProgramError → Type 0) (error : ProgramError) (status : ℕ) → status ≡ status_of error → IsSo error
+      → (said : List ℕ) × StartsWith (line_of names error) said × Appends (contents before) (contents after) said
+      → Tells contents names IsSo status before after
+  tells_error IsSo error status is so said = record {
+    most = rw is (status_of-most error);
+    quiet = λ zero. absurd (not_zero error status is zero);
+    said = λ some. (error, sym is, so, said);
+  }
+
+  -- in the words of what was made
+  pub tells_made : {T : Type 0} (made : Result T ProgramError) (IsSo : ProgramError → Type 0) (status : ℕ) → IfErr made IsSo → IsSo InputOrOutput
+      → Tells contents names (IsCauseOf made) status before after → Tells contents names IsSo status before after
+  tells_made made IsSo status so failed tells = record {
+    most = tells.most;
+    quiet = tells.quiet;
+    said = λ some. let told = tells.said some in (told.0, told.1, cause_so IsSo made told.0 told.2 so failed, told.3);
+  }
+
+  -- no word is at fault
+  pub tells_no_usage : (IsSo : ProgramError → Type 0) (status : ℕ) → ((error : ProgramError) → IsSo error → IsNoUsage error)
+      → Tells contents names IsSo status before after → status ≢ 2
+  tells_no_usage IsSo status into tells two =
+      let told = tells.said (λ zero. false≢true (ap (λ (n : ℕ). n == 2) (sym zero ∙ two))) in
+      not_2 told.0 status (sym told.1) (into told.0 told.2) two
+
+-- ---- what is known of an input
+
+pub made_or : {T X : Type 0} (made : Result T ProgramError) (known : Option X) (P : X → Type 0) → IfErr made (λ error. IfSome known (λ x. IsOutside error ⊎ P x))
+    → IfErr made (λ error. IsOutside error ⊎ IfSome known P)
+made_or (Ok value) known P h = tt
+made_or (Err error) None P h = inr tt
+made_or (Err error) (Some x) P h = h
+
+pub made_or_both : {T X Y : Type 0} (made : Result T ProgramError) (one : Option X) (other : Option Y) (P : X → Y → Type 0)
+    → IfErr made (λ error. IfSome one (λ x. IfSome other (λ y. IsOutside error ⊎ P x y)))
+    → IfErr made (λ error. IsOutside error ⊎ IfSome one (λ x. IfSome other (λ y. P x y)))
+made_or_both (Ok value) one other P h = tt
+made_or_both (Err error) None other P h = inr tt
+made_or_both (Err error) (Some x) None P h = inr tt
+made_or_both (Err error) (Some x) (Some y) P h = h
+
+-- what is so of an error in both ways
+pub both_so : {T : Type 0} (made : Result T ProgramError) (IsOne IsOther : ProgramError → Type 0) → IfErr made IsOne → IfErr made IsOther
+    → IfErr made (λ error. IsOne error × IsOther error)
+both_so (Ok value) IsOne IsOther one other = tt
+both_so (Err error) IsOne IsOther one other = (one, other)

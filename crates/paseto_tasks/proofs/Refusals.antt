@@ -17,9 +17,10 @@ use Rattle.rusty_paseto_parts.specs.declared.texts.implicit_assertion.ImplicitAs
 use Rattle.paseto_tasks.specs.declared.arguments.Task.{Task}
 use Rattle.paseto_tasks.specs.declared.error.ProgramError.{ProgramError}
 use Rattle.paseto_tasks.specs.declared.error.ProgramError.TheVariants.{Clock, Random, InputOrOutput, Memory}
-use Rattle.paseto_tasks.specs.Error.{IsOutside, IsTokenError, key_error_of, program_error_of, status_of}
+use Rattle.paseto_tasks.specs.Error.{IsOutside, IsPlainBut, IsTokenError, key_error_of, program_error_of, status_of}
 use Rattle.paseto_tasks.specs.Input.{IsNoKeyFile, line_of_input}
 use Rattle.paseto_tasks.specs.KeyLine.{IsKeyIn}
+use Rattle.paseto_tasks.specs.Output.{Makes}
 use Rattle.paseto_tasks.specs.Public.{DeclinesKey}
 use Rattle.paseto_tasks.specs.Run.{IsRefused, PrintsNothing}
 
@@ -36,6 +37,13 @@ pub of_line : (known : Option (List ℕ)) (line token : List ℕ) (Q : List ℕ 
     → IfSome known (λ bytes. Q (line_of_input bytes))
 of_line None line token Q is same h = tt
 of_line (Some bytes) line token Q is same h = subst Q (same ∙ sym is) h
+
+-- the same of why nothing was made
+pub line_refused : {T : Type 0} (made : Result T ProgramError) (known : Option (List ℕ)) (line token : List ℕ) (Q : ProgramError → List ℕ → Type 0)
+    → IfSome known (λ bytes. line_of_input bytes ≡ line) → token ≡ line → IfErr made (λ error. Q error token)
+    → IfErr made (λ error. IfSome known (λ bytes. Q error (line_of_input bytes)))
+line_refused (Ok value) known line token Q is same h = tt
+line_refused (Err error) known line token Q is same h = of_line known line token (Q error) is same h
 
 -- what is said of a token that is refused
 abbrev pub IsRefusedBy : List ℕ → TokenKind → Result (String Global) PasetoError → ProgramError → Type 0
@@ -120,6 +128,19 @@ no_input None error P N needs h = tt
 no_input (Some bytes) error P N needs (inl outside) = inl outside
 no_input (Some bytes) error P N needs (inr none) = inr (λ text is. none (needs bytes text is))
 
+-- what is made where no key, and where no input is read
+key_plain : (NoDraw : Type 0) (error : PaserkError) → IsPlainBut NoDraw (key_error_of error)
+key_plain NoDraw (NoKeyMemory source) = (tt, tt)
+key_plain NoDraw error = (tt, tt)
+
+pub makes_keyless : (NoDraw : Type 0) (known : Option (List ℕ)) (error : PaserkError) (N : List ℕ → List ℕ → Type 0)
+    → ((bytes text : List ℕ) → N bytes text → IsKeyMemory error) → Makes known N (IsPlainBut NoDraw) (Err (key_error_of error))
+makes_keyless NoDraw known error N h = record { printed = tt; refused = no_key known error N h; so = key_plain NoDraw error }
+
+pub makes_unread : {IsSo : ProgramError → Type 0} (known : Option (List ℕ)) (error : ProgramError) (P : List ℕ → Type 0) (N : List ℕ → List ℕ → Type 0)
+    → ((bytes text : List ℕ) → N bytes text → P bytes) → IfSome known (λ bytes. IsOutside error ⊎ (¬ P bytes)) → IsSo error → Makes known N IsSo (Err error)
+makes_unread known error P N needs h so = record { printed = tt; refused = no_input known error P N needs h; so = so }
+
 -- a token that is verified as no text, where the line that was read is that of the known input
 pub not_verified : {T : Type 0} (result : Result T ProgramError) (known : Option (List ℕ)) (line token : List ℕ) (V : List ℕ → List ℕ → Type 0) (A : List ℕ → Type 0)
     → IfSome known (λ bytes. line_of_input bytes ≡ line) → token ≡ line → ((text : List ℕ) → V token text → A text)
@@ -168,41 +189,12 @@ inside : (error : ProgramError) (status : ℕ) → status ≡ status_of error �
 inside error status is (inl one) outside = let three : 1 ≡ 3 = sym one ∙ is ∙ outside_status error outside in absurd (false≢true (sym (ap (eqb 1) three)))
 inside error status is (inr two) outside = let three : 2 ≡ 3 = sym two ∙ is ∙ outside_status error outside in absurd (false≢true (sym (ap (eqb 2) three)))
 
-pub status_refused : (error : ProgramError) (status : ℕ) (file_known known : Option (List ℕ)) (X : List ℕ → List ℕ → Type 0) → status ≡ status_of error
-    → status ≡ 1 → IfSome file_known (λ file. IfSome known (λ bytes. IsOutside error ⊎ X file bytes))
-    → IfSome file_known (λ file. IfSome known (λ bytes. X file bytes))
-status_refused error status None known X is one h = tt
-status_refused error status (Some file) None X is one h = tt
-status_refused error status (Some file) (Some bytes) X is one (inl outside) = absurd (inside error status is (inl one) outside)
-status_refused error status (Some file) (Some bytes) X is one (inr refused) = refused
-
 -- what is not done, where its error is no one from outside
 pub refused_as : {T : Type 0} (made : Result T ProgramError) (status : ℕ) (X : Type 0) → (status ≡ 1) ⊎ (status ≡ 2)
     → IsErrAnd made (λ error. status_of error ≡ status) → IfErr made (λ error. IsOutside error ⊎ X) → X
 refused_as (Ok value) status X some is h = absurd is
 refused_as (Err error) status X some is (inl outside) = absurd (inside error status (sym is) some outside)
 refused_as (Err error) status X some is (inr x) = x
-
--- the same of a known input
-pub known_refused_as : {T : Type 0} (made : Result T ProgramError) (status : ℕ) (known : Option (List ℕ)) (X : List ℕ → Type 0)
-    → (status ≡ 1) ⊎ (status ≡ 2) → IsErrAnd made (λ error. status_of error ≡ status)
-    → IfErr made (λ error. IfSome known (λ bytes. IsOutside error ⊎ X bytes)) → IfSome known X
-known_refused_as (Ok value) status known X some is h = absurd is
-known_refused_as (Err error) status None X some is h = tt
-known_refused_as (Err error) status (Some bytes) X some is (inl outside) = absurd (inside error status (sym is) some outside)
-known_refused_as (Err error) status (Some bytes) X some is (inr x) = x
-
--- what is refused and is no failure of the output leaves it
-pub unless_three : (error : ProgramError) (status : ℕ) (X : Type 0) → status ≡ status_of error → status ≡ 1 → (status_of error ≡ 3) ⊎ X → X
-unless_three error status X is one (inl three) = let other : 1 ≡ 3 = sym one ∙ is ∙ three in absurd (false≢true (sym (ap (eqb 1) other)))
-unless_three error status X is one (inr x) = x
-
--- what is refused of a known input
-pub input_refused : (error : ProgramError) (status : ℕ) (known : Option (List ℕ)) (X : List ℕ → Type 0) → status ≡ status_of error
-    → status ≡ 1 → IfSome known (λ bytes. IsOutside error ⊎ X bytes) → IfSome known X
-input_refused error status None X is one h = tt
-input_refused error status (Some bytes) X is one (inl outside) = absurd (inside error status is (inl one) outside)
-input_refused error status (Some bytes) X is one (inr refused) = refused
 
 -- what a scheme declines for a private key and a text that was read, it declines for the key's line and the input
 pub declined_line : {T : Type 0} (result : Result T ProgramError) (known : Option (List ℕ)) (X : List ℕ → Type 0) (version : PaserkVersion)

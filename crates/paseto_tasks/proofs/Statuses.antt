@@ -1,36 +1,26 @@
 -- Which errors end the program with which status.
-use Rattle.std.proofs.Common.{◌≡◌, ◌≢◌, ◌⊎◌, ℕ, List, ◌==◌, false, Result, Ok, Err, IfErr, IsErrAnd, string_bytes, inl, inr, refl, sym, ap, subst, ◌∙◌}
+use Rattle.std.proofs.Common.{◌≡◌, ◌≢◌, ◌⊎◌, ℕ, List, ◌==◌, Bool, true, false, MatchBool, Result, Ok, Err, IfErr, IsErrAnd, string_bytes, inl, inr, refl, sym, ap, subst, ◌∙◌}
 use Rattle.std.proofs.lemmas.Bool.{false≢true}
+use Rattle.std.specs.Bool.{⊤}
 use Rattle.paseto_key_files.specs.declared.error.KeyFileError.TheVariants.{Random as NoBytes, Memory as NoFileMemory}
 use Rattle.paseto_pem.specs.declared.error.PemError.TheVariants.{Memory as NoPemMemory}
 use Rattle.rusty_paseto_paserk.specs.declared.error.PaserkError.TheVariants.{Memory as NoKeyMemory}
 use Rattle.paseto_tasks.specs.declared.error.ProgramError.{ProgramError}
 use Rattle.paseto_tasks.specs.declared.error.ProgramError.TheVariants.{Usage, KeyWord, NoKind, NoHalf, NoFormat, LockedPem, NoKey, NoPassword, OneInput, Claim, TimeClaim, Time, Key, Pem, KeyFile, Unfit, Clock, Random, InputOrOutput, Memory}
-use Rattle.paseto_tasks.specs.Error.{IsCauseOf, IsFixed, IsNoRefusal, IsNoUsage, IsOutside, IsPlain, Says, status_of}
+use Rattle.paseto_tasks.specs.Error.{IsCauseOf, IsFixed, IsNoRefusal, IsNoUsage, IsOutside, Says, entry_of, status_of}
 
 -- ---- 2
 
+no_true : (b : Bool) → MatchBool b ⊥ ⊤ → b ≡ false
+no_true true none = absurd none
+no_true false none = refl
+
 no_2 : (error : ProgramError) → IsNoUsage error → (status_of error == 2) ≡ false
-no_2 Usage none = absurd none
-no_2 KeyWord none = absurd none
-no_2 NoKind none = absurd none
-no_2 NoHalf none = absurd none
-no_2 NoFormat none = absurd none
-no_2 LockedPem none = absurd none
-no_2 NoKey none = absurd none
-no_2 NoPassword none = absurd none
-no_2 OneInput none = absurd none
-no_2 Claim none = absurd none
-no_2 TimeClaim none = absurd none
-no_2 (Time option) none = absurd none
 no_2 (Key (NoKeyMemory source)) none = refl
-no_2 (Key error) none = refl
 no_2 (Pem (NoPemMemory source)) none = refl
-no_2 (Pem error) none = refl
 no_2 (KeyFile NoBytes) none = refl
 no_2 (KeyFile (NoFileMemory source)) none = refl
-no_2 (KeyFile error) none = refl
-no_2 error none = refl
+no_2 error none = no_true ((entry_of error).0 == 2) none
 
 pub not_2 : (error : ProgramError) (status : ℕ) → status ≡ status_of error → IsNoUsage error → status ≢ 2
 not_2 error status is none two = false≢true (sym (no_2 error none) ∙ ap (λ n. n == 2) (sym is ∙ two))
@@ -39,12 +29,6 @@ not_2 error status is none two = false≢true (sym (no_2 error none) ∙ ap (λ 
 pub fixed_no_usage : (error : ProgramError) → IsFixed error → IsNoUsage error
 fixed_no_usage (Unfit text) fixed = absurd fixed
 fixed_no_usage error fixed = fixed
-
--- the same of the status of what was made
-pub not_2_made : {T : Type 0} (made : Result T ProgramError) (status : ℕ) → IsErrAnd made (λ error. status_of error ≡ status) → IfErr made IsPlain
-    → status ≢ 2
-not_2_made (Ok value) status is plain = absurd is
-not_2_made (Err error) status is plain = not_2 error status (sym is) (fixed_no_usage error plain.0)
 
 -- what is so of why nothing was made, and of a write that failed, is so of the error that ends the program
 pub cause_so : {T : Type 0} (IsSo : ProgramError → Type 0) (made : Result T ProgramError) (error : ProgramError) → IsCauseOf made error

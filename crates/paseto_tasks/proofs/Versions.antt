@@ -3,7 +3,7 @@ use Rattle.std.proofs.Common.{◌≡◌, ◌⊎◌, ℕ, List, Option, None, Som
 use Rattle.rusty_paseto_parts.specs.Section.{base64url}
 use Rattle.rusty_paseto_parts.specs.declared.texts.implicit_assertion.ImplicitAssertion.{ImplicitAssertion}
 use Rattle.rusty_paseto_paserk.specs.declared.header.PaserkVersion.{PaserkVersion}
-use Rattle.rusty_paseto_paserk.specs.declared.header.PaserkVersion.TheVariants.{V1, V2, V3, V4}
+use Rattle.rusty_paseto_paserk.specs.declared.header.PaserkVersion.TheVariants.{V1}
 use Rattle.rusty_paseto_paserk.specs.declared.header.PaserkType.{PaserkType}
 use Rattle.rusty_paseto_paserk.specs.declared.header.PaserkType.TheVariants.{Local, Secret, Public}
 use Rattle.paseto_tasks.specs.declared.arguments.Options.{Options}
@@ -12,6 +12,7 @@ use Rattle.paseto_tasks.specs.Arguments.{Takes}
 use Rattle.paseto_tasks.specs.Error.{IsOutside}
 use Rattle.paseto_tasks.specs.KeyLine.{BeginsAs}
 use Rattle.paseto_tasks.specs.Local.{OpensIn, SealsIn}
+use Rattle.paseto_tasks.specs.Output.{Makes as MakesSo}
 use Rattle.paseto_tasks.specs.Public.{SignsIn, VerifiesIn}
 use Rattle.paseto_tasks.proofs.KeyLines.{begins_as_key, same_beginning}
 
@@ -25,27 +26,19 @@ module _ (options : Options) (key : List ℕ) where
   pub seals_begins : (IsDrawn : List ℕ → Type 0) (version : PaserkVersion) (text line : List ℕ) → SealsIn version key options IsDrawn text line
       → BeginsAs version Local key
   seals_begins IsDrawn V1 text line is = inl (base64url is.key_bytes, is.is_key.is_writing)
-  seals_begins IsDrawn V2 text line is = inl (base64url is.key_bytes, is.is_key.is_writing)
-  seals_begins IsDrawn V3 text line is = inl (base64url is.key_bytes, is.is_key.is_writing)
-  seals_begins IsDrawn V4 text line is = inl (base64url is.key_bytes, is.is_key.is_writing)
+  seals_begins IsDrawn version text line is = inl (base64url is.key_bytes, is.is_key.is_writing)
 
   pub opens_begins : (version : PaserkVersion) (token text : List ℕ) → OpensIn version key options token text → BeginsAs version Local key
   opens_begins V1 token text is = inl (base64url is.key_bytes, is.is_key.is_writing)
-  opens_begins V2 token text is = inl (base64url is.key_bytes, is.is_key.is_writing)
-  opens_begins V3 token text is = inl (base64url is.key_bytes, is.is_key.is_writing)
-  opens_begins V4 token text is = inl (base64url is.key_bytes, is.is_key.is_writing)
+  opens_begins version token text is = inl (base64url is.key_bytes, is.is_key.is_writing)
 
   pub signs_begins : (version : PaserkVersion) (text line : List ℕ) → SignsIn version key options text line → BeginsAs version Secret key
   signs_begins V1 text line is = begins_as_key Secret V1 key is.key_bytes is.is_key
-  signs_begins V2 text line is = begins_as_key Secret V2 key is.key_bytes is.is_key
-  signs_begins V3 text line is = begins_as_key Secret V3 key is.key_bytes is.is_key
-  signs_begins V4 text line is = begins_as_key Secret V4 key is.key_bytes is.is_key
+  signs_begins version text line is = begins_as_key Secret version key is.key_bytes is.is_key
 
   pub verifies_begins : (version : PaserkVersion) (token text : List ℕ) → VerifiesIn version key options token text → BeginsAs version Public key
   verifies_begins V1 token text is = begins_as_key Public V1 key is.key_bytes is.is_key
-  verifies_begins V2 token text is = begins_as_key Public V2 key is.key_bytes is.is_key
-  verifies_begins V3 token text is = begins_as_key Public V3 key is.key_bytes is.is_key
-  verifies_begins V4 token text is = begins_as_key Public V4 key is.key_bytes is.is_key
+  verifies_begins version token text is = begins_as_key Public version key is.key_bytes is.is_key
 
 -- ---- by some version
 
@@ -92,6 +85,23 @@ module _ (kind : PaserkType) (key : List ℕ) (assertion : Option ImplicitAssert
       → IfSome known (λ bytes. IsOutside error ⊎ ((text : List ℕ) → ¬ Some_makes bytes text))
   nothing_begun error None none = tt
   nothing_begun error (Some bytes) none = inr (λ text some. none some.0 (begins some.0 bytes text some.2))
+
+  -- the same of all that is said of what is made
+  pub makes_by : {IsSo IsOther : ProgramError → Type 0} (made : Result (String Global) ProgramError) (known : Option (List ℕ)) (version : PaserkVersion)
+      → BeginsAs version kind key → Takes version assertion → IfErr made IsOther → MakesSo known (Makes version) IsSo made → MakesSo known Some_makes IsOther made
+  makes_by made known version header takes so makes = record {
+    printed = made_by made known version takes makes.printed;
+    refused = nothing_by made known version header makes.refused;
+    so = so;
+  }
+
+  pub makes_untaken : {IsSo : ProgramError → Type 0} (error : ProgramError) (known : Option (List ℕ)) (version : PaserkVersion) → BeginsAs version kind key
+      → ¬ Takes version assertion → IsSo error → MakesSo known Some_makes IsSo (Err error)
+  makes_untaken error known version header none so = record { printed = tt; refused = nothing_taken error known version header none; so = so }
+
+  pub makes_unbegun : {IsSo : ProgramError → Type 0} (error : ProgramError) (known : Option (List ℕ)) → ((version : PaserkVersion) → ¬ BeginsAs version kind key)
+      → IsSo error → MakesSo known Some_makes IsSo (Err error)
+  makes_unbegun error known none so = record { printed = tt; refused = nothing_begun error known none; so = so }
 
   -- the same beside what a scheme declines
   module _ (Declines : PaserkVersion → List ℕ → Type 0) where

@@ -1,5 +1,5 @@
 -- What the program says of an error, and the status that it ends with.
-use Rattle.std.specs.Prelude.{◌≡◌, ◌⊎◌, ℕ, ⊤, List, [], ◌∷◌, ◌++◌, Result, IsErrAnd, alloc_error, codes, string_bytes}
+use Rattle.std.specs.Prelude.{◌≡◌, ◌==◌, ◌⊎◌, ℕ, ⊤, MatchBool, List, [], ◌∷◌, ◌++◌, Result, IsErrAnd, alloc_error, codes, string_bytes}
 use Rattle.std.specs.declared.io.ErrorKind.{ErrorKind}
 use Rattle.std.specs.declared.io.ErrorKind.TheVariants.{AlreadyExists, InvalidData, NotFound, OutOfMemory}
 use Rattle.paseto_key_files.specs.Error.{error_text as key_file_error_text}
@@ -14,6 +14,8 @@ use Rattle.rusty_paseto_parts.specs.declared.error.PasetoError.TheVariants.{ChaC
 use Rattle.rusty_paseto_paserk.specs.Error.{error_text as key_error_text}
 use Rattle.rusty_paseto_paserk.specs.declared.error.PaserkError.{PaserkError}
 use Rattle.rusty_paseto_paserk.specs.declared.error.PaserkError.TheVariants.{Memory as NoKeyMemory}
+use Rattle.paseto_tasks.specs.declared.error.About.{About}
+use Rattle.paseto_tasks.specs.declared.error.About.TheVariants.{Key as OfKey, Input as OfInput, Nothing as OfNothing}
 use Rattle.paseto_tasks.specs.declared.error.Names.{Names}
 use Rattle.paseto_tasks.specs.declared.error.TimeOption.{TimeOption}
 use Rattle.paseto_tasks.specs.declared.error.TimeOption.TheVariants.{Expires, NotBefore, At, Leeway}
@@ -22,59 +24,16 @@ use Rattle.paseto_tasks.specs.TokenKind.{NamesKind, kind_text}
 use Rattle.paseto_tasks.specs.declared.error.ProgramError.{ProgramError}
 use Rattle.paseto_tasks.specs.declared.error.ProgramError.TheVariants.{Usage, KeyWord, NoKind, NoHalf, NoFormat, LockedPem, NoKey, NoPassword, OddPassword, OneInput, Claim, TimeClaim, Time, Key, Pem, KeyFile, NotSealed, SecondLine, TooLong, Refused, OtherKind, NoAssertion, OddClaim, OtherFooter, NoFooter, NotAnObject, NoKeyId, NotJson, OddNumber, Unfit, NoFile, NoAccess, FileExists, Clock, Random, InputOrOutput, Memory}
 
--- 2 for words that ask for nothing, 1 for what is refused, and 3 for what fails outside
-abbrev pub status_of : ProgramError → ℕ
-status_of Usage = 2
-status_of KeyWord = 2
-status_of NoKind = 2
-status_of NoHalf = 2
-status_of NoFormat = 2
-status_of LockedPem = 2
-status_of NoKey = 2
-status_of NoPassword = 2
-status_of OneInput = 2
-status_of Claim = 2
-status_of TimeClaim = 2
-status_of (Time _) = 2
-status_of (Key (NoKeyMemory _)) = 3
-status_of (Key _) = 1
-status_of (Pem (NoPemMemory _)) = 3
-status_of (Pem _) = 1
-status_of (KeyFile NoBytes) = 3
-status_of (KeyFile (NoFileMemory _)) = 3
-status_of (KeyFile _) = 1
-status_of NotSealed = 1
-status_of SecondLine = 1
-status_of TooLong = 1
-status_of OddPassword = 1
-status_of (Refused _) = 1
-status_of (OtherKind _ _) = 1
-status_of NoAssertion = 1
-status_of OddClaim = 1
-status_of OtherFooter = 1
-status_of NoFooter = 1
-status_of NotAnObject = 1
-status_of NoKeyId = 1
-status_of NotJson = 1
-status_of OddNumber = 1
-status_of (Unfit _) = 1
-status_of NoFile = 3
-status_of NoAccess = 3
-status_of FileExists = 3
-status_of Clock = 3
-status_of Random = 3
-status_of InputOrOutput = 3
-status_of (Memory _) = 3
-
--- what is said of a text or a token that was refused: the text of the error, but where that leaves open what to do
-abbrev pub refusal_text : PasetoError → List ℕ
-refusal_text Cryption = codes "wrong key, wrong footer or assertion, or the token was changed"
-refusal_text ChaChaCipherError = codes "wrong key, wrong footer or assertion, or the token was changed"
-refusal_text InvalidSignature = codes "wrong key, wrong footer or assertion, or the token was changed"
-refusal_text WrongHeader = codes "not a token of a supported kind"
-refusal_text Signature = codes "the two halves of the private key do not belong together"
-refusal_text KeyRejected = codes "not a valid private key of its kind"
-refusal_text error = error_text error
+-- what a text or a token that was refused is about, which is the key where the private one is none, and what is said of
+-- it: the text of the error, but where that leaves open what to do
+abbrev pub refusal_of : PasetoError → About × List ℕ
+refusal_of Cryption = (OfInput, codes "wrong key, wrong footer or assertion, or the token was changed")
+refusal_of ChaChaCipherError = (OfInput, codes "wrong key, wrong footer or assertion, or the token was changed")
+refusal_of InvalidSignature = (OfInput, codes "wrong key, wrong footer or assertion, or the token was changed")
+refusal_of WrongHeader = (OfInput, codes "not a token of a supported kind")
+refusal_of Signature = (OfKey, codes "the two halves of the private key do not belong together")
+refusal_of KeyRejected = (OfKey, codes "not a valid private key of its kind")
+refusal_of error = (OfInput, error_text error)
 
 -- what is said of a key that was refused as PEM: the text of the error, but where that leaves open what to do
 abbrev pub pem_text : PemError → List ℕ
@@ -88,77 +47,70 @@ time_text NotBefore = codes "--not-before: write a time as 90s, 30m, 12h, 7d or 
 time_text At = codes "--at: write a time as 90s, 30m, 12h, 7d or 2026-11-22T10:00:00Z"
 time_text Leeway = codes "--leeway: write a length of time as 5s, 30m, 12h or 7d"
 
--- what each error says, which is the same whatever the words and the input are, but for what tells of a token
+-- the table of errors: the status with which each ends the program, unless memory or random bytes failed behind it, where
+-- 2 is for words that ask for nothing, 1 for what is refused, and 3 for what fails outside; what it is about; and what it
+-- says, which is the same whatever the words and the input are, but for what tells of a token
+abbrev pub entry_of : ProgramError → ℕ × About × List ℕ
+entry_of Usage = (2, OfNothing, codes "an argument is not valid UTF-8: see paseto --help")
+entry_of KeyWord = (2, OfNothing, codes "a key is among the arguments, where others can see it: name the file that holds it")
+entry_of NoKind = (2, OfKey, codes "not a kind of key: use v1.local, v2.local, v2.public, v3.local, v3.public, v4.local or v4.public")
+entry_of NoHalf = (2, OfKey, codes "keys of this kind have no public half: omit --public")
+entry_of NoFormat = (2, OfNothing, codes "--format: must be paserk or pem")
+entry_of LockedPem = (2, OfNothing, codes "a key under a password is not written in PEM: omit --format or the password")
+entry_of NoKey = (2, OfNothing, codes "no key is given: use --key FILE, or put the text of the key into PASETO_KEY")
+entry_of NoPassword = (2, OfNothing, codes "no password is given: use --password-file FILE, or PASETO_PASSWORD")
+entry_of OddPassword = (1, OfKey, codes "not a password: it must have 1 to 4095 bytes")
+entry_of OneInput = (2, OfNothing, codes "standard input cannot be the key and the input: name a file for one of them")
+entry_of (Key error) = (1, OfKey, key_error_text error)
+entry_of (Pem error) = (1, OfKey, pem_text error)
+entry_of (KeyFile error) = (1, OfKey, key_file_error_text error)
+entry_of NotSealed = (1, OfKey, codes "the key is not sealed: use paseto unwrap")
+entry_of SecondLine = (1, OfKey, codes "line 2: a key file has one line of PASERK, or is PEM")
+entry_of TooLong = (1, OfKey, codes "too long for a key file")
+entry_of (Refused error) = (1, (refusal_of error).0, (refusal_of error).1)
+entry_of (OtherKind _ _) = (1, OfInput, codes "the token is ")
+entry_of NoAssertion = (1, OfKey, codes "keys of versions 1 and 2 take no implicit assertion: omit --assertion")
+entry_of Claim = (2, OfNothing, codes "--claim: write a claim as aud=customers, or as seats:=4 with a value of JSON")
+entry_of TimeClaim = (2, OfNothing, codes "--claim: set exp and nbf by --expires and --not-before; iat is set already")
+entry_of (Time option) = (2, OfNothing, time_text option)
+entry_of OddClaim = (1, OfNothing, codes "--claim: a number in a claim must be a whole number of at most 64 bits")
+entry_of OtherFooter = (1, OfInput, codes "the token has another footer: give it by --footer or --footer-kid; paseto inspect shows it")
+entry_of NoFooter = (1, OfInput, codes "the token has no footer, which names its key in a ring")
+entry_of NotAnObject = (1, OfInput, codes "the footer of the token is not a JSON object")
+entry_of NoKeyId = (1, OfInput, codes "the footer of the token names no key: it has no string under kid")
+entry_of NotJson = (1, OfInput, codes "the text of the token is not valid JSON")
+entry_of OddNumber = (1, OfInput, codes "a claim of the token has a number that is not a whole number of 64 bits")
+entry_of (Unfit line) = (1, OfInput, string_bytes line)
+entry_of Clock = (3, OfNothing, codes "the system clock is not within the years 0 to 9999")
+entry_of NoFile = (3, OfKey, codes "no such file")
+entry_of NoAccess = (3, OfKey, codes "the file cannot be opened or created")
+entry_of FileExists = (3, OfKey, codes "the file already exists and is not overwritten")
+entry_of Random = (3, OfNothing, codes "the system returned no random bytes")
+entry_of InputOrOutput = (3, OfNothing, codes "a read or a write failed")
+entry_of (Memory _) = (3, OfNothing, codes "out of memory")
+
+-- the status with which an error ends the program
+abbrev pub status_of : ProgramError → ℕ
+status_of (Key (NoKeyMemory _)) = 3
+status_of (Pem (NoPemMemory _)) = 3
+status_of (KeyFile NoBytes) = 3
+status_of (KeyFile (NoFileMemory _)) = 3
+status_of error = (entry_of error).0
+
 abbrev pub text_of : ProgramError → List ℕ
-text_of Usage = codes "an argument is not valid UTF-8: see paseto --help"
-text_of KeyWord = codes "a key is among the arguments, where others can see it: name the file that holds it"
-text_of NoKind = codes "not a kind of key: use v1.local, v2.local, v2.public, v3.local, v3.public, v4.local or v4.public"
-text_of NoHalf = codes "keys of this kind have no public half: omit --public"
-text_of NoFormat = codes "--format: must be paserk or pem"
-text_of LockedPem = codes "a key under a password is not written in PEM: omit --format or the password"
-text_of NoPassword = codes "no password is given: use --password-file FILE, or PASETO_PASSWORD"
-text_of OddPassword = codes "not a password: it must have 1 to 4095 bytes"
-text_of NoKey = codes "no key is given: use --key FILE, or put the text of the key into PASETO_KEY"
-text_of OneInput = codes "standard input cannot be the key and the input: name a file for one of them"
-text_of (Key error) = key_error_text error
-text_of (Pem error) = pem_text error
-text_of (KeyFile error) = key_file_error_text error
-text_of NotSealed = codes "the key is not sealed: use paseto unwrap"
-text_of SecondLine = codes "line 2: a key file has one line of PASERK, or is PEM"
-text_of TooLong = codes "too long for a key file"
-text_of (Refused error) = refusal_text error
-text_of Claim = codes "--claim: write a claim as aud=customers, or as seats:=4 with a value of JSON"
-text_of TimeClaim = codes "--claim: set exp and nbf by --expires and --not-before; iat is set already"
-text_of (Time option) = time_text option
-text_of (OtherKind _ _) = codes "the token is "
-text_of NoAssertion = codes "keys of versions 1 and 2 take no implicit assertion: omit --assertion"
-text_of OddClaim = codes "--claim: a number in a claim must be a whole number of at most 64 bits"
-text_of OtherFooter = codes "the token has another footer: give it by --footer or --footer-kid; paseto inspect shows it"
-text_of NoFooter = codes "the token has no footer, which names its key in a ring"
-text_of NotAnObject = codes "the footer of the token is not a JSON object"
-text_of NoKeyId = codes "the footer of the token names no key: it has no string under kid"
-text_of NotJson = codes "the text of the token is not valid JSON"
-text_of OddNumber = codes "a claim of the token has a number that is not a whole number of 64 bits"
-text_of (Unfit line) = string_bytes line
-text_of Clock = codes "the system clock is not within the years 0 to 9999"
-text_of NoFile = codes "no such file"
-text_of NoAccess = codes "the file cannot be opened or created"
-text_of FileExists = codes "the file already exists and is not overwritten"
-text_of Random = codes "the system returned no random bytes"
-text_of InputOrOutput = codes "a read or a write failed"
-text_of (Memory _) = codes "out of memory"
+text_of error = (entry_of error).2
 
--- the name of what was refused: the key file where the private key is none, and else the input
-abbrev pub refusal_about : Names → PasetoError → List ℕ
-refusal_about names Signature = names.key.now
-refusal_about names KeyRejected = names.key.now
-refusal_about names error = names.input.now
+abbrev pub subject_of : ProgramError → About
+subject_of error = (entry_of error).1
 
--- the name of what each error is about, which is empty where it is about no file and no word
+-- the name of what an error is about, which is empty where it is about no file and no word
+abbrev pub name_of : Names → About → List ℕ
+name_of names OfKey = names.key.now
+name_of names OfInput = names.input.now
+name_of names OfNothing = []
+
 abbrev pub about_of : Names → ProgramError → List ℕ
-about_of names (Key _) = names.key.now
-about_of names (Pem _) = names.key.now
-about_of names TooLong = names.key.now
-about_of names NoAssertion = names.key.now
-about_of names NoKind = names.key.now
-about_of names NoHalf = names.key.now
-about_of names NotSealed = names.key.now
-about_of names SecondLine = names.key.now
-about_of names (KeyFile _) = names.key.now
-about_of names OddPassword = names.key.now
-about_of names NoFile = names.key.now
-about_of names NoAccess = names.key.now
-about_of names FileExists = names.key.now
-about_of names (Refused error) = refusal_about names error
-about_of names OtherFooter = names.input.now
-about_of names NoFooter = names.input.now
-about_of names NotAnObject = names.input.now
-about_of names NoKeyId = names.input.now
-about_of names NotJson = names.input.now
-about_of names OddNumber = names.input.now
-about_of names (OtherKind _ _) = names.input.now
-about_of names (Unfit _) = names.input.now
-about_of names _ = []
+about_of names error = name_of names (entry_of error).1
 
 -- what stands between a name and what is said of it
 abbrev pub colon_behind : List ℕ → List ℕ
@@ -229,19 +181,7 @@ IsOutside _ = ⊥
 
 -- an error that says nothing of the words, so that the program does not end with status 2
 abbrev pub IsNoUsage : ProgramError → Type 0
-IsNoUsage Usage = ⊥
-IsNoUsage KeyWord = ⊥
-IsNoUsage NoKind = ⊥
-IsNoUsage NoHalf = ⊥
-IsNoUsage NoFormat = ⊥
-IsNoUsage LockedPem = ⊥
-IsNoUsage NoKey = ⊥
-IsNoUsage NoPassword = ⊥
-IsNoUsage OneInput = ⊥
-IsNoUsage Claim = ⊥
-IsNoUsage TimeClaim = ⊥
-IsNoUsage (Time _) = ⊥
-IsNoUsage _ = ⊤
+IsNoUsage error = MatchBool ((entry_of error).0 == 2) ⊥ ⊤
 
 -- an error that refuses a key, a text or a token and has no text of its own, or that says nothing of them: what is said of
 -- it is in this table, and holds nothing of the key or of the input
@@ -265,6 +205,10 @@ BlamesNone = BlamesOnly ⊥ ⊥ ⊥ ⊥
 abbrev pub IsPlain : ProgramError → Type 0
 IsPlain error = IsFixed error × BlamesNone error
 
+-- the same, but for random bytes, which are at fault only for a reason
+abbrev pub IsPlainBut : Type 0 → ProgramError → Type 0
+IsPlainBut NoDraw error = IsFixed error × BlamesOnly NoDraw ⊥ ⊥ ⊥ error
+
 -- what is said of the error stands in this table, or is a line that is so
 abbrev pub Says : (List ℕ → Type 0) → ProgramError → Type 0
 Says IsLine (Unfit line) = IsLine (string_bytes line)
@@ -276,23 +220,7 @@ IsCauseOf made error = IsErrAnd made (λ cause. cause ≡ error) ⊎ (error ≡ 
 
 -- an error of the words or from outside, which refuses no key, text or token, so that the program does not end with status 1
 abbrev pub IsNoRefusal : ProgramError → Type 0
-IsNoRefusal Usage = ⊤
-IsNoRefusal KeyWord = ⊤
-IsNoRefusal NoKind = ⊤
-IsNoRefusal NoHalf = ⊤
-IsNoRefusal NoFormat = ⊤
-IsNoRefusal LockedPem = ⊤
-IsNoRefusal NoKey = ⊤
-IsNoRefusal NoPassword = ⊤
-IsNoRefusal OneInput = ⊤
-IsNoRefusal Claim = ⊤
-IsNoRefusal TimeClaim = ⊤
-IsNoRefusal (Time _) = ⊤
-IsNoRefusal Clock = ⊤
-IsNoRefusal Random = ⊤
-IsNoRefusal InputOrOutput = ⊤
-IsNoRefusal (Memory _) = ⊤
-IsNoRefusal _ = ⊥
+IsNoRefusal error = MatchBool ((entry_of error).0 == 2) ⊤ (IsOutside error)
 
 -- one of the words, or memory was refused, or a read or a write failed
 abbrev pub IsOfWords : ProgramError → Type 0

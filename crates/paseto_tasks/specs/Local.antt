@@ -1,7 +1,6 @@
 -- The commands `encrypt` and `decrypt`.
 use Rattle.std.specs.Prelude.{◌≡◌, ℕ, List, [], ◌∷◌, ◌++◌, false, Some, length, is_some, IsUtf8}
 use Rattle.base64.specs.GeneralPurpose.{IsBytes}
-use Rattle.rusty_paseto_core.specs.Context.{binding_of}
 use Rattle.rusty_paseto_core.specs.Local.{Design}
 use Rattle.rusty_paseto_core.specs.Local.Boxed.{box_opening, boxed_sealing, token_nonce}
 use Rattle.rusty_paseto_core.specs.Local.V1.{v1}

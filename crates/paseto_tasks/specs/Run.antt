@@ -1,10 +1,13 @@
 -- What the program prints for a task, its options, its key file and its input.
-use Rattle.std.specs.Prelude.{◌⊎◌, ℕ, List, Bool, true, false, Option, IfSome}
+use Rattle.std.specs.Prelude.{◌≡◌, ◌≢◌, ◌≤◌, ◌⊎◌, ℕ, List, Option, IfSome}
+use Rattle.std.specs.Io.{StartsWith}
+use Rattle.std.specs.Io.KnownBytes.{Appends}
 use Rattle.paseto_tasks.specs.declared.arguments.Options.{Options}
 use Rattle.paseto_tasks.specs.declared.arguments.Task.{Task}
 use Rattle.paseto_tasks.specs.declared.arguments.Task.TheVariants.{Encrypt, Decrypt, Sign, Verify}
+use Rattle.paseto_tasks.specs.declared.error.Names.{Names}
 use Rattle.paseto_tasks.specs.declared.error.ProgramError.{ProgramError}
-use Rattle.paseto_tasks.specs.Error.{BlamesOnly}
+use Rattle.paseto_tasks.specs.Error.{BlamesOnly, IsFixed, line_of, status_of}
 use Rattle.paseto_tasks.specs.Input.{IsLong, IsNoKeyFile, line_of_input}
 use Rattle.paseto_tasks.specs.KeyLine.{TakesBytes}
 use Rattle.paseto_tasks.specs.Output.{IsLeftOf}
@@ -41,7 +44,32 @@ abbrev pub BlamesIn : Task → Type 0 → Option (List ℕ) → ProgramError →
 BlamesIn task Failure file =
     BlamesOnly (IfSome file (λ bytes. Draws task (line_of_input bytes)) × Failure) ⊥ (IfSome file IsLong) ⊥
 
--- what the program has written when it ends: its output where it is done, else nothing, or the output cut short
-abbrev pub Writes : Task → Options → (List ℕ → Type 0) → List ℕ → List ℕ → Bool → List ℕ → Type 0
-Writes task options IsDrawn file input true written = Prints task options IsDrawn file input written
-Writes task options IsDrawn file input false written = IsLeftOf (Prints task options IsDrawn file input) written
+-- the same of one that has no text of its own
+abbrev pub IsPlainIn : Task → Type 0 → Option (List ℕ) → ProgramError → Type 0
+IsPlainIn task Failure file error = IsFixed error × BlamesIn task Failure file error
+
+-- of a key file and an input as far as they are known: what the task prints, and that it is refused
+abbrev pub PrintsOf : Task → Options → (List ℕ → Type 0) → Option (List ℕ) → Option (List ℕ) → List ℕ → Type 0
+PrintsOf task options IsDrawn file input output = IfSome file (λ f. IfSome input (λ i. Prints task options IsDrawn f i output))
+
+abbrev pub IsRefusedOf : Task → Options → (List ℕ → Type 0) → Option (List ℕ) → Option (List ℕ) → Type 0
+IsRefusedOf task options IsDrawn file input = IfSome file (λ f. IfSome input (λ i. IsRefused task options IsDrawn f i))
+
+-- ---- how a command ends with a status
+
+-- what it leaves in its output: where the status is 0, all of what it prints; else nothing, or that cut short; and where
+-- it is 1 or 2, nothing, for a reason
+pub record Leaves {W : Type 0} (contents : W → Option (List ℕ)) (Prints : List ℕ → Type 0) (Refused : Type 0) (status : ℕ)
+    (before after : W) : Type 0 where
+  pub written : status ≡ 0 → (whole : List ℕ) × Appends (contents before) (contents after) whole × Prints whole
+  pub cut : status ≢ 0 → (left : List ℕ) × Appends (contents before) (contents after) left × IsLeftOf Prints left
+  pub refused : (status ≡ 1) ⊎ (status ≡ 2) → (after ≡ before) × Refused
+
+-- what it says on standard error: where the status is 0, nothing; else the line of an error that is so and has this
+-- status, or a beginning of that line
+pub record Tells {E : Type 0} (contents : E → Option (List ℕ)) (names : Names) (IsSo : ProgramError → Type 0) (status : ℕ)
+    (before after : E) : Type 0 where
+  pub most : status ≤ 3
+  pub quiet : status ≡ 0 → after ≡ before
+  pub said : status ≢ 0 → (error : ProgramError) × (status_of error ≡ status) × IsSo error
+      × ((said : List ℕ) × StartsWith (line_of names error) said × Appends (contents before) (contents after) said)

@@ -7,7 +7,7 @@ ghost use Rattle.std.specs.Io.KnownBytes.{Appends};
 ghost use Rattle.std.specs.IoError.{error_kind};
 ghost use Rattle.rusty_paseto_parts.specs.declared.error.PasetoError.TheVariants.{Utf8Error as NotUtf8};
 ghost use Rattle.paseto_tasks.specs.declared.error.ProgramError.TheVariants.{InputOrOutput, Memory, Refused};
-ghost use Rattle.paseto_tasks.specs.Error.{IsFixed, IsOutside, IsPlain, IsTokenError, about_of, colon_behind, file_error, joined, key_error_of, key_file_error_of, line_of, pem_error_of, pem_text, program_error_of, refusal_about, refusal_text, status_of, text_of, time_text, words_error};
+ghost use Rattle.paseto_tasks.specs.Error.{IsFixed, IsOutside, IsPlain, IsTokenError, colon_behind, file_error, joined, key_error_of, key_file_error_of, line_of, name_of, pem_error_of, pem_text, program_error_of, refusal_of, status_of, subject_of, text_of, time_text, words_error};
 
 use crate::output::write_whole;
 use crate::token_kind::TokenKind;
@@ -112,6 +112,30 @@ pub enum TimeOption {
     Leeway,
 }
 
+/// What an error is about.
+#[derive(Clone, Copy)]
+enum About {
+    /// The key file, or another file or argument that is refused before a key is read.
+    Key,
+    /// The input.
+    Input,
+    /// Neither.
+    Nothing,
+}
+
+impl About {
+    /// Its name in a line on standard error, which is empty for nothing.
+    fn name<'n>(self, names: &Names<'n>) -> &'n str
+        ensures { result.now ≡ name_of names.now self }
+    {
+        match self {
+            About::Key => names.key,
+            About::Input => names.input,
+            About::Nothing => "",
+        }
+    }
+}
+
 /// The names of a command's files in its lines on standard error.
 #[derive(Clone, Copy)]
 pub struct Names<'a> {
@@ -126,89 +150,97 @@ impl ProgramError {
     fn text(&self) -> &str
         ensures { result.now ≡ text_of self.now }
     {
+        use ProgramError::*;
         match self {
-            ProgramError::Usage => "an argument is not valid UTF-8: see paseto --help",
-            ProgramError::KeyWord =>
+            Usage => "an argument is not valid UTF-8: see paseto --help",
+            KeyWord =>
                 "a key is among the arguments, where others can see it: name the file that holds it",
-            ProgramError::NoKind =>
+            NoKind =>
                 "not a kind of key: use v1.local, v2.local, v2.public, v3.local, v3.public, v4.local or v4.public",
-            ProgramError::NoHalf => "keys of this kind have no public half: omit --public",
-            ProgramError::NoFormat => "--format: must be paserk or pem",
-            ProgramError::LockedPem =>
+            NoHalf => "keys of this kind have no public half: omit --public",
+            NoFormat => "--format: must be paserk or pem",
+            LockedPem =>
                 "a key under a password is not written in PEM: omit --format or the password",
-            ProgramError::NoPassword =>
-                "no password is given: use --password-file FILE, or PASETO_PASSWORD",
-            ProgramError::OddPassword => "not a password: it must have 1 to 4095 bytes",
-            ProgramError::NoKey =>
-                "no key is given: use --key FILE, or put the text of the key into PASETO_KEY",
-            ProgramError::OneInput =>
+            NoPassword => "no password is given: use --password-file FILE, or PASETO_PASSWORD",
+            OddPassword => "not a password: it must have 1 to 4095 bytes",
+            NoKey => "no key is given: use --key FILE, or put the text of the key into PASETO_KEY",
+            OneInput =>
                 "standard input cannot be the key and the input: name a file for one of them",
-            ProgramError::Key(source) => source.text(),
-            ProgramError::Pem(source) => pem_text(source),
-            ProgramError::KeyFile(source) => source.text(),
-            ProgramError::NotSealed => "the key is not sealed: use paseto unwrap",
-            ProgramError::SecondLine => "line 2: a key file has one line of PASERK, or is PEM",
-            ProgramError::TooLong => "too long for a key file",
-            ProgramError::Refused(source) => refusal_text(source),
-            ProgramError::Claim =>
-                "--claim: write a claim as aud=customers, or as seats:=4 with a value of JSON",
-            ProgramError::TimeClaim =>
+            Key(source) => source.text(),
+            Pem(source) => pem_text(source),
+            KeyFile(source) => source.text(),
+            NotSealed => "the key is not sealed: use paseto unwrap",
+            SecondLine => "line 2: a key file has one line of PASERK, or is PEM",
+            TooLong => "too long for a key file",
+            Refused(source) => refusal_text(source),
+            Claim => "--claim: write a claim as aud=customers, or as seats:=4 with a value of JSON",
+            TimeClaim =>
                 "--claim: set exp and nbf by --expires and --not-before; iat is set already",
-            ProgramError::Time(option) => time_text(*option),
-            ProgramError::OtherKind(_, _) => "the token is ",
-            ProgramError::NoAssertion =>
-                "keys of versions 1 and 2 take no implicit assertion: omit --assertion",
-            ProgramError::OddClaim =>
-                "--claim: a number in a claim must be a whole number of at most 64 bits",
-            ProgramError::OtherFooter =>
+            Time(option) => time_text(*option),
+            OtherKind(_, _) => "the token is ",
+            NoAssertion => "keys of versions 1 and 2 take no implicit assertion: omit --assertion",
+            OddClaim => "--claim: a number in a claim must be a whole number of at most 64 bits",
+            OtherFooter =>
                 "the token has another footer: give it by --footer or --footer-kid; paseto inspect shows it",
-            ProgramError::NoFooter => "the token has no footer, which names its key in a ring",
-            ProgramError::NotAnObject => "the footer of the token is not a JSON object",
-            ProgramError::NoKeyId =>
-                "the footer of the token names no key: it has no string under kid",
-            ProgramError::NotJson => "the text of the token is not valid JSON",
-            ProgramError::OddNumber =>
-                "a claim of the token has a number that is not a whole number of 64 bits",
-            ProgramError::Unfit(text) => text.as_str(),
-            ProgramError::Clock => "the system clock is not within the years 0 to 9999",
-            ProgramError::NoFile => "no such file",
-            ProgramError::NoAccess => "the file cannot be opened or created",
-            ProgramError::FileExists => "the file already exists and is not overwritten",
-            ProgramError::Random => "the system returned no random bytes",
-            ProgramError::InputOrOutput => "a read or a write failed",
-            ProgramError::Memory(_) => "out of memory",
+            NoFooter => "the token has no footer, which names its key in a ring",
+            NotAnObject => "the footer of the token is not a JSON object",
+            NoKeyId => "the footer of the token names no key: it has no string under kid",
+            NotJson => "the text of the token is not valid JSON",
+            OddNumber => "a claim of the token has a number that is not a whole number of 64 bits",
+            Unfit(text) => text.as_str(),
+            Clock => "the system clock is not within the years 0 to 9999",
+            NoFile => "no such file",
+            NoAccess => "the file cannot be opened or created",
+            FileExists => "the file already exists and is not overwritten",
+            Random => "the system returned no random bytes",
+            InputOrOutput => "a read or a write failed",
+            Memory(_) => "out of memory",
         }
     }
 
-    /// The name of what the error is about: a key file, another named file or argument, or the input.
-    /// It is empty if the error is about none of these.
-    fn about<'n>(&self, names: &Names<'n>) -> &'n str
-        ensures { result.now ≡ about_of names.now self.now }
+    /// The exit status, and what the error is about.
+    fn class(&self) -> (u8, About)
+        ensures status { result.0 ≡ status_of self.now }
+        ensures about { result.1 ≡ subject_of self.now }
     {
+        use ProgramError::*;
         match self {
-            ProgramError::Key(_)
-            | ProgramError::Pem(_)
-            | ProgramError::TooLong
-            | ProgramError::OddPassword
-            | ProgramError::NoAssertion
-            | ProgramError::NoKind
-            | ProgramError::NoHalf
-            | ProgramError::NotSealed
-            | ProgramError::SecondLine
-            | ProgramError::KeyFile(_)
-            | ProgramError::NoFile
-            | ProgramError::NoAccess
-            | ProgramError::FileExists => names.key,
-            ProgramError::Refused(source) => refusal_about(source, names),
-            ProgramError::OtherFooter
-            | ProgramError::OtherKind(_, _)
-            | ProgramError::NoFooter
-            | ProgramError::NotAnObject
-            | ProgramError::NoKeyId
-            | ProgramError::NotJson
-            | ProgramError::OddNumber
-            | ProgramError::Unfit(_) => names.input,
-            _ => "",
+            Usage
+            | KeyWord
+            | NoFormat
+            | LockedPem
+            | NoKey
+            | NoPassword
+            | OneInput
+            | Claim
+            | TimeClaim
+            | Time(_) => (2, About::Nothing),
+            NoKind | NoHalf => (2, About::Key),
+            Key(PaserkError::Memory(_))
+            | Pem(PemError::Memory(_))
+            | KeyFile(KeyFileError::Random | KeyFileError::Memory(_))
+            | NoFile
+            | NoAccess
+            | FileExists => (3, About::Key),
+            Key(_)
+            | Pem(_)
+            | KeyFile(_)
+            | NotSealed
+            | SecondLine
+            | TooLong
+            | OddPassword
+            | NoAssertion => (1, About::Key),
+            Refused(source) => (1, refusal_about(source)),
+            OtherKind(_, _)
+            | OtherFooter
+            | NoFooter
+            | NotAnObject
+            | NoKeyId
+            | NotJson
+            | OddNumber
+            | Unfit(_) => (1, About::Input),
+            OddClaim => (1, About::Nothing),
+            Clock | Random | InputOrOutput | Memory(_) => (3, About::Nothing),
         }
     }
 
@@ -219,19 +251,13 @@ impl ProgramError {
         ensures { (said : List ℕ) × StartsWith (line_of names.now self.now) said × Appends
             (E.contents errors.old) (E.contents errors.new) said }
     {
-        let about = self.about(names);
+        let about = self.class().1.name(names);
+        let colon = colon_behind(about);
         match self {
             ProgramError::OtherKind(token, key) => {
-                write_kinds(errors, about, colon_behind(about), token.text(), key.text());
+                write_kinds(errors, about, colon, token.text(), key.text());
             }
-            _ => write_line(
-                errors,
-                "paseto: ",
-                about,
-                colon_behind(about),
-                self.text(),
-                "\n",
-            ),
+            _ => write_line(errors, "paseto: ", about, colon, self.text(), "\n"),
         }
     }
 
@@ -239,48 +265,7 @@ impl ProgramError {
     pub fn status(&self) -> u8
         ensures { result ≡ status_of self.now }
     {
-        match self {
-            ProgramError::Usage
-            | ProgramError::KeyWord
-            | ProgramError::NoKind
-            | ProgramError::NoHalf
-            | ProgramError::NoFormat
-            | ProgramError::LockedPem
-            | ProgramError::NoKey
-            | ProgramError::NoPassword
-            | ProgramError::OneInput
-            | ProgramError::Claim
-            | ProgramError::TimeClaim
-            | ProgramError::Time(_) => 2,
-            ProgramError::Key(PaserkError::Memory(_))
-            | ProgramError::Pem(PemError::Memory(_))
-            | ProgramError::KeyFile(KeyFileError::Random | KeyFileError::Memory(_)) => 3,
-            ProgramError::Key(_)
-            | ProgramError::Pem(_)
-            | ProgramError::KeyFile(_)
-            | ProgramError::NotSealed
-            | ProgramError::SecondLine
-            | ProgramError::TooLong
-            | ProgramError::OddPassword
-            | ProgramError::Refused(_)
-            | ProgramError::OtherKind(_, _)
-            | ProgramError::NoAssertion
-            | ProgramError::OddClaim
-            | ProgramError::OtherFooter
-            | ProgramError::NoFooter
-            | ProgramError::NotAnObject
-            | ProgramError::NoKeyId
-            | ProgramError::NotJson
-            | ProgramError::OddNumber
-            | ProgramError::Unfit(_) => 1,
-            ProgramError::NoFile
-            | ProgramError::NoAccess
-            | ProgramError::FileExists
-            | ProgramError::Clock
-            | ProgramError::Random
-            | ProgramError::InputOrOutput
-            | ProgramError::Memory(_) => 3,
-        }
+        self.class().0
     }
 
     /// Why the arguments after the program's name could not be read: an allocation failed; an argument
@@ -354,7 +339,7 @@ fn time_text(option: TimeOption) -> &'static str
 /// The message for a text or a token that was refused: the text of the error, unless that leaves
 /// open what to do.
 fn refusal_text(source: &PasetoError) -> &'static str
-    ensures { result.now ≡ refusal_text source.now }
+    ensures { result.now ≡ (refusal_of source.now).1 }
 {
     match source {
         PasetoError::Cryption | PasetoError::ChaChaCipherError | PasetoError::InvalidSignature =>
@@ -366,14 +351,14 @@ fn refusal_text(source: &PasetoError) -> &'static str
     }
 }
 
-/// The name of what was refused: the key file if the private key is invalid, and otherwise the
+/// What a refused text or token is about: the key if the private key is invalid, and otherwise the
 /// input.
-fn refusal_about<'n>(source: &PasetoError, names: &Names<'n>) -> &'n str
-    ensures { result.now ≡ refusal_about names.now source.now }
+fn refusal_about(source: &PasetoError) -> About
+    ensures { result ≡ (refusal_of source.now).0 }
 {
     match source {
-        PasetoError::Signature | PasetoError::KeyRejected => names.key,
-        _ => names.input,
+        PasetoError::Signature | PasetoError::KeyRejected => About::Key,
+        _ => About::Input,
     }
 }
 

@@ -1,15 +1,16 @@
 //! The commands `encrypt` and `decrypt`, with the key of a line.
 
-ghost use Rattle.std.specs.Prelude.{◌≡◌, ◌⊎◌, ℕ, List, IfErr, IfOk, IfSome, None, Some, is_some, string_bytes};
+ghost use Rattle.std.specs.Prelude.{◌≡◌, ◌⊎◌, IfErr, IfOk, None, Some, is_some, string_bytes};
 ghost use Rattle.rusty_paseto_parts.specs.Error.{IsMemory};
 ghost use Rattle.rusty_paseto_core.specs.Context.{binding_of};
 ghost use Rattle.rusty_paseto_core.specs.Local.Boxed.{boxed_sealing, token_nonce};
 ghost use Rattle.paseto_xchacha20poly1305.specs.Sealing.{box_sealing};
 ghost use Rattle.rusty_paseto_paserk.specs.Header.{HasHeader};
-ghost use Rattle.paseto_tasks.specs.Error.{BlamesOnly, IsFixed, IsOutside, IsPlain};
-ghost use Rattle.paseto_tasks.specs.Local.{Decrypts, DecryptsNothing, Encrypts, EncryptsNothing, IsSealedLine, Opens, OpensIn, OpensBox, Seals, SealsBox, SealsIn};
+ghost use Rattle.paseto_tasks.specs.Error.{IsOutside, IsPlain, IsPlainBut};
+ghost use Rattle.paseto_tasks.specs.Local.{Decrypts, Encrypts, IsSealedLine, Opens, OpensIn, OpensBox, Seals, SealsBox, SealsIn};
 ghost use Rattle.paseto_tasks.specs.Input.{line_of_input};
 ghost use Rattle.paseto_tasks.specs.KeyLine.{TakesBytes};
+ghost use Rattle.paseto_tasks.specs.Output.{Makes};
 
 use crate::arguments::Options;
 use crate::error::{ProgramError, answered};
@@ -36,14 +37,9 @@ pub fn encrypt<R: Read, G: TryRng>(
     generator: &mut G,
     input: &mut R,
 ) -> Result<String, ProgramError>
-    ensures printed { IfOk result (λ line. IfSome (R.remaining input.old) (λ text.
-        Encrypts key.now options.now (λ nonce. G.may_fill generator.old nonce generator.new) text
-        (string_bytes line))) }
-    ensures refused { IfErr result (λ error. IfSome (R.remaining input.old) (λ text.
-        IsOutside error ⊎ EncryptsNothing key.now options.now
-        (λ nonce. G.may_fill generator.old nonce generator.new) text)) }
-    ensures fixed { IfErr result IsFixed }
-    ensures blames { IfErr result (BlamesOnly (TakesBytes key.now × G.Error) ⊥ ⊥ ⊥) }
+    ensures { Makes (R.remaining input.old)
+        (Encrypts key.now options.now (λ nonce. G.may_fill generator.old nonce generator.new))
+        (IsPlainBut (TakesBytes key.now × G.Error)) result }
 {
     let version = version_of(key, PaserkType::Local)?;
     takes(version, options.assertion)?;
@@ -58,14 +54,9 @@ fn sealed_in<R: Read, G: TryRng>(
     generator: &mut G,
     input: &mut R,
 ) -> Result<String, ProgramError>
-    ensures printed { IfOk result (λ line. IfSome (R.remaining input.old) (λ text.
-        SealsIn version key.now options.now
-        (λ nonce. G.may_fill generator.old nonce generator.new) text (string_bytes line))) }
-    ensures refused { IfErr result (λ error. IfSome (R.remaining input.old) (λ text.
-        IsOutside error ⊎ ((line : List ℕ) → ¬ SealsIn version key.now options.now
-        (λ nonce. G.may_fill generator.old nonce generator.new) text line))) }
-    ensures fixed { IfErr result IsFixed }
-    ensures blames { IfErr result (BlamesOnly G.Error ⊥ ⊥ ⊥) }
+    ensures { Makes (R.remaining input.old)
+        (SealsIn version key.now options.now (λ nonce. G.may_fill generator.old nonce generator.new))
+        (IsPlainBut G.Error) result }
 {
     match version {
         PaserkVersion::V1 => sealed::<V1, R, G>(alloc, key, options, generator, input),
@@ -82,15 +73,9 @@ fn sealed<V: LocalVersion + KeyVersion, R: Read, G: TryRng>(
     generator: &mut G,
     input: &mut R,
 ) -> Result<String, ProgramError>
-    ensures printed { IfOk result (λ line. IfSome (R.remaining input.old) (λ text.
-        Seals V.paserk V.design key.now options.now
-        (λ nonce. G.may_fill generator.old nonce generator.new) text (string_bytes line))) }
-    ensures refused { IfErr result (λ error. IfSome (R.remaining input.old)
-        (λ text. IsOutside error ⊎ ((line : List ℕ)
-        → ¬ Seals V.paserk V.design key.now options.now
-        (λ nonce. G.may_fill generator.old nonce generator.new) text line))) }
-    ensures fixed { IfErr result IsFixed }
-    ensures blames { IfErr result (BlamesOnly G.Error ⊥ ⊥ ⊥) }
+    ensures { Makes (R.remaining input.old)
+        (Seals V.paserk V.design key.now options.now
+        (λ nonce. G.may_fill generator.old nonce generator.new)) (IsPlainBut G.Error) result }
 {
     let key = local_from_paserk::<V>(alloc, key)?;
     let text = read_text(alloc, input)?;
@@ -130,14 +115,9 @@ fn boxed<R: Read, G: TryRng>(
     generator: &mut G,
     input: &mut R,
 ) -> Result<String, ProgramError>
-    ensures printed { IfOk result (λ line. IfSome (R.remaining input.old) (λ text.
-        SealsBox key.now options.now
-        (λ nonce. G.may_fill generator.old nonce generator.new) text (string_bytes line))) }
-    ensures refused { IfErr result (λ error. IfSome (R.remaining input.old)
-        (λ text. IsOutside error ⊎ ((line : List ℕ) → ¬ SealsBox key.now options.now
-        (λ nonce. G.may_fill generator.old nonce generator.new) text line))) }
-    ensures fixed { IfErr result IsFixed }
-    ensures blames { IfErr result (BlamesOnly G.Error ⊥ ⊥ ⊥) }
+    ensures { Makes (R.remaining input.old)
+        (SealsBox key.now options.now (λ nonce. G.may_fill generator.old nonce generator.new))
+        (IsPlainBut G.Error) result }
 {
     let key = local_from_paserk::<V2>(alloc, key)?;
     let text = read_text(alloc, input)?;
@@ -177,11 +157,7 @@ pub fn decrypt<R: Read>(
     options: &Options<'_>,
     input: &mut R,
 ) -> Result<String, ProgramError>
-    ensures printed { IfOk result (λ text. IfSome (R.remaining input.old) (λ bytes.
-        Decrypts key.now options.now bytes (string_bytes text))) }
-    ensures refused { IfErr result (λ error. IfSome (R.remaining input.old) (λ bytes.
-        IsOutside error ⊎ DecryptsNothing key.now options.now bytes)) }
-    ensures plain { IfErr result IsPlain }
+    ensures { Makes (R.remaining input.old) (Decrypts key.now options.now) IsPlain result }
 {
     let version = version_of(key, PaserkType::Local)?;
     takes(version, options.assertion)?;
@@ -195,12 +171,8 @@ fn opened_in<R: Read>(
     options: &Options<'_>,
     input: &mut R,
 ) -> Result<String, ProgramError>
-    ensures printed { IfOk result (λ text. IfSome (R.remaining input.old) (λ bytes.
-        OpensIn version key.now options.now (line_of_input bytes) (string_bytes text))) }
-    ensures refused { IfErr result (λ error. IfSome (R.remaining input.old)
-        (λ bytes. IsOutside error ⊎ ((text : List ℕ)
-        → ¬ OpensIn version key.now options.now (line_of_input bytes) text))) }
-    ensures plain { IfErr result IsPlain }
+    ensures { Makes (R.remaining input.old)
+        (λ bytes. OpensIn version key.now options.now (line_of_input bytes)) IsPlain result }
 {
     match version {
         PaserkVersion::V1 => opened::<V1, R>(alloc, TokenKind::V1Local, key, options, input),
@@ -217,12 +189,8 @@ fn opened<V: LocalVersion + KeyVersion, R: Read>(
     options: &Options<'_>,
     input: &mut R,
 ) -> Result<String, ProgramError>
-    ensures printed { IfOk result (λ text. IfSome (R.remaining input.old) (λ bytes.
-        Opens V.paserk V.design key.now options.now (line_of_input bytes) (string_bytes text))) }
-    ensures refused { IfErr result (λ error. IfSome (R.remaining input.old)
-        (λ bytes. IsOutside error ⊎ ((text : List ℕ)
-        → ¬ Opens V.paserk V.design key.now options.now (line_of_input bytes) text))) }
-    ensures plain { IfErr result IsPlain }
+    ensures { Makes (R.remaining input.old)
+        (λ bytes. Opens V.paserk V.design key.now options.now (line_of_input bytes)) IsPlain result }
 {
     let key = local_from_paserk::<V>(alloc, key)?;
     let token = read_line(alloc, input)?;
@@ -239,12 +207,8 @@ fn unboxed<R: Read>(
     options: &Options<'_>,
     input: &mut R,
 ) -> Result<String, ProgramError>
-    ensures printed { IfOk result (λ text. IfSome (R.remaining input.old) (λ bytes.
-        OpensBox key.now options.now (line_of_input bytes) (string_bytes text))) }
-    ensures refused { IfErr result (λ error. IfSome (R.remaining input.old)
-        (λ bytes. IsOutside error ⊎ ((text : List ℕ)
-        → ¬ OpensBox key.now options.now (line_of_input bytes) text))) }
-    ensures plain { IfErr result IsPlain }
+    ensures { Makes (R.remaining input.old)
+        (λ bytes. OpensBox key.now options.now (line_of_input bytes)) IsPlain result }
 {
     let key = local_from_paserk::<V2>(alloc, key)?;
     let token = read_line(alloc, input)?;

@@ -4,10 +4,11 @@ ghost use Rattle.std.specs.Prelude.{◌≡◌, ◌⊎◌, ℕ, List, IfErr, IfOk
 ghost use Rattle.rusty_paseto_parts.specs.declared.error.PasetoError.{PasetoError};
 ghost use Rattle.rusty_paseto_parts.specs.declared.error.PasetoError.TheVariants.{Cipher};
 ghost use Rattle.rusty_paseto_core.specs.Public.{HasPrivateLength};
-ghost use Rattle.paseto_tasks.specs.Error.{BlamesOnly, IsFixed, IsOutside, IsPlain};
-ghost use Rattle.paseto_tasks.specs.Public.{DeclinesIn, DeclinesKey, DeclinesText, IsSigned, IsVerified, MayDecline, MayRefuse, SignsBy, SignsIn, SignsNothing, SignsText, VerifiesBy, VerifiesIn, VerifiesNothing, VerifiesText};
+ghost use Rattle.paseto_tasks.specs.Error.{BlamesOnly, IsFixed, IsOutside, IsPlain, IsPlainBut};
+ghost use Rattle.paseto_tasks.specs.Public.{DeclinesIn, DeclinesKey, DeclinesText, IsSigned, IsVerified, MayDecline, MayRefuse, SignsBy, SignsIn, SignsNothing, SignsText, VerifiesBy, VerifiesIn, VerifiesText};
 ghost use Rattle.paseto_tasks.specs.Input.{line_of_input};
 ghost use Rattle.paseto_tasks.specs.KeyLine.{TakesBytes};
+ghost use Rattle.paseto_tasks.specs.Output.{Makes};
 ghost use Rattle.rusty_paseto_paserk.specs.declared.header.PaserkVersion.TheVariants.{V1 as K1};
 
 use crate::arguments::Options;
@@ -131,11 +132,7 @@ pub fn verify<R: Read>(
     options: &Options<'_>,
     input: &mut R,
 ) -> Result<String, ProgramError>
-    ensures printed { IfOk result (λ text. IfSome (R.remaining input.old) (λ bytes.
-        VerifiesBy key.now options.now bytes (string_bytes text))) }
-    ensures refused { IfErr result (λ error. IfSome (R.remaining input.old) (λ bytes.
-        IsOutside error ⊎ VerifiesNothing key.now options.now bytes)) }
-    ensures plain { IfErr result IsPlain }
+    ensures { Makes (R.remaining input.old) (VerifiesBy key.now options.now) IsPlain result }
 {
     let version = version_of(key, PaserkType::Public)?;
     takes(version, options.assertion)?;
@@ -149,12 +146,8 @@ fn verify_in<R: Read>(
     options: &Options<'_>,
     input: &mut R,
 ) -> Result<String, ProgramError>
-    ensures printed { IfOk result (λ text. IfSome (R.remaining input.old) (λ bytes.
-        VerifiesIn version key.now options.now (line_of_input bytes) (string_bytes text))) }
-    ensures refused { IfErr result (λ error. IfSome (R.remaining input.old)
-        (λ bytes. IsOutside error ⊎ ((text : List ℕ)
-        → ¬ VerifiesIn version key.now options.now (line_of_input bytes) text))) }
-    ensures plain { IfErr result IsPlain }
+    ensures { Makes (R.remaining input.old)
+        (λ bytes. VerifiesIn version key.now options.now (line_of_input bytes)) IsPlain result }
 {
     match version {
         PaserkVersion::V1 => verify_by::<V1, SaltedRsa, R>(
@@ -200,15 +193,9 @@ fn verify_by<V: PairLines + Verifies<S>, S, R: Read>(
     options: &Options<'_>,
     input: &mut R,
 ) -> Result<String, ProgramError>
-    ensures printed { IfOk result (λ text. IfSome (R.remaining input.old) (λ bytes.
-        VerifiesText V.paserk V.valid V.refused V.public_design key.now options.now
-        (line_of_input bytes) (string_bytes text))) }
-    ensures refused { IfErr result (λ error. IfSome (R.remaining input.old)
-        (λ bytes. IsOutside error
-        ⊎ ((text : List ℕ) → ¬ VerifiesText V.paserk V.valid V.refused V.public_design key.now
-        options.now (line_of_input bytes) text))) }
-    ensures fixed { IfErr result IsFixed }
-    ensures blames { IfErr result (BlamesOnly (MayRefuse V.refused Cipher) ⊥ ⊥ ⊥) }
+    ensures { Makes (R.remaining input.old)
+        (λ bytes. VerifiesText V.paserk V.valid V.refused V.public_design key.now options.now
+        (line_of_input bytes)) (IsPlainBut (MayRefuse V.refused Cipher)) result }
 {
     let key = V::public_key(alloc, key)?;
     let token = read_line(alloc, input)?;

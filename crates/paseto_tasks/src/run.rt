@@ -1,16 +1,14 @@
 //! The program, over any key file, generator, input and outputs.
 
-ghost use Rattle.std.specs.Prelude.{◌≡◌, ◌≢◌, ◌≤◌, ◌==◌, ◌⊎◌, ℕ, List, IfOk, IfErr, IfSome, IsErrAnd, IsOkAnd, OnErr, OnOk, is_ok, string_bytes};
-ghost use Rattle.std.specs.Io.{StartsWith};
+ghost use Rattle.std.specs.Prelude.{◌≡◌, ◌≢◌, ◌⊎◌, ℕ, List, IfOk, IfErr, IfSome, IsErrAnd, OnErr, OnOk, string_bytes};
 ghost use Rattle.std.specs.Io.KnownBytes.{Appends};
 ghost use Rattle.paseto_tasks.specs.Half.{HasHalf, HasNoHalf};
 ghost use Rattle.paseto_tasks.specs.Id.{Identifies, IdentifiesNothing};
-ghost use Rattle.paseto_tasks.specs.declared.error.ProgramError.{ProgramError};
-ghost use Rattle.paseto_tasks.specs.Error.{IsCauseOf, IsFixed, IsOutside, IsPlain, line_of, status_of};
+ghost use Rattle.paseto_tasks.specs.Error.{IsCauseOf, IsOutside, IsPlain, status_of};
 ghost use Rattle.paseto_tasks.specs.Input.{line_of_input};
 ghost use Rattle.paseto_tasks.specs.Inspect.{Inspects, InspectsNothing};
-ghost use Rattle.paseto_tasks.specs.Output.{IsLeftOf};
-ghost use Rattle.paseto_tasks.specs.Run.{BlamesIn, IsRefused, Prints, Writes};
+ghost use Rattle.paseto_tasks.specs.Output.{IsLeftOf, IsTextOf};
+ghost use Rattle.paseto_tasks.specs.Run.{IsPlainIn, IsRefused, IsRefusedOf, Leaves, PrintsOf, Tells};
 
 use crate::arguments::{Options, Task};
 use crate::error::{Names, ProgramError};
@@ -44,56 +42,17 @@ pub fn run<K: Read, G: TryRng, R: Read, W: Write, E: Write>(
     output: &mut W,
     errors: &mut E,
 ) -> u8
-    ensures status { result ≤ 3 }
     ensures no_usage { result ≢ 2 }
-    ensures written { (written : List ℕ)
-        × Appends (W.contents output.old) (W.contents output.new) written
-        × IfSome (K.remaining key_file.old) (λ file. IfSome (R.remaining input.old) (λ bytes.
-        Writes task options.now (λ drawn. G.may_fill generator.old drawn generator.new) file bytes
-        (result == 0) written)) }
-    ensures untouched { result ≡ 1 → output.new ≡ output.old }
-    ensures refused { result ≡ 1 → IfSome (K.remaining key_file.old) (λ file. IfSome (R.remaining input.old) (λ bytes.
-        IsRefused task options.now (λ drawn. G.may_fill generator.old drawn generator.new) file
-        bytes)) }
-    ensures quiet { result ≡ 0 → errors.new ≡ errors.old }
-    ensures said { result ≢ 0 → (error : ProgramError) × (status_of error ≡ result) × IsFixed error
-        × BlamesIn task G.Error (K.remaining key_file.old) error × ((said : List ℕ) × StartsWith (line_of names.now error) said × Appends (E.contents errors.old)
-        (E.contents errors.new) said) }
+    ensures output { Leaves W.contents
+        (PrintsOf task options.now (λ drawn. G.may_fill generator.old drawn generator.new)
+        (K.remaining key_file.old) (R.remaining input.old))
+        (IsRefusedOf task options.now (λ drawn. G.may_fill generator.old drawn generator.new)
+        (K.remaining key_file.old) (R.remaining input.old)) result output.old output.new }
+    ensures errors { Tells E.contents names.now
+        (IsPlainIn task G.Error (K.remaining key_file.old)) result errors.old errors.new }
 {
-    match print(alloc, task, options, key_file, generator, input, output) {
-        Ok(()) => 0,
-        Err(error) => {
-            error.say(names, errors);
-            error.status()
-        }
-    }
-}
-
-/// Writes the output, which is complete before its first byte is written.
-fn print<K: Read, G: TryRng, R: Read, W: Write>(
-    alloc: Global,
-    task: Task,
-    options: &Options<'_>,
-    key_file: &mut K,
-    generator: &mut G,
-    input: &mut R,
-    output: &mut W,
-) -> Result<(), ProgramError>
-    ensures written { (written : List ℕ)
-        × Appends (W.contents output.old) (W.contents output.new) written
-        × IfSome (K.remaining key_file.old) (λ file. IfSome (R.remaining input.old) (λ bytes.
-        Writes task options.now (λ drawn. G.may_fill generator.old drawn generator.new) file bytes
-        (is_ok result) written)) }
-    ensures fixed { IfErr result IsFixed }
-    ensures blames { IfErr result (BlamesIn task G.Error (K.remaining key_file.old)) }
-    ensures untouched { IfErr result (λ error. (status_of error ≡ 3) ⊎ (output.new ≡ output.old)) }
-    ensures refused { IfErr result (λ error. IfSome (K.remaining key_file.old)
-        (λ file. IfSome (R.remaining input.old) (λ bytes.
-        IsOutside error ⊎ IsRefused task options.now
-        (λ drawn. G.may_fill generator.old drawn generator.new) file bytes))) }
-{
-    let made = make(alloc, task, options, key_file, generator, input)?;
-    write_whole(output, made.as_str().as_bytes())
+    let made = make(alloc, task, options, key_file, generator, input);
+    finish(made, names, output, errors)
 }
 
 /// Prints what a token says about itself, and returns the status, as `run` does.
@@ -104,52 +63,26 @@ pub fn run_inspect<R: Read, W: Write, E: Write>(
     output: &mut W,
     errors: &mut E,
 ) -> u8
-    ensures status { result ≤ 3 }
     ensures no_usage { result ≢ 2 }
-    ensures written { result ≡ 0 → (written : List ℕ)
-        × Appends (W.contents output.old) (W.contents output.new) written
-        × IfSome (R.remaining input.old) (λ bytes. Inspects (line_of_input bytes) written) }
-    ensures cut { result ≢ 0 → (written : List ℕ)
-        × Appends (W.contents output.old) (W.contents output.new) written
-        × IfSome (R.remaining input.old) (λ bytes.
-        IsLeftOf (λ lines. Inspects (line_of_input bytes) lines) written) }
-    ensures refused { result ≡ 1 → (output.new ≡ output.old)
-        × IfSome (R.remaining input.old) (λ bytes. InspectsNothing (line_of_input bytes)) }
-    ensures quiet { result ≡ 0 → errors.new ≡ errors.old }
-    ensures said { result ≢ 0 → (error : ProgramError) × (status_of error ≡ result) × IsPlain error
-        × ((said : List ℕ) × StartsWith (line_of names.now error) said × Appends (E.contents errors.old)
-        (E.contents errors.new) said) }
+    ensures output { Leaves W.contents
+        (λ lines. IfSome (R.remaining input.old) (λ bytes. Inspects (line_of_input bytes) lines))
+        (IfSome (R.remaining input.old) (λ bytes. InspectsNothing (line_of_input bytes)))
+        result output.old output.new }
+    ensures errors { Tells E.contents names.now IsPlain result errors.old errors.new }
 {
-    match print_inspection(alloc, input, output) {
-        Ok(()) => 0,
-        Err(error) => {
-            error.say(names, errors);
-            error.status()
-        }
-    }
+    finish(inspected(alloc, input), names, output, errors)
 }
 
-/// Writes what a token says about itself.
-fn print_inspection<R: Read, W: Write>(
-    alloc: Global,
-    input: &mut R,
-    output: &mut W,
-) -> Result<(), ProgramError>
-    ensures written { OnOk result ((written : List ℕ)
-        × Appends (W.contents output.old) (W.contents output.new) written
-        × IfSome (R.remaining input.old) (λ bytes. Inspects (line_of_input bytes) written)) }
-    ensures cut { OnErr result ((written : List ℕ)
-        × Appends (W.contents output.old) (W.contents output.new) written
-        × IfSome (R.remaining input.old) (λ bytes.
-        IsLeftOf (λ lines. Inspects (line_of_input bytes) lines) written)) }
-    ensures refused { IfErr result (λ error. (status_of error ≡ 3) ⊎ (output.new ≡ output.old)) }
-    ensures nothing { IfErr result (λ error. IfSome (R.remaining input.old)
+/// What the token in the input says about itself.
+fn inspected<R: Read>(alloc: Global, input: &mut R) -> Result<String, ProgramError>
+    ensures printed { IfOk result (λ lines. IfSome (R.remaining input.old)
+        (λ bytes. Inspects (line_of_input bytes) (string_bytes lines))) }
+    ensures refused { IfErr result (λ error. IfSome (R.remaining input.old)
         (λ bytes. IsOutside error ⊎ InspectsNothing (line_of_input bytes))) }
     ensures plain { IfErr result IsPlain }
 {
     let token = read_line(alloc, input)?;
-    let made = inspect(alloc, token.as_str())?;
-    write_whole(output, made.as_str().as_bytes())
+    inspect(alloc, token.as_str())
 }
 
 /// The output of a task.
@@ -161,16 +94,14 @@ fn make<K: Read, G: TryRng, R: Read>(
     generator: &mut G,
     input: &mut R,
 ) -> Result<String, ProgramError>
-    ensures printed { IfOk result (λ made. IfSome (K.remaining key_file.old)
-        (λ file. IfSome (R.remaining input.old) (λ bytes.
-        Prints task options.now (λ drawn. G.may_fill generator.old drawn generator.new) file bytes
-        (string_bytes made)))) }
-    ensures fixed { IfErr result IsFixed }
-    ensures blames { IfErr result (BlamesIn task G.Error (K.remaining key_file.old)) }
+    ensures printed { IfOk result (λ made. PrintsOf task options.now
+        (λ drawn. G.may_fill generator.old drawn generator.new)
+        (K.remaining key_file.old) (R.remaining input.old) (string_bytes made)) }
     ensures refused { IfErr result (λ error. IfSome (K.remaining key_file.old)
         (λ file. IfSome (R.remaining input.old) (λ bytes.
         IsOutside error ⊎ IsRefused task options.now
         (λ drawn. G.may_fill generator.old drawn generator.new) file bytes))) }
+    ensures so { IfErr result (IsPlainIn task G.Error (K.remaining key_file.old)) }
 {
     let key = read_key_line(alloc, key_file)?;
     let key = key.as_str();
@@ -190,19 +121,10 @@ pub fn run_id<W: Write, E: Write>(
     output: &mut W,
     errors: &mut E,
 ) -> u8
-    ensures status { result ≤ 3 }
     ensures no_usage { result ≢ 2 }
-    ensures written { result ≡ 0 → (written : List ℕ)
-        × Appends (W.contents output.old) (W.contents output.new) written
-        × Identifies key.now written }
-    ensures cut { result ≢ 0 → (written : List ℕ)
-        × Appends (W.contents output.old) (W.contents output.new) written
-        × IsLeftOf (Identifies key.now) written }
-    ensures refused { result ≡ 1 → (output.new ≡ output.old) × IdentifiesNothing key.now }
-    ensures quiet { result ≡ 0 → errors.new ≡ errors.old }
-    ensures said { result ≢ 0 → (error : ProgramError) × (status_of error ≡ result) × IsPlain error
-        × ((said : List ℕ) × StartsWith (line_of names.now error) said × Appends (E.contents errors.old)
-        (E.contents errors.new) said) }
+    ensures output { Leaves W.contents (Identifies key.now) (IdentifiesNothing key.now) result
+        output.old output.new }
+    ensures errors { Tells E.contents names.now IsPlain result errors.old errors.new }
 {
     finish(id(alloc, key), names, output, errors)
 }
@@ -215,19 +137,10 @@ pub fn run_public<W: Write, E: Write>(
     output: &mut W,
     errors: &mut E,
 ) -> u8
-    ensures status { result ≤ 3 }
     ensures no_usage { result ≢ 2 }
-    ensures written { result ≡ 0 → (written : List ℕ)
-        × Appends (W.contents output.old) (W.contents output.new) written
-        × HasHalf key.now written }
-    ensures cut { result ≢ 0 → (written : List ℕ)
-        × Appends (W.contents output.old) (W.contents output.new) written
-        × IsLeftOf (HasHalf key.now) written }
-    ensures refused { result ≡ 1 → (output.new ≡ output.old) × HasNoHalf key.now }
-    ensures quiet { result ≡ 0 → errors.new ≡ errors.old }
-    ensures said { result ≢ 0 → (error : ProgramError) × (status_of error ≡ result) × IsPlain error
-        × ((said : List ℕ) × StartsWith (line_of names.now error) said × Appends (E.contents errors.old)
-        (E.contents errors.new) said) }
+    ensures output { Leaves W.contents (HasHalf key.now) (HasNoHalf key.now) result
+        output.old output.new }
+    ensures errors { Tells E.contents names.now IsPlain result errors.old errors.new }
 {
     finish(public(alloc, key), names, output, errors)
 }
@@ -239,18 +152,9 @@ pub fn finish<W: Write, E: Write>(
     output: &mut W,
     errors: &mut E,
 ) -> u8
-    ensures status { result ≤ 3 }
-    ensures written { result ≡ 0 → IsOkAnd made
-        (λ text. Appends (W.contents output.old) (W.contents output.new) (string_bytes text)) }
-    ensures cut { result ≢ 0 → (left : List ℕ)
-        × Appends (W.contents output.old) (W.contents output.new) left
-        × IsLeftOf (λ line. IsOkAnd made (λ text. string_bytes text ≡ line)) left }
-    ensures refused { (result ≡ 1) ⊎ (result ≡ 2) → (output.new ≡ output.old)
-        × IsErrAnd made (λ error. status_of error ≡ result) }
-    ensures quiet { result ≡ 0 → errors.new ≡ errors.old }
-    ensures said { result ≢ 0 → (error : ProgramError) × (status_of error ≡ result) × IsCauseOf made error
-        × ((said : List ℕ) × StartsWith (line_of names.now error) said × Appends (E.contents errors.old)
-        (E.contents errors.new) said) }
+    ensures output { Leaves W.contents (IsTextOf made)
+        (IsErrAnd made (λ error. status_of error ≡ result)) result output.old output.new }
+    ensures errors { Tells E.contents names.now (IsCauseOf made) result errors.old errors.new }
 {
     match written(made, output) {
         Ok(()) => 0,
@@ -263,11 +167,11 @@ pub fn finish<W: Write, E: Write>(
 
 /// Writes the result.
 fn written<W: Write>(made: Result<String, ProgramError>, output: &mut W) -> Result<(), ProgramError>
-    ensures written { OnOk result (IsOkAnd made
-        (λ text. Appends (W.contents output.old) (W.contents output.new) (string_bytes text))) }
+    ensures whole { OnOk result ((whole : List ℕ)
+        × Appends (W.contents output.old) (W.contents output.new) whole × IsTextOf made whole) }
     ensures cut { OnErr result ((left : List ℕ)
         × Appends (W.contents output.old) (W.contents output.new) left
-        × IsLeftOf (λ line. IsOkAnd made (λ text. string_bytes text ≡ line)) left) }
+        × IsLeftOf (IsTextOf made) left) }
     ensures refused { IfErr result (λ error. (status_of error ≡ 3)
         ⊎ ((output.new ≡ output.old) × IsErrAnd made (λ cause. cause ≡ error))) }
     ensures cause { IfErr result (λ error. IsCauseOf made error) }

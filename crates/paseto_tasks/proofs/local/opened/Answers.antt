@@ -2,57 +2,44 @@ use Rattle.std.proofs.Common.{IsUtf8, string_bytes}
 use Rattle.std.proofs.lemmas.Result.{err_from_is_err_and}
 use Rattle.paseto_tasks.specs.Input.{line_of_input}
 use Rattle.paseto_tasks.specs.Local.{Opens}
-use Rattle.paseto_tasks.proofs.Refusals.{bound_is, line_not_read, line_read, no_input, no_key}
+use Rattle.paseto_tasks.proofs.Refusals.{bound_is, line_not_read, line_read, makes_keyless, makes_unread}
 use Rattle.paseto_tasks.proofs.Blames.{plain_of, token_blames}
 use Rattle.paseto_tasks.proofs.local.opened.Goals as goal
 
-pub returns-clause-printed : goal.returns-clause-printed
-returns-clause-printed g c =
-    let design = g.V.LocalSuite.design in
+pub returns : goal.returns
+returns g c =
     let options = c.args.options.now in
     let key = c.in_ok-key.ensures in
-    let bound = bound_is design.binds_assertion options.assertion _ c.bound_assertion-assertion.ensures.bound c.bound_assertion-assertion.ensures.none in
-    line_read _ c.as_str-text.result.now c.args.kind c.open-answer.result c.open-answer.ensures (g.R.Read.remaining c.args.input.now) (string_bytes c.in_ok-token.token)
-    (λ token text. Opens g.V.KeyVersion.paserk design c.args.key.now options token text) c.in_ok-token.ensures.line c.as_str-text.ensures.value
-    c.answered.result c.answered.ensures.read (λ text is. record {
-      key_bytes = c.in_ok-key.key;
-      is_key = record { size = key.form; bytes = key.bytes; is_writing = key.written };
-      utf8 = c.as_str-text.utf8;
-      is_read = rw bound is;
-    })
-
-pub returns-clause-refused : goal.returns-clause-refused
-returns-clause-refused g c =
+    let token = c.as_str-text.result.now in
+    let known = g.R.Read.remaining c.args.input.now in
+    let line = string_bytes c.in_ok-token.token in
     let design = g.V.LocalSuite.design in
-    let options = c.args.options.now in
     let bound = bound_is design.binds_assertion options.assertion _ c.bound_assertion-assertion.ensures.bound c.bound_assertion-assertion.ensures.none in
-    line_not_read _ c.as_str-text.result.now c.args.kind c.open-answer.result c.open-answer.ensures (g.R.Read.remaining c.args.input.now) (string_bytes c.in_ok-token.token)
-    (λ token text. Opens g.V.KeyVersion.paserk design c.args.key.now options token text) c.in_ok-token.ensures.line c.as_str-text.ensures.value
-    c.answered.result c.answered.ensures.refused
-    (λ text o. rw (c.in_ok-key.ensures.read o.key_bytes o.is_key.bytes o.is_key.size o.is_key.is_writing) (rw bound at o.is_read))
+    record {
+      printed = line_read _ token c.args.kind c.open-answer.result c.open-answer.ensures known line (λ token text. Opens g.V.KeyVersion.paserk design c.args.key.now options token text)
+          c.in_ok-token.ensures.line c.as_str-text.ensures.value c.answered.result c.answered.ensures.read (λ text is. record {
+            key_bytes = c.in_ok-key.key;
+            is_key = record { size = key.form; bytes = key.bytes; is_writing = key.written };
+            utf8 = c.as_str-text.utf8;
+            is_read = rw bound is;
+          });
+      refused = line_not_read _ token c.args.kind c.open-answer.result c.open-answer.ensures known line (λ token text. Opens g.V.KeyVersion.paserk design c.args.key.now options token text)
+          c.in_ok-token.ensures.line c.as_str-text.ensures.value c.answered.result c.answered.ensures.refused
+          (λ text o. rw (key.read o.key_bytes o.is_key.bytes o.is_key.size o.is_key.is_writing) (rw bound at o.is_read));
+      so = plain_of c.answered.result c.answered.ensures.fixed
+          (token_blames _ token c.args.kind c.open-answer.result c.open-answer.ensures ⊥ (λ payload is. is) c.answered.result c.answered.ensures.refused);
+    }
 
-pub returns-in_err-key-clause-printed : goal.returns-in_err-key-clause-printed
-returns-in_err-key-clause-printed g c =
+pub returns-in_err-key : goal.returns-in_err-key
+returns-in_err-key g c =
     let p = err_from_is_err_and c.from_residual.result c.from_residual.ensures.1 in
-    rw p.1 tt
-
-pub returns-in_err-key-clause-refused : goal.returns-in_err-key-clause-refused
-returns-in_err-key-clause-refused g c =
-    let p = err_from_is_err_and c.from_residual.result c.from_residual.ensures.1 in
-    rw (p.1, p.2) (no_key (g.R.Read.remaining c.args.input.now) c.in_err-key.field-0.0 (λ bytes text. Opens g.V.KeyVersion.paserk g.V.LocalSuite.design c.args.key.now c.args.options.now (line_of_input bytes) text)
+    rw (p.1, p.2) (makes_keyless ⊥ (g.R.Read.remaining c.args.input.now) c.in_err-key.field-0.0
+    (λ bytes text. Opens g.V.KeyVersion.paserk g.V.LocalSuite.design c.args.key.now c.args.options.now (line_of_input bytes) text)
     (λ bytes text o. c.in_err-key.ensures.read o.key_bytes o.is_key.bytes o.is_key.size o.is_key.is_writing))
 
-pub returns-in_err-token-clause-printed : goal.returns-in_err-token-clause-printed
-returns-in_err-token-clause-printed g c =
+pub returns-in_err-token : goal.returns-in_err-token
+returns-in_err-token g c =
     let p = err_from_is_err_and c.from_residual-in_err-token.result c.from_residual-in_err-token.ensures.1 in
-    rw p.1 tt
-
-pub returns-in_err-token-clause-refused : goal.returns-in_err-token-clause-refused
-returns-in_err-token-clause-refused g c =
-    let p = err_from_is_err_and c.from_residual-in_err-token.result c.from_residual-in_err-token.ensures.1 in
-    rw (p.1, p.2) (no_input (g.R.Read.remaining c.args.input.now) c.in_err-token.field-0.0 (λ bytes. IsUtf8 (line_of_input bytes)) (λ bytes text. Opens g.V.KeyVersion.paserk g.V.LocalSuite.design c.args.key.now c.args.options.now (line_of_input bytes) text)
-    (λ bytes text o. o.utf8) c.in_err-token.ensures.refused)
-
-pub returns-clause-plain : goal.returns-clause-plain
-returns-clause-plain g c = plain_of c.answered.result c.answered.ensures.fixed
-    (token_blames _ c.as_str-text.result.now c.args.kind c.open-answer.result c.open-answer.ensures ⊥ (λ payload is. is) c.answered.result c.answered.ensures.refused)
+    rw (p.1, p.2) (makes_unread (g.R.Read.remaining c.args.input.now) c.in_err-token.field-0.0 (λ bytes. IsUtf8 (line_of_input bytes))
+    (λ bytes text. Opens g.V.KeyVersion.paserk g.V.LocalSuite.design c.args.key.now c.args.options.now (line_of_input bytes) text) (λ bytes text o. o.utf8)
+    c.in_err-token.ensures.refused c.in_err-token.ensures.plain)

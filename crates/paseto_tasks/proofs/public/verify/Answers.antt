@@ -1,36 +1,32 @@
 use Rattle.std.proofs.lemmas.Result.{err_from_is_err_and}
+use Rattle.std.proofs.Common.{sym, subst}
 use Rattle.rusty_paseto_paserk.specs.declared.header.PaserkType.TheVariants.{Public}
 use Rattle.paseto_tasks.specs.Input.{line_of_input}
+use Rattle.paseto_tasks.specs.Error.{IsPlain}
 use Rattle.paseto_tasks.specs.Public.{VerifiesIn}
-use Rattle.paseto_tasks.proofs.Versions.{made_by, nothing_begun, nothing_by, nothing_taken, verifies_begins}
+use Rattle.paseto_tasks.proofs.Versions.{makes_by, makes_unbegun, makes_untaken, verifies_begins}
 use Rattle.paseto_tasks.proofs.public.verify.Goals as goal
 
-pub returns-clause-printed : goal.returns-clause-printed
-returns-clause-printed g c =
-    made_by Public c.args.key.now c.args.options.now.assertion
+pub returns : goal.returns
+returns g c =
+    makes_by Public c.args.key.now c.args.options.now.assertion
     (λ v bytes text. VerifiesIn v c.args.key.now c.args.options.now (line_of_input bytes) text)
     (λ v bytes text is. verifies_begins c.args.options.now c.args.key.now v (line_of_input bytes) text is)
-    c.verify_in.result _ c.in_ok-version.version c.in_ok-takes.ensures.taken c.verify_in.ensures.printed
+    c.verify_in.result _ c.in_ok-version.version c.in_ok-version.ensures.begins c.in_ok-takes.ensures.taken c.verify_in.ensures.so c.verify_in.ensures
 
-pub returns-clause-refused : goal.returns-clause-refused
-returns-clause-refused g c =
-    nothing_by Public c.args.key.now c.args.options.now.assertion
-    (λ v bytes text. VerifiesIn v c.args.key.now c.args.options.now (line_of_input bytes) text)
-    (λ v bytes text is. verifies_begins c.args.options.now c.args.key.now v (line_of_input bytes) text is)
-    c.verify_in.result _ c.in_ok-version.version c.in_ok-version.ensures.begins c.verify_in.ensures.refused
-
-pub returns-in_err-version-clause-refused : goal.returns-in_err-version-clause-refused
-returns-in_err-version-clause-refused g c =
+pub returns-in_err-version : goal.returns-in_err-version
+returns-in_err-version g c =
     let p = err_from_is_err_and c.from_residual.result c.from_residual.ensures.1 in
-    rw (p.1, p.2) (nothing_begun Public c.args.key.now c.args.options.now.assertion
+    rw (p.1, p.2) (makes_unbegun Public c.args.key.now c.args.options.now.assertion
     (λ v bytes text. VerifiesIn v c.args.key.now c.args.options.now (line_of_input bytes) text)
     (λ v bytes text is. verifies_begins c.args.options.now c.args.key.now v (line_of_input bytes) text is)
-    c.in_err-version.field-0.0 _ c.in_err-version.ensures.none)
+    c.in_err-version.field-0.0 _ c.in_err-version.ensures.none c.in_err-version.ensures.plain)
 
-pub returns-in_err-takes-clause-refused : goal.returns-in_err-takes-clause-refused
-returns-in_err-takes-clause-refused g c =
+pub returns-in_err-takes : goal.returns-in_err-takes
+returns-in_err-takes g c =
     let p = err_from_is_err_and c.from_residual-in_err-takes.result c.from_residual-in_err-takes.ensures.1 in
-    rw (p.1, p.2) (nothing_taken Public c.args.key.now c.args.options.now.assertion
+    let refused = c.in_err-takes.ensures.refused in
+    rw (p.1, p.2) (makes_untaken Public c.args.key.now c.args.options.now.assertion
     (λ v bytes text. VerifiesIn v c.args.key.now c.args.options.now (line_of_input bytes) text)
     (λ v bytes text is. verifies_begins c.args.options.now c.args.key.now v (line_of_input bytes) text is)
-    c.in_err-takes.field-0.0 _ c.in_ok-version.version c.in_ok-version.ensures.begins c.in_err-takes.ensures.refused.1)
+    c.in_err-takes.field-0.0 _ c.in_ok-version.version c.in_ok-version.ensures.begins refused.1 (subst IsPlain (sym refused.0) (tt, tt)))

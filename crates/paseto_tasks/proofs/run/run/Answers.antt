@@ -1,13 +1,22 @@
-use Rattle.paseto_tasks.proofs.Outputs.{status_of-some}
-use Rattle.paseto_tasks.proofs.Refusals.{status_refused}
-use Rattle.paseto_tasks.proofs.Statuses.{fixed_no_usage, not_2}
+use Rattle.paseto_tasks.specs.Run.{IsPlainIn, IsRefused, IsRefusedOf, PrintsOf}
+use Rattle.paseto_tasks.proofs.Outputs.{leaves_made, made_or_both, tells_made, tells_no_usage}
+use Rattle.paseto_tasks.proofs.Statuses.{fixed_no_usage}
 use Rattle.paseto_tasks.proofs.run.run.Goals as goal
 
-pub returns-in-Err-clause-written : goal.returns-in-Err-clause-written
-returns-in-Err-clause-written g c = rw (c.status.ensures, status_of-some c.in-Err.error) c.in-Err.ensures.written
+pub returns-clause-output : goal.returns-clause-output
+returns-clause-output g c =
+    let file = g.K.Read.remaining c.args.key_file.now in
+    let known = g.R.Read.remaining c.args.input.now in
+    leaves_made _ _ _ c.make-made.result (PrintsOf c.args.task c.args.options.now _ file known) (IsRefusedOf c.args.task c.args.options.now _ file known)
+    c.finish.result c.make-made.ensures.printed (made_or_both c.make-made.result file known (λ f i. IsRefused c.args.task c.args.options.now _ f i) c.make-made.ensures.refused) c.finish.ensures.output
 
-pub returns-in-Err-clause-refused : goal.returns-in-Err-clause-refused
-returns-in-Err-clause-refused g c = λ one. status_refused c.in-Err.error _ _ _ _ c.status.ensures one c.in-Err.ensures.refused
+pub returns-clause-errors : goal.returns-clause-errors
+returns-clause-errors g c =
+    tells_made _ _ _ _ c.make-made.result (IsPlainIn c.args.task _ (g.K.Read.remaining c.args.key_file.now)) c.finish.result c.make-made.ensures.so (tt, tt)
+    c.finish.ensures.errors
 
-pub returns-in-Err-clause-no_usage : goal.returns-in-Err-clause-no_usage
-returns-in-Err-clause-no_usage g c = not_2 c.in-Err.error _ c.status.ensures (fixed_no_usage c.in-Err.error c.in-Err.ensures.fixed)
+pub returns-clause-no_usage : goal.returns-clause-no_usage
+returns-clause-no_usage g c =
+    let IsSo = IsPlainIn c.args.task _ (g.K.Read.remaining c.args.key_file.now) in
+    tells_no_usage _ _ _ _ IsSo c.finish.result (λ error so. fixed_no_usage error so.0)
+    (tells_made _ _ _ _ c.make-made.result IsSo c.finish.result c.make-made.ensures.so (tt, tt) c.finish.ensures.errors)

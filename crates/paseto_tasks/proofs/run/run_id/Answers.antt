@@ -1,25 +1,16 @@
-use Rattle.std.proofs.Common.{inl, inr}
 use Rattle.paseto_tasks.specs.Error.{IsPlain}
 use Rattle.paseto_tasks.specs.Id.{Identifies, IdentifiesNothing}
-use Rattle.paseto_tasks.proofs.Outputs.{left_of_made}
-use Rattle.paseto_tasks.proofs.Refusals.{refused_as}
-use Rattle.paseto_tasks.proofs.Statuses.{cause_so, not_2_made}
+use Rattle.paseto_tasks.proofs.Outputs.{leaves_made, tells_made, tells_no_usage}
+use Rattle.paseto_tasks.proofs.Statuses.{fixed_no_usage}
 use Rattle.paseto_tasks.proofs.run.run_id.Goals as goal
 
-pub returns-clause-refused : goal.returns-clause-refused
-returns-clause-refused g c = λ one.
-    let finished = c.finish.ensures.refused (inl one) in
-    (finished.0, refused_as c.id.result c.finish.result (IdentifiesNothing c.args.key.now) (inl one) finished.1 c.id.ensures.refused)
+pub returns-clause-output : goal.returns-clause-output
+returns-clause-output g c =
+    leaves_made _ _ _ c.id.result (Identifies c.args.key.now) (IdentifiesNothing c.args.key.now) c.finish.result c.id.ensures.printed c.id.ensures.refused c.finish.ensures.output
+
+pub returns-clause-errors : goal.returns-clause-errors
+returns-clause-errors g c = tells_made _ _ _ _ c.id.result IsPlain c.finish.result c.id.ensures.plain (tt, tt) c.finish.ensures.errors
 
 pub returns-clause-no_usage : goal.returns-clause-no_usage
-returns-clause-no_usage g c = λ two. not_2_made c.id.result c.finish.result (c.finish.ensures.refused (inr two)).1 c.id.ensures.plain two
-
-pub returns-clause-said : goal.returns-clause-said
-returns-clause-said g c = λ failed.
-    let said = c.finish.ensures.said failed in
-    (said.0, said.1, cause_so IsPlain c.id.result said.0 said.2 c.id.ensures.plain (tt, tt), said.3)
-
-pub returns-clause-cut : goal.returns-clause-cut
-returns-clause-cut g c = λ failed.
-    let cut = c.finish.ensures.cut failed in
-    (cut.0, cut.1, left_of_made c.id.result (Identifies c.args.key.now) cut.0 c.id.ensures.printed cut.2)
+returns-clause-no_usage g c =
+    tells_no_usage _ _ _ _ IsPlain c.finish.result (λ error plain. fixed_no_usage error plain.0) (tells_made _ _ _ _ c.id.result IsPlain c.finish.result c.id.ensures.plain (tt, tt) c.finish.ensures.errors)

@@ -1,14 +1,20 @@
+use Rattle.std.proofs.Common.{IfSome}
+use Rattle.paseto_tasks.specs.Error.{IsPlain}
 use Rattle.paseto_tasks.specs.Input.{line_of_input}
-use Rattle.paseto_tasks.specs.Inspect.{InspectsNothing}
-use Rattle.paseto_tasks.proofs.Refusals.{input_refused, unless_three}
-use Rattle.paseto_tasks.proofs.Statuses.{fixed_no_usage, not_2}
+use Rattle.paseto_tasks.specs.Inspect.{Inspects, InspectsNothing}
+use Rattle.paseto_tasks.proofs.Outputs.{leaves_made, made_or, tells_made, tells_no_usage}
+use Rattle.paseto_tasks.proofs.Statuses.{fixed_no_usage}
 use Rattle.paseto_tasks.proofs.run.run_inspect.Goals as goal
 
-pub returns-in-Err-clause-refused : goal.returns-in-Err-clause-refused
-returns-in-Err-clause-refused g c = λ one. (
-  unless_three c.in-Err.error _ _ c.status.ensures one c.in-Err.ensures.refused,
-  input_refused c.in-Err.error _ (g.R.Read.remaining c.args.input.now) (λ bytes. InspectsNothing (line_of_input bytes)) c.status.ensures one c.in-Err.ensures.nothing,
-)
+pub returns-clause-output : goal.returns-clause-output
+returns-clause-output g c =
+    let known = g.R.Read.remaining c.args.input.now in
+    leaves_made _ _ _ c.inspected.result (λ lines. IfSome known (λ bytes. Inspects (line_of_input bytes) lines)) (IfSome known (λ bytes. InspectsNothing (line_of_input bytes)))
+    c.finish.result c.inspected.ensures.printed (made_or c.inspected.result known (λ bytes. InspectsNothing (line_of_input bytes)) c.inspected.ensures.refused) c.finish.ensures.output
 
-pub returns-in-Err-clause-no_usage : goal.returns-in-Err-clause-no_usage
-returns-in-Err-clause-no_usage g c = not_2 c.in-Err.error _ c.status.ensures (fixed_no_usage c.in-Err.error c.in-Err.ensures.plain.0)
+pub returns-clause-errors : goal.returns-clause-errors
+returns-clause-errors g c = tells_made _ _ _ _ c.inspected.result IsPlain c.finish.result c.inspected.ensures.plain (tt, tt) c.finish.ensures.errors
+
+pub returns-clause-no_usage : goal.returns-clause-no_usage
+returns-clause-no_usage g c =
+    tells_no_usage _ _ _ _ IsPlain c.finish.result (λ error plain. fixed_no_usage error plain.0) (tells_made _ _ _ _ c.inspected.result IsPlain c.finish.result c.inspected.ensures.plain (tt, tt) c.finish.ensures.errors)
