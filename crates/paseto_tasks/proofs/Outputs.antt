@@ -9,11 +9,11 @@ use Rattle.rusty_paseto_paserk.specs.declared.error.PaserkError.TheVariants.{Mem
 use Rattle.paseto_tasks.specs.declared.error.Names.{Names}
 use Rattle.paseto_tasks.specs.declared.error.ProgramError.{ProgramError}
 use Rattle.paseto_tasks.specs.declared.error.ProgramError.TheVariants.{InputOrOutput, Key, KeyFile, Pem}
-use Rattle.paseto_tasks.specs.Error.{IsCauseOf, IsNoUsage, IsOutside, line_of, status_of}
+use Rattle.paseto_tasks.specs.Error.{IsCauseOf, IsFixed, IsOutside, line_of, status_of}
 use Rattle.paseto_tasks.specs.Output.{IsLeftOf, IsTextOf}
 use Rattle.paseto_tasks.specs.Run.{Leaves, Tells}
 use Rattle.paseto_tasks.proofs.Refusals.{refused_as}
-use Rattle.paseto_tasks.proofs.Statuses.{cause_so, not_2}
+use Rattle.paseto_tasks.proofs.Statuses.{cause_so, fixed_no_usage, not_2}
 
 -- what is left of what was made is left of the output that it is
 pub left_of_made : {E : Type 0} (made : Result (String Global) E) (IsOutput : List ℕ → Type 0) (left : List ℕ)
@@ -72,15 +72,13 @@ module _ {W : Type 0} (contents : W → Option (List ℕ)) (before after : W) wh
       → (left : List ℕ) × Appends (contents before) (contents after) left × IsLeftOf (IsTextOf made) left
       → (status_of error ≡ 3) ⊎ ((after ≡ before) × IsErrAnd made (λ cause. cause ≡ error))
       → Leaves contents (IsTextOf made) (IsErrAnd made (λ cause. status_of cause ≡ status)) status before after
-  leaves_cut made error status is left (inl three) = record {
+  leaves_cut made error status is left unless_three = record {
     written = λ zero. absurd (not_zero error status is zero);
     cut = λ some. left;
-    refused = λ some. absurd (not_three error status is three some);
-  }
-  leaves_cut made error status is left (inr same) = record {
-    written = λ zero. absurd (not_zero error status is zero);
-    cut = λ some. left;
-    refused = λ some. (same.0, same_status made error status is same.1);
+    refused = λ some. elim unless_three [
+      | inl three ↦ absurd (not_three error status is three some)
+      | inr same ↦ (same.0, same_status made error status is same.1)
+    ];
   }
 
   -- in the words of what was made
@@ -119,11 +117,11 @@ module _ {E : Type 0} (contents : E → Option (List ℕ)) (names : Names) (befo
   }
 
   -- no word is at fault
-  pub tells_no_usage : (IsSo : ProgramError → Type 0) (status : ℕ) → ((error : ProgramError) → IsSo error → IsNoUsage error)
-      → Tells contents names IsSo status before after → status ≢ 2
-  tells_no_usage IsSo status into tells two =
+  pub tells_no_usage : {T : Type 0} (made : Result T ProgramError) (IsSo : ProgramError → Type 0) (status : ℕ) → ((error : ProgramError) → IsSo error → IsFixed error)
+      → IfErr made IsSo → IsSo InputOrOutput → Tells contents names (IsCauseOf made) status before after → status ≢ 2
+  tells_no_usage made IsSo status fixed so failed tells two =
       let told = tells.said (λ zero. false≢true (ap (λ (n : ℕ). n == 2) (sym zero ∙ two))) in
-      not_2 told.0 status (sym told.1) (into told.0 told.2) two
+      not_2 told.0 status (sym told.1) (fixed_no_usage told.0 (fixed told.0 (cause_so IsSo made told.0 told.2 so failed))) two
 
 -- ---- what is known of an input
 

@@ -74,17 +74,11 @@ module _ (kind : PaserkType) (key : List ℕ) (assertion : Option ImplicitAssert
   nothing_by (Ok value) known version header none = tt
   nothing_by (Err error) known version header none = none_by error known version header none
 
-  -- the version of the key takes no assertion
-  pub nothing_taken : (error : ProgramError) (known : Option (List ℕ)) (version : PaserkVersion) → BeginsAs version kind key → ¬ Takes version assertion
-      → IfSome known (λ bytes. IsOutside error ⊎ ((text : List ℕ) → ¬ Some_makes bytes text))
-  nothing_taken error None version header none = tt
-  nothing_taken error (Some bytes) version header none = inr (λ text some. none (by_another version bytes text header some).0)
-
-  -- the line begins as no key of the type
-  pub nothing_begun : (error : ProgramError) (known : Option (List ℕ)) → ((version : PaserkVersion) → ¬ BeginsAs version kind key)
+  -- the line begins as no key of the type, or its version takes no assertion
+  pub nothing_begun : (error : ProgramError) (known : Option (List ℕ)) → ((version : PaserkVersion) → BeginsAs version kind key → ¬ Takes version assertion)
       → IfSome known (λ bytes. IsOutside error ⊎ ((text : List ℕ) → ¬ Some_makes bytes text))
   nothing_begun error None none = tt
-  nothing_begun error (Some bytes) none = inr (λ text some. none some.0 (begins some.0 bytes text some.2))
+  nothing_begun error (Some bytes) none = inr (λ text some. none some.0 (begins some.0 bytes text some.2) some.1)
 
   -- the same of all that is said of what is made
   pub makes_by : {IsSo IsOther : ProgramError → Type 0} (made : Result (String Global) ProgramError) (known : Option (List ℕ)) (version : PaserkVersion)
@@ -95,11 +89,7 @@ module _ (kind : PaserkType) (key : List ℕ) (assertion : Option ImplicitAssert
     so = so;
   }
 
-  pub makes_untaken : {IsSo : ProgramError → Type 0} (error : ProgramError) (known : Option (List ℕ)) (version : PaserkVersion) → BeginsAs version kind key
-      → ¬ Takes version assertion → IsSo error → MakesSo known Some_makes IsSo (Err error)
-  makes_untaken error known version header none so = record { printed = tt; refused = nothing_taken error known version header none; so = so }
-
-  pub makes_unbegun : {IsSo : ProgramError → Type 0} (error : ProgramError) (known : Option (List ℕ)) → ((version : PaserkVersion) → ¬ BeginsAs version kind key)
+  pub makes_unbegun : {IsSo : ProgramError → Type 0} (error : ProgramError) (known : Option (List ℕ)) → ((version : PaserkVersion) → BeginsAs version kind key → ¬ Takes version assertion)
       → IsSo error → MakesSo known Some_makes IsSo (Err error)
   makes_unbegun error known none so = record { printed = tt; refused = nothing_begun error known none; so = so }
 

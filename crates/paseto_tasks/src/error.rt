@@ -257,7 +257,7 @@ impl ProgramError {
             ProgramError::OtherKind(token, key) => {
                 write_kinds(errors, about, colon, token.text(), key.text());
             }
-            _ => write_line(errors, "paseto: ", about, colon, self.text(), "\n"),
+            _ => write_line(errors, about, colon, self.text()),
         }
     }
 
@@ -369,20 +369,13 @@ fn colon_behind(about: &str) -> &'static str
     if about.is_empty() { "" } else { ": " }
 }
 
-/// Writes the parts of a line one after another, or a prefix of them if a write fails.
-fn write_line<'p, E: Write>(
-    errors: &mut E,
-    program: &'p str,
-    about: &'p str,
-    colon: &'p str,
-    text: &'p str,
-    end: &'p str,
-)
-    ensures { (said : List ℕ) × StartsWith (joined
-        (program.now ∷ about.now ∷ colon.now ∷ text.now ∷ end.now ∷ [])) said × Appends
-        (E.contents errors.old) (E.contents errors.new) said }
+/// Writes a line, or a prefix of it if a write fails.
+fn write_line<'p, E: Write>(errors: &mut E, about: &'p str, colon: &'p str, text: &'p str)
+    ensures { (said : List ℕ) × StartsWith (joined (codes "paseto: " ∷ about.now ∷ colon.now
+        ∷ text.now ∷ (10 ∷ []) ∷ [])) said × Appends (E.contents errors.old)
+        (E.contents errors.new) said }
 {
-    write_pieces(errors, &[program, about, colon, text, end]);
+    write_pieces(errors, &["paseto: ", about, colon, text, "\n"]);
 }
 
 /// Writes a line about a token of one kind and a key for tokens of another, or a prefix of it if a

@@ -1,17 +1,16 @@
 //! The command `keygen`.
 
-ghost use Rattle.std.specs.Prelude.{◌≡◌, ◌⊎◌, ◌++◌, ◌∷◌, [], IfErr, IfOk, IsErrAnd, IsOkAnd, option_map, string_bytes};
-ghost use Rattle.paseto_tasks.specs.Error.{IsFixed, IsMemory, key_error_of};
+ghost use Rattle.std.specs.Prelude.{IfErr, IfOk, option_map, string_bytes};
+ghost use Rattle.paseto_tasks.specs.Error.{IsFixed};
 ghost use Rattle.paseto_tasks.specs.Keygen.{IsGenerated, IsNewLocalKey, IsNewPair, IsNoNewPair, IsNoPair, MakesNone};
 
 use crate::arguments::Kind;
 use crate::error::ProgramError;
+use crate::output::with_line_feed;
 use crate::suite::Suite;
 use rand_core::TryRng;
 use rusty_paseto_core::{Key, Local, PasetoSymmetricKey, V1, V2, V3, V4};
-use rusty_paseto_paserk::{
-    KeyVersion, PaserkError, local_to_paserk, public_to_paserk, secret_to_paserk,
-};
+use rusty_paseto_paserk::{KeyVersion, local_to_paserk, public_to_paserk, secret_to_paserk};
 use std::alloc::Global;
 
 /// The lines of a new key, each with its line feed.
@@ -59,7 +58,7 @@ fn local<V: KeyVersion, G: TryRng>(alloc: Global, generator: &mut G) -> Result<N
         (string_bytes made.secret) (option_map string_bytes made.public)) }
 {
     let key = PasetoSymmetricKey::<V, Local>::from(Key::try_new_random(generator)?);
-    let secret = with_line_feed(local_to_paserk(alloc, &key))?;
+    let secret = with_line_feed(local_to_paserk(alloc, &key)?)?;
     Ok(NewKey {
         secret,
         public: None,
@@ -74,22 +73,10 @@ fn pair<V: Suite, G: TryRng>(alloc: Global, generator: &mut G) -> Result<NewKey,
         (string_bytes made.secret) (option_map string_bytes made.public)) }
 {
     let pair = V::new_pair(alloc, generator)?;
-    let secret = with_line_feed(secret_to_paserk(alloc, &pair.private()))?;
-    let public = with_line_feed(public_to_paserk(alloc, &pair.public()))?;
+    let secret = with_line_feed(secret_to_paserk(alloc, &pair.private())?)?;
+    let public = with_line_feed(public_to_paserk(alloc, &pair.public())?)?;
     Ok(NewKey {
         secret,
         public: Some(public),
     })
-}
-
-/// A text and a line feed.
-fn with_line_feed(text: Result<String, PaserkError>) -> Result<String, ProgramError>
-    ensures refused { IfErr result (λ error. IsErrAnd text (λ source. error ≡ key_error_of source)
-        ⊎ IsMemory error) }
-    ensures line { IfOk result (λ line. IsOkAnd text
-        (λ text. string_bytes line ≡ string_bytes text ++ (10 ∷ []))) }
-{
-    let mut line = text?;
-    line.push('\n')?;
-    Ok(line)
 }

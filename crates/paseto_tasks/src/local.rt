@@ -17,7 +17,7 @@ use crate::error::{ProgramError, answered};
 use crate::input::{read_line, read_text};
 use crate::output::with_line_feed;
 use crate::token_kind::TokenKind;
-use crate::version::{takes, version_of};
+use crate::version::version_for;
 use paseto_xchacha20poly1305::XChaCha20Poly1305;
 use rand_core::TryRng;
 use rusty_paseto_core::{
@@ -41,8 +41,7 @@ pub fn encrypt<R: Read, G: TryRng>(
         (Encrypts key.now options.now (λ nonce. G.may_fill generator.old nonce generator.new))
         (IsPlainBut (TakesBytes key.now × G.Error)) result }
 {
-    let version = version_of(key, PaserkType::Local)?;
-    takes(version, options.assertion)?;
+    let version = version_for(key, PaserkType::Local, options.assertion)?;
     sealed_in(alloc, version, key, options, generator, input)
 }
 
@@ -159,8 +158,7 @@ pub fn decrypt<R: Read>(
 ) -> Result<String, ProgramError>
     ensures { Makes (R.remaining input.old) (Decrypts key.now options.now) IsPlain result }
 {
-    let version = version_of(key, PaserkType::Local)?;
-    takes(version, options.assertion)?;
+    let version = version_for(key, PaserkType::Local, options.assertion)?;
     opened_in(alloc, version, key, options, input)
 }
 

@@ -2,7 +2,7 @@
 
 ghost use Rattle.std.specs.Prelude.{◌≡◌, ℕ, List, IfErr, IfOk, OnErr, OnOk, string_bytes};
 ghost use Rattle.std.specs.Io.KnownBytes.{Appends};
-ghost use Rattle.paseto_tasks.specs.Error.{IsOutside, IsPlain};
+ghost use Rattle.paseto_tasks.specs.Error.{IsMemory, IsOutside, IsPlain};
 ghost use Rattle.paseto_tasks.specs.Output.{IsLineOf};
 ghost use Rattle.paseto_streams.specs.Output.{IsCutShort};
 
@@ -28,6 +28,7 @@ pub fn write_whole<W: Write>(output: &mut W, bytes: &[u8]) -> Result<(), Program
 pub fn with_line_feed(text: String) -> Result<String, ProgramError>
     ensures line { IfOk result (λ line. IsLineOf (string_bytes text) (string_bytes line)) }
     ensures memory { IfErr result IsOutside }
+    ensures only_memory { IfErr result IsMemory }
     ensures plain { IfErr result IsPlain }
 {
     let mut line = text;

@@ -17,7 +17,7 @@ use crate::input::{read_line, read_text};
 use crate::key_line::PairLines;
 use crate::rsa::{SaltedRsa, signer, verifier};
 use crate::token_kind::TokenKind;
-use crate::version::{takes, version_of};
+use crate::version::version_for;
 use paseto_ed25519::Ed25519;
 use paseto_p384::P384;
 use rand_core::TryRng;
@@ -45,8 +45,7 @@ pub fn sign<R: Read, G: TryRng>(
     ensures fixed { IfErr result IsFixed }
     ensures blames { IfErr result (BlamesOnly (TakesBytes key.now × G.Error) ⊥ ⊥ ⊥) }
 {
-    let version = version_of(key, PaserkType::Secret)?;
-    takes(version, options.assertion)?;
+    let version = version_for(key, PaserkType::Secret, options.assertion)?;
     sign_in(alloc, version, key, options, generator, input)
 }
 
@@ -134,8 +133,7 @@ pub fn verify<R: Read>(
 ) -> Result<String, ProgramError>
     ensures { Makes (R.remaining input.old) (VerifiesBy key.now options.now) IsPlain result }
 {
-    let version = version_of(key, PaserkType::Public)?;
-    takes(version, options.assertion)?;
+    let version = version_for(key, PaserkType::Public, options.assertion)?;
     verify_in(alloc, version, key, options, input)
 }
 

@@ -10,8 +10,25 @@ use crate::key_line::begins_as;
 use rusty_paseto_core::ImplicitAssertion;
 use rusty_paseto_paserk::{PaserkError, PaserkType, PaserkVersion};
 
+/// The version of the key of a type, from the beginning of a line, if it takes the assertion.
+pub fn version_for(
+    line: &str,
+    kind: PaserkType,
+    assertion: Option<ImplicitAssertion<'_>>,
+) -> Result<PaserkVersion, ProgramError>
+    ensures begins { IfOk result (λ version. BeginsAs version kind line.now) }
+    ensures taken { IfOk result (λ version. Takes version assertion.entry) }
+    ensures none { OnErr result ((version : PaserkVersion) → BeginsAs version kind line.now
+        → ¬ Takes version assertion.entry) }
+    ensures plain { IfErr result IsPlain }
+{
+    let version = version_of(line, kind)?;
+    takes(version, assertion)?;
+    Ok(version)
+}
+
 /// The version of the key of a type, from the beginning of a line.
-pub fn version_of(line: &str, kind: PaserkType) -> Result<PaserkVersion, ProgramError>
+fn version_of(line: &str, kind: PaserkType) -> Result<PaserkVersion, ProgramError>
     ensures begins { IfOk result (λ version. BeginsAs version kind line.now) }
     ensures none { OnErr result ((version : PaserkVersion) → ¬ BeginsAs version kind line.now) }
     ensures plain { IfErr result IsPlain }

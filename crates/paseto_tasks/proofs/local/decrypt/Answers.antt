@@ -1,10 +1,8 @@
 use Rattle.std.proofs.lemmas.Result.{err_from_is_err_and}
-use Rattle.std.proofs.Common.{sym, subst}
 use Rattle.rusty_paseto_paserk.specs.declared.header.PaserkType.TheVariants.{Local}
 use Rattle.paseto_tasks.specs.Input.{line_of_input}
-use Rattle.paseto_tasks.specs.Error.{IsPlain}
 use Rattle.paseto_tasks.specs.Local.{OpensIn}
-use Rattle.paseto_tasks.proofs.Versions.{makes_by, makes_unbegun, makes_untaken, opens_begins}
+use Rattle.paseto_tasks.proofs.Versions.{makes_by, makes_unbegun, opens_begins}
 use Rattle.paseto_tasks.proofs.local.decrypt.Goals as goal
 
 pub returns : goal.returns
@@ -12,7 +10,7 @@ returns g c =
     makes_by Local c.args.key.now c.args.options.now.assertion
     (λ v bytes text. OpensIn v c.args.key.now c.args.options.now (line_of_input bytes) text)
     (λ v bytes text is. opens_begins c.args.options.now c.args.key.now v (line_of_input bytes) text is)
-    c.opened_in.result _ c.in_ok-version.version c.in_ok-version.ensures.begins c.in_ok-takes.ensures.taken c.opened_in.ensures.so c.opened_in.ensures
+    c.opened_in.result _ c.in_ok-version.version c.in_ok-version.ensures.begins c.in_ok-version.ensures.taken c.opened_in.ensures.so c.opened_in.ensures
 
 pub returns-in_err-version : goal.returns-in_err-version
 returns-in_err-version g c =
@@ -21,12 +19,3 @@ returns-in_err-version g c =
     (λ v bytes text. OpensIn v c.args.key.now c.args.options.now (line_of_input bytes) text)
     (λ v bytes text is. opens_begins c.args.options.now c.args.key.now v (line_of_input bytes) text is)
     c.in_err-version.field-0.0 _ c.in_err-version.ensures.none c.in_err-version.ensures.plain)
-
-pub returns-in_err-takes : goal.returns-in_err-takes
-returns-in_err-takes g c =
-    let p = err_from_is_err_and c.from_residual-in_err-takes.result c.from_residual-in_err-takes.ensures.1 in
-    let refused = c.in_err-takes.ensures.refused in
-    rw (p.1, p.2) (makes_untaken Local c.args.key.now c.args.options.now.assertion
-    (λ v bytes text. OpensIn v c.args.key.now c.args.options.now (line_of_input bytes) text)
-    (λ v bytes text is. opens_begins c.args.options.now c.args.key.now v (line_of_input bytes) text is)
-    c.in_err-takes.field-0.0 _ c.in_ok-version.version c.in_ok-version.ensures.begins refused.1 (subst IsPlain (sym refused.0) (tt, tt)))

@@ -1,7 +1,7 @@
 use Rattle.std.proofs.lemmas.Result.{err_from_is_err_and}
 use Rattle.rusty_paseto_paserk.specs.declared.header.PaserkType.TheVariants.{Secret}
 use Rattle.paseto_tasks.specs.Public.{DeclinesIn, SignsIn}
-use Rattle.paseto_tasks.proofs.Versions.{made_by, more_than, nothing_begun, nothing_or_declined, nothing_taken, signs_begins}
+use Rattle.paseto_tasks.proofs.Versions.{made_by, more_than, nothing_begun, nothing_or_declined, signs_begins}
 use Rattle.std.proofs.Common.{inr, subst}
 use Rattle.rusty_paseto_paserk.specs.declared.header.PaserkVersion.{PaserkVersion}
 use Rattle.paseto_tasks.specs.KeyLine.{BeginsAs}
@@ -13,7 +13,7 @@ returns-clause-printed g c =
     made_by Secret c.args.key.now c.args.options.now.assertion
     (λ v text line. SignsIn v c.args.key.now c.args.options.now text line)
     (signs_begins c.args.options.now c.args.key.now)
-    c.sign_in.result _ c.in_ok-version.version c.in_ok-takes.ensures.taken c.sign_in.ensures.printed
+    c.sign_in.result _ c.in_ok-version.version c.in_ok-version.ensures.taken c.sign_in.ensures.printed
 
 pub returns-clause-refused : goal.returns-clause-refused
 returns-clause-refused g c =
@@ -34,18 +34,6 @@ returns-in_err-version-clause-refused g c =
     (λ v text line. SignsIn v c.args.key.now c.args.options.now text line)
     (signs_begins c.args.options.now c.args.key.now)
     c.in_err-version.field-0.0 _ c.in_err-version.ensures.none))
-
-pub returns-in_err-takes-clause-refused : goal.returns-in_err-takes-clause-refused
-returns-in_err-takes-clause-refused g c =
-    let p = err_from_is_err_and c.from_residual-in_err-takes.result c.from_residual-in_err-takes.ensures.1 in
-    rw (p.1, p.2) (more_than Secret c.args.key.now c.args.options.now.assertion
-    (λ v text line. SignsIn v c.args.key.now c.args.options.now text line)
-    (signs_begins c.args.options.now c.args.key.now)
-    (λ v text. DeclinesIn v c.args.key.now c.args.options.now text) c.in_err-takes.field-0.0 _
-    (nothing_taken Secret c.args.key.now c.args.options.now.assertion
-    (λ v text line. SignsIn v c.args.key.now c.args.options.now text line)
-    (signs_begins c.args.options.now c.args.key.now)
-    c.in_err-takes.field-0.0 _ c.in_ok-version.version c.in_ok-version.ensures.begins c.in_err-takes.ensures.refused.1))
 
 pub returns-clause-blames : goal.returns-clause-blames
 returns-clause-blames g c = bytes_so c.sign_in.result

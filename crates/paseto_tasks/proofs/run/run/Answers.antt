@@ -1,6 +1,5 @@
 use Rattle.paseto_tasks.specs.Run.{IsPlainIn, IsRefused, IsRefusedOf, PrintsOf}
 use Rattle.paseto_tasks.proofs.Outputs.{leaves_made, made_or_both, tells_made, tells_no_usage}
-use Rattle.paseto_tasks.proofs.Statuses.{fixed_no_usage}
 use Rattle.paseto_tasks.proofs.run.run.Goals as goal
 
 pub returns-clause-output : goal.returns-clause-output
@@ -17,6 +16,4 @@ returns-clause-errors g c =
 
 pub returns-clause-no_usage : goal.returns-clause-no_usage
 returns-clause-no_usage g c =
-    let IsSo = IsPlainIn c.args.task _ (g.K.Read.remaining c.args.key_file.now) in
-    tells_no_usage _ _ _ _ IsSo c.finish.result (λ error so. fixed_no_usage error so.0)
-    (tells_made _ _ _ _ c.make-made.result IsSo c.finish.result c.make-made.ensures.so (tt, tt) c.finish.ensures.errors)
+    tells_no_usage _ _ _ _ c.make-made.result (IsPlainIn c.args.task _ (g.K.Read.remaining c.args.key_file.now)) c.finish.result (λ error so. so.0) c.make-made.ensures.so (tt, tt) c.finish.ensures.errors

@@ -1,7 +1,6 @@
 use Rattle.paseto_tasks.specs.Error.{IsPlain}
 use Rattle.paseto_tasks.specs.Id.{Identifies, IdentifiesNothing}
 use Rattle.paseto_tasks.proofs.Outputs.{leaves_made, tells_made, tells_no_usage}
-use Rattle.paseto_tasks.proofs.Statuses.{fixed_no_usage}
 use Rattle.paseto_tasks.proofs.run.run_id.Goals as goal
 
 pub returns-clause-output : goal.returns-clause-output
@@ -13,4 +12,4 @@ returns-clause-errors g c = tells_made _ _ _ _ c.id.result IsPlain c.finish.resu
 
 pub returns-clause-no_usage : goal.returns-clause-no_usage
 returns-clause-no_usage g c =
-    tells_no_usage _ _ _ _ IsPlain c.finish.result (λ error plain. fixed_no_usage error plain.0) (tells_made _ _ _ _ c.id.result IsPlain c.finish.result c.id.ensures.plain (tt, tt) c.finish.ensures.errors)
+    tells_no_usage _ _ _ _ c.id.result IsPlain c.finish.result (λ error so. so.0) c.id.ensures.plain (tt, tt) c.finish.ensures.errors

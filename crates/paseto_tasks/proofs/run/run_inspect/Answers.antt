@@ -3,7 +3,6 @@ use Rattle.paseto_tasks.specs.Error.{IsPlain}
 use Rattle.paseto_tasks.specs.Input.{line_of_input}
 use Rattle.paseto_tasks.specs.Inspect.{Inspects, InspectsNothing}
 use Rattle.paseto_tasks.proofs.Outputs.{leaves_made, made_or, tells_made, tells_no_usage}
-use Rattle.paseto_tasks.proofs.Statuses.{fixed_no_usage}
 use Rattle.paseto_tasks.proofs.run.run_inspect.Goals as goal
 
 pub returns-clause-output : goal.returns-clause-output
@@ -17,4 +16,4 @@ returns-clause-errors g c = tells_made _ _ _ _ c.inspected.result IsPlain c.fini
 
 pub returns-clause-no_usage : goal.returns-clause-no_usage
 returns-clause-no_usage g c =
-    tells_no_usage _ _ _ _ IsPlain c.finish.result (λ error plain. fixed_no_usage error plain.0) (tells_made _ _ _ _ c.inspected.result IsPlain c.finish.result c.inspected.ensures.plain (tt, tt) c.finish.ensures.errors)
+    tells_no_usage _ _ _ _ c.inspected.result IsPlain c.finish.result (λ error so. so.0) c.inspected.ensures.plain (tt, tt) c.finish.ensures.errors
