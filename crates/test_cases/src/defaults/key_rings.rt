@@ -87,6 +87,12 @@ fn check_opened(rt: &impl Abort, kind: Kind, answer: Answer, id: &str) {
     expect_that(rt, opened.1.as_str() == "hi", &kind);
 }
 
+// The token was refused for its tag.
+fn check_tag(rt: &impl Abort, kind: Kind, answer: Answer) {
+    let is_refused = matches!(&answer, Err(KeyRingError::Token(PasetoError::Cryption)));
+    expect_that(rt, is_refused, &kind);
+}
+
 // The answer is a refusal of this text, for the token in each version.
 fn check_refused(rt: &impl Abort, alloc: Global, footer: Option<&str>, text: &str) {
     'kinds: for &kind in RING_KINDS {
@@ -112,9 +118,7 @@ fn no_other_key_is_tried(rt: HostRuntime) {
     'kinds: for &kind in RING_KINDS {
         let token = sealed(&rt, rt.alloc(), kind, Some("{\"kid\":\"k2\"}"));
         let question = Question::of(token.as_str());
-        let refused = ask(&rt, rt.alloc(), kind, question);
-        let is_refused = matches!(refused, Err(KeyRingError::Token(PasetoError::Cryption)));
-        expect_that(&rt, is_refused, &kind);
+        check_tag(&rt, kind, ask(&rt, rt.alloc(), kind, question));
         let changed = Question {
             is_second_changed: true,
             ..question
@@ -158,22 +162,38 @@ fn an_id_that_is_not_in_the_ring(rt: HostRuntime) {
     );
 }
 
+// The text was refused for the number of its sections.
+fn check_size(rt: &impl Abort, kind: Kind, answer: Answer) {
+    let is_short = matches!(
+        &answer,
+        Err(KeyRingError::Untrusted(PasetoError::IncorrectSize))
+    );
+    expect_that(rt, is_short, &kind);
+}
+
+// The text was refused since its footer is no text.
+fn check_no_text(rt: &impl Abort, kind: Kind, answer: Answer) {
+    let is_no_text = matches!(
+        &answer,
+        Err(KeyRingError::Untrusted(PasetoError::Utf8Error { .. }))
+    );
+    expect_that(rt, is_no_text, &kind);
+}
+
 #[test]
 fn a_text_that_is_no_token(rt: HostRuntime) {
     'kinds: for &kind in RING_KINDS {
-        let answer = ask(&rt, rt.alloc(), kind, Question::of("v4.local"));
-        let is_short = matches!(
-            answer,
-            Err(KeyRingError::Untrusted(PasetoError::IncorrectSize))
-        );
-        expect_that(&rt, is_short, &kind);
-        let answer = ask(&rt, rt.alloc(), kind, Question::of("v4.local.AAAA._w"));
-        let is_no_text = matches!(
-            answer,
-            Err(KeyRingError::Untrusted(PasetoError::Utf8Error { .. }))
-        );
-        expect_that(&rt, is_no_text, &kind);
+        let short = ask(&rt, rt.alloc(), kind, Question::of("v4.local"));
+        check_size(&rt, kind, short);
+        let no_text = ask(&rt, rt.alloc(), kind, Question::of("v4.local.AAAA._w"));
+        check_no_text(&rt, kind, no_text);
     }
+}
+
+// The token was refused for its header.
+fn check_header(rt: &impl Abort, kind: Kind, answer: Answer) {
+    let is_named = matches!(&answer, Err(KeyRingError::Token(PasetoError::WrongHeader)));
+    expect_that(rt, is_named, &kind);
 }
 
 #[test]
@@ -186,8 +206,7 @@ fn a_token_of_another_version(rt: HostRuntime) {
     'kinds: for (kind, other) in others {
         let token = sealed(&rt, rt.alloc(), kind, Some("{\"kid\":\"k1\"}"));
         let answer = ask(&rt, rt.alloc(), other, Question::of(token.as_str()));
-        let is_named = matches!(answer, Err(KeyRingError::Token(PasetoError::WrongHeader)));
-        expect_that(&rt, is_named, &kind);
+        check_header(&rt, kind, answer);
     }
 }
 
@@ -200,15 +219,22 @@ fn an_assertion_that_is_not_passed(rt: HostRuntime) {
         };
         let token = kind.token(&rt, rt.alloc(), "hi", binding);
         let question = Question::of(token.as_str());
-        let answer = ask(&rt, rt.alloc(), kind, question);
-        let is_refused = matches!(answer, Err(KeyRingError::Token(PasetoError::Cryption)));
-        expect_that(&rt, is_refused, &kind);
+        check_tag(&rt, kind, ask(&rt, rt.alloc(), kind, question));
         let asserted = Question {
             assertion: Some("a"),
             ..question
         };
         check_opened(&rt, kind, ask(&rt, rt.alloc(), kind, asserted), "k1");
     }
+}
+
+// The footer that names an id is this one, and a ring finds the id's key by it.
+fn check_footer(rt: &impl Abort, alloc: Global, id: &str, expected: &str) {
+    let footer = key_footer(alloc, id).expect(rt, "a footer");
+    expect_text(rt, footer.as_str(), expected);
+    let mut ring = KeyRing::<V4>::new(alloc);
+    put_key(rt, &mut ring, id, symmetric_key(&SECRET));
+    expect_that(rt, ring.key_of(footer.as_str()).is_ok(), id);
 }
 
 // The texts are those of Python's `json.dumps`, with no space and with letters beyond ASCII as they are. A ring finds
@@ -225,10 +251,6 @@ fn footers_that_name_a_key(rt: HostRuntime) {
         ("Grüße 🔑", "{\"kid\":\"Grüße 🔑\"}"),
         ("\u{1}", "{\"kid\":\"\\u0001\"}"),
     ] {
-        let footer = key_footer(alloc, id).expect(&rt, "a footer");
-        expect_text(&rt, footer.as_str(), expected);
-        let mut ring = KeyRing::<V4>::new(alloc);
-        ring.add(id, symmetric_key(&SECRET)).expect(&rt, "room");
-        expect_that(&rt, ring.key_of(footer.as_str()).is_ok(), &id);
+        check_footer(&rt, alloc, id, expected);
     }
 }

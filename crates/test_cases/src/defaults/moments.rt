@@ -2,12 +2,14 @@
 
 use crate::builders::maps::Numbers;
 use crate::claims::json::value_of;
-use crate::defaults::kinds::moment_after;
+use crate::defaults::kinds::{Answer, moment_after};
 use crate::defaults::rows::NONE;
 use crate::expect::{expect_refusal, expect_text, expect_that};
 use crate::kinds::{Binding, Kind, SECRET, symmetric_key};
 use jiff::Timestamp;
-use rusty_paseto::prelude::{CountingSetter, Local, PasetoBuilder, PasetoParser, V4, fits_default};
+use rusty_paseto::prelude::{
+    CountingSetter, Local, PasetoBuilder, PasetoParser, PasetoSymmetricKey, V4, fits_default,
+};
 use serde_json::Value;
 use std::alloc::Global;
 use std::process::Abort;
@@ -139,20 +141,30 @@ fn read_back(rt: HostRuntime) {
     }
 }
 
+// The claims of the token that is built.
+fn claims_of(rt: &impl Abort, alloc: Global, builder: PasetoBuilder<'_, V4, Local>) -> Value {
+    let key = symmetric_key::<V4>(&SECRET);
+    let token = builder.build(&mut Counting::new(), &key);
+    read(alloc, token.expect(rt, "a token"), &key).expect(rt, "claims")
+}
+
+fn read(alloc: Global, token: String, key: &PasetoSymmetricKey<V4, Local>) -> Answer {
+    PasetoParser::<V4, Local>::new(alloc).parse(token.as_str(), key)
+}
+
+// The text under `exp` in the claims.
+fn end_in(rt: &impl Abort, alloc: Global, claims: Value) -> String {
+    let end = claims.get("exp").expect(rt, "an expiration");
+    String::from_str(alloc, end.as_str().expect(rt, "a text")).expect(rt, "memory")
+}
+
 // The text under `exp` in a token of so many seconds that is built at the moment, or the text of the refusal.
 fn end_of(rt: &impl Abort, alloc: Global, now: Timestamp, seconds: u32) -> String {
     let mut builder = PasetoBuilder::<V4, Local>::try_default(alloc, now).expect(rt, "a builder");
     if let Err(refusal) = builder.put_lifetime(seconds) {
         return format!(in alloc; "{refusal}").expect(rt, "memory");
     }
-    let key = symmetric_key::<V4>(&SECRET);
-    let token = builder
-        .build(&mut Counting::new(), &key)
-        .expect(rt, "a token");
-    let parser = PasetoParser::<V4, Local>::new(alloc);
-    let claims = parser.parse(token.as_str(), &key).expect(rt, "claims");
-    let end = claims.get("exp").expect(rt, "an expiration");
-    String::from_str(alloc, end.as_str().expect(rt, "a text")).expect(rt, "memory")
+    end_in(rt, alloc, claims_of(rt, alloc, builder))
 }
 
 #[test]

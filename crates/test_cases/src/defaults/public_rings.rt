@@ -2,7 +2,7 @@
 
 use crate::defaults::key_rings::put_key;
 use crate::defaults::ring_parsing::{
-    CLAIMS, FOOTER, PARSED, ROWS, expect_told, parser_of, token_of,
+    CLAIMS, FOOTER, PARSED, ROWS, Row, expect_told, parser_of, token_of,
 };
 use crate::expect::{expect_refusal, expect_text, expect_that};
 use crate::kinds::{Binding, Kind, OTHER_SECRET, SECRET, symmetric_key};
@@ -40,14 +40,24 @@ fn ring_of<'a, V: ToyVersion>(
     ring
 }
 
+fn check_row<V: ToyVersion + Verifies<V::Toy>>(
+    rt: &impl Abort,
+    alloc: Global,
+    kind: Kind,
+    ring: &PublicKeyRing<'_, V>,
+    row: Row,
+) {
+    let token = token_of(rt, alloc, kind, row.payload);
+    let parser = parser_of::<V, Public>(rt, alloc, row);
+    let answer = ring.parse(&V::toy(), &parser, token.as_str());
+    expect_told(rt, alloc, answer, row.told);
+}
+
 fn check_version<V: ToyVersion + Verifies<V::Toy>>(rt: &impl Abort, alloc: Global, kind: Kind) {
     let (first, second) = (Keys::of(&SECRET), Keys::of(&OTHER_SECRET));
     let ring = ring_of::<V>(rt, alloc, &first, &second);
     'rows: for &row in ROWS {
-        let token = token_of(rt, alloc, kind, row.payload);
-        let parser = parser_of::<V, Public>(rt, alloc, row);
-        let answer = ring.parse(&V::toy(), &parser, token.as_str());
-        expect_told(rt, alloc, answer, row.told);
+        check_row::<V>(rt, alloc, kind, &ring, row);
     }
     let token = token_of(rt, alloc, kind, CLAIMS);
     let generic = GenericParser::<V, Public>::new(alloc);
@@ -55,22 +65,34 @@ fn check_version<V: ToyVersion + Verifies<V::Toy>>(rt: &impl Abort, alloc: Globa
     expect_told(rt, alloc, answer, PARSED);
 }
 
-// A ring that owns its keys answers what one with lent keys does.
-fn check_owned<V: ToyVersion + Verifies<V::Toy>>(rt: &impl Abort, alloc: Global, kind: Kind) {
+// A ring that owns its keys, with the first secret's as `k1`.
+fn owned_ring<V: ToyVersion>(rt: &impl Abort, alloc: Global) -> OwnedPublicKeyRing<V> {
     let keys = Keys::of(&SECRET);
     let lent = V::public_key(&keys).expect(rt, "a key");
+    let copied = PublicKey::copy_of(alloc, &lent).expect(rt, "memory");
     let mut ring = OwnedPublicKeyRing::<V>::new(alloc);
-    put_key(
-        rt,
-        &mut ring,
-        "k1",
-        PublicKey::copy_of(alloc, &lent).expect(rt, "memory"),
-    );
+    put_key(rt, &mut ring, "k1", copied);
+    ring
+}
+
+fn check_owned_row<V: ToyVersion + Verifies<V::Toy>>(
+    rt: &impl Abort,
+    alloc: Global,
+    kind: Kind,
+    ring: &OwnedPublicKeyRing<V>,
+    row: Row,
+) {
+    let token = token_of(rt, alloc, kind, row.payload);
+    let parser = parser_of::<V, Public>(rt, alloc, row);
+    let answer = ring.parse(&V::toy(), &parser, token.as_str());
+    expect_told(rt, alloc, answer, row.told);
+}
+
+// A ring that owns its keys answers what one with lent keys does.
+fn check_owned<V: ToyVersion + Verifies<V::Toy>>(rt: &impl Abort, alloc: Global, kind: Kind) {
+    let ring = owned_ring::<V>(rt, alloc);
     'rows: for &row in ROWS {
-        let token = token_of(rt, alloc, kind, row.payload);
-        let parser = parser_of::<V, Public>(rt, alloc, row);
-        let answer = ring.parse(&V::toy(), &parser, token.as_str());
-        expect_told(rt, alloc, answer, row.told);
+        check_owned_row::<V>(rt, alloc, kind, &ring, row);
     }
     let token = token_of(rt, alloc, kind, CLAIMS);
     let generic = GenericParser::<V, Public>::new(alloc);
@@ -154,18 +176,22 @@ fn the_footer_picks_the_key(rt: HostRuntime) {
     }
 }
 
+// Whether the token was refused for its signature or its box.
+fn is_refused(answer: Opened) -> bool {
+    matches!(
+        &answer,
+        Err(KeyRingError::Token(PasetoError::InvalidSignature | PasetoError::ChaChaCipherError))
+    )
+}
+
 #[test]
 fn no_other_key_is_tried(rt: HostRuntime) {
     let alloc = rt.alloc();
     'kinds: for &kind in KINDS {
         let binding = Binding::of_footer(Some("{\"kid\":\"k2\"}"));
         let token = kind.token(&rt, alloc, CLAIMS, binding);
-        let refused = ask(&rt, alloc, kind, token.as_str());
-        let is_refused = matches!(
-            &refused,
-            Err(KeyRingError::Token(PasetoError::InvalidSignature | PasetoError::ChaChaCipherError))
-        );
-        expect_that(&rt, is_refused, &kind);
+        let answer = ask(&rt, alloc, kind, token.as_str());
+        expect_that(&rt, is_refused(answer), &kind);
     }
 }
 
@@ -202,15 +228,19 @@ fn the_assertion_of_a_public_token(rt: HostRuntime) {
     );
 }
 
+fn check_boxed_row(rt: &impl Abort, alloc: Global, ring: &KeyRing<V2>, row: Row) {
+    let token = token_of(rt, alloc, Kind::V2Local, row.payload);
+    let parser = parser_of::<V2, Local>(rt, alloc, row);
+    let answer = ring.parse(&ToyBox, &parser, token.as_str());
+    expect_told(rt, alloc, answer, row.told);
+}
+
 #[test]
 fn claims_of_boxed_tokens_are_checked(rt: HostRuntime) {
     let (alloc, kind) = (rt.alloc(), Kind::V2Local);
     let ring = boxed_ring(&rt, alloc);
     'rows: for &row in ROWS {
-        let token = token_of(&rt, alloc, kind, row.payload);
-        let parser = parser_of::<V2, Local>(&rt, alloc, row);
-        let answer = ring.parse(&ToyBox, &parser, token.as_str());
-        expect_told(&rt, alloc, answer, row.told);
+        check_boxed_row(&rt, alloc, &ring, row);
     }
     let token = token_of(&rt, alloc, kind, CLAIMS);
     let generic = GenericParser::<V2, Local>::new(alloc);

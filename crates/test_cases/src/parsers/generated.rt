@@ -59,11 +59,13 @@ fn array_of(rt: &impl Abort, alloc: Global, leaf: (&str, &str), inner: &Spelled)
 // The keys are spelled out of their order.
 fn object_of(rt: &impl Abort, alloc: Global, leaf: (&str, &str), inner: &Spelled) -> Spelled {
     let (text, written) = leaf;
-    let text = format!(in alloc; "{{\"\\u00e9\\\"\":{text},\"\":{}}}", inner.text);
-    let written = format!(in alloc; "{{\"\":{},\"\u{e9}\\\"\":{written}}}", inner.written);
     Spelled {
-        text: text.expect(rt, "memory"),
-        written: written.expect(rt, "memory"),
+        text: format!(in alloc; "{{\"\\u00e9\\\"\":{text},\"\":{}}}", inner.text).expect(
+            rt, "memory",
+        ),
+        written: format!(in alloc; "{{\"\":{},\"\u{e9}\\\"\":{written}}}", inner.written).expect(
+            rt, "memory",
+        ),
     }
 }
 

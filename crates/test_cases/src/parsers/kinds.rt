@@ -17,11 +17,12 @@ use test_toys::keys::{Keys, ToyVersion};
 /// What a parser answers.
 pub(crate) type Answer = Result<Value, GenericParserError>;
 
-/// What a parser expects: the checks, the footer and the implicit assertion.
+/// What a parser expects: the checks, the footer and the implicit assertion, and how long a token may be.
 #[derive(Clone, Copy)]
 pub(crate) struct Expected<'a> {
     pub(crate) steps: &'a [Step<'a>],
     pub(crate) binding: Binding<'a>,
+    pub(crate) longest: Option<usize>,
 }
 
 impl<'a> Expected<'a> {
@@ -30,6 +31,7 @@ impl<'a> Expected<'a> {
         Expected {
             steps,
             binding: Binding::NONE,
+            longest: None,
         }
     }
 
@@ -38,11 +40,21 @@ impl<'a> Expected<'a> {
         Expected {
             steps: &[],
             binding,
+            longest: None,
+        }
+    }
+
+    /// A token of at most so many bytes, and nothing else.
+    pub(crate) fn within(bytes: usize) -> Self {
+        Expected {
+            steps: &[],
+            binding: Binding::NONE,
+            longest: Some(bytes),
         }
     }
 }
 
-// A parser that checks, with the footer.
+// A parser that checks, with the footer and the limit.
 fn parser_of<'a, V: VersionTrait, P: PurposeTrait>(
     rt: &impl Abort,
     alloc: Global,
@@ -54,6 +66,9 @@ fn parser_of<'a, V: VersionTrait, P: PurposeTrait>(
     }
     if let Some(footer) = expected.binding.footer {
         parser.set_footer(Footer::from(footer));
+    }
+    if let Some(bytes) = expected.longest {
+        parser.set_longest(bytes);
     }
     parser
 }

@@ -1,67 +1,27 @@
 //! Limits on how long a token may be.
 
 use crate::expect::{expect_same, expect_shown, expect_that};
-use crate::kinds::{Binding, KINDS, Kind, SECRET, symmetric_key};
-use crate::parsers::kinds::Answer;
-use rusty_paseto_core::{
-    Local, PasetoError, Public, PurposeTrait, V1, V2, V3, V4, Verifies, VersionTrait,
-};
-use rusty_paseto_generic::{Blame, GenericLocalVersion, GenericParser, GenericParserError};
+use crate::kinds::{Binding, KINDS, Kind};
+use crate::parsers::kinds::{Answer, Expected};
+use rusty_paseto_core::{Local, PasetoError, V4};
+use rusty_paseto_generic::{Blame, GenericParser, GenericParserError};
 use std::alloc::Global;
 use std::process::Abort;
-use test_toys::ToyBox;
-use test_toys::keys::{Keys, ToyVersion};
 
-fn parser_within<'a, V: VersionTrait, P: PurposeTrait>(
-    alloc: Global,
-    longest: usize,
-) -> GenericParser<'a, V, P> {
-    let mut parser = GenericParser::<V, P>::new(alloc);
-    parser.set_longest(longest);
-    parser
-}
-
-fn opened<V: GenericLocalVersion>(alloc: Global, longest: usize, token: &str) -> Answer {
-    let parser = parser_within::<V, Local>(alloc, longest);
-    parser.parse(token, &symmetric_key(&SECRET))
-}
-
-fn unboxed(alloc: Global, longest: usize, token: &str) -> Answer {
-    let parser = parser_within::<V2, Local>(alloc, longest);
-    parser.parse(&ToyBox, token, &symmetric_key(&SECRET))
-}
-
-fn verified<V: ToyVersion + Verifies<V::Toy>>(
-    rt: &impl Abort,
-    alloc: Global,
-    longest: usize,
-    token: &str,
-) -> Answer {
-    let keys = Keys::of(&SECRET);
-    let key = V::public_key(&keys).expect(rt, "a key");
-    let parser = parser_within::<V, Public>(alloc, longest);
-    parser.parse(&V::toy(), token, &key)
-}
-
-// What a parser with a limit answers for a token.
-fn parse_within(rt: &impl Abort, alloc: Global, kind: Kind, longest: usize, token: &str) -> Answer {
-    match kind {
-        Kind::V1Local => opened::<V1>(alloc, longest, token),
-        Kind::V2Local => unboxed(alloc, longest, token),
-        Kind::V3Local => opened::<V3>(alloc, longest, token),
-        Kind::V4Local => opened::<V4>(alloc, longest, token),
-        Kind::V1Public => verified::<V1>(rt, alloc, longest, token),
-        Kind::V2Public => verified::<V2>(rt, alloc, longest, token),
-        Kind::V3Public => verified::<V3>(rt, alloc, longest, token),
-        Kind::V4Public => verified::<V4>(rt, alloc, longest, token),
-    }
-}
-
-fn is_too_long(answer: &Answer) -> bool {
+fn is_too_long(answer: Answer) -> bool {
     matches!(
-        answer,
+        &answer,
         Err(GenericParserError::CipherError {
             source: PasetoError::TooLong,
+        })
+    )
+}
+
+fn is_size(answer: Answer) -> bool {
+    matches!(
+        &answer,
+        Err(GenericParserError::CipherError {
+            source: PasetoError::IncorrectSize,
         })
     )
 }
@@ -73,10 +33,11 @@ fn a_token_at_its_limit(rt: HostRuntime) {
     'kinds: for &kind in KINDS {
         let token = kind.token(&rt, alloc, "{}", Binding::NONE);
         let (token, length) = (token.as_str(), token.len());
-        let parsed = parse_within(&rt, alloc, kind, length, token);
+        let parsed = kind.parse(&rt, alloc, token, Expected::within(length));
         expect_that(&rt, parsed.is_ok(), &kind);
-        let refused = parse_within(&rt, alloc, kind, length.saturating_sub(1), token);
-        expect_that(&rt, is_too_long(&refused), &kind);
+        let shorter = Expected::within(length.saturating_sub(1));
+        let refused = kind.parse(&rt, alloc, token, shorter);
+        expect_that(&rt, is_too_long(refused), &kind);
     }
 }
 
@@ -85,16 +46,10 @@ fn a_token_at_its_limit(rt: HostRuntime) {
 fn the_length_comes_first(rt: HostRuntime) {
     let alloc = rt.alloc();
     'kinds: for &kind in KINDS {
-        let refused = parse_within(&rt, alloc, kind, 7, "v4.local");
-        expect_that(&rt, is_too_long(&refused), &kind);
-        let miscounted = parse_within(&rt, alloc, kind, 8, "v4.local");
-        let is_size = matches!(
-            miscounted,
-            Err(GenericParserError::CipherError {
-                source: PasetoError::IncorrectSize,
-            })
-        );
-        expect_that(&rt, is_size, &kind);
+        let refused = kind.parse(&rt, alloc, "v4.local", Expected::within(7));
+        expect_that(&rt, is_too_long(refused), &kind);
+        let miscounted = kind.parse(&rt, alloc, "v4.local", Expected::within(8));
+        expect_that(&rt, is_size(miscounted), &kind);
     }
 }
 
@@ -113,9 +68,8 @@ fn the_limit_is_told(rt: HostRuntime) {
 
 #[test]
 fn the_refusal_tells_its_cause(rt: HostRuntime) {
-    let Err(refusal) = opened::<V4>(rt.alloc(), 0, "v4") else {
-        panic!(rt; "a token above the limit");
-    };
+    let answer = Kind::V4Local.parse(&rt, rt.alloc(), "v4", Expected::within(0));
+    let refusal = answer.err().expect(&rt, "a refusal");
     expect_same(&rt, refusal.blame(), Blame::Foreign, "the blame");
     expect_shown(
         &rt,

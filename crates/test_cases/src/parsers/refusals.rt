@@ -3,7 +3,7 @@
 use crate::claims::json::value_of;
 use crate::expect::expect_that;
 use crate::kinds::{Binding, Kind, SECRET, symmetric_key};
-use crate::parsers::steps::{Rule, custom, map_of, values_of};
+use crate::parsers::steps::{Rule, Step, add, custom, map_of, values_of};
 use rusty_paseto_claims::PasetoClaimError;
 use rusty_paseto_core::{Local, V4};
 use rusty_paseto_generic::{CheckSetter, GenericParser, GenericParserError};
@@ -40,21 +40,31 @@ fn parsed(
     }
 }
 
+// The value under the key was refused for its numbers.
+fn expect_unexpected(rt: &impl Abort, answer: Result<(), GenericParserError>, key: &str) {
+    expect_that(rt, is_unexpected(&answer, key), key);
+}
+
+// The parser reads the claims.
+fn expect_parsed(rt: &impl Abort, alloc: Global, parser: &Parser<'_>, payload: &str) {
+    parsed(rt, alloc, parser, payload).expect(rt, payload);
+}
+
 #[test]
 fn other_numbers(rt: HostRuntime) {
-    let alloc = rt.alloc();
+    let (alloc, odd) = (rt.alloc(), "[1,{\"a\":1.0}]");
     let mut parser = Parser::new(alloc);
-    let four = custom(&rt, alloc, "n", "4");
-    parser.put_check(&four).expect(&rt, "a check");
-    let odd = custom(&rt, alloc, "n", "[1,{\"a\":1.0}]");
-    expect_that(
+    add(&rt, &mut parser, alloc, Step::Check("n", "4")).expect(&rt, "a check");
+    let checked = add(&rt, &mut parser, alloc, Step::Check("n", odd));
+    expect_unexpected(&rt, checked, "n");
+    let validated = add(
         &rt,
-        is_unexpected(&parser.put_check(&odd), "n"),
-        "the answer",
+        &mut parser,
+        alloc,
+        Step::Checker("n", odd, Rule::Tells),
     );
-    let refused = parser.put_validator(&odd, Rule::Tells.boxed(&rt, alloc));
-    expect_that(&rt, is_unexpected(&refused, "n"), "the answer");
-    parsed(&rt, alloc, &parser, "{\"n\":4}").expect(&rt, "the check of 4");
+    expect_unexpected(&rt, validated, "n");
+    expect_parsed(&rt, alloc, &parser, "{\"n\":4}");
 }
 
 // A whole number, and two that are none.
@@ -62,19 +72,23 @@ fn fractions(rt: &impl Abort, alloc: Global) -> BTreeMap<String, Value> {
     values_of(rt, alloc, &[("a", "1"), ("b", "3.5"), ("c", "4.5")])
 }
 
+fn put_fractions(rt: &impl Abort, alloc: Global, parser: &mut Parser<'_>) {
+    let answer = parser.put_checks(fractions(rt, alloc));
+    expect_unexpected(rt, answer, "b");
+}
+
+fn extend_by_fractions(rt: &impl Abort, alloc: Global, parser: &mut Parser<'_>) {
+    let answer = parser.extend_check_claims(fractions(rt, alloc)).map(drop);
+    expect_unexpected(rt, answer, "b");
+}
+
 #[test]
 fn all_values_or_none(rt: HostRuntime) {
-    let alloc = rt.alloc();
-    let mut parser = Parser::new(alloc);
-    expect_that(
-        &rt,
-        is_unexpected(&parser.put_checks(fractions(&rt, alloc)), "b"),
-        "the answer",
-    );
-    parsed(&rt, alloc, &parser, "{}").expect(&rt, "no check");
-    let answer = parser.extend_check_claims(fractions(&rt, alloc)).map(drop);
-    expect_that(&rt, is_unexpected(&answer, "b"), "the answer");
-    parsed(&rt, alloc, &parser, "{}").expect(&rt, "no check");
+    let mut parser = Parser::new(rt.alloc());
+    put_fractions(&rt, rt.alloc(), &mut parser);
+    expect_parsed(&rt, rt.alloc(), &parser, "{}");
+    extend_by_fractions(&rt, rt.alloc(), &mut parser);
+    expect_parsed(&rt, rt.alloc(), &parser, "{}");
 }
 
 fn chain_of_claims<'p, 'a>(
@@ -111,8 +125,6 @@ fn chains_of_calls(rt: HostRuntime) {
     let mut parser = Parser::new(alloc);
     let lent = chain_of_claims(&rt, alloc, &mut parser);
     let parser = chain_of_maps(&rt, alloc, lent);
-    let payload = "{\"a\":0,\"b\":0,\"d\":4}";
-    parsed(&rt, alloc, parser, payload).expect(&rt, "the check of d");
-    let answer = parsed(&rt, alloc, parser, "{\"d\":5}");
-    expect_that(&rt, is_unexpected(&answer, "d"), "the answer");
+    expect_parsed(&rt, alloc, parser, "{\"a\":0,\"b\":0,\"d\":4}");
+    expect_unexpected(&rt, parsed(&rt, alloc, parser, "{\"d\":5}"), "d");
 }

@@ -35,18 +35,33 @@ fn check_either(rt: &impl Abort, alloc: Global, kind: Kind, token: &str) {
     }
 }
 
+// With the empty footer's section the token has one point more.
+fn check_long(rt: &impl Abort, alloc: Global, kind: Kind, short: &str) {
+    let long = kind.token(rt, alloc, "", Binding::of_footer(Some("")));
+    expect_same(rt, &long.as_str().strip_suffix('.'), &Some(short), &kind);
+    check_either(rt, alloc, kind, long.as_str());
+}
+
 // No footer and an empty one bind alike.
 #[test]
 fn no_footer_and_an_empty_one(rt: HostRuntime) {
     'kinds: for &(kind, len) in LENGTHS {
         let short = kind.token(&rt, rt.alloc(), "", Binding::NONE);
         expect_same(&rt, &short.len(), &len, &kind);
-        let long = kind.token(&rt, rt.alloc(), "", Binding::of_footer(Some("")));
-        let stripped = long.as_str().strip_suffix('.');
-        expect_same(&rt, &stripped, &Some(short.as_str()), &kind);
         check_either(&rt, rt.alloc(), kind, short.as_str());
-        check_either(&rt, rt.alloc(), kind, long.as_str());
+        check_long(&rt, rt.alloc(), kind, short.as_str());
     }
+}
+
+fn check_stripped(rt: &impl Abort, alloc: Global, kind: Kind, stripped: &str) {
+    let (answer, calls) = kind.read_counted(alloc, &SECRET, stripped, FOOTER);
+    expect_that(rt, is_for_its_footer(answer), &kind);
+    expect_that(rt, calls == Calls::NONE, &kind);
+    kind.check_refused(rt, alloc, stripped, Binding::NONE);
+}
+
+fn is_for_its_footer(answer: Result<String, PasetoError>) -> bool {
+    matches!(&answer, Err(PasetoError::FooterInvalid))
 }
 
 // A token whose footer section was taken off is refused where the footer is passed, and neither a box nor a
@@ -60,14 +75,7 @@ fn a_stripped_footer(rt: HostRuntime) {
             .as_str()
             .strip_suffix(".Zm9vdGVy")
             .expect(&rt, "a footer");
-        let (answer, calls) = kind.read_counted(rt.alloc(), &SECRET, stripped, FOOTER);
-        expect_that(
-            &rt,
-            matches!(answer, Err(PasetoError::FooterInvalid)),
-            &kind,
-        );
-        expect_that(&rt, calls == Calls::NONE, &kind);
-        kind.check_refused(&rt, rt.alloc(), stripped, Binding::NONE);
+        check_stripped(&rt, rt.alloc(), kind, stripped);
     }
 }
 
@@ -76,11 +84,7 @@ fn a_stripped_footer(rt: HostRuntime) {
 fn a_footer_that_is_lacking(rt: HostRuntime) {
     'kinds: for &(kind, _) in LENGTHS {
         let answer = kind.read(rt.alloc(), "v5.local.1234", FOOTER);
-        expect_that(
-            &rt,
-            matches!(answer, Err(PasetoError::FooterInvalid)),
-            &kind,
-        );
+        expect_that(&rt, is_for_its_footer(answer), &kind);
         let answer = kind.read(rt.alloc(), "v5.local.1234", Binding::NONE);
         expect_that(&rt, matches!(answer, Err(PasetoError::WrongHeader)), &kind);
         let answer = kind.read(rt.alloc(), "v5.local", FOOTER);

@@ -78,20 +78,25 @@ fn texts_that_are_no_tokens(rt: HostRuntime) {
     }
 }
 
+// The token without the last letter of its footer's section.
+fn without_last_letter(rt: &impl Abort, alloc: Global, token: String) -> String {
+    let cut = token.as_str().strip_suffix(".Zm9vdGVy");
+    let cut = cut.expect(rt, "the footer");
+    format!(in alloc; "{cut}.Zm9vdGV").expect(rt, "memory")
+}
+
+fn is_for_its_footer(answer: Result<String, PasetoError>) -> bool {
+    matches!(&answer, Err(PasetoError::FooterInvalid))
+}
+
 #[test]
 fn a_footer_without_its_last_letter(rt: HostRuntime) {
     let binding = Binding::of_footer(Some("footer"));
     'kinds: for &kind in KINDS {
         let (made, _) = kind.make_counted(rt.alloc(), &KNOWN, "", binding);
-        let token = made.expect(&rt, "a token");
-        let cut = token
-            .as_str()
-            .strip_suffix(".Zm9vdGVy")
-            .expect(&rt, "the footer");
-        let cut = format!(in rt.alloc(); "{cut}.Zm9vdGV").expect(&rt, "memory");
+        let cut = without_last_letter(&rt, rt.alloc(), made.expect(&rt, "a token"));
         let (answer, _) = kind.read_counted(rt.alloc(), &KNOWN, cut.as_str(), binding);
-        let refused = matches!(&answer, Err(PasetoError::FooterInvalid));
-        expect_that(&rt, refused, &kind);
+        expect_that(&rt, is_for_its_footer(answer), &kind);
     }
 }
 
