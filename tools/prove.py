@@ -157,7 +157,7 @@ class Run:
     def share(self, name, waiting):
         """How many processes prove the first of so many crates that wait. One does it at the least cost. But all wait for the crate
         with the longest way, so it gets two, or nearly all processors if no crate stands on it; those that are near get two
-        while there is room. Processors for which no crate waits are shared, too."""
+        while there is room, and one that ends the run with it does. Processors for which no crate waits are shared, too."""
         if self.processes <= 2:
             return 1
         longest = max(map(self.way, [name, *self.at_work]))
@@ -166,6 +166,8 @@ class Run:
         wanted = 1
         if self.way(name) == longest:
             wanted = self.processes - 1 if is_top else 2
+        elif is_top and self.way(name) > longest / 2:
+            wanted = 2
         elif self.way(name) > NEAR * longest and busy + 2 <= self.processes + 1:
             wanted = 2
         return max(wanted, (self.processes - busy) // waiting)
