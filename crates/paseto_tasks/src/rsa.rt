@@ -1,8 +1,8 @@
 //! The scheme of version 1, with a salt generated for one token.
 
-ghost use Rattle.std.specs.Prelude.{◌≡◌, IfErr, length};
+ghost use Rattle.std.specs.Prelude.{◌≡◌, IfErr, IfOk, length};
 ghost use Rattle.paseto_rsa.specs.Keys.{rsa_public};
-ghost use Rattle.paseto_rsa.specs.RsaPss.{IsRefused, RsaPssVerifies};
+ghost use Rattle.paseto_rsa.specs.RsaPss.{IsRefused, IsSigned, RsaPssVerifies};
 ghost use Rattle.paseto_tasks.specs.Error.{BlamesOnly, IsFixed, IsOutside};
 ghost use Rattle.paseto_tasks.specs.Public.{IsUnsigned};
 
@@ -23,6 +23,10 @@ struct Salt {
 
 impl TryRng for Salt {
     type Error = Infallible;
+
+    ghost may_next_u32 = { λ _ number _. number ≡ 0 };
+
+    ghost may_next_u64 = { λ _ number _. number ≡ 0 };
 
     ghost may_fill = { λ salt filled _. length filled ≡ 48 → filled ≡ salt.bytes };
 
@@ -50,7 +54,9 @@ pub struct SaltedRsa {
 }
 
 impl SaltedRsa {
-    fn new(bytes: [u8; SALT_LEN]) -> SaltedRsa {
+    fn new(bytes: [u8; SALT_LEN]) -> SaltedRsa
+        ensures { result.scheme.rng.bytes ≡ bytes }
+    {
         SaltedRsa {
             scheme: RsaPss::new(Salt { bytes }),
         }
@@ -71,7 +77,12 @@ impl SignatureScheme<256> for SaltedRsa {
         alloc: Global,
         private: &[u8],
         message: &[u8],
-    ) -> Result<[u8; 256], PasetoError> {
+    ) -> Result<[u8; 256], PasetoError>
+        ensures ok { IfOk result (λ signature.
+            RsaPssVerifies (rsa_public private.now) message.now signature
+            × IsSigned private.now message.now self.old.scheme.rng.bytes signature) }
+        ensures err { IfErr result (IsUnsigned private.now message.now) }
+    {
         self.scheme.sign(alloc, private, message)
     }
 
@@ -89,6 +100,8 @@ impl SignatureScheme<256> for SaltedRsa {
 /// The scheme for one signature, with a generated salt. If the generator fails, this returns
 /// `Random`.
 pub fn signer<G: TryRng>(generator: &mut G) -> Result<SaltedRsa, ProgramError>
+    ensures drawn { IfOk result
+        (λ signer. G.may_fill generator.old signer.scheme.rng.bytes generator.new) }
     ensures outside { IfErr result IsOutside }
     ensures fixed { IfErr result IsFixed }
     ensures blames { IfErr result (BlamesOnly G.Error ⊥ ⊥ ⊥) }
