@@ -24,7 +24,7 @@ pub use error::{Names, ProgramError, TimeOption};
 pub use input::{read_key_line, read_line, read_password};
 pub use key_line::{PairLines, begins_as};
 pub use output::{with_line_feed, write_whole};
-pub use rsa::{SaltedRsa, signer, verifier};
+pub use rsa::{NoSalt, SaltedRsa, signer, verifier};
 pub use suite::Suite;
 pub use token_kind::TokenKind;
 pub use version::takes;

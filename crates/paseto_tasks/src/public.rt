@@ -15,11 +15,12 @@ use crate::arguments::Options;
 use crate::error::{ProgramError, answered};
 use crate::input::{read_line, read_text};
 use crate::key_line::PairLines;
-use crate::rsa::{SaltedRsa, signer, verifier};
+use crate::rsa::{NoSalt, SaltedRsa, signer, verifier};
 use crate::token_kind::TokenKind;
 use crate::version::version_for;
 use paseto_ed25519::Ed25519;
 use paseto_p384::P384;
+use paseto_rsa::RsaPss;
 use rand_core::TryRng;
 use rusty_paseto_core::{
     PasetoAsymmetricPrivateKey, PasetoAsymmetricPublicKey, Payload, Public, Signs, V1, V2, V3, V4,
@@ -148,7 +149,7 @@ fn verify_in<R: Read>(
         (λ bytes. VerifiesIn version key.now options.now (line_of_input bytes)) IsPlain result }
 {
     match version {
-        PaserkVersion::V1 => verify_by::<V1, SaltedRsa, R>(
+        PaserkVersion::V1 => verify_by::<V1, RsaPss<NoSalt>, R>(
             alloc,
             TokenKind::V1Public,
             &verifier(),

@@ -28,8 +28,9 @@ use crate::commands::times::{leeway_of, moment_of};
 use jiff::Timestamp;
 use paseto_ed25519::Ed25519;
 use paseto_p384::P384;
+use paseto_rsa::RsaPss;
 use paseto_tasks::{
-    Options, PairLines, ProgramError, SaltedRsa, TimeOption, TokenKind, begins_as, takes, verifier,
+    NoSalt, Options, PairLines, ProgramError, TimeOption, TokenKind, begins_as, takes, verifier,
 };
 use paseto_xchacha20poly1305::XChaCha20Poly1305;
 use rusty_paseto::DefaultParser;
@@ -336,7 +337,13 @@ fn by_public_key(
     ensures blames { IfErr result (BlamesOnly ⊥ ⊥ ⊥ (IsOtherFooter (demanded demands.now).footer token.now)) }
 {
     match version {
-        PaserkVersion::V1 => verified::<V1, SaltedRsa>(alloc, &verifier(), key, demands, token),
+        PaserkVersion::V1 => verified::<V1, RsaPss<NoSalt>>(
+            alloc,
+            &verifier(),
+            key,
+            demands,
+            token,
+        ),
         PaserkVersion::V2 => verified::<V2, Ed25519>(alloc, &Ed25519, key, demands, token),
         PaserkVersion::V3 => verified::<V3, P384>(alloc, &P384, key, demands, token),
         PaserkVersion::V4 => verified::<V4, Ed25519>(alloc, &Ed25519, key, demands, token),
