@@ -7,3 +7,8 @@ pub mod Check
 pub mod Answers
 pub mod Ring
 pub mod Checked
+pub mod Files
+pub mod Forms
+pub mod Keys
+pub mod Main
+pub mod NewKey

@@ -1,6 +1,6 @@
 //! Why a command failed.
 
-ghost use Rattle.std.specs.Prelude.{◌≡◌};
+ghost use Rattle.std.specs.Prelude.{◌≡◌, []};
 
 use paseto_tasks::{Names, ProgramError};
 
@@ -32,6 +32,8 @@ impl<'a> Fault<'a> {
 }
 
 impl<'a> From<ProgramError> for Fault<'a> {
+    ghost from_gives = { λ source fault. (fault.about.now ≡ []) × (fault.error ≡ source) };
+
     fn from(error: ProgramError) -> Fault<'a> {
         Fault::about("", error)
     }

@@ -1,5 +1,8 @@
 //! The files and streams that the arguments name.
 
+ghost use Rattle.std.specs.Prelude.{◌≡◌, option_map};
+ghost use Rattle.paseto.specs.Files.{input_name, is_standard};
+
 use crate::fault::Fault;
 use crate::folder;
 use paseto_tasks::{ProgramError, write_whole};
@@ -10,12 +13,16 @@ use std::os::unix::fs::OpenOptionsExt;
 const STANDARD_INPUT: &str = "standard input";
 
 /// Whether an input is standard input: a hyphen, or no name.
-pub fn is_standard(input: Option<&str>) -> bool {
+pub fn is_standard(input: Option<&str>) -> bool
+    ensures { result ≡ is_standard (option_map (λ path. path.now) input.entry) }
+{
     input.is_none() || input == Some("-")
 }
 
 /// The name of an input in lines on standard error.
-pub fn name_of(input: Option<&str>) -> &str {
+pub fn name_of(input: Option<&str>) -> &str
+    ensures { result.now ≡ input_name (option_map (λ path. path.now) input.entry) }
+{
     match input {
         None | Some("-") => STANDARD_INPUT,
         Some(path) => path,

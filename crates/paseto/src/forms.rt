@@ -1,12 +1,20 @@
 //! The formats in which keys are written.
 
+ghost use Rattle.std.specs.Prelude.{◌≡◌, IfErr, IfOk, None, Some, option_map};
+ghost use Rattle.paseto.specs.Forms.{format_in};
+
 use crate::fault::Fault;
 use paseto_key_files::pem_of;
 use paseto_tasks::{Format, ProgramError, with_line_feed};
 use std::alloc::Global;
 
 /// The format that an argument names, or PASERK if there is none.
-pub fn format_of(word: Option<&str>) -> Result<Format, ProgramError> {
+pub fn format_of(word: Option<&str>) -> Result<Format, ProgramError>
+    ensures found { IfOk result (λ format.
+        format_in (option_map (λ text. text.now) word.entry) ≡ Some format) }
+    ensures none { IfErr result (λ error. (error ≡ ProgramError.NoFormat)
+        × (format_in (option_map (λ text. text.now) word.entry) ≡ None)) }
+{
     match word {
         None => Ok(Format::Paserk),
         Some(word) => match Format::parse(word) {

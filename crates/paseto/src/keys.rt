@@ -1,6 +1,10 @@
 //! The keys that the arguments name: in a file, on standard input or in the environment, opened if
 //! they are locked.
 
+ghost use Rattle.std.specs.Prelude.{◌≡◌, [], None, option_map};
+ghost use Rattle.paseto_tasks.specs.Error.{key_file_error_of};
+ghost use Rattle.paseto.specs.Keys.{about_of, key_name};
+
 use crate::fault::Fault;
 use crate::files::{name_of, opened};
 use paseto_key_files::{KeyFileError, Openers, unlock};
@@ -29,7 +33,9 @@ pub struct Held<'a> {
 
 impl<'a> Held<'a> {
     /// No password and no key.
-    pub fn nothing() -> Held<'a> {
+    pub fn nothing() -> Held<'a>
+        ensures { (result.password ≡ None) × (result.key ≡ None) × (result.key_name.now ≡ []) }
+    {
         Held {
             password: None,
             key: None,
@@ -68,7 +74,7 @@ impl<'a> Held<'a> {
                 ProgramError::SecondLine,
             )),
             Ok(line) => Ok(line),
-            Err(error) => Err(self.fault(name, error)),
+            Err(error) => Err(key_file_fault(self.key_name, name, error)),
         }
     }
 
@@ -82,15 +88,19 @@ impl<'a> Held<'a> {
         };
         unlock(alloc, &openers, text)
     }
+}
 
-    /// Why a key file is not opened. The error is about the key that opens it, or about the key file.
-    fn fault(&self, name: &'a str, error: KeyFileError) -> Fault<'a> {
-        let about = match &error {
-            KeyFileError::OtherOpener(_) => self.key_name,
-            _ => name,
-        };
-        Fault::about(about, ProgramError::from(error))
-    }
+/// Why a key file is not opened or made. The error is about the key that opens it, or about the key
+/// file.
+pub fn key_file_fault<'a>(opener: &'a str, name: &'a str, error: KeyFileError) -> Fault<'a>
+    ensures about { result.about.now ≡ about_of error opener.now name.now }
+    ensures error { result.error ≡ key_file_error_of error }
+{
+    let about = match &error {
+        KeyFileError::OtherOpener(_) => opener,
+        _ => name,
+    };
+    Fault::about(about, ProgramError::from(error))
 }
 
 /// Whether a key line has a second line, which only PEM has.
@@ -99,7 +109,9 @@ fn has_second_line(line: &str) -> bool {
 }
 
 /// The name of a key in lines on standard error.
-pub fn key_name(key: Option<&str>) -> &str {
+pub fn key_name(key: Option<&str>) -> &str
+    ensures { result.now ≡ key_name (option_map (λ path. path.now) key.entry) }
+{
     match key {
         None => KEY,
         Some(path) => name_of(Some(path)),

@@ -1,9 +1,13 @@
 //! The commands `wrap`, `unwrap`, `seal` and `unseal`.
 
+ghost use Rattle.std.specs.Prelude.{◌≡◌, Ok, IfErr, IfOk, IsErrAnd};
+ghost use Rattle.paseto_tasks.specs.Error.{key_file_error_of};
+ghost use Rattle.paseto.specs.Keys.{about_of};
+
 use crate::fault::Fault;
 use crate::files::put;
 use crate::forms::{format_of, formed};
-use crate::keys::{Held, key_line, key_name, key_text, password_of};
+use crate::keys::{Held, key_file_fault, key_line, key_name, key_text, password_of};
 use paseto_key_files::{KeyFileError, protect, seal, wrap};
 use paseto_tasks::{ProgramError, with_line_feed};
 use paseto_words::{KeyFile, Openers, Seal, Under, Wrap, Written};
@@ -104,14 +108,15 @@ fn by_other<'a>(
     made: Result<String, KeyFileError>,
     name: &'a str,
     other: &'a str,
-) -> Result<String, Fault<'a>> {
+) -> Result<String, Fault<'a>>
+    ensures made { IfOk result (λ text. made ≡ Ok text) }
+    ensures refused { IfErr result (λ fault. IsErrAnd made (λ source.
+        (fault.about.now ≡ about_of source other.now name.now)
+        × (fault.error ≡ key_file_error_of source))) }
+{
     match made {
         Ok(text) => Ok(text),
-        Err(KeyFileError::OtherOpener(source)) => Err(Fault::about(
-            other,
-            ProgramError::from(KeyFileError::OtherOpener(source)),
-        )),
-        Err(error) => Err(Fault::about(name, ProgramError::from(error))),
+        Err(error) => Err(key_file_fault(other, name, error)),
     }
 }
 

@@ -2,6 +2,9 @@
 //! signs and verifies texts.
 #![tactic(auto)]
 
+ghost use Rattle.std.specs.Prelude.{MatchBool};
+ghost use Rattle.paseto.specs.Main.{IsNoSecretKey, IsSecretKey};
+
 mod commands;
 mod fault;
 mod files;
@@ -65,11 +68,14 @@ fn is_secret(word: &str) -> bool {
 }
 
 /// Whether a text begins like a secret key.
-fn is_secret_key(text: &str) -> bool {
-    matches!(
-        header_of(text),
-        Some((_, PaserkType::Local | PaserkType::Secret, _))
-    )
+fn is_secret_key(text: &str) -> bool
+    ensures { MatchBool result (IsSecretKey text.now) (IsNoSecretKey text.now) }
+{
+    match header_of(text) {
+        Some((_, PaserkType::Local | PaserkType::Secret, _)) => true,
+        Some((_, PaserkType::Public, _)) => false,
+        None => false,
+    }
 }
 
 /// Prints help, the version, or why the arguments are refused, and returns the status.

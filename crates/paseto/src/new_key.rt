@@ -1,5 +1,8 @@
 //! The command `keygen`.
 
+ghost use Rattle.std.specs.Prelude.{◌≡◌, IfErr, IfOk, option_map};
+ghost use Rattle.paseto.specs.NewKey.{IsKindFault, IsKindFor};
+
 use crate::fault::Fault;
 use crate::files::{put, write_new};
 use crate::forms::{format_of, formed, without_line_feed};
@@ -36,7 +39,13 @@ pub fn make<'a>(rt: &HostRuntime, words: &Keygen<'a>) -> Result<u8, Fault<'a>> {
 
 /// The kind that the arguments name. If a file for the public half is named, keys of that kind must
 /// have one.
-fn kind_of<'a>(words: &Keygen<'a>) -> Result<Kind, Fault<'a>> {
+fn kind_of<'a>(words: &Keygen<'a>) -> Result<Kind, Fault<'a>>
+    ensures found { IfOk result (IsKindFor words.now.kind.now
+        (option_map (λ path. path.now) words.now.public)) }
+    ensures none { IfErr result (λ fault. (fault.about.now ≡ words.now.kind.now)
+        × IsKindFault words.now.kind.now (option_map (λ path. path.now) words.now.public)
+        fault.error) }
+{
     match Kind::parse(words.kind) {
         Some(kind) if words.public.is_none() || kind.is_pair() => Ok(kind),
         Some(_) => Err(Fault::about(words.kind, ProgramError::NoHalf)),

@@ -1,0 +1,15 @@
+-- What is said of a key that the arguments name.
+use Rattle.std.specs.Prelude.{ℕ, List, Option, None, Some, codes}
+use Rattle.paseto_key_files.specs.declared.error.KeyFileError.{KeyFileError}
+use Rattle.paseto_key_files.specs.declared.error.KeyFileError.TheVariants.{OtherOpener}
+use Rattle.paseto.specs.Files.{input_name}
+
+-- the name of a key in lines on standard error: the environment's variable where no key is named
+abbrev pub key_name : Option (List ℕ) → List ℕ
+key_name None = codes "PASETO_KEY"
+key_name (Some path) = input_name (Some path)
+
+-- what an error is about: the key that opens the key file, or the key file
+abbrev pub about_of : KeyFileError → List ℕ → List ℕ → List ℕ
+about_of (OtherOpener source) opener name = opener
+about_of error opener name = name
