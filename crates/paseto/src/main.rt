@@ -3,7 +3,7 @@
 #![tactic(auto)]
 
 ghost use Rattle.std.specs.Prelude.{MatchBool};
-ghost use Rattle.paseto.specs.Main.{IsNoSecretKey, IsSecretKey};
+ghost use Rattle.paseto.specs.Main.{HoldsNoSecretKey, HoldsSecretKey, IsNoSecretKey, IsSecretKey};
 
 mod commands;
 mod fault;
@@ -60,7 +60,9 @@ fn serve(rt: &HostRuntime, words: &[String]) -> u8 {
 }
 
 /// Whether an argument is a secret key, or passes one to an option: `--key=k4.local..`.
-fn is_secret(word: &str) -> bool {
+fn is_secret(word: &str) -> bool
+    ensures { MatchBool result (HoldsSecretKey word.now) (HoldsNoSecretKey word.now) }
+{
     match word.split_once('=') {
         Some((_, value)) => is_secret_key(word) || is_secret_key(value),
         None => is_secret_key(word),
