@@ -9,7 +9,7 @@ abbrev pub key_name : Option (List ℕ) → List ℕ
 key_name None = codes "PASETO_KEY"
 key_name (Some path) = input_name (Some path)
 
--- what an error is about: the key that opens the key file, or the key file
+-- what an error is about: the key that opens the key file if that key was refused, and otherwise the key file
 abbrev pub about_of : KeyFileError → List ℕ → List ℕ → List ℕ
 about_of (OtherOpener source) opener name = opener
 about_of error opener name = name

@@ -90,8 +90,8 @@ impl<'a> Held<'a> {
     }
 }
 
-/// Why a key file is not opened or made. The error is about the key that opens it, or about the key
-/// file.
+/// Why a key file is not opened or made. The error is about the key that opens it if that key was
+/// refused, and otherwise about the key file.
 pub fn key_file_fault<'a>(opener: &'a str, name: &'a str, error: KeyFileError) -> Fault<'a>
     ensures about { result.about.now ≡ about_of error opener.now name.now }
     ensures error { result.error ≡ key_file_error_of error }
