@@ -1,17 +1,13 @@
 -- Which arguments are keys that no line may repeat.
 use Rattle.std.specs.Prelude.{◌≡◌, ◌<◌, ◌==◌, ◌⊎◌, ℕ, List, length}
 use Rattle.std.specs.List.{after_first, position_or_len}
-use Rattle.rusty_paseto_paserk.specs.Header.{HasHeader, HasNoHeader}
+use Rattle.rusty_paseto_paserk.specs.Header.{HasHeader}
 use Rattle.rusty_paseto_paserk.specs.declared.header.PaserkVersion.{PaserkVersion}
-use Rattle.rusty_paseto_paserk.specs.declared.header.PaserkType.TheVariants.{Local, Secret, Public}
+use Rattle.rusty_paseto_paserk.specs.declared.header.PaserkType.TheVariants.{Local, Secret}
 
 -- a text begins like a secret key
 abbrev pub IsSecretKey : List ℕ → Type 0
 IsSecretKey text = (version : PaserkVersion) × (HasHeader version Local text ⊎ HasHeader version Secret text)
-
--- a text begins like a public key, or like no key
-abbrev pub IsNoSecretKey : List ℕ → Type 0
-IsNoSecretKey text = HasNoHeader text ⊎ ((version : PaserkVersion) × HasHeader version Public text)
 
 -- an argument is a secret key, or passes one to an option, behind its first equals sign
 abbrev pub HoldsSecretKey : List ℕ → Type 0
@@ -20,5 +16,5 @@ HoldsSecretKey word = IsSecretKey word
 
 -- an argument is no secret key, and none stands behind its first equals sign, if it has one
 abbrev pub HoldsNoSecretKey : List ℕ → Type 0
-HoldsNoSecretKey word = IsNoSecretKey word
-    × ((position_or_len (λ b. b == 61) word ≡ length word) ⊎ IsNoSecretKey (after_first (λ b. b == 61) word))
+HoldsNoSecretKey word = (¬ IsSecretKey word)
+    × ((position_or_len (λ b. b == 61) word ≡ length word) ⊎ (¬ IsSecretKey (after_first (λ b. b == 61) word)))

@@ -3,7 +3,7 @@
 #![tactic(auto)]
 
 ghost use Rattle.std.specs.Prelude.{MatchBool};
-ghost use Rattle.paseto.specs.Main.{HoldsNoSecretKey, HoldsSecretKey, IsNoSecretKey, IsSecretKey};
+ghost use Rattle.paseto.specs.Main.{HoldsNoSecretKey, HoldsSecretKey, IsSecretKey};
 
 mod commands;
 mod fault;
@@ -71,7 +71,7 @@ fn is_secret(word: &str) -> bool
 
 /// Whether a text begins like a secret key.
 fn is_secret_key(text: &str) -> bool
-    ensures { MatchBool result (IsSecretKey text.now) (IsNoSecretKey text.now) }
+    ensures { MatchBool result (IsSecretKey text.now) (¬ IsSecretKey text.now) }
 {
     match header_of(text) {
         Some((_, PaserkType::Local | PaserkType::Secret, _)) => true,
