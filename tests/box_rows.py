@@ -1,5 +1,5 @@
 #!/usr/bin/env python3
-"""Prints the rows of crates/paseto_vectors/src/boxes/sealings.rt: length of the message, length of the data, tag.
+"""Prints the rows of crates/test_vectors/src/boxes/sealings.rt: length of the message, length of the data, tag.
 
 The tags are libsodium's (Debian's package libsodium23), by crypto_aead_xchacha20poly1305_ietf_encrypt. Byte i of the
 message and of the data is i % 251, the key is 0x80 to 0x9f, and the nonce 0x40 to 0x57."""

@@ -140,13 +140,13 @@ build published -O1
 counted 'published tokens' "$work/published" "$root/crates/test_rows/data/published.txt"
 grep -qx '27 passed, 0 failed' "$work/log" && pass || fail 'the published tokens are not 27'
 build keys -O1 -g -fsanitize=address,undefined -fno-sanitize-recover=all
-python3 - "$root/crates/paseto_vectors/src/paserk/rows.rt" >"$work/keys.txt" <<'END'
+python3 - "$root/crates/test_vectors/src/paserk/rows.rt" >"$work/keys.txt" <<'END'
 import re, sys
 text = open(sys.argv[1]).read()
 for row in re.findall(r'\(\s*(\d),\s*"(\w+)",\s*"(\w+)",\s*"([^"]+)",\s*"([^"]+)",\s*\)', text):
     print(*row)
 END
-if [ "$(wc -l <"$work/keys.txt")" -eq "$(grep -c '"k[1-4]\.[lsp]id\.' "$root/crates/paseto_vectors/src/paserk/rows.rt")" ]; then
+if [ "$(wc -l <"$work/keys.txt")" -eq "$(grep -c '"k[1-4]\.[lsp]id\.' "$root/crates/test_vectors/src/paserk/rows.rt")" ]; then
     pass
 else
     fail 'not all rows of keys are read'

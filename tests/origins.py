@@ -21,7 +21,7 @@ TESTING = {
     "test_memory",
     "test_rows",
     "test_toys",
-    "paseto_vectors",
+    "test_vectors",
 }
 # Where the names stand for a type, or are matched: an import, a type's argument, a type behind a colon, a
 # variant's declaration, an arm of a match.

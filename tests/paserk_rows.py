@@ -1,5 +1,5 @@
 #!/usr/bin/env python3
-"""Prints the rows of crates/paseto_vectors/src/paserk/rows.rt: a key's version, type and bytes, its text, and its id.
+"""Prints the rows of crates/test_vectors/src/paserk/rows.rt: a key's version, type and bytes, its text, and its id.
 
 The texts and the ids are made by Python's base64 and hashlib, as the PASERK specification says them.
 """

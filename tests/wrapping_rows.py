@@ -1,5 +1,5 @@
 #!/usr/bin/env python3
-"""Prints crates/paseto_vectors/src/wrapping/rows.rt: keys under wrapping keys and under passwords.
+"""Prints crates/test_vectors/src/wrapping/rows.rt: keys under wrapping keys and under passwords.
 
 They are made as the PASERK specification says by Python's hashlib and hmac, AES of the package cryptography, XChaCha20 of
 libsodium and Argon2id of libargon2. With a file of vectors as an argument (columns: type, name, expected, key, text, kind,

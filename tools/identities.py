@@ -2,9 +2,9 @@
 """Writes why the sum of points of a twisted Edwards curve is a point, and why it is associative: by which multiples of
 the equations that hold two expressions are equal.
 
-    python3 tools/identities.py && (cd crates/paseto_edwards && rt fmt)
+    python3 tools/identities.py && (cd crates/paseto_edwards_laws && rt fmt)
 
-It writes Closure.antt and Associativity.antt of crates/paseto_edwards/proofs. No claim rests on this program: the prover
+It writes Closure.antt and Associativity.antt of crates/paseto_edwards_laws/proofs. No claim rests on this program: the prover
 computes that both sides have one polynomial. It needs sympy (Debian: python3-sympy).
 
 The points are (x, y), (v, w) and (s, t). The first two have the sum ((x w + y v) / (1 + e), (y w + x v) / q) with
@@ -18,7 +18,7 @@ import os
 
 from sympy import Add, expand, reduced, symbols
 
-FOLDER = os.path.join(os.path.dirname(os.path.abspath(__file__)), "..", "crates", "paseto_edwards", "proofs")
+FOLDER = os.path.join(os.path.dirname(os.path.abspath(__file__)), "..", "crates", "paseto_edwards_laws", "proofs")
 
 # The equations, by the name of what says so.
 CURVE = "1 + {0} * {0} + d * ({0} * {0} * ({1} * {1}))"
@@ -134,11 +134,11 @@ def write(file, says, variables, identities, division, order):
     names, division, order = variables.split(), division.split(), order.split()
     parts = [f"""-- {says} Written by tools/identities.py.
 use Rattle.std.proofs.Common.{{◌≡◌, ℕ, ◌+◌, ◌*◌, ◌%◌, List, [], ◌∷◌, refl}}
-use Rattle.paseto_polynomials.specs.Identity.{{Equation}}
-use Rattle.paseto_polynomials.specs.Polynomial.{{Expression, constant, product, sum, variable}}
-use Rattle.paseto_polynomials.specs.Program.{{listed}}
-use Rattle.paseto_polynomials.proofs.IdentityLaws.{{by-equations, computing, term, total}}
-use Rattle.paseto_edwards.specs.Group.{{IsOn}}
+use Rattle.paseto_primes.specs.Identity.{{Equation}}
+use Rattle.paseto_primes.specs.Polynomial.{{Expression, constant, product, sum, variable}}
+use Rattle.paseto_primes.specs.Program.{{listed}}
+use Rattle.paseto_primes.proofs.IdentityLaws.{{by-equations, computing, term, total}}
+use Rattle.paseto_edwards_laws.specs.Group.{{IsOn}}
 """]
     for index, of in enumerate(names):
         parts.append(f"abbrev {of}\u2032 : Expression\n{of}\u2032 = variable {index}\n")

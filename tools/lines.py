@@ -3,7 +3,7 @@
 
     python3 tools/lines.py
 
-What it prints stands in crates/paseto_weierstrass/proofs/Lines.antt. No claim rests on this program: the prover computes
+What it prints stands in crates/paseto_weierstrass_laws/proofs/Lines.antt. No claim rests on this program: the prover computes
 that both sides have one polynomial.
 
 The points are (x, y) and (v, w) of y^2 = x^3 + a x + b, and k is the slope of their line: k (v - x) = w - y, and

@@ -1,5 +1,5 @@
 /* A private key of RSA of 2048 bits that OpenSSL made, in PKCS #8, its public key in PKCS #1, and a token of version 1 with the
-   footer a footer that OpenSSL signed (crates/paseto_vectors/src/schemes/rsa.rt). The keys are in hexadecimal. */
+   footer a footer that OpenSSL signed (crates/test_vectors/src/schemes/rsa.rt). The keys are in hexadecimal. */
 #ifndef RSA_H
 #define RSA_H
 

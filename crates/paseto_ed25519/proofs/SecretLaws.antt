@@ -5,7 +5,7 @@ use Rattle.std.proofs.lemmas.List.{get_or-set_other, get_or-set_same}
 use Rattle.sha2.specs.Sha512.{digest_bytes, sha512}
 use Rattle.paseto_ed25519.specs.Ed25519.{clamped, secret_scalar}
 use Rattle.paseto_edwards25519.specs.Scalar.{word}
-use Rattle.paseto_edwards.specs.Edwards25519.{order}
+use Rattle.paseto_edwards_laws.specs.Edwards25519.{order}
 
 abbrev pub AreLow : List ℕ → Type 0
 AreLow bytes = (i : ℕ) → get_or bytes i 0 < 256

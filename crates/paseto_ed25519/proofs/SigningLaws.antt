@@ -1,12 +1,12 @@
 -- What is signed is valid, by the laws of the curve.
 use Rattle.std.proofs.Common.{◌≡◌, ◌≢◌, ℕ, ◌+◌, ◌*◌, ◌%◌, ◌^◌, ◌<◌, List, ◌++◌, Some, length, take, drop, refl, sym, ◌∙◌, ap, subst, lit<, mod-eq_of_lt, mod-lt, lt_trans}
-use Rattle.paseto_edwards.specs.Group.{Affine}
+use Rattle.paseto_edwards_laws.specs.Group.{Affine}
 use Rattle.std.specs.Prelude.{IfOk, Result}
 use Rattle.std.proofs.lemmas.Result.{IfOk-weaker}
 use Rattle.sha2.specs.Sha512.{sha512}
 use Rattle.paseto_ed25519.specs.Ed25519.{Ed25519Verifies, IsSigned, IsSum, challenge, clamped, ed25519_public, ed25519_sign, nonce, nonce_of, partner, secret_scalar, signed}
 use Rattle.paseto_edwards25519.specs.Curve.{HasSmallOrder, IsPoint, multiple, opposite, sum}
-use Rattle.paseto_edwards.specs.Edwards25519.{base, order}
+use Rattle.paseto_edwards_laws.specs.Edwards25519.{base, order}
 use Rattle.paseto_edwards25519.specs.Encoding.{decoded, encoded}
 use Rattle.paseto_edwards25519.specs.Scalar.{bytes32, number32, number64, reduced}
 use Rattle.paseto_ed25519.proofs.SecretLaws.{secret-unit}

@@ -3,7 +3,7 @@ use Rattle.std.proofs.Common.{◌≡◌, ℕ, ◌<◌, List, length, take, drop}
 use Rattle.paseto_ed25519.specs.Ed25519.{Ed25519Verifies, IsSum, challenge}
 use Rattle.paseto_edwards25519.specs.Encoding.{decoded}
 use Rattle.paseto_edwards25519.specs.Scalar.{number32}
-use Rattle.paseto_edwards.specs.Edwards25519.{order}
+use Rattle.paseto_edwards_laws.specs.Edwards25519.{order}
 
 -- the last test decides where the others passed
 pub valid-sum : (public message signature r s : List ℕ) (k : ℕ) → length public ≡ 32

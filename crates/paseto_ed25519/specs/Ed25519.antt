@@ -3,9 +3,9 @@ use Rattle.std.specs.Prelude.{◌≡◌, ◌≢◌, ◌⊎◌, ℕ, ◌+◌, ◌
 use Rattle.sha2.specs.Sha512.{sha512}
 use Rattle.rusty_paseto_parts.specs.declared.error.PasetoError.TheVariants.{InvalidSignature, KeyRejected, Signature}
 use Rattle.rusty_paseto_core.specs.Public.Scheme.{Declining, Refusal}
-use Rattle.paseto_edwards.specs.Group.{Affine}
+use Rattle.paseto_edwards_laws.specs.Group.{Affine}
 use Rattle.paseto_edwards25519.specs.Curve.{HasSmallOrder, multiple, opposite, sum}
-use Rattle.paseto_edwards.specs.Edwards25519.{base, order}
+use Rattle.paseto_edwards_laws.specs.Edwards25519.{base, order}
 use Rattle.paseto_edwards25519.specs.Encoding.{decoded, encoded}
 use Rattle.paseto_edwards25519.specs.Scalar.{bytes32, number32, reduced}
 

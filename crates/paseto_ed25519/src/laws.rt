@@ -2,7 +2,7 @@
 
 ghost use Rattle.std.specs.Prelude.{◌≡◌, List, ℕ, Some, length};
 ghost use Rattle.rusty_paseto_parts.specs.declared.error.PasetoError.{PasetoError};
-ghost use Rattle.paseto_edwards.specs.Group.{Affine};
+ghost use Rattle.paseto_edwards_laws.specs.Group.{Affine};
 ghost use Rattle.paseto_ed25519.specs.Ed25519.{Ed25519Verifies, IsDeclined, IsSigned, ed25519_public, ed25519_sign, partner};
 ghost use Rattle.paseto_edwards25519.specs.Curve.{HasSmallOrder};
 ghost use Rattle.paseto_edwards25519.specs.Encoding.{decoded};

@@ -4,7 +4,7 @@ ghost use Rattle.std.specs.Prelude.{◌≡◌, ◌≢◌, ◌++◌, length, take
 ghost use Rattle.sha2.specs.Sha512.{sha512};
 ghost use Rattle.rusty_paseto_parts.specs.declared.error.PasetoError.TheVariants.{Signature};
 ghost use Rattle.paseto_ed25519.specs.Ed25519.{challenge, clamped, nonce_of, signed};
-ghost use Rattle.paseto_edwards.specs.Edwards25519.{base};
+ghost use Rattle.paseto_edwards_laws.specs.Edwards25519.{base};
 ghost use Rattle.paseto_edwards25519.specs.Curve.{multiple};
 ghost use Rattle.paseto_edwards25519.specs.Encoding.{encoded};
 ghost use Rattle.paseto_edwards25519.specs.Residue.{residue};

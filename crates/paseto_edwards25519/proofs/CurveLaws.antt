@@ -1,19 +1,19 @@
 -- The laws of complete curves, for edwards25519.
 use Rattle.std.proofs.Common.{◌≡◌, ℕ, ◌+◌, ◌-◌, ◌*◌, ◌%◌, ◌^◌, ◌<◌, refl, sym, ◌∙◌, ap, ap₂, subst, arith, lit<, mod-eq_of_lt, mod-lt}
 use Rattle.std.proofs.Math.Nat.{mod-mod}
-use Rattle.paseto_edwards.specs.Group.{Affine, neutral, opposite as opposite_of}
-use Rattle.paseto_edwards.specs.Extended.{Extended, Stands, added as added_of, doubled as doubled_of, negated, of_affine}
-use Rattle.paseto_polynomials.specs.Element.{minus as minus_of, plus as plus_of, times as times_of}
-use Rattle.paseto_edwards.specs.Multiples.{multiple_of}
-use Rattle.paseto_edwards.proofs.GroupLaws.{neutral-point, opposite-point, sum-associative, sum-commutative, sum-neutral, sum-opposite, sum-point}
+use Rattle.paseto_edwards_laws.specs.Group.{Affine, neutral, opposite as opposite_of}
+use Rattle.paseto_edwards_laws.specs.Extended.{Extended, Stands, added as added_of, doubled as doubled_of, negated, of_affine}
+use Rattle.paseto_primes.specs.Element.{minus as minus_of, plus as plus_of, times as times_of}
+use Rattle.paseto_edwards_laws.specs.Multiples.{multiple_of}
+use Rattle.paseto_edwards_laws.proofs.GroupLaws.{neutral-point, opposite-point, sum-associative, sum-commutative, sum-neutral, sum-opposite, sum-point}
 use Rattle.paseto_primes.proofs.CongruenceLaws.{same-times}
 use Rattle.paseto_primes.proofs.EulerLaws.{inverse as inverse-of}
-use Rattle.paseto_edwards.proofs.ExtendedLaws.{added-stands, affine-stands, affine-x, affine-y, doubled-stands, opposite-stands, times-is}
-use Rattle.paseto_edwards.proofs.CurveLaws.{base-point, curve}
+use Rattle.paseto_edwards_laws.proofs.ExtendedLaws.{added-stands, affine-stands, affine-x, affine-y, doubled-stands, opposite-stands, times-is}
+use Rattle.paseto_edwards_laws.proofs.CurveLaws.{base-point, curve}
 use Rattle.paseto_primes.proofs.FieldOfEdwards25519.{is-prime}
-use Rattle.paseto_edwards.proofs.MultipleLaws.{neutral-sum, multiple-neutral, multiple-one, multiple-opposite, multiple-plus, multiple-point, multiple-times, multiple-sum, sum-four}
+use Rattle.paseto_edwards_laws.proofs.MultipleLaws.{neutral-sum, multiple-neutral, multiple-one, multiple-opposite, multiple-plus, multiple-point, multiple-times, multiple-sum, sum-four}
 use Rattle.paseto_edwards25519.specs.Curve.{IsPoint, base_t, multiple, opposite, sum, twice_d}
-use Rattle.paseto_edwards.specs.Edwards25519.{base, base_x, base_y, d, prime}
+use Rattle.paseto_edwards_laws.specs.Edwards25519.{base, base_x, base_y, d, prime}
 use Rattle.paseto_edwards25519.specs.Extended.{IsExtended, affine, between, extended, factored, flat, half, half_of_inverse_d}
 use Rattle.paseto_edwards25519.specs.Field.{minus, plus, power, times}
 use Rattle.paseto_edwards25519.proofs.Formulas.{added, doubled}

@@ -2,15 +2,15 @@
 use Rattle.std.proofs.Common.{◌≡◌, ◌≢◌, ◌⊎◌, ℕ, ◌+◌, ◌-◌, ◌*◌, ◌/◌, ◌%◌, ◌^◌, ◌<◌, Some, inl, inr, refl, sym, ◌∙◌, ap, arith, lit<, mod-eq_of_lt, mod-lt, suc-ne-zero}
 use Rattle.std.proofs.Math.Nat.{mod-eq-sub-mod, mod-mod}
 use Rattle.std.proofs.lemmas.Bool.{cases_eq, cases_lt}
-use Rattle.paseto_edwards.specs.Group.{Affine, IsOn}
+use Rattle.paseto_edwards_laws.specs.Group.{Affine, IsOn}
 use Rattle.paseto_primes.proofs.CongruenceLaws.{cancel-plus, same-plus, same-times}
 use Rattle.paseto_primes.proofs.DivisorLaws.{cancel, times-multiple, without}
 use Rattle.paseto_primes.proofs.EulerLaws.{two-roots}
-use Rattle.paseto_edwards.proofs.ExtendedLaws.{minus-is, plus-is, times-is}
-use Rattle.paseto_edwards.proofs.CurveLaws.{curve}
-use Rattle.paseto_polynomials.specs.Element.{minus as minus_of, plus as plus_of, times as times_of}
+use Rattle.paseto_edwards_laws.proofs.ExtendedLaws.{minus-is, plus-is, times-is}
+use Rattle.paseto_edwards_laws.proofs.CurveLaws.{curve}
+use Rattle.paseto_primes.specs.Element.{minus as minus_of, plus as plus_of, times as times_of}
 use Rattle.paseto_edwards25519.specs.Curve.{IsPoint}
-use Rattle.paseto_edwards.specs.Edwards25519.{d, square_root_of_minus_one, prime}
+use Rattle.paseto_edwards_laws.specs.Edwards25519.{d, square_root_of_minus_one, prime}
 use Rattle.paseto_edwards25519.specs.Encoding.{at, decoded, encoded, point_of, root_at, square_root}
 use Rattle.paseto_edwards25519.specs.Field.{minus, plus, times}
 use Rattle.paseto_edwards25519.specs.Scalar.{bytes32}

@@ -3,7 +3,7 @@ use Rattle.std.proofs.Common.{◌≡◌, ◌≢◌, ℕ, ◌+◌, ◌*◌, ◌/�
 use Rattle.std.specs.Prelude.{Some, None}
 use Rattle.std.proofs.lemmas.Bool.Decides.{nat_tests}
 use Rattle.paseto_edwards25519.specs.Field.{minus, times}
-use Rattle.paseto_edwards.specs.Edwards25519.{prime, square_root_of_minus_one}
+use Rattle.paseto_edwards_laws.specs.Edwards25519.{prime, square_root_of_minus_one}
 use Rattle.paseto_edwards25519.specs.Scalar.{number32}
 use Rattle.paseto_edwards25519.specs.Encoding.{at, candidate, decoded, point_of, root_at, square_root}
 

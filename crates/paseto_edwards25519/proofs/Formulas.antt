@@ -1,6 +1,6 @@
 -- The formulas of RFC 8032, section 5.1.4.
 use Rattle.std.specs.Prelude.{ℕ}
-use Rattle.paseto_edwards.specs.Extended.{Extended}
+use Rattle.paseto_edwards_laws.specs.Extended.{Extended}
 use Rattle.paseto_edwards25519.specs.Curve.{twice_d}
 use Rattle.paseto_edwards25519.specs.Extended.{factored}
 use Rattle.paseto_edwards25519.specs.Field.{minus, plus, times}

@@ -1,11 +1,11 @@
 -- Multiples of a point of edwards25519.
 use Rattle.std.proofs.Common.{◌≡◌, ℕ, ◌+◌, ◌-◌, ◌*◌, ◌/◌, ◌<◌, ◌≤◌, inl, inr, refl, sym, ◌∙◌, ap, ap₂, arith}
 use Rattle.std.proofs.lemmas.Bool.{cases_lt, le-ltb, lt-ltb}
-use Rattle.paseto_edwards.specs.Group.{Affine, neutral}
-use Rattle.paseto_edwards.proofs.CurveLaws.{base-point}
+use Rattle.paseto_edwards_laws.specs.Group.{Affine, neutral}
+use Rattle.paseto_edwards_laws.proofs.CurveLaws.{base-point}
 use Rattle.paseto_edwards25519.specs.Curve.{IsPoint, multiple, opposite, sum}
 use Rattle.paseto_edwards25519.specs.Windows.{signed_multiple}
-use Rattle.paseto_edwards.specs.Edwards25519.{base}
+use Rattle.paseto_edwards_laws.specs.Edwards25519.{base}
 use Rattle.paseto_edwards25519.proofs.CurveLaws.{associative, exchanged, multiple-add, multiple-is_point, multiple-none, multiple-of_multiple, multiple-of_neutral, multiple-of_opposite, multiple-of_sum, neutral-right, neutral-twice, opposite-is_point, sum-is_point, sum-with_opposite}
 
 -- the double of a multiple

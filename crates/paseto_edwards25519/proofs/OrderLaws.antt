@@ -1,9 +1,9 @@
 -- The order of the base point.
 use Rattle.std.proofs.Common.{◌≡◌, ℕ, ◌+◌, ◌*◌, ◌%◌, sym, ◌∙◌, arith}
-use Rattle.paseto_edwards.specs.Edwards25519.{base, d, order, prime}
-use Rattle.paseto_edwards.proofs.CurveLaws.{base-point, curve}
-use Rattle.paseto_edwards.proofs.MultipleLaws.{verifies}
-use Rattle.paseto_edwards.proofs.OrderLaws.{base-multiples, order-neutral}
+use Rattle.paseto_edwards_laws.specs.Edwards25519.{base, d, order, prime}
+use Rattle.paseto_edwards_laws.proofs.CurveLaws.{base-point, curve}
+use Rattle.paseto_edwards_laws.proofs.MultipleLaws.{verifies}
+use Rattle.paseto_edwards_laws.proofs.OrderLaws.{base-multiples, order-neutral}
 use Rattle.paseto_edwards25519.specs.Curve.{HasSmallOrder, multiple, opposite, sum}
 use Rattle.paseto_edwards25519.proofs.CurveLaws.{multiple-of_multiple}
 

@@ -10,7 +10,7 @@ use Rattle.paseto_primes.specs.Root.{quotient_root}
 use Rattle.paseto_primes.proofs.RootLaws.{quotient_root-is}
 use Rattle.paseto_edwards25519.specs.Encoding.{candidate, square_root}
 use Rattle.paseto_edwards25519.specs.Field.{minus, power, times}
-use Rattle.paseto_edwards.specs.Edwards25519.{prime, square_root_of_minus_one}
+use Rattle.paseto_edwards_laws.specs.Edwards25519.{prime, square_root_of_minus_one}
 use Rattle.paseto_primes.proofs.FieldOfEdwards25519.{is-prime}
 
 times-same : (a b c e : ℕ) → a % prime ≡ b % prime → c % prime ≡ e % prime → times a c % prime ≡ (b * e) % prime

@@ -4,11 +4,11 @@ use Rattle.std.proofs.Math.Nat.{mod-mod}
 use Rattle.paseto_primes.proofs.CongruenceLaws.{other}
 use Rattle.paseto_primes.proofs.DivisorLaws.{euclid, multiple-times, times-multiple}
 use Rattle.paseto_primes.proofs.FieldOfEdwards25519.{is-prime}
-use Rattle.paseto_edwards.specs.Edwards25519.{d, prime}
-use Rattle.paseto_edwards.specs.Group.{Affine, cross, neutral, opposite as opposite_of}
-use Rattle.paseto_edwards.proofs.CurveLaws.{curve}
-use Rattle.paseto_edwards.proofs.GroupLaws.{plus-unit, sum-first, sum-neutral, sum-opposite}
-use Rattle.paseto_edwards.proofs.MultipleLaws.{neutral-sum}
+use Rattle.paseto_edwards_laws.specs.Edwards25519.{d, prime}
+use Rattle.paseto_edwards_laws.specs.Group.{Affine, cross, neutral, opposite as opposite_of}
+use Rattle.paseto_edwards_laws.proofs.CurveLaws.{curve}
+use Rattle.paseto_edwards_laws.proofs.GroupLaws.{plus-unit, sum-first, sum-neutral, sum-opposite}
+use Rattle.paseto_edwards_laws.proofs.MultipleLaws.{neutral-sum}
 use Rattle.paseto_edwards25519.specs.Curve.{HasSmallOrder, IsPoint, multiple, opposite, sum}
 use Rattle.paseto_edwards25519.specs.Extended.{IsExtended, affine, factored}
 use Rattle.paseto_edwards25519.specs.Field.{times}

@@ -2,12 +2,12 @@
 use Rattle.std.proofs.Common.{◌≡◌, ℕ, zero, suc, ◌+◌, ◌*◌, ◌^◌, ◌%◌, ◌<◌, Bool, true, false, true≢false, ◌≢◌, List, [], ◌∷◌, length, get_or, nat_eq, nat_lt, if◌then◌else◌, eqb-true, ltb-true, refl, sym, ◌∙◌, ap, ap₂, subst, arith, lit<, mod-eq_of_lt, mod-lt, pow-add, pow-suc}
 use Rattle.std.proofs.Math.Nat.{pow-zero}
 use Rattle.std.proofs.lemmas.List.{get_or_default}
-use Rattle.paseto_edwards.specs.Group.{Affine}
-use Rattle.paseto_edwards.specs.Extended.{Extended, Stands}
+use Rattle.paseto_edwards_laws.specs.Group.{Affine}
+use Rattle.paseto_edwards_laws.specs.Extended.{Extended, Stands}
 use Rattle.paseto_primes.proofs.DivisorLaws.{cancel}
-use Rattle.paseto_edwards.specs.Edwards25519.{base, base_x, base_y, d, prime}
+use Rattle.paseto_edwards_laws.specs.Edwards25519.{base, base_x, base_y, d, prime}
 use Rattle.paseto_primes.proofs.FieldOfEdwards25519.{is-prime}
-use Rattle.paseto_edwards.proofs.CurveLaws.{base-point}
+use Rattle.paseto_edwards_laws.proofs.CurveLaws.{base-point}
 use Rattle.paseto_edwards25519.specs.Curve.{base_t, multiple, sum}
 use Rattle.paseto_edwards25519.specs.Extended.{affine, between, extended, flat}
 use Rattle.paseto_edwards25519.specs.Field.{minus, plus, times}

@@ -1,8 +1,8 @@
 -- The points of edwards25519 (RFC 8032, section 5.1), and their sums.
 use Rattle.std.specs.Prelude.{◌≡◌, ℕ, ◌*◌, ◌%◌}
-use Rattle.paseto_edwards.specs.Edwards25519.{base_x, base_y, d, prime}
-use Rattle.paseto_edwards.specs.Group.{Affine, IsPoint as IsPointOf, neutral, opposite as opposite_of, sum as sum_of}
-use Rattle.paseto_edwards.specs.Multiples.{multiple_of}
+use Rattle.paseto_edwards_laws.specs.Edwards25519.{base_x, base_y, d, prime}
+use Rattle.paseto_edwards_laws.specs.Group.{Affine, IsPoint as IsPointOf, neutral, opposite as opposite_of, sum as sum_of}
+use Rattle.paseto_edwards_laws.specs.Multiples.{multiple_of}
 
 abbrev pub twice_d : ℕ
 twice_d = 2 * d % prime

@@ -1,7 +1,7 @@
 -- Points in 32 bytes (RFC 8032, sections 5.1.2 and 5.1.3).
 use Rattle.std.specs.Prelude.{ℕ, ◌+◌, ◌-◌, ◌*◌, ◌/◌, ◌%◌, ◌^◌, List, Option, None, Some, nat_eq, nat_lt, if◌then◌else◌}
-use Rattle.paseto_edwards.specs.Group.{Affine}
-use Rattle.paseto_edwards.specs.Edwards25519.{d, square_root_of_minus_one, prime}
+use Rattle.paseto_edwards_laws.specs.Group.{Affine}
+use Rattle.paseto_edwards_laws.specs.Edwards25519.{d, square_root_of_minus_one, prime}
 use Rattle.paseto_edwards25519.specs.Field.{minus, plus, power, times}
 use Rattle.paseto_edwards25519.specs.Scalar.{bytes32, number32}
 

@@ -1,9 +1,9 @@
 -- Extended homogeneous coordinates (RFC 8032, section 5.1.4): the point (x, y) is (X, Y, Z, T) with x = X / Z, y = Y / Z
 -- and x * y = T / Z.
 use Rattle.std.specs.Prelude.{ℕ, ◌-◌, ◌^◌}
-use Rattle.paseto_edwards.specs.Group.{Affine}
-use Rattle.paseto_edwards.specs.Extended.{Extended, Stands}
-use Rattle.paseto_edwards.specs.Edwards25519.{d, prime}
+use Rattle.paseto_edwards_laws.specs.Group.{Affine}
+use Rattle.paseto_edwards_laws.specs.Extended.{Extended, Stands}
+use Rattle.paseto_edwards_laws.specs.Edwards25519.{d, prime}
 use Rattle.paseto_edwards25519.specs.Field.{minus, plus, power, times}
 
 -- 1 / z

@@ -1,7 +1,7 @@
 -- The points that the fields of the code's structs are.
 use Rattle.std.specs.Prelude.{◌≡◌, ℕ, ◌+◌, ◌*◌, ◌<◌, List, get_or}
-use Rattle.paseto_edwards.specs.Group.{Affine}
-use Rattle.paseto_edwards.specs.Extended.{Extended}
+use Rattle.paseto_edwards_laws.specs.Group.{Affine}
+use Rattle.paseto_edwards_laws.specs.Extended.{Extended}
 use Rattle.paseto_edwards25519.specs.declared.point.addend.Addend.{Addend}
 use Rattle.paseto_edwards25519.specs.declared.point.completed.Completed.{Completed}
 use Rattle.paseto_edwards25519.specs.declared.point.extended.ExtendedPoint.{ExtendedPoint}

@@ -1,7 +1,7 @@
 -- Multiples of the base point, as the table has them.
 use Rattle.std.specs.Prelude.{ℕ, ◌+◌, ◌*◌, ◌^◌, ◌<◌, List, slice_index}
-use Rattle.paseto_edwards.specs.Extended.{Stands}
-use Rattle.paseto_edwards.specs.Edwards25519.{base, d, prime}
+use Rattle.paseto_edwards_laws.specs.Extended.{Stands}
+use Rattle.paseto_edwards_laws.specs.Edwards25519.{base, d, prime}
 use Rattle.paseto_edwards25519.specs.Curve.{multiple}
 use Rattle.paseto_edwards25519.specs.Extended.{between}
 

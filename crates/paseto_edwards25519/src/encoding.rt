@@ -4,7 +4,7 @@ ghost use Rattle.std.specs.Prelude.{◌≡◌, ◌↔◌, ℕ, ◌+◌, ◌-◌,
 ghost use Rattle.paseto_edwards25519.specs.Curve.{IsPoint};
 ghost use Rattle.paseto_edwards25519.specs.Encoding.{at, candidate, decoded, encoded, point_of, root_at, square_root};
 ghost use Rattle.paseto_edwards25519.specs.Field.{IsCarried, minus, number, times};
-ghost use Rattle.paseto_edwards.specs.Edwards25519.{prime};
+ghost use Rattle.paseto_edwards_laws.specs.Edwards25519.{prime};
 ghost use Rattle.paseto_edwards25519.specs.Extended.{affine};
 ghost use Rattle.paseto_edwards25519.specs.Point.{point, projected};
 ghost use Rattle.paseto_edwards25519.specs.Scalar.{number32};

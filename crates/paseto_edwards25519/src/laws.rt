@@ -1,9 +1,9 @@
 //! Laws of the curve. Each function does nothing, and its contract is the theorem.
 
 ghost use Rattle.std.specs.Prelude.{◌≡◌, ◌≢◌, ℕ, ◌+◌, ◌*◌, ◌%◌, ◌^◌, ◌<◌, List, ◌++◌, Some, length, take, drop};
-ghost use Rattle.paseto_edwards.specs.Group.{Affine, neutral};
+ghost use Rattle.paseto_edwards_laws.specs.Group.{Affine, neutral};
 ghost use Rattle.paseto_edwards25519.specs.Curve.{HasSmallOrder, IsPoint, multiple, opposite, sum};
-ghost use Rattle.paseto_edwards.specs.Edwards25519.{base, order};
+ghost use Rattle.paseto_edwards_laws.specs.Edwards25519.{base, order};
 ghost use Rattle.paseto_edwards25519.specs.Encoding.{decoded, encoded};
 ghost use Rattle.paseto_edwards25519.specs.Scalar.{bytes32, number32};
 

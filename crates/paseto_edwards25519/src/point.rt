@@ -1,9 +1,9 @@
 //! Points of the curve: sums and multiples, by the formulas of RFC 8032, section 5.1.4.
 
 ghost use Rattle.std.specs.Prelude.{◌≡◌, ◌↔◌, ◌+◌, ◌*◌, ◌/◌, ◌%◌, ◌^◌, ◌<◌, IsTrue};
-ghost use Rattle.paseto_edwards.specs.Group.{neutral};
+ghost use Rattle.paseto_edwards_laws.specs.Group.{neutral};
 ghost use Rattle.paseto_edwards25519.specs.Curve.{HasSmallOrder, multiple, opposite, sum};
-ghost use Rattle.paseto_edwards.specs.Edwards25519.{base};
+ghost use Rattle.paseto_edwards_laws.specs.Edwards25519.{base};
 ghost use Rattle.paseto_edwards25519.specs.Extended.{affine};
 ghost use Rattle.paseto_edwards25519.specs.Field.{IsCarried, number, times};
 ghost use Rattle.paseto_edwards25519.specs.Point.{completed, coordinates, point, prepared, projected};

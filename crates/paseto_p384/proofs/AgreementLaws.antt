@@ -5,12 +5,12 @@ use Rattle.paseto_montgomery.specs.Octets.{i2osp, os2ip}
 use Rattle.paseto_montgomery.proofs.OctetsLaws.{length-i2osp}
 use Rattle.rusty_paseto_primitives.specs.Bytes.{IsBytes}
 use Rattle.rusty_paseto_primitives.proofs.ByteLists.{IsBytes_cons, IsBytes-nil}
-use Rattle.paseto_weierstrass.specs.Curve.{order}
-use Rattle.paseto_weierstrass.specs.Group.{IsPoint, Same}
-use Rattle.paseto_weierstrass.specs.Multiples.{IsMultiple, multiple_of}
-use Rattle.paseto_weierstrass.specs.Point.{Point, base}
-use Rattle.paseto_weierstrass.proofs.MultipleLaws.{multiple-times, multiples-same}
-use Rattle.paseto_weierstrass.proofs.PointLaws.{base-is_point, same-quotient}
+use Rattle.paseto_weierstrass_laws.specs.Curve.{order}
+use Rattle.paseto_weierstrass_laws.specs.Group.{IsPoint, Same}
+use Rattle.paseto_weierstrass_laws.specs.Multiples.{IsMultiple, multiple_of}
+use Rattle.paseto_weierstrass_laws.specs.Point.{Point, base}
+use Rattle.paseto_weierstrass_laws.proofs.MultipleLaws.{multiple-times, multiples-same}
+use Rattle.paseto_weierstrass_laws.proofs.PointLaws.{base-is_point, same-quotient}
 use Rattle.paseto_p384.specs.Agreement.{p384_shared, x_of}
 use Rattle.paseto_p384.specs.Encoding.{decoded, encoded}
 use Rattle.paseto_p384.specs.P384.{IsPrivate, p384_public}

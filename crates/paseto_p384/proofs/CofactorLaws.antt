@@ -5,21 +5,21 @@ use Rattle.std.specs.Prelude.{nat_eq, if◌then◌else◌}
 use Rattle.std.proofs.lemmas.Bool.{cases_eq}
 use Rattle.std.proofs.lemmas.Bool.Decides.{nat_tests}
 use Rattle.paseto_montgomery.specs.Octets.{i2osp}
-use Rattle.paseto_polynomials.specs.Element.{plus as plus_modulo}
+use Rattle.paseto_primes.specs.Element.{plus as plus_modulo}
 use Rattle.paseto_primes.proofs.CongruenceLaws.{cancel-plus}
 use Rattle.paseto_primes.proofs.DivisorLaws.{cancel, times-multiple}
 use Rattle.paseto_primes.proofs.OrderOfP384.{is-prime}
-use Rattle.paseto_weierstrass.specs.Curve.{order}
-use Rattle.paseto_weierstrass.specs.Field.{plus, prime, times}
-use Rattle.paseto_weierstrass.specs.Group.{IsPoint, Same}
-use Rattle.paseto_weierstrass.specs.Multiples.{IsMultiple, IsSum, multiple_of}
-use Rattle.paseto_weierstrass.specs.Point.{Point, base, neutral, point_add, point_double}
-use Rattle.paseto_weierstrass.proofs.FieldLaws.{plus-below, times-below, times-ne-zero, times-zero}
-use Rattle.paseto_weierstrass.proofs.MultipleLaws.{multiple-add, multiple-double, multiple-is_point, multiple-itself, multiple-neutral, multiple-of_same, multiple-one, multiples-same, sum-first, sum-made, sum-of_same, sum-plus}
-use Rattle.paseto_weierstrass.proofs.OrderLaws.{divided-neutral, neutral-multiples, neutral-times}
-use Rattle.paseto_weierstrass.proofs.Plane.{plane_point}
-use Rattle.paseto_weierstrass.proofs.PointLaws.{Kind, at_infinity, base-is_point, in_plane, kind, neutral-is_point, neutral-same, plane-is_point, same_sym, same_trans}
-use Rattle.paseto_weierstrass.proofs.SumLaws.{sum-is_point, sum-neutral, sum-neutral_first, y-some}
+use Rattle.paseto_weierstrass_laws.specs.Curve.{order}
+use Rattle.paseto_weierstrass_laws.specs.Field.{plus, prime, times}
+use Rattle.paseto_weierstrass_laws.specs.Group.{IsPoint, Same}
+use Rattle.paseto_weierstrass_laws.specs.Multiples.{IsMultiple, IsSum, multiple_of}
+use Rattle.paseto_weierstrass_laws.specs.Point.{Point, base, neutral, point_add, point_double}
+use Rattle.paseto_weierstrass_laws.proofs.FieldLaws.{plus-below, times-below, times-ne-zero, times-zero}
+use Rattle.paseto_weierstrass_laws.proofs.MultipleLaws.{multiple-add, multiple-double, multiple-is_point, multiple-itself, multiple-neutral, multiple-of_same, multiple-one, multiples-same, sum-first, sum-made, sum-of_same, sum-plus}
+use Rattle.paseto_weierstrass_laws.proofs.OrderLaws.{divided-neutral, neutral-multiples, neutral-times}
+use Rattle.paseto_weierstrass_laws.proofs.Plane.{plane_point}
+use Rattle.paseto_weierstrass_laws.proofs.PointLaws.{Kind, at_infinity, base-is_point, in_plane, kind, neutral-is_point, neutral-same, plane-is_point, same_sym, same_trans}
+use Rattle.paseto_weierstrass_laws.proofs.SumLaws.{sum-is_point, sum-neutral, sum-neutral_first, y-some}
 use Rattle.paseto_p384.proofs.DecodingLaws.{decoded-plane}
 use Rattle.paseto_p384.proofs.OptionLaws.{some-same}
 use Rattle.paseto_p384.proofs.PointLaws.{double-finite, double_finite}

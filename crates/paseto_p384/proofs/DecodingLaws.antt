@@ -6,21 +6,21 @@ use Rattle.std.proofs.Math.Nat.{add-mul-mod_self_right, pow-zero}
 use Rattle.std.proofs.lemmas.Nat.{mul-pow, pow-mod}
 use Rattle.paseto_montgomery.specs.Octets.{i2osp, os2ip}
 use Rattle.paseto_montgomery.proofs.OctetsLaws.{length-i2osp}
-use Rattle.paseto_polynomials.specs.Element.{minus as minus_modulo, times as times_modulo}
-use Rattle.paseto_polynomials.specs.Polynomial.{constant, difference, product, sum}
-use Rattle.paseto_weierstrass.specs.Curve.{curve_b, order}
-use Rattle.paseto_weierstrass.specs.Field.{inverse, minus, plus, power, prime, times}
-use Rattle.paseto_weierstrass.specs.Group.{IsPoint, Same, cubic}
-use Rattle.paseto_weierstrass.specs.Multiples.{IsMultiple, multiple_of}
-use Rattle.paseto_weierstrass.specs.Point.{Point, base}
-use Rattle.paseto_weierstrass.proofs.FieldLaws.{fermat, inverse-below, inverse-ne-zero, minus-below, plus-below, power-below, power_plus, power_suc, times-below, times-zero, times_comm, times_unit, zero_or_not}
-use Rattle.paseto_weierstrass.proofs.Formulas.{cubic_expr, summing, triple_expr}
-use Rattle.paseto_weierstrass.proofs.Identities.{equation, identity, v0, v1}
-use Rattle.paseto_weierstrass.proofs.MultipleLaws.{multiple-itself, multiple-of_same}
-use Rattle.paseto_weierstrass.proofs.OrderLaws.{multiple-finite}
-use Rattle.paseto_weierstrass.proofs.Plane.{IsPlane, plane_point}
-use Rattle.paseto_weierstrass.proofs.PointLaws.{base-is_point, plane-is_point, plane_curve}
-use Rattle.paseto_weierstrass.proofs.SumLaws.{y-some}
+use Rattle.paseto_primes.specs.Element.{minus as minus_modulo, times as times_modulo}
+use Rattle.paseto_primes.specs.Polynomial.{constant, difference, product, sum}
+use Rattle.paseto_weierstrass_laws.specs.Curve.{curve_b, order}
+use Rattle.paseto_weierstrass_laws.specs.Field.{inverse, minus, plus, power, prime, times}
+use Rattle.paseto_weierstrass_laws.specs.Group.{IsPoint, Same, cubic}
+use Rattle.paseto_weierstrass_laws.specs.Multiples.{IsMultiple, multiple_of}
+use Rattle.paseto_weierstrass_laws.specs.Point.{Point, base}
+use Rattle.paseto_weierstrass_laws.proofs.FieldLaws.{fermat, inverse-below, inverse-ne-zero, minus-below, plus-below, power-below, power_plus, power_suc, times-below, times-zero, times_comm, times_unit, zero_or_not}
+use Rattle.paseto_weierstrass_laws.proofs.Formulas.{cubic_expr, summing, triple_expr}
+use Rattle.paseto_weierstrass_laws.proofs.Identities.{equation, identity, v0, v1}
+use Rattle.paseto_weierstrass_laws.proofs.MultipleLaws.{multiple-itself, multiple-of_same}
+use Rattle.paseto_weierstrass_laws.proofs.OrderLaws.{multiple-finite}
+use Rattle.paseto_weierstrass_laws.proofs.Plane.{IsPlane, plane_point}
+use Rattle.paseto_weierstrass_laws.proofs.PointLaws.{base-is_point, plane-is_point, plane_curve}
+use Rattle.paseto_weierstrass_laws.proofs.SumLaws.{y-some}
 use Rattle.paseto_p384.specs.Encoding.{decoded, encoded, point_at, right_side, signed}
 use Rattle.paseto_p384.proofs.OptionLaws.{none-some, some-same}
 use Rattle.paseto_p384.proofs.EncodingLaws.{decoded-above, decoded-at, decoded-first, encoded-is, point_at-none, point_at-some, signed-other, signed-same}

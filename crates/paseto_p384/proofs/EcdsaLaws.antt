@@ -1,20 +1,20 @@
 -- The cases of verifying and signing.
 use Rattle.std.proofs.Common.{◌≡◌, ◌≢◌, ◌⊎◌, ℕ, ◌+◌, ◌%◌, ◌<◌, inl, inr, [], ◌∷◌, refl, sym, ◌∙◌, ap, arith}
-use Rattle.paseto_polynomials.specs.Polynomial.{product}
+use Rattle.paseto_primes.specs.Polynomial.{product}
 use Rattle.std.specs.Prelude.{None, Some}
 use Rattle.std.proofs.lemmas.Bool.Decides.{nat_tests}
-use Rattle.paseto_weierstrass.specs.Curve.{order}
+use Rattle.paseto_weierstrass_laws.specs.Curve.{order}
 use Rattle.paseto_p384.specs.Ecdsa.{Accepts, IsFirst, attempt, first, halves, named, nonzero, second}
-use Rattle.paseto_weierstrass.specs.Field.{inverse, prime, times}
-use Rattle.paseto_weierstrass.specs.Multiples.{IsMultiple, multiple_of}
-use Rattle.paseto_weierstrass.specs.Point.{Point, base}
-use Rattle.paseto_weierstrass.proofs.MultipleLaws.{multiple-is_point}
-use Rattle.paseto_weierstrass.proofs.PointLaws.{base-is_point, same-is_point, same-quotient, same_sym}
-use Rattle.paseto_weierstrass.proofs.SumLaws.{sum-is_point}
-use Rattle.paseto_weierstrass.proofs.FieldLaws.{times-ne-zero}
-use Rattle.paseto_weierstrass.proofs.Formulas.{summing}
-use Rattle.paseto_weierstrass.proofs.Identities.{equation, identity, v0, v1, v2, v3}
-use Rattle.paseto_weierstrass.specs.Group.{IsPoint, Same}
+use Rattle.paseto_weierstrass_laws.specs.Field.{inverse, prime, times}
+use Rattle.paseto_weierstrass_laws.specs.Multiples.{IsMultiple, multiple_of}
+use Rattle.paseto_weierstrass_laws.specs.Point.{Point, base}
+use Rattle.paseto_weierstrass_laws.proofs.MultipleLaws.{multiple-is_point}
+use Rattle.paseto_weierstrass_laws.proofs.PointLaws.{base-is_point, same-is_point, same-quotient, same_sym}
+use Rattle.paseto_weierstrass_laws.proofs.SumLaws.{sum-is_point}
+use Rattle.paseto_weierstrass_laws.proofs.FieldLaws.{times-ne-zero}
+use Rattle.paseto_weierstrass_laws.proofs.Formulas.{summing}
+use Rattle.paseto_weierstrass_laws.proofs.Identities.{equation, identity, v0, v1, v2, v3}
+use Rattle.paseto_weierstrass_laws.specs.Group.{IsPoint, Same}
 
 pub first-parts : (p : Point) (r : ℕ) → IsFirst p r
     → (p.z ≢ 0) × ((times r p.z ≡ p.x) ⊎ ((r + order < prime) × (times (r + order) p.z ≡ p.x)))

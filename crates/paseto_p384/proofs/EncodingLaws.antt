@@ -5,10 +5,10 @@ use Rattle.std.proofs.lemmas.Bool.Decides.{nat_tests}
 use Rattle.rusty_paseto_parts.specs.PublicKey.{is_compressed}
 use Rattle.paseto_montgomery.specs.Octets.{i2osp, os2ip}
 use Rattle.paseto_p384.specs.Encoding.{affine, decoded, encoded, point_at, right_side, signed}
-use Rattle.paseto_weierstrass.specs.Field.{inverse, minus, power, prime, times}
-use Rattle.paseto_weierstrass.specs.Group.{IsPoint, Same}
-use Rattle.paseto_weierstrass.specs.Point.{Point}
-use Rattle.paseto_weierstrass.proofs.PointLaws.{same-quotient}
+use Rattle.paseto_weierstrass_laws.specs.Field.{inverse, minus, power, prime, times}
+use Rattle.paseto_weierstrass_laws.specs.Group.{IsPoint, Same}
+use Rattle.paseto_weierstrass_laws.specs.Point.{Point}
+use Rattle.paseto_weierstrass_laws.proofs.PointLaws.{same-quotient}
 
 pub encoded-is : (p : Point) (x y z : ℕ) → z ≡ inverse p.z → x ≡ times p.x z → y ≡ times p.y z
     → (2 + y % 2) ∷ i2osp x 48 ≡ encoded p

@@ -1,14 +1,14 @@
 -- The formulas of sums and doubles.
 use Rattle.std.proofs.Common.{◌≡◌, ◌≢◌, ℕ, ◌*◌, ◌<◌, inl, inr, [], ◌∷◌, refl, subst, arith}
-use Rattle.paseto_polynomials.specs.Polynomial.{constant, difference, product, sum}
-use Rattle.paseto_weierstrass.specs.Field.{minus, plus, prime, times, triple}
-use Rattle.paseto_weierstrass.specs.Group.{IsPoint, Same}
-use Rattle.paseto_weierstrass.specs.Multiples.{IsMultiple}
-use Rattle.paseto_weierstrass.specs.Point.{Point, cross, point_double}
-use Rattle.paseto_weierstrass.proofs.FieldLaws.{bit_cases, times-below, times-ne-zero}
-use Rattle.paseto_weierstrass.proofs.Formulas.{ExpressionPoint, cross_expr, double_expr, first, identity-on_curve, one-below, one-obeys, one_point, summing, triple_expr}
-use Rattle.paseto_weierstrass.proofs.Identities.{identity, v0, v1, v2}
-use Rattle.paseto_weierstrass.proofs.MultipleLaws.{multiple-double, multiple-of_same}
+use Rattle.paseto_primes.specs.Polynomial.{constant, difference, product, sum}
+use Rattle.paseto_weierstrass_laws.specs.Field.{minus, plus, prime, times, triple}
+use Rattle.paseto_weierstrass_laws.specs.Group.{IsPoint, Same}
+use Rattle.paseto_weierstrass_laws.specs.Multiples.{IsMultiple}
+use Rattle.paseto_weierstrass_laws.specs.Point.{Point, cross, point_double}
+use Rattle.paseto_weierstrass_laws.proofs.FieldLaws.{bit_cases, times-below, times-ne-zero}
+use Rattle.paseto_weierstrass_laws.proofs.Formulas.{ExpressionPoint, cross_expr, double_expr, first, identity-on_curve, one-below, one-obeys, one_point, summing, triple_expr}
+use Rattle.paseto_weierstrass_laws.proofs.Identities.{identity, v0, v1, v2}
+use Rattle.paseto_weierstrass_laws.proofs.MultipleLaws.{multiple-double, multiple-of_same}
 
 -- a product across, where the other point's Z is 1
 pub cross-unit : (a c z : ℕ) → a < prime → c < prime → z < prime → plus (times c z) a ≡ cross a z c 1 (times a c) (times z 1)

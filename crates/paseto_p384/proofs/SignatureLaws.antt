@@ -4,10 +4,10 @@ use Rattle.std.specs.Prelude.{Option, None, Some}
 use Rattle.std.proofs.lemmas.Bool.{cases_lt}
 use Rattle.paseto_montgomery.specs.Octets.{i2osp, os2ip}
 use Rattle.paseto_montgomery.proofs.OctetsLaws.{length-i2osp}
-use Rattle.paseto_weierstrass.specs.Curve.{order}
-use Rattle.paseto_weierstrass.specs.Multiples.{multiple_of}
-use Rattle.paseto_weierstrass.specs.Point.{Point, base}
-use Rattle.paseto_weierstrass.proofs.FieldLaws.{zero_or_not}
+use Rattle.paseto_weierstrass_laws.specs.Curve.{order}
+use Rattle.paseto_weierstrass_laws.specs.Multiples.{multiple_of}
+use Rattle.paseto_weierstrass_laws.specs.Point.{Point, base}
+use Rattle.paseto_weierstrass_laws.proofs.FieldLaws.{zero_or_not}
 use Rattle.paseto_p384.specs.Ecdsa.{attempt, first, halves, second}
 use Rattle.paseto_p384.specs.Encoding.{encoded}
 use Rattle.paseto_p384.specs.Nonce.{drawn, retried}

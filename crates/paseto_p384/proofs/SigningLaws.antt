@@ -4,19 +4,19 @@ use Rattle.std.proofs.Math.Nat.{add-mod, mod-mod}
 use Rattle.std.proofs.lemmas.Nat.{mul-mod_first, mul-mod_second}
 use Rattle.std.proofs.lemmas.Bool.{cases_lt}
 use Rattle.paseto_montgomery.specs.Residue.{plus as plus_modulo, times as times_modulo}
-use Rattle.paseto_polynomials.specs.Polynomial.{constant, product}
+use Rattle.paseto_primes.specs.Polynomial.{constant, product}
 use Rattle.paseto_primes.proofs.EulerLaws as euler
 use Rattle.paseto_primes.proofs.OrderOfP384 as n
-use Rattle.paseto_weierstrass.specs.Curve.{order}
-use Rattle.paseto_weierstrass.specs.Field.{inverse, prime, times}
-use Rattle.paseto_weierstrass.specs.Multiples.{IsMultiple, multiple_of}
-use Rattle.paseto_weierstrass.specs.Point.{Point, base}
-use Rattle.paseto_weierstrass.proofs.FieldLaws.{fermat, inverse-below, times-below}
-use Rattle.paseto_weierstrass.proofs.Formulas.{summing}
-use Rattle.paseto_weierstrass.proofs.Identities.{equation, identity, v0, v1, v2, v3}
-use Rattle.paseto_weierstrass.proofs.MultipleLaws.{multiple-add, multiple-itself, multiple-times, multiples-same}
-use Rattle.paseto_weierstrass.proofs.PointLaws.{base-is_point}
-use Rattle.paseto_weierstrass.proofs.OrderLaws.{multiple-finite, multiple-remainder, order-neutral}
+use Rattle.paseto_weierstrass_laws.specs.Curve.{order}
+use Rattle.paseto_weierstrass_laws.specs.Field.{inverse, prime, times}
+use Rattle.paseto_weierstrass_laws.specs.Multiples.{IsMultiple, multiple_of}
+use Rattle.paseto_weierstrass_laws.specs.Point.{Point, base}
+use Rattle.paseto_weierstrass_laws.proofs.FieldLaws.{fermat, inverse-below, times-below}
+use Rattle.paseto_weierstrass_laws.proofs.Formulas.{summing}
+use Rattle.paseto_weierstrass_laws.proofs.Identities.{equation, identity, v0, v1, v2, v3}
+use Rattle.paseto_weierstrass_laws.proofs.MultipleLaws.{multiple-add, multiple-itself, multiple-times, multiples-same}
+use Rattle.paseto_weierstrass_laws.proofs.PointLaws.{base-is_point}
+use Rattle.paseto_weierstrass_laws.proofs.OrderLaws.{multiple-finite, multiple-remainder, order-neutral}
 use Rattle.paseto_p384.specs.Ecdsa.{Accepts, IsFirst, first, named, second}
 use Rattle.paseto_p384.specs.Scalar.{scalar_inverse, scalar_plus, scalar_times}
 use Rattle.paseto_p384.proofs.EcdsaLaws.{accepts-of, first-of}

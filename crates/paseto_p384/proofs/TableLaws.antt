@@ -4,15 +4,15 @@ use Rattle.std.proofs.Math.Nat.{pow-zero}
 use Rattle.std.proofs.lemmas.List.{get_or_default}
 use Rattle.paseto_montgomery.specs.Residue.{residue}
 use Rattle.paseto_montgomery.specs.Words.{value, weight}
-use Rattle.paseto_polynomials.proofs.IdentityLaws.{if-both}
-use Rattle.paseto_weierstrass.specs.Field.{prime, times}
-use Rattle.paseto_weierstrass.specs.Group.{cubic}
-use Rattle.paseto_weierstrass.specs.Multiples.{IsMultiple}
-use Rattle.paseto_weierstrass.specs.Point.{Point, base, point_add, point_double}
-use Rattle.paseto_weierstrass.proofs.Formulas.{summing}
-use Rattle.paseto_weierstrass.proofs.MultipleLaws.{multiple-add, multiple-double, multiple-of_same, multiple-one}
-use Rattle.paseto_weierstrass.proofs.Plane.{IsPlane, plane_point}
-use Rattle.paseto_weierstrass.proofs.PointLaws.{base-is_point, plane-is_point, same_of_across}
+use Rattle.paseto_primes.proofs.IdentityLaws.{if-both}
+use Rattle.paseto_weierstrass_laws.specs.Field.{prime, times}
+use Rattle.paseto_weierstrass_laws.specs.Group.{cubic}
+use Rattle.paseto_weierstrass_laws.specs.Multiples.{IsMultiple}
+use Rattle.paseto_weierstrass_laws.specs.Point.{Point, base, point_add, point_double}
+use Rattle.paseto_weierstrass_laws.proofs.Formulas.{summing}
+use Rattle.paseto_weierstrass_laws.proofs.MultipleLaws.{multiple-add, multiple-double, multiple-of_same, multiple-one}
+use Rattle.paseto_weierstrass_laws.proofs.Plane.{IsPlane, plane_point}
+use Rattle.paseto_weierstrass_laws.proofs.PointLaws.{base-is_point, plane-is_point, same_of_across}
 use Rattle.paseto_p384.specs.Table.{IsEntry, entry_point, words_at}
 use Rattle.paseto_p384.specs.declared.point.table.TheConstants.{TABLE}
 

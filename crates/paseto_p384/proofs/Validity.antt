@@ -2,12 +2,12 @@
 use Rattle.std.proofs.Common.{◌≡◌, ℕ, ◌<◌, List, length, take, drop, sym, ◌∙◌, ap, subst}
 use Rattle.std.specs.Prelude.{Option, None, Some}
 use Rattle.paseto_montgomery.specs.Octets.{os2ip}
-use Rattle.paseto_weierstrass.specs.Curve.{order}
+use Rattle.paseto_weierstrass_laws.specs.Curve.{order}
 use Rattle.paseto_p384.specs.Ecdsa.{Accepts}
 use Rattle.paseto_p384.specs.Encoding.{decoded}
 use Rattle.paseto_p384.specs.Nonce.{drawn, retried}
 use Rattle.paseto_p384.specs.P384.{AcceptsBy, IsPrivate, P384Verifies, either, first_candidate, hash_number, p384_sign, signed_by}
-use Rattle.paseto_weierstrass.specs.Point.{Point}
+use Rattle.paseto_weierstrass_laws.specs.Point.{Point}
 use Rattle.paseto_p384.specs.declared.nonce.NonceGenerator.{NonceGenerator}
 
 pub private-parts : (private : List ℕ) → IsPrivate private → (length private ≡ 48) × ((0 < os2ip private) × (os2ip private < order))

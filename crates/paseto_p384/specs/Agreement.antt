@@ -1,9 +1,9 @@
 -- What two parties agree on (SEC 1, section 3.3.1; SP 800-56A, section 5.7.1.2).
 use Rattle.std.specs.Prelude.{◌≡◌, ℕ, List, Option, None, option_map}
 use Rattle.paseto_montgomery.specs.Octets.{i2osp, os2ip}
-use Rattle.paseto_weierstrass.specs.Field.{inverse, times}
-use Rattle.paseto_weierstrass.specs.Multiples.{multiple_of}
-use Rattle.paseto_weierstrass.specs.Point.{Point}
+use Rattle.paseto_weierstrass_laws.specs.Field.{inverse, times}
+use Rattle.paseto_weierstrass_laws.specs.Multiples.{multiple_of}
+use Rattle.paseto_weierstrass_laws.specs.Point.{Point}
 use Rattle.paseto_p384.specs.Encoding.{decoded}
 use Rattle.paseto_p384.specs.P384.{IsPrivate}
 use Rattle.paseto_p384.specs.declared.agreement.AgreementError.{AgreementError}

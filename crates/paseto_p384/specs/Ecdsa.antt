@@ -1,10 +1,10 @@
 -- Verifying and signing of a hash, as numbers (FIPS 186-5, sections 6.4.1 and 6.4.2).
 use Rattle.std.specs.Prelude.{◌≡◌, ◌≢◌, ◌⊎◌, ℕ, ◌+◌, ◌%◌, ◌<◌, List, ◌++◌, Option, None, Some, nat_eq, nat_lt, if◌then◌else◌}
 use Rattle.paseto_montgomery.specs.Octets.{i2osp}
-use Rattle.paseto_weierstrass.specs.Curve.{order}
-use Rattle.paseto_weierstrass.specs.Field.{inverse, prime, times}
-use Rattle.paseto_weierstrass.specs.Multiples.{multiple_of}
-use Rattle.paseto_weierstrass.specs.Point.{Point, base, point_add}
+use Rattle.paseto_weierstrass_laws.specs.Curve.{order}
+use Rattle.paseto_weierstrass_laws.specs.Field.{inverse, prime, times}
+use Rattle.paseto_weierstrass_laws.specs.Multiples.{multiple_of}
+use Rattle.paseto_weierstrass_laws.specs.Point.{Point, base, point_add}
 use Rattle.paseto_p384.specs.Scalar.{scalar_inverse, scalar_plus, scalar_times}
 
 -- R = [u1]G + [u2]Q of a hash e and a signature (r, s): u1 is e / s and u2 is r / s modulo n (6.4.2, steps 3 to 5)

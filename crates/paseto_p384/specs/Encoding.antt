@@ -1,9 +1,9 @@
 -- Points of the curve as octets (SEC 1, sections 2.3.3 and 2.3.4), compressed.
 use Rattle.std.specs.Prelude.{ℕ, ◌+◌, ◌/◌, ◌%◌, List, ◌∷◌, ◌++◌, drop, slice_index, Option, None, Some, option_map, nat_eq, nat_lt, if◌then◌else◌}
 use Rattle.paseto_montgomery.specs.Octets.{i2osp, os2ip}
-use Rattle.paseto_weierstrass.specs.Curve.{curve_b}
-use Rattle.paseto_weierstrass.specs.Field.{inverse, minus, plus, power, prime, times, triple}
-use Rattle.paseto_weierstrass.specs.Point.{Point}
+use Rattle.paseto_weierstrass_laws.specs.Curve.{curve_b}
+use Rattle.paseto_weierstrass_laws.specs.Field.{inverse, minus, plus, power, prime, times, triple}
+use Rattle.paseto_weierstrass_laws.specs.Point.{Point}
 
 -- 2 or 3 by the parity of y, and x, of the point (X / Z, Y / Z) (2.3.3, step 2)
 unfoldable pub encoded : Point → List ℕ

@@ -4,12 +4,12 @@ use Rattle.sha2.specs.Sha512.{sha384}
 use Rattle.rusty_paseto_parts.specs.declared.error.PasetoError.TheVariants.{InvalidSignature, KeyRejected, Signature}
 use Rattle.rusty_paseto_core.specs.Public.Scheme.{Declining, Refusal}
 use Rattle.paseto_montgomery.specs.Octets.{i2osp, os2ip}
-use Rattle.paseto_weierstrass.specs.Curve.{order}
+use Rattle.paseto_weierstrass_laws.specs.Curve.{order}
 use Rattle.paseto_p384.specs.Ecdsa.{Accepts, attempt}
 use Rattle.paseto_p384.specs.Encoding.{decoded, encoded}
 use Rattle.paseto_p384.specs.Nonce.{drawn, retried, started}
-use Rattle.paseto_weierstrass.specs.Multiples.{multiple_of}
-use Rattle.paseto_weierstrass.specs.Point.{Point, base}
+use Rattle.paseto_weierstrass_laws.specs.Multiples.{multiple_of}
+use Rattle.paseto_weierstrass_laws.specs.Point.{Point, base}
 use Rattle.paseto_p384.specs.declared.nonce.NonceGenerator.{NonceGenerator}
 
 -- e, the number of the hash: the leftmost 384 bits of its digest, which are all (6.4.1, step 2)

@@ -1,8 +1,8 @@
 -- The points that elements of the field are.
 use Rattle.std.specs.Prelude.{◌≡◌, ℕ, ◌<◌, List, get_or}
-use Rattle.paseto_weierstrass.specs.Field.{times}
-use Rattle.paseto_weierstrass.specs.Multiples.{IsMultiple}
-use Rattle.paseto_weierstrass.specs.Point.{Point, cross}
+use Rattle.paseto_weierstrass_laws.specs.Field.{times}
+use Rattle.paseto_weierstrass_laws.specs.Multiples.{IsMultiple}
+use Rattle.paseto_weierstrass_laws.specs.Point.{Point, cross}
 use Rattle.paseto_p384.specs.Element.{number}
 use Rattle.paseto_p384.specs.declared.point.products.Products.{Products}
 use Rattle.paseto_p384.specs.declared.point.plane.PlanePoint.{PlanePoint}

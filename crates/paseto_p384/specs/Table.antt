@@ -2,9 +2,9 @@
 use Rattle.std.specs.Prelude.{ℕ, ◌<◌, List, [], get_or}
 use Rattle.paseto_montgomery.specs.Residue.{residue}
 use Rattle.paseto_montgomery.specs.Words.{value}
-use Rattle.paseto_weierstrass.specs.Field.{prime}
-use Rattle.paseto_weierstrass.specs.Multiples.{IsMultiple}
-use Rattle.paseto_weierstrass.specs.Point.{Point, base}
+use Rattle.paseto_weierstrass_laws.specs.Field.{prime}
+use Rattle.paseto_weierstrass_laws.specs.Multiples.{IsMultiple}
+use Rattle.paseto_weierstrass_laws.specs.Point.{Point, base}
 
 -- the number that six words at i are
 abbrev pub words_at : List (List ℕ) → ℕ → ℕ

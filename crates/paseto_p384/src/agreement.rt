@@ -4,8 +4,8 @@ ghost use Rattle.std.specs.Prelude.{◌≡◌};
 ghost use Rattle.paseto_montgomery.specs.Words.{value};
 ghost use Rattle.paseto_p384.specs.Agreement.{x_of};
 ghost use Rattle.paseto_p384.specs.Point.{coordinates};
-ghost use Rattle.paseto_weierstrass.specs.Group.{IsPoint};
-ghost use Rattle.paseto_weierstrass.specs.Multiples.{multiple_of};
+ghost use Rattle.paseto_weierstrass_laws.specs.Group.{IsPoint};
+ghost use Rattle.paseto_weierstrass_laws.specs.Multiples.{multiple_of};
 
 use crate::field::powers::inverse;
 use crate::field::{mul, to_words};

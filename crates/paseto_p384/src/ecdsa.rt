@@ -3,10 +3,10 @@
 ghost use Rattle.std.specs.Prelude.{◌≡◌, ◌↔◌, ◌-◌, ◌+◌, ◌%◌, ◌<◌, ◌++◌, IsTrue};
 ghost use Rattle.paseto_montgomery.specs.Octets.{i2osp};
 ghost use Rattle.paseto_montgomery.specs.Words.{value};
-ghost use Rattle.paseto_weierstrass.specs.Curve.{order};
+ghost use Rattle.paseto_weierstrass_laws.specs.Curve.{order};
 ghost use Rattle.paseto_p384.specs.Ecdsa.{Accepts, IsFirst, attempt, first, halves, named, nonzero, second};
-ghost use Rattle.paseto_weierstrass.specs.Field.{prime};
-ghost use Rattle.paseto_weierstrass.specs.Group.{IsPoint, Same};
+ghost use Rattle.paseto_weierstrass_laws.specs.Field.{prime};
+ghost use Rattle.paseto_weierstrass_laws.specs.Group.{IsPoint, Same};
 ghost use Rattle.paseto_p384.specs.Point.{coordinates};
 
 use crate::field::constants::{order_element, zero};

@@ -4,7 +4,7 @@ ghost use Rattle.std.specs.Prelude.{◌≡◌, ◌<◌, ◌%◌, length, option_
 ghost use Rattle.paseto_montgomery.specs.Words.{value};
 ghost use Rattle.paseto_p384.specs.Element.{number};
 ghost use Rattle.paseto_p384.specs.Encoding.{affine, decoded, encoded, point_at, right_side, signed};
-ghost use Rattle.paseto_weierstrass.specs.Field.{prime};
+ghost use Rattle.paseto_weierstrass_laws.specs.Field.{prime};
 ghost use Rattle.paseto_p384.specs.Point.{coordinates};
 
 use crate::ecdsa::halves;

@@ -2,8 +2,8 @@
 
 ghost use Rattle.std.specs.Prelude.{◌≡◌, ◌≢◌, ℕ, List, Some};
 ghost use Rattle.paseto_montgomery.specs.Octets.{os2ip};
-ghost use Rattle.paseto_weierstrass.specs.Multiples.{multiple_of};
-ghost use Rattle.paseto_weierstrass.specs.Point.{Point};
+ghost use Rattle.paseto_weierstrass_laws.specs.Multiples.{multiple_of};
+ghost use Rattle.paseto_weierstrass_laws.specs.Point.{Point};
 ghost use Rattle.paseto_p384.specs.Encoding.{decoded};
 ghost use Rattle.paseto_p384.specs.Agreement.{p384_shared};
 ghost use Rattle.paseto_p384.specs.P384.{IsPrivate, P384Verifies, p384_public, p384_sign};

@@ -5,7 +5,7 @@ ghost use Rattle.rusty_paseto_parts.specs.Error.{IsMemory};
 ghost use Rattle.rusty_paseto_parts.specs.declared.error.PasetoError.TheVariants.{InvalidSignature, KeyRejected, Signature};
 ghost use Rattle.paseto_montgomery.specs.Octets.{os2ip};
 ghost use Rattle.paseto_montgomery.specs.Words.{value};
-ghost use Rattle.paseto_weierstrass.specs.Curve.{order};
+ghost use Rattle.paseto_weierstrass_laws.specs.Curve.{order};
 ghost use Rattle.paseto_p384.specs.Agreement.{IsAgreementFault, p384_shared};
 ghost use Rattle.paseto_p384.specs.Encoding.{coordinates_of};
 ghost use Rattle.paseto_p384.specs.P384.{IsDeclined, IsPrivate, IsRefused, P384Verifies, first_candidate, hash_number, p384_public, p384_sign, signed_by};

@@ -3,9 +3,9 @@
 ghost use Rattle.std.specs.Prelude.{◌≡◌, ℕ, ◌*◌, ◌<◌};
 ghost use Rattle.paseto_p384.specs.Element.{number};
 ghost use Rattle.paseto_p384.specs.Point.{AreProducts, coordinates, plane};
-ghost use Rattle.paseto_weierstrass.specs.Group.{IsPoint};
-ghost use Rattle.paseto_weierstrass.specs.Multiples.{IsMultiple};
-ghost use Rattle.paseto_weierstrass.specs.Point.{Point, cross, neutral, point_add, point_double};
+ghost use Rattle.paseto_weierstrass_laws.specs.Group.{IsPoint};
+ghost use Rattle.paseto_weierstrass_laws.specs.Multiples.{IsMultiple};
+ghost use Rattle.paseto_weierstrass_laws.specs.Point.{Point, cross, neutral, point_add, point_double};
 
 mod comb;
 mod plane;

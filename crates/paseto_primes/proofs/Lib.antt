@@ -12,3 +12,8 @@ pub mod OrderOfP384
 pub mod PocklingtonLaws
 pub mod PowerLaws
 pub mod RootLaws
+pub mod ElementLaws
+pub mod IdentityLaws
+pub mod PolynomialLaws
+pub mod ProgramLaws
+pub mod ReductionLaws

@@ -3,3 +3,8 @@ pub mod Digits
 pub mod Power
 pub mod Prime
 pub mod Root
+pub mod Element
+pub mod Identity
+pub mod Polynomial
+pub mod Program
+pub mod Reduction

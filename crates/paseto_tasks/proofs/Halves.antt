@@ -7,8 +7,8 @@ use Rattle.rusty_paseto_parts.specs.Section.{base64url}
 use Rattle.paseto_ed25519.specs.Ed25519.{IsOwn}
 use Rattle.paseto_p384.specs.P384.{IsPrivate, p384_public}
 use Rattle.paseto_p384.specs.Encoding.{encoded}
-use Rattle.paseto_weierstrass.specs.Field.{inverse, times}
-use Rattle.paseto_weierstrass.specs.Point.{Point}
+use Rattle.paseto_weierstrass_laws.specs.Field.{inverse, times}
+use Rattle.paseto_weierstrass_laws.specs.Point.{Point}
 use Rattle.rusty_paseto_paserk.specs.declared.header.PaserkVersion.{PaserkVersion}
 use Rattle.rusty_paseto_paserk.specs.declared.header.PaserkVersion.TheVariants.{V1, V3}
 use Rattle.rusty_paseto_paserk.specs.declared.header.PaserkType.{PaserkType}

@@ -4,7 +4,7 @@ use Rattle.std.specs.Int.{w32, w64, to_be_bytes}
 use Rattle.base64.specs.GeneralPurpose.{IsBytes}
 use Rattle.sha2.specs.Sha512.{sha384}
 use Rattle.rusty_paseto_primitives.specs.Blake2.Keyed.{blake2b}
-use Rattle.paseto_pbkdf2.specs.Pbkdf2.{derived_key}
+use Rattle.rusty_paseto_primitives.specs.Pbkdf2.{derived_key}
 use Rattle.paseto_argon2.specs.Derivation.{argon2id}
 use Rattle.rusty_paseto_paserk.specs.declared.header.PaserkVersion.{PaserkVersion}
 use Rattle.paseto_wrapping.specs.declared.family.Family.{Family}

@@ -17,12 +17,11 @@ use crate::header::WrappedType;
 use crate::keys::{local_key, private_key};
 use crate::text::{read_payload, write_text};
 use paseto_argon2::{Argon2Error, Parameters, argon2id};
-use paseto_pbkdf2::pbkdf2_sha384;
 use rusty_paseto_parts::{
     Local, PasetoAsymmetricPrivateKey, PasetoSymmetricKey, PrivateKey, Public,
 };
 use rusty_paseto_paserk::{KeyVersion, PaserkVersion};
-use rusty_paseto_primitives::{Blake2b, same_bytes};
+use rusty_paseto_primitives::{Blake2b, pbkdf2_sha384, same_bytes};
 use sha2::{Digest as _, Sha384};
 use std::alloc::Global;
 

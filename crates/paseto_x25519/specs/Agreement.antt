@@ -1,6 +1,6 @@
 -- X25519 (RFC 7748, section 5).
 use Rattle.std.specs.Prelude.{ℕ, ◌+◌, ◌*◌, ◌/◌, ◌%◌, ◌^◌, List, ◌∷◌, replicate, slice_index, slice_set}
-use Rattle.paseto_edwards.specs.Edwards25519.{prime}
+use Rattle.paseto_edwards_laws.specs.Edwards25519.{prime}
 use Rattle.paseto_edwards25519.specs.Scalar.{bytes32, number32}
 use Rattle.paseto_x25519.specs.Ladder.{ladder}
 

@@ -1,7 +1,7 @@
 -- Keys of Ed25519 as keys of X25519 (RFC 7748, section 4.1).
 use Rattle.std.specs.Prelude.{◌≡◌, ℕ, ◌%◌, ◌^◌, List, Option, None, Some}
-use Rattle.paseto_edwards.specs.Edwards25519.{prime}
-use Rattle.paseto_edwards.specs.Group.{Affine}
+use Rattle.paseto_edwards_laws.specs.Edwards25519.{prime}
+use Rattle.paseto_edwards_laws.specs.Group.{Affine}
 use Rattle.paseto_edwards25519.specs.Curve.{HasSmallOrder}
 use Rattle.paseto_edwards25519.specs.Encoding.{decoded}
 use Rattle.paseto_edwards25519.specs.Extended.{inverse}

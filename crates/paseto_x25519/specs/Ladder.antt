@@ -1,6 +1,6 @@
 -- The Montgomery ladder of curve25519 (RFC 7748, section 5), with the names that stand there, on numbers modulo p.
 use Rattle.std.specs.Prelude.{ℕ, zero, suc, ◌+◌, ◌-◌, ◌/◌, ◌%◌, ◌^◌}
-use Rattle.paseto_edwards.specs.Edwards25519.{prime}
+use Rattle.paseto_edwards_laws.specs.Edwards25519.{prime}
 use Rattle.paseto_edwards25519.specs.Field.{minus, plus, power, times}
 
 -- x_2, z_2, x_3, z_3, and swap

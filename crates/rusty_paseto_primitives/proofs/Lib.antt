@@ -33,3 +33,4 @@ pub mod AesGroups
 pub mod AesStream
 pub mod AesSteps
 pub mod AesBlocks
+pub mod Pbkdf2Iterations

@@ -7,3 +7,4 @@ pub mod Hmac
 pub mod Hkdf
 pub mod Aes
 pub mod Collision
+pub mod Pbkdf2

@@ -20,6 +20,7 @@ mod hkdf;
 mod hmac;
 mod keystream;
 pub mod laws;
+mod pbkdf2;
 
 pub use aes::{Aes256, aes256_ctr_apply};
 pub use blake2::hasher::Blake2b;
@@ -29,3 +30,4 @@ pub use chacha::{chacha20_block, hchacha20, quarter_round, xchacha20_apply, xcha
 pub use equality::same_bytes;
 pub use hkdf::{hkdf_sha384_expand, hkdf_sha384_extract};
 pub use hmac::{HmacSha384, hmac_sha384};
+pub use pbkdf2::pbkdf2_sha384;

@@ -2,11 +2,11 @@
 
 ghost use Rattle.std.specs.Prelude.{◌≡◌, ◌≢◌, ◌^◌, ◌-◌, [], IsSome, length};
 ghost use Rattle.paseto_argon2.specs.Derivation.{argon2id};
-ghost use Rattle.paseto_pbkdf2.specs.Pbkdf2.{derived_key};
+ghost use Rattle.rusty_paseto_primitives.specs.Pbkdf2.{derived_key};
 
 use crate::copying::last_byte;
 use paseto_argon2::{Parameters, argon2id};
-use paseto_pbkdf2::pbkdf2_sha384;
+use rusty_paseto_primitives::pbkdf2_sha384;
 use std::alloc::Global;
 
 /// What is answered where something is not allowed or memory was refused.

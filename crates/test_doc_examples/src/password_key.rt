@@ -1,6 +1,6 @@
-//! Of `paseto_pbkdf2`.
+//! Of `rusty_paseto_primitives`.
 
-use paseto_pbkdf2::pbkdf2_sha384;
+use rusty_paseto_primitives::pbkdf2_sha384;
 
 /// The key of a password by 100,000 iterations.
 pub fn key_of(password: &str, salt: &[u8; 32]) -> [u8; 48] {

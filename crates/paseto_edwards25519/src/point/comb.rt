@@ -2,8 +2,8 @@
 //! scalar.
 
 ghost use Rattle.std.specs.Prelude.{◌≡◌, ◌≢◌, ℕ, ◌+◌, ◌*◌, ◌/◌, ◌%◌, ◌^◌, ◌<◌, replicate};
-ghost use Rattle.paseto_edwards.specs.Group.{neutral};
-ghost use Rattle.paseto_edwards.specs.Edwards25519.{base};
+ghost use Rattle.paseto_edwards_laws.specs.Group.{neutral};
+ghost use Rattle.paseto_edwards_laws.specs.Edwards25519.{base};
 ghost use Rattle.paseto_edwards25519.specs.Curve.{multiple};
 ghost use Rattle.paseto_edwards25519.specs.Extended.{affine};
 ghost use Rattle.paseto_edwards25519.specs.Field.{number};

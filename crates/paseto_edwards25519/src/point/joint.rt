@@ -2,8 +2,8 @@
 //! secret.
 
 ghost use Rattle.std.specs.Prelude.{◌≡◌, ◌≢◌, ℕ, ◌+◌, ◌*◌, ◌%◌, ◌^◌, ◌<◌, get_or};
-ghost use Rattle.paseto_edwards.specs.Group.{Affine};
-ghost use Rattle.paseto_edwards.specs.Edwards25519.{base};
+ghost use Rattle.paseto_edwards_laws.specs.Group.{Affine};
+ghost use Rattle.paseto_edwards_laws.specs.Edwards25519.{base};
 ghost use Rattle.paseto_edwards25519.specs.Curve.{IsPoint, multiple, sum};
 ghost use Rattle.paseto_edwards25519.specs.Extended.{affine};
 ghost use Rattle.paseto_edwards25519.specs.Point.{AreOddMultiples, AreSignedMultiples, HaveUnitZ, completed, point, prepared, projected};

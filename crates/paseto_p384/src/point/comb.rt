@@ -3,8 +3,8 @@
 ghost use Rattle.std.specs.Prelude.{◌≡◌, ◌≢◌, ℕ, ◌+◌, ◌*◌, ◌^◌, ◌<◌, ◌≤◌};
 ghost use Rattle.paseto_montgomery.specs.Words.{value};
 ghost use Rattle.paseto_primes.specs.Digits.{row_sum};
-ghost use Rattle.paseto_weierstrass.specs.Multiples.{IsMultiple};
-ghost use Rattle.paseto_weierstrass.specs.Point.{base};
+ghost use Rattle.paseto_weierstrass_laws.specs.Multiples.{IsMultiple};
+ghost use Rattle.paseto_weierstrass_laws.specs.Point.{base};
 ghost use Rattle.paseto_p384.specs.Point.{coordinates, plane};
 
 use super::table::{ROWS, entry};

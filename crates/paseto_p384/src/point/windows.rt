@@ -2,9 +2,9 @@
 
 ghost use Rattle.std.specs.Prelude.{◌≡◌, ℕ, ◌+◌, ◌*◌, ◌^◌, ◌<◌};
 ghost use Rattle.paseto_montgomery.specs.Words.{value};
-ghost use Rattle.paseto_weierstrass.specs.Group.{IsPoint, Same};
-ghost use Rattle.paseto_weierstrass.specs.Multiples.{IsMultiple};
-ghost use Rattle.paseto_weierstrass.specs.Point.{Point, point_double};
+ghost use Rattle.paseto_weierstrass_laws.specs.Group.{IsPoint, Same};
+ghost use Rattle.paseto_weierstrass_laws.specs.Multiples.{IsMultiple};
+ghost use Rattle.paseto_weierstrass_laws.specs.Point.{Point, point_double};
 ghost use Rattle.paseto_p384.specs.Point.{AreMultiples, coordinates};
 
 use super::{ProjectivePoint, add, double, neutral};

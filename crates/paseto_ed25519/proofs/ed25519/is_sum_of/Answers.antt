@@ -1,6 +1,6 @@
 use Rattle.std.proofs.Common.{sym, ◌∙◌, ap, subst}
 use Rattle.std.proofs.lemmas.Bool.{false≢true}
-use Rattle.paseto_edwards.specs.Edwards25519.{base}
+use Rattle.paseto_edwards_laws.specs.Edwards25519.{base}
 use Rattle.paseto_edwards25519.specs.Curve.{HasSmallOrder, multiple, sum}
 use Rattle.paseto_edwards25519.specs.Encoding.{encoded}
 use Rattle.paseto_edwards25519.specs.Scalar.{number32}

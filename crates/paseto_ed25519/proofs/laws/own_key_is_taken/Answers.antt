@@ -1,5 +1,5 @@
 use Rattle.paseto_ed25519.specs.Ed25519.{secret_scalar}
-use Rattle.paseto_edwards.specs.Edwards25519.{base}
+use Rattle.paseto_edwards_laws.specs.Edwards25519.{base}
 use Rattle.paseto_edwards25519.specs.Curve.{multiple}
 use Rattle.paseto_ed25519.proofs.SecretLaws.{secret-unit}
 use Rattle.paseto_ed25519.proofs.laws.own_key_is_taken.Goals as goal

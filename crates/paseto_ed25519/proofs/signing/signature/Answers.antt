@@ -1,5 +1,5 @@
 use Rattle.std.proofs.Common.{◌+◌, ◌*◌, ◌%◌, ◌++◌, ℕ, ◌∙◌, ap, ap₂}
-use Rattle.paseto_edwards.specs.Edwards25519.{base, order}
+use Rattle.paseto_edwards_laws.specs.Edwards25519.{base, order}
 use Rattle.paseto_ed25519.specs.Ed25519.{challenge, signed}
 use Rattle.paseto_edwards25519.specs.Curve.{multiple}
 use Rattle.paseto_edwards25519.specs.Encoding.{encoded}

@@ -2,7 +2,7 @@ use Rattle.std.proofs.Common.{◌≤◌, ℕ, ◌+◌, ◌*◌, ◌/◌, ◌%◌
 use Rattle.std.proofs.lemmas.Bool.{false≢true}
 use Rattle.paseto_edwards25519.specs.Encoding.{point_of}
 use Rattle.paseto_edwards25519.specs.Field.{number}
-use Rattle.paseto_edwards.specs.Edwards25519.{prime}
+use Rattle.paseto_edwards_laws.specs.Edwards25519.{prime}
 use Rattle.paseto_edwards25519.proofs.EncodingLaws.{decoded_at, decoded_none, not_below, point_of_none, split_sign}
 use Rattle.paseto_edwards25519.proofs.encoding.decode.Goals as goal
 

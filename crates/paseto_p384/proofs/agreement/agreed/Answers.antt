@@ -1,7 +1,7 @@
 use Rattle.std.proofs.Common.{◌∙◌}
 use Rattle.paseto_montgomery.specs.Words.{value}
-use Rattle.paseto_weierstrass.specs.Multiples.{multiple_of}
-use Rattle.paseto_weierstrass.proofs.MultipleLaws.{multiple-is_point}
+use Rattle.paseto_weierstrass_laws.specs.Multiples.{multiple_of}
+use Rattle.paseto_weierstrass_laws.proofs.MultipleLaws.{multiple-is_point}
 use Rattle.paseto_p384.specs.Point.{coordinates}
 use Rattle.paseto_p384.proofs.AgreementLaws.{same-x}
 use Rattle.paseto_p384.proofs.agreement.agreed.Goals as goal

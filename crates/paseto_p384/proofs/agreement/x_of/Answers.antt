@@ -1,6 +1,6 @@
 use Rattle.std.proofs.Common.{◌≡◌, length, rules, ◌∙◌, ap}
 use Rattle.paseto_montgomery.specs.Octets.{i2osp}
-use Rattle.paseto_weierstrass.specs.Field.{times}
+use Rattle.paseto_weierstrass_laws.specs.Field.{times}
 use Rattle.paseto_p384.specs.Agreement.{x_of}
 use Rattle.paseto_p384.specs.Element.{number}
 use Rattle.paseto_p384.proofs.agreement.x_of.Goals as goal

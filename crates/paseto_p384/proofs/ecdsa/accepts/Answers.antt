@@ -1,7 +1,7 @@
 use Rattle.std.proofs.Common.{ℕ, ◌<◌, refl, arith}
 use Rattle.std.proofs.lemmas.Bool.{false≢true}
 use Rattle.paseto_montgomery.specs.Words.{value}
-use Rattle.paseto_weierstrass.specs.Field.{prime}
+use Rattle.paseto_weierstrass_laws.specs.Field.{prime}
 use Rattle.paseto_p384.specs.Ecdsa.{named}
 use Rattle.paseto_p384.specs.Point.{coordinates}
 use Rattle.paseto_p384.proofs.EcdsaLaws.{accepts-of, accepts-parts, first-same, named-is_point}

@@ -1,7 +1,7 @@
 use Rattle.std.proofs.Common.{ℕ, ◌%◌, ◌∙◌, ap}
 use Rattle.paseto_montgomery.specs.Words.{value}
-use Rattle.paseto_weierstrass.specs.Curve.{order}
-use Rattle.paseto_weierstrass.specs.Field.{times}
+use Rattle.paseto_weierstrass_laws.specs.Curve.{order}
+use Rattle.paseto_weierstrass_laws.specs.Field.{times}
 use Rattle.paseto_p384.specs.Point.{coordinates}
 use Rattle.paseto_p384.proofs.EcdsaLaws.{first-is}
 use Rattle.paseto_p384.proofs.ecdsa.first.Goals as goal

@@ -2,9 +2,9 @@ use Rattle.std.proofs.Common.{◌≡◌, ◌≢◌, ℕ, ◌+◌, ◌<◌, sym, 
 use Rattle.std.proofs.Math.Nat.{mod-eq_of_lt}
 use Rattle.std.proofs.lemmas.Bool.{false≢true}
 use Rattle.paseto_montgomery.specs.Words.{value}
-use Rattle.paseto_weierstrass.specs.Curve.{order}
+use Rattle.paseto_weierstrass_laws.specs.Curve.{order}
 use Rattle.paseto_p384.specs.Element.{number}
-use Rattle.paseto_weierstrass.specs.Field.{plus, prime, times}
+use Rattle.paseto_weierstrass_laws.specs.Field.{plus, prime, times}
 use Rattle.paseto_p384.specs.Point.{coordinates}
 use Rattle.paseto_p384.proofs.EcdsaLaws.{first-of, first-parts}
 use Rattle.paseto_p384.proofs.FieldLaws.{plus-below}

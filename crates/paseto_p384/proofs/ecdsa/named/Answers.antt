@@ -1,11 +1,11 @@
 use Rattle.std.proofs.Common.{ℕ, sym, ◌∙◌, ap, ap₂, subst}
 use Rattle.std.proofs.Math.Nat.{mod-eq_of_lt}
 use Rattle.paseto_montgomery.specs.Words.{value}
-use Rattle.paseto_weierstrass.specs.Group.{Same}
-use Rattle.paseto_weierstrass.specs.Multiples.{multiple_of}
-use Rattle.paseto_weierstrass.specs.Point.{Point, base, point_add}
-use Rattle.paseto_weierstrass.proofs.MultipleLaws.{sum-made}
-use Rattle.paseto_weierstrass.proofs.PointLaws.{base-is_point}
+use Rattle.paseto_weierstrass_laws.specs.Group.{Same}
+use Rattle.paseto_weierstrass_laws.specs.Multiples.{multiple_of}
+use Rattle.paseto_weierstrass_laws.specs.Point.{Point, base, point_add}
+use Rattle.paseto_weierstrass_laws.proofs.MultipleLaws.{sum-made}
+use Rattle.paseto_weierstrass_laws.proofs.PointLaws.{base-is_point}
 use Rattle.paseto_p384.specs.Ecdsa.{named}
 use Rattle.paseto_p384.specs.Point.{coordinates}
 use Rattle.paseto_p384.specs.Scalar.{scalar_inverse, scalar_times}

@@ -4,7 +4,7 @@ use Rattle.std.proofs.Math.Nat.{mod-eq_of_lt}
 use Rattle.paseto_montgomery.specs.Octets.{os2ip}
 use Rattle.paseto_montgomery.specs.Words.{value}
 use Rattle.paseto_p384.specs.Encoding.{point_at}
-use Rattle.paseto_weierstrass.specs.Field.{prime}
+use Rattle.paseto_weierstrass_laws.specs.Field.{prime}
 use Rattle.paseto_p384.proofs.EncodingLaws.{decoded-above, decoded-at, decoded-first}
 use Rattle.paseto_p384.proofs.encoding.decode.Goals as goal
 

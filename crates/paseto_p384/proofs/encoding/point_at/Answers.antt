@@ -1,7 +1,7 @@
 use Rattle.std.proofs.Common.{ℕ, ◌+◌, ◌/◌, sym, ◌∙◌, ap, refl}
 use Rattle.std.proofs.lemmas.Bool.{false≢true}
 use Rattle.paseto_p384.specs.Element.{number}
-use Rattle.paseto_weierstrass.specs.Field.{power, prime}
+use Rattle.paseto_weierstrass_laws.specs.Field.{power, prime}
 use Rattle.paseto_p384.proofs.EncodingLaws.{point_at-none, point_at-some}
 use Rattle.paseto_p384.proofs.encoding.point_at.Goals as goal
 

@@ -1,6 +1,6 @@
 use Rattle.std.proofs.Common.{◌≡◌, ℕ, ◌%◌, ◌/◌, ◌^◌, length, sym, ◌∙◌, ap, rules, arith}
 use Rattle.paseto_p384.specs.Element.{number}
-use Rattle.paseto_weierstrass.specs.Field.{minus}
+use Rattle.paseto_weierstrass_laws.specs.Field.{minus}
 use Rattle.paseto_p384.proofs.EncodingLaws.{signed-other, signed-same}
 use Rattle.paseto_p384.proofs.encoding.signed.Goals as goal
 

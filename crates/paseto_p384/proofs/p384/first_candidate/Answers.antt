@@ -1,5 +1,5 @@
 use Rattle.std.proofs.Common.{◌≡◌, ◌%◌, ◌∙◌, length, ap, rules}
-use Rattle.paseto_weierstrass.specs.Curve.{order}
+use Rattle.paseto_weierstrass_laws.specs.Curve.{order}
 use Rattle.paseto_p384.specs.Nonce.{drawn, started}
 use Rattle.paseto_p384.specs.P384.{first_candidate}
 use Rattle.paseto_p384.proofs.p384.first_candidate.Goals as goal

@@ -1,8 +1,8 @@
 use Rattle.std.proofs.Common.{◌∙◌, ap}
-use Rattle.paseto_weierstrass.specs.Multiples.{multiple_of}
-use Rattle.paseto_weierstrass.specs.Point.{base}
-use Rattle.paseto_weierstrass.proofs.MultipleLaws.{multiple-is_point}
-use Rattle.paseto_weierstrass.proofs.PointLaws.{base-is_point}
+use Rattle.paseto_weierstrass_laws.specs.Multiples.{multiple_of}
+use Rattle.paseto_weierstrass_laws.specs.Point.{base}
+use Rattle.paseto_weierstrass_laws.proofs.MultipleLaws.{multiple-is_point}
+use Rattle.paseto_weierstrass_laws.proofs.PointLaws.{base-is_point}
 use Rattle.paseto_montgomery.specs.Words.{value}
 use Rattle.paseto_p384.specs.Encoding.{encoded}
 use Rattle.paseto_p384.specs.P384.{p384_public}

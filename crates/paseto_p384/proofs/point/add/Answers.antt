@@ -1,5 +1,5 @@
 use Rattle.std.proofs.Common.{◌∙◌, ap₂}
-use Rattle.paseto_weierstrass.specs.Point.{cross}
+use Rattle.paseto_weierstrass_laws.specs.Point.{cross}
 use Rattle.paseto_p384.specs.Point.{coordinates}
 use Rattle.paseto_p384.proofs.point.add.Goals as goal
 

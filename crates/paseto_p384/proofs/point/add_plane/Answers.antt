@@ -1,7 +1,7 @@
 use Rattle.std.proofs.Common.{◌∙◌, ap, ap₂}
-use Rattle.paseto_weierstrass.specs.Field.{plus}
-use Rattle.paseto_weierstrass.specs.Point.{cross}
-use Rattle.paseto_weierstrass.proofs.FieldLaws.{times_unit}
+use Rattle.paseto_weierstrass_laws.specs.Field.{plus}
+use Rattle.paseto_weierstrass_laws.specs.Point.{cross}
+use Rattle.paseto_weierstrass_laws.proofs.FieldLaws.{times_unit}
 use Rattle.paseto_p384.specs.Point.{coordinates, plane}
 use Rattle.paseto_p384.proofs.FieldLaws.{number-below}
 use Rattle.paseto_p384.proofs.PointLaws.{cross-unit}

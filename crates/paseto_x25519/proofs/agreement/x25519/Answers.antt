@@ -1,5 +1,5 @@
 use Rattle.std.proofs.Common.{◌%◌, ◌∙◌, ap, ap₂, arith}
-use Rattle.paseto_edwards.specs.Edwards25519.{prime}
+use Rattle.paseto_edwards_laws.specs.Edwards25519.{prime}
 use Rattle.paseto_edwards25519.specs.Scalar.{bytes32, number32}
 use Rattle.paseto_x25519.specs.Ladder.{ladder}
 use Rattle.paseto_x25519.proofs.LadderLaws.{masked-is}

@@ -1,5 +1,5 @@
 use Rattle.std.proofs.Common.{◌%◌, ◌∙◌, ap, ap₂, arith}
-use Rattle.paseto_edwards.specs.Edwards25519.{prime}
+use Rattle.paseto_edwards_laws.specs.Edwards25519.{prime}
 use Rattle.paseto_edwards25519.specs.Extended.{inverse}
 use Rattle.paseto_edwards25519.specs.Field.{minus, plus, times}
 use Rattle.paseto_edwards25519.specs.Scalar.{bytes32, number32}

@@ -1,5 +1,5 @@
 use Rattle.std.proofs.Common.{◌-◌, ◌∙◌, ap}
-use Rattle.paseto_edwards.specs.Edwards25519.{prime}
+use Rattle.paseto_edwards_laws.specs.Edwards25519.{prime}
 use Rattle.paseto_edwards25519.specs.Field.{number, power, times}
 use Rattle.paseto_x25519.specs.Ladder.{quotient}
 use Rattle.paseto_x25519.proofs.ladder.quotient.Goals as goal

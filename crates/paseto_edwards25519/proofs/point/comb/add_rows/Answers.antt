@@ -1,9 +1,9 @@
 use Rattle.std.proofs.Common.{◌≡◌, ℕ, ◌+◌, ◌*◌, ◌^◌, ◌∙◌, ap, subst, add-one, arith}
-use Rattle.paseto_edwards.specs.Edwards25519.{base}
+use Rattle.paseto_edwards_laws.specs.Edwards25519.{base}
 use Rattle.paseto_edwards25519.specs.Curve.{multiple}
 use Rattle.paseto_edwards25519.specs.Digits.{row_sum}
 use Rattle.paseto_edwards25519.specs.Point.{point}
-use Rattle.paseto_edwards.proofs.CurveLaws.{base-point}
+use Rattle.paseto_edwards_laws.proofs.CurveLaws.{base-point}
 use Rattle.paseto_edwards25519.proofs.DigitLaws.{row-more, row-none}
 use Rattle.paseto_edwards25519.proofs.MultipleLaws.{multiple-next}
 use Rattle.paseto_edwards25519.proofs.point.comb.add_rows.Goals as goal

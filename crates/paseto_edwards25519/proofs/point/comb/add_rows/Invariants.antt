@@ -1,5 +1,5 @@
 use Rattle.std.proofs.Common.{◌≡◌, ℕ, ◌+◌, ◌*◌, ◌^◌}
-use Rattle.paseto_edwards.specs.Edwards25519.{base}
+use Rattle.paseto_edwards_laws.specs.Edwards25519.{base}
 use Rattle.paseto_edwards25519.specs.Curve.{multiple}
 use Rattle.paseto_edwards25519.specs.Digits.{row_sum}
 use Rattle.paseto_edwards25519.specs.Point.{point}

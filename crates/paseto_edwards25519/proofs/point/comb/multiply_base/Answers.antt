@@ -1,6 +1,6 @@
-use Rattle.paseto_edwards.proofs.CurveLaws.{base-point}
+use Rattle.paseto_edwards_laws.proofs.CurveLaws.{base-point}
 use Rattle.std.proofs.Common.{◌≡◌, ℕ, ◌+◌, ◌*◌, ◌^◌, ◌<◌, sym, ◌∙◌, ◌-◌, ap, subst, add-one, arith}
-use Rattle.paseto_edwards.specs.Edwards25519.{base}
+use Rattle.paseto_edwards_laws.specs.Edwards25519.{base}
 use Rattle.paseto_edwards25519.specs.Curve.{multiple}
 use Rattle.paseto_edwards25519.specs.Digits.{row_sum, turn_sum}
 use Rattle.paseto_edwards25519.specs.Point.{point}

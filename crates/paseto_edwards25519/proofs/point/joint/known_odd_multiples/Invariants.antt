@@ -1,5 +1,5 @@
 use Rattle.std.proofs.Common.{◌≡◌, length}
-use Rattle.paseto_edwards.specs.Edwards25519.{base}
+use Rattle.paseto_edwards_laws.specs.Edwards25519.{base}
 use Rattle.paseto_edwards25519.specs.Point.{AreOddMultiples, HaveUnitZ}
 use Rattle.paseto_edwards25519.proofs.point.joint.known_odd_multiples.Given as goal
 

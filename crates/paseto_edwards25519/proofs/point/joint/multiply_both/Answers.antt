@@ -1,6 +1,6 @@
 use Rattle.std.proofs.Common.{◌≡◌, ℕ, suc, ◌+◌, ◌-◌, ◌^◌, ◌<◌, sym, ◌∙◌, ap, ap₂, arith}
-use Rattle.paseto_edwards.proofs.CurveLaws.{base-point}
-use Rattle.paseto_edwards.specs.Edwards25519.{base}
+use Rattle.paseto_edwards_laws.proofs.CurveLaws.{base-point}
+use Rattle.paseto_edwards_laws.specs.Edwards25519.{base}
 use Rattle.paseto_edwards25519.specs.Curve.{multiple, sum}
 use Rattle.paseto_edwards25519.specs.Extended.{affine}
 use Rattle.paseto_edwards25519.specs.Point.{completed, point}

@@ -1,5 +1,5 @@
 use Rattle.std.proofs.Common.{◌≡◌, ◌-◌}
-use Rattle.paseto_edwards.specs.Edwards25519.{base}
+use Rattle.paseto_edwards_laws.specs.Edwards25519.{base}
 use Rattle.paseto_edwards25519.specs.Curve.{multiple, sum}
 use Rattle.paseto_edwards25519.specs.Extended.{affine}
 use Rattle.paseto_edwards25519.specs.Point.{point, projected}

@@ -1,5 +1,5 @@
 use Rattle.std.proofs.Common.{◌≡◌, ℕ, ◌+◌, ◌-◌, ◌*◌, ◌<◌, length, get_or}
-use Rattle.paseto_edwards.specs.Group.{Affine}
+use Rattle.paseto_edwards_laws.specs.Group.{Affine}
 use Rattle.paseto_edwards25519.specs.Curve.{multiple, opposite}
 use Rattle.paseto_edwards25519.specs.Extended.{affine}
 use Rattle.paseto_edwards25519.specs.Field.{number}

@@ -1,9 +1,9 @@
 use Rattle.std.proofs.Common.{◌≡◌, ℕ, ◌+◌, ◌*◌, ◌^◌, inl, inr, sym, ◌∙◌, ap, subst, arith}
-use Rattle.paseto_weierstrass.specs.Multiples.{IsMultiple}
-use Rattle.paseto_weierstrass.specs.Point.{Point, base}
-use Rattle.paseto_weierstrass.proofs.FieldLaws.{zero_or_not}
-use Rattle.paseto_weierstrass.proofs.MultipleLaws.{multiple-add}
-use Rattle.paseto_weierstrass.proofs.PointLaws.{base-is_point}
+use Rattle.paseto_weierstrass_laws.specs.Multiples.{IsMultiple}
+use Rattle.paseto_weierstrass_laws.specs.Point.{Point, base}
+use Rattle.paseto_weierstrass_laws.proofs.FieldLaws.{zero_or_not}
+use Rattle.paseto_weierstrass_laws.proofs.MultipleLaws.{multiple-add}
+use Rattle.paseto_weierstrass_laws.proofs.PointLaws.{base-is_point}
 use Rattle.paseto_p384.specs.Point.{coordinates, plane}
 use Rattle.paseto_p384.proofs.PointLaws.{not-none}
 use Rattle.paseto_p384.proofs.point.comb.add_digit.Goals as goal

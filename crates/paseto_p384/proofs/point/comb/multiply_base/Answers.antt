@@ -3,10 +3,10 @@ use Rattle.paseto_montgomery.specs.Words.{value, weight}
 use Rattle.paseto_montgomery.proofs.WordsLaws.{value-below}
 use Rattle.paseto_primes.specs.Digits.{turn_sum}
 use Rattle.paseto_primes.proofs.DigitLaws.{turn-first, turn-more, turns_number}
-use Rattle.paseto_weierstrass.specs.Multiples.{IsMultiple}
-use Rattle.paseto_weierstrass.specs.Point.{base}
-use Rattle.paseto_weierstrass.proofs.MultipleLaws.{multiple-neutral}
-use Rattle.paseto_weierstrass.proofs.PointLaws.{base-is_point}
+use Rattle.paseto_weierstrass_laws.specs.Multiples.{IsMultiple}
+use Rattle.paseto_weierstrass_laws.specs.Point.{base}
+use Rattle.paseto_weierstrass_laws.proofs.MultipleLaws.{multiple-neutral}
+use Rattle.paseto_weierstrass_laws.proofs.PointLaws.{base-is_point}
 use Rattle.paseto_p384.specs.Point.{coordinates}
 use Rattle.paseto_p384.proofs.point.comb.multiply_base.Goals as goal
 

@@ -1,7 +1,7 @@
 use Rattle.paseto_montgomery.specs.Words.{value}
 use Rattle.paseto_primes.specs.Digits.{turn_sum}
-use Rattle.paseto_weierstrass.specs.Multiples.{IsMultiple}
-use Rattle.paseto_weierstrass.specs.Point.{base}
+use Rattle.paseto_weierstrass_laws.specs.Multiples.{IsMultiple}
+use Rattle.paseto_weierstrass_laws.specs.Point.{base}
 use Rattle.paseto_p384.specs.Point.{coordinates}
 use Rattle.paseto_p384.proofs.point.comb.multiply_base.Given as goal
 

@@ -4,9 +4,9 @@ use Rattle.paseto_montgomery.specs.Words.{value, weight}
 use Rattle.paseto_montgomery.proofs.WordsLaws.{value-below}
 use Rattle.paseto_primes.specs.Digits.{digit}
 use Rattle.paseto_primes.proofs.DigitLaws.{digit-step, power-of_two}
-use Rattle.paseto_weierstrass.specs.Multiples.{IsMultiple}
-use Rattle.paseto_weierstrass.specs.Point.{Point}
-use Rattle.paseto_weierstrass.proofs.MultipleLaws.{multiple-add, multiple-neutral}
+use Rattle.paseto_weierstrass_laws.specs.Multiples.{IsMultiple}
+use Rattle.paseto_weierstrass_laws.specs.Point.{Point}
+use Rattle.paseto_weierstrass_laws.proofs.MultipleLaws.{multiple-add, multiple-neutral}
 use Rattle.paseto_p384.specs.Point.{coordinates}
 use Rattle.paseto_p384.proofs.point.secret_windows.multiply_secret.Goals as goal
 

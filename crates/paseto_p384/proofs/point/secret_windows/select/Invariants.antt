@@ -1,6 +1,6 @@
 use Rattle.std.proofs.Common.{◌<◌}
-use Rattle.paseto_weierstrass.specs.Multiples.{IsMultiple}
-use Rattle.paseto_weierstrass.specs.Point.{Point}
+use Rattle.paseto_weierstrass_laws.specs.Multiples.{IsMultiple}
+use Rattle.paseto_weierstrass_laws.specs.Point.{Point}
 use Rattle.paseto_p384.specs.Point.{AreMultiples, coordinates}
 use Rattle.paseto_p384.proofs.point.secret_windows.select.Given as goal
 

@@ -1,7 +1,7 @@
 use Rattle.std.proofs.Common.{◌≡◌, ◌+◌, sym, subst, arith}
-use Rattle.paseto_weierstrass.specs.Multiples.{IsMultiple}
-use Rattle.paseto_weierstrass.specs.Point.{Point}
-use Rattle.paseto_weierstrass.proofs.MultipleLaws.{multiple-add}
+use Rattle.paseto_weierstrass_laws.specs.Multiples.{IsMultiple}
+use Rattle.paseto_weierstrass_laws.specs.Point.{Point}
+use Rattle.paseto_weierstrass_laws.proofs.MultipleLaws.{multiple-add}
 use Rattle.paseto_p384.specs.Point.{coordinates}
 use Rattle.paseto_p384.proofs.point.windows.add_listed.Goals as goal
 

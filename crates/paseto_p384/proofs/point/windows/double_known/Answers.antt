@@ -1,9 +1,9 @@
 use Rattle.std.proofs.Common.{◌≡◌, ◌≢◌, sym, ◌∙◌, subst}
 use Rattle.std.proofs.lemmas.Bool.{false≢true}
-use Rattle.paseto_weierstrass.specs.Group.{Same}
-use Rattle.paseto_weierstrass.specs.Point.{Point, point_double}
-use Rattle.paseto_weierstrass.proofs.PointLaws.{same_refl}
-use Rattle.paseto_weierstrass.proofs.SumLaws.{double-is_point}
+use Rattle.paseto_weierstrass_laws.specs.Group.{Same}
+use Rattle.paseto_weierstrass_laws.specs.Point.{Point, point_double}
+use Rattle.paseto_weierstrass_laws.proofs.PointLaws.{same_refl}
+use Rattle.paseto_weierstrass_laws.proofs.SumLaws.{double-is_point}
 use Rattle.paseto_p384.specs.Element.{number}
 use Rattle.paseto_p384.specs.Point.{coordinates}
 use Rattle.paseto_p384.proofs.PointLaws.{double-finite, double_finite}

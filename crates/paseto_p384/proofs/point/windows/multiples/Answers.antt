@@ -1,9 +1,9 @@
 use Rattle.std.proofs.Common.{◌≡◌, ℕ, ◌+◌, ◌-◌, refl, sym, ◌∙◌, inl, inr, subst, arith, length-set}
 use Rattle.std.proofs.lemmas.Bool.{cases_eq}
 use Rattle.std.proofs.lemmas.List.{get_or-set_other, get_or-set_same}
-use Rattle.paseto_weierstrass.specs.Multiples.{IsMultiple}
-use Rattle.paseto_weierstrass.specs.Point.{Point}
-use Rattle.paseto_weierstrass.proofs.MultipleLaws.{multiple-add, multiple-neutral, multiple-one}
+use Rattle.paseto_weierstrass_laws.specs.Multiples.{IsMultiple}
+use Rattle.paseto_weierstrass_laws.specs.Point.{Point}
+use Rattle.paseto_weierstrass_laws.proofs.MultipleLaws.{multiple-add, multiple-neutral, multiple-one}
 use Rattle.paseto_p384.specs.Point.{coordinates}
 use Rattle.paseto_p384.specs.declared.point.projective.ProjectivePoint.{ProjectivePoint}
 use Rattle.paseto_p384.proofs.point.windows.multiples.Goals as goal

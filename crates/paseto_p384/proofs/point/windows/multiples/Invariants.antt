@@ -1,5 +1,5 @@
 use Rattle.std.proofs.Common.{◌≡◌, ◌-◌, length}
-use Rattle.paseto_weierstrass.specs.Multiples.{IsMultiple}
+use Rattle.paseto_weierstrass_laws.specs.Multiples.{IsMultiple}
 use Rattle.paseto_p384.specs.Point.{AreMultiples, coordinates}
 use Rattle.paseto_p384.proofs.point.windows.multiples.Given as goal
 

@@ -4,8 +4,8 @@ use Rattle.paseto_montgomery.specs.Words.{value, weight}
 use Rattle.paseto_montgomery.proofs.WordsLaws.{value-below}
 use Rattle.paseto_primes.specs.Digits.{digit}
 use Rattle.paseto_primes.proofs.DigitLaws.{digit-step, power-of_two}
-use Rattle.paseto_weierstrass.specs.Multiples.{IsMultiple}
-use Rattle.paseto_weierstrass.proofs.MultipleLaws.{multiple-neutral}
+use Rattle.paseto_weierstrass_laws.specs.Multiples.{IsMultiple}
+use Rattle.paseto_weierstrass_laws.proofs.MultipleLaws.{multiple-neutral}
 use Rattle.paseto_p384.specs.Point.{coordinates}
 use Rattle.paseto_p384.proofs.point.windows.multiply.Goals as goal
 

@@ -1,5 +1,5 @@
-use Rattle.paseto_weierstrass.proofs.PointLaws.{same-is_point}
-use Rattle.paseto_weierstrass.proofs.SumLaws.{double-is_point}
+use Rattle.paseto_weierstrass_laws.proofs.PointLaws.{same-is_point}
+use Rattle.paseto_weierstrass_laws.proofs.SumLaws.{double-is_point}
 use Rattle.paseto_p384.specs.Point.{coordinates}
 use Rattle.paseto_p384.proofs.PointLaws.{sixteen-times}
 use Rattle.paseto_p384.proofs.point.windows.sixteen_times.Goals as goal

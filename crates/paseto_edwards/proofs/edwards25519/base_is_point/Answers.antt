@@ -1,5 +1,0 @@
-use Rattle.paseto_edwards.proofs.CurveLaws.{base-point}
-use Rattle.paseto_edwards.proofs.edwards25519.base_is_point.Goals as goal
-
-pub returns : goal.returns
-returns c = base-point

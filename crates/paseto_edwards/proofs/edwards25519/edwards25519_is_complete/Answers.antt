@@ -1,5 +1,0 @@
-use Rattle.paseto_edwards.proofs.CurveLaws.{curve}
-use Rattle.paseto_edwards.proofs.edwards25519.edwards25519_is_complete.Goals as goal
-
-pub returns : goal.returns
-returns c = curve

@@ -1,5 +1,0 @@
-use Rattle.paseto_edwards.proofs.OrderLaws.{base-multiples}
-use Rattle.paseto_edwards.proofs.edwards25519.multiples_of_base.Goals as goal
-
-pub returns : goal.returns
-returns c = base-multiples

@@ -1,5 +1,0 @@
-use Rattle.paseto_edwards.proofs.ExtendedLaws.{added-stands}
-use Rattle.paseto_edwards.proofs.extended.added_is_sum.Goals as goal
-
-pub returns : goal.returns
-returns c = added-stands

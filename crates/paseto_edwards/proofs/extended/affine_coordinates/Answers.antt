@@ -1,5 +1,0 @@
-use Rattle.paseto_edwards.proofs.ExtendedLaws.{affine-stands}
-use Rattle.paseto_edwards.proofs.extended.affine_coordinates.Goals as goal
-
-pub returns : goal.returns
-returns c = affine-stands

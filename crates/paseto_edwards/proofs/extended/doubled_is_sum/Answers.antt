@@ -1,5 +1,0 @@
-use Rattle.paseto_edwards.proofs.ExtendedLaws.{doubled-stands}
-use Rattle.paseto_edwards.proofs.extended.doubled_is_sum.Goals as goal
-
-pub returns : goal.returns
-returns c = doubled-stands

@@ -1,5 +1,0 @@
-use Rattle.paseto_edwards.proofs.ExtendedLaws.{affine-x, affine-y}
-use Rattle.paseto_edwards.proofs.extended.quotients_of_coordinates.Goals as goal
-
-pub returns : goal.returns
-returns c = record { x = affine-x; y = affine-y }

@@ -1,5 +1,0 @@
-use Rattle.paseto_edwards.proofs.GroupLaws.{opposite-point}
-use Rattle.paseto_edwards.proofs.group.opposite_is_point.Goals as goal
-
-pub returns : goal.returns
-returns c = opposite-point

@@ -1,5 +1,0 @@
-use Rattle.paseto_edwards.proofs.GroupLaws.{sum-associative}
-use Rattle.paseto_edwards.proofs.group.sum_associates.Goals as goal
-
-pub returns : goal.returns
-returns c = sum-associative

@@ -1,5 +1,0 @@
-use Rattle.paseto_edwards.proofs.GroupLaws.{sum-point}
-use Rattle.paseto_edwards.proofs.group.sum_is_point.Goals as goal
-
-pub returns : goal.returns
-returns c = sum-point

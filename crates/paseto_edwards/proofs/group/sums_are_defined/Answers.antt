@@ -1,5 +1,0 @@
-use Rattle.paseto_edwards.proofs.CompletenessLaws.{complete}
-use Rattle.paseto_edwards.proofs.group.sums_are_defined.Goals as goal
-
-pub returns : goal.returns
-returns c = complete

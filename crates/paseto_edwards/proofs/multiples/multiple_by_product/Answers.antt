@@ -1,5 +1,0 @@
-use Rattle.paseto_edwards.proofs.MultipleLaws.{multiple-times}
-use Rattle.paseto_edwards.proofs.multiples.multiple_by_product.Goals as goal
-
-pub returns : goal.returns
-returns c = multiple-times

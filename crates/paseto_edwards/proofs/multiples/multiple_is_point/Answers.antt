@@ -1,5 +1,0 @@
-use Rattle.paseto_edwards.proofs.MultipleLaws.{multiple-point}
-use Rattle.paseto_edwards.proofs.multiples.multiple_is_point.Goals as goal
-
-pub returns : goal.returns
-returns c = multiple-point

@@ -1,5 +1,0 @@
-use Rattle.paseto_edwards.proofs.MultipleLaws.{multiple-opposite}
-use Rattle.paseto_edwards.proofs.multiples.multiple_of_opposite.Goals as goal
-
-pub returns : goal.returns
-returns c = multiple-opposite

@@ -1,5 +1,0 @@
-use Rattle.paseto_edwards.proofs.MultipleLaws.{neutral-multiples}
-use Rattle.paseto_edwards.proofs.multiples.neutral_multiples.Goals as goal
-
-pub returns : goal.returns
-returns c = neutral-multiples

@@ -1,5 +1,0 @@
-use Rattle.paseto_polynomials.proofs.IdentityLaws.{by-form}
-use Rattle.paseto_polynomials.proofs.identity.equal_by_form.Goals as goal
-
-pub returns : goal.returns
-returns c = by-form

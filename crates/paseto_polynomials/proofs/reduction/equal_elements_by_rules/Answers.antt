@@ -1,5 +1,0 @@
-use Rattle.paseto_polynomials.proofs.ReductionLaws.{elements-by_rules}
-use Rattle.paseto_polynomials.proofs.reduction.equal_elements_by_rules.Goals as goal
-
-pub returns : goal.returns
-returns c = elements-by_rules

@@ -1,5 +1,0 @@
-pub mod Element
-pub mod Identity
-pub mod Polynomial
-pub mod Program
-pub mod Reduction

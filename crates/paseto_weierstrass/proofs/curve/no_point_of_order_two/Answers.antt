@@ -1,5 +1,0 @@
-use Rattle.paseto_weierstrass.proofs.RootLaws.{no-root}
-use Rattle.paseto_weierstrass.proofs.curve.no_point_of_order_two.Goals as goal
-
-pub returns : goal.returns
-returns c = no-root

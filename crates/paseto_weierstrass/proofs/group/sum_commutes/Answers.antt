@@ -1,5 +1,0 @@
-use Rattle.paseto_weierstrass.proofs.SumLaws.{sum_comm}
-use Rattle.paseto_weierstrass.proofs.group.sum_commutes.Goals as goal
-
-pub returns : goal.returns
-returns c = sum_comm

@@ -1,5 +1,0 @@
-use Rattle.paseto_weierstrass.proofs.SumLaws.{sum-is_point}
-use Rattle.paseto_weierstrass.proofs.group.sum_is_point.Goals as goal
-
-pub returns : goal.returns
-returns c = sum-is_point

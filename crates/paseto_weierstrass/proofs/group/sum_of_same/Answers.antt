@@ -1,5 +1,0 @@
-use Rattle.paseto_weierstrass.proofs.SumLaws.{sum-same}
-use Rattle.paseto_weierstrass.proofs.group.sum_of_same.Goals as goal
-
-pub returns : goal.returns
-returns c = sum-same

@@ -1,5 +1,0 @@
-use Rattle.paseto_weierstrass.proofs.SumLaws.{sum-neutral}
-use Rattle.paseto_weierstrass.proofs.group.sum_with_neutral.Goals as goal
-
-pub returns : goal.returns
-returns c = sum-neutral

@@ -1,5 +1,0 @@
-use Rattle.paseto_weierstrass.proofs.MultipleLaws.{multiple-plus}
-use Rattle.paseto_weierstrass.proofs.multiples.multiple_by_sum.Goals as goal
-
-pub returns : goal.returns
-returns c = multiple-plus

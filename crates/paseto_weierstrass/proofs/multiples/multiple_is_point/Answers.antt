@@ -1,5 +1,0 @@
-use Rattle.paseto_weierstrass.proofs.MultipleLaws.{multiple-is_point}
-use Rattle.paseto_weierstrass.proofs.multiples.multiple_is_point.Goals as goal
-
-pub returns : goal.returns
-returns c = multiple-is_point

@@ -1,5 +1,0 @@
-use Rattle.paseto_weierstrass.proofs.PointLaws.{same-is_point}
-use Rattle.paseto_weierstrass.proofs.same.same_is_point.Goals as goal
-
-pub returns : goal.returns
-returns c = λ p q. same-is_point

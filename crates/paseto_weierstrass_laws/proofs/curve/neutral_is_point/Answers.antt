@@ -1,0 +1,5 @@
+use Rattle.paseto_weierstrass_laws.proofs.PointLaws as laws
+use Rattle.paseto_weierstrass_laws.proofs.curve.neutral_is_point.Goals as goal
+
+pub returns : goal.returns
+returns c = laws.neutral-is_point

@@ -1,0 +1,5 @@
+use Rattle.paseto_weierstrass_laws.proofs.MultipleLaws.{multiple-plus}
+use Rattle.paseto_weierstrass_laws.proofs.multiples.multiple_by_sum.Goals as goal
+
+pub returns : goal.returns
+returns c = multiple-plus
