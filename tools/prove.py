@@ -34,8 +34,8 @@ EACH = 2_000_000_000
 OTHERS = 60
 SECONDS = {
     "paseto": 590, "paseto_argon2": 63, "paseto_c": 350, "paseto_der": 10, "paseto_ed25519": 35, "paseto_edwards_laws": 15,
-    "paseto_edwards25519": 75, "paseto_key_files": 130, "paseto_montgomery": 38, "paseto_p384": 65, "rusty_paseto_primitives": 7,
-    "paseto_pem": 120, "paseto_primes": 5, "paseto_primes": 7, "paseto_rsa": 48, "paseto_streams": 15,
+    "paseto_edwards25519": 75, "paseto_key_files": 130, "paseto_montgomery": 38, "paseto_p384": 65, "paseto_pem": 120,
+    "paseto_primes": 8, "paseto_rsa": 48, "paseto_streams": 15,
     "paseto_tasks": 260, "paseto_tool": 110, "paseto_weierstrass_laws": 12, "paseto_words": 120, "paseto_wrapping": 128,
     "paseto_x25519": 18, "paseto_xchacha20poly1305": 20, "rusty_paseto": 240, "rusty_paseto_claims": 97,
     "rusty_paseto_core": 200, "rusty_paseto_generic": 230, "rusty_paseto_parts": 112, "rusty_paseto_paserk": 54,

@@ -12,6 +12,15 @@ const BLOCK_LEN: usize = 48;
 /// The key that is derived from a password and a salt, each of any length, with this many iterations: the first block
 /// of PBKDF2, 48 bytes. For a shorter key, truncate it.
 ///
+/// ```rust
+/// use rusty_paseto_primitives::pbkdf2_sha384;
+///
+/// /// The key of a password by 100,000 iterations.
+/// pub fn key_of(password: &str, salt: &[u8; 32]) -> [u8; 48] {
+///     pbkdf2_sha384(password.as_bytes(), salt, 100_000)
+/// }
+/// ```
+///
 /// Each iteration costs an attacker who guesses passwords as much as it costs here. There is at least one: 0 has the
 /// same result as 1. Does not allocate.
 ///
