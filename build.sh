@@ -5,8 +5,9 @@
 #   bash build.sh [PREFIX]
 #
 # PREFIX, which is `build` where none is given, gets bin/, lib/, include/, and share/ with manual pages and completions.
-# Libraries are proved side by side, on all processors; a line tells how far each is. What is proved is kept in the crates'
-# out/, so that a second run proves what has changed alone, and one that was cut off goes on where it was.
+# Libraries are proved side by side, on all processors; a line tells how much of the whole is done. What is proved is kept in
+# the crates' out/, so that a second run proves what has changed alone, and one that was cut off goes on where it was. At the
+# end the installed program makes a token and checks it.
 #
 #   bash build.sh PREFIX --built
 #
@@ -73,3 +74,12 @@ install -m 644 "$here/completions/paseto.fish" "$prefix/share/fish/vendor_comple
 
 echo "proved, built and installed under $prefix:"
 (cd "$prefix" && find bin/paseto bin/paseto_tool include lib share -type f | sort | sed 's/^/  /')
+
+work=$(mktemp -d)
+trap 'rm -rf "$work"' EXIT
+"$prefix/bin/paseto" keygen v4.local --quiet --out "$work/key"
+"$prefix/bin/paseto" issue --key "$work/key" --claim sub=ada --expires 1h --out "$work/token"
+echo "a token that $prefix/bin/paseto has just made, and what it finds in it:"
+sed 's/^/  /' "$work/token"
+"$prefix/bin/paseto" check --key "$work/key" --claim sub=ada "$work/token" | sed 's/^/  /'
+echo "next: export PATH=\"$prefix/bin:\$PATH\"; then paseto --help, and docs/PASETO.md; for C docs/C.md"

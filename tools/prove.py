@@ -10,7 +10,7 @@ no other command proves it again, and a run that was cut off goes on where it wa
 --check proves programs and static libraries, and does not build them. --keep keeps what is proved of each function, so
 that after an edit only what changed is proved again, as where `rt check` has kept it: a library then holds its proofs, and
 is larger and slower to read. --cpu builds static libraries for another processor, as x86-64-v3. While it works, a line tells
-how far each crate is; what the prover says stands in the crate's out/prove.log. A crate that is refused ends with its log's
+how much of the whole is done; what the prover says stands in the crate's out/prove.log. A crate that is refused ends with its log's
 last lines, and those above it are not run. The status is 0 where all was proved.
 """
 import argparse
@@ -18,7 +18,6 @@ import functools
 import importlib.machinery
 import importlib.util
 import os
-import re
 import resource
 import shutil
 import subprocess
@@ -43,7 +42,7 @@ SECONDS = {
 }
 # A crate whose way to the top is no longer than this share of the longest leaves the processors to the others, by this much.
 NEAR, NICENESS = 0.9, 5
-# A crate's line comes again after so many seconds at the earliest.
+# A line tells after so many seconds how much is done, where no crate ends before.
 PAUSE = 15
 
 
@@ -125,8 +124,8 @@ class Run:
 
     def __init__(self, rt, crates, given):
         self.rt, self.crates, self.given, self.begun = rt, crates, given, time.monotonic()
-        self.done, self.lost, self.at_work, self.told, self.turn = set(), {}, {}, {}, threading.Condition()
-        self.jobs = {}
+        self.done, self.lost, self.at_work, self.turn = set(), {}, {}, threading.Condition()
+        self.jobs, self.taken, self.told = {}, {}, time.monotonic()
         self.processes = max(min(rt.processors(), rt.free() // EACH), 1)
 
     @functools.lru_cache(maxsize=None)
@@ -135,9 +134,21 @@ class Run:
         above = [it.name for it in self.crates.values() if name in [dep.name for dep in it.deps]]
         return SECONDS.get(name, OTHERS) + max(map(self.way, above), default=0)
 
-    def say(self, name, text):
+    def say(self, text):
         minutes, seconds = divmod(int(time.monotonic() - self.begun), 60)
-        print(f"{minutes:2d}:{seconds:02d} {name}: {text}", flush=True)
+        self.told = time.monotonic()
+        print(f"{minutes:2d}:{seconds:02d} {text}", flush=True)
+
+    def far(self):
+        """How many crates are done, and which share of the whole: a crate that is at work counts by its time, and for nine tenths
+        at most."""
+        seconds = {it: SECONDS.get(it, OTHERS) for it in self.crates}
+        # how much longer than in SECONDS the crates take on this machine
+        pace = sum(self.taken.values()) / sum(map(seconds.get, self.taken)) if self.taken else 1
+        share = sum(map(seconds.get, self.done))
+        for name, begun in self.at_work.items():
+            share += seconds[name] * min((time.monotonic() - begun) / (seconds[name] * pace), 0.9)
+        return f"{len(self.done)} of {len(self.crates)} crates, {100 * share // sum(seconds.values()):.0f} %"
 
     def ready(self):
         """The crates that can begin now, the longest way first; those above a refused one are given up."""
@@ -149,15 +160,16 @@ class Run:
             refused = next((it for it in below if it in self.lost), None)
             if refused:
                 self.lost[name] = f"not run, since {refused} was refused"
-                self.say(name, self.lost[name])
+                self.say(f"{name}: {self.lost[name]}")
             elif all(it in self.done for it in below):
                 found.append(name)
         return found
 
     def share(self, name, waiting):
-        """How many processes prove the first of so many crates that wait. One does it at the least cost. But all wait for the crate
-        with the longest way, so it gets two, or nearly all processors if no crate stands on it; those that are near get two
-        while there is room, and one that ends the run with it does. Processors for which no crate waits are shared, too."""
+        """How many processes prove the first of so many crates that wait. One does it at the least cost, and three cost a quarter
+        more. But all wait for the crate with the longest way, so it gets two, or nearly all processors if no crate stands on
+        it; those that are near get two while there is room, and one that ends the run with it does. Only these get processors
+        for which no crate waits, since the time of the whole does not depend on the others."""
         if self.processes <= 2:
             return 1
         longest = max(map(self.way, [name, *self.at_work]))
@@ -170,7 +182,8 @@ class Run:
             wanted = 2
         elif self.way(name) > NEAR * longest and busy + 2 <= self.processes + 1:
             wanted = 2
-        return max(wanted, (self.processes - busy) // waiting)
+        is_waited_for = is_top or self.way(name) > NEAR * longest
+        return max(wanted, (self.processes - busy) // waiting) if is_waited_for else 1
 
     def begin(self, name, waiting):
         """Begins the first of so many crates that wait."""
@@ -179,21 +192,13 @@ class Run:
         self.at_work[name], self.jobs[name] = time.monotonic(), jobs
         threading.Thread(target=self.one, args=(name, jobs, 0 if is_near else NICENESS)).start()
 
-    def tell(self):
-        """Says how long each crate is at work whose prover does not tell how far it is."""
-        for name, begun in self.at_work.items():
-            taken = time.monotonic() - begun
-            if taken >= PAUSE and time.monotonic() - self.told.get(name, begun) >= PAUSE:
-                self.told[name] = time.monotonic()
-                self.say(name, f"at work for {taken:.0f} seconds")
-
     def all(self):
         """Runs all that does not stand, and returns whether each is proved."""
         for name, crate in self.crates.items():
             below = all(it.name in self.done for it in crate.below())
             if below and not (self.given.check and not crate.makes_rlib()) and is_built(self.rt, crate, self.given.cpu):
                 self.done.add(name)
-                self.say(name, "proved earlier")
+                self.say(f"{name}: proved earlier")
         with self.turn:
             while len(self.done) + len(self.lost) < len(self.crates):
                 ready = self.ready()
@@ -201,11 +206,12 @@ class Run:
                     self.begin(ready[0], len(ready))
                 elif self.at_work:
                     self.turn.wait(PAUSE)
-                    self.tell()
+                    if self.at_work and time.monotonic() - self.told >= PAUSE:
+                        self.say(f"{self.far()}; at work: {' '.join(self.at_work)}")
         return not self.lost
 
     def one(self, name, jobs, niceness):
-        """Runs a crate's process, and tells how far it is by its lines."""
+        """Runs a crate's process, and says what came of it."""
         words = ["nice", "-n", str(niceness), sys.executable, os.path.abspath(__file__), "--one", str(jobs), name]
         words += [*["--check"] * self.given.check, *["--keep"] * self.given.keep]
         words += ["--cpu", self.given.cpu] if self.given.cpu else []
@@ -216,19 +222,16 @@ class Run:
             ran = subprocess.Popen(words, **how)
             for line in ran.stdout:
                 file.write(line)
-                far = re.match(r"so far: (\d+ of \d+ functions checked)", line)
-                if far and time.monotonic() - self.told.get(name, 0) > PAUSE:
-                    self.told[name] = time.monotonic()
-                    self.say(name, far[1])
         with self.turn:
             taken = time.monotonic() - self.at_work.pop(name)
             if ran.wait():
                 self.lost[name] = "refused"
-                self.say(name, f"refused; {os.path.relpath(log, ROOT)} has all that was said, and ends:")
+                self.say(f"{name}: refused; {os.path.relpath(log, ROOT)} has all that was said, and ends:")
                 print("".join(open(log, encoding="utf-8").readlines()[-25:]), end="", flush=True)
             else:
+                self.taken[name] = taken * self.jobs[name]
                 self.done.add(name)
-                self.say(name, f"proved, in {taken:.0f} seconds")
+                self.say(f"{self.far()}: {name}, in {taken:.0f} seconds")
             self.turn.notify()
 
 

@@ -1,0 +1,170 @@
+#!/usr/bin/env python3
+"""Holds the must-fail edits to more than `rt ci` does: each has to be refused at a goal.
+
+    python3 tests/edits.py REPORT
+
+reads what `rt ci` printed. `rt ci` passes an edit that no longer applies, and counts one as refused that is refused only
+because a proof names what the edit took away, or only by a limit of the prover; here each of these fails, and so does an
+edit that was not tried. tests/edits.txt says how many edits each crate has, so that none is lost.
+
+    python3 tests/edits.py --without-answers [CRATE/NAME..]
+
+tries edits without the written answers of the function that each is in, over the libraries that a check has built. A written
+answer that does not fit refuses a body whatever the contract says; without it the prover refuses one only where it finds
+no proof. The line of an edit names the goals that stay open, and those of them that are closed without the edit. It takes
+about a minute an edit, and is for a release and for a new edit.
+
+The last line is 'N passed, M failed', and the status is 0 where none failed.
+"""
+import glob
+import os
+import re
+import subprocess
+import sys
+import tempfile
+
+ROOT = os.path.dirname(os.path.dirname(os.path.abspath(__file__)))
+sys.path.insert(0, f"{ROOT}/tools")
+sys.dont_write_bytecode = True
+REFUSED = "refused, as it must be"
+# What `rt ci` says of an edit that it counts, although the refusal says little of the contract.
+LITTLE = {
+    "(only because a proof file names what the edit took away": "refused only because a proof names what it took away",
+    "(only by a limit of the prover": "refused only by a limit of the prover",
+}
+# Lines of each kind, which are judged before the report, so that a change of the toolchain's words fails here.
+SAMPLES = [
+    ("rt: must-fail crate/a.edit: refused, as it must be: ./src/a.rt:1:2: error: `returns`: the two types differ", True),
+    ("rt: must-fail crate/a.edit: BAD EDIT: an 'old:' text is in src/a.rt 0 times, and not once", False),
+    ("rt: must-fail crate/a.edit: NOT TRIED: its check was killed", False),
+    ("rt: must-fail crate/a.edit: NOT REFUSED: the crate is still proved with this edit", False),
+    (f"rt: must-fail crate/a.edit: {REFUSED} (only because a proof file names what the edit took away, so this says", False),
+    (f"rt: must-fail crate/a.edit: {REFUSED} (only by a limit of the prover, which gave no verdict", False),
+]
+
+
+def verdict(said):
+    """Why what `rt ci` said of an edit is no refusal at a goal, or None if it is one."""
+    if not said.startswith(REFUSED):
+        return said[:200]
+    return next((why for words, why in LITTLE.items() if said.startswith(f"{REFUSED} {words}")), None)
+
+
+def edits():
+    """The names of all edits, as CRATE/NAME."""
+    files = sorted(glob.glob(f"{ROOT}/crates/*/must-fail/*.edit"))
+    return [f"{file.split('/')[-3]}/{os.path.basename(file)}" for file in files]
+
+
+def counted():
+    """How many edits each crate has, by tests/edits.txt."""
+    with open(f"{ROOT}/tests/edits.txt", encoding="utf-8") as file:
+        return {name: int(number) for name, number in (line.split() for line in file)}
+
+
+def judge(report):
+    """What is wrong, a line each, by what `rt ci` printed."""
+    for line, is_well in SAMPLES:
+        if (verdict(line.split(": ", 2)[2]) is None) != is_well:
+            yield f"this line is judged wrongly: {line}"
+    told = {}
+    for name, said in re.findall(r"^rt: must-fail (\S+): (.*)", report, re.M):
+        told.setdefault(name, []).append(said)
+    there = edits()
+    for name in there:
+        said = told.get(name, ["not tried"])
+        why = "told of twice" if len(said) > 1 else verdict(said[0])
+        if why:
+            yield f"{name}: {why}"
+    for name in sorted(set(told) - set(there)):
+        yield f"{name}: there is no such edit"
+    crates = [name.split("/")[0] for name in there]
+    for crate, number in sorted({**dict.fromkeys(crates, 0), **counted()}.items()):
+        if crates.count(crate) != number:
+            yield f"{crate} has {crates.count(crate)} edits, and not {number} as tests/edits.txt says"
+
+
+# ---- without the written answers
+
+
+def function_at(text, old):
+    """The name of the function that a line of a source file is in."""
+    return re.findall(r"^\s*(?:pub(?:\([a-z]+\))? )?(?:final )?(?:extern \"C\" )?fn (\w+)", text[: text.index(old)], re.M)[-1]
+
+
+def answers_of(folder, edit):
+    """The written answers of the functions that an edit changes, by their paths in the crate."""
+    path, found = "", set()
+    for line in edit.split("\n"):
+        if line.startswith("file: "):
+            path = line[len("file: ") :].strip()
+        elif line.startswith("old: "):
+            with open(f"{folder}/{path}", encoding="utf-8") as file:
+                function = function_at(file.read(), line[len("old: ") :])
+            at = f"{folder}/proofs/{path[len('src/'):-len('.rt')]}"
+            files = glob.glob(f"{at}/{function}/Answers.antt") + glob.glob(f"{at}/*/{function}/Answers.antt")
+            found.update(os.path.relpath(file, folder) for file in files)
+    return found
+
+
+def tried(rt, crate, texts):
+    """The goals of a crate with these texts that stay open, or what else the check came to."""
+    with tempfile.TemporaryDirectory() as room:
+        start = f"{crate.folder}/out/incremental"
+        if os.path.isdir(start):
+            rt.linked(start, f"{room}/kept")
+        ran = rt.checked(crate, texts, ["--jobs", "1"], f"{room}/kept" if os.path.isdir(start) else None)
+    if ran.returncode == 0:
+        return set(), "proved"
+    goals = re.findall(r"^note: (`[\w.-]+`) of (\S+) must prove: (.*)", ran.stdout, re.M)
+    if goals:
+        return set(goals), "goals"
+    return set(), next((line for line in ran.stdout.split("\n") if "error" in line), ran.stdout[-200:])[:200]
+
+
+def without_answers(names):
+    """Tries edits with no written answers of their functions, and says what came of it. What fails is yielded."""
+    import prove
+
+    rt = prove.toolchain()
+    rt.rtlib.guarded()
+    for name in names:
+        crate = prove.crates_of(rt, [name.split("/")[0]])[name.split("/")[0]]
+        with open(f"{crate.folder}/must-fail/{name.split('/')[1]}", encoding="utf-8") as file:
+            edit = file.read()
+        texts, why = rt.edited(edit, crate.folder)
+        if why:
+            yield f"{name}: {why}"
+            continue
+        none = dict.fromkeys(answers_of(crate.folder, edit), "")
+        open_before, before = tried(rt, crate, none)
+        left, how = tried(rt, crate, {**texts, **none})
+        more = left - open_before
+        if not left:
+            yield f"{name}: {how}"
+            continue
+        known = f"of {len(open_before)} that stay open without it" if open_before else f"where the crate is {before}"
+        print(f"{name}: open {', '.join(sorted(it[0] for it in more)) or 'none more'}, {known}", flush=True)
+        if not more:
+            yield f"{name}: no goal is open that is not open without the edit"
+
+
+def main():
+    words = sys.argv[1:]
+    if words[:1] == ["--without-answers"]:
+        asked = words[1:] or edits()
+        wrong = list(without_answers(asked))
+    elif len(words) == 1 and not words[0].startswith("-"):
+        asked = edits()
+        with open(words[0], encoding="utf-8", errors="replace") as file:
+            wrong = list(judge(file.read()))
+    else:
+        sys.exit("usage: tests/edits.py REPORT | --without-answers [CRATE/NAME..]")
+    for it in wrong:
+        print(f"FAILED: {it}")
+    print(f"{len(asked) - min(len(wrong), len(asked))} passed, {len(wrong)} failed")
+    sys.exit(1 if wrong else 0)
+
+
+if __name__ == "__main__":
+    main()
