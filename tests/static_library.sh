@@ -5,8 +5,10 @@
 #
 #   tests/static_library.sh CRATE
 #
-# It is for the gate, right after `rt ci`. The crate itself is proved here, as the toolchain builds no other. Where a
-# library below is not `rt ci`'s (it has a stamp), or is not there, `tools/prove.py` does it all.
+# It is for the gate, right after `rt ci`. `rt ci` proves a static library and hands its proof to no build, so the build
+# checks the crate once more. It begins with what an earlier build on this machine has kept, where there is one: then it
+# checks what has changed since, and else all. Where a library below is not `rt ci`'s (it has a stamp), or is not there,
+# `tools/prove.py` does it all.
 set -euo pipefail
 
 crate=${1:?usage: tests/static_library.sh CRATE}
@@ -47,6 +49,11 @@ for name in $(named "$crate"); do
     words+=(--extern "$name=$rlib")
 done
 mkdir -p "crates/$crate/out"
+# Of two gates at once, the second keeps nothing.
+kept=${XDG_CACHE_HOME:-${HOME:-/var/tmp}/.cache}/rusty_paseto/$crate
+if mkdir -p "$kept" 2>/dev/null && exec 9>"$kept.lock" && flock --nonblock 9; then
+    words+=(--incremental "$kept")
+fi
 # The crate is large, and nothing else is left to prove then: its check takes all processors.
 jobs=$(nproc)
 cd "crates/$crate"
