@@ -6,7 +6,7 @@
 
 It writes the statuses of c/paseto.h and the exceptions of bindings/python/src/paseto/_errors.py between the lines that mark
 them. --check writes nothing: it compares both with the table, and the numbers of the table with those that the crate
-paseto_c is proved to answer. The last line is then 'N passed, M failed'.
+paseto_calls is proved to answer. The last line is then 'N passed, M failed'.
 """
 import os
 import re
@@ -17,8 +17,8 @@ ROOT = os.path.dirname(os.path.dirname(os.path.abspath(__file__)))
 TABLE = f"{ROOT}/c/statuses.txt"
 HEADER = f"{ROOT}/c/paseto.h"
 PYTHON = f"{ROOT}/bindings/python/src/paseto/_errors.py"
-SOURCE = f"{ROOT}/crates/paseto_c/src/refusal.rt"
-DEFINITION = f"{ROOT}/crates/paseto_c/specs/Refusal.antt"
+SOURCE = f"{ROOT}/crates/paseto_calls/src/refusal.rt"
+DEFINITION = f"{ROOT}/crates/paseto_calls/specs/Refusal.antt"
 # What Python calls those whose names it has for other things.
 CLASSES = {"Memory": "NoMemory"}
 # The two that are no refusals.

@@ -1,13 +1,10 @@
 //! The footer of a token, before the token is verified.
 
-ghost use Rattle.paseto_c.specs.Answer.{IsAnswered, IsComplete};
-ghost use Rattle.paseto_c.specs.Arguments.{IsMade, IsMadeWhole};
-ghost use Rattle.paseto_c.specs.Footer.{footer_reading};
+ghost use Rattle.paseto_calls.specs.Answer.{IsAnswered, IsComplete};
+ghost use Rattle.paseto_calls.specs.Footer.{footer_reading};
 
-use crate::answer::hand_over;
-use crate::arguments::str_of;
-use crate::refusal::Refusal;
-use rusty_paseto_core::Footer;
+use paseto_calls::answer::hand_over;
+use paseto_calls::footer::footer_text;
 use std::alloc::Global;
 
 /// The text of a token's footer. Do not trust it before the token has been decrypted or verified with it. It is empty
@@ -23,17 +20,4 @@ pub extern "C" fn paseto_footer(
     ensures complete { IsComplete (footer_reading token.now) result }
 {
     hand_over(footer_text(alloc, token), room, written)
-}
-
-/// The text of a token's footer.
-fn footer_text(alloc: Global, token: &[u8]) -> Result<String, Refusal>
-    ensures made { IsMade (footer_reading token.now) result }
-    ensures whole { IsMadeWhole (footer_reading token.now) result }
-{
-    let token = str_of(token)?;
-    match Footer::try_from_token(alloc, token) {
-        Ok(Some(text)) => Ok(text),
-        Ok(None) => Ok(String::new(alloc)),
-        Err(error) => Err(Refusal::of_token(&error)),
-    }
 }

@@ -1,5 +1,4 @@
-//! PASETO tokens for programs in C: a static library on top of `rusty_paseto`, the box of version 2, RSA, Ed25519 and
-//! P-384.
+//! PASETO tokens for programs in C: the exports of a static library. What each of them does stands in `paseto_calls`.
 //!
 //! Each export calls the library once and returns a status, a text in the caller's buffer, and its length. The header
 //! `c/paseto.h` declares them. C passes a slice as a pointer and a length, and passes nothing for the allocator. No
@@ -13,26 +12,16 @@
 //! ```
 #![tactic(auto)]
 
-mod answer;
-mod arguments;
-mod attaches;
 mod boxed;
 mod build;
-mod claims;
 mod error_text;
-mod fault;
 mod footer;
-mod given;
 mod key_pair;
 mod key_pem;
 mod key_text;
-pub mod laws;
 mod local;
-mod options;
 mod parse;
 mod public;
-mod refusal;
-mod salted;
 mod version;
 
 pub use boxed::{paseto_v2_local_decrypt, paseto_v2_local_encrypt};
@@ -43,7 +32,6 @@ pub use build::public::{
     paseto_v1_public_build, paseto_v2_public_build, paseto_v3_public_build, paseto_v4_public_build,
 };
 pub use error_text::paseto_error_text;
-pub use fault::Fault;
 pub use footer::paseto_footer;
 pub use key_pair::{paseto_v2_public_keypair, paseto_v3_public_keypair, paseto_v4_public_keypair};
 pub use key_pem::kind::paseto_pem_kind;
@@ -74,7 +62,6 @@ pub use local::{
     paseto_v1_local_decrypt, paseto_v1_local_encrypt, paseto_v3_local_decrypt,
     paseto_v3_local_encrypt, paseto_v4_local_decrypt, paseto_v4_local_encrypt,
 };
-pub use options::Options;
 pub use parse::local::{
     paseto_v1_local_parse, paseto_v1_local_parse_with, paseto_v2_local_parse,
     paseto_v2_local_parse_with, paseto_v3_local_parse, paseto_v3_local_parse_with,
@@ -89,5 +76,4 @@ pub use public::{
     paseto_v1_public_sign, paseto_v1_public_verify, paseto_v2_public_sign, paseto_v2_public_verify,
     paseto_v3_public_sign, paseto_v3_public_verify, paseto_v4_public_sign, paseto_v4_public_verify,
 };
-pub use refusal::Refusal;
 pub use version::paseto_version;

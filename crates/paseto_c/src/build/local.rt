@@ -5,19 +5,12 @@ ghost use Rattle.std.specs.Prelude.{◌≡◌, [], false};
 ghost use Rattle.rusty_paseto_core.specs.Local.V1.{v1};
 ghost use Rattle.rusty_paseto_core.specs.Local.V3.{v3};
 ghost use Rattle.rusty_paseto_core.specs.Local.V4.{v4};
-ghost use Rattle.paseto_c.specs.Answer.{IsAnswered, IsComplete};
-ghost use Rattle.paseto_c.specs.Arguments.{IsMade};
-ghost use Rattle.paseto_c.specs.Build.{building_boxed, building_local};
+ghost use Rattle.paseto_calls.specs.Answer.{IsAnswered, IsComplete};
+ghost use Rattle.paseto_calls.specs.Build.{building_boxed, building_local};
 
-use crate::answer::hand_over;
-use crate::arguments::{key_of, nonce_of};
-use crate::attaches::Attaches;
-use crate::build::built;
-use crate::build::makers::{BoxSealer, Sealer};
-use crate::given::Given;
-use crate::refusal::Refusal;
-use rusty_paseto::DefaultLocalVersion;
-use rusty_paseto_core::{Local, PasetoSymmetricKey, V1, V2, V3, V4};
+use paseto_calls::answer::hand_over;
+use paseto_calls::build::local::{boxed, sealed};
+use rusty_paseto_core::{Local, V1, V3, V4};
 use std::alloc::Global;
 
 /// Builds a local token of version 1 from claims, which are the text of a JSON object, with a key of 32 bytes and a
@@ -129,51 +122,4 @@ pub extern "C" fn paseto_v4_local_build(
         room,
         written,
     )
-}
-
-/// The token of claims in version 1, 3 or 4. In version 1 the implicit assertion must be absent.
-fn sealed<V: DefaultLocalVersion + Attaches>(
-    alloc: Global,
-    key: &[u8],
-    seed: &[u8],
-    claims: &[u8],
-    now: i64,
-    footer: &[u8],
-    assertion: &[u8],
-) -> Result<String, Refusal>
-    requires { V.attaches ≡ false → assertion.now ≡ [] }
-    ensures { IsMade (building_local V.design key.now seed.now claims.now now footer.now
-        assertion.now) result }
-{
-    let key = PasetoSymmetricKey::<V, Local>::from(key_of::<32>(key)?);
-    let seed = nonce_of::<32>(seed)?;
-    let mut maker = Sealer {
-        key,
-        seed: Given {
-            bytes: seed.as_bytes(),
-        },
-    };
-    built::<V, Local, Sealer<'_, V>>(alloc, &mut maker, claims, now, footer, assertion)
-}
-
-/// The token of claims in version 2.
-fn boxed(
-    alloc: Global,
-    key: &[u8],
-    seed: &[u8],
-    claims: &[u8],
-    now: i64,
-    footer: &[u8],
-) -> Result<String, Refusal>
-    ensures { IsMade (building_boxed key.now seed.now claims.now now footer.now) result }
-{
-    let key = PasetoSymmetricKey::<V2, Local>::from(key_of::<32>(key)?);
-    let seed = nonce_of::<24>(seed)?;
-    let mut maker = BoxSealer {
-        key,
-        seed: Given {
-            bytes: seed.as_bytes(),
-        },
-    };
-    built::<V2, Local, BoxSealer<'_>>(alloc, &mut maker, claims, now, footer, &[])
 }

@@ -4,11 +4,11 @@ ghost use Rattle.paseto_pem.specs.Ed25519.{IsPrivateFault as IsEd25519PrivateFau
 ghost use Rattle.paseto_pem.specs.P384.{IsPrivateFault as IsP384PrivateFault, IsPrivateOf as IsP384Private, IsPublicFault as IsP384PublicFault, IsPublicOf as IsP384Public};
 ghost use Rattle.paseto_pem.specs.Rsa.{IsPrivateFault as IsRsaPrivateFault, IsPrivateOf as IsRsaPrivate, IsPublicFault as IsRsaPublicFault, IsPublicOf as IsRsaPublic};
 ghost use Rattle.paseto_pem.specs.declared.label.Label.TheVariants.{PrivateKey as PrivateLabel, PublicKey as PublicLabel};
-ghost use Rattle.paseto_c.specs.Answer.{IsAnswered, IsComplete};
-ghost use Rattle.paseto_c.specs.KeyPem.{pem_reading, pem_writing};
+ghost use Rattle.paseto_calls.specs.Answer.{IsAnswered, IsComplete};
+ghost use Rattle.paseto_calls.specs.KeyPem.{pem_reading, pem_writing};
 
-use crate::answer::{hand_over, hand_over_key};
-use crate::key_pem::{private_key, private_text, public_key, public_text};
+use paseto_calls::answer::{hand_over, hand_over_key};
+use paseto_calls::key_pem::{private_key, private_text, public_key, public_text};
 use rusty_paseto_core::{V1, V2, V3, V4};
 use std::alloc::Global;
 

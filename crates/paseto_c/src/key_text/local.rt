@@ -2,11 +2,11 @@
 
 ghost use Rattle.rusty_paseto_paserk.specs.declared.header.PaserkType.TheVariants.{Local as LocalKey};
 ghost use Rattle.rusty_paseto_paserk.specs.declared.header.PaserkVersion.TheVariants.{V1 as K1, V2 as K2, V3 as K3, V4 as K4};
-ghost use Rattle.paseto_c.specs.Answer.{IsAnswered, IsComplete};
-ghost use Rattle.paseto_c.specs.KeyText.{sized_naming, sized_reading, sized_writing};
+ghost use Rattle.paseto_calls.specs.Answer.{IsAnswered, IsComplete};
+ghost use Rattle.paseto_calls.specs.KeyText.{sized_naming, sized_reading, sized_writing};
 
-use crate::answer::{hand_over, hand_over_key};
-use crate::key_text::{local_key, local_name, local_text};
+use paseto_calls::answer::{hand_over, hand_over_key};
+use paseto_calls::key_text::{local_key, local_name, local_text};
 use rusty_paseto_core::{V1, V2, V3, V4};
 use std::alloc::Global;
 

@@ -4,11 +4,11 @@ ghost use Rattle.std.specs.Prelude.{ℕ, List, ◌==◌, ◌&&◌, length};
 ghost use Rattle.rusty_paseto_parts.specs.PublicKey.{is_compressed};
 ghost use Rattle.rusty_paseto_paserk.specs.declared.header.PaserkType.TheVariants.{Secret};
 ghost use Rattle.rusty_paseto_paserk.specs.declared.header.PaserkVersion.TheVariants.{V2 as K2, V3 as K3, V4 as K4};
-ghost use Rattle.paseto_c.specs.Answer.{IsAnswered, IsComplete};
-ghost use Rattle.paseto_c.specs.KeyText.{public_naming, public_reading, public_writing, sized_naming, sized_reading, sized_writing};
+ghost use Rattle.paseto_calls.specs.Answer.{IsAnswered, IsComplete};
+ghost use Rattle.paseto_calls.specs.KeyText.{public_naming, public_reading, public_writing, sized_naming, sized_reading, sized_writing};
 
-use crate::answer::{hand_over, hand_over_key};
-use crate::key_text::{
+use paseto_calls::answer::{hand_over, hand_over_key};
+use paseto_calls::key_text::{
     private_key, private_name, private_text, public_key, public_name, public_text,
 };
 use rusty_paseto_core::{V2, V3, V4};

@@ -5,21 +5,16 @@ ghost use Rattle.std.specs.Prelude.{◌≡◌, [], false};
 ghost use Rattle.rusty_paseto_core.specs.Local.V1.{v1};
 ghost use Rattle.rusty_paseto_core.specs.Local.V3.{v3};
 ghost use Rattle.rusty_paseto_core.specs.Local.V4.{v4};
-ghost use Rattle.paseto_c.specs.Answer.{IsAnswered, IsAnsweredTelling, IsComplete};
-ghost use Rattle.paseto_c.specs.Arguments.{untold};
-ghost use Rattle.paseto_c.specs.Fault.{IsMadeTelling, IsMadeWholeTelling};
-ghost use Rattle.paseto_c.specs.Options.{demanded};
-ghost use Rattle.paseto_c.specs.Parse.{nothing_more, parsing_boxed, parsing_local};
+ghost use Rattle.paseto_calls.specs.Answer.{IsAnswered, IsAnsweredTelling, IsComplete};
+ghost use Rattle.paseto_calls.specs.Arguments.{untold};
+ghost use Rattle.paseto_calls.specs.Options.{demanded};
+ghost use Rattle.paseto_calls.specs.Parse.{nothing_more, parsing_boxed, parsing_local};
 
-use crate::answer::{hand_over, hand_over_telling};
-use crate::arguments::key_of;
-use crate::attaches::Attaches;
-use crate::fault::{Fault, unsaid};
-use crate::options::{Options, nothing_more};
-use crate::parse::parsed;
-use crate::parse::readers::{BoxOpener, Opener};
-use rusty_paseto::{DefaultLocalVersion, PasetoParser};
-use rusty_paseto_core::{Local, PasetoSymmetricKey, V1, V2, V3, V4};
+use paseto_calls::answer::{hand_over, hand_over_telling};
+use paseto_calls::fault::unsaid;
+use paseto_calls::options::{Options, nothing_more};
+use paseto_calls::parse::local::{boxed, opened};
+use rusty_paseto_core::{Local, V1, V3, V4};
 use std::alloc::Global;
 
 /// Decrypts a local token of version 1 with a key of 32 bytes, checks it, and returns its claims as compact JSON.
@@ -279,72 +274,5 @@ pub extern "C" fn paseto_v4_local_parse_with(
         written,
         line,
         told,
-    )
-}
-
-/// The claims of a token of version 1, 3 or 4. In version 1 the implicit assertion must be absent.
-fn opened<V: DefaultLocalVersion + Attaches>(
-    alloc: Global,
-    key: &[u8],
-    token: &[u8],
-    expected: &[u8],
-    now: i64,
-    footer: &[u8],
-    assertion: &[u8],
-    options: &Options<'_>,
-) -> Result<String, Fault>
-    requires bound { V.attaches ≡ false → assertion.now ≡ [] }
-    requires read { V.design.binds_assertion ≡ false → assertion.now ≡ [] }
-    ensures made { IsMadeTelling (parsing_local V.design key.now token.now expected.now now footer.now
-        assertion.now (demanded options.now)) result }
-    ensures whole { IsMadeWholeTelling (parsing_local V.design key.now token.now expected.now now
-        footer.now assertion.now (demanded options.now)) result }
-{
-    let reader = Opener {
-        key: PasetoSymmetricKey::<V, Local>::from(key_of::<32>(key)?),
-    };
-    let mut parser = PasetoParser::<V, Local>::new(alloc);
-    parsed::<V, Local, Opener<V>>(
-        alloc,
-        &mut parser,
-        &reader,
-        token,
-        expected,
-        now,
-        footer,
-        assertion,
-        options,
-    )
-}
-
-/// The claims of a token of version 2.
-fn boxed(
-    alloc: Global,
-    key: &[u8],
-    token: &[u8],
-    expected: &[u8],
-    now: i64,
-    footer: &[u8],
-    options: &Options<'_>,
-) -> Result<String, Fault>
-    ensures made { IsMadeTelling (parsing_boxed key.now token.now expected.now now footer.now
-        (demanded options.now)) result }
-    ensures whole { IsMadeWholeTelling (parsing_boxed key.now token.now expected.now now footer.now
-        (demanded options.now)) result }
-{
-    let reader = BoxOpener {
-        key: PasetoSymmetricKey::<V2, Local>::from(key_of::<32>(key)?),
-    };
-    let mut parser = PasetoParser::<V2, Local>::new(alloc);
-    parsed::<V2, Local, BoxOpener>(
-        alloc,
-        &mut parser,
-        &reader,
-        token,
-        expected,
-        now,
-        footer,
-        &[],
-        options,
     )
 }

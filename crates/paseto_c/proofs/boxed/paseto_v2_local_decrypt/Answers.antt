@@ -1,4 +1,4 @@
-use Rattle.paseto_c.proofs.Answers.{answered, completed}
+use Rattle.paseto_calls.proofs.Answers.{answered, completed}
 use Rattle.paseto_c.proofs.boxed.paseto_v2_local_decrypt.Goals as goal
 
 pub returns-clause-answer : goal.returns-clause-answer

@@ -1,5 +1,5 @@
-use Rattle.paseto_c.proofs.Answers.{answered, completed_where}
-use Rattle.paseto_c.proofs.Exits.{ed25519_apart}
+use Rattle.paseto_calls.proofs.Answers.{answered, completed_where}
+use Rattle.paseto_calls.proofs.Exits.{ed25519_apart}
 use Rattle.paseto_c.proofs.public.paseto_v2_public_sign.Goals as goal
 
 pub returns-clause-answer : goal.returns-clause-answer

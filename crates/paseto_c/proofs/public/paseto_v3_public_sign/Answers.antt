@@ -1,5 +1,5 @@
-use Rattle.paseto_c.proofs.Answers.{answered, completed_where}
-use Rattle.paseto_c.proofs.Exits.{p384_apart}
+use Rattle.paseto_calls.proofs.Answers.{answered, completed_where}
+use Rattle.paseto_calls.proofs.Exits.{p384_apart}
 use Rattle.paseto_c.proofs.public.paseto_v3_public_sign.Goals as goal
 
 pub returns-clause-answer : goal.returns-clause-answer

@@ -1,6 +1,6 @@
 use Rattle.std.proofs.lemmas.Int.{to_z-of_z}
-use Rattle.paseto_c.proofs.Answers.{answered, completed}
-use Rattle.paseto_c.proofs.BuildLemmas.{boxed_apart, built_whole}
+use Rattle.paseto_calls.proofs.Answers.{answered, completed}
+use Rattle.paseto_calls.proofs.BuildLemmas.{boxed_apart, built_whole}
 use Rattle.paseto_c.proofs.build.local.paseto_v2_local_build.Goals as goal
 
 pub returns-clause-answer : goal.returns-clause-answer

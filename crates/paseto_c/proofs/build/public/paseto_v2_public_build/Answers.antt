@@ -1,7 +1,7 @@
 use Rattle.std.proofs.lemmas.Int.{to_z-of_z}
-use Rattle.paseto_c.proofs.Answers.{answered, completed_where}
-use Rattle.paseto_c.proofs.BuildLemmas.{fine_apart}
-use Rattle.paseto_c.proofs.Exits.{ed25519_apart}
+use Rattle.paseto_calls.proofs.Answers.{answered, completed_where}
+use Rattle.paseto_calls.proofs.BuildLemmas.{fine_apart}
+use Rattle.paseto_calls.proofs.Exits.{ed25519_apart}
 use Rattle.paseto_c.proofs.build.public.paseto_v2_public_build.Goals as goal
 
 pub returns-clause-answer : goal.returns-clause-answer

@@ -1,4 +1,4 @@
-use Rattle.paseto_c.proofs.KeyLemmas.{key_answered, key_completed}
+use Rattle.paseto_calls.proofs.KeyLemmas.{key_answered, key_completed}
 use Rattle.paseto_c.proofs.key_pem.pairs.paseto_v1_public_key_from_pem.Goals as goal
 
 pub returns-clause-answer : goal.returns-clause-answer

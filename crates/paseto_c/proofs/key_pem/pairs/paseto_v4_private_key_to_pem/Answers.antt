@@ -1,4 +1,4 @@
-use Rattle.paseto_c.proofs.Answers.{answered, completed}
+use Rattle.paseto_calls.proofs.Answers.{answered, completed}
 use Rattle.paseto_c.proofs.key_pem.pairs.paseto_v4_private_key_to_pem.Goals as goal
 
 pub returns-clause-answer : goal.returns-clause-answer

@@ -1,4 +1,4 @@
-use Rattle.paseto_c.proofs.KeyLemmas.{key_answered, key_completed}
+use Rattle.paseto_calls.proofs.KeyLemmas.{key_answered, key_completed}
 use Rattle.paseto_c.proofs.key_text.local.paseto_v1_local_key_from_paserk.Goals as goal
 
 pub returns-clause-answer : goal.returns-clause-answer

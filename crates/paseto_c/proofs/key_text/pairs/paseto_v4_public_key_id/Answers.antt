@@ -1,4 +1,4 @@
-use Rattle.paseto_c.proofs.Answers.{answered, completed}
+use Rattle.paseto_calls.proofs.Answers.{answered, completed}
 use Rattle.paseto_c.proofs.key_text.pairs.paseto_v4_public_key_id.Goals as goal
 
 pub returns-clause-answer : goal.returns-clause-answer

@@ -1,9 +1,9 @@
 use Rattle.std.proofs.Common.{[]}
 use Rattle.std.proofs.lemmas.Int.{to_z-of_z}
 use Rattle.rusty_paseto_core.specs.Local.V1.{v1}
-use Rattle.paseto_c.specs.Options.{demanded}
-use Rattle.paseto_c.specs.Parse.{parsing_local}
-use Rattle.paseto_c.proofs.Told.{told_answered, told_completed}
+use Rattle.paseto_calls.specs.Options.{demanded}
+use Rattle.paseto_calls.specs.Parse.{parsing_local}
+use Rattle.paseto_calls.proofs.Told.{told_answered, told_completed}
 use Rattle.paseto_c.proofs.parse.local.paseto_v1_local_parse_with.Goals as goal
 
 pub returns-clause-answer : goal.returns-clause-answer

@@ -1,7 +1,7 @@
 use Rattle.std.proofs.lemmas.Int.{to_z-of_z}
-use Rattle.paseto_c.specs.Options.{demanded}
-use Rattle.paseto_c.specs.Parse.{p384_parsing}
-use Rattle.paseto_c.proofs.Told.{told_answered, told_completed}
+use Rattle.paseto_calls.specs.Options.{demanded}
+use Rattle.paseto_calls.specs.Parse.{p384_parsing}
+use Rattle.paseto_calls.proofs.Told.{told_answered, told_completed}
 use Rattle.paseto_c.proofs.parse.public.paseto_v3_public_parse_with.Goals as goal
 
 pub returns-clause-answer : goal.returns-clause-answer

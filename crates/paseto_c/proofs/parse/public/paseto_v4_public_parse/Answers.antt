@@ -1,10 +1,10 @@
 use Rattle.std.proofs.Common.{subst}
 use Rattle.std.proofs.lemmas.Int.{to_z-of_z}
 use Rattle.rusty_paseto_core.specs.Public.{v4_public}
-use Rattle.paseto_c.specs.Fault.{IsMadeTelling, IsMadeWholeTelling}
-use Rattle.paseto_c.specs.Parse.{Demands, nothing_more, ed25519_parsing}
-use Rattle.paseto_c.proofs.Answers.{answered, completed}
-use Rattle.paseto_c.proofs.Told.{untold_made, untold_whole}
+use Rattle.paseto_calls.specs.Fault.{IsMadeTelling, IsMadeWholeTelling}
+use Rattle.paseto_calls.specs.Parse.{Demands, nothing_more, ed25519_parsing}
+use Rattle.paseto_calls.proofs.Answers.{answered, completed}
+use Rattle.paseto_calls.proofs.Told.{untold_made, untold_whole}
 use Rattle.paseto_c.proofs.parse.public.paseto_v4_public_parse.Goals as goal
 
 pub returns-clause-answer : goal.returns-clause-answer

@@ -1,8 +1,8 @@
 use Rattle.std.proofs.lemmas.Int.{to_z-of_z}
 use Rattle.rusty_paseto_core.specs.Public.{v4_public}
-use Rattle.paseto_c.specs.Options.{demanded}
-use Rattle.paseto_c.specs.Parse.{ed25519_parsing}
-use Rattle.paseto_c.proofs.Told.{told_answered, told_completed}
+use Rattle.paseto_calls.specs.Options.{demanded}
+use Rattle.paseto_calls.specs.Parse.{ed25519_parsing}
+use Rattle.paseto_calls.proofs.Told.{told_answered, told_completed}
 use Rattle.paseto_c.proofs.parse.public.paseto_v4_public_parse_with.Goals as goal
 
 pub returns-clause-answer : goal.returns-clause-answer

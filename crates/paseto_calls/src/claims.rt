@@ -1,0 +1,65 @@
+//! Claims that C passes as the text of a JSON object.
+
+ghost use Rattle.std.specs.Prelude.{◌≡◌, ◌⊎◌, MatchResult, Some, option_map};
+ghost use Rattle.serde_json.specs.Data.{object};
+ghost use Rattle.serde_json.specs.Find.{as_object};
+ghost use Rattle.serde_json.specs.Read.{read};
+ghost use Rattle.serde_json.specs.View.{members_view, view};
+ghost use Rattle.rusty_paseto_claims.specs.Claim.{gives, one_member};
+ghost use Rattle.paseto_calls.specs.Claims.{IsNoObject};
+
+use crate::refusal::Refusal;
+use rusty_paseto_claims::{PasetoClaim, PasetoClaimError};
+use serde_json::{Map, Value};
+use std::alloc::Global;
+
+/// A member of a JSON object as a claim, whatever its key is.
+#[derive(Drop)]
+pub struct MemberClaim<'a> {
+    pub key: &'a str,
+    pub value: &'a Value,
+}
+
+impl PasetoClaim for MemberClaim<'_> {
+    ghost key = { λ claim. claim.key.now };
+
+    ghost json = { λ claim. gives (one_member claim.key.now (view claim.value.now)) };
+
+    fn get_key(&self) -> &str {
+        self.key
+    }
+
+    fn to_json(&self, alloc: Global) -> Result<Value, PasetoClaimError> {
+        let mut members = Map::new(alloc);
+        serde_json::put(&mut members, alloc, self.key, self.value.clone()?)?;
+        Ok(Value::Object(members))
+    }
+}
+
+/// The members of the object that a text is, or `NotObject`.
+pub fn object_of(alloc: Global, text: &str) -> Result<Map<String, Value>, Refusal>
+    ensures { MatchResult result
+        (λ members. read text.now ≡ Some (object (members_view members.entries)))
+        (λ refusal. (refusal ≡ Refusal.Memory)
+        ⊎ ((refusal ≡ Refusal.NotObject) × IsNoObject text.now)) }
+{
+    match Value::from_str(alloc, text) {
+        Ok(value) => members_of(value).ok_or(Refusal::NotObject),
+        Err(error) => {
+            if error.is_memory() {
+                return Err(Refusal::Memory);
+            }
+            Err(Refusal::NotObject)
+        }
+    }
+}
+
+/// The members of an object.
+fn members_of(value: Value) -> Option<Map<String, Value>>
+    ensures { option_map (λ members. members_view members.entries) result ≡ as_object (view value) }
+{
+    match value {
+        Value::Object(members) => Some(members),
+        _ => None,
+    }
+}

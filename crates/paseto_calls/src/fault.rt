@@ -1,0 +1,66 @@
+//! Why a token is not parsed, and the error message for it.
+
+ghost use Rattle.std.specs.Prelude.{◌≡◌, MatchResult, Ok, Err, IfOk, string_bytes};
+ghost use Rattle.paseto_calls.specs.Fault.{refusal_of};
+ghost use Rattle.paseto_calls.specs.Parse.{line_of};
+ghost use Rattle.paseto_calls.specs.declared.fault.Fault.TheVariants.{Refused};
+ghost use Rattle.paseto_calls.specs.declared.refusal.Refusal.TheVariants.{Memory};
+
+use crate::refusal::Refusal;
+use rusty_paseto_generic::GenericParserError;
+use std::alloc::{AllocError, Global};
+
+/// Why a call that parses a token returns no text.
+#[derive(Drop)]
+pub enum Fault {
+    /// The arguments are refused, or an allocation failed.
+    Refused(Refusal),
+    /// The parser refuses the token.
+    Unparsed(GenericParserError),
+}
+
+impl Fault {
+    /// The refusal for it.
+    pub fn refusal(&self) -> Refusal
+        ensures { result ≡ refusal_of self.now }
+    {
+        match self {
+            Fault::Refused(refusal) => *refusal,
+            Fault::Unparsed(error) => Refusal::of_parser(error),
+        }
+    }
+}
+
+impl From<Refusal> for Fault {
+    ghost from_gives = { λ refusal fault. fault ≡ Refused refusal };
+
+    fn from(refusal: Refusal) -> Fault {
+        Fault::Refused(refusal)
+    }
+}
+
+impl From<AllocError> for Fault {
+    ghost from_gives = { λ error fault. fault ≡ Refused Memory };
+
+    fn from(_error: AllocError) -> Fault {
+        Fault::Refused(Refusal::Memory)
+    }
+}
+
+/// What was made, without what tells why it was not.
+pub fn unsaid(made: Result<String, Fault>) -> Result<String, Refusal>
+    ensures { MatchResult made (λ text. result ≡ Ok text)
+        (λ fault. result ≡ Err (refusal_of fault)) }
+{
+    match made {
+        Ok(text) => Ok(text),
+        Err(fault) => Err(fault.refusal()),
+    }
+}
+
+/// The line that tells an error of a parser, with its cause.
+pub fn line_of(alloc: Global, error: &GenericParserError) -> Result<String, AllocError>
+    ensures { IfOk result (λ line. string_bytes line ≡ line_of error.now) }
+{
+    error.explained().to_string(alloc)
+}

@@ -1,0 +1,265 @@
+//! Why a call returns no text to C.
+
+ghost use Rattle.std.specs.Prelude.{◌≡◌};
+ghost use Rattle.paseto_calls.specs.declared.refusal.Refusal.TheVariants.{Memory};
+ghost use Rattle.paseto_calls.specs.Refusal.{builder_refusal, claim_refusal, parser_refusal, paserk_refusal, pem_refusal, status_of, token_refusal};
+
+use paseto_pem::PemError;
+use rusty_paseto_claims::PasetoClaimError;
+use rusty_paseto_core::PasetoError;
+use rusty_paseto_generic::{GenericBuilderError, GenericParserError};
+use rusty_paseto_paserk::PaserkError;
+use std::alloc::AllocError;
+
+/// Why a call returns no text. Each has its status in `c/paseto.h`.
+#[derive(Clone, Copy, Debug)]
+pub enum Refusal {
+    /// An allocation failed.
+    Memory,
+    /// A key has the wrong length or form.
+    InvalidKey,
+    /// A nonce, a seed or a salt has the wrong length.
+    InvalidNonce,
+    /// An argument is not UTF-8.
+    NotUtf8,
+    /// Claims are not the text of a JSON object.
+    NotObject,
+    /// The moment is out of range.
+    InvalidMoment,
+    /// A token does not have three or four sections, or its payload is too short.
+    IncorrectSize,
+    /// A token has another footer than the expected one.
+    FooterInvalid,
+    /// A token has another version or purpose.
+    WrongHeader,
+    /// A section is not valid base64url.
+    PayloadBase64Decode,
+    /// The tag of a token is wrong.
+    Cryption,
+    /// A box of version 2 did not open, or cannot encrypt a text.
+    ChaChaCipherError,
+    /// A signature is not valid.
+    InvalidSignature,
+    /// The decrypted text of a token, or its footer, is not UTF-8.
+    Utf8Error,
+    /// The signed text is not UTF-8.
+    FromUtf8Error,
+    /// A private key is not valid.
+    KeyRejected,
+    /// The two halves of a private key do not belong together.
+    Signature,
+    /// The payload of a token is not JSON.
+    PayloadJsonError,
+    /// A token has expired.
+    Expired,
+    /// A token may not be used yet.
+    UseBeforeAvailable,
+    /// A date and time of a token is malformed.
+    Rfc3339Date,
+    /// An expected claim is missing.
+    Missing,
+    /// A claim has another type than the expected one.
+    Unexpected,
+    /// A claim has another text than the expected one.
+    Invalid,
+    /// A claim was set more than once.
+    DuplicateTopLevelPayloadClaim,
+    /// An error that no call of this library returns.
+    Other,
+    /// The numbers of a version 1 private key are inconsistent.
+    RsaCipher,
+    /// A token is longer than the limit.
+    TooLong,
+    /// The required names are not a JSON array of strings.
+    NotNames,
+    /// A text does not begin like a PASERK key.
+    NoPaserk,
+    /// A text begins like a key of another version.
+    OtherVersion,
+    /// A text begins like a key of another type.
+    OtherType,
+    /// A text is not PEM in the strict form, or has a label that no key has.
+    NotPem,
+    /// A key in PEM is encrypted.
+    EncryptedKey,
+    /// A PEM text has another label than that of such a key.
+    OtherLabel,
+    /// A key in PEM is of another algorithm.
+    OtherAlgorithm,
+    /// A key in PEM is of another curve.
+    OtherCurve,
+    /// A key in PEM is of the right algorithm, but of another size.
+    OtherSize,
+}
+
+impl Refusal {
+    /// The status of the refusal.
+    pub fn status(self) -> u8
+        ensures { result ≡ status_of self }
+    {
+        match self {
+            Refusal::Memory => 2,
+            Refusal::InvalidKey => 3,
+            Refusal::InvalidNonce => 4,
+            Refusal::NotUtf8 => 5,
+            Refusal::NotObject => 6,
+            Refusal::InvalidMoment => 7,
+            Refusal::IncorrectSize => 8,
+            Refusal::FooterInvalid => 9,
+            Refusal::WrongHeader => 10,
+            Refusal::PayloadBase64Decode => 11,
+            Refusal::Cryption => 12,
+            Refusal::ChaChaCipherError => 13,
+            Refusal::InvalidSignature => 14,
+            Refusal::Utf8Error => 15,
+            Refusal::FromUtf8Error => 16,
+            Refusal::KeyRejected => 17,
+            Refusal::Signature => 18,
+            Refusal::PayloadJsonError => 19,
+            Refusal::Expired => 20,
+            Refusal::UseBeforeAvailable => 21,
+            Refusal::Rfc3339Date => 22,
+            Refusal::Missing => 23,
+            Refusal::Unexpected => 24,
+            Refusal::Invalid => 25,
+            Refusal::DuplicateTopLevelPayloadClaim => 26,
+            Refusal::Other => 27,
+            Refusal::RsaCipher => 28,
+            Refusal::TooLong => 29,
+            Refusal::NotNames => 30,
+            Refusal::NoPaserk => 31,
+            Refusal::OtherVersion => 32,
+            Refusal::OtherType => 33,
+            Refusal::NotPem => 34,
+            Refusal::EncryptedKey => 35,
+            Refusal::OtherLabel => 36,
+            Refusal::OtherAlgorithm => 37,
+            Refusal::OtherCurve => 38,
+            Refusal::OtherSize => 39,
+        }
+    }
+
+    /// The refusal for an error of the core.
+    pub fn of_token(error: &PasetoError) -> Refusal
+        ensures { result ≡ token_refusal error.now }
+    {
+        match error {
+            PasetoError::Memory(_) => Refusal::Memory,
+            PasetoError::InvalidKey => Refusal::InvalidKey,
+            PasetoError::IncorrectSize => Refusal::IncorrectSize,
+            PasetoError::FooterInvalid => Refusal::FooterInvalid,
+            PasetoError::WrongHeader => Refusal::WrongHeader,
+            PasetoError::PayloadBase64Decode { .. } => Refusal::PayloadBase64Decode,
+            PasetoError::Cryption => Refusal::Cryption,
+            PasetoError::ChaChaCipherError => Refusal::ChaChaCipherError,
+            PasetoError::InvalidSignature => Refusal::InvalidSignature,
+            PasetoError::Utf8Error { .. } => Refusal::Utf8Error,
+            PasetoError::FromUtf8Error => Refusal::FromUtf8Error,
+            PasetoError::KeyRejected => Refusal::KeyRejected,
+            PasetoError::Signature => Refusal::Signature,
+            PasetoError::RsaCipher => Refusal::RsaCipher,
+            PasetoError::TooLong => Refusal::TooLong,
+            _ => Refusal::Other,
+        }
+    }
+
+    /// The refusal for an error of claims.
+    fn of_claim(error: &PasetoClaimError) -> Refusal
+        ensures { result ≡ claim_refusal error.now }
+    {
+        match error {
+            PasetoClaimError::Memory(_) => Refusal::Memory,
+            PasetoClaimError::Expired => Refusal::Expired,
+            PasetoClaimError::UseBeforeAvailable(_) => Refusal::UseBeforeAvailable,
+            PasetoClaimError::RFC3339Date(_) => Refusal::Rfc3339Date,
+            PasetoClaimError::Missing(_) => Refusal::Missing,
+            PasetoClaimError::Unexpected(_) => Refusal::Unexpected,
+            PasetoClaimError::Invalid(_, _, _) => Refusal::Invalid,
+            PasetoClaimError::DuplicateTopLevelPayloadClaim(_) =>
+                Refusal::DuplicateTopLevelPayloadClaim,
+            PasetoClaimError::CustomValidation(_) | PasetoClaimError::Reserved(_) => Refusal::Other,
+        }
+    }
+
+    /// The refusal for an error of a builder.
+    pub fn of_builder(error: &GenericBuilderError) -> Refusal
+        ensures { result ≡ builder_refusal error.now }
+    {
+        match error {
+            GenericBuilderError::Memory(_) => Refusal::Memory,
+            GenericBuilderError::ClaimError { source } => Refusal::of_claim(source),
+            GenericBuilderError::CipherError { source } => Refusal::of_token(source),
+            GenericBuilderError::DuplicateTopLevelPayloadClaim(_) =>
+                Refusal::DuplicateTopLevelPayloadClaim,
+            GenericBuilderError::PayloadJsonError { .. } => Refusal::PayloadJsonError,
+            GenericBuilderError::BadEmailAddress(_) => Refusal::Other,
+        }
+    }
+
+    /// The refusal for an error of a parser.
+    pub fn of_parser(error: &GenericParserError) -> Refusal
+        ensures { result ≡ parser_refusal error.now }
+    {
+        match error {
+            GenericParserError::Memory(_) => Refusal::Memory,
+            GenericParserError::ClaimError { source } => Refusal::of_claim(source),
+            GenericParserError::CipherError { source } => Refusal::of_token(source),
+            GenericParserError::PayloadJsonError { .. } => Refusal::PayloadJsonError,
+        }
+    }
+}
+
+impl Refusal {
+    /// The refusal for an error of a key's text.
+    pub fn of_paserk(error: &PaserkError) -> Refusal
+        ensures { result ≡ paserk_refusal error.now }
+    {
+        match error {
+            PaserkError::NoKey => Refusal::NoPaserk,
+            PaserkError::OtherVersion(_) => Refusal::OtherVersion,
+            PaserkError::OtherType(_) => Refusal::OtherType,
+            PaserkError::InvalidKey => Refusal::InvalidKey,
+            PaserkError::Memory(_) => Refusal::Memory,
+        }
+    }
+
+    /// The refusal for an error of a key's text in PEM.
+    pub fn of_pem(error: &PemError) -> Refusal
+        ensures { result ≡ pem_refusal error.now }
+    {
+        match error {
+            PemError::NotPem => Refusal::NotPem,
+            PemError::Encrypted => Refusal::EncryptedKey,
+            PemError::OtherLabel(_) => Refusal::OtherLabel,
+            PemError::OtherAlgorithm => Refusal::OtherAlgorithm,
+            PemError::OtherCurve => Refusal::OtherCurve,
+            PemError::OtherSize => Refusal::OtherSize,
+            PemError::InvalidKey => Refusal::InvalidKey,
+            PemError::Memory(_) => Refusal::Memory,
+        }
+    }
+}
+
+impl From<GenericBuilderError> for Refusal {
+    ghost from_gives = { λ error refusal. refusal ≡ builder_refusal error };
+
+    fn from(error: GenericBuilderError) -> Refusal {
+        Refusal::of_builder(&error)
+    }
+}
+
+impl From<GenericParserError> for Refusal {
+    ghost from_gives = { λ error refusal. refusal ≡ parser_refusal error };
+
+    fn from(error: GenericParserError) -> Refusal {
+        Refusal::of_parser(&error)
+    }
+}
+
+impl From<AllocError> for Refusal {
+    ghost from_gives = { λ error refusal. refusal ≡ Memory };
+
+    fn from(_error: AllocError) -> Refusal {
+        Refusal::Memory
+    }
+}
