@@ -16,3 +16,8 @@ pub mod Firsts
 pub mod Kept
 pub mod TagCollisions
 pub mod CollisionLaws
+pub mod Spellings
+pub mod Forgeries
+pub mod SignatureForgeries
+pub mod KindLaws
+pub mod KeystreamLaws

@@ -9,6 +9,7 @@ use rusty_paseto_parts::VersionTrait;
 
 mod boxed;
 mod boxed_tokens;
+pub(crate) mod forgery;
 pub(crate) mod nist;
 pub(crate) mod opening;
 pub(crate) mod sealed_box;
