@@ -18,7 +18,7 @@ use Rattle.paseto_weierstrass_laws.proofs.GroupLaws.{sum-associates}
 use Rattle.paseto_weierstrass_laws.proofs.Identities.{equation, identity, v0, v1, v2}
 use Rattle.paseto_weierstrass_laws.proofs.Lines.{opposite-sum, same_plane}
 use Rattle.paseto_weierstrass_laws.proofs.MultipleLaws.{multiple-double, multiple-is_point, multiple-itself, multiple-neutral, multiple-of_same, multiple-plus, multiples-same, sum-first, sum-made, sum-of_same, sum-plus}
-use Rattle.paseto_weierstrass_laws.proofs.OrderLaws.{divided-neutral, neutral-multiples, neutral-times}
+use Rattle.paseto_weierstrass_laws.proofs.OrderLaws.{divided-neutral, neutral-multiples, neutral-times, order-divides}
 use Rattle.paseto_weierstrass_laws.proofs.Plane.{IsPlane, plane_point}
 use Rattle.paseto_weierstrass_laws.proofs.PointLaws.{Kind, at_infinity, base-is_point, in_plane, kind, neutral-is_point, neutral-same, plane-is_point, same_refl, same_sym, same_trans}
 use Rattle.paseto_weierstrass_laws.proofs.SumLaws.{double-same, sum-is_point, sum-neutral, sum-neutral_first, sum-same, sum-same_first, sum_comm, y-some}
@@ -364,3 +364,10 @@ point-order q hq =
       | inr finite ↦
           absurd (too_many q hq (λ gone. finite (infinite u hu (multiples-same q u neutral order hq (multiple-itself order q hq) gone))))
     ]
+
+-- a multiple of a point other than the neutral one is neutral by a multiple of n alone
+pub multiple-some : (d : ℕ) (q : Point) → 0 < d → d < order → IsPoint q → q.z ≢ 0 → (multiple_of d q).z ≢ 0
+multiple-some d q positive below hq some none =
+    let gone = multiple-of_same q (multiple_of d q) neutral d hq (multiple-itself d q hq) (neutral-same (multiple_of d q) (multiple-is_point d q hq) none) in
+    let divided = order-divides q d hq (λ same. some (infinite q hq same)) (point-order q hq) gone in
+    absurd (omega (arith, positive, sym (mod-eq_of_lt below) ∙ divided))
