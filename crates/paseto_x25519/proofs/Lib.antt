@@ -1,1 +1,4 @@
+pub mod AgreementLaws
 mod LadderLaws
+pub mod LadderMultiples
+mod LadderSums
