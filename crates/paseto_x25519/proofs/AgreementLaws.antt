@@ -164,7 +164,7 @@ half-bytes seed = record {
   bytes = IsBytes-take 32 (sha512 seed) (IsBytes-sha512 seed);
 }
 
-same-scalar : (half : List ℕ) → decoded_scalar half ≡ number32 (signing.clamped half)
+pub same-scalar : (half : List ℕ) → decoded_scalar half ≡ number32 (signing.clamped half)
 unfolding clamped signing.clamped
 same-scalar half = refl
 

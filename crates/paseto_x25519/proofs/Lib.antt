@@ -1,4 +1,5 @@
 pub mod AgreementLaws
 mod LadderLaws
-pub mod LadderMultiples
+mod LadderMultiples
 mod LadderSums
+pub mod OwnKeyLaws
