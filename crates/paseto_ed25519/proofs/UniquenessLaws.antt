@@ -68,7 +68,7 @@ word-is : (bytes : List ℕ) → word bytes ≡ horner 16 (slice_index bytes)
 unfolding word horner
 word-is bytes = omega arith
 
-word-low : (bytes : List ℕ) → IsBytes bytes → word bytes < 2 ^ 128
+pub word-low : (bytes : List ℕ) → IsBytes bytes → word bytes < 2 ^ 128
 word-low bytes all = rw word-is (horner-low 16 (slice_index bytes) all)
 
 words-alike : (a b : List ℕ) → length a ≡ 16 → length b ≡ 16 → IsBytes a → IsBytes b → word a ≡ word b → a ≡ b
