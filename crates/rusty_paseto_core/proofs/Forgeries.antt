@@ -1,10 +1,7 @@
 -- A forgery is none of the tokens that were issued, and what is none of them is a forgery.
-use Rattle.std.proofs.Common.{◌≡◌, ℕ, suc, ◌+◌, ◌<◌, ◌≤◌, ◌^◌, List, [], ◌∷◌, ◌++◌, Bool, if◌then◌else◌, take, get_or, length, refl, sym, ap, ap₂, subst, ◌∙◌, inl, inr, ◌⊎◌, Option, Some, None, Result, Ok, Err}
-use Rattle.std.proofs.lemmas.List.{take_all, take-map}
-use Rattle.std.proofs.lemmas.List.Elements.{All-cons, All-map, All-more, All-nil, All-weaker}
-use Rattle.std.proofs.lemmas.Option.{get_or_from_slice_get, slice_get-map, slice_get_read, slice_get_within}
+use Rattle.std.proofs.Common.{◌≡◌, ℕ, suc, ◌<◌, ◌^◌, List, [], ◌∷◌, ◌++◌, Bool, if◌then◌else◌, length, refl, sym, ap, ap₂, subst, ◌∙◌, inl, inr, ◌⊎◌, Option, Some, None, Result, Ok, Err}
+use Rattle.std.proofs.lemmas.List.Elements.{All-nil}
 use Rattle.std.specs.List.{All, slice_get, slice_index_or}
-use Rattle.std.specs.Option.{option_map}
 use Rattle.std.specs.Prelude.{IsErrAnd}
 use Rattle.rusty_paseto_parts.specs.Error.{IsMemory}
 use Rattle.rusty_paseto_parts.specs.PreAuthenticationEncoding.{pae}
@@ -20,6 +17,7 @@ use Rattle.rusty_paseto_core.specs.declared.local.forgery.TagForgery.{TagForgery
 use Rattle.rusty_paseto_core.specs.declared.local.tag_collision.Opened.{Opened}
 use Rattle.rusty_paseto_core.specs.declared.local.tag_collision.Opening.{Opening}
 use Rattle.rusty_paseto_core.proofs.CollisionLaws.{encoded_alike, nonces_alike}
+use Rattle.rusty_paseto_core.proofs.Issued.{AreFresh, at_place, before_open, case_there}
 use Rattle.rusty_paseto_core.proofs.Kept.{one_content_alone}
 use Rattle.rusty_paseto_core.proofs.Spellings.{same_up_to_dot}
 
@@ -110,9 +108,7 @@ module _ (design : Design) (law : IsLawful design) where
   pub forgeries_are_new : ForgeriesAreNew design
   forgeries_are_new issued case found bytes f i =
       let s = i.spelling in
-      let here = slice_get_within issued i.place i.one i.is_there in
-      let fresh : IsFresh design case.binding.key found.message i.one =
-      subst (IsFresh design case.binding.key found.message) (get_or_from_slice_get issued i.place i.one i.one i.is_there) (f.fresh i.place i.one here) in
+      let fresh = at_place (IsFresh design case.binding.key found.message) issued f.fresh i.place i.one i.is_there in
       fresh.apart (s.content, s.made_opens) (ap (λ (c : Covered). c.key) s.alike)
       (encoded_as i.one case s.content s.alike
       ∙ ap (encoding design case) (one_content_alone design law case s.content f.content bytes s.opens f.opens) ∙ sym f.message)
@@ -130,15 +126,11 @@ module _ (design : Design) (law : IsLawful design) where
 -- ---- the answers
 
 module _ (design : Design) (issued : List Case) (case : Case) where
-  first_at : All (Opens design) (case ∷ issued) → (i : ℕ) (x : Case) → slice_get (case ∷ issued) i ≡ Some x → Opens design x
-  first_at all i x is =
-      subst (Opens design) (get_or_from_slice_get (case ∷ issued) i x x is) (all i x (slice_get_within (case ∷ issued) i x is))
-
   fault_answer : (error : PasetoError) → IsMemory error ⊎ IsFirstFault design (case ∷ issued) error → IsForgeryAnswer design issued case (Err error)
   fault_answer error (inl memory) = record { found = tt; complete = λ all. memory; fault = inl memory }
   fault_answer error (inr fault) = record {
     found = tt;
-    complete = λ all. absurd (fault.closed (first_at all fault.place fault.first fault.is_there));
+    complete = λ all. absurd (fault.closed (at_place (Opens design) (case ∷ issued) all fault.place fault.first fault.is_there));
     fault = inr fault;
   }
 
@@ -184,54 +176,25 @@ forgery_answer {V} design issued own found opened nonce message fits tags fresh 
 }
 
 module _ {V : Type 0} (design : Design) (issued : List (Opening V)) where
-  -- those before a place are of another key, or their tags cover something else
-  abbrev pub AreFresh : List ℕ → List ℕ → ℕ → Type 0
-  AreFresh key message i = All (λ (o : Opening V). IsFresh design key message (case_of o)) (take i issued)
-
-  pub none_fresh : (key message : List ℕ) → AreFresh key message 0
-  none_fresh key message = All-nil (λ (o : Opening V). IsFresh design key message (case_of o))
-
-  pub more_fresh : (key message : List ℕ) (i : ℕ) (asked : Opening V) → i < length issued → asked ≡ get_or issued i asked
-      → AreFresh key message i → IsFresh design key message (case_of asked) → AreFresh key message (i + 1)
-  more_fresh key message i asked low here all fresh =
-      All-more (λ (o : Opening V). IsFresh design key message (case_of o)) issued i asked low all
-      (subst (λ (o : Opening V). IsFresh design key message (case_of o)) here fresh)
-
-  pub all_fresh : (key message : List ℕ) (i : ℕ) → length issued ≤ i → AreFresh key message i
-      → All (IsFresh design key message) (cases issued)
-  all_fresh key message i end all =
-      All-map (IsFresh design key message) {Y = Opening V} case_of issued
-      (subst (All (λ (o : Opening V). IsFresh design key message (case_of o))) (take_all i issued end) all)
-
-  case_there : (i : ℕ) (asked : Opening V) → i < length issued → asked ≡ get_or issued i asked
-      → slice_get (cases issued) i ≡ Some (case_of asked)
-  case_there i asked low here =
-      slice_get-map {A = Opening V} case_of issued i
-      ∙ ap (option_map {T = Opening V} case_of) (slice_get_read issued (length issued) i asked refl low here)
-
-  pub issued_there : (case : Case) (i : ℕ) (asked : Opening V) → i < length issued → asked ≡ get_or issued i asked
+  pub issued_there : (case : Case) (i : ℕ) (asked : Opening V) → slice_get issued i ≡ Some asked
       → IsSpelling design (case_of asked) case → IsIssued design (cases issued) case
-  issued_there case i asked low here spelling = record {
+  issued_there case i asked here spelling = record {
     place = i;
     one = case_of asked;
-    is_there = case_there i asked low here;
+    is_there = case_there {A = Opening V} case_of issued i asked here;
     spelling = spelling;
   }
 
   -- one of those that were issued does not open
-  pub issued_fault : (case : Case) (key message : List ℕ) (i : ℕ) (asked : Opening V) (error : PasetoError) → i < length issued
-      → asked ≡ get_or issued i asked → Opens design case → AreFresh key message i → IsUnopened design (case_of asked) error
+  pub issued_fault : (case : Case) (key message : List ℕ) (i : ℕ) (asked : Opening V) (error : PasetoError) → slice_get issued i ≡ Some asked
+      → Opens design case → AreFresh {A = Opening V} case_of issued (IsFresh design key message) i → IsUnopened design (case_of asked) error
       → IsMemory error ⊎ IsFirstFault design (case ∷ cases issued) error
-  issued_fault case key message i asked error low here opens all (inl memory) = inl memory
-  issued_fault case key message i asked error low here opens all (inr fault) = inr (record {
+  issued_fault case key message i asked error here opens all (inl memory) = inl memory
+  issued_fault case key message i asked error here opens all (inr fault) = inr (record {
     place = suc i;
     first = case_of asked;
-    is_there = case_there i asked low here;
-    before = All-cons (Opens design) case (take i (cases issued)) opens
-        (subst (All (Opens design)) (sym (take-map {X = Opening V} case_of i issued))
-        (All-map (Opens design) {Y = Opening V} case_of (take i issued)
-        (All-weaker (λ (o : Opening V). IsFresh design key message (case_of o)) (λ (o : Opening V). Opens design (case_of o))
-        (λ o h. h.opens) (take i issued) all)));
+    is_there = case_there {A = Opening V} case_of issued i asked here;
+    before = before_open {A = Opening V} case_of issued (IsFresh design key message) (Opens design) (λ c h. h.opens) i case opens all;
     closed = fault.0;
     fault = fault.1;
   })

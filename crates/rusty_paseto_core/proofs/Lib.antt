@@ -17,6 +17,7 @@ pub mod Kept
 pub mod TagCollisions
 pub mod CollisionLaws
 pub mod Spellings
+pub mod Issued
 pub mod Forgeries
 pub mod SignatureForgeries
 pub mod KindLaws

@@ -1,10 +1,8 @@
 -- A public token that was never issued shows a message and a signature that no issued token has together.
-use Rattle.std.proofs.Common.{◌≡◌, ℕ, suc, ◌+◌, ◌<◌, ◌≤◌, ◌^◌, List, ◌∷◌, ◌++◌, Bool, true, false, if◌then◌else◌, take, drop, get_or, length, length-append, refl, sym, ap, ap₂, subst, ◌∙◌, arith, inl, inr, ◌⊎◌, lit<, Option, Some, None, Result, Ok, Err}
-use Rattle.std.proofs.lemmas.List.{drop_at, take_all, take-map}
-use Rattle.std.proofs.lemmas.List.Elements.{All-cons, All-map, All-more, All-nil, All-weaker}
-use Rattle.std.proofs.lemmas.Option.{get_or_from_slice_get, slice_get-get_or, slice_get-map, slice_get_within}
+use Rattle.std.proofs.Common.{◌≡◌, ℕ, suc, ◌<◌, ◌≤◌, ◌^◌, List, ◌∷◌, ◌++◌, Bool, true, false, if◌then◌else◌, drop, length, length-append, refl, sym, ap, ap₂, subst, ◌∙◌, arith, inl, inr, ◌⊎◌, lit<, Option, Some, None, Result, Ok, Err}
+use Rattle.std.proofs.lemmas.List.{drop_at}
+use Rattle.std.proofs.lemmas.List.Elements.{All-nil}
 use Rattle.std.specs.List.{All, slice_get}
-use Rattle.std.specs.Option.{option_map}
 use Rattle.std.specs.Prelude.{IsErrAnd}
 use Rattle.rusty_paseto_primitives.specs.Bytes.{IsBytes}
 use Rattle.rusty_paseto_parts.specs.Error.{IsMemory}
@@ -24,6 +22,7 @@ use Rattle.rusty_paseto_core.specs.Public.SignatureForgery.{IsFirstUnverified, I
 use Rattle.rusty_paseto_core.specs.declared.public.signature_forgery.SignatureForgery.{SignatureForgery}
 use Rattle.rusty_paseto_core.specs.declared.public.signature_forgery.SignedToken.{SignedToken}
 use Rattle.rusty_paseto_core.proofs.CollisionLaws.{encoding_fits}
+use Rattle.rusty_paseto_core.proofs.Issued.{AreFresh, at_place, before_open, case_there}
 use Rattle.rusty_paseto_core.proofs.Spellings.{same_up_to_dot}
 
 -- ---- messages that fit into memory
@@ -186,9 +185,7 @@ module _ (valid : Validity) (refused : Refusal) (design : PublicDesign) (is_head
   pub signature_forgeries_are_new : SignatureForgeriesAreNew valid refused design
   signature_forgeries_are_new issued case found bytes f i =
       let s = i.spelling in
-      let here = slice_get_within issued i.place i.one i.is_there in
-      let fresh : IsFreshlySigned valid refused design found.message found.signature.items i.one =
-      subst (IsFreshlySigned valid refused design found.message found.signature.items) (get_or_from_slice_get issued i.place i.one i.one i.is_there) (f.fresh i.place i.one here) in
+      let fresh = at_place (IsFreshlySigned valid refused design found.message found.signature.items) issued f.fresh i.place i.one i.is_there in
       let content : s.content ≡ f.content =
       alone case bytes s.content.text s.verifies.read s.content s.verifies
       ∙ sym (alone case bytes s.content.text s.verifies.read f.content f.verifies) in
@@ -199,16 +196,12 @@ module _ (valid : Validity) (refused : Refusal) (design : PublicDesign) (is_head
 -- ---- the answers
 
 module _ (valid : Validity) (refused : Refusal) (design : PublicDesign) (issued : List Case) (case : Case) where
-  first_at : All (IsVerified valid refused design) (case ∷ issued) → (i : ℕ) (x : Case) → slice_get (case ∷ issued) i ≡ Some x → IsVerified valid refused design x
-  first_at all i x is =
-      subst (IsVerified valid refused design) (get_or_from_slice_get (case ∷ issued) i x x is) (all i x (slice_get_within (case ∷ issued) i x is))
-
   fault_answer : (error : PasetoError) → IsMemory error ⊎ IsFirstUnverified valid refused design (case ∷ issued) error
       → IsSignatureAnswer valid refused design issued case (Err error)
   fault_answer error (inl memory) = record { found = tt; complete = λ all. memory; fault = inl memory }
   fault_answer error (inr fault) = record {
     found = tt;
-    complete = λ all. absurd (fault.closed (first_at all fault.place fault.first fault.is_there));
+    complete = λ all. absurd (fault.closed (at_place (IsVerified valid refused design) (case ∷ issued) all fault.place fault.first fault.is_there));
     fault = inr fault;
   }
 
@@ -256,56 +249,29 @@ module _ (valid : Validity) (refused : Refusal) (design : PublicDesign) (issued 
       }
 
 module _ (valid : Validity) (refused : Refusal) (design : PublicDesign) (key : List ℕ) (issued : List SignedToken) where
-  -- those before a place have another message or another signature
-  abbrev pub AreFreshlySigned : List ℕ → List ℕ → ℕ → Type 0
-  AreFreshlySigned signed signature i = All (λ o. IsFreshlySigned valid refused design signed signature (signed_case design key o)) (take i issued)
-
-  pub none_fresh : (signed signature : List ℕ) → AreFreshlySigned signed signature 0
-  none_fresh signed signature = All-nil (λ o. IsFreshlySigned valid refused design signed signature (signed_case design key o))
-
-  pub more_fresh : (signed signature : List ℕ) (i : ℕ) (d : SignedToken) → i < length issued
-      → AreFreshlySigned signed signature i → IsFreshlySigned valid refused design signed signature (signed_case design key (get_or issued i d))
-      → AreFreshlySigned signed signature (i + 1)
-  more_fresh signed signature i d low all fresh =
-      All-more (λ o. IsFreshlySigned valid refused design signed signature (signed_case design key o)) issued i d low all fresh
-
-  pub all_fresh : (signed signature : List ℕ) (i : ℕ) → length issued ≤ i → AreFreshlySigned signed signature i
-      → All (IsFreshlySigned valid refused design signed signature) (signed_cases design key issued)
-  all_fresh signed signature i end all =
-      All-map (IsFreshlySigned valid refused design signed signature) {Y = SignedToken} (signed_case design key) issued
-      (subst (All (λ o. IsFreshlySigned valid refused design signed signature (signed_case design key o))) (take_all i issued end) all)
-
-  case_there : (i : ℕ) (d : SignedToken) → i < length issued
-      → slice_get (signed_cases design key issued) i ≡ Some (signed_case design key (get_or issued i d))
-  case_there i d low =
-      slice_get-map {A = SignedToken} (signed_case design key) issued i
-      ∙ ap (option_map {T = SignedToken} (signed_case design key)) (slice_get-get_or issued i d low)
-
-  pub issued_there : (case : Case) (i : ℕ) (d : SignedToken) → i < length issued
-      → IsSignedSpelling valid refused design (signed_case design key (get_or issued i d)) case
+  pub issued_there : (case : Case) (i : ℕ) (asked : SignedToken) → slice_get issued i ≡ Some asked
+      → IsSignedSpelling valid refused design (signed_case design key asked) case
       → IsSignedIssued valid refused design (signed_cases design key issued) case
-  issued_there case i d low spelling = record {
+  issued_there case i asked here spelling = record {
     place = i;
-    one = signed_case design key (get_or issued i d);
-    is_there = case_there i d low;
+    one = signed_case design key asked;
+    is_there = case_there (signed_case design key) issued i asked here;
     spelling = spelling;
   }
 
   -- one of those that were issued does not verify
-  pub issued_fault : (case : Case) (signed signature : List ℕ) (i : ℕ) (d : SignedToken) (error : PasetoError) → i < length issued
-      → IsVerified valid refused design case → AreFreshlySigned signed signature i
-      → IsUnverified valid refused design (signed_case design key (get_or issued i d)) error
+  pub issued_fault : (case : Case) (signed signature : List ℕ) (i : ℕ) (asked : SignedToken) (error : PasetoError) → slice_get issued i ≡ Some asked
+      → IsVerified valid refused design case
+      → AreFresh (signed_case design key) issued (IsFreshlySigned valid refused design signed signature) i
+      → IsUnverified valid refused design (signed_case design key asked) error
       → IsMemory error ⊎ IsFirstUnverified valid refused design (case ∷ signed_cases design key issued) error
-  issued_fault case signed signature i d error low verified all (inl memory) = inl memory
-  issued_fault case signed signature i d error low verified all (inr fault) = inr (record {
+  issued_fault case signed signature i asked error here verified all (inl memory) = inl memory
+  issued_fault case signed signature i asked error here verified all (inr fault) = inr (record {
     place = suc i;
-    first = signed_case design key (get_or issued i d);
-    is_there = case_there i d low;
-    before = All-cons (IsVerified valid refused design) case (take i (signed_cases design key issued)) verified
-        (subst (All (IsVerified valid refused design)) (sym (take-map {X = SignedToken} (signed_case design key) i issued))
-        (All-map (IsVerified valid refused design) {Y = SignedToken} (signed_case design key) (take i issued)
-        (All-weaker (λ o. IsFreshlySigned valid refused design signed signature (signed_case design key o))
-        (λ o. IsVerified valid refused design (signed_case design key o)) (λ o h. h.verifies) (take i issued) all)));
+    first = signed_case design key asked;
+    is_there = case_there (signed_case design key) issued i asked here;
+    before = before_open (signed_case design key) issued (IsFreshlySigned valid refused design signed signature) (IsVerified valid refused design)
+        (λ c h. h.verifies) i case verified all;
     closed = fault.0;
     fault = fault.1;
   })
