@@ -19,6 +19,7 @@ pub mod CollisionLaws
 pub mod Spellings
 pub mod Issued
 pub mod Forgeries
+pub mod BoxForgeries
 pub mod SignatureForgeries
 pub mod KindLaws
 pub mod KeystreamLaws

@@ -4,6 +4,7 @@ pub mod Sealing
 pub mod Keystreams
 pub mod TagCollision
 pub mod Forgery
+pub mod BoxForgery
 pub mod Opened
 pub mod Opening
 pub mod V1

@@ -6,6 +6,7 @@ ghost use Rattle.rusty_paseto_core.specs.Context.{Binding};
 ghost use Rattle.rusty_paseto_core.specs.Kinds.{MessagesApart, NeverBoth, OneKind, ReadOneKind};
 ghost use Rattle.rusty_paseto_core.specs.Laws.{BoxedSealingsOpen, BoxesHoldOneText, EmptyAssertionIsAbsent, EmptyFooterIsAbsent, SealingsHoldOneText, SealingsOpen, SignaturesHoldOneText, SigningsVerify, TextsHaveTheirForms};
 ghost use Rattle.rusty_paseto_primitives.specs.Collision.{IsHmacCollision};
+ghost use Rattle.rusty_paseto_core.specs.Local.BoxForgery.{BoxForgeriesAreNew};
 ghost use Rattle.rusty_paseto_core.specs.Local.Boxed.{box_opening};
 ghost use Rattle.rusty_paseto_core.specs.Local.Forgery.{ForgeriesAreNew, ForgeriesAreTags};
 ghost use Rattle.rusty_paseto_core.specs.Local.Keystreams.{IsPadded, NonceReuseShows, PadHides, PayloadsShow, ReuseHides};
@@ -20,6 +21,7 @@ ghost use Rattle.rusty_paseto_core.specs.Public.SignatureForgery.{SignatureForge
 ghost use Rattle.rusty_paseto_core.specs.Public.Verifying.{verification};
 
 use crate::local::LocalVersion;
+use crate::local::sealed_box::SealedBox;
 use crate::public::Verifies;
 
 /// A token of `try_encrypt` decrypts to its text, with the same key, footer and implicit assertion.
@@ -158,6 +160,12 @@ pub fn forgeries_are_new<V: LocalVersion>()
 /// authentication key under the nonce.
 pub fn forgeries_are_tags<V: LocalVersion>()
     ensures { ForgeriesAreTags V.design }
+{}
+
+/// What `forgery` finds in a token of version 2 is new: the token is none of those that were issued, up to the dot before
+/// the section of an empty footer.
+pub fn box_forgeries_are_new<B: SealedBox>()
+    ensures { BoxForgeriesAreNew B.sealing }
 {}
 
 /// What `signature_forgery` finds in a token is new: the token is none of those that were issued, up to the dot before

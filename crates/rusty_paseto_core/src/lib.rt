@@ -36,6 +36,7 @@ mod tag;
 #[doc(hidden)]
 pub use local::LocalSuite;
 pub use local::LocalVersion;
+pub use local::box_forgery::BoxForgery;
 pub use local::forgery::TagForgery;
 pub use local::sealed_box::SealedBox;
 pub use local::tag_collision::{Opening, TagCollision};

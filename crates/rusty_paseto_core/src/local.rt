@@ -7,6 +7,7 @@ ghost use Rattle.rusty_paseto_core.specs.Local.{Design, IsLawful, header};
 
 use rusty_paseto_parts::VersionTrait;
 
+pub(crate) mod box_forgery;
 mod boxed;
 mod boxed_tokens;
 pub(crate) mod forgery;
