@@ -7,12 +7,13 @@ reads what `rt ci` printed. `rt ci` passes an edit that no longer applies, and c
 because a proof names what the edit took away, or only by a limit of the prover; here each of these fails, and so does an
 edit that was not tried. tests/edits.txt says how many edits each crate has, so that none is lost.
 
-    python3 tests/edits.py --without-answers [CRATE/NAME..]
+    python3 tests/edits.py --without-answers [--unedited] [CRATE/NAME..]
 
 tries edits without the written answers of the function that each is in, over the libraries that a check has built. A written
 answer that does not fit refuses a body whatever the contract says; without it the prover refuses one only where it finds
-no proof. The line of an edit names the goals that stay open, and those of them that are closed without the edit. It takes
-about a minute an edit, and is for a release and for a new edit.
+no proof. The line of an edit names the goals that stay open. Some of them may be open without the edit, too, since the
+prover needs the answer that was left out: compare with `--unedited` in front of the names. It takes about a minute an
+edit, and is for a release and for a new edit.
 
 The last line is 'N passed, M failed', and the status is 0 where none failed.
 """
@@ -108,22 +109,23 @@ def answers_of(folder, edit):
 
 
 def tried(rt, crate, texts):
-    """The goals of a crate with these texts that stay open, or what else the check came to."""
+    """The names of the goals of a crate with these texts that stay open, or what else the check came to."""
     with tempfile.TemporaryDirectory() as room:
         start = f"{crate.folder}/out/incremental"
         if os.path.isdir(start):
             rt.linked(start, f"{room}/kept")
         ran = rt.checked(crate, texts, ["--jobs", "1"], f"{room}/kept" if os.path.isdir(start) else None)
     if ran.returncode == 0:
-        return set(), "proved"
-    goals = re.findall(r"^note: (`[\w.-]+`) of (\S+) must prove: (.*)", ran.stdout, re.M)
+        return [], "proved"
+    goals = re.findall(r"^note: `([\w.-]+)` of \S+ must prove: ", ran.stdout, re.M)
     if goals:
-        return set(goals), "goals"
-    return set(), next((line for line in ran.stdout.split("\n") if "error" in line), ran.stdout[-200:])[:200]
+        return sorted(set(goals)), "goals are open"
+    return [], next((line for line in ran.stdout.split("\n") if "error" in line), ran.stdout[-200:])[:200]
 
 
-def without_answers(names):
-    """Tries edits with no written answers of their functions, and says what came of it. What fails is yielded."""
+def without_answers(names, is_unedited):
+    """Tries edits with no written answers of their functions, and says which goals are open; is_unedited leaves the edits out.
+    What is refused at no goal is yielded."""
     import prove
 
     rt = prove.toolchain()
@@ -137,29 +139,24 @@ def without_answers(names):
             yield f"{name}: {why}"
             continue
         none = dict.fromkeys(answers_of(crate.folder, edit), "")
-        open_before, before = tried(rt, crate, none)
-        left, how = tried(rt, crate, {**texts, **none})
-        more = left - open_before
-        if not left:
+        goals, how = tried(rt, crate, none if is_unedited else {**texts, **none})
+        print(f"{name}: {' '.join(goals) or how}", flush=True)
+        if not goals and not is_unedited:
             yield f"{name}: {how}"
-            continue
-        known = f"of {len(open_before)} that stay open without it" if open_before else f"where the crate is {before}"
-        print(f"{name}: open {', '.join(sorted(it[0] for it in more)) or 'none more'}, {known}", flush=True)
-        if not more:
-            yield f"{name}: no goal is open that is not open without the edit"
 
 
 def main():
     words = sys.argv[1:]
     if words[:1] == ["--without-answers"]:
-        asked = words[1:] or edits()
-        wrong = list(without_answers(asked))
+        is_unedited = words[1:2] == ["--unedited"]
+        asked = words[1 + is_unedited :] or edits()
+        wrong = list(without_answers(asked, is_unedited))
     elif len(words) == 1 and not words[0].startswith("-"):
         asked = edits()
         with open(words[0], encoding="utf-8", errors="replace") as file:
             wrong = list(judge(file.read()))
     else:
-        sys.exit("usage: tests/edits.py REPORT | --without-answers [CRATE/NAME..]")
+        sys.exit("usage: tests/edits.py REPORT | --without-answers [--unedited] [CRATE/NAME..]")
     for it in wrong:
         print(f"FAILED: {it}")
     print(f"{len(asked) - min(len(wrong), len(asked))} passed, {len(wrong)} failed")
