@@ -79,10 +79,12 @@ impl Cases for Kinds {
         )?;
         let (text, key) = (run.text, symmetric_key());
         let boxed = seal_boxed(alloc, text, footer())?;
+        let other = seal_boxed(alloc, "another text", footer())?;
         calls! { run;
             "Paseto::try_encrypt of v2.local" => seal_boxed(alloc, text, footer());
             "Paseto::try_decrypt of v2.local"
                 => Paseto::<V2, Local>::try_decrypt(alloc, &PlainBox, boxed.as_str(), &key, own);
+            "Paseto::forgery of v2.local" => forged_box(alloc, &key, other.as_str(), boxed.as_str());
         }
     }
 
@@ -90,10 +92,13 @@ impl Cases for Kinds {
         let (alloc, text) = (run.alloc, run.text);
         let (paseto, key) = (token_of::<V, Public>(text), V::private_key(keys));
         let (token, public) = (sign::<V>(alloc, text, footer())?, V::public_key(keys)?);
+        let other = sign::<V>(alloc, "another text", footer())?;
         calls! { run, kind;
             "Signs::sign of {}" => V::sign(alloc, &mut Lenient, &key, Payload::from(text), Some(footer()), None);
             "Paseto::try_sign of {}" => paseto.try_sign(alloc, &mut Lenient, &key);
             "Verifies::verify of {}" => V::verify(alloc, &Lenient, token.as_str(), &public, Some(footer()), None);
+            "Paseto::signature_forgery of {}"
+                => forged_signature(alloc, &public, other.as_str(), token.as_str());
         }
     }
 }
@@ -108,7 +113,64 @@ fn ask_opening<V: LocalVersion>(run: &mut Run<'_>, kind: &str) -> Result<()> {
         "LocalVersion::open of {}" => V::open(alloc, token, &key, own, None);
         "LocalVersion::open of {} under another key, refused" => V::open(alloc, token, &other, own, None);
         "Paseto::tag_collision of {}" => collision(alloc, &key, token, second);
+        "Paseto::forgery of {}" => forged_tag(alloc, &key, second, token);
     }
+}
+
+fn opening_of<'a, V: VersionTrait>(
+    key: &'a PasetoSymmetricKey<V, Local>,
+    token: &'a str,
+) -> Opening<'a, V> {
+    Opening {
+        key,
+        token,
+        footer: Some(footer()),
+        assertion: None,
+    }
+}
+
+// The tag of a token where another one was issued.
+fn forged_tag<V: LocalVersion>(
+    alloc: Global,
+    key: &PasetoSymmetricKey<V, Local>,
+    issued: &str,
+    token: &str,
+) -> Result<Option<Vec<u8>>, PasetoError> {
+    let (issued, token) = ([opening_of(key, issued)], opening_of(key, token));
+    let found = Paseto::<V, Local>::forgery(alloc, &issued, token)?;
+    Ok(found.map(|forgery| forgery.tag))
+}
+
+// The same of version 2: the sealing by the box.
+fn forged_box(
+    alloc: Global,
+    key: &PasetoSymmetricKey<V2, Local>,
+    issued: &str,
+    token: &str,
+) -> Result<Option<Vec<u8>>, PasetoError> {
+    let (issued, token) = ([opening_of(key, issued)], opening_of(key, token));
+    let found = Paseto::<V2, Local>::forgery(alloc, &PlainBox, &issued, token)?;
+    Ok(found.map(|forgery| forgery.sealing))
+}
+
+fn signed_token(token: &str) -> SignedToken<'_> {
+    SignedToken {
+        token,
+        footer: Some(footer()),
+        assertion: None,
+    }
+}
+
+// The signature of a token where another one was issued.
+fn forged_signature<V: Signed>(
+    alloc: Global,
+    key: &PasetoAsymmetricPublicKey<'_, V, Public>,
+    issued: &str,
+    token: &str,
+) -> Result<Option<Vec<u8>>, PasetoError> {
+    let (issued, token) = ([signed_token(issued)], signed_token(token));
+    let found = Paseto::<V, Public>::signature_forgery(alloc, &Lenient, key, &issued, token)?;
+    Ok(found.map(|forgery| forgery.signature))
 }
 
 // What is found among the first token, the second and the first again.
@@ -118,12 +180,7 @@ fn collision<'a, V: LocalVersion>(
     first: &'a str,
     second: &'a str,
 ) -> Result<Option<Vec<u8>>, PasetoError> {
-    let openings = [first, second, first].map(|token| Opening {
-        key,
-        token,
-        footer: Some(footer()),
-        assertion: None,
-    });
+    let openings = [first, second, first].map(|token| opening_of(key, token));
     let found = Paseto::<V, Local>::tag_collision(alloc, &openings)?;
     Ok(found.map(|collision| collision.tag))
 }
