@@ -290,27 +290,25 @@ fn ask_refused_payloads(run: &mut Run<'_>, parser: &mut Parser<V4, Local>) -> Re
     'payloads: for &(of, payload) in REFUSED {
         ask_refused(run, of, payload, parser)?;
     }
-    let payload = expired(run.alloc)?;
-    ask_refused(run, "an expired token, refused", payload.as_str(), parser)
+    ask_expired(run, "an expired token, refused", parser)
 }
 
 fn ask_failed_validator(run: &mut Run<'_>) -> Result<()> {
-    let mut parser = parser_of(run.alloc)?;
-    let told = ask_refusing_validator(run, &mut parser);
+    let alloc = run.alloc;
+    let map = validators!(alloc);
+    let mut parser = parser_of(alloc)?;
+    let told = match parser.put_validators(map) {
+        Ok(()) => ask_expired(run, "what a validator refuses, refused", &parser),
+        Err(error) => Err(error.into()),
+    };
     drop(parser);
     told
 }
 
-fn ask_refusing_validator(run: &mut Run<'_>, parser: &mut Parser<V4, Local>) -> Result<()> {
-    let alloc = run.alloc;
-    parser.put_validators(validators!(alloc))?;
-    let payload = expired(alloc)?;
-    ask_refused(
-        run,
-        "what a validator refuses, refused",
-        payload.as_str(),
-        parser,
-    )
+// Asks a parser for a token that passes no check of times.
+fn ask_expired(run: &mut Run<'_>, of: &str, parser: &Parser<V4, Local>) -> Result<()> {
+    let payload = expired(run.alloc)?;
+    ask_refused(run, of, payload.as_str(), parser)
 }
 
 fn ask_refused(run: &mut Run<'_>, of: &str, json: &str, parser: &Parser<V4, Local>) -> Result<()> {
