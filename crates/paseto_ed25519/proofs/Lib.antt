@@ -1,3 +1,4 @@
 pub mod SecretLaws
 pub mod SigningLaws
 pub mod Validity
+pub mod UniquenessLaws

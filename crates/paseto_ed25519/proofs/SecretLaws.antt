@@ -4,7 +4,7 @@ use Rattle.std.proofs.Common.{◌≡◌, ◌≢◌, ℕ, zero, suc, ◌+◌, ◌
 use Rattle.std.proofs.lemmas.List.{get_or-set_other, get_or-set_same}
 use Rattle.sha2.specs.Sha512.{digest_bytes, sha512}
 use Rattle.paseto_ed25519.specs.Ed25519.{clamped, secret_scalar}
-use Rattle.paseto_edwards25519.specs.Scalar.{word}
+use Rattle.paseto_edwards25519.specs.Scalar.{number32, word}
 use Rattle.paseto_edwards_laws.specs.Edwards25519.{order}
 
 abbrev pub AreLow : List ℕ → Type 0
@@ -102,13 +102,11 @@ unit-of : (low high a b z : ℕ) → low % 8 ≡ z % 8 → z ≡ a / 8 * 8 → l
     → b < 128 → 64 ≤ b → (low + 2 ^ 128 * high) % order ≢ 0
 unit-of low high a b z e f low_low high_least high_most b_most b_least none = omega arith
 
--- the order does not divide the secret scalar of a seed
-pub secret-unit : (seed : List ℕ) → secret_scalar seed % order ≢ 0
-secret-unit seed =
-    let half : List ℕ = take 32 (sha512 seed) in
-    let len : length half ≡ 32 = length-take 32 (sha512 seed) ∙ ap (λ n. min 32 n) (length-sha512 seed) in
+-- the order does not divide the scalar that 32 bytes give
+pub clamped-unit : (half : List ℕ) → length half ≡ 32 → AreLow half → number32 (clamped half) % order ≢ 0
+clamped-unit half len low-half =
     let c : List ℕ = clamped half in
-    let low : AreLow c = low-clamped half (low-take 32 (sha512 seed) (low-sha512 seed)) in
+    let low : AreLow c = low-clamped half low-half in
     let lower = word-parts (take 16 c) (low-take 16 c low) in
     let upper = word-parts (drop 16 c) (low-drop 16 c low) in
     let first : slice_index (take 16 c) 0 ≡ slice_index c 0 = get_or-take 16 c 0 0 (lit< tt) in
@@ -118,3 +116,9 @@ secret-unit seed =
     unit-of (word (take 16 c)) (word (drop 16 c)) (slice_index half 0) (slice_index c 31) (slice_index c 0)
     (lower.0 ∙ ap (λ n. n % 8) first) (first-clamped half len) below
     (omega (arith, upper.1, last)) (omega (arith, upper.2, last)) top.0 top.1
+
+-- nor the secret scalar of a seed
+pub secret-unit : (seed : List ℕ) → secret_scalar seed % order ≢ 0
+secret-unit seed =
+    let len : length (take 32 (sha512 seed)) ≡ 32 = length-take 32 (sha512 seed) ∙ ap (λ n. min 32 n) (length-sha512 seed) in
+    clamped-unit (take 32 (sha512 seed)) len (low-take 32 (sha512 seed) (low-sha512 seed))

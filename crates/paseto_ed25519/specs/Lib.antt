@@ -1,1 +1,2 @@
 pub mod Ed25519
+pub mod Uniqueness

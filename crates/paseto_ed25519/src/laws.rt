@@ -3,7 +3,9 @@
 ghost use Rattle.std.specs.Prelude.{◌≡◌, List, ℕ, Some, length};
 ghost use Rattle.rusty_paseto_parts.specs.declared.error.PasetoError.{PasetoError};
 ghost use Rattle.paseto_edwards_laws.specs.Group.{Affine};
+ghost use Rattle.rusty_paseto_core.specs.Public.{v2_public, v4_public};
 ghost use Rattle.paseto_ed25519.specs.Ed25519.{Ed25519Verifies, IsDeclined, IsSigned, ed25519_public, ed25519_sign, partner};
+ghost use Rattle.paseto_ed25519.specs.Uniqueness.{OnePayload, OneS};
 ghost use Rattle.paseto_edwards25519.specs.Curve.{HasSmallOrder};
 ghost use Rattle.paseto_edwards25519.specs.Encoding.{decoded};
 
@@ -38,3 +40,11 @@ pub fn own_key_is_taken()
     multiples_of_base();
     small_multiples();
 }
+
+/// For a public key and a message, each R has at most one S. So nobody can change the second half of a signature, and a
+/// public token of version 2 or 4 has no second payload with the same text, footer, implicit assertion and R.
+pub fn signatures_have_one_s()
+    ensures signatures { OneS }
+    ensures v2 { OnePayload v2_public }
+    ensures v4 { OnePayload v4_public }
+{}

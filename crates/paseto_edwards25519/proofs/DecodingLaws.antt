@@ -1,6 +1,7 @@
 -- The point that an encoded point decodes to.
-use Rattle.std.proofs.Common.{◌≡◌, ◌≢◌, ◌⊎◌, ℕ, ◌+◌, ◌-◌, ◌*◌, ◌/◌, ◌%◌, ◌^◌, ◌<◌, Some, inl, inr, refl, sym, ◌∙◌, ap, arith, lit<, mod-eq_of_lt, mod-lt, suc-ne-zero}
+use Rattle.std.proofs.Common.{◌≡◌, ◌≢◌, ◌⊎◌, ℕ, ◌+◌, ◌-◌, ◌*◌, ◌/◌, ◌%◌, ◌^◌, ◌<◌, List, Some, inl, inr, refl, sym, ◌∙◌, ap, subst, arith, lit<, mod-eq_of_lt, mod-lt, suc-ne-zero}
 use Rattle.std.proofs.Math.Nat.{mod-eq-sub-mod, mod-mod}
+use Rattle.std.specs.Prelude.{Option, None}
 use Rattle.std.proofs.lemmas.Bool.{cases_eq, cases_lt}
 use Rattle.paseto_edwards_laws.specs.Group.{Affine, IsOn}
 use Rattle.paseto_primes.proofs.CongruenceLaws.{cancel-plus, same-plus, same-times}
@@ -11,13 +12,14 @@ use Rattle.paseto_edwards_laws.proofs.CurveLaws.{curve}
 use Rattle.paseto_primes.specs.Element.{minus as minus_of, plus as plus_of, times as times_of}
 use Rattle.paseto_edwards25519.specs.Curve.{IsPoint}
 use Rattle.paseto_edwards_laws.specs.Edwards25519.{d, square_root_of_minus_one, prime}
-use Rattle.paseto_edwards25519.specs.Encoding.{at, decoded, encoded, point_of, root_at, square_root}
+use Rattle.paseto_edwards25519.specs.Encoding.{at, candidate, decoded, encoded, point_of, root_at, square_root}
 use Rattle.paseto_edwards25519.specs.Field.{minus, plus, times}
-use Rattle.paseto_edwards25519.specs.Scalar.{bytes32}
+use Rattle.paseto_edwards25519.specs.Scalar.{bytes32, number32}
 use Rattle.paseto_edwards25519.proofs.BytesLaws.{number-of_bytes}
 use Rattle.paseto_primes.proofs.FieldOfEdwards25519.{is-prime}
-use Rattle.paseto_edwards25519.proofs.EncodingLaws.{decoded_at, point_negated, point_same}
-use Rattle.paseto_edwards25519.proofs.RootLaws.{square_root-found}
+use Rattle.paseto_edwards25519.proofs.CurveLaws.{opposite-at}
+use Rattle.paseto_edwards25519.proofs.EncodingLaws.{decoded_at, decoded_none, point_negated, point_none, point_of_none, point_same, root_first, root_none, root_second}
+use Rattle.paseto_edwards25519.proofs.RootLaws.{candidate-low, square_root-found, times-low, turned_root}
 
 -- y ^ 2 - 1 and d * y ^ 2 + 1
 u-is : (y : ℕ) → y < prime → (w : ℕ) → (w + 1) % prime ≡ (y * y) % prime → minus (times y y) 1 % prime ≡ w % prime
@@ -53,7 +55,7 @@ solves x y on = ap (λ k. k % prime) (spread d x y) ∙ sym on
     spread : (d x y : ℕ) → (d * (y * y) + 1) * (x * x) + 1 ≡ 1 + x * x + d * (x * x * (y * y))
     spread d x y = omega arith
 
-minus-low : (a b : ℕ) → minus a b < prime
+pub minus-low : (a b : ℕ) → minus a b < prime
 unfolding minus
 minus-low a b = mod-lt (a + (prime - b)) (lit< tt)
 
@@ -174,3 +176,73 @@ root-on_curve x y x_low y_low e =
   where
     spread : (d x y : ℕ) → (d * (y * y) + 1) * (x * x) + 1 ≡ 1 + x * x + d * (x * x * (y * y))
     spread d x y = omega arith
+
+-- ---- what is decoded is a point
+
+pub none-some : {A : Type 0} (x : A) → None ≡ Some x → ⊥
+none-some x e = cc
+
+pub some-same : {A : Type 0} (x y : A) → Some x ≡ Some y → x ≡ y
+some-same x y e = cc
+
+root-squared : (u v x : ℕ) → u < prime → square_root u v ≡ Some x → times v (times x x) ≡ u
+root-squared u v x low e =
+    let c : ℕ = candidate u v in
+    elim (cases_eq (times v (times c c)) u) [
+      | inl here ↦
+          let is : c ≡ x = some-same c x (root_first u v c refl here ∙ e) in
+          subst (λ (r : ℕ). times v (times r r) ≡ u) is here
+      | inr apart ↦ elim (cases_eq (times v (times c c)) (minus 0 u)) [
+        | inl opposed ↦
+            let r : ℕ = times c square_root_of_minus_one in
+            let is : r ≡ x = some-same r x (root_second u v c refl apart opposed ∙ e) in
+            subst (λ (r : ℕ). times v (times r r) ≡ u) is (turned_root u v c low opposed)
+        | inr other ↦ absurd (none-some x (root_none u v c refl apart other ∙ e))
+      ]
+    ]
+
+root-below : (u v x : ℕ) → square_root u v ≡ Some x → x < prime
+root-below u v x e =
+    let c : ℕ = candidate u v in
+    elim (cases_eq (times v (times c c)) u) [
+      | inl here ↦
+          let is : c ≡ x = some-same c x (root_first u v c refl here ∙ e) in
+          subst (λ (r : ℕ). r < prime) is (candidate-low u v)
+      | inr apart ↦ elim (cases_eq (times v (times c c)) (minus 0 u)) [
+        | inl opposed ↦
+            let r : ℕ = times c square_root_of_minus_one in
+            let is : r ≡ x = some-same r x (root_second u v c refl apart opposed ∙ e) in
+            subst (λ (r : ℕ). r < prime) is (times-low _ _)
+        | inr other ↦ absurd (none-some x (root_none u v c refl apart other ∙ e))
+      ]
+    ]
+
+root-is_point : (x y : ℕ) → y < prime → root_at y ≡ Some x → IsPoint (at x y)
+unfolding root_at
+root-is_point x y low e =
+    let u : ℕ = minus (times y y) 1 in
+    let v : ℕ = plus (times d (times y y)) 1 in
+    root-on_curve x y (root-below u v x e) low (root-squared u v x (minus-low (times y y) 1) e)
+
+signed-is_point : (x y sign : ℕ) (a : Affine) → IsPoint (at x y) → point_of y sign (Some x) ≡ Some a → IsPoint a
+signed-is_point x y sign a h e = elim (cases_eq (x % 2) sign) [
+  | inl same ↦ subst IsPoint (some-same (at x y) a (point_same y sign x same ∙ e)) h
+  | inr apart ↦ elim (cases_eq x 0) [
+    | inl none ↦ absurd (none-some a (point_none y sign x apart none ∙ e))
+    | inr some ↦
+        subst IsPoint (some-same (at (minus 0 x) y) a (point_negated y sign x apart some ∙ e)) (opposite-at x y h)
+  ]
+]
+
+point_of-is_point : (y sign : ℕ) (a : Affine) (o : Option ℕ) → y < prime → root_at y ≡ o → point_of y sign o ≡ Some a → IsPoint a
+point_of-is_point y sign a None low is e = absurd (none-some a (point_of_none y sign ∙ e))
+point_of-is_point y sign a (Some x) low is e = signed-is_point x y sign a (root-is_point x y low is) e
+
+pub decoded-is_point : (bytes : List ℕ) (a : Affine) → decoded bytes ≡ Some a → IsPoint a
+decoded-is_point bytes a e =
+    let y : ℕ = number32 bytes % 2 ^ 255 in
+    let sign : ℕ = number32 bytes / 2 ^ 255 in
+    elim (cases_lt y prime) [
+      | inl low ↦ point_of-is_point y sign a (root_at y) low refl (decoded_at bytes y sign refl refl low ∙ e)
+      | inr high ↦ absurd (none-some a (decoded_none bytes high ∙ e))
+    ]

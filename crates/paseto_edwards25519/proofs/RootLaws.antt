@@ -64,11 +64,11 @@ fourth_root v c u e =
         let spread : w + v * (c * i * (c * i)) ≡ w * (i * i + 1) = omega arith in
         cancel-plus p w (v * (c * i * (c * i))) u (ap (λ n. n % p) spread ∙ times-multiple p w (i * i + 1) root ∙ sym e)
 
-times-low : (a b : ℕ) → times a b < prime
+pub times-low : (a b : ℕ) → times a b < prime
 unfolding times
 times-low a b = mod-lt (a * b) (lit< tt)
 
-candidate-low : (u v : ℕ) → candidate u v < prime
+pub candidate-low : (u v : ℕ) → candidate u v < prime
 unfolding candidate
 candidate-low u v =
     times-low (times u (times (times v v) v)) (power (times u (times (times (times (times v v) v) (times (times v v) v)) v)) ((prime - 5) / 8))

@@ -39,3 +39,13 @@ pub fn signature_sum()
     ensures { (r k n : ℕ) → sum (multiple ((r + k * n) % order) base)
         (multiple k (opposite (multiple n base))) ≡ multiple r base }
 {}
+
+/// What decodes is a point of the curve.
+pub fn decoded_points()
+    ensures { (bytes : List ℕ) (a : Affine) → decoded bytes ≡ Some a → IsPoint a }
+{}
+
+/// Each multiple of the base point is that of one number below the order.
+pub fn one_multiple()
+    ensures { (s t : ℕ) → s < order → t < order → multiple s base ≡ multiple t base → s ≡ t }
+{}

@@ -14,7 +14,7 @@ use Rattle.paseto_weierstrass_laws.proofs.PointLaws.{base-is_point, same-quotien
 use Rattle.paseto_p384.specs.Agreement.{p384_shared, x_of}
 use Rattle.paseto_p384.specs.Encoding.{decoded, encoded}
 use Rattle.paseto_p384.specs.P384.{IsPrivate, p384_public}
-use Rattle.paseto_p384.proofs.CofactorLaws.{multiple-some}
+use Rattle.paseto_weierstrass_laws.proofs.PointOrders.{multiple-some}
 use Rattle.paseto_p384.proofs.DecodingLaws.{decoded-finite, decoded-is_point, decoded-public}
 use Rattle.paseto_p384.proofs.OptionLaws.{none-some}
 use Rattle.paseto_p384.proofs.Validity.{private-parts}
@@ -72,7 +72,7 @@ public-point own h none =
     let key = decoded-public (os2ip own) a.1 (positive-ne (os2ip own) a.0) in
     none-some key.point (sym none ∙ key.is_decoded)
 
-IsBytes-i2osp : (x n : ℕ) → IsBytes (i2osp x n)
+pub IsBytes-i2osp : (x n : ℕ) → IsBytes (i2osp x n)
 unfolding i2osp
 IsBytes-i2osp x zero = IsBytes-nil
 IsBytes-i2osp x (suc n) = IsBytes_cons (x / 256 ^ n % 256) (i2osp x n) (mod-lt (x / 256 ^ n) (omega arith)) (IsBytes-i2osp x n)

@@ -20,6 +20,7 @@ use Rattle.paseto_weierstrass_laws.proofs.MultipleLaws.{multiple-itself, multipl
 use Rattle.paseto_weierstrass_laws.proofs.OrderLaws.{multiple-finite}
 use Rattle.paseto_weierstrass_laws.proofs.Plane.{IsPlane, plane_point}
 use Rattle.paseto_weierstrass_laws.proofs.PointLaws.{base-is_point, plane-is_point, plane_curve}
+use Rattle.paseto_weierstrass_laws.proofs.PointOrders.{opposite-plane}
 use Rattle.paseto_weierstrass_laws.proofs.SumLaws.{y-some}
 use Rattle.paseto_p384.specs.Encoding.{decoded, encoded, point_at, right_side, signed}
 use Rattle.paseto_p384.proofs.OptionLaws.{none-some, some-same}
@@ -191,18 +192,6 @@ root-plane x y hx hy h = record {
       (equation (constant 1) (product v1 v1) (sum (difference (product (product v0 v0) v0) (triple_expr v0)) (constant curve_b)) ∷ []) (h, tt)
       (product (product v1 v1) (constant 1)) (cubic_expr v0 (constant 1)) refl;
 }
-
-opposite-plane : (x y : ℕ) → IsPlane x y → IsPlane x (minus 0 y)
-unfolding summing
-opposite-plane x y h =
-    let opposite = difference (constant 0) v1 in
-    record {
-      x_below = h.x_below;
-      y_below = minus-below 0 y;
-      on_curve = identity 2 (x ∷ y ∷ []) (h.x_below, (h.y_below, tt))
-          (equation (constant 1) (product (product v1 v1) (constant 1)) (cubic_expr v0 (constant 1)) ∷ []) (h.on_curve, tt)
-          (product (product opposite opposite) (constant 1)) (cubic_expr v0 (constant 1)) refl;
-    }
 
 signed-plane : (odd x y : ℕ) → IsPlane x y → IsPlane x (signed odd y)
 signed-plane odd x y h = elim (cases_eq (y % 2) odd) [

@@ -1,5 +1,4 @@
 pub mod AgreementLaws
-pub mod CofactorLaws
 pub mod DecodingLaws
 pub mod EcdsaLaws
 pub mod EncodingLaws
@@ -9,4 +8,5 @@ pub mod PointLaws
 pub mod SignatureLaws
 pub mod SigningLaws
 pub mod TableLaws
+pub mod TwinLaws
 pub mod Validity

@@ -8,3 +8,4 @@ pub mod Point
 pub mod Residue
 pub mod Scalar
 pub mod Table
+pub mod Twin

@@ -13,5 +13,7 @@ mod point;
 mod scalar;
 
 pub use agreement::AgreementError;
-pub use laws::{shared_point_is_finite, shared_secret_is_common, signatures_are_valid};
+pub use laws::{
+    shared_point_is_finite, shared_secret_is_common, signatures_are_valid, signatures_have_a_twin,
+};
 pub use p384::P384;

@@ -13,6 +13,7 @@ pub mod PocklingtonLaws
 pub mod PowerLaws
 pub mod RootLaws
 pub mod ElementLaws
+pub mod Identities
 pub mod IdentityLaws
 pub mod PolynomialLaws
 pub mod ProgramLaws

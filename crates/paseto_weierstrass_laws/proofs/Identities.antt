@@ -6,48 +6,14 @@ use Rattle.paseto_primes.specs.Identity.{Equation, is_null, left_sides, right_si
 use Rattle.paseto_primes.specs.Polynomial.{Expression, constant, difference, polynomial, sum, variable}
 use Rattle.paseto_primes.specs.Program.{listed}
 use Rattle.paseto_primes.specs.Reduction.{Cube, Obey, reduced}
+pub use Rattle.paseto_primes.proofs.Identities.{equation, no_rules, obey-none, v0, v1, v2, v3, v4, v5, v6}
 use Rattle.paseto_primes.proofs.ElementLaws.{AreListedBelow, listed-below}
 use Rattle.paseto_primes.proofs.ProgramLaws.{programming}
 use Rattle.paseto_primes.proofs.ReductionLaws.{elements-by_rules}
 use Rattle.paseto_weierstrass_laws.specs.Field.{minus, plus, prime, times, triple}
 
--- the first variables
-abbrev pub v0 : Expression
-v0 = variable 0
-
-abbrev pub v1 : Expression
-v1 = variable 1
-
-abbrev pub v2 : Expression
-v2 = variable 2
-
-abbrev pub v3 : Expression
-v3 = variable 3
-
-abbrev pub v4 : Expression
-v4 = variable 4
-
-abbrev pub v5 : Expression
-v5 = variable 5
-
-abbrev pub v6 : Expression
-v6 = variable 6
-
 abbrev pub minus_one : Expression
 minus_one = constant (prime - 1)
-
--- an equation, and what it is multiplied by
-abbrev pub equation : Expression → Expression → Expression → Equation
-equation factor left right = record { added = factor; taken = constant 0; left = left; right = right }
-
--- no cube is reduced
-unfoldable pub no_rules : ℕ → Option Cube
-no_rules n = None
-
-pub obey-none : (n m : ℕ) (numbers : ℕ → ℕ) → Obey no_rules n m numbers
-unfolding no_rules
-obey-none zero m numbers = tt
-obey-none (suc n) m numbers = (tt, obey-none n m numbers)
 
 -- elements are equal by equations
 pub identity : (n : ℕ) (xs : List ℕ) → AreListedBelow prime xs → (es : List Equation) → HoldElements n prime (listed xs) es → (a b : Expression)

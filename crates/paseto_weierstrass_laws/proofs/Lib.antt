@@ -9,5 +9,6 @@ pub mod MultipleLaws
 pub mod OrderLaws
 pub mod Plane
 pub mod PointLaws
+pub mod PointOrders
 pub mod RootLaws
 pub mod SumLaws

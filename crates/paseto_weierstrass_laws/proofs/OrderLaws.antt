@@ -51,17 +51,21 @@ multiple-remainder g p n k hg none h =
 base-not_neutral : Same base neutral → ⊥
 base-not_neutral s = s.nonzero (times_unit s.ratio s.below ∙ sym s.z)
 
--- which multiples of G are neutral
-pub neutral-multiples : (k : ℕ) → IsMultiple base neutral k → k % order ≡ 0
+-- which multiples of a point are neutral, where its multiple by n is
+pub order-divides : (g : Point) (k : ℕ) → IsPoint g → (Same g neutral → ⊥) → IsMultiple g neutral order → IsMultiple g neutral k → k % order ≡ 0
 unfolding IsPrime
-neutral-multiples k h =
-    let r : (g : ℕ) × IsMultiple base neutral g × (order % g ≡ 0) × (k % g ≡ 0) =
-    gcd-within (λ n. IsMultiple base neutral n) (λ x y positive f g. multiple-remainder base neutral y x base-is_point g f) (suc k) order k
-    (omega arith) order-neutral h in
+order-divides g k hg some none h =
+    let r : (m : ℕ) × IsMultiple g neutral m × (order % m ≡ 0) × (k % m ≡ 0) =
+    gcd-within (λ n. IsMultiple g neutral n) (λ x y positive f e. multiple-remainder g neutral y x hg e f) (suc k) order k
+    (omega arith) none h in
     elim (is-prime.1 r.0 r.2) [
-      | inl one ↦ absurd (base-not_neutral (multiples-same base base neutral 1 base-is_point (multiple-one base base-is_point) (subst (IsMultiple base neutral) one r.1)))
+      | inl one ↦ absurd (some (multiples-same g g neutral 1 hg (multiple-one g hg) (subst (IsMultiple g neutral) one r.1)))
       | inr same ↦ ap (λ n. k % n) (sym same) ∙ r.3
     ]
+
+-- which multiples of G are neutral
+pub neutral-multiples : (k : ℕ) → IsMultiple base neutral k → k % order ≡ 0
+neutral-multiples k h = order-divides base k base-is_point base-not_neutral order-neutral h
 
 pub divided-neutral : (k : ℕ) → k % order ≡ 0 → IsMultiple base neutral k
 divided-neutral k e =

@@ -13,6 +13,6 @@ pub use group::{
 };
 pub use multiples::{
     joint_multiple_is_sum, multiple_by_product, multiple_by_remainder, multiple_by_sum,
-    multiple_is_point, multiples_of_base, order_of_base,
+    multiple_is_point, multiples_of_base, order_of_base, order_of_points,
 };
 pub use same::{equal_quotients, quotients_of_same, same_is_equivalence, same_is_point};

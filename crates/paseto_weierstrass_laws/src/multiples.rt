@@ -28,6 +28,12 @@ pub fn order_of_base()
     ensures { Same (multiple_of order base) neutral }
 {}
 
+/// [n]P is neutral, for each point P of the curve: the order of a point is 1 or n, as the cofactor is 1 (SP 800-186,
+/// section 3.2.1.4).
+pub fn order_of_points()
+    ensures { (p : Point) → IsPoint p → Same (multiple_of order p) neutral }
+{}
+
 /// [k]G is neutral if and only if n divides k, since n is prime.
 pub fn multiples_of_base()
     ensures { (k : ℕ) → Same (multiple_of k base) neutral ↔ (k % order ≡ 0) }

@@ -3,3 +3,4 @@ pub mod Families
 pub mod Pies
 pub mod Protected
 pub mod Sealings
+pub mod SodiumSealings

@@ -260,7 +260,7 @@ module _ (version : PaserkVersion) (same : family_of version ≡ Nist) (private 
 
 -- ---- sealing and opening in version 3
 
-IsBytes-payload : (version : PaserkVersion) (xk epk public key : List ℕ) → IsBytes epk → IsBytes key → IsBytes (payload version xk epk public key)
+pub IsBytes-payload : (version : PaserkVersion) (xk epk public key : List ℕ) → IsBytes epk → IsBytes key → IsBytes (payload version xk epk public key)
 unfolding tag_of
 IsBytes-payload version xk epk public key of_epk of_key =
     let c : List ℕ = crypted version xk epk public key in

@@ -1,9 +1,11 @@
 -- What is wrapped is unwrapped: the text of a key holds that key. The contracts of reading answer whatever a text holds.
-use Rattle.std.specs.Prelude.{◌≡◌, ℕ, List, length}
+use Rattle.std.specs.Prelude.{◌≡◌, ℕ, List, drop, length}
 use Rattle.base64.specs.GeneralPurpose.{IsBytes}
 use Rattle.rusty_paseto_paserk.specs.declared.header.PaserkVersion.{PaserkVersion}
 use Rattle.rusty_paseto_paserk.specs.declared.header.PaserkVersion.TheVariants.{V3}
+use Rattle.paseto_ed25519.specs.Ed25519.{IsOwn}
 use Rattle.paseto_p384.specs.P384.{IsPrivate, p384_public}
+use Rattle.paseto_x25519.specs.Laws.{IsSecretKey}
 use Rattle.paseto_wrapping.specs.declared.error.WrapError.{WrapError}
 use Rattle.paseto_wrapping.specs.declared.family.Family.TheVariants.{Nist}
 use Rattle.paseto_wrapping.specs.declared.header.WrappedType.{WrappedType}
@@ -38,3 +40,14 @@ SealedUnseal = (private ephemeral key text : List ℕ) → IsPrivate private →
 abbrev pub OwnKeysSeal : Type 0
 OwnKeysSeal = (private ephemeral : List ℕ) (error : WrapError) → IsPrivate private → IsPrivate ephemeral
     → IsSealFault Nist (p384_public private) ephemeral error → IsMemory error
+
+-- in versions 2 and 4, sealed to the public half of a private key whose halves belong together, by any ephemeral secret key
+abbrev pub SodiumSealedUnseal : PaserkVersion → Type 0
+SodiumSealedUnseal version = (private ephemeral key text : List ℕ) → (length private ≡ 64) × IsOwn private → IsSecretKey ephemeral
+    → IsBytes key × (length key ≡ 32) → IsSealed version (drop 32 private) ephemeral key text
+    → InText version Seal (SealsFor (family_of version) version private) text key
+
+-- in versions 2 and 4 nothing but memory keeps a key from being sealed to such a public key, by any ephemeral secret key
+abbrev pub SodiumOwnKeysSeal : PaserkVersion → Type 0
+SodiumOwnKeysSeal version = (private ephemeral : List ℕ) (error : WrapError) → (length private ≡ 64) × IsOwn private → IsSecretKey ephemeral
+    → IsSealFault (family_of version) (drop 32 private) ephemeral error → IsMemory error

@@ -1,7 +1,8 @@
 //! Laws about wrapping and unwrapping. Each is the contract of a function that does nothing, about the definitions that
 //! the contracts use.
 
-ghost use Rattle.paseto_wrapping.specs.Laws.{OwnKeysSeal, ProtectedUnwrap, SealedUnseal, WrappedUnwrap};
+ghost use Rattle.rusty_paseto_paserk.specs.declared.header.PaserkVersion.TheVariants.{V2, V4};
+ghost use Rattle.paseto_wrapping.specs.Laws.{OwnKeysSeal, ProtectedUnwrap, SealedUnseal, SodiumOwnKeysSeal, SodiumSealedUnseal, WrappedUnwrap};
 
 /// The text that `wrap_local` or `wrap_secret` writes for a key contains that key, under the same wrapping key. So
 /// `unwrap_local` and `unwrap_secret` return it, unless an allocation fails.
@@ -16,10 +17,15 @@ pub fn protected_keys_unwrap()
     ensures { ProtectedUnwrap }
 {}
 
-/// In version 3 the text that `seal` writes for a key, to the public key of a private key, contains that key for that
-/// private key, since multiples of a point commute; and `seal` to such a public key, with a valid ephemeral key, fails
-/// only with `Memory`. In versions 2 and 4 this holds if X25519 of two secret keys commutes, which is not proved.
+/// The text that `seal` writes for a key, to the public key of a private key, contains that key for that private key; and
+/// `seal` to such a public key, with a valid ephemeral key, fails only with `Memory`. In version 3 multiples of a point
+/// commute, and in versions 2 and 4 X25519 of two secret keys does: there the two halves of the private key must belong
+/// together, and any 32 bytes are an ephemeral key.
 pub fn sealed_keys_unseal()
     ensures unsealed { SealedUnseal }
     ensures sealed { OwnKeysSeal }
+    ensures v2_unsealed { SodiumSealedUnseal V2 }
+    ensures v2_sealed { SodiumOwnKeysSeal V2 }
+    ensures v4_unsealed { SodiumSealedUnseal V4 }
+    ensures v4_sealed { SodiumOwnKeysSeal V4 }
 {}

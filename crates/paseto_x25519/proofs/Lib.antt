@@ -1,1 +1,5 @@
+pub mod AgreementLaws
 mod LadderLaws
+mod LadderMultiples
+mod LadderSums
+pub mod OwnKeyLaws

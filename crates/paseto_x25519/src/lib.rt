@@ -4,6 +4,7 @@
 mod agreement;
 mod conversion;
 mod ladder;
+pub mod laws;
 
 pub use agreement::{AgreementError, public_key, shared_secret, x25519};
 pub use conversion::{ConversionError, public_from_ed25519, secret_from_ed25519};

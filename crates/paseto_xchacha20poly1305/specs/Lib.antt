@@ -1,3 +1,4 @@
+pub mod Forgery
 pub mod Hasher
 pub mod Limbs
 pub mod Sealing

@@ -21,6 +21,7 @@
 
 mod arithmetic;
 mod hasher;
+pub mod laws;
 mod limbs;
 mod sealing;
 mod tag;

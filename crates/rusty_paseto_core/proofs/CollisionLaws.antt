@@ -28,7 +28,7 @@ pieces_fit (part ∷ parts) fits =
     let own = length-append (le64 (length part)) part in
     All-cons FitsLength part parts (omega (arith, size, own)) (pieces_fit parts (omega (arith, size)))
 
-encoding_fits : (parts : List (List ℕ)) → length (pae parts) < 2 ^ 64 → All FitsLength parts
+pub encoding_fits : (parts : List (List ℕ)) → length (pae parts) < 2 ^ 64 → All FitsLength parts
 unfolding pae
 encoding_fits parts fits =
     pieces_fit parts (omega (arith, length-append (le64 (length parts)) (flat_map encoded_piece parts)))
@@ -65,25 +65,30 @@ module _ (design : Design) (law : IsLawful design) where
   text_alike key nonce text other_text same =
       sym (law.applied_twice key nonce text) ∙ ap (design.apply_keystream key nonce) same ∙ law.applied_twice key nonce other_text
 
-  module _ (first second : Case) (one other : Content) (keys : first.binding.key ≡ second.binding.key) (nonces : one.nonce ≡ other.nonce)
-      (fits : length (encoding design first one) < 2 ^ 64) (other_fits : length (encoding design second other) < 2 ^ 64)
+  module _ (first second : Case) (one other : Content) (fits : length (encoding design first one) < 2 ^ 64)
       (messages : encoding design first one ≡ encoding design second other) where
     ciphertext : Case → Content → List ℕ
     ciphertext case content = design.apply_keystream case.binding.key content.nonce content.text
 
     parts_alike : pieces design first.binding one.nonce (ciphertext first one) ≡ pieces design second.binding other.nonce (ciphertext second other)
     unfolding ciphertext
-    parts_alike = pieces_alike design first.binding second.binding one.nonce (ciphertext first one) other.nonce (ciphertext second other) fits other_fits messages
+    parts_alike =
+        pieces_alike design first.binding second.binding one.nonce (ciphertext first one) other.nonce (ciphertext second other) fits
+        (subst (λ (m : List ℕ). length m < 2 ^ 64) messages fits) messages
+
+    -- what is encoded alike has one nonce
+    pub nonces_alike : one.nonce ≡ other.nonce
+    nonces_alike = let parts = parts_alike in cc
 
     -- what is encoded alike under one key is covered alike
-    encoded_alike : covered design first one ≡ covered design second other
+    pub encoded_alike : first.binding.key ≡ second.binding.key → covered design first one ≡ covered design second other
     unfolding ciphertext
-    encoded_alike =
+    encoded_alike keys =
         let parts = parts_alike in
         let texts : design.apply_keystream first.binding.key one.nonce one.text ≡ design.apply_keystream second.binding.key other.nonce other.text = cc in
         let own : design.apply_keystream first.binding.key one.nonce one.text ≡ design.apply_keystream first.binding.key one.nonce other.text =
         texts ∙ ap (λ (k : List ℕ). design.apply_keystream k other.nonce other.text) (sym keys)
-        ∙ ap (λ (n : List ℕ). design.apply_keystream first.binding.key n other.text) (sym nonces) in
+        ∙ ap (λ (n : List ℕ). design.apply_keystream first.binding.key n other.text) (sym nonces_alike) in
         covered_alike _ _ _ _ _ _ _ _ keys (text_alike first.binding.key one.nonce one.text other.text own) (cc) (cc)
 
   pub collisions_show_tag : CollisionsShow design (IsTagOfTwo design)
@@ -102,10 +107,9 @@ module _ (design : Design) (law : IsLawful design) where
                 keys,
                 messages,
                 record {
-                  apart = λ same. share.apart (encoded_alike c.first c.second share.one share.other same share.nonce
+                  apart = λ same. share.apart (encoded_alike c.first c.second share.one share.other
                       (subst (λ (m : List ℕ). length m < 2 ^ 64) c.first_encoding c.first_fits)
-                      (subst (λ (m : List ℕ). length m < 2 ^ 64) c.second_encoding c.second_fits)
-                      (sym c.first_encoding ∙ messages ∙ c.second_encoding));
+                      (sym c.first_encoding ∙ messages ∙ c.second_encoding) same);
                   one_key = keys ∙ ap (design.authentication_key c.second.binding.key) (sym share.nonce);
                 },
               )

@@ -16,7 +16,7 @@ regroup : (version purpose section rest : List ℕ)
     → ((version ++ (46 ∷ (purpose ++ (46 ∷ [])))) ++ section) ++ rest ≡ version ++ (46 ∷ (purpose ++ (46 ∷ (section ++ rest))))
 regroup version purpose section rest = simp append_assoc
 
-sections-header : (version purpose header section rest : List ℕ) → IsHeader version purpose header
+pub sections-header : (version purpose header section rest : List ℕ) → IsHeader version purpose header
     → sections (header ++ section ++ rest) ≡ version ∷ purpose ∷ sections (section ++ rest)
 sections-header version purpose header section rest h =
     rw (h.text, regroup version purpose section rest)

@@ -22,7 +22,7 @@ use Rattle.rusty_paseto_core.specs.Reading.{IsFault, IsFramed, IsFramingFault, I
 use Rattle.rusty_paseto_core.specs.declared.local.tag_collision.Opened.{Opened}
 use Rattle.rusty_paseto_core.specs.declared.local.tag_collision.Opening.{Opening}
 use Rattle.rusty_paseto_core.proofs.Framed.{IsFramed-payload}
-use Rattle.rusty_paseto_core.proofs.Opened.{HoldsText-carries, nonce_in-sealed, opening-lawful, tag_in-sealed}
+use Rattle.rusty_paseto_core.proofs.Opened.{HoldsText-carries, carries-HoldsText, nonce_in-sealed, opening-lawful, tag_in-sealed}
 use Rattle.rusty_paseto_core.proofs.ReadingLaws.{IsFramed-IsRead, IsRead-IsFramed, IsRead-fault, IsRead-text}
 
 -- an error that is handed on
@@ -109,6 +109,17 @@ module _ (design : Design) (law : IsLawful design) (case : Case) (footer_bytes :
       ap₂ (λ (n t : List ℕ). let whole : Content = record { nonce = n; text = t } in whole)
       (sym opens.nonce ∙ read_nonce content.text opens.read)
       (IsRead-text (opening design case.binding) lawful case.token content.text text opens.read read)
+
+-- a token has one content
+pub one_content_alone : (design : Design) → IsLawful design → (case : Case) (one other : Content) → IsBytes case.binding.footer
+    → OpensTo design case one → OpensTo design case other → one ≡ other
+one_content_alone design law case one other footer_bytes a b =
+    let lawful = opening-lawful design law case.binding footer_bytes in
+    let payload = a.read.payload in
+    let framed = IsRead-IsFramed (opening design case.binding) lawful case.token one.text a.read in
+    let holds = carries-HoldsText design law case.binding payload one.text a.read.carried in
+    one_content design law case footer_bytes payload one.text framed holds framed.bytes one a
+    ∙ sym (one_content design law case footer_bytes payload one.text framed holds framed.bytes other b)
 
 -- what is kept is the content of the token
 pub kept_opened : {V : Type 0} (design : Design) → IsLawful design → (kept : Opened V) (binding : Binding) (version footer payload : List ℕ)

@@ -16,3 +16,10 @@ pub mod Firsts
 pub mod Kept
 pub mod TagCollisions
 pub mod CollisionLaws
+pub mod Spellings
+pub mod Issued
+pub mod Forgeries
+pub mod BoxForgeries
+pub mod SignatureForgeries
+pub mod KindLaws
+pub mod KeystreamLaws

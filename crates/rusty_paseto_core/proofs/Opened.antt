@@ -92,7 +92,7 @@ module _ (design : Design) (law : IsLawful design) (binding : Binding) where
       }
 
   -- and the other way
-  carries-HoldsText : (payload text : List ℕ) → CarriesText (opening design binding) payload text → HoldsText design binding payload text
+  pub carries-HoldsText : (payload text : List ℕ) → CarriesText (opening design binding) payload text → HoldsText design binding payload text
   carries-HoldsText payload text carried =
       let own = carried.carries in
       subst (λ p. HoldsText design binding p text) (sym own.is_sealed) (sealed-HoldsText own.nonce text own.is_nonce carried.utf8)

@@ -50,7 +50,7 @@ sealing_parts footer written token (Some payload) same = (payload, refl, cc)
 module _ (box : BoxSealing) (law : IsLawfulBox box) (binding : Binding) (key_size : length binding.key ≡ 32)
     (key_bytes : IsBytes binding.key) (footer_bytes : IsBytes binding.footer) where
   -- the box is asked with a key, a nonce and bytes
-  asked : (nonce : List ℕ) → IsBoxNonce nonce → IsAsked binding.key nonce (associated nonce binding.footer)
+  pub asked : (nonce : List ℕ) → IsBoxNonce nonce → IsAsked binding.key nonce (associated nonce binding.footer)
   asked nonce is_nonce = record {
     key_size = key_size;
     key_bytes = key_bytes;
@@ -81,7 +81,7 @@ module _ (box : BoxSealing) (law : IsLawfulBox box) (binding : Binding) (key_siz
           utf8 = carried.utf8;
         })
 
-  in-IsNonce : (payload : List ℕ) → IsBytes payload → HasRoom payload → IsBoxNonce (nonce_in payload)
+  pub in-IsNonce : (payload : List ℕ) → IsBytes payload → HasRoom payload → IsBoxNonce (nonce_in payload)
   in-IsNonce payload bytes room = record { size = length-take-le 24 payload room; bytes = IsBytes-take 24 payload bytes }
 
   -- what a payload holds is what it carries

@@ -2,6 +2,7 @@ pub mod Context
 pub mod Framing
 pub mod HeaderLaws
 pub mod Reading
+pub mod Kinds
 pub mod Local
 pub mod Public
 pub mod Laws

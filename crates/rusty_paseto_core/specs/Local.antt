@@ -1,7 +1,10 @@
 -- What the local versions 1, 3 and 4 mean, as functions on lists of bytes (PASETO specification,
 -- "Version 1", "Version 3" and "Version 4").
 pub mod Sealing
+pub mod Keystreams
 pub mod TagCollision
+pub mod Forgery
+pub mod BoxForgery
 pub mod Opened
 pub mod Opening
 pub mod V1

@@ -3,6 +3,7 @@
 pub mod Scheme
 pub mod Signing
 pub mod Verifying
+pub mod SignatureForgery
 use Rattle.std.specs.Prelude.{◌≡◌, ◌≤◌, ℕ, Option, Some, None, IfSome, length, Bool, true, false, List, [], ◌∷◌, ◌++◌, if◌then◌else◌, codes}
 use Rattle.std.proofs.Common.{refl}
 use Rattle.rusty_paseto_parts.specs.Header.{header_text}

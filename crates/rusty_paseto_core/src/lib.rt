@@ -36,10 +36,13 @@ mod tag;
 #[doc(hidden)]
 pub use local::LocalSuite;
 pub use local::LocalVersion;
+pub use local::box_forgery::BoxForgery;
+pub use local::forgery::TagForgery;
 pub use local::sealed_box::SealedBox;
 pub use local::tag_collision::{Opening, TagCollision};
 pub use paseto::{AssertionVersion, Paseto};
 pub use public::scheme::{CompressedKey, SignatureScheme};
+pub use public::signature_forgery::{SignatureForgery, SignedToken};
 pub use public::{PublicVersion, Signs, Verifies};
 pub use rusty_paseto_parts::{
     Footer, Header, ImplicitAssertion, ImplicitAssertionCapable, Key, KeyPair, Local,

@@ -7,8 +7,10 @@ ghost use Rattle.rusty_paseto_core.specs.Local.{Design, IsLawful, header};
 
 use rusty_paseto_parts::VersionTrait;
 
+pub(crate) mod box_forgery;
 mod boxed;
 mod boxed_tokens;
+pub(crate) mod forgery;
 pub(crate) mod nist;
 pub(crate) mod opening;
 pub(crate) mod sealed_box;

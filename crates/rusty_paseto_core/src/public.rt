@@ -1,6 +1,6 @@
 //! Public tokens: a text and its signature (PASETO specification, "Version 1" to "Version 4").
 
-ghost use Rattle.std.specs.Prelude.{◌≡◌, ◌↔◌, true, false, None, IsTrue, IfOk, IfErr};
+ghost use Rattle.std.specs.Prelude.{◌≡◌, ◌↔◌, ◌<◌, ◌^◌, true, false, None, IsTrue, IfOk, IfErr, length};
 ghost use Rattle.rusty_paseto_parts.specs.Error.{IsMemory};
 ghost use Rattle.rusty_paseto_core.specs.Context.{bound};
 ghost use Rattle.rusty_paseto_core.specs.Public.{HasPrivateLength, IsLawful, PublicDesign, header, message};
@@ -12,6 +12,7 @@ use rusty_paseto_parts::{
 use std::alloc::Global;
 
 pub(crate) mod scheme;
+pub(crate) mod signature_forgery;
 mod signing;
 mod tokens;
 mod verifying;
@@ -71,6 +72,7 @@ fn message<V: PublicSuite>(
 ) -> Result<PreAuthenticationEncoding, PasetoError>
     ensures ok { IfOk result (λ encoding. encoding
         ≡ message V.public_design (bound public.now context.now) text.now) }
+    ensures fits { IfOk result (λ encoding. length encoding < 2 ^ 64) }
     ensures err { IfErr result IsMemory }
 {
     let header = Header::<V, Public>::default();

@@ -51,11 +51,12 @@ pub use rusty_paseto_claims::{
     TokenIdentifierClaim, has_short_year, is_whole, moment_text, odd_key, same_value,
 };
 pub use rusty_paseto_core::{
-    AssertionVersion, CompressedKey, Footer, Header, ImplicitAssertion, ImplicitAssertionCapable,
-    Key, KeyPair, Local, LocalVersion, Opening, Paseto, PasetoAsymmetricPrivateKey,
-    PasetoAsymmetricPublicKey, PasetoError, PasetoNonce, PasetoSymmetricKey, Payload,
-    PreAuthenticationEncoding, PrivateKey, Public, PublicKey, PublicVersion, PurposeTrait,
-    SealedBox, SignatureScheme, Signs, TagCollision, UntrustedToken, V1, V1orV3, V2, V2orV4, V3,
-    V4, Verifies, VersionTrait, from_section, split_token, to_section,
+    AssertionVersion, BoxForgery, CompressedKey, Footer, Header, ImplicitAssertion,
+    ImplicitAssertionCapable, Key, KeyPair, Local, LocalVersion, Opening, Paseto,
+    PasetoAsymmetricPrivateKey, PasetoAsymmetricPublicKey, PasetoError, PasetoNonce,
+    PasetoSymmetricKey, Payload, PreAuthenticationEncoding, PrivateKey, Public, PublicKey,
+    PublicVersion, PurposeTrait, SealedBox, SignatureForgery, SignatureScheme, SignedToken, Signs,
+    TagCollision, TagForgery, UntrustedToken, V1, V1orV3, V2, V2orV4, V3, V4, Verifies,
+    VersionTrait, from_section, split_token, to_section,
 };
 pub use validator::{Validator, ValidatorFn, ValidatorMap};

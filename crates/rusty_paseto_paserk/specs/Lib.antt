@@ -2,3 +2,5 @@ pub mod Header
 pub mod Error
 pub mod Text
 pub mod Id
+pub mod Kinds
+pub mod IdLaws

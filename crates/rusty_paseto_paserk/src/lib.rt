@@ -24,6 +24,7 @@ mod error;
 mod header;
 mod id;
 mod keys;
+pub mod laws;
 mod text;
 mod versions;
 

@@ -7,6 +7,7 @@ mod collision_time;
 mod collisions;
 mod damage;
 mod faults;
+mod forgeries;
 mod forms;
 mod hostile;
 mod lengths;

@@ -14,8 +14,7 @@ type Answer = Result<String, PasetoError>;
 /// Asks them.
 pub fn ask(run: &mut Run<'_>) -> Result<()> {
     ask_kinds::<Kinds>(run)?;
-    ask_verifying(run)?;
-    ask_bound(run)
+    ask_publics(run, &Keys::of(&SECRET))
 }
 
 /// The local token of a text.
@@ -62,21 +61,30 @@ impl Cases for Kinds {
     }
 
     fn ask_boxed(run: &mut Run<'_>) -> Result<()> {
-        let (alloc, text, own) = (run.alloc, run.text, Some(footer()));
-        let first = seal::<V1>(alloc, text, footer())?;
-        let third = seal::<V3>(alloc, text, footer())?;
-        let fourth = seal::<V4>(alloc, text, footer())?;
+        let (alloc, own) = (run.alloc, Some(footer()));
+        ask_decrypting::<V1, _>(
+            run,
+            "v1.local",
+            |token, key| Paseto::<V1, Local>::try_decrypt(alloc, token, key, own),
+        )?;
+        ask_decrypting::<V3, _>(
+            run,
+            "v3.local",
+            |token, key| Paseto::<V3, Local>::try_decrypt(alloc, token, key, own, None),
+        )?;
+        ask_decrypting::<V4, _>(
+            run,
+            "v4.local",
+            |token, key| Paseto::<V4, Local>::try_decrypt(alloc, token, key, own, None),
+        )?;
+        let (text, key) = (run.text, symmetric_key());
         let boxed = seal_boxed(alloc, text, footer())?;
+        let other = seal_boxed(alloc, "another text", footer())?;
         calls! { run;
-            "Paseto::try_decrypt of v1.local"
-                => Paseto::<V1, Local>::try_decrypt(alloc, first.as_str(), &symmetric_key(), own);
-            "Paseto::try_decrypt of v3.local"
-                => Paseto::<V3, Local>::try_decrypt(alloc, third.as_str(), &symmetric_key(), own, None);
-            "Paseto::try_decrypt of v4.local"
-                => Paseto::<V4, Local>::try_decrypt(alloc, fourth.as_str(), &symmetric_key(), own, None);
             "Paseto::try_encrypt of v2.local" => seal_boxed(alloc, text, footer());
             "Paseto::try_decrypt of v2.local"
-                => Paseto::<V2, Local>::try_decrypt(alloc, &PlainBox, boxed.as_str(), &symmetric_key(), own);
+                => Paseto::<V2, Local>::try_decrypt(alloc, &PlainBox, boxed.as_str(), &key, own);
+            "Paseto::forgery of v2.local" => forged_box(alloc, &key, other.as_str(), boxed.as_str());
         }
     }
 
@@ -84,10 +92,13 @@ impl Cases for Kinds {
         let (alloc, text) = (run.alloc, run.text);
         let (paseto, key) = (token_of::<V, Public>(text), V::private_key(keys));
         let (token, public) = (sign::<V>(alloc, text, footer())?, V::public_key(keys)?);
+        let other = sign::<V>(alloc, "another text", footer())?;
         calls! { run, kind;
             "Signs::sign of {}" => V::sign(alloc, &mut Lenient, &key, Payload::from(text), Some(footer()), None);
             "Paseto::try_sign of {}" => paseto.try_sign(alloc, &mut Lenient, &key);
             "Verifies::verify of {}" => V::verify(alloc, &Lenient, token.as_str(), &public, Some(footer()), None);
+            "Paseto::signature_forgery of {}"
+                => forged_signature(alloc, &public, other.as_str(), token.as_str());
         }
     }
 }
@@ -102,7 +113,64 @@ fn ask_opening<V: LocalVersion>(run: &mut Run<'_>, kind: &str) -> Result<()> {
         "LocalVersion::open of {}" => V::open(alloc, token, &key, own, None);
         "LocalVersion::open of {} under another key, refused" => V::open(alloc, token, &other, own, None);
         "Paseto::tag_collision of {}" => collision(alloc, &key, token, second);
+        "Paseto::forgery of {}" => forged_tag(alloc, &key, second, token);
     }
+}
+
+fn opening_of<'a, V: VersionTrait>(
+    key: &'a PasetoSymmetricKey<V, Local>,
+    token: &'a str,
+) -> Opening<'a, V> {
+    Opening {
+        key,
+        token,
+        footer: Some(footer()),
+        assertion: None,
+    }
+}
+
+// The tag of a token where another one was issued.
+fn forged_tag<V: LocalVersion>(
+    alloc: Global,
+    key: &PasetoSymmetricKey<V, Local>,
+    issued: &str,
+    token: &str,
+) -> Result<Option<Vec<u8>>, PasetoError> {
+    let (issued, token) = ([opening_of(key, issued)], opening_of(key, token));
+    let found = Paseto::<V, Local>::forgery(alloc, &issued, token)?;
+    Ok(found.map(|forgery| forgery.tag))
+}
+
+// The same of version 2: the sealing by the box.
+fn forged_box(
+    alloc: Global,
+    key: &PasetoSymmetricKey<V2, Local>,
+    issued: &str,
+    token: &str,
+) -> Result<Option<Vec<u8>>, PasetoError> {
+    let (issued, token) = ([opening_of(key, issued)], opening_of(key, token));
+    let found = Paseto::<V2, Local>::forgery(alloc, &PlainBox, &issued, token)?;
+    Ok(found.map(|forgery| forgery.sealing))
+}
+
+fn signed_token(token: &str) -> SignedToken<'_> {
+    SignedToken {
+        token,
+        footer: Some(footer()),
+        assertion: None,
+    }
+}
+
+// The signature of a token where another one was issued.
+fn forged_signature<V: Signed>(
+    alloc: Global,
+    key: &PasetoAsymmetricPublicKey<'_, V, Public>,
+    issued: &str,
+    token: &str,
+) -> Result<Option<Vec<u8>>, PasetoError> {
+    let (issued, token) = ([signed_token(issued)], signed_token(token));
+    let found = Paseto::<V, Public>::signature_forgery(alloc, &Lenient, key, &issued, token)?;
+    Ok(found.map(|forgery| forgery.signature))
 }
 
 // What is found among the first token, the second and the first again.
@@ -112,36 +180,54 @@ fn collision<'a, V: LocalVersion>(
     first: &'a str,
     second: &'a str,
 ) -> Result<Option<Vec<u8>>, PasetoError> {
-    let openings = [first, second, first].map(|token| Opening {
-        key,
-        token,
-        footer: Some(footer()),
-        assertion: None,
-    });
+    let openings = [first, second, first].map(|token| opening_of(key, token));
     let found = Paseto::<V, Local>::tag_collision(alloc, &openings)?;
     Ok(found.map(|collision| collision.tag))
 }
 
-fn ask_verifying(run: &mut Run<'_>) -> Result<()> {
-    let (alloc, text, keys, own) = (run.alloc, run.text, Keys::of(&SECRET), Some(footer()));
-    let (first, first_key) = (sign::<V1>(alloc, text, footer())?, V1::public_key(&keys)?);
-    let (second, second_key) = (sign::<V2>(alloc, text, footer())?, V2::public_key(&keys)?);
-    calls! { run;
-        "Paseto::try_verify of v1.public"
-            => Paseto::<V1, Public>::try_verify(alloc, &Lenient, first.as_str(), &first_key, own);
-        "Paseto::try_verify of v2.public"
-            => Paseto::<V2, Public>::try_verify(alloc, &Lenient, second.as_str(), &second_key, own);
-    }
+// Asks a version for what its token was made of, which it opens so.
+fn ask_decrypting<V: LocalVersion, F>(run: &mut Run<'_>, kind: &str, opened: F) -> Result<()>
+where
+    F: Copy + FnOnce(&str, &PasetoSymmetricKey<V, Local>) -> Answer,
+    requires { F.IsAlwaysCallable opened }
+{
+    let key = symmetric_key();
+    let token = seal::<V>(run.alloc, run.text, footer())?;
+    calls! { run, kind; "Paseto::try_decrypt of {}" => opened(token.as_str(), &key); }
 }
 
-fn ask_bound(run: &mut Run<'_>) -> Result<()> {
-    let (alloc, text, keys, own) = (run.alloc, run.text, Keys::of(&SECRET), Some(footer()));
-    let (third, third_key) = (sign::<V3>(alloc, text, footer())?, V3::public_key(&keys)?);
-    let (fourth, fourth_key) = (sign::<V4>(alloc, text, footer())?, V4::public_key(&keys)?);
-    calls! { run;
-        "Paseto::try_verify of v3.public"
-            => Paseto::<V3, Public>::try_verify(alloc, &Lenient, third.as_str(), &third_key, own, None);
-        "Paseto::try_verify of v4.public"
-            => Paseto::<V4, Public>::try_verify(alloc, &Lenient, fourth.as_str(), &fourth_key, own, None);
-    }
+fn ask_publics(run: &mut Run<'_>, keys: &Keys) -> Result<()> {
+    let (alloc, own) = (run.alloc, Some(footer()));
+    let (first, second) = (V1::public_key(keys)?, V2::public_key(keys)?);
+    ask_verifying::<V1, _>(
+        run,
+        "v1.public",
+        |token| Paseto::<V1, Public>::try_verify(alloc, &Lenient, token, &first, own),
+    )?;
+    ask_verifying::<V2, _>(
+        run,
+        "v2.public",
+        |token| Paseto::<V2, Public>::try_verify(alloc, &Lenient, token, &second, own),
+    )?;
+    let (third, fourth) = (V3::public_key(keys)?, V4::public_key(keys)?);
+    ask_verifying::<V3, _>(
+        run,
+        "v3.public",
+        |token| Paseto::<V3, Public>::try_verify(alloc, &Lenient, token, &third, own, None),
+    )?;
+    ask_verifying::<V4, _>(
+        run,
+        "v4.public",
+        |token| Paseto::<V4, Public>::try_verify(alloc, &Lenient, token, &fourth, own, None),
+    )
+}
+
+// Asks for what a version's token says, which is verified so.
+fn ask_verifying<V: Signed, F>(run: &mut Run<'_>, kind: &str, verified: F) -> Result<()>
+where
+    F: Copy + FnOnce(&str) -> Answer,
+    requires { F.IsAlwaysCallable verified }
+{
+    let token = sign::<V>(run.alloc, run.text, footer())?;
+    calls! { run, kind; "Paseto::try_verify of {}" => verified(token.as_str()); }
 }

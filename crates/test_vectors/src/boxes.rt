@@ -6,6 +6,7 @@ mod refusals;
 mod sealings;
 mod tags;
 mod toys;
+mod two_keys;
 
 // The key and the nonce of the draft.
 const KEY: &str = "808182838485868788898a8b8c8d8e8f909192939495969798999a9b9c9d9e9f";

@@ -18,6 +18,8 @@ mod errors;
 #[cfg(test)]
 mod expect;
 #[cfg(test)]
+mod forgeries;
+#[cfg(test)]
 mod hexadecimal;
 #[cfg(test)]
 mod key_files;

@@ -1,6 +1,6 @@
 //! Local tokens of version 2: a nonce and a sealed box (PASETO specification, "Version 2").
 
-ghost use Rattle.std.specs.Prelude.{◌≡◌, ◌≤◌, ◌⊎◌, None, Some, IfOk, IfErr, is_some, length, option_map};
+ghost use Rattle.std.specs.Prelude.{◌≡◌, ◌<◌, ◌^◌, ◌≤◌, ◌⊎◌, None, Some, IfOk, IfErr, is_some, length, option_map};
 ghost use Rattle.std.specs.String.{string_bytes};
 ghost use Rattle.rusty_paseto_parts.specs.Error.{IsMemory};
 ghost use Rattle.rusty_paseto_core.specs.Context.{binding_of, bound};
@@ -19,7 +19,7 @@ use std::alloc::Global;
 const HEADER: &str = "v2.local.";
 
 /// How many bytes a token's nonce has.
-const NONCE_LENGTH: usize = 24;
+pub(crate) const NONCE_LENGTH: usize = 24;
 
 /// The token of a text, with the footer's section where a footer is given.
 #[tactic(auto, unfolding(rusty_paseto_parts::specs::Header::header_text))]
@@ -73,14 +73,15 @@ fn boxed_payload<B: SealedBox>(
     Ok(payload)
 }
 
-// What is bound to the text, and not encrypted: the header, the nonce and the footer.
+/// What is bound to the text, and not encrypted: the header, the nonce and the footer.
 #[tactic(auto, unfolding(rusty_paseto_parts::specs::Header::header_text))]
-fn associated(
+pub(crate) fn associated(
     alloc: Global,
     nonce: &[u8; 24],
     context: &Context<'_>,
 ) -> Result<PreAuthenticationEncoding, PasetoError>
     ensures ok { IfOk result (λ encoding. encoding ≡ associated nonce.now context.now.footer) }
+    ensures fits { IfOk result (λ encoding. length encoding < 2 ^ 64) }
     ensures err { IfErr result IsMemory }
 {
     PreAuthenticationEncoding::parse(alloc, &[HEADER.as_bytes(), nonce, context.footer()])
@@ -100,8 +101,8 @@ pub(crate) fn open<B: SealedBox>(
     open_payload(alloc, sealed_box, &payload, key, context)
 }
 
-// The text that a payload holds. A payload with no room for a nonce is refused before the box is asked.
-fn open_payload<B: SealedBox>(
+/// The text that a payload holds. A payload with no room for a nonce is refused before the box is asked.
+pub(crate) fn open_payload<B: SealedBox>(
     alloc: Global,
     sealed_box: &B,
     payload: &[u8],

@@ -48,10 +48,10 @@ pub struct TagCollision {
 
 /// What is kept of a token that was opened.
 #[derive(Drop)]
-struct Opened<'a, V> {
+pub(crate) struct Opened<'a, V> {
     opening: Opening<'a, V>,
     /// The token's nonce, followed by its tag.
-    nonce_and_tag: Vec<u8>,
+    pub(crate) nonce_and_tag: Vec<u8>,
     text: String,
 }
 
@@ -140,8 +140,8 @@ fn open_all<'a, V: LocalSuite>(
     Ok(opened)
 }
 
-// Opens a token, and keeps its nonce, its tag and its text.
-fn open_one<'a, V: LocalSuite>(
+/// Opens a token, and keeps its nonce, its tag and its text.
+pub(crate) fn open_one<'a, V: LocalSuite>(
     alloc: Global,
     opening: Opening<'a, V>,
 ) -> Result<Opened<'a, V>, PasetoError>
@@ -200,8 +200,8 @@ fn find_pair<'a, V: LocalSuite>(
     Ok(None)
 }
 
-// Whether the tags of two tokens cover the same.
-fn cover_the_same<V: LocalSuite>(first: &Opened<'_, V>, second: &Opened<'_, V>) -> bool
+/// Whether the tags of two tokens cover the same.
+pub(crate) fn cover_the_same<V: LocalSuite>(first: &Opened<'_, V>, second: &Opened<'_, V>) -> bool
     ensures { IsTrue result ↔ (covered_in V.design first.now ≡ covered_in V.design second.now) }
 {
     let one = Context::new(first.opening.footer, first.opening.assertion);
@@ -235,8 +235,8 @@ fn collision_of<V: LocalSuite>(
     })
 }
 
-// What the tag of a token is made of.
-fn encoding_of<V: LocalSuite>(
+/// What the tag of a token is made of.
+pub(crate) fn encoding_of<V: LocalSuite>(
     alloc: Global,
     opened: &Opened<'_, V>,
 ) -> Result<PreAuthenticationEncoding, PasetoError>

@@ -2,13 +2,13 @@
 
 use crate::builders::payloads::put;
 use crate::expect::{expect_text, expect_that};
-use crate::kinds::{ASSERTED_KINDS, Binding, KINDS, Kind, SECRET, symmetric_key};
+use crate::kinds::{ASSERTED_KINDS, Binding, ENDLESS_KINDS, KINDS, Kind, SECRET, symmetric_key};
 use rusty_paseto_claims::{AudienceClaim, CustomClaim};
 use rusty_paseto_core::{
     Footer, ImplicitAssertion, ImplicitAssertionCapable, Local, Public, PurposeTrait, Signs, V1,
     V2, V3, V4, VersionTrait,
 };
-use rusty_paseto_generic::{GenericBuilder, GenericBuilderError, GenericLocalVersion};
+use rusty_paseto_generic::{GenericBuilder, GenericLocalVersion};
 use std::alloc::Global;
 use std::process::Abort;
 use test_toys::ToyBox;
@@ -18,10 +18,8 @@ use test_toys::long::{LENGTHS, text_of};
 
 const PAYLOAD: &str = "{\"aud\":\"customers\",\"seats\":4}";
 
-type Token = Result<String, GenericBuilderError>;
-
-// A builder of a token for an audience, with the binding's footer.
-fn builder_of<'a, V: VersionTrait, P: PurposeTrait>(
+/// A builder of a token for an audience, with the binding's footer.
+pub(crate) fn builder_of<'a, V: VersionTrait, P: PurposeTrait>(
     rt: &impl Abort,
     alloc: Global,
     audience: &str,
@@ -51,20 +49,33 @@ fn asserted_of<'a, V: ImplicitAssertionCapable, P: PurposeTrait>(
     builder
 }
 
-fn sealed<V: GenericLocalVersion>(builder: GenericBuilder<'_, V, Local>) -> Token {
-    builder.try_encrypt(&mut Zeros, &symmetric_key(&SECRET))
+// The tokens under the secret's keys and a nonce of zeros.
+fn sealed<V: GenericLocalVersion>(
+    rt: &impl Abort,
+    builder: GenericBuilder<'_, V, Local>,
+) -> String {
+    let answer = builder.try_encrypt(&mut Zeros, &symmetric_key(&SECRET));
+    drop(builder);
+    answer.expect(rt, "a token")
 }
 
-fn boxed(builder: GenericBuilder<'_, V2, Local>) -> Token {
-    builder.try_encrypt(&ToyBox, &mut Zeros, &symmetric_key(&SECRET))
+fn boxed(rt: &impl Abort, builder: GenericBuilder<'_, V2, Local>) -> String {
+    let answer = builder.try_encrypt(&ToyBox, &mut Zeros, &symmetric_key(&SECRET));
+    drop(builder);
+    answer.expect(rt, "a token")
 }
 
-fn signed<V: ToyVersion + Signs<V::Toy>>(builder: GenericBuilder<'_, V, Public>) -> Token {
+fn signed<V: ToyVersion + Signs<V::Toy>>(
+    rt: &impl Abort,
+    builder: GenericBuilder<'_, V, Public>,
+) -> String {
     let keys = Keys::of(&SECRET);
-    builder.try_sign(&mut V::toy(), &V::private_key(&keys))
+    let answer = builder.try_sign(&mut V::toy(), &V::private_key(&keys));
+    drop(builder);
+    answer.expect(rt, "a token")
 }
 
-// The token for an audience, under the secret's keys and a nonce of zeros.
+// The token for an audience.
 fn token_of(
     rt: &impl Abort,
     kind: Kind,
@@ -72,17 +83,16 @@ fn token_of(
     audience: &str,
     binding: Binding<'_>,
 ) -> String {
-    let answer = match kind {
-        Kind::V1Local => sealed::<V1>(builder_of(rt, alloc, audience, binding)),
-        Kind::V2Local => boxed(builder_of(rt, alloc, audience, binding)),
-        Kind::V3Local => sealed::<V3>(asserted_of(rt, alloc, audience, binding)),
-        Kind::V4Local => sealed::<V4>(asserted_of(rt, alloc, audience, binding)),
-        Kind::V1Public => signed::<V1>(builder_of(rt, alloc, audience, binding)),
-        Kind::V2Public => signed::<V2>(builder_of(rt, alloc, audience, binding)),
-        Kind::V3Public => signed::<V3>(asserted_of(rt, alloc, audience, binding)),
-        Kind::V4Public => signed::<V4>(asserted_of(rt, alloc, audience, binding)),
-    };
-    answer.expect(rt, "a token")
+    match kind {
+        Kind::V1Local => sealed::<V1>(rt, builder_of(rt, alloc, audience, binding)),
+        Kind::V2Local => boxed(rt, builder_of(rt, alloc, audience, binding)),
+        Kind::V3Local => sealed::<V3>(rt, asserted_of(rt, alloc, audience, binding)),
+        Kind::V4Local => sealed::<V4>(rt, asserted_of(rt, alloc, audience, binding)),
+        Kind::V1Public => signed::<V1>(rt, builder_of(rt, alloc, audience, binding)),
+        Kind::V2Public => signed::<V2>(rt, builder_of(rt, alloc, audience, binding)),
+        Kind::V3Public => signed::<V3>(rt, asserted_of(rt, alloc, audience, binding)),
+        Kind::V4Public => signed::<V4>(rt, asserted_of(rt, alloc, audience, binding)),
+    }
 }
 
 const FOOTERS: &[Option<&str>] = &[None, Some(""), Some("key-1")];
@@ -93,8 +103,7 @@ fn check_token(rt: &impl Abort, alloc: Global, kind: Kind, binding: Binding<'_>)
     let wanted = kind.token(rt, alloc, PAYLOAD, binding);
     let is_same = token.as_str() == wanted.as_str();
     expect_that(rt, is_same != (kind == Kind::V2Local), &kind);
-    let text = kind.read(alloc, token.as_str(), binding);
-    expect_text(rt, text.expect(rt, "a text").as_str(), PAYLOAD);
+    kind.check_text(rt, alloc, token.as_str(), binding, PAYLOAD);
 }
 
 #[test]
@@ -130,11 +139,10 @@ fn with_an_assertion(rt: HostRuntime) {
 // A token for the audience has it in its payload.
 fn check_audience(rt: &impl Abort, alloc: Global, kind: Kind, audience: &str) {
     let payload = format!(in alloc; "{{\"aud\":\"{audience}\",\"seats\":4}}");
-    let payload = payload.expect(rt, "memory");
     let token = token_of(rt, kind, alloc, audience, Binding::NONE);
     let text = kind.read(alloc, token.as_str(), Binding::NONE);
-    let text = text.expect(rt, "a text");
-    expect_that(rt, text.as_str() == payload.as_str(), &kind);
+    let is_same = text.expect(rt, "a text").as_str() == payload.expect(rt, "memory").as_str();
+    expect_that(rt, is_same, &kind);
 }
 
 // Version 2 is left out, since the toy box has no sealing of long messages.
@@ -143,10 +151,8 @@ fn of_long_claims(rt: HostRuntime) {
     let alloc = rt.alloc();
     'lengths: for &letters in LENGTHS {
         let audience = text_of(alloc, letters).expect(&rt, "memory");
-        'kinds: for &kind in KINDS {
-            if kind != Kind::V2Local {
-                check_audience(&rt, alloc, kind, audience.as_str());
-            }
+        'kinds: for &kind in ENDLESS_KINDS {
+            check_audience(&rt, alloc, kind, audience.as_str());
         }
     }
 }

@@ -1,14 +1,15 @@
 //! Local tokens of builders.
 
+use crate::builders::every_kind::builder_of;
 use crate::builders::payloads::put;
-use crate::expect::{expect_text, expect_that};
+use crate::expect::{expect_outcome, expect_same, expect_text, expect_that};
 use crate::kinds::{Binding, Kind, SECRET, symmetric_key};
-use rusty_paseto_claims::{AudienceClaim, CustomClaim};
+use rusty_paseto_claims::AudienceClaim;
 use rusty_paseto_core::{
-    Footer, Key, Local, Paseto, PasetoError, PasetoNonce, PasetoSymmetricKey, Payload, V1, V2, V3,
-    V4, VersionTrait,
+    Footer, Key, Local, Paseto, PasetoNonce, PasetoSymmetricKey, Payload, V1, V2, V3, V4,
+    VersionTrait,
 };
-use rusty_paseto_generic::{GenericBuilder, GenericBuilderError, GenericLocalVersion};
+use rusty_paseto_generic::{GenericBuilder, GenericLocalVersion};
 use std::alloc::Global;
 use std::process::Abort;
 use test_toys::ToyBox;
@@ -21,27 +22,15 @@ const KEY: [u8; 32] = *b"wubbalubbadubdubwubbalubbadubdub";
 const PAYLOAD: &str = "{\"aud\":\"customers\",\"seats\":4}";
 
 // A builder of the payload, with a footer.
-fn builder_of<V: VersionTrait>(
+fn payload_builder<V: VersionTrait>(
     rt: &impl Abort,
     alloc: Global,
 ) -> GenericBuilder<'static, V, Local> {
-    let mut builder = GenericBuilder::<V, Local>::new(alloc);
-    let seats = CustomClaim::try_from_str(alloc, "seats", 4u64).expect(rt, "a claim");
-    put(rt, &mut builder, seats);
-    put(rt, &mut builder, AudienceClaim::from("customers"));
-    builder.set_footer(Footer::from("key-1"));
-    builder
+    builder_of(rt, alloc, "customers", Binding::of_footer(Some("key-1")))
 }
 
-// Whether the generator failed.
-fn is_of_generator(answer: &Result<String, GenericBuilderError>) -> bool {
-    matches!(
-        answer,
-        Err(GenericBuilderError::CipherError {
-            source: PasetoError::Cipher
-        })
-    )
-}
+// That the generator failed.
+const NO_BYTES: &str = "CipherError { source: Cipher }";
 
 // The core's token of the payload, with the builder's footer, under the generator's 32 bytes.
 fn core_token<V: GenericLocalVersion>(
@@ -70,27 +59,26 @@ fn check_token<V: GenericLocalVersion>(
 // A generator that fails is asked once.
 fn check_failing<V: GenericLocalVersion>(
     rt: &impl Abort,
+    alloc: Global,
     builder: &GenericBuilder<'_, V, Local>,
     key: &PasetoSymmetricKey<V, Local>,
 ) {
     let mut failing = Failing { asked: 0 };
-    expect_that(
-        rt,
-        is_of_generator(&builder.try_encrypt(&mut failing, key)),
-        "the answer",
-    );
-    expect_that(rt, failing.asked == 1, "the answer");
+    let answer = builder.try_encrypt(&mut failing, key);
+    expect_outcome(rt, alloc, answer, NO_BYTES, "the builder");
+    expect_same(rt, failing.asked, 1, "how often it was asked");
 }
 
 // The token is the core's, twice, and once more after a generator that failed.
 fn check<V: GenericLocalVersion>(rt: &impl Abort, alloc: Global) {
     let key = PasetoSymmetricKey::<V, Local>::from(Key::from(KEY));
-    let builder = builder_of::<V>(rt, alloc);
+    let builder = payload_builder::<V>(rt, alloc);
     let wanted = core_token::<V>(rt, alloc, &key);
     check_token(rt, &builder, &key, wanted.as_str());
     check_token(rt, &builder, &key, wanted.as_str());
-    check_failing(rt, &builder, &key);
+    check_failing(rt, alloc, &builder, &key);
     check_token(rt, &builder, &key, wanted.as_str());
+    drop(builder);
 }
 
 #[test]
@@ -126,26 +114,25 @@ fn check_boxed_token(
 
 fn check_failing_box(
     rt: &impl Abort,
+    alloc: Global,
     builder: &GenericBuilder<'_, V2, Local>,
     key: &PasetoSymmetricKey<V2, Local>,
 ) {
     let mut failing = Failing { asked: 0 };
-    expect_that(
-        rt,
-        is_of_generator(&builder.try_encrypt(&ToyBox, &mut failing, key)),
-        "the answer",
-    );
-    expect_that(rt, failing.asked == 1, "the answer");
+    let answer = builder.try_encrypt(&ToyBox, &mut failing, key);
+    expect_outcome(rt, alloc, answer, NO_BYTES, "the builder");
+    expect_same(rt, failing.asked, 1, "how often it was asked");
 }
 
 #[test]
 fn of_version_2(rt: HostRuntime) {
     let key = PasetoSymmetricKey::<V2, Local>::from(Key::from(KEY));
-    let builder = builder_of::<V2>(&rt, rt.alloc());
+    let builder = payload_builder::<V2>(&rt, rt.alloc());
     let wanted = boxed_token(&rt, rt.alloc(), &key);
     check_boxed_token(&rt, &builder, &key, wanted.as_str());
-    check_failing_box(&rt, &builder, &key);
+    check_failing_box(&rt, rt.alloc(), &builder, &key);
     check_boxed_token(&rt, &builder, &key, wanted.as_str());
+    drop(builder);
 }
 
 // The toy box has no sealing of more than 4,096 bytes.
@@ -153,23 +140,20 @@ fn of_version_2(rt: HostRuntime) {
 fn a_payload_that_the_box_does_not_seal(rt: HostRuntime) {
     let alloc = rt.alloc();
     let key = PasetoSymmetricKey::<V2, Local>::from(Key::from(KEY));
-    let mut builder = builder_of::<V2>(&rt, alloc);
+    let mut builder = payload_builder::<V2>(&rt, alloc);
     let long = text_of(alloc, 5000).expect(&rt, "memory");
     put(&rt, &mut builder, AudienceClaim::from(long.as_str()));
     let answer = builder.try_encrypt(&ToyBox, &mut Zeros, &key);
-    let told = matches!(
-        &answer,
-        Err(GenericBuilderError::CipherError {
-            source: PasetoError::ChaChaCipherError
-        })
-    );
-    expect_that(&rt, told, "the answer");
+    drop(builder);
+    let wanted = "CipherError { source: ChaChaCipherError }";
+    expect_outcome(&rt, alloc, answer, wanted, "the box");
 }
 
 #[test]
 fn of_no_claims(rt: HostRuntime) {
     let builder = GenericBuilder::<V4, Local>::default(rt.alloc());
     let answer = builder.try_encrypt(&mut Zeros, &symmetric_key(&SECRET));
+    drop(builder);
     let token = answer.expect(&rt, "a token");
     expect_that(&rt, token.len() == 97, "the answer");
     let wanted = Kind::V4Local.token(&rt, rt.alloc(), "{}", Binding::NONE);

@@ -91,5 +91,8 @@ fn read_back(rt: HostRuntime) {
             rusty_paseto_claims::same_value(&found, &wanted),
             &(index, text),
         );
+        drop(found);
+        drop(builder);
+        drop(wanted);
     }
 }

@@ -52,14 +52,19 @@ fn check_custom<T: ClaimValue + Drop>(
     let claim = CustomClaim::try_from_str(alloc, key, value).expect(rt, "a claim");
     put(rt, &mut builder, claim);
     check(rt, &builder, payload);
+    drop(builder);
 }
 
-// The payload of one entry of JSON.
+// The payload of one entry of JSON, which is stored twice.
 fn check_entry(rt: &impl Abort, alloc: Global, key: &str, json: &str, payload: &str) {
     let mut builder = Builder::new(alloc);
     let more = values_of(rt, alloc, &[(key, json)]);
     builder.extend_claims(more).expect(rt, "claims");
     check(rt, &builder, payload);
+    let more = values_of(rt, alloc, &[(key, json)]);
+    builder.put_claims(more).expect(rt, "claims");
+    check(rt, &builder, payload);
+    drop(builder);
 }
 
 #[test]
@@ -72,6 +77,7 @@ fn keys_are_in_byte_order(rt: HostRuntime) {
     check(&rt, &builder, "{}");
     set_both(&rt, &mut builder, &audience, &seats);
     check(&rt, &builder, payload);
+    drop(builder);
     let mut builder = Builder::default(alloc);
     set_both(&rt, &mut builder, &seats, &audience);
     check(&rt, &builder, payload);
@@ -84,46 +90,37 @@ fn keys_are_in_byte_order(rt: HostRuntime) {
         .set_claim(&audience)
         .expect(&rt, "a claim");
     check(&rt, &builder, "{\"aud\":\"customers\"}");
-}
-
-#[test]
-fn a_key_that_is_there_gets_the_new_value(rt: HostRuntime) {
-    let mut builder = Builder::new(rt.alloc());
-    put(&rt, &mut builder, AudienceClaim::from("customers"));
+    // A key that is there gets the new value.
     put(&rt, &mut builder, AudienceClaim::from("others"));
     check(&rt, &builder, "{\"aud\":\"others\"}");
+    drop(builder);
 }
 
-#[test]
-fn unwrapped_once(rt: HostRuntime) {
-    let alloc = rt.alloc();
-    let value = value_of(&rt, alloc, "{\"a\":{\"a\":1}}");
-    check_custom(&rt, alloc, "a", value, "{\"a\":{\"a\":{\"a\":1}}}");
-    check_entry(&rt, alloc, "a", "{\"a\":1}", "{\"a\":{\"a\":1}}");
-}
-
-#[test]
-fn the_empty_key(rt: HostRuntime) {
-    let alloc = rt.alloc();
-    check_custom(&rt, alloc, "", 1u64, "{}");
-    let fraction = value_of(&rt, alloc, "3.5");
-    check_custom(&rt, alloc, "", fraction, "{}");
-    let mut builder = Builder::new(alloc);
-    let more = values_of(&rt, alloc, &[("", "1")]);
-    builder.put_claims(more).expect(&rt, "claims");
-    check(&rt, &builder, "{\"\":1}");
-}
-
+// A claim is unwrapped once, and one with the empty key is not written.
 #[test]
 fn of_each_kind_of_value(rt: HostRuntime) {
     let alloc = rt.alloc();
     check_custom(&rt, alloc, "i'm good tho", true, "{\"i'm good tho\":true}");
     check_custom(&rt, alloc, "n", u64::MAX, "{\"n\":18446744073709551615}");
     check_custom(&rt, alloc, "n", i64::MIN, "{\"n\":-9223372036854775808}");
+    let value = value_of(&rt, alloc, "{\"a\":{\"a\":1}}");
+    check_custom(&rt, alloc, "a", value, "{\"a\":{\"a\":{\"a\":1}}}");
+    check_custom(&rt, alloc, "", 1u64, "{}");
+    let fraction = value_of(&rt, alloc, "3.5");
+    check_custom(&rt, alloc, "", fraction, "{}");
 }
 
-// Any whole number is stored under `exp`, though a default parser refuses it.
+// An entry's key, its JSON, and the payload.
+const ENTRIES: &[(&str, &str, &str)] = &[
+    ("a", "{\"a\":1}", "{\"a\":{\"a\":1}}"),
+    ("", "1", "{\"\":1}"),
+    // Any whole number is stored under `exp`, though a default parser refuses it.
+    ("exp", "5", "{\"exp\":5}"),
+];
+
 #[test]
-fn an_expiration_that_is_a_number(rt: HostRuntime) {
-    check_entry(&rt, rt.alloc(), "exp", "5", "{\"exp\":5}");
+fn of_entries(rt: HostRuntime) {
+    'entries: for &(key, json, payload) in ENTRIES {
+        check_entry(&rt, rt.alloc(), key, json, payload);
+    }
 }

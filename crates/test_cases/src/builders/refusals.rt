@@ -5,11 +5,11 @@ ghost use Rattle.rusty_paseto_claims.specs.Error.{expired};
 ghost use Rattle.std.specs.Prelude.{[], codes};
 
 use crate::builders::payloads::{check, put};
-use crate::expect::expect_that;
+use crate::expect::{expect_outcome, expect_that};
 use crate::parsers::steps::{custom, values_of};
 use rusty_paseto_claims::{AudienceClaim, PasetoClaim, PasetoClaimError};
 use rusty_paseto_core::{Local, V4};
-use rusty_paseto_generic::{ClaimSetter, GenericBuilder, GenericBuilderError};
+use rusty_paseto_generic::{ClaimSetter, GenericBuilder};
 use serde_json::Value;
 use std::alloc::Global;
 use std::cell::Cell;
@@ -56,17 +56,8 @@ impl PasetoClaim for Keyless {
     }
 }
 
-// Whether the value under the key was refused for its numbers.
-fn is_unexpected(answer: &Result<(), GenericBuilderError>, key: &str) -> bool {
-    match answer {
-        Err(
-            GenericBuilderError::ClaimError {
-                source: PasetoClaimError::Unexpected(told),
-            },
-        ) => told.as_str() == key,
-        _ => false,
-    }
-}
+// That the value under the key `b` was refused for its numbers.
+const UNEXPECTED_B: &str = "ClaimError { source: Unexpected(\"b\") }";
 
 const CUSTOMERS: &str = "{\"aud\":\"customers\"}";
 
@@ -84,9 +75,11 @@ fn other_numbers(rt: HostRuntime) {
     let mut builder = builder_of_customers(&rt, rt.alloc());
     'texts: for &text in OTHER_NUMBERS {
         let answer = builder.put_claim(&custom(&rt, rt.alloc(), "n", text));
-        expect_that(&rt, is_unexpected(&answer, "n"), &text);
+        let wanted = "ClaimError { source: Unexpected(\"n\") }";
+        expect_outcome(&rt, rt.alloc(), answer, wanted, text);
     }
     check(&rt, &builder, CUSTOMERS);
+    drop(builder);
 }
 
 #[test]
@@ -94,8 +87,9 @@ fn all_values_or_none(rt: HostRuntime) {
     let mut builder = builder_of_customers(&rt, rt.alloc());
     let rows = &[("z", "1.5"), ("aud", "null"), ("b", "[2.5]"), ("a", "1")];
     let answer = builder.put_claims(values_of(&rt, rt.alloc(), rows));
-    expect_that(&rt, is_unexpected(&answer, "b"), "the answer");
+    expect_outcome(&rt, rt.alloc(), answer, UNEXPECTED_B, "put");
     check(&rt, &builder, CUSTOMERS);
+    drop(builder);
 }
 
 #[test]
@@ -104,22 +98,19 @@ fn extended_by_fractions(rt: HostRuntime) {
     let rows = &[("a", "1"), ("b", "3.5"), ("c", "4.5")];
     let more = values_of(&rt, rt.alloc(), rows);
     let answer = builder.extend_claims(more).map(drop);
-    expect_that(&rt, is_unexpected(&answer, "b"), "the answer");
+    expect_outcome(&rt, rt.alloc(), answer, UNEXPECTED_B, "extended");
     check(&rt, &builder, "{}");
+    drop(builder);
 }
 
 #[test]
 fn a_claims_own_fault(rt: HostRuntime) {
     let mut builder = Builder::new(rt.alloc());
     let answer = builder.put_claim(&Unwritten);
-    let told = matches!(
-        &answer,
-        Err(GenericBuilderError::ClaimError {
-            source: PasetoClaimError::Expired
-        })
-    );
-    expect_that(&rt, told, "the answer");
+    let wanted = "ClaimError { source: Expired }";
+    expect_outcome(&rt, rt.alloc(), answer, wanted, "the claim");
     check(&rt, &builder, "{}");
+    drop(builder);
 }
 
 #[test]
@@ -129,6 +120,8 @@ fn the_empty_key(rt: HostRuntime) {
         is_asked: Cell::new(false),
     };
     let answer = builder.put_claim(&claim);
-    expect_that(&rt, answer.is_ok() && !claim.is_asked.get(), "the answer");
+    expect_outcome(&rt, rt.alloc(), answer, "Ok", "the claim");
+    expect_that(&rt, !claim.is_asked.get(), "the claim");
     check(&rt, &builder, CUSTOMERS);
+    drop(builder);
 }

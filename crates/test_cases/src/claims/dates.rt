@@ -1,9 +1,23 @@
 //! The claims that are a date and time.
 
 use crate::claims::json;
-use crate::expect::{expect_text, expect_that};
+use crate::expect::{expect_same, expect_text, expect_that};
 use jiff::Timestamp;
-use rusty_paseto_claims::{ExpirationClaim, IssuedAtClaim, NotBeforeClaim, PasetoClaimError};
+use rusty_paseto_claims::{
+    DateClaim, ExpirationClaim, IssuedAtClaim, NotBeforeClaim, PasetoClaimError, ReservedKey,
+};
+use std::process::Abort;
+
+// The claim keeps the text, under its key.
+fn check_kept<K: ReservedKey>(
+    rt: &impl Abort,
+    claim: Result<DateClaim<K>, PasetoClaimError>,
+    key: &str,
+    text: &str,
+) {
+    let claim = claim.expect(rt, text);
+    expect_same(rt, claim.as_pair(), (key, text), "the claim");
+}
 
 #[test]
 fn kept_as_given(rt: HostRuntime) {
@@ -15,15 +29,14 @@ fn kept_as_given(rt: HostRuntime) {
         "1996-12-19T16:39:57-08:00",
         "1937-01-01T12:00:27.87+00:20",
     ] {
-        let claim = ExpirationClaim::try_from_str(alloc, text).expect(&rt, "a claim");
-        let (key, kept) = claim.as_pair();
-        expect_text(&rt, key, "exp");
-        expect_text(&rt, kept, text);
+        check_kept(&rt, ExpirationClaim::try_from_str(alloc, text), "exp", text);
         let owned = String::from_str(alloc, text).expect(&rt, "memory");
-        let claim = NotBeforeClaim::try_from_string(alloc, owned).expect(&rt, "a claim");
-        let (key, kept) = claim.as_pair();
-        expect_text(&rt, key, "nbf");
-        expect_text(&rt, kept, text);
+        check_kept(
+            &rt,
+            NotBeforeClaim::try_from_string(alloc, owned),
+            "nbf",
+            text,
+        );
     }
 }
 
@@ -50,7 +63,10 @@ fn of_moments(rt: HostRuntime) {
 
 /// Whether no instant was read of the text.
 pub(crate) fn is_no_date(answer: Result<(), PasetoClaimError>, text: &str) -> bool {
-    matches!(&answer, Err(PasetoClaimError::RFC3339Date(told)) if told.as_str() == text)
+    let is_named =
+        matches!(&answer, Err(PasetoClaimError::RFC3339Date(told)) if told.as_str() == text);
+    drop(answer);
+    is_named
 }
 
 #[test]
@@ -81,12 +97,22 @@ fn written_under_their_keys(rt: HostRuntime) {
     let claim = ExpirationClaim::try_from_str(alloc, text).expect(&rt, "a claim");
     let copy = claim.try_clone(alloc).expect(&rt, "a copy");
     let json = "{\"exp\":\"2050-01-01T00:00:00+00:00\"}";
-    json::check(&rt, alloc, &claim, "exp", json);
-    json::check(&rt, alloc, &copy, "exp", json);
-    let claim = IssuedAtClaim::default(alloc).expect(&rt, "a claim");
-    let json = "{\"iat\":\"2019-01-01T00:00:00+00:00\"}";
-    json::check(&rt, alloc, &claim, "iat", json);
-    let claim = NotBeforeClaim::default(alloc).expect(&rt, "a claim");
-    let json = "{\"nbf\":\"2019-01-01T00:00:00+00:00\"}";
-    json::check(&rt, alloc, &claim, "nbf", json);
+    json::check(&rt, alloc, claim, "exp", json);
+    json::check(&rt, alloc, copy, "exp", json);
+    let issued = IssuedAtClaim::default(alloc).expect(&rt, "a claim");
+    json::check(
+        &rt,
+        alloc,
+        issued,
+        "iat",
+        "{\"iat\":\"2019-01-01T00:00:00+00:00\"}",
+    );
+    let first = NotBeforeClaim::default(alloc).expect(&rt, "a claim");
+    json::check(
+        &rt,
+        alloc,
+        first,
+        "nbf",
+        "{\"nbf\":\"2019-01-01T00:00:00+00:00\"}",
+    );
 }

@@ -1,6 +1,6 @@
 //! The texts of claims' errors. Those of checks that fail are among the rows of parsers.
 
-use crate::expect::expect_shown;
+use crate::expect::expect_error;
 use rusty_paseto_claims::PasetoClaimError;
 use std::alloc::{AllocError, Global};
 use std::process::Abort;
@@ -9,26 +9,22 @@ fn owned(rt: &impl Abort, alloc: Global, text: &str) -> String {
     String::from_str(alloc, text).expect(rt, "memory")
 }
 
-fn check(rt: &impl Abort, alloc: Global, error: PasetoClaimError, text: &str) {
-    expect_shown(rt, alloc, &error, text);
-}
-
 #[test]
 fn of_dates_keys_and_memory(rt: HostRuntime) {
     let alloc = rt.alloc();
     let error = PasetoClaimError::UseBeforeAvailable(owned(&rt, alloc, "2024-01-01T00:00:00Z"));
     let text = "The token cannot be used before 2024-01-01T00:00:00Z";
-    check(&rt, alloc, error, text);
+    expect_error(&rt, alloc, error, text);
     let error = PasetoClaimError::RFC3339Date(owned(&rt, alloc, "hello"));
     let text = "The value hello is a malformed RFC3339 date";
-    check(&rt, alloc, error, text);
+    expect_error(&rt, alloc, error, text);
     let error = PasetoClaimError::Reserved(owned(&rt, alloc, "exp"));
     let text =
         "The key exp is a reserved for use within PASETO.  To set a reserved claim, use the strong type: e.g - ExpirationClaimClaim";
-    check(&rt, alloc, error, text);
+    expect_error(&rt, alloc, error, text);
     let error = PasetoClaimError::DuplicateTopLevelPayloadClaim(owned(&rt, alloc, "iat"));
     let text = "The claim 'iat' appears more than once in the top level payload json";
-    check(&rt, alloc, error, text);
+    expect_error(&rt, alloc, error, text);
     let error = PasetoClaimError::from(AllocError);
-    check(&rt, alloc, error, "No memory was found");
+    expect_error(&rt, alloc, error, "No memory was found");
 }

@@ -1,7 +1,7 @@
 //! Keys of bytes that a generator gives.
 
-use crate::expect::{expect_bytes, expect_same, expect_that};
-use rusty_paseto_core::{Key, Local, PasetoError, PasetoSymmetricKey, V4};
+use crate::expect::{expect_bytes, expect_outcome, expect_same};
+use rusty_paseto_core::{Key, Local, PasetoSymmetricKey, V4};
 use test_toys::generators::{Counting, Failing};
 
 #[test]
@@ -23,16 +23,8 @@ fn of_the_generators_bytes(rt: HostRuntime) {
 fn refused_where_the_generator_fails(rt: HostRuntime) {
     let mut generator = Failing { asked: 0 };
     let answer = Key::<32>::try_new_random(&mut generator).map(drop);
-    expect_that(
-        &rt,
-        matches!(&answer, Err(PasetoError::Cipher)),
-        "the answer",
-    );
-    expect_same(&rt, &generator.asked, &1, "the answer");
+    expect_outcome(&rt, rt.alloc(), answer, "Cipher", "a key");
+    expect_same(&rt, &generator.asked, &1, "how often it was asked");
     let answer = PasetoSymmetricKey::<V4, Local>::try_new_random(&mut generator).map(drop);
-    expect_that(
-        &rt,
-        matches!(&answer, Err(PasetoError::Cipher)),
-        "the answer",
-    );
+    expect_outcome(&rt, rt.alloc(), answer, "Cipher", "a symmetric key");
 }

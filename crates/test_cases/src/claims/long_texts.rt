@@ -25,11 +25,14 @@ fn are_written(rt: HostRuntime) {
         let text = text.as_str();
         let json = AudienceClaim::from(text).to_json(alloc).expect(&rt, "JSON");
         expect_same(&rt, &length_of(&rt, alloc, &json), &audience, "the answer");
+        drop(json);
         let claim = CustomClaim::try_from_str(alloc, text, text).expect(&rt, "a claim");
         let json = claim.to_json(alloc).expect(&rt, "JSON");
         expect_same(&rt, &length_of(&rt, alloc, &json), &custom, "the answer");
         let copy = json.to_value(alloc).expect(&rt, "memory");
         expect_that(&rt, same_value(&copy, &json), "the answer");
+        drop(copy);
+        drop(json);
     }
 }
 

@@ -53,5 +53,7 @@ fn values(rt: HostRuntime) {
         let second = value_of(&rt, alloc, right);
         expect_same(&rt, &same_value(&first, &second), &same, &(left, right));
         expect_same(&rt, &same_value(&second, &first), &same, &(right, left));
+        drop(second);
+        drop(first);
     }
 }

@@ -10,8 +10,8 @@ use std::process::Abort;
 
 // The claim of the key is written so of the text `"7"`, and so by default.
 fn check<K: ReservedKey>(rt: &impl Abort, alloc: Global, key: &str, json: &str, empty: &str) {
-    json::check(rt, alloc, &TextClaim::<K>::from("\"7\""), key, json);
-    json::check(rt, alloc, &TextClaim::<K>::default(), key, empty);
+    json::check(rt, alloc, TextClaim::<K>::from("\"7\""), key, json);
+    json::check(rt, alloc, TextClaim::<K>::default(), key, empty);
 }
 
 #[test]

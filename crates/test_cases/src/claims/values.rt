@@ -1,14 +1,14 @@
 //! Each kind of value that a claim of a caller's own may have.
 
 use crate::claims::json::value_of;
-use crate::expect::expect_shown;
+use crate::expect::expect_told;
 use rusty_paseto_claims::{ClaimValue, PasetoClaimError};
 use serde_json::Value;
 use std::alloc::Global;
 use std::process::Abort;
 
 fn check(rt: &impl Abort, alloc: Global, answer: Result<Value, PasetoClaimError>, json: &str) {
-    expect_shown(rt, alloc, &answer.expect(rt, "memory"), json);
+    expect_told(rt, alloc, answer, json, "the value");
 }
 
 #[test]
@@ -42,5 +42,6 @@ fn json_values(rt: HostRuntime) {
     'texts: for text in ["{\"a\":[1,{\"b\":null}],\"c\":\"d\"}", "3.5"] {
         let value = value_of(&rt, alloc, text);
         check(&rt, alloc, value.to_value(alloc), text);
+        drop(value);
     }
 }

@@ -38,5 +38,6 @@ fn values(rt: HostRuntime) {
         let value = value_of(&rt, rt.alloc(), text);
         expect_same(&rt, &is_whole(&value), &key.is_none(), &text);
         expect_same(&rt, &odd_key(&value), &key, &text);
+        drop(value);
     }
 }

@@ -1,153 +1,111 @@
-//! Why a token was refused, behind the errors of builders, parsers and rings.
+//! Why a token was refused, behind the errors of builders, parsers and rings, and who is to blame.
 
-use crate::expect::{expect_shown, expect_that};
+use crate::expect::expect_text;
 use rusty_paseto::prelude::{
-    Blame, GenericBuilderError, GenericParserError, KeyRingError, KeyRingParserError,
-    PasetoClaimError, PasetoError,
+    GenericBuilderError, GenericParserError, KeyRingError, KeyRingParserError, PasetoClaimError,
+    PasetoError,
 };
 use std::alloc::{AllocError, Global};
 use std::process::Abort;
 
-// The cause is that the cipher failed, or there is none, and the error tells this text.
-fn check_builder(
-    rt: &impl Abort,
-    alloc: Global,
-    error: GenericBuilderError,
-    is_caused: bool,
-    text: &str,
-) {
-    let is_right = match error.cause() {
-        Some(cause) => is_caused && matches!(cause, PasetoError::ChaChaCipherError),
-        None => !is_caused,
-    };
-    expect_that(rt, is_right, text);
-    expect_shown(rt, alloc, &error.explained(), text);
+// The error tells its blame, its cause, and its text with that of its cause.
+fn expect_builder(rt: &impl Abort, alloc: Global, error: GenericBuilderError, wanted: &str) {
+    let (blame, cause, text) = (error.blame(), error.cause(), error.explained());
+    let told = format!(in alloc; "{blame:?}, {cause:?}: {text}");
+    drop(error);
+    expect_text(rt, told.expect(rt, "memory").as_str(), wanted);
 }
 
 #[test]
 fn of_builders(rt: HostRuntime) {
     let alloc = rt.alloc();
-    let error = GenericBuilderError::from(PasetoError::ChaChaCipherError);
-    let text = "A paseto cipher error occurred: An unspecified cipher error occurred";
-    check_builder(&rt, alloc, error, true, text);
-    let error = GenericBuilderError::from(PasetoClaimError::Expired);
-    check_builder(&rt, alloc, error, false, "This token is expired");
+    let cipher = GenericBuilderError::from(PasetoError::ChaChaCipherError);
+    let wanted =
+        "Unfit, Some(ChaChaCipherError): A paseto cipher error occurred: An unspecified cipher error occurred";
+    expect_builder(&rt, alloc, cipher, wanted);
+    let generator = GenericBuilderError::from(PasetoError::Cipher);
+    let wanted =
+        "Unfit, Some(Cipher): A paseto cipher error occurred: An unspecified cipher error occurred";
+    expect_builder(&rt, alloc, generator, wanted);
+    let claim = GenericBuilderError::from(PasetoClaimError::Expired);
+    expect_builder(&rt, alloc, claim, "Unfit, None: This token is expired");
+    let memory = GenericBuilderError::from(AllocError);
+    expect_builder(&rt, alloc, memory, "Memory, None: No memory was found");
 }
 
-// The cause is another footer, or there is none, and the error tells this text.
-fn check_parser(
-    rt: &impl Abort,
-    alloc: Global,
-    error: GenericParserError,
-    is_caused: bool,
-    text: &str,
-) {
-    let is_right = match error.cause() {
-        Some(cause) => is_caused && matches!(cause, PasetoError::FooterInvalid),
-        None => !is_caused,
-    };
-    expect_that(rt, is_right, text);
-    expect_shown(rt, alloc, &error.explained(), text);
+fn expect_parser(rt: &impl Abort, alloc: Global, error: GenericParserError, wanted: &str) {
+    let (blame, cause, text) = (error.blame(), error.cause(), error.explained());
+    let told = format!(in alloc; "{blame:?}, {cause:?}: {text}");
+    drop(error);
+    expect_text(rt, told.expect(rt, "memory").as_str(), wanted);
 }
 
 #[test]
 fn of_parsers(rt: HostRuntime) {
     let alloc = rt.alloc();
-    let error = GenericParserError::from(PasetoError::FooterInvalid);
-    let text = "A paseto cipher error occurred: The provided footer is invalid";
-    check_parser(&rt, alloc, error, true, text);
-    let error = GenericParserError::from(AllocError);
-    check_parser(&rt, alloc, error, false, "No memory was found");
+    let footer = GenericParserError::from(PasetoError::FooterInvalid);
+    let wanted =
+        "Foreign, Some(FooterInvalid): A paseto cipher error occurred: The provided footer is invalid";
+    expect_parser(&rt, alloc, footer, wanted);
+    let tag = GenericParserError::from(PasetoError::Cryption);
+    let wanted =
+        "Foreign, Some(Cryption): A paseto cipher error occurred: An unspecified cryption error occured";
+    expect_parser(&rt, alloc, tag, wanted);
+    let expired = GenericParserError::from(PasetoClaimError::Expired);
+    expect_parser(&rt, alloc, expired, "Untimely, None: This token is expired");
+    let early = PasetoClaimError::UseBeforeAvailable(String::new(alloc));
+    let wanted = "Untimely, None: The token cannot be used before ";
+    expect_parser(&rt, alloc, GenericParserError::from(early), wanted);
+    let missing = PasetoClaimError::Missing(String::new(alloc));
+    let wanted = "Unfit, None: The expected claim '' was not found in the payload";
+    expect_parser(&rt, alloc, GenericParserError::from(missing), wanted);
+    let wanted = "Memory, None: No memory was found";
+    expect_parser(&rt, alloc, GenericParserError::from(AllocError), wanted);
+    let memory = GenericParserError::from(PasetoError::Memory(AllocError));
+    expect_parser(&rt, alloc, memory, wanted);
 }
 
-// The cause is the number of sections, or there is none.
-fn check_ring(rt: &impl Abort, error: KeyRingError, is_caused: bool) {
-    let is_right = match error.cause() {
-        Some(cause) => is_caused && matches!(cause, PasetoError::IncorrectSize),
-        None => !is_caused,
-    };
-    expect_that(rt, is_right, "the cause");
-}
-
-// The cause is another tag, or there is none.
-fn check_ring_parser(rt: &impl Abort, error: KeyRingParserError, is_caused: bool) {
-    let is_right = match error.cause() {
-        Some(cause) => is_caused && matches!(cause, PasetoError::Cryption),
-        None => !is_caused,
-    };
-    expect_that(rt, is_right, "the cause");
+// The text of a ring's error is that of its cause.
+fn expect_ring(rt: &impl Abort, alloc: Global, error: KeyRingError, wanted: &str) {
+    let (blame, cause) = (error.blame(), error.cause());
+    let told = format!(in alloc; "{blame:?}, {cause:?}: {error}");
+    drop(error);
+    expect_text(rt, told.expect(rt, "memory").as_str(), wanted);
 }
 
 #[test]
 fn of_rings(rt: HostRuntime) {
-    check_ring(
-        &rt,
-        KeyRingError::Untrusted(PasetoError::IncorrectSize),
-        true,
-    );
-    check_ring(&rt, KeyRingError::NoFooter, false);
-    let token = KeyRingError::Token(PasetoError::Cryption);
-    check_ring_parser(&rt, KeyRingParserError::from(token), true);
-    let claim = GenericParserError::from(PasetoClaimError::Expired);
-    check_ring_parser(&rt, KeyRingParserError::from(claim), false);
-}
-
-fn expect_blame(rt: &impl Abort, found: Blame, wanted: Blame) {
-    expect_that(rt, found == wanted, &(found, wanted));
-}
-
-fn blame_builder(rt: &impl Abort, error: GenericBuilderError, wanted: Blame) {
-    expect_blame(rt, error.blame(), wanted);
-}
-
-fn blame_parser(rt: &impl Abort, error: GenericParserError, wanted: Blame) {
-    expect_blame(rt, error.blame(), wanted);
-}
-
-fn blame_ring(rt: &impl Abort, error: KeyRingError, wanted: Blame) {
-    expect_blame(rt, error.blame(), wanted);
-}
-
-fn blame_ring_parser(rt: &impl Abort, error: KeyRingParserError, wanted: Blame) {
-    expect_blame(rt, error.blame(), wanted);
-}
-
-#[test]
-fn blame_of_builders(rt: HostRuntime) {
-    let claim = GenericBuilderError::from(PasetoClaimError::Expired);
-    blame_builder(&rt, claim, Blame::Unfit);
-    let cipher = GenericBuilderError::from(PasetoError::Cipher);
-    blame_builder(&rt, cipher, Blame::Unfit);
-    blame_builder(&rt, GenericBuilderError::from(AllocError), Blame::Memory);
-}
-
-#[test]
-fn blame_of_parsers(rt: HostRuntime) {
     let alloc = rt.alloc();
-    let foreign = GenericParserError::from(PasetoError::Cryption);
-    blame_parser(&rt, foreign, Blame::Foreign);
-    let expired = GenericParserError::from(PasetoClaimError::Expired);
-    blame_parser(&rt, expired, Blame::Untimely);
-    let early = PasetoClaimError::UseBeforeAvailable(String::new(alloc));
-    blame_parser(&rt, GenericParserError::from(early), Blame::Untimely);
-    let missing = PasetoClaimError::Missing(String::new(alloc));
-    blame_parser(&rt, GenericParserError::from(missing), Blame::Unfit);
-    let memory = GenericParserError::from(PasetoError::Memory(AllocError));
-    blame_parser(&rt, memory, Blame::Memory);
+    let cut = KeyRingError::Untrusted(PasetoError::IncorrectSize);
+    let wanted =
+        "Foreign, Some(IncorrectSize): This string has an incorrect number of parts and cannot be parsed into a token";
+    expect_ring(&rt, alloc, cut, wanted);
+    let wanted = "Foreign, None: The token has no footer";
+    expect_ring(&rt, alloc, KeyRingError::NoFooter, wanted);
+    let tag = KeyRingError::Token(PasetoError::Cryption);
+    let wanted = "Foreign, Some(Cryption): An unspecified cryption error occured";
+    expect_ring(&rt, alloc, tag, wanted);
+}
+
+fn expect_ring_parser(rt: &impl Abort, alloc: Global, error: KeyRingParserError, wanted: &str) {
+    let (blame, cause) = (error.blame(), error.cause());
+    let told = format!(in alloc; "{blame:?}, {cause:?}: {error}");
+    drop(error);
+    expect_text(rt, told.expect(rt, "memory").as_str(), wanted);
 }
 
 #[test]
-fn blame_of_rings(rt: HostRuntime) {
+fn of_rings_that_parse(rt: HostRuntime) {
+    let alloc = rt.alloc();
+    let token = KeyRingError::Token(PasetoError::Cryption);
+    let wanted = "Foreign, Some(Cryption): An unspecified cryption error occured";
+    expect_ring_parser(&rt, alloc, KeyRingParserError::from(token), wanted);
     let unnamed = KeyRingParserError::from(KeyRingError::NoKeyId);
-    blame_ring_parser(&rt, unnamed, Blame::Foreign);
-    blame_ring(
-        &rt,
-        KeyRingError::Token(PasetoError::Cryption),
-        Blame::Foreign,
-    );
-    let cut = KeyRingError::Untrusted(PasetoError::IncorrectSize);
-    blame_ring(&rt, cut, Blame::Foreign);
+    let wanted = "Foreign, None: The footer names no key";
+    expect_ring_parser(&rt, alloc, unnamed, wanted);
     let claim = GenericParserError::from(PasetoClaimError::Expired);
-    blame_ring_parser(&rt, KeyRingParserError::from(claim), Blame::Untimely);
-    blame_ring_parser(&rt, KeyRingParserError::from(AllocError), Blame::Memory);
+    let wanted = "Untimely, None: This token is expired";
+    expect_ring_parser(&rt, alloc, KeyRingParserError::from(claim), wanted);
+    let memory = KeyRingParserError::from(AllocError);
+    expect_ring_parser(&rt, alloc, memory, "Memory, None: No memory was found");
 }

@@ -3,9 +3,9 @@
 use crate::parsers::steps::custom;
 use rusty_paseto::CountingSetter;
 use rusty_paseto::prelude::{
-    AudienceClaim, DateClaim, Expiration, GenericBuilderError, GenericParserError, IssuedAt,
-    IssuerClaim, NotBefore, PasetoBuilder, PasetoClaim, PasetoParser, PurposeTrait, ReservedKey,
-    SubjectClaim, TokenIdentifierClaim, VersionTrait,
+    AudienceClaim, DateClaim, Expiration, IssuedAt, IssuerClaim, NotBefore, PasetoBuilder,
+    PasetoClaim, PasetoParser, PurposeTrait, ReservedKey, SubjectClaim, TokenIdentifierClaim,
+    VersionTrait,
 };
 use rusty_paseto_generic::CheckSetter;
 use std::alloc::Global;
@@ -33,10 +33,11 @@ fn date<K: ReservedKey>(rt: &impl Abort, alloc: Global, text: &str) -> DateClaim
 }
 
 fn put<V: VersionTrait, P: PurposeTrait, C: PasetoClaim + Drop>(
+    rt: &impl Abort,
     builder: &mut PasetoBuilder<'_, V, P>,
     claim: C,
-) -> Result<(), GenericBuilderError> {
-    builder.put_claim(&claim)
+) {
+    builder.put_claim(&claim).expect(rt, "a claim");
 }
 
 /// Sets the claim.
@@ -46,25 +47,27 @@ pub(crate) fn set<V: VersionTrait, P: PurposeTrait>(
     alloc: Global,
     claim: Claim<'_>,
 ) {
-    let answer = match claim {
-        Claim::Audience(text) => put(builder, AudienceClaim::from(text)),
-        Claim::Subject(text) => put(builder, SubjectClaim::from(text)),
-        Claim::Issuer(text) => put(builder, IssuerClaim::from(text)),
-        Claim::TokenIdentifier(text) => put(builder, TokenIdentifierClaim::from(text)),
-        Claim::IssuedAt(text) => put(builder, date::<IssuedAt>(rt, alloc, text)),
-        Claim::NotBefore(text) => put(builder, date::<NotBefore>(rt, alloc, text)),
-        Claim::Expiration(text) => put(builder, date::<Expiration>(rt, alloc, text)),
-        Claim::Custom(key, json) => put(builder, custom(rt, alloc, key, json)),
-        Claim::NoExpiration => builder.put_no_expiration_danger_acknowledged(),
-    };
-    answer.expect(rt, "a claim");
+    match claim {
+        Claim::Audience(text) => put(rt, builder, AudienceClaim::from(text)),
+        Claim::Subject(text) => put(rt, builder, SubjectClaim::from(text)),
+        Claim::Issuer(text) => put(rt, builder, IssuerClaim::from(text)),
+        Claim::TokenIdentifier(text) => put(rt, builder, TokenIdentifierClaim::from(text)),
+        Claim::IssuedAt(text) => put(rt, builder, date::<IssuedAt>(rt, alloc, text)),
+        Claim::NotBefore(text) => put(rt, builder, date::<NotBefore>(rt, alloc, text)),
+        Claim::Expiration(text) => put(rt, builder, date::<Expiration>(rt, alloc, text)),
+        Claim::Custom(key, json) => put(rt, builder, custom(rt, alloc, key, json)),
+        Claim::NoExpiration => builder
+            .put_no_expiration_danger_acknowledged()
+            .expect(rt, "memory"),
+    }
 }
 
 fn put_check<V: VersionTrait, P: PurposeTrait, C: PasetoClaim + Drop>(
+    rt: &impl Abort,
     parser: &mut PasetoParser<'_, V, P>,
     claim: C,
-) -> Result<(), GenericParserError> {
-    parser.put_check(&claim)
+) {
+    parser.put_check(&claim).expect(rt, "a check");
 }
 
 /// Checks the claim.
@@ -74,16 +77,15 @@ pub(crate) fn check<V: VersionTrait, P: PurposeTrait>(
     alloc: Global,
     claim: Claim<'_>,
 ) {
-    let answer = match claim {
-        Claim::Audience(text) => put_check(parser, AudienceClaim::from(text)),
-        Claim::Subject(text) => put_check(parser, SubjectClaim::from(text)),
-        Claim::Issuer(text) => put_check(parser, IssuerClaim::from(text)),
-        Claim::TokenIdentifier(text) => put_check(parser, TokenIdentifierClaim::from(text)),
-        Claim::IssuedAt(text) => put_check(parser, date::<IssuedAt>(rt, alloc, text)),
-        Claim::NotBefore(text) => put_check(parser, date::<NotBefore>(rt, alloc, text)),
-        Claim::Expiration(text) => put_check(parser, date::<Expiration>(rt, alloc, text)),
-        Claim::Custom(key, json) => put_check(parser, custom(rt, alloc, key, json)),
-        Claim::NoExpiration => Ok(()),
-    };
-    answer.expect(rt, "a check");
+    match claim {
+        Claim::Audience(text) => put_check(rt, parser, AudienceClaim::from(text)),
+        Claim::Subject(text) => put_check(rt, parser, SubjectClaim::from(text)),
+        Claim::Issuer(text) => put_check(rt, parser, IssuerClaim::from(text)),
+        Claim::TokenIdentifier(text) => put_check(rt, parser, TokenIdentifierClaim::from(text)),
+        Claim::IssuedAt(text) => put_check(rt, parser, date::<IssuedAt>(rt, alloc, text)),
+        Claim::NotBefore(text) => put_check(rt, parser, date::<NotBefore>(rt, alloc, text)),
+        Claim::Expiration(text) => put_check(rt, parser, date::<Expiration>(rt, alloc, text)),
+        Claim::Custom(key, json) => put_check(rt, parser, custom(rt, alloc, key, json)),
+        Claim::NoExpiration => {}
+    }
 }

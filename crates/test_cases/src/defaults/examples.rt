@@ -3,8 +3,8 @@
 use crate::defaults::claims::Claim;
 use crate::defaults::kinds::{default_builder, default_parser, moment_after, sealed};
 use crate::defaults::primes::Primes;
-use crate::defaults::rows::{NONE, Row, USUAL, check_rows, told};
-use crate::expect::expect_text;
+use crate::defaults::rows::{NONE, Row, USUAL, check_rows};
+use crate::expect::expect_told;
 use crate::kinds::{Binding, Kind, SECRET, symmetric_key};
 use rusty_paseto::CountingSetter;
 use rusty_paseto::prelude::{
@@ -138,7 +138,7 @@ type Parser<'a> = PasetoParser<'a, V4, Local>;
 // The JSON of what the parser answers, or the error's text, is the wanted one.
 fn expect_read(rt: &impl Abort, alloc: Global, parser: &Parser<'_>, token: &str, wanted: &str) {
     let answer = parser.parse(token, &symmetric_key(&SECRET));
-    expect_text(rt, told(rt, alloc, answer).as_str(), wanted);
+    expect_told(rt, alloc, answer, wanted, token);
 }
 
 // A default parser at the moment when tokens are built.
@@ -164,7 +164,8 @@ fn a_default_parser(rt: HostRuntime) {
 fn a_parser_that_checks_nothing(rt: HostRuntime) {
     let alloc = rt.alloc();
     let token = token_of(&rt, alloc, NONE);
-    expect_read(&rt, alloc, &Parser::new(alloc), token.as_str(), USUAL);
+    let parser = Parser::new(alloc);
+    expect_read(&rt, alloc, &parser, token.as_str(), USUAL);
 }
 
 // A token with a footer and an implicit assertion that never expires.

@@ -1,25 +1,25 @@
-//! Rings of keys, in which a token's footer picks the key.
+//! Rings of keys, in which a token's footer picks the key, over all kinds.
 
-use crate::expect::{expect_refusal, expect_text, expect_that};
-use crate::kinds::{Binding, Kind, SECRET, symmetric_key};
+use crate::defaults::public_rings::{ask_asserting, ask_box, ask_version_1, ask_version_2};
+use crate::expect::{expect_outcome, expect_refusal_or_ok, expect_same, expect_text};
+use crate::kinds::{ASSERTED_KINDS, Binding, KINDS, Kind, SECRET, symmetric_key};
 use rusty_paseto::prelude::{
-    DefaultAssertionVersion, DefaultLocalVersion, KeyRing, KeyRingError, PasetoError, Ring, V1, V3,
-    V4, key_footer,
+    DefaultAssertionVersion, DefaultLocalVersion, KeyRing, KeyRingError, Ring, V1, V3, V4,
+    key_footer,
 };
 use std::alloc::Global;
 use std::process::Abort;
 
-const RING_KINDS: &[Kind] = &[Kind::V1Local, Kind::V3Local, Kind::V4Local];
+/// What a ring answers for a token.
+pub(crate) type Opened = Result<(String, String), KeyRingError>;
 
-type Answer = Result<(String, String), KeyRingError>;
-
-// What is asked of a ring: a token, and the implicit assertion where the version has one.
+/// What is asked of a ring: a token, and the implicit assertion where the version has one.
 #[derive(Clone, Copy)]
-struct Question<'a> {
-    token: &'a str,
-    assertion: Option<&'a str>,
-    // Whether `k2` is given the key of `k1` first.
-    is_second_changed: bool,
+pub(crate) struct Question<'a> {
+    pub(crate) token: &'a str,
+    pub(crate) assertion: Option<&'a str>,
+    /// Whether `k2` is given the key of `k1` first.
+    pub(crate) is_second_changed: bool,
 }
 
 impl<'a> Question<'a> {
@@ -52,179 +52,224 @@ fn ring_for<V: DefaultLocalVersion>(
     ring
 }
 
-fn ask_version_1(rt: &impl Abort, alloc: Global, question: Question<'_>) -> Answer {
-    ring_for::<V1>(rt, alloc, question).open(question.token)
+fn ask_local_1(rt: &impl Abort, alloc: Global, question: Question<'_>) -> Opened {
+    let ring = ring_for::<V1>(rt, alloc, question);
+    let answer = ring.open(question.token);
+    drop(ring);
+    answer
 }
 
-fn ask_version<V: DefaultAssertionVersion>(
+fn ask_local<V: DefaultAssertionVersion>(
     rt: &impl Abort,
     alloc: Global,
     question: Question<'_>,
-) -> Answer {
+) -> Opened {
     let assertion = Binding::of_assertion(question.assertion).assertion();
-    ring_for::<V>(rt, alloc, question).open(question.token, assertion)
+    let ring = ring_for::<V>(rt, alloc, question);
+    let answer = ring.open(question.token, assertion);
+    drop(ring);
+    answer
 }
 
 // What a ring of the kind's version answers.
-fn ask(rt: &impl Abort, alloc: Global, kind: Kind, question: Question<'_>) -> Answer {
+fn ask(rt: &impl Abort, alloc: Global, kind: Kind, question: Question<'_>) -> Opened {
     match kind {
-        Kind::V1Local => ask_version_1(rt, alloc, question),
-        Kind::V3Local => ask_version::<V3>(rt, alloc, question),
-        Kind::V4Local => ask_version::<V4>(rt, alloc, question),
-        _ => panic!(rt; "no ring opens the kind"),
+        Kind::V1Local => ask_local_1(rt, alloc, question),
+        Kind::V2Local => ask_box(rt, alloc, question),
+        Kind::V3Local => ask_local::<V3>(rt, alloc, question),
+        Kind::V4Local => ask_local::<V4>(rt, alloc, question),
+        Kind::V1Public => ask_version_1(rt, alloc, question),
+        Kind::V2Public => ask_version_2(rt, alloc, question),
+        Kind::V3Public => ask_asserting::<V3>(rt, alloc, question),
+        Kind::V4Public => ask_asserting::<V4>(rt, alloc, question),
     }
 }
 
-// The token of `hi` under the secret's key, with the footer.
-fn sealed(rt: &impl Abort, alloc: Global, kind: Kind, footer: Option<&str>) -> String {
-    kind.token(rt, alloc, "hi", Binding::of_footer(footer))
+// What is answered for a token of `hi`.
+#[derive(Clone, Copy)]
+enum Wanted {
+    // The text, under this id.
+    Opened(&'static str),
+    // That it is not of the key that its footer names, or was made for another assertion.
+    OtherKey,
+    // A refusal of this text.
+    Refused(&'static str),
 }
 
-// The answer is `hi`, under this id.
-fn check_opened(rt: &impl Abort, kind: Kind, answer: Answer, id: &str) {
-    let opened = answer.expect(rt, "a text");
-    expect_text(rt, opened.0.as_str(), id);
-    expect_that(rt, opened.1.as_str() == "hi", &kind);
+// A footer and an implicit assertion that the token was made for, the assertion that a ring is asked with, whether `k2`
+// is given the key of `k1` first, and the answer.
+#[derive(Clone, Copy)]
+struct Row {
+    footer: Option<&'static str>,
+    made_for: Option<&'static str>,
+    assertion: Option<&'static str>,
+    is_second_changed: bool,
+    wanted: Wanted,
 }
 
-// The token was refused for its tag.
-fn check_tag(rt: &impl Abort, kind: Kind, answer: Answer) {
-    let is_refused = matches!(&answer, Err(KeyRingError::Token(PasetoError::Cryption)));
-    expect_that(rt, is_refused, &kind);
-}
+const FIRST: Row = Row {
+    footer: Some("{\"kid\":\"k1\"}"),
+    made_for: None,
+    assertion: None,
+    is_second_changed: false,
+    wanted: Wanted::Opened("k1"),
+};
 
-// The answer is a refusal of this text, for the token in each version.
-fn check_refused(rt: &impl Abort, alloc: Global, footer: Option<&str>, text: &str) {
-    'kinds: for &kind in RING_KINDS {
-        let token = sealed(rt, alloc, kind, footer);
-        let answer = ask(rt, alloc, kind, Question::of(token.as_str()));
-        expect_refusal(rt, alloc, answer, text);
+const SECOND: Row = Row {
+    footer: Some("{\"kid\":\"k2\"}"),
+    wanted: Wanted::OtherKey,
+    ..FIRST
+};
+
+const ROWS: &[Row] = &[
+    // The footer picks the key.
+    FIRST,
+    Row {
+        footer: Some("{ \"kid\" : \"k1\", \"x\" : 3.5 }"),
+        ..FIRST
+    },
+    // No other key is tried.
+    SECOND,
+    Row {
+        is_second_changed: true,
+        wanted: Wanted::Opened("k2"),
+        ..SECOND
+    },
+];
+
+const NO_OBJECT: &str = "The footer is not a JSON object";
+
+const UNNAMED: &str = "The footer names no key";
+
+// Footers that pick no key, and how a token with one is refused.
+const FOOTERS: &[(Option<&str>, &str)] = &[
+    (None, "The token has no footer"),
+    (Some(""), NO_OBJECT),
+    (Some("[]"), NO_OBJECT),
+    (Some("x"), NO_OBJECT),
+    (Some("k1"), NO_OBJECT),
+    (Some("{\"kid\":5}"), UNNAMED),
+    (Some("{\"kid\":1}"), UNNAMED),
+    (Some("{}"), UNNAMED),
+    (Some("{\"kid\":\"k3\"}"), "The key 'k3' is not in the ring"),
+    (Some("{\"kid\":\"K1\"}"), "The key 'K1' is not in the ring"),
+    // The id is anybody's text, which is to stay on its line of a log, and else reads as it is.
+    (
+        Some("{\"kid\":\"x\\nERROR\\u202e\"}"),
+        "The key 'x\\nERROR\\u{202e}' is not in the ring",
+    ),
+    (
+        Some("{\"kid\":\"it's \\\"mine\\\", \\\\ü\"}"),
+        "The key 'it's \"mine\", \\ü' is not in the ring",
+    ),
+];
+
+// Of kinds with an implicit assertion: one that is passed, and one that is not.
+const ASSERTED_ROWS: &[Row] = &[
+    Row {
+        made_for: Some("a"),
+        assertion: Some("a"),
+        ..FIRST
+    },
+    Row {
+        made_for: Some("a"),
+        wanted: Wanted::OtherKey,
+        ..FIRST
+    },
+];
+
+// How a ring refuses a token of another key.
+fn other_key(kind: Kind) -> &'static str {
+    match kind {
+        Kind::V2Local => "Token(ChaChaCipherError)",
+        Kind::V1Local | Kind::V3Local | Kind::V4Local => "Token(Cryption)",
+        _ => "Token(InvalidSignature)",
     }
 }
 
-#[test]
-fn the_footer_picks_the_key(rt: HostRuntime) {
-    'kinds: for &kind in RING_KINDS {
-        'footers: for footer in ["{\"kid\":\"k1\"}", "{ \"kid\" : \"k1\", \"x\" : 3.5 }"] {
-            let token = sealed(&rt, rt.alloc(), kind, Some(footer));
-            let answer = ask(&rt, rt.alloc(), kind, Question::of(token.as_str()));
-            check_opened(&rt, kind, answer, "k1");
+fn check_answer(rt: &impl Abort, alloc: Global, kind: Kind, row: Row, answer: Opened) {
+    let told = (kind, row.footer, row.assertion);
+    match row.wanted {
+        Wanted::Opened(wanted) => {
+            let (id, text) = answer.expect(rt, "a text");
+            expect_same(rt, id.as_str(), wanted, &told);
+            expect_same(rt, text.as_str(), "hi", &told);
+        }
+        Wanted::OtherKey => expect_outcome(rt, alloc, answer, other_key(kind), told),
+        Wanted::Refused(text) => { expect_refusal_or_ok(rt, alloc, answer, text, told) }
+    }
+}
+
+fn check_rows(rt: &impl Abort, alloc: Global, kinds: &[Kind], rows: &[Row]) {
+    'kinds: for &kind in kinds {
+        'rows: for &row in rows {
+            let binding = Binding {
+                footer: row.footer,
+                assertion: row.made_for,
+            };
+            let token = kind.token(rt, alloc, "hi", binding);
+            let question = Question {
+                token: token.as_str(),
+                assertion: row.assertion,
+                is_second_changed: row.is_second_changed,
+            };
+            let answer = ask(rt, alloc, kind, question);
+            check_answer(rt, alloc, kind, row, answer);
         }
     }
 }
 
 #[test]
-fn no_other_key_is_tried(rt: HostRuntime) {
-    'kinds: for &kind in RING_KINDS {
-        let token = sealed(&rt, rt.alloc(), kind, Some("{\"kid\":\"k2\"}"));
-        let question = Question::of(token.as_str());
-        check_tag(&rt, kind, ask(&rt, rt.alloc(), kind, question));
-        let changed = Question {
-            is_second_changed: true,
-            ..question
+fn the_footer_picks_the_key(rt: HostRuntime) {
+    check_rows(&rt, rt.alloc(), KINDS, ROWS);
+    check_rows(&rt, rt.alloc(), ASSERTED_KINDS, ASSERTED_ROWS);
+}
+
+#[test]
+fn a_footer_that_picks_no_key(rt: HostRuntime) {
+    'footers: for &(footer, text) in FOOTERS {
+        let row = Row {
+            footer,
+            wanted: Wanted::Refused(text),
+            ..FIRST
         };
-        check_opened(&rt, kind, ask(&rt, rt.alloc(), kind, changed), "k2");
+        check_rows(&rt, rt.alloc(), KINDS, &[row]);
     }
 }
 
-#[test]
-fn a_footer_that_names_no_key(rt: HostRuntime) {
-    let (alloc, not_an_object) = (rt.alloc(), "The footer is not a JSON object");
-    check_refused(&rt, alloc, None, "The token has no footer");
-    'texts: for footer in ["", "[]", "x"] {
-        check_refused(&rt, alloc, Some(footer), not_an_object);
-    }
-    'objects: for footer in ["{\"kid\":5}", "{}"] {
-        check_refused(&rt, alloc, Some(footer), "The footer names no key");
-    }
-}
-
-#[test]
-fn an_id_that_is_not_in_the_ring(rt: HostRuntime) {
-    let (alloc, third) = (rt.alloc(), "The key 'k3' is not in the ring");
-    check_refused(&rt, alloc, Some("{\"kid\":\"k3\"}"), third);
-    let upper = "The key 'K1' is not in the ring";
-    check_refused(&rt, alloc, Some("{\"kid\":\"K1\"}"), upper);
-    // The id is anybody's text, which is to stay on its line of a log, and else reads as it is.
-    let two_lines = "The key 'x\\nERROR\\u{202e}' is not in the ring";
-    check_refused(
-        &rt,
-        alloc,
-        Some("{\"kid\":\"x\\nERROR\\u202e\"}"),
-        two_lines,
-    );
-    let printable = "The key 'it's \"mine\", \\ü' is not in the ring";
-    check_refused(
-        &rt,
-        alloc,
-        Some("{\"kid\":\"it's \\\"mine\\\", \\\\ü\"}"),
-        printable,
-    );
-}
-
-// The text was refused for the number of its sections.
-fn check_size(rt: &impl Abort, kind: Kind, answer: Answer) {
-    let is_short = matches!(
-        &answer,
-        Err(KeyRingError::Untrusted(PasetoError::IncorrectSize))
-    );
-    expect_that(rt, is_short, &kind);
-}
-
-// The text was refused since its footer is no text.
-fn check_no_text(rt: &impl Abort, kind: Kind, answer: Answer) {
-    let is_no_text = matches!(
-        &answer,
-        Err(KeyRingError::Untrusted(PasetoError::Utf8Error { .. }))
-    );
-    expect_that(rt, is_no_text, &kind);
-}
+// Texts that are no tokens: of two sections, and with a footer that is no text. How they are refused.
+const TEXTS: &[(&str, &str)] = &[
+    ("v4.local", "Untrusted(IncorrectSize)"),
+    (
+        "v4.local.AAAA._w",
+        "Untrusted(Utf8Error { source: Utf8Error { valid_up_to: 0, error_len: Some(1) } })",
+    ),
+];
 
 #[test]
 fn a_text_that_is_no_token(rt: HostRuntime) {
-    'kinds: for &kind in RING_KINDS {
-        let short = ask(&rt, rt.alloc(), kind, Question::of("v4.local"));
-        check_size(&rt, kind, short);
-        let no_text = ask(&rt, rt.alloc(), kind, Question::of("v4.local.AAAA._w"));
-        check_no_text(&rt, kind, no_text);
+    'kinds: for &kind in KINDS {
+        'texts: for &(text, wanted) in TEXTS {
+            let answer = ask(&rt, rt.alloc(), kind, Question::of(text));
+            expect_outcome(&rt, rt.alloc(), answer, wanted, (kind, text));
+        }
     }
 }
 
-// The token was refused for its header.
-fn check_header(rt: &impl Abort, kind: Kind, answer: Answer) {
-    let is_named = matches!(&answer, Err(KeyRingError::Token(PasetoError::WrongHeader)));
-    expect_that(rt, is_named, &kind);
-}
+// A kind, and another version's ring.
+const OTHERS: &[(Kind, Kind)] = &[
+    (Kind::V1Local, Kind::V3Local),
+    (Kind::V3Local, Kind::V4Local),
+    (Kind::V4Local, Kind::V3Local),
+];
 
 #[test]
 fn a_token_of_another_version(rt: HostRuntime) {
-    let others = [
-        (Kind::V1Local, Kind::V3Local),
-        (Kind::V3Local, Kind::V4Local),
-        (Kind::V4Local, Kind::V3Local),
-    ];
-    'kinds: for (kind, other) in others {
-        let token = sealed(&rt, rt.alloc(), kind, Some("{\"kid\":\"k1\"}"));
-        let answer = ask(&rt, rt.alloc(), other, Question::of(token.as_str()));
-        check_header(&rt, kind, answer);
-    }
-}
-
-#[test]
-fn an_assertion_that_is_not_passed(rt: HostRuntime) {
-    'kinds: for kind in [Kind::V3Local, Kind::V4Local] {
-        let binding = Binding {
-            footer: Some("{\"kid\":\"k1\"}"),
-            assertion: Some("a"),
-        };
+    'kinds: for &(kind, other) in OTHERS {
+        let binding = Binding::of_footer(Some("{\"kid\":\"k1\"}"));
         let token = kind.token(&rt, rt.alloc(), "hi", binding);
-        let question = Question::of(token.as_str());
-        check_tag(&rt, kind, ask(&rt, rt.alloc(), kind, question));
-        let asserted = Question {
-            assertion: Some("a"),
-            ..question
-        };
-        check_opened(&rt, kind, ask(&rt, rt.alloc(), kind, asserted), "k1");
+        let answer = ask(&rt, rt.alloc(), other, Question::of(token.as_str()));
+        expect_outcome(&rt, rt.alloc(), answer, "Token(WrongHeader)", kind);
     }
 }
 
@@ -234,7 +279,8 @@ fn check_footer(rt: &impl Abort, alloc: Global, id: &str, expected: &str) {
     expect_text(rt, footer.as_str(), expected);
     let mut ring = KeyRing::<V4>::new(alloc);
     put_key(rt, &mut ring, id, symmetric_key(&SECRET));
-    expect_that(rt, ring.key_of(footer.as_str()).is_ok(), id);
+    expect_outcome(rt, alloc, ring.key_of(footer.as_str()), "Ok", id);
+    drop(ring);
 }
 
 // The texts are those of Python's `json.dumps`, with no space and with letters beyond ASCII as they are. A ring finds

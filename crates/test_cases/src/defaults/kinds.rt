@@ -75,16 +75,22 @@ fn asserting_builder_of<'a, V: ImplicitAssertionCapable, P: PurposeTrait>(
 
 /// What a default builder builds under the secret's key and a nonce of zeros.
 pub(crate) fn sealed<V: DefaultLocalVersion>(builder: PasetoBuilder<'_, V, Local>) -> Token {
-    builder.build(&mut Zeros, &symmetric_key(&SECRET))
+    let token = builder.build(&mut Zeros, &symmetric_key(&SECRET));
+    drop(builder);
+    token
 }
 
 fn boxed(builder: PasetoBuilder<'_, V2, Local>) -> Token {
-    builder.build(&ToyBox, &mut Zeros, &symmetric_key(&SECRET))
+    let token = builder.build(&ToyBox, &mut Zeros, &symmetric_key(&SECRET));
+    drop(builder);
+    token
 }
 
 fn signed<V: ToyVersion + Signs<V::Toy>>(builder: PasetoBuilder<'_, V, Public>) -> Token {
     let keys = Keys::of(&SECRET);
-    builder.build(&mut V::toy(), &V::private_key(&keys))
+    let token = builder.build(&mut V::toy(), &V::private_key(&keys));
+    drop(builder);
+    token
 }
 
 /// A default parser at the moment.

@@ -14,11 +14,15 @@ fn nine_seats(rt: &impl Abort, alloc: Global) -> String {
     let mut builder = GenericBuilder::<V4, Local>::new(alloc);
     builder.put_claim(&seats).expect(rt, "nine seats");
     let token = builder.try_encrypt(&mut Zeros, &symmetric_key(&SECRET));
+    drop(builder);
     token.expect(rt, "a token")
 }
 
 fn is_admitted(parser: &GenericParser<'_, V4, Local>, token: &str) -> bool {
-    parser.parse(token, &symmetric_key(&SECRET)).is_ok()
+    let answer = parser.parse(token, &symmetric_key(&SECRET));
+    let is_admitted = answer.is_ok();
+    drop(answer);
+    is_admitted
 }
 
 #[test]

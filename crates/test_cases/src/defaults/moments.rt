@@ -4,12 +4,10 @@ use crate::builders::maps::Numbers;
 use crate::claims::json::value_of;
 use crate::defaults::kinds::{Answer, moment_after};
 use crate::defaults::rows::NONE;
-use crate::expect::{expect_refusal, expect_text, expect_that};
+use crate::expect::{OK, expect_refusal, expect_refusal_or_ok, expect_text, expect_that, shown};
 use crate::kinds::{Binding, Kind, SECRET, symmetric_key};
 use jiff::Timestamp;
-use rusty_paseto::prelude::{
-    CountingSetter, Local, PasetoBuilder, PasetoParser, PasetoSymmetricKey, V4, fits_default,
-};
+use rusty_paseto::prelude::{CountingSetter, Local, PasetoBuilder, PasetoParser, V4, fits_default};
 use serde_json::Value;
 use std::alloc::Global;
 use std::process::Abort;
@@ -43,25 +41,18 @@ fn moments_that_fit(rt: HostRuntime) {
     }
 }
 
-// The text of the refusal of `try_default` at a moment, or none where it makes a builder.
-fn refusal_at(rt: &impl Abort, alloc: Global, now: Timestamp) -> String {
-    match PasetoBuilder::<V4, Local>::try_default(alloc, now) {
-        Ok(_) => String::new(alloc),
-        Err(error) => format!(in alloc; "{error}").expect(rt, "memory"),
-    }
-}
-
+// At which moments `try_default` makes a builder, and how it refuses others.
 #[test]
 fn moments_that_are_refused(rt: HostRuntime) {
     let first = Timestamp::from_second(FIRST_SECOND).expect(&rt, "a moment");
     let last = later(&rt, Timestamp::MAX, -HOUR);
     'rows: for (moment, expected) in [
-        (first, ""),
+        (first, OK),
         (
             later(&rt, first, -1),
             "The value -000001-12-31T23:59:59.999999999Z is a malformed RFC3339 date",
         ),
-        (last, ""),
+        (last, OK),
         (
             later(&rt, last, 1),
             "The value 9999-12-30T21:00:01Z is a malformed RFC3339 date",
@@ -71,8 +62,8 @@ fn moments_that_are_refused(rt: HostRuntime) {
             "The value -009999-01-02T01:59:59Z is a malformed RFC3339 date",
         ),
     ] {
-        let refusal = refusal_at(&rt, rt.alloc(), moment);
-        expect_text(&rt, refusal.as_str(), expected);
+        let answer = PasetoBuilder::<V4, Local>::try_default(rt.alloc(), moment);
+        expect_refusal_or_ok(&rt, rt.alloc(), answer, expected, &moment);
     }
 }
 
@@ -83,12 +74,18 @@ fn claims_at(rt: &impl Abort, alloc: Global, now: Timestamp) -> Value {
     value_of(rt, alloc, text.expect(rt, "a payload").as_str())
 }
 
+// The text under a key in claims.
+fn text_under(rt: &impl Abort, alloc: Global, claims: &Value, key: &str) -> String {
+    let found = claims.get(key).expect(rt, key);
+    String::from_str(alloc, found.as_str().expect(rt, "a text")).expect(rt, "memory")
+}
+
 // The text under `iat` there.
 fn text_at(rt: &impl Abort, alloc: Global, now: Timestamp) -> String {
     let claims = claims_at(rt, alloc, now);
-    let found = claims.get("iat").expect(rt, "a moment of issue");
-    let moment = found.as_str().expect(rt, "a text");
-    String::from_str(alloc, moment).expect(rt, "memory")
+    let text = text_under(rt, alloc, &claims, "iat");
+    drop(claims);
+    text
 }
 
 #[test]
@@ -141,30 +138,40 @@ fn read_back(rt: HostRuntime) {
     }
 }
 
-// The claims of the token that is built.
-fn claims_of(rt: &impl Abort, alloc: Global, builder: PasetoBuilder<'_, V4, Local>) -> Value {
+type Builder<'a> = PasetoBuilder<'a, V4, Local>;
+
+// What a parser reads of the token that is built.
+fn read(rt: &impl Abort, alloc: Global, builder: &Builder<'_>) -> Answer {
     let key = symmetric_key::<V4>(&SECRET);
     let token = builder.build(&mut Counting::new(), &key);
-    read(alloc, token.expect(rt, "a token"), &key).expect(rt, "claims")
+    let (token, parser) = (
+        token.expect(rt, "a token"),
+        PasetoParser::<V4, Local>::new(alloc),
+    );
+    parser.parse(token.as_str(), &key)
 }
 
-fn read(alloc: Global, token: String, key: &PasetoSymmetricKey<V4, Local>) -> Answer {
-    PasetoParser::<V4, Local>::new(alloc).parse(token.as_str(), key)
-}
-
-// The text under `exp` in the claims.
-fn end_in(rt: &impl Abort, alloc: Global, claims: Value) -> String {
-    let end = claims.get("exp").expect(rt, "an expiration");
-    String::from_str(alloc, end.as_str().expect(rt, "a text")).expect(rt, "memory")
+// The text under `exp` in the token that is built.
+fn end_in(rt: &impl Abort, alloc: Global, builder: &Builder<'_>) -> String {
+    let claims = read(rt, alloc, builder).expect(rt, "claims");
+    let text = text_under(rt, alloc, &claims, "exp");
+    drop(claims);
+    text
 }
 
 // The text under `exp` in a token of so many seconds that is built at the moment, or the text of the refusal.
 fn end_of(rt: &impl Abort, alloc: Global, now: Timestamp, seconds: u32) -> String {
-    let mut builder = PasetoBuilder::<V4, Local>::try_default(alloc, now).expect(rt, "a builder");
-    if let Err(refusal) = builder.put_lifetime(seconds) {
-        return format!(in alloc; "{refusal}").expect(rt, "memory");
-    }
-    end_in(rt, alloc, claims_of(rt, alloc, builder))
+    let mut builder = Builder::try_default(alloc, now).expect(rt, "a builder");
+    let text = match builder.put_lifetime(seconds) {
+        Ok(()) => end_in(rt, alloc, &builder),
+        Err(refusal) => {
+            let text = shown(rt, alloc, &refusal);
+            drop(refusal);
+            text
+        }
+    };
+    drop(builder);
+    text
 }
 
 #[test]
@@ -199,7 +206,7 @@ fn lifetimes(rt: HostRuntime) {
 fn a_lifetime_is_set_once(rt: HostRuntime) {
     let alloc = rt.alloc();
     let now = moment_after(&rt, 0);
-    let mut builder = PasetoBuilder::<V4, Local>::try_default(alloc, now).expect(&rt, "a builder");
+    let mut builder = Builder::try_default(alloc, now).expect(&rt, "a builder");
     builder
         .set_lifetime(60)
         .expect(&rt, "memory")
@@ -212,4 +219,5 @@ fn a_lifetime_is_set_once(rt: HostRuntime) {
         refused,
         "The claim 'exp' appears more than once in the top level payload json",
     );
+    drop(builder);
 }

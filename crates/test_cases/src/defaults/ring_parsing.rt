@@ -3,12 +3,12 @@
 use crate::defaults::claims::{Claim, check};
 use crate::defaults::key_rings::put_key;
 use crate::defaults::kinds::default_parser;
-use crate::expect::{expect_bytes, expect_same, expect_shown, expect_text, expect_that};
+use crate::expect::{expect_bytes, expect_outcome, expect_same, expect_text, expect_that};
 use crate::kinds::{Binding, Kind, SECRET, symmetric_key};
 use jiff::Timestamp;
 use rusty_paseto::prelude::{
-    DefaultLocalVersion, Footer, GenericParser, ImplicitAssertion, KeyRing, KeyRingError,
-    KeyRingParserError, Local, PasetoError, PasetoParser, PurposeTrait, V1, V3, V4, VersionTrait,
+    DefaultLocalVersion, Footer, GenericParser, ImplicitAssertion, KeyRing, KeyRingParserError,
+    Local, PasetoParser, PurposeTrait, V1, V3, V4, VersionTrait,
 };
 use serde_json::Value;
 use std::alloc::Global;
@@ -108,14 +108,13 @@ pub(crate) fn token_of(rt: &impl Abort, alloc: Global, kind: Kind, payload: &str
 }
 
 /// The answer tells this: the id and the claims, or the text of the error.
-pub(crate) fn expect_told(rt: &impl Abort, alloc: Global, answer: Answer, wanted: &str) {
-    match &answer {
-        Ok((id, value)) => {
-            let told = format!(in alloc; "{id} {value}").expect(rt, "memory");
-            expect_text(rt, told.as_str(), wanted);
-        }
-        Err(error) => expect_shown(rt, alloc, error, wanted),
-    }
+pub(crate) fn expect_claims(rt: &impl Abort, alloc: Global, answer: Answer, wanted: &str) {
+    let told = match &answer {
+        Ok((id, value)) => format!(in alloc; "{id} {value}"),
+        Err(error) => format!(in alloc; "{error}"),
+    };
+    drop(answer);
+    expect_text(rt, told.expect(rt, "memory").as_str(), wanted);
 }
 
 // A ring with the secret's key as `k1`, and a key of zeros as `k2`.
@@ -131,8 +130,9 @@ fn check_version<V: DefaultLocalVersion>(rt: &impl Abort, alloc: Global, kind: K
     'rows: for &row in ROWS {
         let token = token_of(rt, alloc, kind, row.payload);
         let parser = parser_of::<V, Local>(rt, alloc, row);
-        expect_told(rt, alloc, ring.parse(&parser, token.as_str()), row.told);
+        expect_claims(rt, alloc, ring.parse(&parser, token.as_str()), row.told);
     }
+    drop(ring);
 }
 
 #[test]
@@ -144,14 +144,6 @@ fn claims_are_checked(rt: HostRuntime) {
 
 fn parsed_by(ring: &KeyRing<V4>, parser: &GenericParser<'_, V4, Local>, token: &str) -> Answer {
     ring.parse_by(parser, token)
-}
-
-// Whether the token is not one of the key that its footer names.
-fn is_refused(answer: Answer) -> bool {
-    matches!(
-        &answer,
-        Err(KeyRingParserError::Ring(KeyRingError::Token(PasetoError::Cryption)))
-    )
 }
 
 // The parser's own footer and assertion, and a generic parser, which checks no times.
@@ -167,10 +159,11 @@ fn the_parsers_binding(rt: HostRuntime) {
     let mut parser = GenericParser::<V4, Local>::new(alloc);
     parser.set_footer(Footer::from(FOOTER));
     let answer = parsed_by(&ring, &parser, token.as_str());
-    expect_that(&rt, is_refused(answer), "the answer");
+    expect_outcome(&rt, alloc, answer, "Ring(Token(Cryption))", "no assertion");
     parser.set_implicit_assertion(ImplicitAssertion::from("a"));
     let answer = parsed_by(&ring, &parser, token.as_str());
-    expect_told(&rt, alloc, answer, PARSED);
+    expect_claims(&rt, alloc, answer, PARSED);
+    drop(ring);
 }
 
 // The ids in their order, and how many there are.
@@ -183,13 +176,10 @@ fn check_ids<V: DefaultLocalVersion>(rt: &impl Abort, ring: &KeyRing<V>, expecte
     }
 }
 
-// Whether the ring has a key of the id `k2`, or none where it answers otherwise.
-fn has_second(ring: &KeyRing<V4>) -> Option<bool> {
-    match ring.key_of("{\"kid\":\"k2\"}") {
-        Ok(_) => Some(true),
-        Err(KeyRingError::UnknownKey(_)) => Some(false),
-        Err(_) => None,
-    }
+// What the ring answers that is asked for the key of the id `k2`.
+fn expect_second(rt: &impl Abort, alloc: Global, ring: &KeyRing<V4>, wanted: &str) {
+    let answer = ring.key_of("{\"kid\":\"k2\"}");
+    expect_outcome(rt, alloc, answer, wanted, "k2");
 }
 
 #[test]
@@ -200,8 +190,9 @@ fn keys_come_and_go(rt: HostRuntime) {
     let first = ring.key("k1").expect(&rt, "a key");
     expect_bytes(&rt, first.as_bytes().as_slice(), &SECRET[..32]);
     expect_that(&rt, ring.key("k3").is_none(), "the answer");
-    expect_that(&rt, has_second(&ring) == Some(true), "the answer");
+    expect_second(&rt, alloc, &ring, "Ok");
     expect_that(&rt, ring.remove("k2") && !ring.remove("k2"), "the answer");
     check_ids(&rt, &ring, &["k1"]);
-    expect_that(&rt, has_second(&ring) == Some(false), "the answer");
+    expect_second(&rt, alloc, &ring, "UnknownKey(\"k2\")");
+    drop(ring);
 }

@@ -1,6 +1,6 @@
 //! The validators that stand ready.
 
-use crate::expect::{expect_shown, expect_text};
+use crate::expect::{OK, expect_refusal_or_ok};
 use rusty_paseto::prelude::{CheckSetter, GenericParser, Local, V4, ValidatorFn};
 use rusty_paseto::validators::{
     AtLeast, AtMost, AtMostCharacters, BeginsWith, Holding, OneOf, Present, Within,
@@ -23,13 +23,8 @@ fn check_rows(rt: &impl Abort, alloc: Global, validator: ValidatorFn, rows: &[(&
 
 fn check_value(rt: &impl Abort, alloc: Global, parser: &Parser<'_>, value: &str, expected: &str) {
     let text = format!(in alloc; "{{\"a\":{value}}}").expect(rt, "memory");
-    match &parser.value_of(text.as_str()) {
-        Ok(_) => expect_text(rt, "ok", expected),
-        Err(error) => expect_shown(rt, alloc, error, expected),
-    }
+    expect_refusal_or_ok(rt, alloc, parser.value_of(text.as_str()), expected, value);
 }
-
-const OK: &str = "ok";
 
 const MISSING: &str = "The expected claim 'a' was not found in the payload";
 

@@ -145,7 +145,9 @@ impl Kind {
         wanted: &str,
     ) {
         let answer = self.parse(rt, alloc, token, expected);
-        expect_same(rt, told(rt, alloc, &answer).as_str(), &wanted, &self);
+        let found = told(rt, alloc, &answer);
+        drop(answer);
+        expect_same(rt, found.as_str(), &wanted, &self);
     }
 
     /// A parser's answer for a token of the payload tells this.

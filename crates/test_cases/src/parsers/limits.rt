@@ -1,29 +1,21 @@
 //! Limits on how long a token may be.
 
-use crate::expect::{expect_same, expect_shown, expect_that};
+use crate::expect::{expect_outcome, expect_same, expect_shown, expect_that};
 use crate::kinds::{Binding, KINDS, Kind};
-use crate::parsers::kinds::{Answer, Expected};
-use rusty_paseto_core::{Local, PasetoError, V4};
-use rusty_paseto_generic::{Blame, GenericParser, GenericParserError};
+use crate::parsers::kinds::Expected;
+use rusty_paseto_core::{Local, V4};
+use rusty_paseto_generic::{Blame, GenericParser};
 use std::alloc::Global;
 use std::process::Abort;
 
-fn is_too_long(answer: Answer) -> bool {
-    matches!(
-        &answer,
-        Err(GenericParserError::CipherError {
-            source: PasetoError::TooLong,
-        })
-    )
-}
+const TOO_LONG: &str = "CipherError { source: TooLong }";
 
-fn is_size(answer: Answer) -> bool {
-    matches!(
-        &answer,
-        Err(GenericParserError::CipherError {
-            source: PasetoError::IncorrectSize,
-        })
-    )
+const SIZE: &str = "CipherError { source: IncorrectSize }";
+
+// What a parser with the limit answers for a text.
+fn check(rt: &impl Abort, alloc: Global, kind: Kind, text: &str, limit: usize, wanted: &str) {
+    let answer = kind.parse(rt, alloc, text, Expected::within(limit));
+    expect_outcome(rt, alloc, answer, wanted, (kind, limit));
 }
 
 // A token of as many bytes as the limit is parsed, and one of a byte more is refused.
@@ -33,11 +25,9 @@ fn a_token_at_its_limit(rt: HostRuntime) {
     'kinds: for &kind in KINDS {
         let token = kind.token(&rt, alloc, "{}", Binding::NONE);
         let (token, length) = (token.as_str(), token.len());
-        let parsed = kind.parse(&rt, alloc, token, Expected::within(length));
-        expect_that(&rt, parsed.is_ok(), &kind);
-        let shorter = Expected::within(length.saturating_sub(1));
-        let refused = kind.parse(&rt, alloc, token, shorter);
-        expect_that(&rt, is_too_long(refused), &kind);
+        check(&rt, alloc, kind, token, length, "Ok");
+        let less = length.saturating_sub(1);
+        check(&rt, alloc, kind, token, less, TOO_LONG);
     }
 }
 
@@ -46,10 +36,8 @@ fn a_token_at_its_limit(rt: HostRuntime) {
 fn the_length_comes_first(rt: HostRuntime) {
     let alloc = rt.alloc();
     'kinds: for &kind in KINDS {
-        let refused = kind.parse(&rt, alloc, "v4.local", Expected::within(7));
-        expect_that(&rt, is_too_long(refused), &kind);
-        let miscounted = kind.parse(&rt, alloc, "v4.local", Expected::within(8));
-        expect_that(&rt, is_size(miscounted), &kind);
+        check(&rt, alloc, kind, "v4.local", 7, TOO_LONG);
+        check(&rt, alloc, kind, "v4.local", 8, SIZE);
     }
 }
 
@@ -77,4 +65,5 @@ fn the_refusal_tells_its_cause(rt: HostRuntime) {
         &refusal.explained(),
         "A paseto cipher error occurred: The token or its footer is longer than allowed",
     );
+    drop(refusal);
 }

@@ -1,8 +1,8 @@
 //! How deep a payload may be nested.
 
-use crate::expect::{expect_shown, expect_text};
+use crate::expect::{expect_shown, expect_told};
 use crate::kinds::{Binding, KINDS, SECRET, symmetric_key};
-use crate::parsers::kinds::{Answer, Expected, told};
+use crate::parsers::kinds::{Answer, Expected};
 use crate::parsers::steps::custom;
 use rusty_paseto_core::{Local, V4};
 use rusty_paseto_generic::{ClaimSetter, GenericBuilder, GenericParser};
@@ -47,7 +47,9 @@ fn built(rt: &impl Abort, alloc: Global, json: &str) -> Answer {
         .put_claim(&custom(rt, alloc, "a", json))
         .expect(rt, "a claim");
     let token = builder.try_encrypt(&mut Zeros, &key).expect(rt, "a token");
-    GenericParser::<V4, Local>::new(alloc).parse(token.as_str(), &key)
+    drop(builder);
+    let parser = GenericParser::<V4, Local>::new(alloc);
+    parser.parse(token.as_str(), &key)
 }
 
 #[test]
@@ -57,6 +59,7 @@ fn a_claim_at_most_126_deep(rt: HostRuntime) {
     let read = built(&rt, alloc, deep.as_str()).expect(&rt, "a value");
     let found = read.get("a").expect(&rt, "a claim");
     expect_shown(&rt, alloc, found, deep.as_str());
+    drop(read);
     let answer = built(&rt, alloc, nested(&rt, alloc, 127).as_str());
-    expect_text(&rt, told(&rt, alloc, &answer).as_str(), UNREAD);
+    expect_told(&rt, alloc, answer, UNREAD, "a claim 127 deep");
 }

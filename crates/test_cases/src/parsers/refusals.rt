@@ -1,10 +1,9 @@
 //! What parsers refuse to store, and that they are then unchanged.
 
 use crate::claims::json::value_of;
-use crate::expect::expect_that;
+use crate::expect::expect_outcome;
 use crate::kinds::{Binding, Kind, SECRET, symmetric_key};
 use crate::parsers::steps::{Rule, Step, add, custom, map_of, values_of};
-use rusty_paseto_claims::PasetoClaimError;
 use rusty_paseto_core::{Local, V4};
 use rusty_paseto_generic::{CheckSetter, GenericParser, GenericParserError};
 use serde_json::Value;
@@ -14,18 +13,6 @@ use std::process::Abort;
 
 type Parser<'a> = GenericParser<'a, V4, Local>;
 
-// Whether the value under the key was refused for its numbers.
-fn is_unexpected(answer: &Result<(), GenericParserError>, key: &str) -> bool {
-    match answer {
-        Err(
-            GenericParserError::ClaimError {
-                source: PasetoClaimError::Unexpected(told),
-            },
-        ) => told.as_str() == key,
-        _ => false,
-    }
-}
-
 // What the parser answers for these claims.
 fn parsed(
     rt: &impl Abort,
@@ -34,15 +21,20 @@ fn parsed(
     payload: &str,
 ) -> Result<(), GenericParserError> {
     let token = Kind::V4Local.token(rt, alloc, payload, Binding::NONE);
-    match parser.parse(token.as_str(), &symmetric_key(&SECRET)) {
-        Ok(_) => Ok(()),
-        Err(error) => Err(error),
-    }
+    parser
+        .parse(token.as_str(), &symmetric_key(&SECRET))
+        .map(drop)
 }
 
 // The value under the key was refused for its numbers.
-fn expect_unexpected(rt: &impl Abort, answer: Result<(), GenericParserError>, key: &str) {
-    expect_that(rt, is_unexpected(&answer, key), key);
+fn expect_unexpected(
+    rt: &impl Abort,
+    alloc: Global,
+    answer: Result<(), GenericParserError>,
+    key: &str,
+) {
+    let wanted = format!(in alloc; "ClaimError {{ source: Unexpected({key:?}) }}");
+    expect_outcome(rt, alloc, answer, wanted.expect(rt, "memory").as_str(), key);
 }
 
 // The parser reads the claims.
@@ -56,14 +48,14 @@ fn other_numbers(rt: HostRuntime) {
     let mut parser = Parser::new(alloc);
     add(&rt, &mut parser, alloc, Step::Check("n", "4")).expect(&rt, "a check");
     let checked = add(&rt, &mut parser, alloc, Step::Check("n", odd));
-    expect_unexpected(&rt, checked, "n");
+    expect_unexpected(&rt, alloc, checked, "n");
     let validated = add(
         &rt,
         &mut parser,
         alloc,
         Step::Checker("n", odd, Rule::Tells),
     );
-    expect_unexpected(&rt, validated, "n");
+    expect_unexpected(&rt, alloc, validated, "n");
     expect_parsed(&rt, alloc, &parser, "{\"n\":4}");
 }
 
@@ -72,23 +64,16 @@ fn fractions(rt: &impl Abort, alloc: Global) -> BTreeMap<String, Value> {
     values_of(rt, alloc, &[("a", "1"), ("b", "3.5"), ("c", "4.5")])
 }
 
-fn put_fractions(rt: &impl Abort, alloc: Global, parser: &mut Parser<'_>) {
-    let answer = parser.put_checks(fractions(rt, alloc));
-    expect_unexpected(rt, answer, "b");
-}
-
-fn extend_by_fractions(rt: &impl Abort, alloc: Global, parser: &mut Parser<'_>) {
-    let answer = parser.extend_check_claims(fractions(rt, alloc)).map(drop);
-    expect_unexpected(rt, answer, "b");
-}
-
 #[test]
 fn all_values_or_none(rt: HostRuntime) {
-    let mut parser = Parser::new(rt.alloc());
-    put_fractions(&rt, rt.alloc(), &mut parser);
-    expect_parsed(&rt, rt.alloc(), &parser, "{}");
-    extend_by_fractions(&rt, rt.alloc(), &mut parser);
-    expect_parsed(&rt, rt.alloc(), &parser, "{}");
+    let alloc = rt.alloc();
+    let mut parser = Parser::new(alloc);
+    let answer = parser.put_checks(fractions(&rt, alloc));
+    expect_unexpected(&rt, alloc, answer, "b");
+    expect_parsed(&rt, alloc, &parser, "{}");
+    let answer = parser.extend_check_claims(fractions(&rt, alloc)).map(drop);
+    expect_unexpected(&rt, alloc, answer, "b");
+    expect_parsed(&rt, alloc, &parser, "{}");
 }
 
 fn chain_of_claims<'p, 'a>(
@@ -124,7 +109,8 @@ fn chains_of_calls(rt: HostRuntime) {
     let alloc = rt.alloc();
     let mut parser = Parser::new(alloc);
     let lent = chain_of_claims(&rt, alloc, &mut parser);
-    let parser = chain_of_maps(&rt, alloc, lent);
-    expect_parsed(&rt, alloc, parser, "{\"a\":0,\"b\":0,\"d\":4}");
-    expect_unexpected(&rt, parsed(&rt, alloc, parser, "{\"d\":5}"), "d");
+    let lent = chain_of_maps(&rt, alloc, lent);
+    expect_parsed(&rt, alloc, lent, "{\"a\":0,\"b\":0,\"d\":4}");
+    let answer = parsed(&rt, alloc, lent, "{\"d\":5}");
+    expect_unexpected(&rt, alloc, answer, "d");
 }

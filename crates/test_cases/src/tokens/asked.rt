@@ -4,7 +4,7 @@ ghost use Rattle.std.specs.Prelude.{⊤, replicate};
 
 use super::faults::token_of_zeros;
 use super::refusals::LETTERS;
-use crate::expect::{expect_same, expect_that};
+use crate::expect::{expect_outcome, expect_same};
 use crate::kinds::{Binding, Kind, OTHER_SECRET, SECRET};
 use rusty_paseto_core::{
     CompressedKey, PasetoError, Payload, SignatureScheme, Signs, V1, V2, V3, V4,
@@ -86,12 +86,8 @@ fn made_and_read(rt: HostRuntime) {
 fn no_sealing(rt: HostRuntime) {
     let text = long::text_of(rt.alloc(), 4_097).expect(&rt, "memory");
     let (made, calls) = Kind::V2Local.make_counted(rt.alloc(), &SECRET, text.as_str(), FOOTER);
-    expect_that(
-        &rt,
-        matches!(&made, Err(PasetoError::ChaChaCipherError)),
-        "the answer",
-    );
-    expect_same(&rt, &calls, &Calls::once(Call::Seal), "the answer");
+    expect_outcome(&rt, rt.alloc(), made, "ChaChaCipherError", "the box");
+    expect_same(&rt, &calls, &Calls::once(Call::Seal), "what was asked");
 }
 
 /// A scheme that signs everything by zeros, and holds everything valid.
@@ -142,7 +138,7 @@ where
     let mut scheme = Counting::new(Blank);
     let key = V::private_key(&keys);
     let made = V::sign(alloc, &mut scheme, &key, Payload::from("hello"), None, None);
-    expect_that(rt, made.is_ok(), "the answer");
+    expect_outcome(rt, alloc, made, "Ok", "the scheme");
     scheme.calls()
 }
 
@@ -180,7 +176,7 @@ fn refused(rt: HostRuntime) {
     'kinds: for &kind in ASKING_KINDS {
         let token = kind.token(&rt, rt.alloc(), "hello", FOOTER);
         let (answer, calls) = kind.read_counted(rt.alloc(), &OTHER_SECRET, token.as_str(), FOOTER);
-        expect_that(&rt, kind.is_refused(&answer), &kind);
+        expect_outcome(&rt, rt.alloc(), answer, kind.refusal(), kind);
         expect_same(&rt, &calls, &asked_to_read(kind), &kind);
     }
 }
@@ -191,7 +187,7 @@ fn shortest_payloads(rt: HostRuntime) {
     'kinds: for &(kind, letters) in LETTERS {
         let token = token_of_zeros(&rt, rt.alloc(), kind, letters);
         let (answer, calls) = kind.read_counted(rt.alloc(), &SECRET, token.as_str(), Binding::NONE);
-        expect_that(&rt, kind.is_refused(&answer), &kind);
+        expect_outcome(&rt, rt.alloc(), answer, kind.refusal(), kind);
         expect_same(&rt, &calls, &asked_to_read(kind), &kind);
     }
 }

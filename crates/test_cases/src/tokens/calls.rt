@@ -1,7 +1,7 @@
 //! The calls of `Paseto`, which make the same tokens and read the same texts as those of the versions'
 //! traits.
 
-use crate::expect::{expect_same, expect_that};
+use crate::expect::{expect_outcome, expect_same};
 use crate::kinds::{ASSERTED_KINDS, Binding, KINDS, Kind, SECRET, symmetric_key};
 use rusty_paseto_core::{
     AssertionVersion, Footer, ImplicitAssertion, Key, Local, LocalVersion, Paseto, PasetoError,
@@ -18,19 +18,35 @@ fn footer() -> Option<Footer<'static>> {
     Some(Footer::from("footer"))
 }
 
-// The text `hello` with a footer.
-fn hello<V: VersionTrait, P: PurposeTrait>() -> Paseto<'static, V, P> {
-    let mut paseto = Paseto::<V, P>::builder();
-    paseto
-        .set_payload(Payload::from("hello"))
-        .set_footer(Footer::from("footer"));
-    paseto
+// How a token is made: by `default`, of the text `hello` with a footer, or with an implicit assertion too, where the
+// version has one.
+#[derive(Clone, Copy)]
+enum Form {
+    Default,
+    Footer,
+    Asserted,
 }
 
-// The text `hello` with a footer and an implicit assertion.
-fn asserted<V: AssertionVersion, P: PurposeTrait>() -> Paseto<'static, V, P> {
-    let mut paseto = hello::<V, P>();
-    paseto.set_implicit_assertion(ImplicitAssertion::from("assertion"));
+// What a token is made of, with no implicit assertion.
+fn bare<V: VersionTrait, P: PurposeTrait>(form: Form) -> Paseto<'static, V, P> {
+    match form {
+        Form::Default => Paseto::default(),
+        Form::Footer | Form::Asserted => {
+            let mut paseto = Paseto::<V, P>::builder();
+            paseto
+                .set_payload(Payload::from("hello"))
+                .set_footer(Footer::from("footer"));
+            paseto
+        }
+    }
+}
+
+// What a token is made of, in a version with implicit assertions.
+fn asserted<V: AssertionVersion, P: PurposeTrait>(form: Form) -> Paseto<'static, V, P> {
+    let mut paseto = bare::<V, P>(form);
+    if let Form::Asserted = form {
+        paseto.set_implicit_assertion(ImplicitAssertion::from("assertion"));
+    }
     paseto
 }
 
@@ -50,42 +66,17 @@ fn sign<V: ToyVersion + Signs<V::Toy>>(alloc: Global, paseto: &Paseto<'_, V, Pub
     paseto.try_sign(alloc, &mut V::toy(), &V::private_key(&keys))
 }
 
-// The token of `hello` with a footer.
-fn make(alloc: Global, kind: Kind) -> Answer {
+// The token that is made so.
+fn make(alloc: Global, kind: Kind, form: Form) -> Answer {
     match kind {
-        Kind::V1Local => encrypt::<V1>(alloc, &hello()),
-        Kind::V2Local => encrypt_boxed(alloc, &hello()),
-        Kind::V3Local => encrypt::<V3>(alloc, &hello()),
-        Kind::V4Local => encrypt::<V4>(alloc, &hello()),
-        Kind::V1Public => sign::<V1>(alloc, &hello()),
-        Kind::V2Public => sign::<V2>(alloc, &hello()),
-        Kind::V3Public => sign::<V3>(alloc, &hello()),
-        Kind::V4Public => sign::<V4>(alloc, &hello()),
-    }
-}
-
-// The token of what is made by `default`.
-fn make_default(alloc: Global, kind: Kind) -> Answer {
-    match kind {
-        Kind::V1Local => encrypt::<V1>(alloc, &Paseto::default()),
-        Kind::V2Local => encrypt_boxed(alloc, &Paseto::default()),
-        Kind::V3Local => encrypt::<V3>(alloc, &Paseto::default()),
-        Kind::V4Local => encrypt::<V4>(alloc, &Paseto::default()),
-        Kind::V1Public => sign::<V1>(alloc, &Paseto::default()),
-        Kind::V2Public => sign::<V2>(alloc, &Paseto::default()),
-        Kind::V3Public => sign::<V3>(alloc, &Paseto::default()),
-        Kind::V4Public => sign::<V4>(alloc, &Paseto::default()),
-    }
-}
-
-// The token of `hello` with a footer and an implicit assertion, where the kind has one.
-fn make_asserted(alloc: Global, kind: Kind) -> Answer {
-    match kind {
-        Kind::V3Local => encrypt::<V3>(alloc, &asserted()),
-        Kind::V4Local => encrypt::<V4>(alloc, &asserted()),
-        Kind::V3Public => sign::<V3>(alloc, &asserted()),
-        Kind::V4Public => sign::<V4>(alloc, &asserted()),
-        _ => make(alloc, kind),
+        Kind::V1Local => encrypt::<V1>(alloc, &bare(form)),
+        Kind::V2Local => encrypt_boxed(alloc, &bare(form)),
+        Kind::V3Local => encrypt::<V3>(alloc, &asserted(form)),
+        Kind::V4Local => encrypt::<V4>(alloc, &asserted(form)),
+        Kind::V1Public => sign::<V1>(alloc, &bare(form)),
+        Kind::V2Public => sign::<V2>(alloc, &bare(form)),
+        Kind::V3Public => sign::<V3>(alloc, &asserted(form)),
+        Kind::V4Public => sign::<V4>(alloc, &asserted(form)),
     }
 }
 
@@ -161,7 +152,7 @@ fn check(rt: &impl Abort, alloc: Global, kind: Kind, token: &str, binding: Bindi
 fn a_text_with_a_footer(rt: HostRuntime) {
     let binding = Binding::of_footer(Some("footer"));
     'kinds: for &kind in KINDS {
-        let token = make(rt.alloc(), kind).expect(&rt, "a token");
+        let token = make(rt.alloc(), kind, Form::Footer).expect(&rt, "a token");
         check(&rt, rt.alloc(), kind, token.as_str(), binding);
     }
 }
@@ -173,17 +164,17 @@ fn a_text_with_a_footer_and_an_assertion(rt: HostRuntime) {
         assertion: Some("assertion"),
     };
     'kinds: for &kind in ASSERTED_KINDS {
-        let token = make_asserted(rt.alloc(), kind).expect(&rt, "a token");
+        let token = make(rt.alloc(), kind, Form::Asserted).expect(&rt, "a token");
         check(&rt, rt.alloc(), kind, token.as_str(), binding);
         let answer = read(&rt, rt.alloc(), kind, token.as_str(), None);
-        expect_that(&rt, kind.is_refused(&answer), &kind);
+        expect_outcome(&rt, rt.alloc(), answer, kind.refusal(), kind);
     }
 }
 
 #[test]
 fn made_by_default(rt: HostRuntime) {
     'kinds: for &kind in KINDS {
-        let token = make_default(rt.alloc(), kind).expect(&rt, "a token");
+        let token = make(rt.alloc(), kind, Form::Default).expect(&rt, "a token");
         let same = kind.token(&rt, rt.alloc(), "", Binding::NONE);
         expect_same(&rt, token.as_str(), same.as_str(), &kind);
     }

@@ -1,10 +1,9 @@
 //! Tokens that share a nonce and a tag.
 
-use crate::expect::expect_that;
+use crate::expect::{expect_outcome, expect_that};
 use crate::kinds::{Binding, Kind, SECRET, symmetric_key};
 use rusty_paseto_core::{
-    ImplicitAssertion, Local, LocalVersion, Opening, Paseto, PasetoError, PasetoSymmetricKey, V1,
-    V3, V4,
+    ImplicitAssertion, Local, LocalVersion, Opening, Paseto, PasetoSymmetricKey, V1, V3, V4,
 };
 use std::alloc::Global;
 use std::process::Abort;
@@ -96,8 +95,7 @@ fn the_first_that_does_not_open(rt: HostRuntime) {
         opening_of(&key, "v4.local"),
     ];
     let answer = Paseto::<V4, Local>::tag_collision(alloc, &openings);
-    let is_named = matches!(&answer, Err(PasetoError::WrongHeader));
-    expect_that(&rt, is_named, "the answer");
+    expect_outcome(&rt, alloc, answer, "WrongHeader", "the second");
 }
 
 // Openings of one token share a nonce and a tag, and one content.

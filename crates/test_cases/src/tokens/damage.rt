@@ -52,7 +52,9 @@ fn none_is_read(rt: HostRuntime) {
             let token = kind.token(&rt, alloc, text.as_str(), binding);
             let token = damaged(&rt, alloc, token.as_str(), &mut numbers);
             let answer = kind.read(alloc, token.as_str(), binding);
-            expect_that(&rt, answer.is_err(), &(kind, token));
+            let is_refused = answer.is_err();
+            drop(answer);
+            expect_that(&rt, is_refused, &(kind, token));
         }
     }
 }

@@ -1,76 +1,141 @@
 //! The faults of reading a token, each by its name. Neither a box nor a scheme is asked.
 
-use crate::expect::{expect_same, expect_that};
+use crate::expect::{expect_outcome, expect_same};
 use crate::kinds::{Binding, KINDS, Kind, SECRET};
-use rusty_paseto_core::PasetoError;
-use std::alloc::{AllocError, Global};
+use std::alloc::Global;
 use std::process::Abort;
 use test_toys::counting::Calls;
 
-// What is answered for a token with a fault, with nothing asked.
-fn fault_of(
+// How a token with a fault is refused, with nothing asked.
+fn check_fault(
     rt: &impl Abort,
     alloc: Global,
     kind: Kind,
     token: &str,
     footer: Option<&str>,
-) -> Result<String, PasetoError> {
+    wanted: &str,
+) {
     let binding = Binding::of_footer(footer);
     let (answer, calls) = kind.read_counted(alloc, &SECRET, token, binding);
     expect_same(rt, &calls, &Calls::NONE, &(kind, token));
-    answer
+    expect_outcome(rt, alloc, answer, wanted, (kind, token));
 }
 
-// The token is refused for the number of its sections, or for the length of its payload.
-fn check_size(rt: &impl Abort, alloc: Global, kind: Kind, token: &str) {
-    let answer = fault_of(rt, alloc, kind, token, None);
-    let refused = matches!(answer, Err(PasetoError::IncorrectSize));
-    expect_that(rt, refused, &(kind, token));
+// What stands before a row's text.
+#[derive(Clone, Copy)]
+enum Before {
+    // Nothing: the text is a whole token.
+    Nothing,
+    // The kind's own header.
+    Header,
+    // The header of another kind.
+    OtherHeader,
 }
 
-const OTHER_NUMBERS: &[&str] = &[
-    "",
-    "v4.local",
-    "v4.local...",
-    "v4.public",
-    "v4.public...",
-    "a.b.c.d.e",
-];
-
-// The sections are counted before anything else is looked at.
-#[test]
-fn wrong_number_of_sections(rt: HostRuntime) {
-    'kinds: for &kind in KINDS {
-        'tokens: for &token in OTHER_NUMBERS {
-            check_size(&rt, rt.alloc(), kind, token);
+impl Before {
+    fn text(self, kind: Kind) -> &'static str {
+        match (self, kind) {
+            (Before::Nothing, _) => "",
+            (Before::Header, _) => kind.header(),
+            (Before::OtherHeader, Kind::V3Local) => Kind::V4Local.header(),
+            (Before::OtherHeader, _) => Kind::V3Local.header(),
         }
     }
 }
 
-// The footer is looked at before the header.
+// A token in two parts, the footer that it is read with, and how it is refused.
+type Row = (Before, &'static str, Option<&'static str>, &'static str);
+
+const SIZE: &str = "IncorrectSize";
+
+const FAULTS: &[Row] = &[
+    // The sections are counted before anything else is looked at.
+    (Before::Nothing, "", None, SIZE),
+    (Before::Nothing, "v4.local", None, SIZE),
+    (Before::Nothing, "v4.local...", None, SIZE),
+    (Before::Nothing, "v4.public", None, SIZE),
+    (Before::Nothing, "v4.public...", None, SIZE),
+    (Before::Nothing, "a.b.c.d.e", None, SIZE),
+    // The footer is looked at before the header.
+    (Before::OtherHeader, "AAAA.Zm9v", None, "FooterInvalid"),
+    (Before::OtherHeader, "AAAA.Zm9v", Some("foo"), "WrongHeader"),
+    // That a footer's section is lacking is found after the number of sections, and before the header.
+    (
+        Before::Nothing,
+        "v5.local.1234",
+        Some("footer"),
+        "FooterInvalid",
+    ),
+    (Before::Nothing, "v5.local.1234", None, "WrongHeader"),
+    (Before::Nothing, "v5.local", Some("footer"), SIZE),
+    // Sections that spell no bytes.
+    (
+        Before::Header,
+        "AB",
+        None,
+        "PayloadBase64Decode { source: Invalid last symbol 0x42 ('B') at offset 1, decoded as 0b00000001. }",
+    ),
+    (
+        Before::Header,
+        "AA==",
+        None,
+        "PayloadBase64Decode { source: Invalid padding }",
+    ),
+    (
+        Before::Header,
+        "A",
+        None,
+        "PayloadBase64Decode { source: Invalid input length: 1 }",
+    ),
+    (
+        Before::Header,
+        "A+A/",
+        None,
+        "PayloadBase64Decode { source: Invalid symbol 43, offset 1. }",
+    ),
+    (
+        Before::Header,
+        "é",
+        None,
+        "PayloadBase64Decode { source: Invalid symbol 195, offset 0. }",
+    ),
+    (
+        Before::Header,
+        "AAAA\n",
+        None,
+        "PayloadBase64Decode { source: Invalid symbol 10, offset 4. }",
+    ),
+    // Payloads that are too short.
+    (Before::Header, "", None, SIZE),
+    (Before::Header, ".", None, SIZE),
+    (Before::Header, "AAAA", None, SIZE),
+];
+
+fn check_row(rt: &impl Abort, alloc: Global, kind: Kind, row: Row) {
+    let (before, rest, footer, wanted) = row;
+    let before = before.text(kind);
+    let token = format!(in alloc; "{before}{rest}").expect(rt, "memory");
+    check_fault(rt, alloc, kind, token.as_str(), footer, wanted);
+}
+
 #[test]
-fn other_footer_and_other_header(rt: HostRuntime) {
+fn refused_by_their_names(rt: HostRuntime) {
     'kinds: for &kind in KINDS {
-        let token = if kind == Kind::V3Local {
-            "v4.local.AAAA.Zm9v"
-        } else {
-            "v3.local.AAAA.Zm9v"
-        };
-        let answer = fault_of(&rt, rt.alloc(), kind, token, None);
-        let refused = matches!(&answer, Err(PasetoError::FooterInvalid));
-        expect_that(&rt, refused, &kind);
-        let answer = fault_of(&rt, rt.alloc(), kind, token, Some("foo"));
-        let refused = matches!(&answer, Err(PasetoError::WrongHeader));
-        expect_that(&rt, refused, &kind);
+        'rows: for &row in FAULTS {
+            check_row(&rt, rt.alloc(), kind, row);
+        }
     }
 }
 
 // A header is refused where it is not the kind's own.
 fn check_header(rt: &impl Abort, alloc: Global, kind: Kind, header: &str) {
     let token = format!(in alloc; "{header}1234").expect(rt, "memory");
-    let answer = fault_of(rt, alloc, kind, token.as_str(), None);
-    let refused = matches!(&answer, Err(PasetoError::WrongHeader));
-    expect_that(rt, refused == (header != kind.header()), (kind, header));
+    let wanted = if header == kind.header() {
+        "IncorrectSize"
+    } else {
+        "WrongHeader"
+    };
+    check_fault(rt, alloc, kind, token.as_str(), None, wanted);
 }
 
 // Headers of all kinds, and other spellings of them.
@@ -104,26 +169,6 @@ fn other_headers(rt: HostRuntime) {
     }
 }
 
-// Sections that spell no bytes.
-const OTHER_SPELLINGS: &[&str] = &["AB", "AA==", "A", "A+A/", "é", "AAAA\n"];
-
-fn check_base64url(rt: &impl Abort, alloc: Global, kind: Kind, section: &str) {
-    let header = kind.header();
-    let token = format!(in alloc; "{header}{section}").expect(rt, "memory");
-    let answer = fault_of(rt, alloc, kind, token.as_str(), None);
-    let refused = matches!(answer, Err(PasetoError::PayloadBase64Decode { .. }));
-    expect_that(rt, refused, &(kind, section));
-}
-
-#[test]
-fn other_texts_of_bytes(rt: HostRuntime) {
-    'kinds: for &kind in KINDS {
-        'sections: for &section in OTHER_SPELLINGS {
-            check_base64url(&rt, rt.alloc(), kind, section);
-        }
-    }
-}
-
 /// A token of so many letters `A`, each of which spells six bits of zeros.
 pub(crate) fn token_of_zeros(rt: &impl Abort, alloc: Global, kind: Kind, letters: usize) -> String {
     let mut token = String::from_str(alloc, kind.header()).expect(rt, "memory");
@@ -148,13 +193,8 @@ const LETTERS: &[(Kind, usize)] = &[
 
 #[test]
 fn short_payloads(rt: HostRuntime) {
-    'kinds: for &(kind, most) in LETTERS {
-        'lengths: for letters in [0, 4, most] {
-            let token = token_of_zeros(&rt, rt.alloc(), kind, letters);
-            check_size(&rt, rt.alloc(), kind, token.as_str());
-        }
-        let header = kind.header();
-        let token = format!(in rt.alloc(); "{header}.").expect(&rt, "memory");
-        check_size(&rt, rt.alloc(), kind, token.as_str());
+    'kinds: for &(kind, letters) in LETTERS {
+        let token = token_of_zeros(&rt, rt.alloc(), kind, letters);
+        check_fault(&rt, rt.alloc(), kind, token.as_str(), None, SIZE);
     }
 }

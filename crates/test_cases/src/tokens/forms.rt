@@ -1,9 +1,9 @@
 //! The forms of a token: with its footer's section and, for the empty footer, without. The text that a public token
 //! shows.
 
-use crate::expect::{expect_same, expect_that};
+use crate::expect::{expect_outcome, expect_same, expect_that};
 use crate::kinds::{Binding, Kind, PUBLIC_KINDS, SECRET};
-use rusty_paseto_core::{PasetoError, from_section};
+use rusty_paseto_core::from_section;
 use std::alloc::Global;
 use std::process::Abort;
 use test_toys::counting::Calls;
@@ -55,13 +55,9 @@ fn no_footer_and_an_empty_one(rt: HostRuntime) {
 
 fn check_stripped(rt: &impl Abort, alloc: Global, kind: Kind, stripped: &str) {
     let (answer, calls) = kind.read_counted(alloc, &SECRET, stripped, FOOTER);
-    expect_that(rt, is_for_its_footer(answer), &kind);
+    expect_outcome(rt, alloc, answer, "FooterInvalid", kind);
     expect_that(rt, calls == Calls::NONE, &kind);
     kind.check_refused(rt, alloc, stripped, Binding::NONE);
-}
-
-fn is_for_its_footer(answer: Result<String, PasetoError>) -> bool {
-    matches!(&answer, Err(PasetoError::FooterInvalid))
 }
 
 // A token whose footer section was taken off is refused where the footer is passed, and neither a box nor a
@@ -76,23 +72,6 @@ fn a_stripped_footer(rt: HostRuntime) {
             .strip_suffix(".Zm9vdGVy")
             .expect(&rt, "a footer");
         check_stripped(&rt, rt.alloc(), kind, stripped);
-    }
-}
-
-// That a footer's section is lacking is found after the number of sections, and before the header.
-#[test]
-fn a_footer_that_is_lacking(rt: HostRuntime) {
-    'kinds: for &(kind, _) in LENGTHS {
-        let answer = kind.read(rt.alloc(), "v5.local.1234", FOOTER);
-        expect_that(&rt, is_for_its_footer(answer), &kind);
-        let answer = kind.read(rt.alloc(), "v5.local.1234", Binding::NONE);
-        expect_that(&rt, matches!(answer, Err(PasetoError::WrongHeader)), &kind);
-        let answer = kind.read(rt.alloc(), "v5.local", FOOTER);
-        expect_that(
-            &rt,
-            matches!(answer, Err(PasetoError::IncorrectSize)),
-            &kind,
-        );
     }
 }
 

@@ -1,9 +1,8 @@
 //! Texts that are put in the place of tokens, under a known key.
 
 use super::parts::{payload_under, token_of_payload};
-use crate::expect::{expect_refusal, expect_same, expect_that};
+use crate::expect::{expect_outcome, expect_refusal, expect_same};
 use crate::kinds::{Binding, KINDS, Kind};
-use rusty_paseto_core::PasetoError;
 use std::alloc::Global;
 use std::process::Abort;
 
@@ -18,26 +17,25 @@ const SHORTEST: &[(Kind, usize)] = &[
     (Kind::V4Local, 64),
 ];
 
-// What is answered for so many bytes of zeros.
-fn answer_to_zeros(rt: &impl Abort, alloc: Global, kind: Kind, len: usize) -> PasetoError {
+// So many bytes of zeros are refused so.
+fn check_zeros(rt: &impl Abort, alloc: Global, kind: Kind, len: usize, wanted: &str) {
     let payload = [0u8; 81];
     let payload = payload.get(..len).expect(rt, "a length");
     let token = token_of_payload(rt, alloc, kind, payload);
     let (answer, _) = kind.read_counted(alloc, &KNOWN, token.as_str(), Binding::NONE);
-    answer.err().expect(rt, "a refusal")
+    expect_outcome(rt, alloc, answer, wanted, (kind, len));
 }
 
 #[test]
 fn payloads_of_zeros(rt: HostRuntime) {
     'kinds: for &(kind, shortest) in SHORTEST {
         'lengths: for len in 0..82usize {
-            let answer = answer_to_zeros(&rt, rt.alloc(), kind, len);
-            let told = if len < shortest {
-                matches!(&answer, PasetoError::IncorrectSize)
+            let wanted = if len < shortest {
+                "IncorrectSize"
             } else {
-                kind.is_refused(&Err(answer))
+                kind.refusal()
             };
-            expect_that(&rt, told, &(kind, len));
+            check_zeros(&rt, rt.alloc(), kind, len, wanted);
         }
     }
 }
@@ -85,10 +83,6 @@ fn without_last_letter(rt: &impl Abort, alloc: Global, token: String) -> String 
     format!(in alloc; "{cut}.Zm9vdGV").expect(rt, "memory")
 }
 
-fn is_for_its_footer(answer: Result<String, PasetoError>) -> bool {
-    matches!(&answer, Err(PasetoError::FooterInvalid))
-}
-
 #[test]
 fn a_footer_without_its_last_letter(rt: HostRuntime) {
     let binding = Binding::of_footer(Some("footer"));
@@ -96,7 +90,7 @@ fn a_footer_without_its_last_letter(rt: HostRuntime) {
         let (made, _) = kind.make_counted(rt.alloc(), &KNOWN, "", binding);
         let cut = without_last_letter(&rt, rt.alloc(), made.expect(&rt, "a token"));
         let (answer, _) = kind.read_counted(rt.alloc(), &KNOWN, cut.as_str(), binding);
-        expect_that(&rt, is_for_its_footer(answer), &kind);
+        expect_outcome(&rt, rt.alloc(), answer, "FooterInvalid", kind);
     }
 }
 

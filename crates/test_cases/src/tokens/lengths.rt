@@ -1,8 +1,8 @@
 //! Long texts and long footers, and texts of odd letters, which become tokens and come back.
 
-use crate::expect::expect_that;
-use crate::kinds::{Binding, KINDS, Kind, SECRET, symmetric_key};
-use rusty_paseto_core::{Key, Local, Paseto, PasetoError, PasetoNonce, Payload, V2};
+use crate::expect::{expect_outcome, expect_that};
+use crate::kinds::{Binding, ENDLESS_KINDS, KINDS, Kind, SECRET, symmetric_key};
+use rusty_paseto_core::{Key, Local, Paseto, PasetoNonce, Payload, V2};
 use std::alloc::Global;
 use std::process::Abort;
 use test_toys::PlainBox;
@@ -38,17 +38,6 @@ fn check_boxed_text(rt: &impl Abort, alloc: Global, letters: usize) {
     expect_that(rt, same.as_str() == text.as_str(), &letters);
 }
 
-// The kinds that take a text of any length, version 2 aside.
-const ENDLESS_KINDS: &[Kind] = &[
-    Kind::V1Local,
-    Kind::V3Local,
-    Kind::V4Local,
-    Kind::V1Public,
-    Kind::V2Public,
-    Kind::V3Public,
-    Kind::V4Public,
-];
-
 #[test]
 fn long_texts(rt: HostRuntime) {
     'lengths: for &letters in LENGTHS {
@@ -75,11 +64,7 @@ fn the_longest_text_of_a_box(rt: HostRuntime) {
     check_text(&rt, rt.alloc(), Kind::V2Local, 4_096);
     let text = text_of(rt.alloc(), 4_097).expect(&rt, "memory");
     let answer = Kind::V2Local.make(rt.alloc(), text.as_str(), Binding::NONE);
-    expect_that(
-        &rt,
-        matches!(&answer, Err(PasetoError::ChaChaCipherError)),
-        "the answer",
-    );
+    expect_outcome(&rt, rt.alloc(), answer, "ChaChaCipherError", "the box");
 }
 
 // Control characters, and a letter of four bytes.

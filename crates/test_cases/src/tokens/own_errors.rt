@@ -3,7 +3,7 @@
 
 use super::faults::token_of_zeros;
 use super::refusals::LETTERS;
-use crate::expect::{expect_same, expect_that};
+use crate::expect::{expect_outcome, expect_same};
 use crate::kinds::{Kind, SECRET};
 use rusty_paseto_core::{
     PasetoAsymmetricPrivateKey, PasetoError, Payload, Public, Signs, V1, V2, V2orV4, V3, V4,
@@ -43,22 +43,13 @@ where
 {
     let keys = Keys::of(&SECRET);
     let (answer, calls) = sign_by::<V, Refusing>(alloc, Refusing, &V::private_key(&keys));
-    check_refused(rt, kind, answer, calls, asked);
+    expect_outcome(rt, alloc, answer, "Signature", kind);
+    expect_same(rt, &calls, &Calls::once(asked), &kind);
     let scheme = Counting::new(Refusing);
     let key = V::public_key(&keys).expect(rt, "a key");
     let answer = V::verify(alloc, &scheme, token, &key, None, V::bound(None));
-    check_refused(rt, kind, answer, scheme.calls(), Call::Verify);
-}
-
-fn check_refused(
-    rt: &impl Abort,
-    kind: Kind,
-    answer: Result<String, PasetoError>,
-    calls: Calls,
-    asked: Call,
-) {
-    expect_that(rt, matches!(&answer, Err(PasetoError::Signature)), &kind);
-    expect_same(rt, &calls, &Calls::once(asked), &kind);
+    expect_outcome(rt, alloc, answer, "Signature", kind);
+    expect_same(rt, &scheme.calls(), &Calls::once(Call::Verify), &kind);
 }
 
 // In version 3 a scheme that tells no public key is not asked for a signature.
@@ -86,12 +77,8 @@ where
 {
     let key = PasetoAsymmetricPrivateKey::<V, Public>::from(bytes);
     let (answer, calls) = sign_by::<V, S>(alloc, scheme, &key);
-    expect_that(
-        rt,
-        matches!(&answer, Err(PasetoError::TryFromSlice)),
-        "the answer",
-    );
-    expect_same(rt, &calls, &Calls::NONE, "the answer");
+    expect_outcome(rt, alloc, answer, "TryFromSlice", bytes.len());
+    expect_same(rt, &calls, &Calls::NONE, "what was asked");
 }
 
 // Keys that are a byte too short and a byte too long.
@@ -113,10 +100,6 @@ fn an_empty_key(rt: HostRuntime) {
     let nothing: &[u8] = &[];
     let key = PasetoAsymmetricPrivateKey::<V1, Public>::from(nothing);
     let (answer, calls) = sign_by::<V1, ToyV1>(rt.alloc(), ToyV1, &key);
-    expect_that(
-        &rt,
-        matches!(&answer, Err(PasetoError::KeyRejected)),
-        "the answer",
-    );
-    expect_same(&rt, &calls, &Calls::once(Call::Sign), "the answer");
+    expect_outcome(&rt, rt.alloc(), answer, "KeyRejected", "the scheme");
+    expect_same(&rt, &calls, &Calls::once(Call::Sign), "what was asked");
 }

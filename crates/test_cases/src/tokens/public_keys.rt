@@ -1,8 +1,8 @@
 //! Public keys that the scheme refuses.
 
-use crate::expect::expect_that;
+use crate::expect::expect_outcome;
 use crate::kinds::{Binding, Kind, SECRET};
-use rusty_paseto_core::{Key, Paseto, PasetoAsymmetricPublicKey, PasetoError, Public, V3};
+use rusty_paseto_core::{Key, Paseto, PasetoAsymmetricPublicKey, Public, V3};
 use test_toys::{ToyV3, toy_partner_v3};
 
 // A point that begins with 3 is a key of version 3, but none of the toy's.
@@ -21,9 +21,5 @@ fn a_key_that_begins_with_3(rt: HostRuntime) {
         None,
         None,
     );
-    expect_that(
-        &rt,
-        matches!(&answer, Err(PasetoError::InvalidKey)),
-        "the answer",
-    );
+    expect_outcome(&rt, rt.alloc(), answer, "InvalidKey", "the scheme");
 }

@@ -1,8 +1,7 @@
 //! Tokens that are read under a key and for a binding: their own, or another.
 
-use crate::expect::{expect_same, expect_that};
+use crate::expect::{expect_outcome, expect_same};
 use crate::kinds::{ASSERTED_KINDS, Binding, KINDS, Kind, OTHER_SECRET, SECRET};
-use rusty_paseto_core::PasetoError;
 use std::alloc::Global;
 use std::process::Abort;
 
@@ -115,19 +114,18 @@ fn token_of(rt: &impl Abort, alloc: Global, kind: Kind, under: Under) -> String 
     made.expect(rt, "a token")
 }
 
-fn is_told(kind: Kind, answer: &Result<String, PasetoError>, told: Told) -> bool {
-    match told {
-        Told::Text => matches!(answer, Ok(text) if text.as_str() == "hello"),
-        Told::Refusal => kind.is_refused(answer),
-        Told::OtherFooter => matches!(answer, Err(PasetoError::FooterInvalid)),
-    }
-}
-
 fn check(rt: &impl Abort, alloc: Global, kind: Kind, row: Row) {
     let (made, read, told) = row;
     let token = token_of(rt, alloc, kind, made);
     let (answer, _) = kind.read_counted(alloc, read.secret(), token.as_str(), read.binding());
-    expect_that(rt, is_told(kind, &answer, told), (kind, row));
+    match told {
+        Told::Text => {
+            let text = answer.expect(rt, "a text");
+            expect_same(rt, text.as_str(), "hello", &(kind, row));
+        }
+        Told::Refusal => expect_outcome(rt, alloc, answer, kind.refusal(), (kind, row)),
+        Told::OtherFooter => expect_outcome(rt, alloc, answer, "FooterInvalid", (kind, row)),
+    }
 }
 
 fn check_rows(rt: &impl Abort, alloc: Global, kinds: &[Kind], rows: &[Row]) {
@@ -164,6 +162,6 @@ fn a_footer_for_an_assertion(rt: HostRuntime) {
         let bare = token_of(&rt, rt.alloc(), kind, asserted);
         let token = format!(in rt.alloc(); "{bare}.Zm9vdGVy").expect(&rt, "memory");
         let answer = kind.read(rt.alloc(), token.as_str(), FOOTER.binding());
-        expect_that(&rt, kind.is_refused(&answer), kind);
+        expect_outcome(&rt, rt.alloc(), answer, kind.refusal(), kind);
     }
 }

@@ -2,7 +2,7 @@
 
 use super::faults::token_of_zeros;
 use super::parts::token_of_payload;
-use crate::expect::{expect_same, expect_that};
+use crate::expect::{expect_outcome, expect_same};
 use crate::kinds::{Binding, KINDS, Kind};
 use rusty_paseto_core::from_section;
 use std::alloc::Global;
@@ -51,7 +51,8 @@ fn other_payloads(rt: HostRuntime) {
         'changes: for (first, last) in [(1, 0), (0, 1), (0, 128)] {
             let changed = with_changes(&rt, rt.alloc(), kind, token.as_str(), first, last);
             let answer = kind.read(rt.alloc(), changed.as_str(), Binding::NONE);
-            expect_that(&rt, kind.is_refused(&answer), &(kind, first, last));
+            let row = (kind, first, last);
+            expect_outcome(&rt, rt.alloc(), answer, kind.refusal(), row);
         }
     }
 }

@@ -21,17 +21,6 @@ struct Made<'a> {
 }
 
 impl<'a> Made<'a> {
-    // Of a nonce and a text, under one key and with neither a footer nor an implicit assertion.
-    fn of(nonce: u8, text: &'a str) -> Self {
-        Made {
-            key: 7,
-            nonce,
-            text,
-            footer: "",
-            assertion: "",
-        }
-    }
-
     fn key(self) -> PasetoSymmetricKey<OneTag, Local> {
         PasetoSymmetricKey::from(Key::from([self.key; 32]))
     }
@@ -114,9 +103,9 @@ fn find(rt: &impl Abort, alloc: Global, all: &[Made<'_>]) -> Option<TagCollision
 }
 
 // The tokens at these two places are shown as a collision.
-fn check_found(rt: &impl Abort, alloc: Global, all: &[Made<'_>], places: [usize; 2]) {
+fn check_found(rt: &impl Abort, alloc: Global, name: &str, all: &[Made<'_>], places: [usize; 2]) {
     let found = find(rt, alloc, all).expect(rt, "a collision");
-    expect_same(rt, found.places, places, "the places");
+    expect_same(rt, found.places, places, name);
     let first = all.get(places[0]).expect(rt, "a first place");
     let second = all.get(places[1]).expect(rt, "a second place");
     expect_bytes(
@@ -133,46 +122,67 @@ fn check_found(rt: &impl Abort, alloc: Global, all: &[Made<'_>], places: [usize;
 }
 
 // None of the tokens are a collision.
-fn check_none(rt: &impl Abort, alloc: Global, all: &[Made<'_>]) {
-    expect_that(rt, find(rt, alloc, all).is_none(), "the answer");
+fn check_none(rt: &impl Abort, alloc: Global, name: &str, all: &[Made<'_>]) {
+    expect_that(rt, find(rt, alloc, all).is_none(), name);
 }
 
-#[test]
-fn two_texts_under_one_nonce(rt: HostRuntime) {
-    let (a, b) = (Made::of(0, "a"), Made::of(0, "b"));
-    let a_elsewhere = Made::of(1, "a");
-    check_found(&rt, rt.alloc(), &[a, a_elsewhere, b], [0, 2]);
-    check_found(&rt, rt.alloc(), &[b, a_elsewhere, a], [0, 2]);
-    check_found(&rt, rt.alloc(), &[a_elsewhere, a, a, b], [1, 3]);
-}
+const A: Made<'static> = Made {
+    key: 7,
+    nonce: 0,
+    text: "a",
+    footer: "",
+    assertion: "",
+};
+
+const A_ELSEWHERE: Made<'static> = Made { nonce: 1, ..A };
+
+const B: Made<'static> = Made { text: "b", ..A };
+
+const B_ELSEWHERE: Made<'static> = Made {
+    nonce: 1,
+    text: "b",
+    ..A
+};
+
+const OTHER_KEY: Made<'static> = Made { key: 8, ..A };
+
+const OTHER_KEY_ELSEWHERE: Made<'static> = Made {
+    key: 8,
+    nonce: 1,
+    ..A
+};
+
+const BOUND: Made<'static> = Made { footer: "b", ..A };
+
+const ASSERTED: Made<'static> = Made {
+    assertion: "b",
+    ..A
+};
+
+// Tokens, and the places of the two that are shown.
+const COLLISIONS: &[(&str, &[Made<'static>], [usize; 2])] = &[
+    ("two texts", &[A, A_ELSEWHERE, B], [0, 2]),
+    ("two texts, turned", &[B, A_ELSEWHERE, A], [0, 2]),
+    ("two texts among four", &[A_ELSEWHERE, A, A, B], [1, 3]),
+    ("two keys", &[A, OTHER_KEY], [0, 1]),
+    ("two footers", &[A, BOUND], [0, 1]),
+    ("two assertions", &[ASSERTED, A], [0, 1]),
+    ("a footer and an assertion", &[BOUND, ASSERTED], [0, 1]),
+];
+
+// Tokens of one content, or of two nonces.
+const OTHERS: &[(&str, &[Made<'static>])] = &[
+    ("one content", &[A, A]),
+    ("two nonces and two texts", &[A, B_ELSEWHERE]),
+    ("two nonces and two keys", &[A, OTHER_KEY_ELSEWHERE]),
+];
 
 #[test]
-fn one_text_under_two_keys(rt: HostRuntime) {
-    let a = Made::of(0, "a");
-    check_found(&rt, rt.alloc(), &[a, Made { key: 8, ..a }], [0, 1]);
-}
-
-#[test]
-fn two_footers_and_two_assertions(rt: HostRuntime) {
-    let a = Made::of(0, "a");
-    let bound = Made { footer: "b", ..a };
-    let asserted = Made {
-        assertion: "b",
-        ..a
-    };
-    check_found(&rt, rt.alloc(), &[a, bound], [0, 1]);
-    check_found(&rt, rt.alloc(), &[asserted, a], [0, 1]);
-    check_found(&rt, rt.alloc(), &[bound, asserted], [0, 1]);
-}
-
-#[test]
-fn one_content_or_two_nonces(rt: HostRuntime) {
-    let a = Made::of(0, "a");
-    let other_key = Made {
-        key: 8,
-        ..Made::of(1, "a")
-    };
-    check_none(&rt, rt.alloc(), &[a, a]);
-    check_none(&rt, rt.alloc(), &[a, Made::of(1, "b")]);
-    check_none(&rt, rt.alloc(), &[a, other_key]);
+fn shown_where_two_contents_share_a_nonce(rt: HostRuntime) {
+    'collisions: for &(name, all, places) in COLLISIONS {
+        check_found(&rt, rt.alloc(), name, all, places);
+    }
+    'others: for &(name, all) in OTHERS {
+        check_none(&rt, rt.alloc(), name, all);
+    }
 }
