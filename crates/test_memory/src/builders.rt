@@ -29,10 +29,7 @@ pub fn ask(run: &mut Run<'_>) -> Result<()> {
 pub fn map_of(alloc: Global, json: &str) -> Result<Map<String, Value>> {
     match Value::from_str(alloc, json)? {
         Value::Object(members) => Ok(members),
-        other => {
-            drop(other);
-            bail!("{json} is no object")
-        }
+        _ => bail!("{json} is no object"),
     }
 }
 
@@ -50,39 +47,23 @@ pub fn builder_of<V: VersionTrait, P: PurposeTrait>(
     text: &str,
 ) -> Result<GenericBuilder<'static, V, P>> {
     let mut builder = GenericBuilder::new(alloc);
-    match put_claims(&mut builder, alloc, text) {
-        Ok(()) => {
-            builder.set_footer(footer());
-            Ok(builder)
-        }
-        Err(error) => {
-            drop(builder);
-            Err(error)
-        }
-    }
-}
-
-// Puts the fifteen claims.
-fn put_claims<B: ClaimSetter>(builder: &mut B, alloc: Global, text: &str) -> Result<()> {
     builder.put_claim(&AudienceClaim::from("customers"))?;
     builder.put_claim(&CustomClaim::try_from_str(alloc, "data", text)?)?;
     builder.put_claim(&CustomClaim::try_from_str(alloc, "seats", 4u64)?)?;
     'numbers: for number in 0..12u64 {
         builder.put_claim(&numbered(alloc, number)?)?;
     }
-    Ok(())
+    builder.set_footer(footer());
+    Ok(builder)
 }
 
 const SEVERAL: &str = "{\"a\":[1,2],\"aud\":null,\"z\":{\"b\":\"c\"}}";
 
 fn ask_claims(run: &mut Run<'_>) -> Result<()> {
     let (alloc, text) = (run.alloc, run.text);
-    let (other, claim) = (
-        AudienceClaim::from("another one"),
-        CustomClaim::try_from_str(alloc, "text", text)?,
-    );
-    let odd = odd_claim(alloc)?;
-    let told = edits! { run, "GenericBuilder::", builder = builder_of::<V4, Local>(alloc, text);
+    let (other, odd) = (AudienceClaim::from("another one"), odd_claim(alloc)?);
+    let claim = CustomClaim::try_from_str(alloc, "text", text)?;
+    edits! { run, "GenericBuilder::", builder = builder_of::<V4, Local>(alloc, text);
         "put_claim of a claim" => builder.put_claim(&claim);
         "set_claim of a claim" => builder.set_claim(&claim).map(drop);
         "put_claim of a key that is there" => builder.put_claim(&other);
@@ -90,17 +71,13 @@ fn ask_claims(run: &mut Run<'_>) -> Result<()> {
         "put_claims of a map", map = map_of(alloc, SEVERAL)? => builder.put_claims(map);
         "extend_claims of a map", map = map_of(alloc, SEVERAL)? => builder.extend_claims(map).map(drop);
         "put_claims of a map with a fraction, refused", map = map_of(alloc, ODD)? => builder.put_claims(map);
-    };
-    drop(odd);
-    told
+    }
 }
 
 fn ask_payload(run: &mut Run<'_>) -> Result<()> {
     let builder = builder_of::<V4, Local>(run.alloc, run.text)?;
-    let told = calls! { run; "GenericBuilder::build_payload_from_claims of some claims"
-        => builder.build_payload_from_claims(); };
-    drop(builder);
-    told
+    calls! { run; "GenericBuilder::build_payload_from_claims of some claims"
+        => builder.build_payload_from_claims(); }
 }
 
 struct Kinds;
@@ -109,27 +86,19 @@ impl Cases for Kinds {
     fn ask_local<V: DefaultLocalVersion>(run: &mut Run<'_>, kind: &str) -> Result<()> {
         let builder = builder_of::<V, Local>(run.alloc, run.text)?;
         let key = symmetric_key();
-        let told =
-            calls! { run, kind; "GenericBuilder::try_encrypt of {}" => builder.try_encrypt(&mut Zeros, &key); };
-        drop(builder);
-        told
+        calls! { run, kind; "GenericBuilder::try_encrypt of {}" => builder.try_encrypt(&mut Zeros, &key); }
     }
 
     fn ask_boxed(run: &mut Run<'_>) -> Result<()> {
         let key = symmetric_key();
         let builder = builder_of::<V2, Local>(run.alloc, run.text)?;
-        let told = calls! { run; "GenericBuilder::try_encrypt of v2.local"
-            => builder.try_encrypt(&PlainBox, &mut Zeros, &key); };
-        drop(builder);
-        told
+        calls! { run; "GenericBuilder::try_encrypt of v2.local"
+            => builder.try_encrypt(&PlainBox, &mut Zeros, &key); }
     }
 
     fn ask_public<V: Signed>(run: &mut Run<'_>, kind: &str, keys: &Keys) -> Result<()> {
         let builder = builder_of::<V, Public>(run.alloc, run.text)?;
         let key = V::private_key(keys);
-        let told =
-            calls! { run, kind; "GenericBuilder::try_sign of {}" => builder.try_sign(&mut Lenient, &key); };
-        drop(builder);
-        told
+        calls! { run, kind; "GenericBuilder::try_sign of {}" => builder.try_sign(&mut Lenient, &key); }
     }
 }

@@ -1,13 +1,11 @@
 //! The calls of default builders and parsers.
 
+use crate::builders::map_of;
 use crate::claims::numbered;
 use crate::kinds::{Cases, Signed, ask_kinds, footer, symmetric_key};
-use crate::parsers::{
-    UNDATED, ask_check_maps, ask_checks, ask_times, boxed_good, good, now, put_checks, sealed_good,
-    signed_good,
-};
+use crate::parsers::{SEVERAL, good, now, put_checks};
 use crate::run::{Run, Snapshot, calls, edits, put, shown};
-use crate::tokens::seal;
+use crate::tokens::{seal, seal_boxed, sign};
 use crate::validators::{Refuses, validators};
 use anyhow::{Result, ensure};
 use jiff::Timestamp;
@@ -39,94 +37,37 @@ pub fn ask(run: &mut Run<'_>) -> Result<()> {
     ask_claims(run)?;
     ask_repeated_claims(run)?;
     ask_lifetimes(run)?;
-    ask_late_lifetime(run)?;
-    ask_setters(run)?;
+    ask_checks(run)?;
+    ask_validators(run)?;
     ask_kinds::<Kinds>(run)
 }
-
-// At the first moment of 2060 all tokens of the cases have expired.
-fn ask_setters(run: &mut Run<'_>) -> Result<()> {
-    let (alloc, late) = (run.alloc, Timestamp::from_second(2_840_140_800)?);
-    ask_checks(run, "DefaultParser::", || parser_of::<V4, Local>(alloc))?;
-    ask_check_maps(run, "DefaultParser::", || parser_of::<V4, Local>(alloc))?;
-    ask_validators(run)?;
-    ask_times(
-        run,
-        "DefaultParser::",
-        || parser_of::<V4, Local>(alloc),
-        late,
-    )
-}
-
-fn ask_validators(run: &mut Run<'_>) -> Result<()> {
-    let (alloc, claim) = (run.alloc, AudienceClaim::from("customers"));
-    edits! { run, "DefaultParser::", parser = parser_of::<V4, Local>(alloc);
-        "put_validator of a claim", given = Box::new(alloc, Refuses)? => parser.put_validator(&claim, given);
-        "validate_claim of a claim", given = Box::new(alloc, Refuses)?
-            => parser.validate_claim(&claim, given).map(drop);
-        "put_validators of a map", map = validators!(alloc) => parser.put_validators(map);
-        "extend_validation_claims of a map", map = validators!(alloc)
-            => parser.extend_validation_claims(map).map(drop);
-        "put_key_validator of a key", given = Box::new(alloc, Refuses)?
-            => parser.put_key_validator("aud", given);
-        "validate_key of a key", given = Box::new(alloc, Refuses)?
-            => parser.validate_key("aud", given).map(drop);
-    }
-}
-
-type Builder<V, P> = PasetoBuilder<'static, V, P>;
-
-type Parser<V, P> = PasetoParser<'static, V, P>;
 
 /// A builder of five claims and so many more, one of them with the text, and a footer.
 pub fn builder_of<V: VersionTrait, P: PurposeTrait>(
     alloc: Global,
     text: &str,
     more: u64,
-) -> Result<Builder<V, P>> {
+) -> Result<PasetoBuilder<'static, V, P>> {
     let now = now()?;
     ensure!(fits_default(now), "no default builder begins at the moment");
     let mut builder = PasetoBuilder::default(alloc, now)?;
-    match put_claims(&mut builder, alloc, text, more) {
-        Ok(()) => {
-            builder.set_footer(footer());
-            Ok(builder)
-        }
-        Err(error) => {
-            drop(builder);
-            Err(error)
-        }
-    }
-}
-
-// Puts an audience, the text and so many numbers.
-fn put_claims<B: CountingSetter>(
-    builder: &mut B,
-    alloc: Global,
-    text: &str,
-    more: u64,
-) -> Result<()> {
     builder.put_claim(&AudienceClaim::from("customers"))?;
     builder.put_claim(&CustomClaim::try_from_str(alloc, "data", text)?)?;
     'numbers: for number in 0..more {
         builder.put_claim(&numbered(alloc, number)?)?;
     }
-    Ok(())
+    builder.set_footer(footer());
+    Ok(builder)
 }
 
 /// A parser that checks fifteen claims, and expects the footer.
-pub fn parser_of<V: VersionTrait, P: PurposeTrait>(alloc: Global) -> Result<Parser<V, P>> {
+pub fn parser_of<V: VersionTrait, P: PurposeTrait>(
+    alloc: Global,
+) -> Result<PasetoParser<'static, V, P>> {
     let mut parser = PasetoParser::default(alloc, now()?)?;
-    match put_checks(&mut parser, alloc, 12) {
-        Ok(()) => {
-            parser.set_footer(footer());
-            Ok(parser)
-        }
-        Err(error) => {
-            drop(parser);
-            Err(error)
-        }
-    }
+    put_checks(&mut parser, alloc, 12)?;
+    parser.set_footer(footer());
+    Ok(parser)
 }
 
 fn ask_defaults(run: &mut Run<'_>) -> Result<()> {
@@ -160,22 +101,14 @@ fn ask_claims(run: &mut Run<'_>) -> Result<()> {
 
 // A claim that is set again makes a key the repeated one, for which nothing is built.
 fn ask_repeated_claims(run: &mut Run<'_>) -> Result<()> {
-    let (alloc, claim) = (run.alloc, AudienceClaim::from("others"));
+    let (alloc, claim, key) = (run.alloc, AudienceClaim::from("others"), symmetric_key());
     edits!(run, "PasetoBuilder::", builder = builder_of::<V4, Local>(alloc, "a", 10);
         "put_claim of a key that was set" => builder.put_claim(&claim);
     )?;
     let mut builder = builder_of::<V4, Local>(alloc, "a", 10)?;
-    let told = match builder.put_claim(&claim) {
-        Ok(()) => ask_build::<V4>(run, "a key that was set again, refused", &builder),
-        Err(error) => Err(error.into()),
-    };
-    drop(builder);
-    told?;
-    ask_acknowledged(run)
-}
-
-fn ask_acknowledged(run: &mut Run<'_>) -> Result<()> {
-    let alloc = run.alloc;
+    builder.put_claim(&claim)?;
+    calls!(run; "PasetoBuilder::build of a key that was set again, refused"
+        => builder.build(&mut Zeros, &key);)?;
     edits! { run, "PasetoBuilder::", builder = builder_of::<V4, Local>(alloc, "a", 10);
         "put_no_expiration_danger_acknowledged of a builder"
             => builder.put_no_expiration_danger_acknowledged();
@@ -184,88 +117,87 @@ fn ask_acknowledged(run: &mut Run<'_>) -> Result<()> {
     }
 }
 
+// From the last moment at which a builder begins, an hour is left, and its fraction of a second.
 fn ask_lifetimes(run: &mut Run<'_>) -> Result<()> {
     let alloc = run.alloc;
-    edits! { run, "PasetoBuilder::", builder = builder_of::<V4, Local>(alloc, "a", 10);
+    let last = Timestamp::from_nanosecond(Timestamp::MAX.as_nanosecond() - 3_600_000_000_000)?;
+    edits!(run, "PasetoBuilder::", builder = builder_of::<V4, Local>(alloc, "a", 10);
         "put_lifetime of a builder" => builder.put_lifetime(600);
         "set_lifetime of a builder" => builder.set_lifetime(600).map(drop);
-    }
-}
-
-// From the last moment at which a builder begins, an hour is left, and its fraction of a second.
-fn ask_late_lifetime(run: &mut Run<'_>) -> Result<()> {
-    let alloc = run.alloc;
-    let last = Timestamp::from_nanosecond(Timestamp::MAX.as_nanosecond() - 3_600_000_000_000)?;
+    )?;
     edits! { run, "PasetoBuilder::", builder = Ok(PasetoBuilder::<V4, Local>::try_default(alloc, last)?);
         "put_lifetime of a builder past the last moment, refused" => builder.put_lifetime(3_601);
     }
 }
 
-// Asks a builder for a token of its version.
-fn ask_build<V: DefaultLocalVersion>(
-    run: &mut Run<'_>,
-    of: &str,
-    builder: &Builder<V, Local>,
-) -> Result<()> {
-    let key = symmetric_key();
-    calls! { run, of; "PasetoBuilder::build of {}" => builder.build(&mut Zeros, &key); }
+fn ask_checks(run: &mut Run<'_>) -> Result<()> {
+    let (alloc, claim) = (run.alloc, AudienceClaim::from("others"));
+    edits! { run, "DefaultParser::", parser = parser_of::<V4, Local>(alloc);
+        "put_check of a claim" => parser.put_check(&claim);
+        "check_claim of a claim" => parser.check_claim(&claim).map(drop);
+        "put_checks of a map", map = map_of(alloc, SEVERAL)? => parser.put_checks(map);
+        "extend_check_claims of a map", map = map_of(alloc, SEVERAL)?
+            => parser.extend_check_claims(map).map(drop);
+    }
+}
+
+// At the first moment of 2060 all tokens of the cases have expired.
+fn ask_validators(run: &mut Run<'_>) -> Result<()> {
+    let (alloc, claim) = (run.alloc, AudienceClaim::from("customers"));
+    let late = Timestamp::from_second(2_840_140_800)?;
+    edits! { run, "DefaultParser::", parser = parser_of::<V4, Local>(alloc);
+        "put_validator of a claim", given = Box::new(alloc, Refuses)? => parser.put_validator(&claim, given);
+        "validate_claim of a claim", given = Box::new(alloc, Refuses)?
+            => parser.validate_claim(&claim, given).map(drop);
+        "put_validators of a map", map = validators!(alloc) => parser.put_validators(map);
+        "extend_validation_claims of a map", map = validators!(alloc)
+            => parser.extend_validation_claims(map).map(drop);
+        "put_key_validator of a key", given = Box::new(alloc, Refuses)?
+            => parser.put_key_validator("aud", given);
+        "validate_key of a key", given = Box::new(alloc, Refuses)?
+            => parser.validate_key("aud", given).map(drop);
+        "put_required of a claim" => parser.put_required("sub");
+        "require_claim of a claim" => parser.require_claim("sub").map(drop);
+        "put_times of a moment" => parser.put_times(late);
+        "check_times of a moment" => parser.check_times(late).map(drop);
+    }
 }
 
 struct Kinds;
 
 impl Cases for Kinds {
     fn ask_local<V: DefaultLocalVersion>(run: &mut Run<'_>, kind: &str) -> Result<()> {
-        let builder = builder_of::<V, Local>(run.alloc, run.text, 10)?;
-        let told = ask_build::<V>(run, kind, &builder);
-        drop(builder);
-        told?;
-        let (token, key) = (sealed_good::<V>(run, footer())?, symmetric_key());
-        let parser = parser_of::<V, Local>(run.alloc)?;
-        let told =
-            calls! { run, kind; "DefaultParser::parse of {}" => parser.parse(token.as_str(), &key); };
-        drop(parser);
-        told
+        let (alloc, key) = (run.alloc, symmetric_key());
+        let token = seal::<V>(alloc, good(alloc, run.text)?.as_str(), footer())?;
+        let builder = builder_of::<V, Local>(alloc, run.text, 10)?;
+        let parser = parser_of::<V, Local>(alloc)?;
+        calls! { run, kind;
+            "PasetoBuilder::build of {}" => builder.build(&mut Zeros, &key);
+            "DefaultParser::parse of {}" => parser.parse(token.as_str(), &key);
+        }
     }
 
     fn ask_boxed(run: &mut Run<'_>) -> Result<()> {
-        let parser = parser_of::<V2, Local>(run.alloc)?;
-        let told = ask_boxed_parser(run, &parser);
-        drop(parser);
-        told
+        let (alloc, key) = (run.alloc, symmetric_key());
+        let token = seal_boxed(alloc, good(alloc, run.text)?.as_str(), footer())?;
+        let builder = builder_of::<V2, Local>(alloc, run.text, 10)?;
+        let parser = parser_of::<V2, Local>(alloc)?;
+        let undated = Value::from_str(alloc, "{\"exp\":\"x\"}")?;
+        calls! { run;
+            "DefaultParser::check of no date, refused" => parser.check(&undated);
+            "PasetoBuilder::build of v2.local" => builder.build(&PlainBox, &mut Zeros, &key);
+            "DefaultParser::parse of v2.local" => parser.parse(&PlainBox, token.as_str(), &key);
+        }
     }
 
     fn ask_public<V: Signed>(run: &mut Run<'_>, kind: &str, keys: &Keys) -> Result<()> {
-        let (builder, key) = (
-            builder_of::<V, Public>(run.alloc, run.text, 10)?,
-            V::private_key(keys),
-        );
-        let told =
-            calls! { run, kind; "PasetoBuilder::build of {}" => builder.build(&mut Lenient, &key); };
-        drop(builder);
-        told?;
-        let (token, key) = (signed_good::<V>(run, footer())?, V::public_key(keys)?);
-        let parser = parser_of::<V, Public>(run.alloc)?;
-        let told =
-            calls! { run, kind; "DefaultParser::parse of {}" => parser.parse(&Lenient, token.as_str(), &key); };
-        drop(parser);
-        told
+        let (alloc, private, public) = (run.alloc, V::private_key(keys), V::public_key(keys)?);
+        let token = sign::<V>(alloc, good(alloc, run.text)?.as_str(), footer())?;
+        let builder = builder_of::<V, Public>(alloc, run.text, 10)?;
+        let parser = parser_of::<V, Public>(alloc)?;
+        calls! { run, kind;
+            "PasetoBuilder::build of {}" => builder.build(&mut Lenient, &private);
+            "DefaultParser::parse of {}" => parser.parse(&Lenient, token.as_str(), &public);
+        }
     }
-}
-
-fn ask_boxed_parser(run: &mut Run<'_>, parser: &Parser<V2, Local>) -> Result<()> {
-    let undated = Value::from_str(run.alloc, UNDATED)?;
-    let told =
-        calls! { run; "DefaultParser::check of no date, refused" => parser.check(&undated); };
-    drop(undated);
-    told?;
-    let (builder, key) = (
-        builder_of::<V2, Local>(run.alloc, run.text, 10)?,
-        symmetric_key(),
-    );
-    let told =
-        calls! { run; "PasetoBuilder::build of v2.local" => builder.build(&PlainBox, &mut Zeros, &key); };
-    drop(builder);
-    told?;
-    let token = boxed_good(run, footer())?;
-    calls! { run; "DefaultParser::parse of v2.local" => parser.parse(&PlainBox, token.as_str(), &key); }
 }

@@ -1,9 +1,9 @@
 //! The calls of key rings.
 
 use crate::kinds::{Signed, symmetric_key};
-use crate::parsers::{boxed_good, now, sealed_good, signed_good};
+use crate::parsers::{good, now};
 use crate::run::{Run, Snapshot, calls, edits, shown};
-use crate::tokens::seal;
+use crate::tokens::{seal, seal_boxed, sign};
 use anyhow::Result;
 use rusty_paseto::prelude::*;
 use std::alloc::Global;
@@ -28,9 +28,7 @@ impl<V: DefaultLocalVersion> Snapshot for KeyRing<V> {
 fn parsed<V: DefaultLocalVersion>(ring: &KeyRing<V>, alloc: Global, id: &str) -> Result<String> {
     let token = seal::<V>(alloc, "{}", Footer::from(id))?;
     let parser = GenericParser::<V, Local>::new(alloc);
-    let told = shown(alloc, ring.parse_by(&parser, token.as_str()));
-    drop(parser);
-    told
+    shown(alloc, ring.parse_by(&parser, token.as_str()))
 }
 
 /// Asks them.
@@ -40,7 +38,7 @@ pub fn ask(run: &mut Run<'_>) -> Result<()> {
     ask_local::<V4, _>(run, "v4.local", |ring, token| ring.open(token, None))?;
     ask_boxed(run)?;
     ask_id(run)?;
-    ask_publics(run, &Keys::of(&SECRET))
+    ask_publics(run)
 }
 
 // A ring takes an id of the text, and finds its key by a footer that names it.
@@ -55,54 +53,36 @@ fn ask_id(run: &mut Run<'_>) -> Result<()> {
 
 fn key_by(alloc: Global, id: &str, footer: &str) -> Result<[u8; 32], KeyRingError> {
     let mut ring = KeyRing::<V4>::new(alloc);
-    let found = match ring.add(id, symmetric_key()) {
-        Ok(()) => ring.key_of(footer).map(|key| *key.as_bytes()),
-        Err(error) => Err(error.into()),
-    };
-    drop(ring);
-    found
+    ring.add(id, symmetric_key())?;
+    ring.key_of(footer).map(|key| *key.as_bytes())
 }
 
-fn ask_publics(run: &mut Run<'_>, keys: &Keys) -> Result<()> {
-    ask_verifying(run, keys)?;
-    ask_bound(run, keys)?;
-    ask_public::<V1>(run, "v1.public", keys)?;
-    ask_public::<V2>(run, "v2.public", keys)?;
-    ask_public::<V3>(run, "v3.public", keys)?;
-    ask_public::<V4>(run, "v4.public", keys)
+fn ask_publics(run: &mut Run<'_>) -> Result<()> {
+    let keys = Keys::of(&SECRET);
+    ask_verifying(run, &keys)?;
+    ask_bound(run, &keys)?;
+    ask_public::<V1>(run, "v1.public", &keys)?;
+    ask_public::<V2>(run, "v2.public", &keys)?;
+    ask_public::<V3>(run, "v3.public", &keys)?;
+    ask_public::<V4>(run, "v4.public", &keys)
 }
 
 // A ring of twelve keys, none of which is the one that tokens are sealed under.
 fn ring_of<V: DefaultLocalVersion>(alloc: Global) -> Result<KeyRing<V>> {
     let mut ring = KeyRing::new(alloc);
-    match add_others(&mut ring, alloc) {
-        Ok(()) => Ok(ring),
-        Err(error) => {
-            drop(ring);
-            Err(error)
-        }
-    }
-}
-
-fn add_others<V: DefaultLocalVersion>(ring: &mut KeyRing<V>, alloc: Global) -> Result<()> {
     'ids: for number in 0..11u64 {
         let id = format!(in alloc; "{number}")?;
         ring.add(id.as_str(), other_key())?;
     }
     ring.add("old", other_key())?;
-    Ok(())
+    Ok(ring)
 }
 
 // The same with the tokens' key.
 fn full_ring<V: DefaultLocalVersion>(alloc: Global) -> Result<KeyRing<V>> {
     let mut ring = ring_of(alloc)?;
-    match ring.add("new", symmetric_key()) {
-        Ok(()) => Ok(ring),
-        Err(error) => {
-            drop(ring);
-            Err(error.into())
-        }
-    }
+    ring.add("new", symmetric_key())?;
+    Ok(ring)
 }
 
 fn other_key<V: DefaultLocalVersion>() -> PasetoSymmetricKey<V, Local> {
@@ -120,138 +100,79 @@ where
         "add of {}, a new id" => ring.add("new", key.clone());
         "add of {}, an id that is there" => ring.add("old", key.clone());
     )?;
-    let ring = full_ring::<V>(alloc)?;
-    let told = ask_full_ring(run, kind, &ring, opened);
-    drop(ring);
-    told
-}
-
-fn ask_full_ring<V: DefaultLocalVersion, F>(
-    run: &mut Run<'_>,
-    kind: &str,
-    ring: &KeyRing<V>,
-    opened: F,
-) -> Result<()>
-where
-    F: Copy + FnOnce(&KeyRing<V>, &str) -> Result<(String, String), KeyRingError>,
-    requires { F.IsAlwaysCallable opened }
-{
-    let token = seal::<V>(run.alloc, run.text, Footer::from(NEW))?;
-    let other = ring_of::<V>(run.alloc)?;
-    let told = calls! { run, kind;
-        "Ring::open of {}" => opened(ring, token.as_str());
+    let token = seal::<V>(alloc, run.text, Footer::from(NEW))?;
+    let (ring, other) = (full_ring::<V>(alloc)?, ring_of::<V>(alloc)?);
+    calls!(run, kind;
+        "Ring::open of {}" => opened(&ring, token.as_str());
         "Ring::open of {}, an id that is not there, refused" => opened(&other, token.as_str());
         "Ring::key_of of {}" => ring.key_of(NEW).map(|key| *key.as_bytes());
-    };
-    drop(other);
-    told?;
-    ask_parsing(run, kind, ring)
+    )?;
+    ask_parsing::<V>(run, kind)
 }
 
-fn ask_parsing<V: DefaultLocalVersion>(
-    run: &mut Run<'_>,
-    kind: &str,
-    ring: &KeyRing<V>,
-) -> Result<()> {
-    let token = sealed_good::<V>(run, Footer::from(NEW))?;
-    let parser = PasetoParser::<V, Local>::default(run.alloc, now()?)?;
-    let generic = GenericParser::<V, Local>::new(run.alloc);
-    let told = calls! { run, kind;
+fn ask_parsing<V: DefaultLocalVersion>(run: &mut Run<'_>, kind: &str) -> Result<()> {
+    let alloc = run.alloc;
+    let token = seal::<V>(alloc, good(alloc, run.text)?.as_str(), Footer::from(NEW))?;
+    let ring = full_ring::<V>(alloc)?;
+    let parser = PasetoParser::<V, Local>::default(alloc, now()?)?;
+    let generic = GenericParser::<V, Local>::new(alloc);
+    calls! { run, kind;
         "Ring::parse of {}" => ring.parse(&parser, token.as_str());
         "Ring::parse_by of {}" => ring.parse_by(&generic, token.as_str());
-    };
-    drop(generic);
-    drop(parser);
-    told
+    }
 }
 
 fn ask_boxed(run: &mut Run<'_>) -> Result<()> {
-    let mut ring = KeyRing::<V2>::new(run.alloc);
-    let told = ask_boxed_ring(run, &mut ring);
-    drop(ring);
-    told
-}
-
-fn ask_boxed_ring(run: &mut Run<'_>, ring: &mut KeyRing<V2>) -> Result<()> {
+    let alloc = run.alloc;
+    let token = seal_boxed(alloc, good(alloc, run.text)?.as_str(), Footer::from(NEW))?;
+    let mut ring = KeyRing::<V2>::new(alloc);
     ring.add("new", symmetric_key())?;
-    let token = boxed_good(run, Footer::from(NEW))?;
-    let parser = PasetoParser::<V2, Local>::default(run.alloc, now()?)?;
-    let generic = GenericParser::<V2, Local>::new(run.alloc);
-    let told = calls! { run;
+    let parser = PasetoParser::<V2, Local>::default(alloc, now()?)?;
+    let generic = GenericParser::<V2, Local>::new(alloc);
+    calls! { run;
         "Ring::open of v2.local" => ring.open(&PlainBox, token.as_str());
         "Ring::parse of v2.local" => ring.parse(&PlainBox, &parser, token.as_str());
         "Ring::parse_by of v2.local" => ring.parse_by(&PlainBox, &generic, token.as_str());
-    };
-    drop(generic);
-    drop(parser);
-    told
+    }
 }
 
 // A ring with the key that verifies.
 fn ring_of_public<'a, V: Signed>(alloc: Global, keys: &'a Keys) -> Result<PublicKeyRing<'a, V>> {
-    let key = V::public_key(keys)?;
     let mut ring = PublicKeyRing::<V>::new(alloc);
-    match ring.add("new", key) {
-        Ok(()) => Ok(ring),
-        Err(error) => {
-            drop(ring);
-            Err(error.into())
-        }
-    }
+    ring.add("new", V::public_key(keys)?)?;
+    Ok(ring)
+}
+
+// A token that the ring's key verifies.
+fn signed<V: Signed>(run: &Run<'_>) -> Result<String> {
+    let payload = good(run.alloc, run.text)?;
+    Ok(sign::<V>(run.alloc, payload.as_str(), Footer::from(NEW))?)
 }
 
 fn ask_verifying(run: &mut Run<'_>, keys: &Keys) -> Result<()> {
-    let ring = ring_of_public::<V1>(run.alloc, keys)?;
-    let told = ask_verified::<V1, _>(run, "v1.public", |token| ring.verify(&Lenient, token));
-    drop(ring);
-    told?;
-    let ring = ring_of_public::<V2>(run.alloc, keys)?;
-    let told = ask_verified::<V2, _>(run, "v2.public", |token| ring.verify(&Lenient, token));
-    drop(ring);
-    told
+    let (first, first_ring) = (signed::<V1>(run)?, ring_of_public::<V1>(run.alloc, keys)?);
+    let (second, second_ring) = (signed::<V2>(run)?, ring_of_public::<V2>(run.alloc, keys)?);
+    calls! { run;
+        "Ring::verify of v1.public" => first_ring.verify(&Lenient, first.as_str());
+        "Ring::verify of v2.public" => second_ring.verify(&Lenient, second.as_str());
+    }
 }
 
 fn ask_bound(run: &mut Run<'_>, keys: &Keys) -> Result<()> {
-    let ring = ring_of_public::<V3>(run.alloc, keys)?;
-    let told = ask_verified::<V3, _>(run, "v3.public", |token| ring.verify(&Lenient, token, None));
-    drop(ring);
-    told?;
-    let ring = ring_of_public::<V4>(run.alloc, keys)?;
-    let told = ask_verified::<V4, _>(run, "v4.public", |token| ring.verify(&Lenient, token, None));
-    drop(ring);
-    told
-}
-
-// Asks for what a version's token says, which a ring verifies so.
-fn ask_verified<V: Signed, F>(run: &mut Run<'_>, kind: &str, verified: F) -> Result<()>
-where
-    F: Copy + FnOnce(&str) -> Result<(String, String), KeyRingError>,
-    requires { F.IsAlwaysCallable verified }
-{
-    let token = signed_good::<V>(run, Footer::from(NEW))?;
-    calls! { run, kind; "Ring::verify of {}" => verified(token.as_str()); }
+    let (third, third_ring) = (signed::<V3>(run)?, ring_of_public::<V3>(run.alloc, keys)?);
+    let (fourth, fourth_ring) = (signed::<V4>(run)?, ring_of_public::<V4>(run.alloc, keys)?);
+    calls! { run;
+        "Ring::verify of v3.public" => third_ring.verify(&Lenient, third.as_str(), None);
+        "Ring::verify of v4.public" => fourth_ring.verify(&Lenient, fourth.as_str(), None);
+    }
 }
 
 fn ask_public<V: Signed>(run: &mut Run<'_>, kind: &str, keys: &Keys) -> Result<()> {
-    let ring = ring_of_public::<V>(run.alloc, keys)?;
-    let told = ask_public_ring(run, kind, &ring);
-    drop(ring);
-    told
-}
-
-fn ask_public_ring<V: Signed>(
-    run: &mut Run<'_>,
-    kind: &str,
-    ring: &PublicKeyRing<'_, V>,
-) -> Result<()> {
-    let token = signed_good::<V>(run, Footer::from(NEW))?;
+    let (ring, token) = (ring_of_public::<V>(run.alloc, keys)?, signed::<V>(run)?);
     let parser = PasetoParser::<V, Public>::default(run.alloc, now()?)?;
     let generic = GenericParser::<V, Public>::new(run.alloc);
-    let told = calls! { run, kind;
+    calls! { run, kind;
         "Ring::parse of {}" => ring.parse(&Lenient, &parser, token.as_str());
         "Ring::parse_by of {}" => ring.parse_by(&Lenient, &generic, token.as_str());
-    };
-    drop(generic);
-    drop(parser);
-    told
+    }
 }

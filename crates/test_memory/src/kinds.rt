@@ -21,14 +21,11 @@ pub fn ask_kinds<C: Cases>(run: &mut Run<'_>) -> Result<()> {
     C::ask_local::<V3>(run, "v3.local")?;
     C::ask_local::<V4>(run, "v4.local")?;
     C::ask_boxed(run)?;
-    ask_publics::<C>(run, &Keys::of(&SECRET))
-}
-
-fn ask_publics<C: Cases>(run: &mut Run<'_>, keys: &Keys) -> Result<()> {
-    C::ask_public::<V1>(run, "v1.public", keys)?;
-    C::ask_public::<V2>(run, "v2.public", keys)?;
-    C::ask_public::<V3>(run, "v3.public", keys)?;
-    C::ask_public::<V4>(run, "v4.public", keys)
+    let keys = Keys::of(&SECRET);
+    C::ask_public::<V1>(run, "v1.public", &keys)?;
+    C::ask_public::<V2>(run, "v2.public", &keys)?;
+    C::ask_public::<V3>(run, "v3.public", &keys)?;
+    C::ask_public::<V4>(run, "v4.public", &keys)
 }
 
 /// A version whose tokens are signed and verified by the lenient scheme.

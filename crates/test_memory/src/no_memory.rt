@@ -116,17 +116,13 @@ fn ask_limits(run: &mut Run<'_>) -> Result<()> {
     let (mut ring, mut footers) = (KeyRing::<V4>::new(alloc), KeyRing::<V4>::new(alloc));
     ring.set_longest(8);
     footers.set_longest_footer(4);
-    let told = calls! { run;
+    calls! { run;
         "TokenParser::parse of a longer token, with no memory, refused" => parser.parse(token, &key);
         "Ring::open of a longer token, with no memory, refused" => ring.open(token, None);
         "Ring::open of a longer footer, with no memory, refused" => footers.open(token, None);
         "Ring::key_of of a longer footer, with no memory, refused"
             => footers.key_of("key-1").map(|key| *key.as_bytes());
-    };
-    drop(footers);
-    drop(ring);
-    drop(parser);
-    told
+    }
 }
 
 // How many bytes the texts and keys have that are made of a text.

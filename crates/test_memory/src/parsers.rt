@@ -45,20 +45,11 @@ impl Snapshot for GenericParser<'_, V4, Local> {
 
 /// Asks them.
 pub fn ask(run: &mut Run<'_>) -> Result<()> {
-    let (alloc, moment) = (run.alloc, now()?);
-    ask_checks(run, "TokenParser::", || parser_of::<V4, Local>(alloc))?;
-    ask_refused_checks(run)?;
-    ask_validators(run)?;
-    ask_times(
-        run,
-        "TokenParser::",
-        || parser_of::<V4, Local>(alloc),
-        moment,
-    )?;
+    ask_checks(run)?;
+    ask_maps(run)?;
     ask_value(run)?;
     ask_kinds::<Kinds>(run)?;
-    ask_failed_checks(run)?;
-    ask_failed_validator(run)
+    ask_failed_checks(run)
 }
 
 pub type Parser<V, P> = GenericParser<'static, V, P>;
@@ -82,83 +73,39 @@ pub fn put_checks<B, P: CheckSetter<B>>(parser: &mut P, alloc: Global, more: u64
 
 // A parser that checks the times too.
 fn timed<V: VersionTrait, P: PurposeTrait>(alloc: Global) -> Result<Parser<V, P>> {
-    let moment = now()?;
     let mut parser = parser_of(alloc)?;
-    match parser.put_times(moment) {
-        Ok(()) => Ok(parser),
-        Err(error) => {
-            drop(parser);
-            Err(error.into())
-        }
-    }
+    parser.put_times(now()?)?;
+    Ok(parser)
 }
 
-/// Asks the setters of a claim's check, of parsers that are made so.
-pub fn ask_checks<B, P: CheckSetter<B> + Snapshot, M>(
-    run: &mut Run<'_>,
-    of: &str,
-    make: M,
-) -> Result<()>
-where
-    M: Copy + FnOnce() -> Result<P>,
-    requires { M.IsAlwaysCallable make }
-{
+fn ask_checks(run: &mut Run<'_>) -> Result<()> {
+    let (alloc, own) = (run.alloc, AudienceClaim::from("customers"));
     let claim = AudienceClaim::from("others");
-    edits! { run, of, "{}", parser = make();
+    let seats = CustomClaim::try_from_str(alloc, "seats", 5u64)?;
+    let odd = odd_claim(alloc)?;
+    edits! { run, "TokenParser::", parser = parser_of::<V4, Local>(alloc);
         "put_check of a claim" => parser.put_check(&claim);
         "check_claim of a claim" => parser.check_claim(&claim).map(drop);
+        "put_check of a key that is there" => parser.put_check(&seats);
+        "put_check of a fraction, refused" => parser.put_check(&odd);
+        "put_validator of a fraction, refused", given = Box::new(alloc, Refuses)?
+            => parser.put_validator(&odd, given);
+        "put_checks of a map with a fraction, refused", map = map_of(alloc, ODD)? => parser.put_checks(map);
+        "put_validator of a claim", given = Box::new(alloc, Refuses)? => parser.put_validator(&own, given);
+        "validate_claim of a claim", given = Box::new(alloc, Refuses)?
+            => parser.validate_claim(&own, given).map(drop);
     }
 }
 
 /// Entries of several keys, one of which is stored already.
-const SEVERAL: &str = "{\"a\":{\"a\":1},\"aud\":{\"aud\":\"others\"},\"seats\":5}";
+pub const SEVERAL: &str = "{\"a\":{\"a\":1},\"aud\":{\"aud\":\"others\"},\"seats\":5}";
 
-/// Asks those of several checks.
-pub fn ask_check_maps<B, P: CheckSetter<B> + Snapshot, M>(
-    run: &mut Run<'_>,
-    of: &str,
-    make: M,
-) -> Result<()>
-where
-    M: Copy + FnOnce() -> Result<P>,
-    requires { M.IsAlwaysCallable make }
-{
-    let alloc = run.alloc;
-    edits! { run, of, "{}", parser = make();
+fn ask_maps(run: &mut Run<'_>) -> Result<()> {
+    let (alloc, now) = (run.alloc, now()?);
+    edits! { run, "TokenParser::", parser = parser_of::<V4, Local>(alloc);
         "put_checks of a map", map = map_of(alloc, SEVERAL)? => parser.put_checks(map);
         "extend_check_claims of a map", map = map_of(alloc, SEVERAL)?
             => parser.extend_check_claims(map).map(drop);
-    }
-}
-
-/// Asks those of a claim that has to be there, and of the times at a moment.
-pub fn ask_times<B, P: CheckSetter<B> + Snapshot, M>(
-    run: &mut Run<'_>,
-    of: &str,
-    make: M,
-    moment: Timestamp,
-) -> Result<()>
-where
-    M: Copy + FnOnce() -> Result<P>,
-    requires { M.IsAlwaysCallable make }
-{
-    edits! { run, of, "{}", parser = make();
-        "put_required of a claim" => parser.put_required("sub");
-        "require_claim of a claim" => parser.require_claim("sub").map(drop);
-        "put_times of a moment" => parser.put_times(moment);
-        "check_times of a moment" => parser.check_times(moment).map(drop);
-    }
-}
-
-fn ask_validators(run: &mut Run<'_>) -> Result<()> {
-    let (alloc, own) = (run.alloc, AudienceClaim::from("customers"));
-    edits!(run, "TokenParser::", parser = parser_of::<V4, Local>(alloc);
-        "put_validator of a claim", given = Box::new(alloc, Refuses)? => parser.put_validator(&own, given);
-        "validate_claim of a claim", given = Box::new(alloc, Refuses)?
-            => parser.validate_claim(&own, given).map(drop);
-    )?;
-    ask_check_maps(run, "TokenParser::", || parser_of::<V4, Local>(alloc))?;
-    edits! { run, "TokenParser::", parser = parser_of::<V4, Local>(alloc);
         "put_validators of a map", map = validators!(alloc) => parser.put_validators(map);
         "extend_validation_claims of a map", map = validators!(alloc)
             => parser.extend_validation_claims(map).map(drop);
@@ -166,103 +113,42 @@ fn ask_validators(run: &mut Run<'_>) -> Result<()> {
             => parser.put_key_validator("aud", given);
         "validate_key of a key", given = Box::new(alloc, Refuses)?
             => parser.validate_key("aud", given).map(drop);
+        "put_required of a claim" => parser.put_required("sub");
+        "require_claim of a claim" => parser.require_claim("sub").map(drop);
+        "put_times of a moment" => parser.put_times(now);
+        "check_times of a moment" => parser.check_times(now).map(drop);
     }
 }
 
-// Checks of a claim that has one, and of fractions.
-fn ask_refused_checks(run: &mut Run<'_>) -> Result<()> {
-    let alloc = run.alloc;
-    let seats = CustomClaim::try_from_str(alloc, "seats", 5u64)?;
-    let odd = odd_claim(alloc)?;
-    let told = edits! { run, "TokenParser::", parser = parser_of::<V4, Local>(alloc);
-        "put_check of a key that is there" => parser.put_check(&seats);
-        "put_check of a fraction, refused" => parser.put_check(&odd);
-        "put_validator of a fraction, refused", given = Box::new(alloc, Refuses)?
-            => parser.put_validator(&odd, given);
-        "put_checks of a map with a fraction, refused", map = map_of(alloc, ODD)? => parser.put_checks(map);
-    };
-    drop(odd);
-    told
-}
-
 fn ask_value(run: &mut Run<'_>) -> Result<()> {
-    let parser = timed::<V4, Local>(run.alloc)?;
-    let told = ask_value_of(run, &parser);
-    drop(parser);
-    told
-}
-
-fn ask_value_of(run: &mut Run<'_>, parser: &Parser<V4, Local>) -> Result<()> {
-    let payload = good(run.alloc, run.text)?;
-    let undated = Value::from_str(run.alloc, UNDATED)?;
-    let told = calls! { run;
+    let (payload, parser) = (good(run.alloc, run.text)?, timed::<V4, Local>(run.alloc)?);
+    let undated = Value::from_str(run.alloc, "{\"exp\":\"x\"}")?;
+    calls! { run;
         "TokenParser::value_of of a text" => parser.value_of(payload.as_str());
         "TokenParser::check of no date, refused" => parser.check(&undated);
-    };
-    drop(undated);
-    told
-}
-
-/// A payload in which no date is where one has to be.
-pub const UNDATED: &str = "{\"exp\":\"x\"}";
-
-/// The local token of a good payload with the text.
-pub fn sealed_good<V: LocalVersion>(run: &Run<'_>, footer: Footer<'_>) -> Result<String> {
-    let payload = good(run.alloc, run.text)?;
-    Ok(seal::<V>(run.alloc, payload.as_str(), footer)?)
-}
-
-/// The same of version 2, over a box.
-pub fn boxed_good(run: &Run<'_>, footer: Footer<'_>) -> Result<String> {
-    let payload = good(run.alloc, run.text)?;
-    Ok(seal_boxed(run.alloc, payload.as_str(), footer)?)
-}
-
-/// The public token of that payload.
-pub fn signed_good<V: Signed>(run: &Run<'_>, footer: Footer<'_>) -> Result<String> {
-    let payload = good(run.alloc, run.text)?;
-    Ok(sign::<V>(run.alloc, payload.as_str(), footer)?)
+    }
 }
 
 struct Kinds;
 
 impl Cases for Kinds {
     fn ask_local<V: DefaultLocalVersion>(run: &mut Run<'_>, kind: &str) -> Result<()> {
-        let token = sealed_good::<V>(run, footer())?;
+        let token = seal::<V>(run.alloc, good(run.alloc, run.text)?.as_str(), footer())?;
         let parser = timed::<V, Local>(run.alloc)?;
-        let told = ask_parse::<V>(run, kind, token.as_str(), &parser);
-        drop(parser);
-        told
+        calls! { run, kind; "TokenParser::parse of {}" => parser.parse(token.as_str(), &symmetric_key()); }
     }
 
     fn ask_boxed(run: &mut Run<'_>) -> Result<()> {
-        let token = boxed_good(run, footer())?;
+        let token = seal_boxed(run.alloc, good(run.alloc, run.text)?.as_str(), footer())?;
         let (parser, key) = (timed::<V2, Local>(run.alloc)?, symmetric_key());
-        let told =
-            calls! { run; "TokenParser::parse of v2.local" => parser.parse(&PlainBox, token.as_str(), &key); };
-        drop(parser);
-        told
+        calls! { run; "TokenParser::parse of v2.local" => parser.parse(&PlainBox, token.as_str(), &key); }
     }
 
     fn ask_public<V: Signed>(run: &mut Run<'_>, kind: &str, keys: &Keys) -> Result<()> {
-        let (token, key) = (signed_good::<V>(run, footer())?, V::public_key(keys)?);
-        let parser = timed::<V, Public>(run.alloc)?;
-        let told =
-            calls! { run, kind; "TokenParser::parse of {}" => parser.parse(&Lenient, token.as_str(), &key); };
-        drop(parser);
-        told
+        let token = sign::<V>(run.alloc, good(run.alloc, run.text)?.as_str(), footer())?;
+        let (key, parser) = (V::public_key(keys)?, timed::<V, Public>(run.alloc)?);
+        calls! { run, kind; "TokenParser::parse of {}" => parser.parse(&Lenient, token.as_str(), &key); }
     }
-}
-
-// Asks a parser for a token of its version.
-fn ask_parse<V: DefaultLocalVersion>(
-    run: &mut Run<'_>,
-    of: &str,
-    token: &str,
-    parser: &Parser<V, Local>,
-) -> Result<()> {
-    let key = symmetric_key();
-    calls! { run, of; "TokenParser::parse of {}" => parser.parse(token, &key); }
 }
 
 // Payloads that are no JSON, or fail a check, and so are refused.
@@ -279,39 +165,20 @@ const REFUSED: &[(&str, &str)] = &[
 ];
 
 fn ask_failed_checks(run: &mut Run<'_>) -> Result<()> {
-    let mut parser = timed::<V4, Local>(run.alloc)?;
-    let told = ask_refused_payloads(run, &mut parser);
-    drop(parser);
-    told
-}
-
-fn ask_refused_payloads(run: &mut Run<'_>, parser: &mut Parser<V4, Local>) -> Result<()> {
+    let (alloc, payload) = (run.alloc, expired(run.alloc)?);
+    let payload = payload.as_str();
+    let mut parser = timed::<V4, Local>(alloc)?;
     parser.put_check(&AudienceClaim::from("customers"))?;
     'payloads: for &(of, payload) in REFUSED {
-        ask_refused(run, of, payload, parser)?;
+        ask_refused(run, of, payload, &parser)?;
     }
-    ask_expired(run, "an expired token, refused", parser)
-}
-
-fn ask_failed_validator(run: &mut Run<'_>) -> Result<()> {
-    let alloc = run.alloc;
-    let map = validators!(alloc);
+    ask_refused(run, "an expired token, refused", payload, &parser)?;
     let mut parser = parser_of(alloc)?;
-    let told = match parser.put_validators(map) {
-        Ok(()) => ask_expired(run, "what a validator refuses, refused", &parser),
-        Err(error) => Err(error.into()),
-    };
-    drop(parser);
-    told
-}
-
-// Asks a parser for a token that passes no check of times.
-fn ask_expired(run: &mut Run<'_>, of: &str, parser: &Parser<V4, Local>) -> Result<()> {
-    let payload = expired(run.alloc)?;
-    ask_refused(run, of, payload.as_str(), parser)
+    parser.put_validators(validators!(alloc))?;
+    ask_refused(run, "what a validator refuses, refused", payload, &parser)
 }
 
 fn ask_refused(run: &mut Run<'_>, of: &str, json: &str, parser: &Parser<V4, Local>) -> Result<()> {
     let token = seal::<V4>(run.alloc, json, footer())?;
-    ask_parse::<V4>(run, of, token.as_str(), parser)
+    calls! { run, of; "TokenParser::parse of {}" => parser.parse(token.as_str(), &symmetric_key()); }
 }

@@ -52,39 +52,21 @@ fn ask_pair<V: PemVersion>(
     private: Vec<u8>,
     public: Vec<u8>,
 ) -> Result<()> {
-    let private = PrivateKey::<V>::try_from(private)?;
-    let public = PublicKey::<V>::try_from(public)?;
-    ask_texts(run, kind, &private.lend(), &public.lend())?;
-    ask_contents(run, kind, &private.lend(), &public.lend())
-}
-
-fn ask_texts<V: PemVersion>(
-    run: &mut Run<'_>,
-    kind: &str,
-    private: &PasetoAsymmetricPrivateKey<'_, V, Public>,
-    public: &PasetoAsymmetricPublicKey<'_, V, Public>,
-) -> Result<()> {
     let alloc = run.alloc;
-    let text = private_key_to_pem(alloc, private)?;
-    let public_text = public_key_to_pem(alloc, public)?;
-    calls! { run, kind;
-        "private_key_to_pem of {}" => private_key_to_pem(alloc, private);
-        "private_key_from_pem of {}" => private_key_from_pem::<V>(alloc, text.as_str()).map(private_front);
-        "public_key_to_pem of {}" => public_key_to_pem(alloc, public);
-        "public_key_from_pem of {}" => public_key_from_pem::<V>(alloc, public_text.as_str()).map(public_front);
-    }
-}
-
-fn ask_contents<V: PemVersion>(
-    run: &mut Run<'_>,
-    kind: &str,
-    private: &PasetoAsymmetricPrivateKey<'_, V, Public>,
-    public: &PasetoAsymmetricPublicKey<'_, V, Public>,
-) -> Result<()> {
-    let alloc = run.alloc;
+    let (key, half) = (
+        PrivateKey::<V>::try_from(private)?,
+        PublicKey::<V>::try_from(public)?,
+    );
+    let (private, public) = (key.lend(), half.lend());
+    let text = private_key_to_pem(alloc, &private)?;
+    let public_text = public_key_to_pem(alloc, &public)?;
     let contents = V::write_private(alloc, private.as_bytes())?;
     let public_contents = V::write_public(alloc, public.as_bytes())?;
     calls! { run, kind;
+        "private_key_to_pem of {}" => private_key_to_pem(alloc, &private);
+        "private_key_from_pem of {}" => private_key_from_pem::<V>(alloc, text.as_str()).map(private_front);
+        "public_key_to_pem of {}" => public_key_to_pem(alloc, &public);
+        "public_key_from_pem of {}" => public_key_from_pem::<V>(alloc, public_text.as_str()).map(public_front);
         "PemVersion::write_private of {}" => V::write_private(alloc, private.as_bytes());
         "PemVersion::read_private of {}" => V::read_private(alloc, Label::PrivateKey, &contents);
         "PemVersion::write_public of {}" => V::write_public(alloc, public.as_bytes());

@@ -209,54 +209,18 @@ impl Run<'_> {
             let name = case.replace(self.alloc, "{}", of)?;
             if self.asked.unwrap_or(name.as_str()) == name.as_str() {
                 self.found = true;
-                self.case(name.as_str(), line, make, is_edit, lines)?;
+                let right = self.change(line, None, &mut make()?, lines)?;
+                check_name(name.as_str(), &right, is_edit)?;
+                let mut object = make()?;
+                let met = self.change(line, self.marks, &mut object, lines)?;
+                if !is_memory(&met) {
+                    object = make()?;
+                }
+                let then = self.change(line, None, &mut object, lines)?;
+                self.report(name.as_str(), &right, &met, &then)?;
             }
         }
         Ok(())
-    }
-
-    // Finds what is right, and asks the line between the marks.
-    fn case<O: Snapshot, M, F>(
-        &mut self,
-        name: &str,
-        line: usize,
-        make: M,
-        is_edit: bool,
-        lines: F,
-    ) -> Result<()>
-    where
-        M: Copy + FnOnce() -> Result<O>,
-        F: Copy + FnOnce(&mut Round, &mut O) -> Result<()>,
-        requires made { M.IsAlwaysCallable make }
-        requires asked { F.IsAlwaysCallable lines }
-    {
-        let right = self.change(line, None, &mut make()?, lines)?;
-        check_name(name, &right, is_edit)?;
-        self.meet(name, &right, line, make, lines)
-    }
-
-    // Asks the line between the marks, and then of the same object or of a new one.
-    fn meet<O: Snapshot, M, F>(
-        &mut self,
-        name: &str,
-        right: &Change,
-        line: usize,
-        make: M,
-        lines: F,
-    ) -> Result<()>
-    where
-        M: Copy + FnOnce() -> Result<O>,
-        F: Copy + FnOnce(&mut Round, &mut O) -> Result<()>,
-        requires made { M.IsAlwaysCallable make }
-        requires asked { F.IsAlwaysCallable lines }
-    {
-        let mut object = make()?;
-        let met = self.change(line, self.marks, &mut object, lines)?;
-        if !is_memory(&met) {
-            object = make()?;
-        }
-        let then = self.change(line, None, &mut object, lines);
-        self.report(name, right, &met, then)
     }
 
     // Asks a line of an object, with marks or without.
@@ -287,20 +251,13 @@ impl Run<'_> {
     }
 
     // Tells what was met, and whether it was right then.
-    fn report(
-        &mut self,
-        name: &str,
-        right: &Change,
-        met: &Change,
-        then: Result<Change>,
-    ) -> Result<()> {
-        let then = then?;
+    fn report(&mut self, name: &str, right: &Change, met: &Change, then: &Change) -> Result<()> {
         let word = match met.answer == right.answer {
             _ if is_memory(met) => "memory",
             true => "right",
             false => "wrong",
         };
-        let is_right = &then == right && (is_memory(met) || met.after == right.after);
+        let is_right = then == right && (is_memory(met) || met.after == right.after);
         let then = if is_right { "right" } else { "wrong" };
         writeln!(self.output, "{name}: {word}, then {then}")?;
         Ok(())

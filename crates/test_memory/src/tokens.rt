@@ -14,7 +14,8 @@ type Answer = Result<String, PasetoError>;
 /// Asks them.
 pub fn ask(run: &mut Run<'_>) -> Result<()> {
     ask_kinds::<Kinds>(run)?;
-    ask_publics(run, &Keys::of(&SECRET))
+    ask_verifying(run)?;
+    ask_bound(run)
 }
 
 /// The local token of a text.
@@ -61,30 +62,24 @@ impl Cases for Kinds {
     }
 
     fn ask_boxed(run: &mut Run<'_>) -> Result<()> {
-        let (alloc, own) = (run.alloc, Some(footer()));
-        ask_decrypting::<V1, _>(
-            run,
-            "v1.local",
-            |token, key| Paseto::<V1, Local>::try_decrypt(alloc, token, key, own),
-        )?;
-        ask_decrypting::<V3, _>(
-            run,
-            "v3.local",
-            |token, key| Paseto::<V3, Local>::try_decrypt(alloc, token, key, own, None),
-        )?;
-        ask_decrypting::<V4, _>(
-            run,
-            "v4.local",
-            |token, key| Paseto::<V4, Local>::try_decrypt(alloc, token, key, own, None),
-        )?;
-        let (text, key) = (run.text, symmetric_key());
+        let (alloc, text, own) = (run.alloc, run.text, Some(footer()));
+        let first = seal::<V1>(alloc, text, footer())?;
+        let third = seal::<V3>(alloc, text, footer())?;
+        let fourth = seal::<V4>(alloc, text, footer())?;
         let boxed = seal_boxed(alloc, text, footer())?;
         let other = seal_boxed(alloc, "another text", footer())?;
         calls! { run;
+            "Paseto::try_decrypt of v1.local"
+                => Paseto::<V1, Local>::try_decrypt(alloc, first.as_str(), &symmetric_key(), own);
+            "Paseto::try_decrypt of v3.local"
+                => Paseto::<V3, Local>::try_decrypt(alloc, third.as_str(), &symmetric_key(), own, None);
+            "Paseto::try_decrypt of v4.local"
+                => Paseto::<V4, Local>::try_decrypt(alloc, fourth.as_str(), &symmetric_key(), own, None);
             "Paseto::try_encrypt of v2.local" => seal_boxed(alloc, text, footer());
             "Paseto::try_decrypt of v2.local"
-                => Paseto::<V2, Local>::try_decrypt(alloc, &PlainBox, boxed.as_str(), &key, own);
-            "Paseto::forgery of v2.local" => forged_box(alloc, &key, other.as_str(), boxed.as_str());
+                => Paseto::<V2, Local>::try_decrypt(alloc, &PlainBox, boxed.as_str(), &symmetric_key(), own);
+            "Paseto::forgery of v2.local"
+                => forged_box(alloc, &symmetric_key(), other.as_str(), boxed.as_str());
         }
     }
 
@@ -185,49 +180,26 @@ fn collision<'a, V: LocalVersion>(
     Ok(found.map(|collision| collision.tag))
 }
 
-// Asks a version for what its token was made of, which it opens so.
-fn ask_decrypting<V: LocalVersion, F>(run: &mut Run<'_>, kind: &str, opened: F) -> Result<()>
-where
-    F: Copy + FnOnce(&str, &PasetoSymmetricKey<V, Local>) -> Answer,
-    requires { F.IsAlwaysCallable opened }
-{
-    let key = symmetric_key();
-    let token = seal::<V>(run.alloc, run.text, footer())?;
-    calls! { run, kind; "Paseto::try_decrypt of {}" => opened(token.as_str(), &key); }
+fn ask_verifying(run: &mut Run<'_>) -> Result<()> {
+    let (alloc, text, keys, own) = (run.alloc, run.text, Keys::of(&SECRET), Some(footer()));
+    let (first, first_key) = (sign::<V1>(alloc, text, footer())?, V1::public_key(&keys)?);
+    let (second, second_key) = (sign::<V2>(alloc, text, footer())?, V2::public_key(&keys)?);
+    calls! { run;
+        "Paseto::try_verify of v1.public"
+            => Paseto::<V1, Public>::try_verify(alloc, &Lenient, first.as_str(), &first_key, own);
+        "Paseto::try_verify of v2.public"
+            => Paseto::<V2, Public>::try_verify(alloc, &Lenient, second.as_str(), &second_key, own);
+    }
 }
 
-fn ask_publics(run: &mut Run<'_>, keys: &Keys) -> Result<()> {
-    let (alloc, own) = (run.alloc, Some(footer()));
-    let (first, second) = (V1::public_key(keys)?, V2::public_key(keys)?);
-    ask_verifying::<V1, _>(
-        run,
-        "v1.public",
-        |token| Paseto::<V1, Public>::try_verify(alloc, &Lenient, token, &first, own),
-    )?;
-    ask_verifying::<V2, _>(
-        run,
-        "v2.public",
-        |token| Paseto::<V2, Public>::try_verify(alloc, &Lenient, token, &second, own),
-    )?;
-    let (third, fourth) = (V3::public_key(keys)?, V4::public_key(keys)?);
-    ask_verifying::<V3, _>(
-        run,
-        "v3.public",
-        |token| Paseto::<V3, Public>::try_verify(alloc, &Lenient, token, &third, own, None),
-    )?;
-    ask_verifying::<V4, _>(
-        run,
-        "v4.public",
-        |token| Paseto::<V4, Public>::try_verify(alloc, &Lenient, token, &fourth, own, None),
-    )
-}
-
-// Asks for what a version's token says, which is verified so.
-fn ask_verifying<V: Signed, F>(run: &mut Run<'_>, kind: &str, verified: F) -> Result<()>
-where
-    F: Copy + FnOnce(&str) -> Answer,
-    requires { F.IsAlwaysCallable verified }
-{
-    let token = sign::<V>(run.alloc, run.text, footer())?;
-    calls! { run, kind; "Paseto::try_verify of {}" => verified(token.as_str()); }
+fn ask_bound(run: &mut Run<'_>) -> Result<()> {
+    let (alloc, text, keys, own) = (run.alloc, run.text, Keys::of(&SECRET), Some(footer()));
+    let (third, third_key) = (sign::<V3>(alloc, text, footer())?, V3::public_key(&keys)?);
+    let (fourth, fourth_key) = (sign::<V4>(alloc, text, footer())?, V4::public_key(&keys)?);
+    calls! { run;
+        "Paseto::try_verify of v3.public"
+            => Paseto::<V3, Public>::try_verify(alloc, &Lenient, third.as_str(), &third_key, own, None);
+        "Paseto::try_verify of v4.public"
+            => Paseto::<V4, Public>::try_verify(alloc, &Lenient, fourth.as_str(), &fourth_key, own, None);
+    }
 }
