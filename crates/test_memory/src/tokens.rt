@@ -175,7 +175,12 @@ fn collision<'a, V: LocalVersion>(
     first: &'a str,
     second: &'a str,
 ) -> Result<Option<Vec<u8>>, PasetoError> {
-    let openings = [first, second, first].map(|token| opening_of(key, token));
+    let openings = [first, second, first].map(|token| Opening {
+        key,
+        token,
+        footer: Some(footer()),
+        assertion: None,
+    });
     let found = Paseto::<V, Local>::tag_collision(alloc, &openings)?;
     Ok(found.map(|collision| collision.tag))
 }
