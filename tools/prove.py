@@ -28,11 +28,12 @@ import time
 ROOT = os.path.dirname(os.path.dirname(os.path.abspath(__file__)))
 # What one process of a check takes of memory, in bytes, as measured over the crates of this repository.
 EACH = 2_000_000_000
-# What one process takes to prove each crate, in seconds, as measured once. It decides which crate goes first and how many
-# processes it gets, and nothing else. A crate that is not listed counts as OTHERS.
+# What one process takes to prove each crate, in seconds, as measured once; of paseto_c and paseto_calls only their sum was,
+# when they were one crate, and the shares are estimates. It decides which crate goes first and how many processes it gets, and
+# nothing else. A crate that is not listed counts as OTHERS.
 OTHERS = 60
 SECONDS = {
-    "paseto": 590, "paseto_argon2": 63, "paseto_c": 130, "paseto_calls": 250, "paseto_der": 10, "paseto_ed25519": 35,
+    "paseto": 590, "paseto_argon2": 63, "paseto_c": 120, "paseto_calls": 230, "paseto_der": 10, "paseto_ed25519": 35,
     "paseto_edwards_laws": 15,
     "paseto_edwards25519": 75, "paseto_key_files": 130, "paseto_montgomery": 38, "paseto_p384": 65, "paseto_pem": 120,
     "paseto_primes": 8, "paseto_rsa": 48, "paseto_streams": 15,
