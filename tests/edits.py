@@ -29,10 +29,13 @@ sys.path.insert(0, f"{ROOT}/tools")
 sys.dont_write_bytecode = True
 REFUSED = "refused, as it must be"
 # What `rt ci` says of an edit that it counts, although the refusal says little of the contract.
+NAMES = "(only because a proof file names what the edit took away"
 LITTLE = {
-    "(only because a proof file names what the edit took away": "refused only because a proof names what it took away",
+    NAMES: "refused only because a proof names what it took away",
     "(only by a limit of the prover": "refused only by a limit of the prover",
 }
+# The same in words that `rt ci` takes for a refusal: a written answer is for a goal that the edited function does not have.
+NO_GOAL = re.compile(re.escape(REFUSED) + r": (?:note: )?(?:\./)?proofs/.*: module .* has no ")
 # Lines of each kind, which are judged before the report, so that a change of the toolchain's words fails here.
 SAMPLES = [
     ("rt: must-fail crate/a.edit: refused, as it must be: ./src/a.rt:1:2: error: `returns`: the two types differ", True),
@@ -41,6 +44,7 @@ SAMPLES = [
     ("rt: must-fail crate/a.edit: NOT REFUSED: the crate is still proved with this edit", False),
     (f"rt: must-fail crate/a.edit: {REFUSED} (only because a proof file names what the edit took away, so this says", False),
     (f"rt: must-fail crate/a.edit: {REFUSED} (only by a limit of the prover, which gave no verdict", False),
+    (f"rt: must-fail crate/a.edit: {REFUSED}: ./proofs/a/f/Answers.antt:3:9: error: `goal.g`: module goal has no g", False),
 ]
 
 
@@ -48,6 +52,8 @@ def verdict(said):
     """Why what `rt ci` said of an edit is no refusal at a goal, or None if it is one."""
     if not said.startswith(REFUSED):
         return said[:200]
+    if NO_GOAL.match(said):
+        return LITTLE[NAMES]
     return next((why for words, why in LITTLE.items() if said.startswith(f"{REFUSED} {words}")), None)
 
 

@@ -20,7 +20,8 @@ fi
 work=$(mktemp -d)
 trap 'rm -rf "$work"' EXIT
 cd "$work" || exit 1
-umask 077
+# Files with secrets have to be private although the umask lets others read.
+umask 022
 unset PASETO_KEY PASETO_PASSWORD
 
 # refuses NAME STATUS LINE WORD..: this status, no output, and on standard error `paseto: ` and this line.
@@ -37,6 +38,19 @@ refuses() {
 # same NAME FILE FILE: the bytes of both are the same.
 same() {
     if cmp -s "$2" "$3"; then pass; else fail "$1: $2 and $3 differ"; fi
+}
+
+# cost_of FILE: the cost in the text of a key under a password, in hexadecimal: the iterations of PBKDF2, or memory, passes and
+# lanes of Argon2id. It stands behind a salt of 32 or 16 bytes.
+cost_of() {
+    local salt=32 length=4
+    case $(cut -c 1-2 "$1") in k2 | k4) salt=16 length=16 ;; esac
+    cut -d . -f 3 "$1" | cut -c 1-64 | tr _- /+ | base64 -d | tail -c +$((salt + 1)) | head -c $length | od -An -v -tx1 | tr -d ' \n'
+}
+
+# modes FILE..: their modes, for files that hold a secret.
+modes() {
+    stat -c %a "$@" | sort -u | tr '\n' ' '
 }
 
 printf hello >in
@@ -132,6 +146,8 @@ while read -r kind file; do
         "$program" keygen $kind --password-file password --out locked.$kind 2>err
     is "keygen $kind under a password" "$(cut -d . -f 1,2 locked.$kind)" "k${kind:1:1}.$file-pw"
     is "the mode of locked.$kind" "$(stat -c %a locked.$kind)" 600
+    case $kind in v1* | v3*) cost=000186a0 ;; *) cost=00000000040000000000000200000001 ;; esac
+    is "the cost of locked.$kind" "$(cost_of locked.$kind)" $cost
     is "no bare key, $kind" "$(grep -cE 'k[1-4]\.(local|secret)\.' locked.$kind)" 0
     if [ "$file" = local ]; then
         token=$("$program" encrypt --key locked.$kind --password-file password <in)
@@ -162,6 +178,8 @@ is "unwrap" "$(cut -d . -f 1,2 bare)" k4.local
 is "another password" "$("$program" unwrap --key relocked --password-file password.other)" "$(cat bare)"
 [ "$("$program" wrap --key bare --password-file password)" != "$("$program" wrap --key bare --password-file password)" ] && pass ||
     fail 'one salt and nonce under a password twice'
+is "the cost of a key that is wrapped" "$(cost_of relocked)" 00000000040000000000000200000001
+is "the modes of keys that are wrapped and unwrapped" "$(modes bare relocked)" "600 "
 "$program" wrap --key rsa.pem --password-file password --out locked.rsa
 is "a key of RSA under a password" "$(cut -d . -f 1,2 locked.rsa)" k1.secret-pw
 is "it signs" "$("$program" sign --key locked.rsa --password-file password <in | "$program" verify --key rsa.public.pem)" hello
@@ -204,6 +222,7 @@ for version in 2 3 4; do
     is "unwrap a private key, version $version" "$("$program" unwrap --key wrapped.secret --unlock-key wrapping.$version)" "$(cat secret.$version)"
     rm wrapped.secret
 done
+is "the modes of keys and wrapped keys" "$(modes wrapping.? local.? wrapped.? secret.?)" "600 "
 refuses "a wrapping key of another version" 1 "wrapping.3: this key is one of version 3, and the other one is not" \
     wrap --key local.4 --wrapping-key wrapping.3
 refuses "a wrapping key of another version to unwrap" 1 "wrapping.3: this key is one of version 3, and the other one is not" \
@@ -235,6 +254,8 @@ for version in 2 3 4; do
 done
 "$program" seal --key local.3 --to p384.public.pem --out sealed.pem
 is "sealed to a key in PEM" "$("$program" unseal --key sealed.pem --unlock-key p384.pem)" "$(cat local.3)"
+"$program" unseal --key sealed.pem --unlock-key p384.pem --out unsealed
+is "the modes of keys that are sealed and unsealed" "$(modes sealed.pem unsealed)" "600 "
 refuses "a public key of another version" 1 "public.3: this key is one of version 3, and the other one is not" seal --key local.4 --to public.3
 refuses "a key of version 1, sealed" 1 "local.1: keys of version 1 are neither sealed nor unsealed here" seal --key local.1 --to rsa.public.pem
 refuses "what is not sealed" 1 "local.4: the key is not sealed: use paseto unwrap" unseal --key local.4

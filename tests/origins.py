@@ -14,6 +14,7 @@ import sys
 
 ROOT = pathlib.Path(__file__).resolve().parent.parent
 TESTING = {
+    "bench_calls",
     "test_bench",
     "test_cases",
     "test_doc_examples",

@@ -28,7 +28,8 @@ done
 work=$(mktemp -d)
 trap 'rm -rf "$work"' EXIT
 cd "$work" || exit 1
-umask 077
+# Files with secrets have to be private although the umask lets others read.
+umask 022
 # shellcheck source=tests/counts.sh
 source "$root/tests/counts.sh"
 
@@ -404,6 +405,15 @@ done
 refuses "days later" 1 "$(cat token)" "$input: expired 3 days ago, at 2026-11-22T10:00:00Z" check --key v4.local --footer id --at 2026-11-25T12:00:00+02:00
 refuses "too early" 1 "$(cat token)" "$input: not valid before 2026-11-22T09:00:00Z, in 30 minutes" check --key v4.local --footer id --at 2026-11-22T08:30:00Z
 is "in time" "$("$program" check --key v4.local --footer id --at 2026-11-22T09:59:59Z token | cut -c 1-31)" '{"exp":"2026-11-22T10:00:00Z","'
+# By the clock of the system, with no --at.
+begun=$(date -u +%s)
+"$program" issue --key v4.local --expires "$(date -u -d '90 seconds' +%FT%TZ)" >token
+issued=$(date -u -d "$("$program" check --key v4.local token | sed -E 's/.*"iat":"([^"]*)".*/\1/')" +%s)
+is "iat is now" "$((begun <= issued && issued <= $(date -u +%s)))" 1
+"$program" issue --key v4.local --not-before "$(date -u -d '2 minutes ago' +%FT%TZ)" --expires "$(date -u -d '1 minute ago' +%FT%TZ)" >token
+is "a token that ended a minute ago" "$("$program" check --key v4.local token 2>&1 | cut -c 1-39)" "paseto: $input: expired 1 minute"
+"$program" issue --key v4.local --not-before "$(date -u -d '1 minute' +%FT%TZ)" --expires 1h >token
+is "a token that begins in a minute" "$("$program" check --key v4.local token 2>&1 | sed -E 's/before .*/before/')" "paseto: $input: not valid before"
 refuses "an expired token of a ring" 1 "$("$program" issue --key 4.issues --footer-kid "$id" --expires 2026-11-22T10:00:00Z)" \
     "$input: expired 2 hours ago, at 2026-11-22T10:00:00Z" check --ring ring --at 2026-11-22T12:59:00Z
 refuses "another key's token" 1 "$(cat token)" "$input: $bad_tag" check --key other.local --footer id

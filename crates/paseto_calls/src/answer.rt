@@ -121,7 +121,7 @@ pub fn give(text: &[u8], room: &mut [u8], written: &mut usize) -> u8
 }
 
 /// Writes bytes at the beginning of the buffer.
-pub fn lay(bytes: &[u8], room: &mut [u8])
+pub(crate) fn lay(bytes: &[u8], room: &mut [u8])
     requires { length bytes.now ≤ length room.old }
     ensures { room.new ≡ bytes.now ++ drop (length bytes.now) room.old }
 {

@@ -19,7 +19,11 @@ pub struct Texts<'a> {
 
 impl<'a> Texts<'a> {
     /// The three of them, or `NotUtf8`.
-    pub fn take(text: &'a [u8], footer: &'a [u8], assertion: &'a [u8]) -> Result<Texts<'a>, Refusal>
+    pub(crate) fn take(
+        text: &'a [u8],
+        footer: &'a [u8],
+        assertion: &'a [u8],
+    ) -> Result<Texts<'a>, Refusal>
         ensures { let texts = text.now ∷ footer.now ∷ assertion.now ∷ [] in
             MatchResult result
             (λ taken. (taken.text.now ≡ text.now) × (footer_of taken.footer ≡ footer.now)
@@ -48,7 +52,7 @@ pub fn str_of(bytes: &[u8]) -> Result<&str, Refusal>
 }
 
 /// A key of these bytes, or `InvalidKey`.
-pub fn key_of<const N: usize>(bytes: &[u8]) -> Result<Key<N>, Refusal>
+pub(crate) fn key_of<const N: usize>(bytes: &[u8]) -> Result<Key<N>, Refusal>
     ensures { MatchResult result (λ key. (key ≡ bytes.now) × (length bytes.now ≡ N))
         (λ refusal. (refusal ≡ Refusal.InvalidKey) × ¬ (length bytes.now ≡ N)) }
 {

@@ -112,7 +112,7 @@ fn begun<'a, V: Attaches, P: PurposeTrait>(
 }
 
 /// The token of claims, whose version and purpose the maker decides. It must be absent in a version that has none.
-pub fn built<V: Attaches, P: PurposeTrait, M: Makes<V, P>>(
+pub(crate) fn built<V: Attaches, P: PurposeTrait, M: Makes<V, P>>(
     alloc: Global,
     maker: &mut M,
     claims: &[u8],

@@ -37,7 +37,7 @@ impl PasetoClaim for MemberClaim<'_> {
 }
 
 /// The members of the object that a text is, or `NotObject`.
-pub fn object_of(alloc: Global, text: &str) -> Result<Map<String, Value>, Refusal>
+pub(crate) fn object_of(alloc: Global, text: &str) -> Result<Map<String, Value>, Refusal>
     ensures { MatchResult result
         (λ members. read text.now ≡ Some (object (members_view members.entries)))
         (λ refusal. (refusal ≡ Refusal.Memory)

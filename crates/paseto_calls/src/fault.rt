@@ -59,7 +59,7 @@ pub fn unsaid(made: Result<String, Fault>) -> Result<String, Refusal>
 }
 
 /// The line that tells an error of a parser, with its cause.
-pub fn line_of(alloc: Global, error: &GenericParserError) -> Result<String, AllocError>
+pub(crate) fn line_of(alloc: Global, error: &GenericParserError) -> Result<String, AllocError>
     ensures { IfOk result (λ line. string_bytes line ≡ line_of error.now) }
 {
     error.explained().to_string(alloc)

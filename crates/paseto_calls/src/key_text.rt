@@ -31,7 +31,10 @@ fn private_of<V: KeyPairVersion>(alloc: Global, bytes: &[u8]) -> Result<PrivateK
 }
 
 /// A public key of these bytes, or `InvalidKey`.
-pub fn public_of<V: VersionTrait>(alloc: Global, bytes: &[u8]) -> Result<PublicKey<V>, Refusal>
+pub(crate) fn public_of<V: VersionTrait>(
+    alloc: Global,
+    bytes: &[u8],
+) -> Result<PublicKey<V>, Refusal>
     ensures { MatchResult result (λ key. (key ≡ bytes.now) × IsTrue (V.is_public_key bytes.now))
         (λ refusal. (refusal ≡ Refusal.Memory)
         ⊎ ((refusal ≡ Refusal.InvalidKey) × ¬ IsTrue (V.is_public_key bytes.now))) }

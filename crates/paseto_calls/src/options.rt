@@ -18,7 +18,7 @@ pub struct Options<'a> {
 
 impl Options<'_> {
     /// The limit of a token's bytes, if there is one.
-    pub fn limit(&self) -> Option<usize>
+    pub(crate) fn limit(&self) -> Option<usize>
         ensures { result ≡ limit_of self.now.longest }
     {
         if self.longest == 0 {

@@ -182,7 +182,7 @@ impl Refusal {
     }
 
     /// The refusal for an error of a builder.
-    pub fn of_builder(error: &GenericBuilderError) -> Refusal
+    pub(crate) fn of_builder(error: &GenericBuilderError) -> Refusal
         ensures { result ≡ builder_refusal error.now }
     {
         match error {
@@ -197,7 +197,7 @@ impl Refusal {
     }
 
     /// The refusal for an error of a parser.
-    pub fn of_parser(error: &GenericParserError) -> Refusal
+    pub(crate) fn of_parser(error: &GenericParserError) -> Refusal
         ensures { result ≡ parser_refusal error.now }
     {
         match error {
@@ -211,7 +211,7 @@ impl Refusal {
 
 impl Refusal {
     /// The refusal for an error of a key's text.
-    pub fn of_paserk(error: &PaserkError) -> Refusal
+    pub(crate) fn of_paserk(error: &PaserkError) -> Refusal
         ensures { result ≡ paserk_refusal error.now }
     {
         match error {
@@ -224,7 +224,7 @@ impl Refusal {
     }
 
     /// The refusal for an error of a key's text in PEM.
-    pub fn of_pem(error: &PemError) -> Refusal
+    pub(crate) fn of_pem(error: &PemError) -> Refusal
         ensures { result ≡ pem_refusal error.now }
     {
         match error {

@@ -1,5 +1,6 @@
--- What is wrapped is unwrapped: the text of a key holds that key. The contracts of reading answer whatever a text holds.
-use Rattle.std.specs.Prelude.{◌≡◌, ℕ, List, drop, length}
+-- What is wrapped is unwrapped: the text of a key holds that key. The contracts of reading answer whatever a text holds. And
+-- a text that two wrapping keys open shows a collision.
+use Rattle.std.specs.Prelude.{◌≡◌, ℕ, List, drop, length, take}
 use Rattle.base64.specs.GeneralPurpose.{IsBytes}
 use Rattle.rusty_paseto_paserk.specs.declared.header.PaserkVersion.{PaserkVersion}
 use Rattle.rusty_paseto_paserk.specs.declared.header.PaserkVersion.TheVariants.{V3}
@@ -12,9 +13,9 @@ use Rattle.paseto_wrapping.specs.declared.header.WrappedType.{WrappedType}
 use Rattle.paseto_wrapping.specs.declared.header.WrappedType.TheVariants.{Seal}
 use Rattle.paseto_wrapping.specs.declared.cost.PasswordCost.{PasswordCost}
 use Rattle.paseto_wrapping.specs.Error.{IsMemory}
-use Rattle.paseto_wrapping.specs.Family.{family_of, nonce_length}
+use Rattle.paseto_wrapping.specs.Family.{family_of, nonce_length, tag_length}
 use Rattle.paseto_wrapping.specs.Password.{IsGranted, IsProtected, IsShort, protected, salt_length}
-use Rattle.paseto_wrapping.specs.Pie.{IsNonce, IsPie, pie}
+use Rattle.paseto_wrapping.specs.Pie.{IsNonce, IsPie, pie, t}
 use Rattle.paseto_wrapping.specs.Reading.{InText}
 use Rattle.paseto_wrapping.specs.Sealing.{IsSealFault, IsSealed, SealsFor}
 
@@ -22,6 +23,22 @@ use Rattle.paseto_wrapping.specs.Sealing.{IsSealFault, IsSealed, SealsFor}
 abbrev pub WrappedUnwrap : Type 0
 WrappedUnwrap = (version : PaserkVersion) (kind : WrappedType) (wk n ptk : List ℕ) → IsNonce n → IsBytes ptk
     → InText version kind (IsPie version kind wk) (pie version kind wk n ptk) ptk
+
+-- one message has the same tag under the authentication keys that two wrapping keys derive from one nonce
+abbrev pub IsTagOfBoth : PaserkVersion → WrappedType → List ℕ → List ℕ → List ℕ → Type 0
+IsTagOfBoth version kind wk other tag =
+    (n : List ℕ) × (body : List ℕ) × IsNonce n × (tag ≡ t version kind wk n body) × (tag ≡ t version kind other n body)
+
+-- a payload that two wrapping keys open has such a tag, the first bytes of the payload
+abbrev pub WrappedCommit : Type 0
+WrappedCommit = (version : PaserkVersion) (kind : WrappedType) (wk other input ptk found : List ℕ)
+    → IsPie version kind wk input ptk → IsPie version kind other input found
+    → IsTagOfBoth version kind wk other (take (tag_length (family_of version)) input)
+
+-- a payload holds one key under a wrapping key
+abbrev pub WrappedOnce : Type 0
+WrappedOnce = (version : PaserkVersion) (kind : WrappedType) (wk input ptk found : List ℕ)
+    → IsPie version kind wk input ptk → IsPie version kind wk input found → ptk ≡ found
 
 -- under a password, by any salt, nonce, and cost that is granted
 abbrev pub ProtectedUnwrap : Type 0

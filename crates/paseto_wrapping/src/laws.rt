@@ -2,12 +2,21 @@
 //! the contracts use.
 
 ghost use Rattle.rusty_paseto_paserk.specs.declared.header.PaserkVersion.TheVariants.{V2, V4};
-ghost use Rattle.paseto_wrapping.specs.Laws.{OwnKeysSeal, ProtectedUnwrap, SealedUnseal, SodiumOwnKeysSeal, SodiumSealedUnseal, WrappedUnwrap};
+ghost use Rattle.paseto_wrapping.specs.Laws.{OwnKeysSeal, ProtectedUnwrap, SealedUnseal, SodiumOwnKeysSeal, SodiumSealedUnseal, WrappedCommit, WrappedOnce, WrappedUnwrap};
 
 /// The text that `wrap_local` or `wrap_secret` writes for a key contains that key, under the same wrapping key. So
 /// `unwrap_local` and `unwrap_secret` return it, unless an allocation fails.
 pub fn wrapped_keys_unwrap()
     ensures { WrappedUnwrap }
+{}
+
+/// A wrapped key commits to its wrapping key, in version 2, too, whose local tokens commit to no key. If two wrapping keys
+/// unwrap one text, its tag is that of one message under the two authentication keys that they derive from its nonce: for
+/// different wrapping keys a collision of HMAC-SHA384 (versions 1 and 3) or of keyed BLAKE2b (versions 2 and 4), of the
+/// tags or of the derivation. And a text holds one key under a wrapping key.
+pub fn wrapped_keys_commit()
+    ensures commits { WrappedCommit }
+    ensures once { WrappedOnce }
 {}
 
 /// The text that `protect_local` or `protect_secret` writes for a key contains that key, under the same password, for

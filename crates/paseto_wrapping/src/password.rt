@@ -7,7 +7,7 @@ ghost use Rattle.paseto_wrapping.specs.declared.family.Family.TheVariants.{Nist,
 ghost use Rattle.paseto_wrapping.specs.declared.header.WrappedType.TheVariants.{LocalPassword as LocalKey, SecretPassword as SecretKey};
 ghost use Rattle.paseto_wrapping.specs.Error.{IsMemory};
 ghost use Rattle.paseto_wrapping.specs.Family.{digest_bytes, encrypted, family_of, nonce_length, tag_length};
-ghost use Rattle.paseto_wrapping.specs.Password.{AreDrawn, AreParts, IsAllowed, IsPasswordFault, IsProtected, IsShort, IsWritingFault, ak, cost_length, ek, k, payload, protected, salt_length, shortest, t, untagged};
+ghost use Rattle.paseto_wrapping.specs.Password.{AreDrawn, AreParts, IsAllowed, IsGranted, IsPasswordFault, IsProtected, IsShort, IsWritingFault, ak, cost_length, ek, k, payload, protected, salt_length, shortest, t, untagged};
 ghost use Rattle.paseto_wrapping.specs.Reading.{HasPrivateLength, InText, IsTagFault, TextFaults, Unwraps, UnwrapsKey};
 
 use crate::cost::PasswordCost;
@@ -303,20 +303,22 @@ fn open(
     if !cost.is_within(family, most) {
         return Err(WrapError::TooCostly);
     }
-    open_parts(alloc, version, kind, password, cost, &parts)
+    open_parts(alloc, version, kind, password, most, cost, &parts)
 }
 
-// The bytes that the parts of a payload hold. The tag is compared before anything is decrypted.
+// The bytes that the parts of a payload hold. The tag is compared before anything is decrypted. The bound is a parameter
+// so that nobody asks it after the work: the cost has to be within it here.
 fn open_parts(
     alloc: Global,
     version: PaserkVersion,
     kind: WrappedType,
     password: &[u8],
+    most: PasswordCost,
     cost: PasswordCost,
     parts: &Parts<'_>,
 ) -> Result<Vec<u8>, WrapError>
     requires password { IsShort password.now }
-    requires allowed { IsAllowed (family_of version) cost }
+    requires granted { IsGranted (family_of version) most cost }
     requires salt { length parts.now.salt.now ≡ salt_length (family_of version) }
     requires nonce { length parts.now.nonce.now ≡ nonce_length (family_of version) }
     ensures ok { let key = k (family_of version) password.now parts.now.salt.now cost in IfOk result

@@ -7,7 +7,7 @@ ghost use Rattle.serde_json.specs.View.{members_view};
 ghost use Rattle.rusty_paseto_core.specs.Context.{binding_of};
 ghost use Rattle.rusty_paseto_core.specs.Public.{HasPrivateLength};
 ghost use Rattle.rusty_paseto_generic.specs.Error.{IsMemory, IsOfBox, IsOfGenerator};
-ghost use Rattle.rusty_paseto_generic.specs.Builders.Claims.{IsReadBack, IsRefusal, becomes, claim_set, without};
+ghost use Rattle.rusty_paseto_generic.specs.Builders.Claims.{IsReadBack, IsRefusal, becomes, claim_set, payload, without};
 ghost use Rattle.rusty_paseto_generic.specs.Builders.Held.{held};
 ghost use Rattle.rusty_paseto_generic.specs.Builders.GenericBuilder.{IsBoxAnswer, IsSealed, IsSignAnswer};
 ghost use Rattle.rusty_paseto.specs.Held.{counting};
@@ -169,6 +169,21 @@ impl<'a, V: VersionTrait, P: PurposeTrait> PasetoBuilder<'a, V, P> {
     {
         self.builder.set_footer(footer);
         self
+    }
+
+    /// The payload of a token with these claims, as that of a `GenericBuilder`, for a caller that encrypts or signs it.
+    ///
+    /// `DuplicateTopLevelPayloadClaim` is returned for the last key that was set again. There is no other error than
+    /// `Memory` beside it.
+    pub fn build_payload_from_claims(&self) -> Result<String, GenericBuilderError>
+        ensures repeated { IsRefusedRepeat (counting self.now.keys).repeated result }
+        ensures ok { IfOk result (λ text. string_bytes text
+            ≡ payload (held self.now.builder.claims)) }
+        ensures read_back { OnOk result (IsReadBack (held self.now.builder.claims)) }
+        ensures err { (counting self.now.keys).repeated ≡ None → IfErr result IsMemory }
+    {
+        self.check_keys()?;
+        self.builder.build_payload_from_claims()
     }
 
     // Refuses to build where a key was set again.

@@ -1,10 +1,7 @@
-//! Sealing, opening, signing, verifying, wrapping keys and the primitives, each many times over, for a C program that
-//! measures them, and what another one asks of private keys (`tests/secrets.sh`).
+//! The calls of `bench_calls` for a C program that measures them (`bench/`), and for one that asks what the machine code
+//! does with private keys (`tests/secrets.sh`): the exports of a static library.
 //!
-//! C passes a slice as a pointer, which is not null, and a length, and passes nothing for the
-//! allocator. The loop over the repetitions stands on this side of the call, so that what is measured
-//! is what a program in this language pays. Something of each repetition goes into the next one or
-//! into the answer, so that a compiler can leave none out.
+//! C passes a slice as a pointer, which is not null, and a length, and passes nothing for the allocator.
 //!
 //! ```c
 //! uint8_t out[32];
@@ -14,7 +11,6 @@
 
 mod agreement;
 mod boxed;
-mod copying;
 mod json;
 mod p384;
 mod passwords;
@@ -27,7 +23,6 @@ mod sealing;
 mod secret_keys;
 mod signed_v3;
 mod tokens;
-mod versions;
 mod wrapping;
 
 pub use agreement::paseto_bench_x25519;

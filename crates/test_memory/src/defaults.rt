@@ -35,6 +35,7 @@ impl Snapshot for PasetoParser<'_, V4, Local> {
 pub fn ask(run: &mut Run<'_>) -> Result<()> {
     ask_defaults(run)?;
     ask_claims(run)?;
+    ask_payload(run)?;
     ask_repeated_claims(run)?;
     ask_lifetimes(run)?;
     ask_checks(run)?;
@@ -99,6 +100,12 @@ fn ask_claims(run: &mut Run<'_>) -> Result<()> {
     }
 }
 
+fn ask_payload(run: &mut Run<'_>) -> Result<()> {
+    let builder = builder_of::<V4, Local>(run.alloc, run.text, 10)?;
+    calls! { run; "PasetoBuilder::build_payload_from_claims of some claims"
+        => builder.build_payload_from_claims(); }
+}
+
 // A claim that is set again makes a key the repeated one, for which nothing is built.
 fn ask_repeated_claims(run: &mut Run<'_>) -> Result<()> {
     let (alloc, claim, key) = (run.alloc, AudienceClaim::from("others"), symmetric_key());
@@ -109,6 +116,8 @@ fn ask_repeated_claims(run: &mut Run<'_>) -> Result<()> {
     builder.put_claim(&claim)?;
     calls!(run; "PasetoBuilder::build of a key that was set again, refused"
         => builder.build(&mut Zeros, &key);)?;
+    calls!(run; "PasetoBuilder::build_payload_from_claims of a key that was set again, refused"
+        => builder.build_payload_from_claims();)?;
     edits! { run, "PasetoBuilder::", builder = builder_of::<V4, Local>(alloc, "a", 10);
         "put_no_expiration_danger_acknowledged of a builder"
             => builder.put_no_expiration_danger_acknowledged();

@@ -95,6 +95,8 @@ fn build<R: TryRng>(builder: &LocalBuilder<'_>, generator: &mut R) -> Token {
 fn check_local(rt: &impl Abort, alloc: Global, builder: &LocalBuilder<'_>, payload: &str) {
     let found = written(rt, alloc, Kind::V4Local, build(builder, &mut Zeros));
     expect_text(rt, found.as_str(), payload);
+    let claims = builder.build_payload_from_claims().expect(rt, "a payload");
+    expect_text(rt, claims.as_str(), payload);
 }
 
 const SEATS: &str = "{\"exp\":\"2024-01-01T01:00:00Z\",\"iat\":\"2024-01-01T00:00:00Z\",\
@@ -151,6 +153,8 @@ fn no_nonce_is_asked_for_a_key_that_was_set_again(rt: HostRuntime) {
     let answer = build(&builder, &mut failing);
     expect_refusal(&rt, rt.alloc(), answer, REPEATED_AUDIENCE);
     expect_that(&rt, failing.asked == 0, "the generator");
+    let answer = builder.build_payload_from_claims();
+    expect_refusal(&rt, rt.alloc(), answer, REPEATED_AUDIENCE);
     drop(builder);
 }
 

@@ -1,7 +1,7 @@
 //! The versions by their numbers, as C names them.
 
 ghost use Rattle.std.specs.Prelude.{◌≡◌, IfSome};
-ghost use Rattle.test_bench.specs.Versions.{number_of};
+ghost use Rattle.bench_calls.specs.Versions.{number_of};
 
 use rusty_paseto_paserk::PaserkVersion;
 
