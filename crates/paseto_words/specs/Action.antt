@@ -81,6 +81,7 @@ pub record ExplainWords : Type 0 where
   pub key : KeyFileWords
   -- the file of the tokens that were issued
   pub issued : Text
+  pub footer : Option Text
   pub assertion : Option Text
   pub input : Option Text
 
@@ -186,6 +187,7 @@ plain (action.Verify a) = Asked.to_verify (keyed_words a)
 plain (action.Explain a) = Asked.to_explain (record {
   key = key_file_words a.key;
   issued = a.issued.now;
+  footer = text a.footer;
   assertion = text a.assertion;
   input = text a.input;
 })

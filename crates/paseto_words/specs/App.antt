@@ -89,7 +89,7 @@ sealing_app name = command name (opening_rules ++ option_rule (codes "out") ∷ 
 
 abbrev pub explain_app : App
 explain_app = command (codes "explain") (key_rules ++ needed (option_rule (codes "issued"))
-    ∷ option_rule (codes "assertion") ∷ place_rule (codes "input") ∷ [])
+    ∷ option_rule (codes "footer") ∷ option_rule (codes "assertion") ∷ place_rule (codes "input") ∷ [])
 
 abbrev pub inspect_app : App
 inspect_app = command (codes "inspect") (place_rule (codes "input") ∷ [])

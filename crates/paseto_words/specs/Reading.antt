@@ -99,6 +99,7 @@ abbrev pub explain_in : List Row → Option Asked
 explain_in rows = option_map (λ issued. Asked.to_explain (record {
   key = key_file_in rows;
   issued = issued;
+  footer = first_of (codes "footer") rows;
   assertion = first_of (codes "assertion") rows;
   input = first_of (codes "input") rows;
 })) (first_of (codes "issued") rows)

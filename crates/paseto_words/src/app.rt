@@ -323,7 +323,7 @@ const EXPLAIN: Subcommand = Subcommand {
     about: "Says which issued token a token is, or that it is a forgery, with its message and tag",
     example: "Example: paseto explain --key office.key --issued tokens.log token",
     usage: None,
-    parameters: &[KEY, PASSWORD, OPENER, ISSUED, ASSERTION, INPUT],
+    parameters: &[KEY, PASSWORD, OPENER, ISSUED, FOOTER, ASSERTION, INPUT],
 };
 
 const INSPECT: Subcommand = Subcommand {

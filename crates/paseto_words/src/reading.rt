@@ -184,11 +184,13 @@ fn explain_of<'a>(matches: &ArgMatches<'a>) -> Option<Action<'a>>
 {
     let issued = text(matches, "issued")?;
     let key = key_file_of(matches);
+    let footer = text(matches, "footer");
     let assertion = text(matches, "assertion");
     let input = text(matches, "input");
     Some(Action::Explain(Explain {
         key,
         issued,
+        footer,
         assertion,
         input,
     }))
