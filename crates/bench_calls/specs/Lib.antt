@@ -1,4 +1,5 @@
 pub mod Boxed
+pub mod Passwords
 pub mod Pem
 pub mod Signed
 pub mod Tokens

@@ -15,6 +15,10 @@ abbrev pub cost_of : ℕ → ℕ → ℕ → PasswordCost
 cost_of iterations memory passes =
     record { iterations = iterations; memory = memory; passes = passes; lanes = 1 }
 
+-- the cost that a text may ask for at most
+abbrev pub most : PasswordCost
+most = record { iterations = 10000000; memory = 1073741824; passes = 32; lanes = 16 }
+
 -- the text holds the key under a wrapping key
 abbrev pub IsWrapped : WrappedType → List ℕ → List ℕ → List ℕ → PaserkVersion → Type 0
 IsWrapped kind wrapping_key text key version = InText version kind (IsPie version kind wrapping_key) text key

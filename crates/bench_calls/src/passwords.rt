@@ -3,6 +3,7 @@
 ghost use Rattle.std.specs.Prelude.{◌≡◌, ◌≢◌, ◌^◌, ◌-◌, [], IsSome, length};
 ghost use Rattle.paseto_argon2.specs.Derivation.{argon2id};
 ghost use Rattle.rusty_paseto_primitives.specs.Pbkdf2.{derived_key};
+ghost use Rattle.bench_calls.specs.Passwords.{argon2_cost};
 
 use crate::copying::last_byte;
 use paseto_argon2::{Parameters, argon2id};
@@ -24,7 +25,7 @@ const COST: Parameters = Parameters {
 /// The answer is the sum of the keys' last bytes, or 2^64 - 1 where a length is not allowed or memory was refused.
 pub fn bench_argon2id(alloc: Global, password: &[u8], salt: &[u8], key: &mut [u8], reps: u32) -> u64
     ensures { result ≢ 2 ^ 64 - 1
-        → key.new ≡ argon2id password.now salt.now [] [] COST (length key.old) }
+        → key.new ≡ argon2id password.now salt.now [] [] argon2_cost (length key.old) }
 {
     derive_often(alloc, password, salt, key, reps).unwrap_or(FAILED)
 }
@@ -55,7 +56,7 @@ fn derive_often(
     reps: u32,
 ) -> Option<u64>
     ensures { IsSome result
-        → key.new ≡ argon2id password.now salt.now [] [] COST (length key.old) }
+        → key.new ≡ argon2id password.now salt.now [] [] argon2_cost (length key.old) }
 {
     let mut sum = 0u64;
     'repetitions: for _ in 1..reps {
@@ -67,7 +68,7 @@ fn derive_often(
 /// Derives it, and gives its last byte.
 fn derive(alloc: Global, password: &[u8], salt: &[u8], key: &mut [u8]) -> Option<u64>
     ensures { IsSome result
-        → key.new ≡ argon2id password.now salt.now [] [] COST (length key.old) }
+        → key.new ≡ argon2id password.now salt.now [] [] argon2_cost (length key.old) }
 {
     argon2id(alloc, password, salt, COST, key).ok()?;
     Some(last_byte(key))

@@ -7,7 +7,7 @@ ghost use Rattle.std.specs.Prelude.{◌≡◌, ◌≢◌, ◌^◌, ◌-◌, IsSo
 ghost use Rattle.paseto_wrapping.specs.declared.header.WrappedType.TheVariants.{LocalPassword as LocalKey};
 ghost use Rattle.paseto_wrapping.specs.Password.{protected};
 ghost use Rattle.bench_calls.specs.Versions.{OfVersion};
-ghost use Rattle.bench_calls.specs.Wrapped.{IsUnder, cost_of};
+ghost use Rattle.bench_calls.specs.Wrapped.{IsUnder, cost_of, most};
 
 use crate::copying::{copy_bytes, last_byte};
 use crate::versions::version_of;
@@ -62,7 +62,7 @@ pub fn bench_unprotect_local(
     reps: u32,
 ) -> u64
     ensures { result ≢ 2 ^ 64 - 1
-        → OfVersion version (IsUnder LocalKey password.now MOST text.now key.new) }
+        → OfVersion version (IsUnder LocalKey password.now most text.now key.new) }
 {
     unprotect_in(alloc, version, password, text, key, reps).unwrap_or(FAILED)
 }
@@ -136,7 +136,7 @@ fn unprotect_in(
     key: &mut [u8],
     reps: u32,
 ) -> Option<u64>
-    ensures { IsSome result → OfVersion version (IsUnder LocalKey password.now MOST text.now key.new) }
+    ensures { IsSome result → OfVersion version (IsUnder LocalKey password.now most text.now key.new) }
 {
     match version_of(version)? {
         PaserkVersion::V1 => unprotect::<V1>(alloc, password, text, key, reps),
@@ -154,7 +154,7 @@ fn unprotect<V: KeyVersion>(
     key: &mut [u8],
     reps: u32,
 ) -> Option<u64>
-    ensures { IsSome result → IsUnder LocalKey password.now MOST text.now key.new V.paserk }
+    ensures { IsSome result → IsUnder LocalKey password.now most text.now key.new V.paserk }
 {
     let text = str::from_utf8(text).ok()?;
     let mut sum = 0u64;

@@ -9,7 +9,7 @@ ghost use Rattle.paseto_wrapping.specs.declared.header.WrappedType.TheVariants.{
 ghost use Rattle.paseto_wrapping.specs.Password.{protected};
 ghost use Rattle.paseto_wrapping.specs.Pie.{pie};
 ghost use Rattle.bench_calls.specs.Versions.{OfVersion};
-ghost use Rattle.bench_calls.specs.Wrapped.{IsUnder, IsWrapped, cost_of};
+ghost use Rattle.bench_calls.specs.Wrapped.{IsUnder, IsWrapped, cost_of, most};
 
 use crate::copying::copy_bytes;
 use crate::protecting::{MOST, one_lane};
@@ -93,7 +93,7 @@ pub fn bench_unprotect_secret(
     key: &mut [u8],
 ) -> u64
     ensures { result ≢ 2 ^ 64 - 1
-        → OfVersion version (IsUnder PasswordKey password.now MOST text.now key.new) }
+        → OfVersion version (IsUnder PasswordKey password.now most text.now key.new) }
 {
     match unprotect_in(alloc, version, password, text, key) {
         Some(()) => 0,
@@ -219,7 +219,7 @@ fn unprotect_in(
     text: &[u8],
     key: &mut [u8],
 ) -> Option<()>
-    ensures { IsSome result → OfVersion version (IsUnder PasswordKey password.now MOST text.now key.new) }
+    ensures { IsSome result → OfVersion version (IsUnder PasswordKey password.now most text.now key.new) }
 {
     match version_of(version)? {
         PaserkVersion::V1 => unprotect::<V1>(alloc, password, text, key),
@@ -236,7 +236,7 @@ fn unprotect<V: KeyVersion>(
     text: &[u8],
     key: &mut [u8],
 ) -> Option<()>
-    ensures { IsSome result → IsUnder PasswordKey password.now MOST text.now key.new V.paserk }
+    ensures { IsSome result → IsUnder PasswordKey password.now most text.now key.new V.paserk }
 {
     let text = str::from_utf8(text).ok()?;
     let read = unprotect_secret::<V>(alloc, password, MOST, text).ok()?;

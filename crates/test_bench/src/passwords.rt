@@ -3,6 +3,7 @@
 ghost use Rattle.std.specs.Prelude.{◌≡◌, ◌≢◌, ◌^◌, ◌-◌, [], length};
 ghost use Rattle.paseto_argon2.specs.Derivation.{argon2id};
 ghost use Rattle.rusty_paseto_primitives.specs.Pbkdf2.{derived_key};
+ghost use Rattle.bench_calls.specs.Passwords.{argon2_cost};
 
 use std::alloc::Global;
 
@@ -16,7 +17,7 @@ pub extern "C" fn paseto_bench_argon2id(
     reps: u32,
 ) -> u64
     ensures { result ≢ 2 ^ 64 - 1
-        → key.new ≡ argon2id password.now salt.now [] [] COST (length key.old) }
+        → key.new ≡ argon2id password.now salt.now [] [] argon2_cost (length key.old) }
 {
     bench_calls::bench_argon2id(alloc, password, salt, key, reps)
 }

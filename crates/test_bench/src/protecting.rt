@@ -7,7 +7,7 @@ ghost use Rattle.std.specs.Prelude.{◌≡◌, ◌≢◌, ◌^◌, ◌-◌};
 ghost use Rattle.paseto_wrapping.specs.declared.header.WrappedType.TheVariants.{LocalPassword as LocalKey};
 ghost use Rattle.paseto_wrapping.specs.Password.{protected};
 ghost use Rattle.bench_calls.specs.Versions.{OfVersion};
-ghost use Rattle.bench_calls.specs.Wrapped.{IsUnder, cost_of};
+ghost use Rattle.bench_calls.specs.Wrapped.{IsUnder, cost_of, most};
 
 use std::alloc::Global;
 
@@ -45,7 +45,7 @@ pub extern "C" fn paseto_bench_unprotect_local(
     reps: u32,
 ) -> u64
     ensures { result ≢ 2 ^ 64 - 1
-        → OfVersion version (IsUnder LocalKey password.now MOST text.now key.new) }
+        → OfVersion version (IsUnder LocalKey password.now most text.now key.new) }
 {
     bench_calls::bench_unprotect_local(alloc, version, password, text, key, reps)
 }

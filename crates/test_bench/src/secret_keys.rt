@@ -9,7 +9,7 @@ ghost use Rattle.paseto_wrapping.specs.declared.header.WrappedType.TheVariants.{
 ghost use Rattle.paseto_wrapping.specs.Password.{protected};
 ghost use Rattle.paseto_wrapping.specs.Pie.{pie};
 ghost use Rattle.bench_calls.specs.Versions.{OfVersion};
-ghost use Rattle.bench_calls.specs.Wrapped.{IsUnder, IsWrapped, cost_of};
+ghost use Rattle.bench_calls.specs.Wrapped.{IsUnder, IsWrapped, cost_of, most};
 
 use std::alloc::Global;
 
@@ -76,7 +76,7 @@ pub extern "C" fn paseto_bench_unprotect_secret(
     key: &mut [u8],
 ) -> u64
     ensures { result ≢ 2 ^ 64 - 1
-        → OfVersion version (IsUnder PasswordKey password.now MOST text.now key.new) }
+        → OfVersion version (IsUnder PasswordKey password.now most text.now key.new) }
 {
     bench_calls::bench_unprotect_secret(alloc, version, password, text, key)
 }
