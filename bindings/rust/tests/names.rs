@@ -1,6 +1,6 @@
 //! The public names of rusty_paseto 0.8.0: 20 of `core`, 16 of `generic` and 3 of `prelude`; each module has those of the
 //! modules before it.
-#![allow(unused_imports)]
+#![allow(unused_imports, clippy::unneeded_struct_pattern)]
 
 mod of_core {
     use paseto_proved::core::{
