@@ -43,7 +43,7 @@ tested() {
     passed=$((passed + $(awk '/^test result: / { sum += $4 } END { print sum + 0 }' "$work/log")))
 }
 
-tested 'cargo test' 13 cargo test
+tested 'cargo test' 14 cargo test
 examples=$(grep -cE '^test example_[0-9]{2}_.* ok$' "$work/log")
 echo "$examples of 15 examples of the README of rusty_paseto"
 is 'the examples of the README of rusty_paseto' "$examples" 15
@@ -130,7 +130,7 @@ is 'a program over the packaged crate' \
 # The oldest rustc that Cargo.toml names, where Debian's is that one.
 oldest=$(sed -n 's/^rust-version = "\(.*\)"$/\1/p' Cargo.toml)
 if [ -x /usr/bin/cargo ] && [ "$(/usr/bin/rustc --version 2>/dev/null | cut -d ' ' -f 2 | cut -d . -f 1-2)" = "$oldest" ]; then
-    RUSTC=/usr/bin/rustc RUSTDOC=/usr/bin/rustdoc CARGO_TARGET_DIR=$work/oldest tested "cargo test by rustc $oldest" 13 /usr/bin/cargo test
+    RUSTC=/usr/bin/rustc RUSTDOC=/usr/bin/rustdoc CARGO_TARGET_DIR=$work/oldest tested "cargo test by rustc $oldest" 14 /usr/bin/cargo test
 else
     fail "there is no rustc $oldest at /usr/bin/rustc. On Debian 12: apt-get install cargo rustc"
 fi

@@ -9,7 +9,7 @@ use std::fmt;
 /// A private key and its public key, of versions 2, 3 and 4. `openssl genpkey` makes keys of version 1.
 ///
 /// ```rust
-/// use paseto_proved::core::{Paseto, Payload, Public, V4};
+/// use paseto_proved::core::{Key, Paseto, Payload, Public, V4};
 /// use paseto_proved::keys::KeyPair;
 ///
 /// # fn main() -> Result<(), Box<dyn std::error::Error>> {
@@ -18,6 +18,9 @@ use std::fmt;
 ///     .set_payload(Payload::from("a text"))
 ///     .try_sign(pair.private_key())?;
 /// assert_eq!(Paseto::<V4, Public>::try_verify(&token, pair.public_key(), None, None)?, "a text");
+///
+/// let (one, same) = (KeyPair::<V4>::try_from_seed(&Key::from([7; 32]))?, KeyPair::<V4>::try_from_seed(&Key::from([7; 32]))?);
+/// assert_eq!(one.public_key().as_ref(), same.public_key().as_ref());
 /// # Ok(())
 /// # }
 /// ```

@@ -38,6 +38,10 @@ pub fn key_footer(id: &str) -> String {
 /// let (id, claims) = ring.parse(&PasetoParser::default(), &token)?;
 /// assert_eq!(id, "2026-11");
 /// assert!(claims["exp"].is_string());
+///
+/// assert_eq!(ring.ids().collect::<Vec<_>>(), ["2026-10", "2026-11"]);
+/// ring.set_longest(65_536).set_longest_footer(1_024);
+/// assert!(ring.get("2026-10").is_some() && ring.remove("2026-10").is_some());
 /// # Ok(())
 /// # }
 /// ```
@@ -151,6 +155,15 @@ parse!("v3_public" V3 Public PasetoAsymmetricPublicKey<'_, V3, Public>);
 parse!("v4_public" V4 Public PasetoAsymmetricPublicKey<'_, V4, Public>);
 
 /// Why a ring did not read a token.
+///
+/// ```rust
+/// use paseto_proved::keys::{KeyRing, KeyRingError};
+/// use paseto_proved::prelude::*;
+///
+/// let ring = KeyRing::<PasetoSymmetricKey<V4, Local>>::new();
+/// let refused = ring.parse(&PasetoParser::default(), "v4.local.payload");
+/// assert!(matches!(refused, Err(KeyRingError::UnknownKey)));
+/// ```
 #[derive(Debug)]
 pub enum KeyRingError {
     /// The footer of the token names no key of the ring.
