@@ -5,7 +5,9 @@ use crate::core::{
     PasetoSymmetricKey, Public, V1, V2, V3, V4,
 };
 use crate::generic::refusals::parser_error;
-use crate::generic::{GenericParserError, Members, PasetoClaim, PasetoClaimError, ValidatorMap};
+use crate::generic::{
+    GenericParserError, Members, PasetoClaim, PasetoClaimError, ValidatorFn, ValidatorMap,
+};
 use crate::library::{self, Checks, Fault, Refusal, Version};
 use crate::moment::{second_of, this_second};
 use serde_json::{Map, Value};
@@ -13,8 +15,21 @@ use std::collections::{BTreeMap, BTreeSet, HashMap};
 use std::marker::PhantomData;
 use std::time::{Duration, SystemTime};
 
-// What validates the value under a key.
-type Validator<'b> = Box<dyn Fn(&str, &Value) -> Result<(), PasetoClaimError> + 'b>;
+// What validates the value under a key. A closure is lent and not boxed, so that one that captures can stand in the
+// expression that makes the parser and parses.
+enum Validator<'b> {
+    Lent(&'b (dyn Fn(&str, &Value) -> Result<(), PasetoClaimError> + 'b)),
+    Boxed(Box<ValidatorFn>),
+}
+
+impl Validator<'_> {
+    fn validate(&self, key: &str, value: &Value) -> Result<(), PasetoClaimError> {
+        match self {
+            Validator::Lent(closure) => closure(key, value),
+            Validator::Boxed(closure) => closure(key, value),
+        }
+    }
+}
 
 /// What a token is checked for: expected claims, validators, a footer, and in versions 3 and 4 an implicit assertion. The
 /// times are not checked: [`PasetoParser`](crate::prelude::PasetoParser) does that.
@@ -66,7 +81,7 @@ impl<'a, 'b, Version, Purpose> GenericParser<'a, 'b, Version, Purpose> {
     /// Validates the value under each of the keys. Each validator runs, whether a claim is expected under its key or not.
     pub fn extend_validation_claims(&mut self, value: ValidatorMap) -> &mut Self {
         for (key, validator) in value {
-            self.validators.insert(key, validator);
+            self.validators.insert(key, Validator::Boxed(validator));
         }
         self
     }
@@ -80,7 +95,8 @@ impl<'a, 'b, Version, Purpose> GenericParser<'a, 'b, Version, Purpose> {
     ) -> &mut Self {
         let key = value.get_key().to_owned();
         self.expected.set(&value);
-        self.validators.insert(key, Box::new(validation_closure));
+        self.validators
+            .insert(key, Validator::Lent(validation_closure));
         self
     }
 
@@ -213,7 +229,9 @@ impl<'a, 'b, Version, Purpose> GenericParser<'a, 'b, Version, Purpose> {
     fn validate(&self, claims: &Value) -> Result<(), PasetoClaimError> {
         let null = Value::Null;
         let mut validators = self.validators.iter();
-        validators.try_for_each(|(key, validator)| validator(key, claims.get(key).unwrap_or(&null)))
+        validators.try_for_each(|(key, validator)| {
+            validator.validate(key, claims.get(key).unwrap_or(&null))
+        })
     }
 }
 
