@@ -6,7 +6,7 @@
 #
 #   tests/rust.sh PREFIX
 #
-# PREFIX is where build.sh or c/build.sh installed. The last line is 'N passed, M failed', and the status is 0 where none
+# PREFIX is where build.sh installed. The last line is 'N passed, M failed', and the status is 0 where none
 # failed.
 set -u
 export LC_ALL=C

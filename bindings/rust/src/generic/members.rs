@@ -79,9 +79,14 @@ impl Members {
 
     /// The first key whose value has a number that is not a 64-bit integer.
     pub(crate) fn odd(&self) -> Option<&str> {
-        let odd = self.iter().find(|(_, value)| has_float(value));
-        odd.map(|(key, _)| key.as_str())
+        odd_key(&self.values)
     }
+}
+
+/// The first key whose value has a number that is not a 64-bit integer.
+pub(super) fn odd_key(values: &Map<String, Value>) -> Option<&str> {
+    let odd = values.iter().find(|(_, value)| has_float(value));
+    odd.map(|(key, _)| key.as_str())
 }
 
 fn under(key: &str, value: Value) -> Value {

@@ -2,6 +2,7 @@
 //! apart into the key and the texts that it names.
 
 use crate::core::PasetoError;
+use crate::generic::members::odd_key;
 use crate::generic::{GenericParserError, PasetoClaimError};
 use crate::library::{Fault, Refusal};
 use serde::de::Error;
@@ -30,10 +31,16 @@ pub(super) fn parser_error(refusal: Refusal, expected: &Map<String, Value>) -> G
             PasetoClaimError::Missing(key).into()
         }
         Fault::Unexpected => {
-            let key = part(
-                line,
-                "Could not convert claim '",
-                "' to the expected data type",
+            // The message about an expected claim that the library does not take names no key.
+            let key = odd_key(expected).map_or_else(
+                || {
+                    part(
+                        line,
+                        "Could not convert claim '",
+                        "' to the expected data type",
+                    )
+                },
+                str::to_owned,
             );
             PasetoClaimError::Unexpected(key).into()
         }
