@@ -10,7 +10,7 @@ use serde::{Serialize, Serializer};
 use std::time::{Duration, SystemTime};
 
 const EARLIER: &str = "2019-01-01T00:00:00+00:00";
-const LATER: &str = "2999-01-01T00:00:00+00:00";
+const LATER: &str = "2099-01-01T00:00:00+00:00";
 
 fn key() -> PasetoSymmetricKey<V4, Local> {
     PasetoSymmetricKey::from(Key::from([7; 32]))
@@ -477,18 +477,19 @@ fn no_key_is_shown() -> Outcome {
     let mut ring = KeyRing::new();
     ring.add("one", key.clone());
     let nonce = Key::<32>::from([0xab; 32]);
-    let shown = [
-        format!("{key:?}"),
-        format!("{:?}", pair.private_key()),
-        format!("{pair:?}"),
-        format!("{ring:?}"),
-        format!("{nonce:?}"),
+    let private = "!!! KEY IS PRIVATE !!!";
+    assert_eq!(format!("{key:?}"), private);
+    assert_eq!(format!("{:?}", pair.private_key()), private);
+    assert_eq!(format!("{pair:?}"), private);
+    assert_eq!(format!("{nonce:?}"), private);
+    assert_eq!(
         format!("{:?}", PasetoNonce::<V4, Local>::from(&nonce)),
+        "PasetoNonce"
+    );
+    assert_eq!(
         format!("{:?}", pair.public_key()),
-    ];
-    for text in shown {
-        let digits = text.bytes().filter(u8::is_ascii_digit).count();
-        assert!(digits == 0 && text.len() < 100, "{text}");
-    }
+        "PasetoAsymmetricPublicKey"
+    );
+    assert!(format!("{ring:?}").contains(&format!("{{\"one\": {private}}}")));
     Ok(())
 }
