@@ -107,6 +107,10 @@ searched -u PASETO_LIB_DIR "$none" >/dev/null
 is 'no library' "$(grep -A 1 -e '--- stderr' "$work/log" | tail -n 1 | sed 's/^ *//')" \
     'there is no libpaseto.a: run `bash build.sh` of the repository, or set PASETO_LIB_DIR to the folder that has it'
 
+searched PASETO_LIB_DIR="$work/none" >/dev/null
+is 'a folder without a library' "$(grep -A 1 -e '--- stderr' "$work/log" | tail -n 1 | sed 's/^ *//')" \
+    "PASETO_LIB_DIR names $work/none, which has no libpaseto.a: \`bash build.sh PREFIX\` of the repository makes PREFIX/lib"
+
 # The packaged crate, which holds the library: a program that adds it needs nothing else.
 mkdir "$work/copy/lib" && cp "$prefix/lib/libpaseto.a" "$work/copy/lib" && cp "$root/LICENSE" "$work/copy"
 asked 'cargo package' env "$none" cargo package --quiet --no-verify --allow-dirty --manifest-path "$work/copy/Cargo.toml" --target-dir "$work/packaged"
