@@ -43,7 +43,7 @@ tested() {
     passed=$((passed + $(awk '/^test result: / { sum += $4 } END { print sum + 0 }' "$work/log")))
 }
 
-tested 'cargo test' 14 cargo test
+tested 'cargo test' 14 cargo test --no-fail-fast
 examples=$(grep -cE '^test example_[0-9]{2}_.* ok$' "$work/log")
 echo "$examples of 15 examples of the README of rusty_paseto"
 is 'the examples of the README of rusty_paseto' "$examples" 15
@@ -65,7 +65,7 @@ PYTHONPATH=$root/bindings/python/src PASETO_LIBRARY=$prefix/lib/libpaseto.so.1 P
 END
 chmod +x "$work/python"
 PASETO_PROGRAM=${PASETO_PROGRAM:-$prefix/bin/paseto} PASETO_CLIENT=$work/both_ways PASETO_PYTHON=$work/python \
-    tested 'tokens both ways' 1 cargo test --test both_ways -- --ignored
+    tested 'tokens both ways' 1 cargo test --test both_ways --no-fail-fast -- --ignored
 
 # A system that gives no random bytes.
 CARGO_TARGET_X86_64_UNKNOWN_LINUX_GNU_RUNNER='strace -f -qq -o /dev/null -e inject=getrandom:error=ENOSYS' \
@@ -134,7 +134,7 @@ is 'a program over the packaged crate' \
 # The oldest rustc that Cargo.toml names, where Debian's is that one.
 oldest=$(sed -n 's/^rust-version = "\(.*\)"$/\1/p' Cargo.toml)
 if [ -x /usr/bin/cargo ] && [ "$(/usr/bin/rustc --version 2>/dev/null | cut -d ' ' -f 2 | cut -d . -f 1-2)" = "$oldest" ]; then
-    RUSTC=/usr/bin/rustc RUSTDOC=/usr/bin/rustdoc CARGO_TARGET_DIR=$work/oldest tested "cargo test by rustc $oldest" 14 /usr/bin/cargo test
+    RUSTC=/usr/bin/rustc RUSTDOC=/usr/bin/rustdoc CARGO_TARGET_DIR=$work/oldest tested "cargo test by rustc $oldest" 14 /usr/bin/cargo test --no-fail-fast
 else
     fail "there is no rustc $oldest at /usr/bin/rustc. On Debian 12: apt-get install cargo rustc"
 fi
