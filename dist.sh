@@ -1,7 +1,7 @@
 #!/usr/bin/env bash
 # Makes what a release page holds, from what build.sh proved and built: an archive of programs, libraries, header, manual pages
-# and completions, Debian packages of the program and of the library, the wheel for Python, the crate for Rust, and their
-# sums. The same build gives the same bytes.
+# and completions, Debian packages of the program and of the library, the wheel for Python, the crate for Rust with the library
+# in it, and their sums. The same build gives the same bytes.
 #
 #   bash dist.sh [FOLDER [PREFIX]]
 #
@@ -101,7 +101,10 @@ tar -C "$work" --sort=name --mtime="@$SOURCE_DATE_EPOCH" --owner=0 --group=0 --n
 bash "$here/bindings/python/build.sh" "$folder" "$prefix" >/dev/null
 cp -a "$here/bindings/rust" "$work/rust"
 rm -rf "$work/rust/target"
-(cd "$work/rust" && cargo package --quiet --offline --no-verify --allow-dirty --target-dir "$work/target")
+install -D -m 644 "$prefix/lib/libpaseto.a" "$work/rust/lib/libpaseto.a"
+cp "$here/LICENSE" "$work/rust"
+bash "$here/bindings/rust/offline.sh" "$work/cargo"
+(cd "$work/rust" && CARGO_HOME=$work/cargo cargo package --quiet --offline --no-verify --allow-dirty --target-dir "$work/target")
 cp "$work"/target/package/*.crate "$folder"
 
 (cd "$folder" && sha256sum -- *.tar.gz *.deb *.whl *.crate | sort -k 2 >SHA256SUMS)

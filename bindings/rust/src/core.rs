@@ -4,6 +4,7 @@ mod base64url;
 mod error;
 mod keys;
 mod paseto;
+mod secret;
 mod texts;
 mod untrusted_token;
 mod versions;
@@ -12,6 +13,8 @@ pub use error::PasetoError;
 pub use keys::{
     Key, PasetoAsymmetricPrivateKey, PasetoAsymmetricPublicKey, PasetoNonce, PasetoSymmetricKey,
 };
+#[cfg(feature = "batteries_included")]
+pub(crate) use paseto::with_end;
 pub use paseto::Paseto;
 pub use texts::{Footer, ImplicitAssertion, Payload};
 pub use untrusted_token::UntrustedToken;

@@ -1,31 +1,12 @@
 //! Public tokens of version 1, under keys that OpenSSL made, and one that OpenSSL signed (`tests/c_library/rsa.h`).
 
+mod common;
+
+use common::{bytes, constant, Outcome};
 use paseto_proved::core::{
     Footer, Paseto, PasetoAsymmetricPrivateKey, PasetoAsymmetricPublicKey, PasetoError, Payload,
     Public, V1,
 };
-use std::error::Error;
-
-const KEYS: &str = include_str!("../../../tests/c_library/rsa.h");
-
-type Outcome = Result<(), Box<dyn Error>>;
-
-// The text of a constant of the header, whose pieces stand in quotes.
-fn constant(name: &str) -> Result<String, Box<dyn Error>> {
-    let (_, rest) = KEYS
-        .split_once(&format!("{name}[] ="))
-        .ok_or("no such constant")?;
-    let (pieces, _) = rest.split_once(';').ok_or("no end")?;
-    Ok(pieces.split('"').skip(1).step_by(2).collect())
-}
-
-fn bytes(name: &str) -> Result<Vec<u8>, Box<dyn Error>> {
-    let digits = constant(name)?;
-    let bytes = (0..digits.len())
-        .step_by(2)
-        .map(|at| u8::from_str_radix(&digits[at..at + 2], 16));
-    Ok(bytes.collect::<Result<_, _>>()?)
-}
 
 fn signed(key: &[u8], text: &str, footer: &str) -> Result<String, PasetoError> {
     Paseto::<V1, Public>::builder()

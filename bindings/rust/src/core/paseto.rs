@@ -1,11 +1,11 @@
 //! Tokens: encrypted and decrypted, signed and verified.
 
 use crate::core::{
-    Footer, ImplicitAssertion, ImplicitAssertionCapable, Key, Local, PasetoAsymmetricPrivateKey,
+    Footer, ImplicitAssertion, ImplicitAssertionCapable, Local, PasetoAsymmetricPrivateKey,
     PasetoAsymmetricPublicKey, PasetoError, PasetoNonce, PasetoSymmetricKey, Payload, Public,
     PurposeTrait, VersionTrait, V1, V2, V3, V4,
 };
-use crate::library;
+use crate::library::{self, Version};
 use std::marker::PhantomData;
 
 /// The parts of a token: a payload, an optional footer, and in versions 3 and 4 an optional implicit assertion.
@@ -48,13 +48,14 @@ impl<'a, Version: VersionTrait, Purpose: PurposeTrait> Paseto<'a, Version, Purpo
         self.footer = Some(footer);
         self
     }
+}
 
-    // A footer that was set and is empty shows in a dot at the end, which the library for C does not write.
-    fn finished(&self, token: String) -> String {
-        match self.footer {
-            Some(footer) if footer.is_empty() => token + ".",
-            _ => token,
-        }
+/// The token that the library made, with what it does not write: a footer that was set and is empty shows in a dot at
+/// the end.
+pub(crate) fn with_end(token: String, footer: Option<Footer<'_>>) -> String {
+    match footer {
+        Some(footer) if footer.is_empty() => token + ".",
+        _ => token,
     }
 }
 
@@ -67,7 +68,8 @@ impl<'a, Version: ImplicitAssertionCapable, Purpose: PurposeTrait> Paseto<'a, Ve
 }
 
 macro_rules! local {
-    ($version:ident, $encrypt:ident, $decrypt:ident $(, $assertion:ident)?) => {
+    ($feature:tt $version:ident $(, $assertion:ident)?) => {
+        #[cfg(feature = $feature)]
         impl<'a> Paseto<'a, $version, Local> {
             /// Encrypts the payload under a key and a nonce, which must not be used for another token under this key.
             ///
@@ -78,14 +80,15 @@ macro_rules! local {
                 key: &PasetoSymmetricKey<$version, Local>,
                 nonce: &PasetoNonce<'_, $version, Local>,
             ) -> Result<String, PasetoError> {
-                let token = library::$encrypt(
+                let token = library::encrypt(
+                    Version::$version,
                     key.as_ref(),
                     nonce.as_ref(),
                     &self.payload,
                     &self.footer.unwrap_or_default(),
-                    $(&self.$assertion.unwrap_or_default(),)?
+                    &self.implicit_assertion.unwrap_or_default(),
                 )?;
-                Ok(self.finished(token))
+                Ok(with_end(token, self.footer))
             }
 
             /// Decrypts a token with the expected footer and implicit assertion, and returns its text. `None` is the
@@ -100,70 +103,47 @@ macro_rules! local {
                 footer: impl Into<Option<Footer<'a>>> + Copy,
                 $($assertion: impl Into<Option<ImplicitAssertion<'a>>> + Copy,)?
             ) -> Result<String, PasetoError> {
-                library::$decrypt(
+                let assertion = ImplicitAssertion::default();
+                $(let assertion = $assertion.into().unwrap_or(assertion);)?
+                Ok(library::decrypt(
+                    Version::$version,
                     key.as_ref(),
                     token.as_bytes(),
                     &footer.into().unwrap_or_default(),
-                    $(&$assertion.into().unwrap_or_default(),)?
-                )
+                    &assertion,
+                )?)
             }
         }
     };
 }
 
-local!(V1, v1_local_encrypt, v1_local_decrypt);
-local!(V2, v2_local_encrypt, v2_local_decrypt);
-local!(V3, v3_local_encrypt, v3_local_decrypt, implicit_assertion);
-local!(V4, v4_local_encrypt, v4_local_decrypt, implicit_assertion);
-
-impl<'a> Paseto<'a, V1, Public> {
-    /// Signs the payload with a private key and a random salt from the system.
-    ///
-    /// Fails with `KeyRejected` if the private key is not valid, `RsaCipher` if its numbers are inconsistent, `Cipher`
-    /// if the system gives no random bytes, and `Memory` if the library is out of memory.
-    pub fn try_sign(
-        &self,
-        key: &PasetoAsymmetricPrivateKey<'_, V1, Public>,
-    ) -> Result<String, PasetoError> {
-        let salt = Key::<48>::try_new_random()?;
-        let footer = self.footer.unwrap_or_default();
-        let token = library::v1_public_sign(key.as_ref(), salt.as_ref(), &self.payload, &footer)?;
-        Ok(self.finished(token))
-    }
-
-    /// Verifies a token with the expected footer, and returns its text. `None` is the same as an empty footer.
-    ///
-    /// Otherwise returns the first error of `IncorrectSize`, `FooterInvalid`, `WrongHeader`, `PayloadBase64Decode`,
-    /// `InvalidSignature` and `FromUtf8Error`. `Memory` may take the place of any.
-    pub fn try_verify(
-        token: &str,
-        key: &PasetoAsymmetricPublicKey<'_, V1, Public>,
-        footer: impl Into<Option<Footer<'a>>> + Copy,
-    ) -> Result<String, PasetoError> {
-        let footer = footer.into().unwrap_or_default();
-        library::v1_public_verify(key.as_ref(), token.as_bytes(), &footer)
-    }
-}
+local!("v1_local" V1);
+local!("v2_local" V2);
+local!("v3_local" V3, implicit_assertion);
+local!("v4_local" V4, implicit_assertion);
 
 macro_rules! public {
-    ($version:ident, $sign:ident, $verify:ident $(, $assertion:ident)?) => {
+    ($feature:tt $version:ident $(, $assertion:ident)?) => {
+        #[cfg(feature = $feature)]
         impl<'a> Paseto<'a, $version, Public> {
-            /// Signs the payload with a private key.
+            /// Signs the payload with a private key, in version 1 with a random salt from the system.
             ///
             /// Fails with `InvalidKey` for a key of another length, `KeyRejected` for one that is not valid,
-            /// `Signature` for one whose two halves do not belong together, and `Memory` if the library is out of
-            /// memory.
+            /// `Signature` for one whose two halves do not belong together, in version 1 `RsaCipher` for one whose
+            /// numbers are inconsistent and `Cipher` if the system gives no random bytes, and `Memory` if the library
+            /// is out of memory.
             pub fn try_sign(
                 &self,
                 key: &PasetoAsymmetricPrivateKey<'_, $version, Public>,
             ) -> Result<String, PasetoError> {
-                let token = library::$sign(
+                let token = library::sign(
+                    Version::$version,
                     key.as_ref(),
                     &self.payload,
                     &self.footer.unwrap_or_default(),
-                    $(&self.$assertion.unwrap_or_default(),)?
+                    &self.implicit_assertion.unwrap_or_default(),
                 )?;
-                Ok(self.finished(token))
+                Ok(with_end(token, self.footer))
             }
 
             /// Verifies a token with the expected footer and implicit assertion, and returns its text. `None` is the
@@ -177,17 +157,21 @@ macro_rules! public {
                 footer: impl Into<Option<Footer<'a>>> + Copy,
                 $($assertion: impl Into<Option<ImplicitAssertion<'a>>> + Copy,)?
             ) -> Result<String, PasetoError> {
-                library::$verify(
+                let assertion = ImplicitAssertion::default();
+                $(let assertion = $assertion.into().unwrap_or(assertion);)?
+                Ok(library::verify(
+                    Version::$version,
                     key.as_ref(),
                     token.as_bytes(),
                     &footer.into().unwrap_or_default(),
-                    $(&$assertion.into().unwrap_or_default(),)?
-                )
+                    &assertion,
+                )?)
             }
         }
     };
 }
 
-public!(V2, v2_public_sign, v2_public_verify);
-public!(V3, v3_public_sign, v3_public_verify, implicit_assertion);
-public!(V4, v4_public_sign, v4_public_verify, implicit_assertion);
+public!("v1_public" V1);
+public!("v2_public" V2);
+public!("v3_public" V3, implicit_assertion);
+public!("v4_public" V4, implicit_assertion);

@@ -7,7 +7,7 @@ use std::ops::Deref;
 macro_rules! text {
     ($(#[$about:meta])* $name:ident) => {
         $(#[$about])*
-        #[derive(Clone, Copy, Debug, Default, PartialEq, Eq)]
+        #[derive(Clone, Copy, Debug, Default, Eq)]
         pub struct $name<'a>(&'a str);
 
         impl<'a> From<&'a str> for $name<'a> {
@@ -49,6 +49,25 @@ text! {
 text! {
     /// A text that is not in the token, but authenticated with it: the reader must pass the same one. Versions 3 and 4.
     ImplicitAssertion
+}
+
+impl<T: AsRef<str>> PartialEq<T> for Payload<'_> {
+    /// Whether a text is that of the payload.
+    fn eq(&self, other: &T) -> bool {
+        self.0 == other.as_ref()
+    }
+}
+
+impl PartialEq for Footer<'_> {
+    fn eq(&self, other: &Self) -> bool {
+        self.0 == other.0
+    }
+}
+
+impl PartialEq for ImplicitAssertion<'_> {
+    fn eq(&self, other: &Self) -> bool {
+        self.0 == other.0
+    }
 }
 
 impl Footer<'_> {

@@ -40,6 +40,21 @@ impl<'a> UntrustedToken<'a> {
         }
     }
 
+    /// The same of a token of at most so many bytes. Fails with `TooLong` for a longer one, before it is read.
+    ///
+    /// ```rust
+    /// use paseto_proved::core::{PasetoError, UntrustedToken};
+    ///
+    /// let read = UntrustedToken::try_parse_within("v4.local.payload", 10);
+    /// assert_eq!(read.err(), Some(PasetoError::TooLong));
+    /// ```
+    pub fn try_parse_within(token: &'a str, longest: usize) -> Result<Self, PasetoError> {
+        if token.len() > longest {
+            return Err(PasetoError::TooLong);
+        }
+        UntrustedToken::try_parse(token)
+    }
+
     /// The first section, for example `v4`.
     pub fn version(&self) -> &'a str {
         self.version

@@ -1,0 +1,108 @@
+//! Key pairs.
+
+use crate::core::{
+    Key, PasetoAsymmetricPrivateKey, PasetoAsymmetricPublicKey, PasetoError, Public, V2, V3, V4,
+};
+use crate::library::{self, Version};
+use std::fmt;
+
+/// A private key and its public key, of versions 2, 3 and 4. `openssl genpkey` makes keys of version 1.
+///
+/// ```rust
+/// use paseto_proved::core::{Key, Paseto, Payload, Public, V4};
+/// use paseto_proved::keys::KeyPair;
+///
+/// # fn main() -> Result<(), Box<dyn std::error::Error>> {
+/// let pair = KeyPair::<V4>::try_new_random()?;
+/// let token = Paseto::<V4, Public>::builder()
+///     .set_payload(Payload::from("a text"))
+///     .try_sign(pair.private_key())?;
+/// assert_eq!(Paseto::<V4, Public>::try_verify(&token, pair.public_key(), None, None)?, "a text");
+///
+/// let (one, same) = (KeyPair::<V4>::try_from_seed(&Key::from([7; 32]))?, KeyPair::<V4>::try_from_seed(&Key::from([7; 32]))?);
+/// assert_eq!(one.public_key().as_ref(), same.public_key().as_ref());
+/// # Ok(())
+/// # }
+/// ```
+#[derive(Clone)]
+pub struct KeyPair<Version> {
+    private_key: PasetoAsymmetricPrivateKey<'static, Version, Public>,
+    public_key: PasetoAsymmetricPublicKey<'static, Version, Public>,
+}
+
+impl<Version> KeyPair<Version> {
+    /// The key that signs.
+    pub fn private_key(&self) -> &PasetoAsymmetricPrivateKey<'static, Version, Public> {
+        &self.private_key
+    }
+
+    /// The key that verifies.
+    pub fn public_key(&self) -> &PasetoAsymmetricPublicKey<'static, Version, Public> {
+        &self.public_key
+    }
+}
+
+impl<Version> fmt::Debug for KeyPair<Version> {
+    fn fmt(&self, f: &mut fmt::Formatter<'_>) -> fmt::Result {
+        self.private_key.fmt(f)
+    }
+}
+
+macro_rules! pair {
+    ($feature:tt $version:ident, $length:literal of $private:literal) => {
+        #[cfg(feature = $feature)]
+        impl KeyPair<$version> {
+            /// A new random key pair. Fails with `Cipher` if the system gives no random bytes.
+            pub fn try_new_random() -> Result<Self, PasetoError> {
+                loop {
+                    match Self::try_from_seed(&Key::<$length>::try_new_random()?) {
+                        // Of version 3, less than one in 2^189 random seeds is not a private key.
+                        Err(PasetoError::KeyRejected) => {}
+                        made => return made,
+                    }
+                }
+            }
+
+            /// The key pair of a seed: 32 bytes, or 48 in version 3, where the seed is the private key. Fails with
+            /// `KeyRejected` for a seed of version 3 that is not a private key.
+            pub fn try_from_seed(seed: &Key<$length>) -> Result<Self, PasetoError> {
+                let (private, public) = library::key_pair(Version::$version, seed.as_ref())?;
+                Ok(KeyPair {
+                    private_key: PasetoAsymmetricPrivateKey::owning(private),
+                    public_key: PasetoAsymmetricPublicKey::owning(public),
+                })
+            }
+        }
+
+        #[cfg(feature = $feature)]
+        impl PasetoAsymmetricPrivateKey<'_, $version, Public> {
+            /// The public key of this private key. Fails with `InvalidKey` for a key of another length, and in version 3
+            /// with `KeyRejected` for one that is not valid.
+            ///
+            /// ```rust
+            #[doc = concat!("use paseto_proved::core::", stringify!($version), ";")]
+            /// use paseto_proved::keys::KeyPair;
+            ///
+            /// # fn main() -> Result<(), Box<dyn std::error::Error>> {
+            #[doc = concat!("let pair = KeyPair::<", stringify!($version), ">::try_new_random()?;")]
+            /// assert_eq!(pair.private_key().public_key()?.as_ref(), pair.public_key().as_ref());
+            /// # Ok(())
+            /// # }
+            /// ```
+            pub fn public_key(
+                &self,
+            ) -> Result<PasetoAsymmetricPublicKey<'static, $version, Public>, PasetoError> {
+                let bytes: &[u8; $private] = self
+                    .as_ref()
+                    .try_into()
+                    .map_err(|_| PasetoError::InvalidKey)?;
+                let (_, public) = library::key_pair(Version::$version, &bytes[..$length])?;
+                Ok(PasetoAsymmetricPublicKey::owning(public))
+            }
+        }
+    };
+}
+
+pair!("v2_public" V2, 32 of 64);
+pair!("v3_public" V3, 48 of 48);
+pair!("v4_public" V4, 32 of 64);

@@ -1,0 +1,192 @@
+//! A builder of tokens that expire.
+
+use crate::core::{
+    with_end, Footer, ImplicitAssertion, ImplicitAssertionCapable, Local,
+    PasetoAsymmetricPrivateKey, PasetoSymmetricKey, Public, V1, V2, V3, V4,
+};
+use crate::generic::{
+    GenericBuilder, GenericBuilderError, IssuedAtClaim, Members, NotBeforeClaim, PasetoClaim,
+    PasetoClaimError,
+};
+use crate::library::{self, Fault, Parts, Version};
+use crate::moment::this_second;
+use std::collections::HashSet;
+use std::marker::PhantomData;
+use time::format_description::well_known::Rfc3339;
+use time::OffsetDateTime;
+
+/// The claims of a token, with `exp`, `iat` and `nbf` where they are not set: the token is issued at the last second that
+/// is over, may be used from now on, and expires an hour later. A footer, and in versions 3 and 4 an implicit assertion,
+/// are optional.
+///
+/// The library sets the times, and makes the token. `build` keeps the claims, so that a second token has them too.
+pub struct PasetoBuilder<'a, Version, Purpose> {
+    kind: PhantomData<(Version, Purpose)>,
+    builder: GenericBuilder<'a, 'a, Version, Purpose>,
+    keys: HashSet<String>,
+    twice: Option<String>,
+    never_expires: bool,
+    // The last second that was over when the builder was made. Readers count whole seconds, and take a token from the
+    // second after its nbf: so they take this one at once.
+    moment: i64,
+}
+
+impl<'a, Version, Purpose> PasetoBuilder<'a, Version, Purpose> {
+    /// Sets a claim. A key that is set twice is an error when the token is built.
+    pub fn set_claim<T: PasetoClaim + erased_serde::Serialize + Sized + 'a>(
+        &mut self,
+        value: T,
+    ) -> &mut Self {
+        let key = value.get_key();
+        if !self.keys.insert(key.to_owned()) {
+            self.twice = Some(key.to_owned());
+        }
+        self.builder.set_claim(value);
+        self
+    }
+
+    /// Makes a token that never expires, also where `exp` was set before. Setting `exp` after it is an error when the token
+    /// is built.
+    pub fn set_no_expiration_danger_acknowledged(&mut self) -> &mut Self {
+        self.keys.insert("exp".to_owned());
+        self.never_expires = true;
+        self
+    }
+
+    /// Sets the footer.
+    pub fn set_footer(&mut self, footer: Footer<'a>) -> &mut Self {
+        self.builder.set_footer(footer);
+        self
+    }
+
+    // Whether the claims can be in a token.
+    fn ready(&self) -> Result<(), GenericBuilderError> {
+        match &self.twice {
+            Some(key) => Err(GenericBuilderError::DuplicateTopLevelPayloadClaim(
+                key.clone(),
+            )),
+            None => Ok(()),
+        }
+    }
+
+    // A token by the call of the library that sets the times and makes it.
+    fn build_by(
+        &self,
+        call: impl Fn(&Parts<'_>) -> Result<String, Fault>,
+    ) -> Result<String, GenericBuilderError> {
+        let members = self.builder.members();
+        let footer = self.builder.footer();
+        let parts = Parts {
+            claims: &members.to_json()?,
+            now: self.moment,
+            footer: &footer.unwrap_or_default(),
+            assertion: &self.builder.implicit_assertion().unwrap_or_default(),
+        };
+        let token = call(&parts).map_err(|fault| error_of(fault, members, self.moment))?;
+        Ok(with_end(token, footer))
+    }
+
+    // The builder without exp, for the library always sets one. It has the other times as the library sets them.
+    fn without_expiration(
+        &self,
+    ) -> Result<GenericBuilder<'a, 'a, Version, Purpose>, GenericBuilderError> {
+        let date = date_of(self.moment).ok_or_else(|| no_date(self.moment))?;
+        let mut builder = self.builder.clone();
+        builder.remove_claim("exp");
+        if builder.members().get("iat").is_none() {
+            builder.set_claim(IssuedAtClaim::try_from(date.clone())?);
+        }
+        if builder.members().get("nbf").is_none() {
+            builder.set_claim(NotBeforeClaim::try_from(date)?);
+        }
+        Ok(builder)
+    }
+}
+
+fn date_of(moment: i64) -> Option<String> {
+    let moment = OffsetDateTime::from_unix_timestamp(moment).ok()?;
+    moment.format(&Rfc3339).ok()
+}
+
+fn no_date(moment: i64) -> PasetoClaimError {
+    PasetoClaimError::RFC3339Date(format!("{moment} seconds after 1970"))
+}
+
+// The library's status says of claims what is wrong, and not of which.
+fn error_of(fault: Fault, members: &Members, moment: i64) -> GenericBuilderError {
+    match fault {
+        Fault::Unexpected => {
+            PasetoClaimError::Unexpected(members.odd().unwrap_or_default().to_owned()).into()
+        }
+        Fault::InvalidMoment => no_date(moment).into(),
+        fault => GenericBuilderError::CipherError {
+            source: fault.into(),
+        },
+    }
+}
+
+impl<'a, Version: ImplicitAssertionCapable, Purpose> PasetoBuilder<'a, Version, Purpose> {
+    /// Sets the implicit assertion, which is not in the token and which its reader must pass too.
+    pub fn set_implicit_assertion(
+        &mut self,
+        implicit_assertion: ImplicitAssertion<'a>,
+    ) -> &mut Self {
+        self.builder.set_implicit_assertion(implicit_assertion);
+        self
+    }
+}
+
+impl<Version, Purpose> Default for PasetoBuilder<'_, Version, Purpose> {
+    /// No claims but the times, by the clock.
+    fn default() -> Self {
+        PasetoBuilder {
+            kind: PhantomData,
+            builder: GenericBuilder::default(),
+            keys: HashSet::new(),
+            twice: None,
+            never_expires: false,
+            moment: this_second().saturating_sub(1),
+        }
+    }
+}
+
+macro_rules! build {
+    ($feature:tt $version:ident $purpose:ident $call:ident $made:ident $key:ty, $makes:literal) => {
+        #[cfg(feature = $feature)]
+        impl PasetoBuilder<'_, $version, $purpose> {
+            #[doc = $makes]
+            ///
+            /// Fails with `DuplicateTopLevelPayloadClaim` for a key that was set twice, `PayloadJsonError` for a value
+            /// that cannot be written as JSON, `ClaimError` of `Unexpected` for a number that is not a 64-bit integer and
+            /// of `RFC3339Date` if the clock is outside the years 0 to 9999, and `CipherError` of a fault of the key, of
+            /// `Cipher` if the system gives no random bytes, or of `Memory` if the library is out of memory.
+            pub fn build(&mut self, key: &$key) -> Result<String, GenericBuilderError> {
+                self.ready()?;
+                if self.never_expires {
+                    return self.without_expiration()?.$made(key);
+                }
+                self.build_by(|parts| library::$call(Version::$version, key.as_ref(), parts))
+            }
+        }
+    };
+}
+
+macro_rules! builds {
+    ($($feature:tt $public_feature:tt $version:ident;)*) => {$(
+        build!(
+            $feature $version Local build_local try_encrypt PasetoSymmetricKey<$version, Local>,
+            "Encrypts a token of the claims."
+        );
+        build!(
+            $public_feature $version Public build_public try_sign PasetoAsymmetricPrivateKey<'_, $version, Public>,
+            "Signs a token of the claims."
+        );
+    )*};
+}
+
+builds! {
+    "v1_local" "v1_public" V1;
+    "v2_local" "v2_public" V2;
+    "v3_local" "v3_public" V3;
+    "v4_local" "v4_public" V4;
+}

@@ -1,0 +1,209 @@
+//! Tokens both ways between this crate and the program `paseto`, a program in C and the package for Python, each made and
+//! checked within the same second, for each of the eight kinds.
+//!
+//! `tests/rust.sh` of the repository runs this program, and says by the environment where the three are: `PASETO_PROGRAM`,
+//! `PASETO_CLIENT` (`tests/both_ways.c`), and `PASETO_PYTHON`, which has the package.
+
+mod common;
+
+use common::{bytes, Outcome};
+use paseto_proved::keys::KeyPair;
+use paseto_proved::prelude::*;
+use std::env::var;
+use std::error::Error;
+use std::process::Command;
+use std::time::{SystemTime, UNIX_EPOCH};
+
+// How often a token is made again, where its second was over before it was checked.
+const TURNS: usize = 200;
+
+const PYTHON: &str = "
+import sys, paseto
+call, text, *token = sys.argv[1:]
+key = paseto.Key.from_text(text)
+print(paseto.issue(key, {'sub': 'ada'}) if call == 'make' else paseto.admit(token[0], key)['sub'])
+";
+
+// A kind of tokens: its name, and the texts and the bytes of the keys that make and read them.
+struct Kind {
+    name: &'static str,
+    making: (String, Vec<u8>),
+    reading: (String, Vec<u8>),
+}
+
+fn hex(bytes: &[u8]) -> String {
+    bytes.iter().map(|byte| format!("{byte:02x}")).collect()
+}
+
+// What a command prints, in one line.
+fn told(command: &mut Command) -> Result<String, Box<dyn Error>> {
+    let output = command.output()?;
+    if !output.status.success() {
+        return Err(String::from_utf8_lossy(&output.stderr).into_owned().into());
+    }
+    Ok(String::from_utf8(output.stdout)?.trim_end().to_owned())
+}
+
+// The three others, which make a token of the subject ada, or say the subject of one.
+const OTHERS: [&str; 3] = ["program", "C", "Python"];
+
+fn made_by(other: &str, kind: &Kind) -> Result<String, Box<dyn Error>> {
+    match other {
+        "program" => told(
+            Command::new(var("PASETO_PROGRAM")?)
+                .env("PASETO_KEY", &kind.making.0)
+                .args(["issue", "--claim", "sub=ada"]),
+        ),
+        "C" => told(Command::new(var("PASETO_CLIENT")?).args([
+            "make",
+            kind.name,
+            &hex(&kind.making.1),
+        ])),
+        _ => told(Command::new(var("PASETO_PYTHON")?).args(["-c", PYTHON, "make", &kind.making.0])),
+    }
+}
+
+fn read_by(other: &str, kind: &Kind, token: &str) -> Result<String, Box<dyn Error>> {
+    match other {
+        "program" => {
+            let file = std::env::temp_dir().join(format!(
+                "both-ways-{}-{}",
+                std::process::id(),
+                kind.name
+            ));
+            std::fs::write(&file, token)?;
+            let command = told(
+                Command::new(var("PASETO_PROGRAM")?)
+                    .env("PASETO_KEY", &kind.reading.0)
+                    .args(["check", "--claim", "sub=ada"])
+                    .arg(&file),
+            );
+            std::fs::remove_file(&file)?;
+            Ok(command?)
+        }
+        "C" => told(Command::new(var("PASETO_CLIENT")?).args([
+            "read",
+            kind.name,
+            &hex(&kind.reading.1),
+            token,
+        ])),
+        _ => told(Command::new(var("PASETO_PYTHON")?).args([
+            "-c",
+            PYTHON,
+            "read",
+            &kind.reading.0,
+            token,
+        ])),
+    }
+}
+
+fn second() -> Result<u64, Box<dyn Error>> {
+    Ok(SystemTime::now().duration_since(UNIX_EPOCH)?.as_secs())
+}
+
+// Makes and reads tokens until one was made and read within one second, and each must be taken.
+fn within_a_second(
+    make: impl Fn() -> Result<String, Box<dyn Error>>,
+    read: impl Fn(&str) -> Result<String, Box<dyn Error>>,
+) -> Outcome {
+    for _ in 0..TURNS {
+        let begun = second()?;
+        let subject = read(&make()?)?;
+        assert!(subject.contains("ada"), "{subject}");
+        if second()? == begun {
+            return Ok(());
+        }
+    }
+    Err("no token was made and read within one second".into())
+}
+
+fn both_ways(
+    kind: &Kind,
+    make: impl Fn() -> Result<String, Box<dyn Error>>,
+    read: impl Fn(&str) -> Result<String, Box<dyn Error>>,
+) -> Outcome {
+    for other in OTHERS {
+        let failed =
+            |way: &str, fault: Box<dyn Error>| format!("{} {way} {other}: {fault}", kind.name);
+        within_a_second(&make, |token| read_by(other, kind, token))
+            .map_err(|fault| failed("to", fault))?;
+        within_a_second(|| made_by(other, kind), &read).map_err(|fault| failed("from", fault))?;
+    }
+    Ok(())
+}
+
+fn subject(claims: serde_json::Value) -> Result<String, Box<dyn Error>> {
+    Ok(claims["sub"].as_str().ok_or("no subject")?.to_owned())
+}
+
+macro_rules! asked {
+    ($kind:expr, $version:ident $purpose:ident, by $making:expr, read by $reading:expr) => {
+        both_ways(
+            &$kind,
+            || {
+                let mut builder = PasetoBuilder::<$version, $purpose>::default();
+                Ok(builder
+                    .set_claim(SubjectClaim::from("ada"))
+                    .build($making)?)
+            },
+            |token| subject(PasetoParser::<$version, $purpose>::default().parse(token, $reading)?),
+        )
+    };
+}
+
+macro_rules! local {
+    ($($test:ident $name:literal $version:ident;)*) => {$(
+        #[test]
+        #[ignore = "the programs are named by the environment"]
+        fn $test() -> Outcome {
+            let key = PasetoSymmetricKey::<$version, Local>::try_new_random()?;
+            let texts = (key.to_paserk()?, key.as_ref().to_vec());
+            let kind = Kind { name: $name, making: texts.clone(), reading: texts };
+            asked!(kind, $version Local, by &key, read by &key)
+        }
+    )*};
+}
+
+local! {
+    v1_local "v1.local" V1;
+    v2_local "v2.local" V2;
+    v3_local "v3.local" V3;
+    v4_local "v4.local" V4;
+}
+
+macro_rules! public {
+    ($($test:ident $name:literal $version:ident;)*) => {$(
+        #[test]
+        #[ignore = "the programs are named by the environment"]
+        fn $test() -> Outcome {
+            let pair = KeyPair::<$version>::try_new_random()?;
+            let (private, public) = (pair.private_key(), pair.public_key());
+            let kind = Kind {
+                name: $name,
+                making: (private.to_paserk()?, private.as_ref().to_vec()),
+                reading: (public.to_paserk()?, public.as_ref().to_vec()),
+            };
+            asked!(kind, $version Public, by private, read by public)
+        }
+    )*};
+}
+
+public! {
+    v2_public "v2.public" V2;
+    v3_public "v3.public" V3;
+    v4_public "v4.public" V4;
+}
+
+#[test]
+#[ignore = "the programs are named by the environment"]
+fn v1_public() -> Outcome {
+    let (private, public) = (bytes("RSA_PRIVATE")?, bytes("RSA_PUBLIC")?);
+    let private_key = PasetoAsymmetricPrivateKey::<V1, Public>::from(private.as_slice());
+    let public_key = PasetoAsymmetricPublicKey::<V1, Public>::from(public.as_slice());
+    let kind = Kind {
+        name: "v1.public",
+        making: (private_key.to_pem()?, private.clone()),
+        reading: (public_key.to_pem()?, public.clone()),
+    };
+    asked!(kind, V1 Public, by &private_key, read by &public_key)
+}

@@ -1,0 +1,60 @@
+//! What a call answers where the library is refused memory: `Memory`. The library allocates by malloc, which this program
+//! has in place of the C library's, and which answers null where the thread says so. The rooms of this crate come from
+//! calloc.
+
+use paseto_proved::core::{
+    Key, Local, Paseto, PasetoError, PasetoNonce, PasetoSymmetricKey, Payload, V4,
+};
+use std::cell::Cell;
+use std::ffi::c_void;
+
+thread_local! {
+    static REFUSES: Cell<bool> = const { Cell::new(false) };
+}
+
+extern "C" {
+    fn __libc_malloc(size: usize) -> *mut c_void;
+}
+
+/// The malloc of the program.
+///
+/// # Safety
+///
+/// That of malloc.
+#[no_mangle]
+pub unsafe extern "C" fn malloc(size: usize) -> *mut c_void {
+    match REFUSES.try_with(Cell::get) {
+        Ok(true) => std::ptr::null_mut(),
+        _ => __libc_malloc(size),
+    }
+}
+
+fn refused<T>(call: impl FnOnce() -> T) -> T {
+    REFUSES.with(|refuses| refuses.set(true));
+    let answer = call();
+    REFUSES.with(|refuses| refuses.set(false));
+    answer
+}
+
+#[test]
+fn a_call_without_memory_says_so() -> Result<(), PasetoError> {
+    let key = PasetoSymmetricKey::<V4, Local>::try_new_random()?;
+    let nonce = Key::<32>::try_new_random()?;
+    let nonce = PasetoNonce::<V4, Local>::from(&nonce);
+    let mut builder = Paseto::<V4, Local>::builder();
+    builder.set_payload(Payload::from("a text"));
+    let token = builder.try_encrypt(&key, &nonce)?;
+    assert_eq!(
+        refused(|| builder.try_encrypt(&key, &nonce)),
+        Err(PasetoError::Memory)
+    );
+    assert_eq!(
+        refused(|| Paseto::<V4, Local>::try_decrypt(&token, &key, None, None)),
+        Err(PasetoError::Memory)
+    );
+    assert_eq!(
+        Paseto::<V4, Local>::try_decrypt(&token, &key, None, None)?,
+        "a text"
+    );
+    Ok(())
+}
