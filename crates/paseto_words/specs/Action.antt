@@ -77,6 +77,14 @@ pub record KeyedWords : Type 0 where
   pub input : Option Text
   pub out : Option Text
 
+pub record ExplainWords : Type 0 where
+  pub key : KeyFileWords
+  -- the file of the tokens that were issued
+  pub issued : Text
+  pub footer : Option Text
+  pub assertion : Option Text
+  pub input : Option Text
+
 -- what words ask for
 pub data Asked : Type 0 where
   to_keygen : KeygenWords → Asked
@@ -92,6 +100,7 @@ pub data Asked : Type 0 where
   to_decrypt : KeyedWords → Asked
   to_sign : KeyedWords → Asked
   to_verify : KeyedWords → Asked
+  to_explain : ExplainWords → Asked
   -- an input
   to_inspect : Option Text → Asked
 
@@ -175,4 +184,11 @@ plain (action.Encrypt a) = Asked.to_encrypt (keyed_words a)
 plain (action.Decrypt a) = Asked.to_decrypt (keyed_words a)
 plain (action.Sign a) = Asked.to_sign (keyed_words a)
 plain (action.Verify a) = Asked.to_verify (keyed_words a)
+plain (action.Explain a) = Asked.to_explain (record {
+  key = key_file_words a.key;
+  issued = a.issued.now;
+  footer = text a.footer;
+  assertion = text a.assertion;
+  input = text a.input;
+})
 plain (action.Inspect input) = Asked.to_inspect (text input)

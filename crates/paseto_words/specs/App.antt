@@ -87,6 +87,10 @@ opening_app name = command name opening_rules
 abbrev pub sealing_app : Text → App
 sealing_app name = command name (opening_rules ++ option_rule (codes "out") ∷ [])
 
+abbrev pub explain_app : App
+explain_app = command (codes "explain") (key_rules ++ needed (option_rule (codes "issued"))
+    ∷ option_rule (codes "footer") ∷ option_rule (codes "assertion") ∷ place_rule (codes "input") ∷ [])
+
 abbrev pub inspect_app : App
 inspect_app = command (codes "inspect") (place_rule (codes "input") ∷ [])
 
@@ -94,11 +98,16 @@ abbrev pub top_app : App
 top_app = on_top (λ s. record s { has_version = true; subcommand_required = true; arg_required_else_help = true })
     (new_app (codes "paseto"))
 
+abbrev pub key_apps : List App
+key_apps = keygen_app ∷ writing_app (codes "public") ∷ id_app ∷ wrap_app ∷ writing_app (codes "unwrap") ∷ seal_app
+    ∷ writing_app (codes "unseal") ∷ []
+
+abbrev pub token_apps : List App
+token_apps = issue_app ∷ check_app ∷ sealing_app (codes "encrypt") ∷ opening_app (codes "decrypt")
+    ∷ sealing_app (codes "sign") ∷ opening_app (codes "verify") ∷ explain_app ∷ inspect_app ∷ []
+
 abbrev pub paseto_app : App
-paseto_app = with_subcommands top_app (keygen_app ∷ writing_app (codes "public") ∷ id_app ∷ wrap_app
-    ∷ writing_app (codes "unwrap") ∷ seal_app ∷ writing_app (codes "unseal") ∷ issue_app ∷ check_app
-    ∷ sealing_app (codes "encrypt") ∷ opening_app (codes "decrypt") ∷ sealing_app (codes "sign")
-    ∷ opening_app (codes "verify") ∷ inspect_app ∷ [])
+paseto_app = with_subcommands (with_subcommands top_app key_apps) token_apps
 
 -- a command is this one for a parse
 abbrev pub IsFor : App → Command → Type 0

@@ -95,6 +95,15 @@ keyed_in rows = record {
   out = first_of (codes "out") rows;
 }
 
+abbrev pub explain_in : List Row → Option Asked
+explain_in rows = option_map (λ issued. Asked.to_explain (record {
+  key = key_file_in rows;
+  issued = issued;
+  footer = first_of (codes "footer") rows;
+  assertion = first_of (codes "assertion") rows;
+  input = first_of (codes "input") rows;
+})) (first_of (codes "issued") rows)
+
 -- what a command's matches ask for
 abbrev pub asked_in : Text → List Row → Option Asked
 asked_in name rows =
@@ -111,6 +120,7 @@ asked_in name rows =
     else if is name (codes "decrypt") then Some (Asked.to_decrypt (keyed_in rows))
     else if is name (codes "sign") then Some (Asked.to_sign (keyed_in rows))
     else if is name (codes "verify") then Some (Asked.to_verify (keyed_in rows))
+    else if is name (codes "explain") then explain_in rows
     else if is name (codes "inspect") then Some (Asked.to_inspect (first_of (codes "input") rows))
     else None
 

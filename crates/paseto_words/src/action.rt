@@ -161,6 +161,22 @@ pub struct Keyed<'a> {
     pub out: Option<&'a str>,
 }
 
+/// `explain [--key FILE] [--password-file FILE] [--unlock-key FILE] --issued FILE [--footer TEXT] [--assertion TEXT]
+/// [INPUT]`
+#[derive(Clone, Copy)]
+pub struct Explain<'a> {
+    /// The key file.
+    pub key: KeyFile<'a>,
+    /// The file of the tokens that were issued.
+    pub issued: &'a str,
+    /// The footer of the token.
+    pub footer: Option<&'a str>,
+    /// The implicit assertion of the token.
+    pub assertion: Option<&'a str>,
+    /// The file of the token.
+    pub input: Option<&'a str>,
+}
+
 /// The action to perform.
 #[derive(Drop)]
 pub enum Action<'a> {
@@ -190,6 +206,8 @@ pub enum Action<'a> {
     Sign(Keyed<'a>),
     /// `verify`
     Verify(Keyed<'a>),
+    /// `explain`
+    Explain(Explain<'a>),
     /// `inspect [INPUT]`
     Inspect(Option<&'a str>),
 }

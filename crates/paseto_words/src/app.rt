@@ -2,7 +2,7 @@
 
 ghost use Rattle.std.specs.Prelude.{◌≡◌, IfOk, codes, false, map};
 ghost use Rattle.clap.specs.Words.{App, kind_of, new_app, rule_of};
-ghost use Rattle.paseto_words.specs.App.{IsFor, app_for, paseto_app, rule_for, top_app, with_rules, with_subcommands};
+ghost use Rattle.paseto_words.specs.App.{IsFor, app_for, key_apps, paseto_app, rule_for, top_app, with_rules, with_subcommands};
 
 use clap::error::ErrorKind;
 use clap::{Arg, ArgAction, Command, Error};
@@ -117,6 +117,13 @@ const INPUT: Parameter = Parameter {
     form: Form::Place("INPUT"),
     help: "A file, or - for standard input, which is the default",
     is_required: false,
+};
+
+const ISSUED: Parameter = Parameter {
+    id: "issued",
+    form: Form::Option("FILE"),
+    help: "A file of the tokens that were issued, one on each line",
+    is_required: true,
 };
 
 const KIND: Parameter = Parameter {
@@ -311,6 +318,14 @@ const VERIFY: Subcommand = Subcommand {
     parameters: &[KEY, PASSWORD, OPENER, FOOTER, ASSERTION, INPUT],
 };
 
+const EXPLAIN: Subcommand = Subcommand {
+    name: "explain",
+    about: "Says which issued token a token is, or that it is a forgery, with its message and tag",
+    example: "Example: paseto explain --key office.key --issued tokens.log token",
+    usage: None,
+    parameters: &[KEY, PASSWORD, OPENER, ISSUED, FOOTER, ASSERTION, INPUT],
+};
+
 const INSPECT: Subcommand = Subcommand {
     name: "inspect",
     about: "Shows what a token contains, without verifying it",
@@ -319,9 +334,12 @@ const INSPECT: Subcommand = Subcommand {
     parameters: &[INPUT],
 };
 
-const SUBCOMMANDS: &[Subcommand] = &[
-    KEYGEN, PUBLIC, ID, WRAP, UNWRAP, SEAL, UNSEAL, ISSUE, CHECK, ENCRYPT, DECRYPT, SIGN, VERIFY,
-    INSPECT,
+/// The commands for keys.
+const KEY_COMMANDS: &[Subcommand] = &[KEYGEN, PUBLIC, ID, WRAP, UNWRAP, SEAL, UNSEAL];
+
+/// The commands for tokens.
+const TOKEN_COMMANDS: &[Subcommand] = &[
+    ISSUE, CHECK, ENCRYPT, DECRYPT, SIGN, VERIFY, EXPLAIN, INSPECT,
 ];
 
 /// A parameter, for clap.
@@ -415,6 +433,14 @@ fn top<'a>(alloc: Global) -> Command<'a>
         .arg_required_else_help(true)
 }
 
+/// The program, with its commands for keys. Each table is read in a function of its own, since the prover computes what a
+/// function reads of a constant.
+fn with_key_commands<'a>(alloc: Global) -> Result<Command<'a>, AllocError>
+    ensures { IfOk result (IsFor (with_subcommands top_app key_apps)) }
+{
+    with_subcommands(top(alloc), alloc, KEY_COMMANDS)
+}
+
 /// The commands of the program, for clap. It shows the help if there are no arguments after the
 /// program's name.
 ///
@@ -422,7 +448,7 @@ fn top<'a>(alloc: Global) -> Command<'a>
 pub fn paseto<'a>(alloc: Global) -> Result<Command<'a>, AllocError>
     ensures { IfOk result (IsFor paseto_app) }
 {
-    with_subcommands(top(alloc), alloc, SUBCOMMANDS)?.bin_name("paseto")
+    with_subcommands(with_key_commands(alloc)?, alloc, TOKEN_COMMANDS)?.bin_name("paseto")
 }
 
 /// Two options of a command that exclude each other, which clap does not know.

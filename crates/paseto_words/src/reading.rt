@@ -4,10 +4,11 @@ ghost use Rattle.std.specs.Prelude.{◌≡◌, IfOk, [], is_some, option_map, un
 ghost use Rattle.clap.specs.Words.{all_of, first_of, subcommand_rows_of};
 ghost use Rattle.clap.specs.Walk.{texts};
 ghost use Rattle.paseto_words.specs.Action.{footing, key_file_words, keyed_words, keying, openers_words, plain, underlying, written_words};
-ghost use Rattle.paseto_words.specs.Reading.{asked_in, check_in, foot_in, found_in, issue_in, key_file_in, keyed_in, keygen_in, keys_in, openers_in, rows_in, says, seal_in, under_in, wrap_in, written_in};
+ghost use Rattle.paseto_words.specs.Reading.{asked_in, check_in, explain_in, foot_in, found_in, issue_in, key_file_in, keyed_in, keygen_in, keys_in, openers_in, rows_in, says, seal_in, under_in, wrap_in, written_in};
 
 use crate::action::{
-    Action, Check, Foot, Issue, KeyFile, Keyed, Keygen, Keys, Openers, Seal, Under, Wrap, Written,
+    Action, Check, Explain, Foot, Issue, KeyFile, Keyed, Keygen, Keys, Openers, Seal, Under, Wrap,
+    Written,
 };
 use clap::ArgMatches;
 use std::alloc::{AllocError, Global};
@@ -79,6 +80,7 @@ fn action_of<'a>(
         "decrypt" => Ok(Some(Action::Decrypt(keyed_of(matches)))),
         "sign" => Ok(Some(Action::Sign(keyed_of(matches)))),
         "verify" => Ok(Some(Action::Verify(keyed_of(matches)))),
+        "explain" => Ok(explain_of(matches)),
         "inspect" => Ok(Some(Action::Inspect(text(matches, "input")))),
         _ => Ok(None),
     }
@@ -175,6 +177,23 @@ fn keyed_of<'a>(matches: &ArgMatches<'a>) -> Keyed<'a>
         input,
         out,
     }
+}
+
+fn explain_of<'a>(matches: &ArgMatches<'a>) -> Option<Action<'a>>
+    ensures { option_map plain result ≡ explain_in (rows_in matches.now) }
+{
+    let issued = text(matches, "issued")?;
+    let key = key_file_of(matches);
+    let footer = text(matches, "footer");
+    let assertion = text(matches, "assertion");
+    let input = text(matches, "input");
+    Some(Action::Explain(Explain {
+        key,
+        issued,
+        footer,
+        assertion,
+        input,
+    }))
 }
 
 fn foot_of<'a>(matches: &ArgMatches<'a>) -> Option<Foot<'a>>
