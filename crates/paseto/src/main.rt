@@ -6,6 +6,7 @@ ghost use Rattle.std.specs.Prelude.{MatchBool};
 ghost use Rattle.paseto.specs.Main.{HoldsNoSecretKey, HoldsSecretKey, IsSecretKey};
 
 mod commands;
+mod explain;
 mod fault;
 mod files;
 mod folder;
@@ -104,6 +105,7 @@ fn done<'a>(rt: &HostRuntime, action: &Action<'a>) -> Result<u8, Fault<'a>> {
         Action::Decrypt(words) => texts::keyed(rt, Task::Decrypt, words),
         Action::Sign(words) => texts::keyed(rt, Task::Sign, words),
         Action::Verify(words) => texts::keyed(rt, Task::Verify, words),
+        Action::Explain(words) => explain::explain(rt, words),
         Action::Inspect(input) => inspect(rt, *input),
     }
 }

@@ -9,3 +9,6 @@ pub mod Fronts
 pub mod Ids
 pub mod KeyLines
 pub mod Halves
+pub mod Spellings
+pub mod Showing
+pub mod Explanations

@@ -10,4 +10,7 @@ pub mod Inspect
 pub mod Half
 pub mod Id
 pub mod KeyLine
+pub mod Spelling
+pub mod Shown
+pub mod Explain
 pub mod Run

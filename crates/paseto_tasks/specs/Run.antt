@@ -1,5 +1,5 @@
 -- What the program prints for a task, its options, its key file and its input.
-use Rattle.std.specs.Prelude.{◌≡◌, ◌≢◌, ◌≤◌, ◌⊎◌, ℕ, List, Option, IfSome}
+use Rattle.std.specs.Prelude.{◌≡◌, ◌≢◌, ◌≤◌, ◌==◌, ◌⊎◌, ℕ, List, if◌then◌else◌, Option, IfSome}
 use Rattle.std.specs.Io.{StartsWith}
 use Rattle.std.specs.Io.KnownBytes.{Appends}
 use Rattle.paseto_tasks.specs.declared.arguments.Options.{Options}
@@ -7,7 +7,7 @@ use Rattle.paseto_tasks.specs.declared.arguments.Task.{Task}
 use Rattle.paseto_tasks.specs.declared.arguments.Task.TheVariants.{Encrypt, Decrypt, Sign, Verify}
 use Rattle.paseto_tasks.specs.declared.error.Names.{Names}
 use Rattle.paseto_tasks.specs.declared.error.ProgramError.{ProgramError}
-use Rattle.paseto_tasks.specs.Error.{BlamesOnly, IsFixed, line_of, status_of}
+use Rattle.paseto_tasks.specs.Error.{BlamesOnly, IsFixed, IsPlain, line_of, status_of}
 use Rattle.paseto_tasks.specs.Input.{IsLong, IsNoKeyFile, line_of_input}
 use Rattle.paseto_tasks.specs.KeyLine.{TakesBytes}
 use Rattle.paseto_tasks.specs.Output.{IsLeftOf}
@@ -73,3 +73,16 @@ pub record Tells {E : Type 0} (contents : E → Option (List ℕ)) (names : Name
   pub quiet : status ≡ 0 → after ≡ before
   pub said : status ≢ 0 → (error : ProgramError) × (status_of error ≡ status) × IsSo error
       × ((said : List ℕ) × StartsWith (line_of names error) said × Appends (contents before) (contents after) said)
+
+-- the status of a forgery, from the status with which it was written: 1 where it was written whole
+abbrev pub forged_status : ℕ → ℕ
+forged_status written = if written == 0 then 1 else written
+
+-- how the command `explain` ends: as each command with what it tells of a token that was issued, and with a refusal; and with
+-- what it tells of a forgery likewise, but for the status of one that was written whole
+abbrev pub Told : {W E : Type 0} → (W → Option (List ℕ)) → (E → Option (List ℕ)) → Names → (Issued Forged : List ℕ → Type 0) → (Refused : Type 0)
+    → ℕ → W → W → E → E → Type 0
+Told {W} {E} contents errors names Issued Forged Refused status before after said_before said_after =
+    (Leaves contents Issued Refused status before after × Tells errors names IsPlain status said_before said_after)
+    ⊎ ((written : ℕ) × (status ≡ forged_status written) × Leaves contents Forged Refused written before after
+    × Tells errors names IsPlain written said_before said_after)

@@ -65,7 +65,7 @@ pub fn not_in_paserk(line: &str) -> PaserkError
 }
 
 /// What follows a prefix, if a line begins with it.
-fn after<'a>(line: &'a str, front: &str) -> Option<&'a str>
+pub fn after<'a>(line: &'a str, front: &str) -> Option<&'a str>
     ensures { MatchOption result ((rest : List ℕ) → line.now ≢ front.now ++ rest)
         (λ rest. line.now ≡ front.now ++ rest.now) }
 {

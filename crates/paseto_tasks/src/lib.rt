@@ -4,6 +4,7 @@
 
 mod arguments;
 mod error;
+mod explain;
 mod half;
 mod id;
 mod input;
@@ -15,13 +16,15 @@ mod output;
 mod public;
 mod rsa;
 pub mod run;
+mod shown;
+mod spelling;
 mod suite;
 mod token_kind;
 mod version;
 
 pub use arguments::{Format, Kind, Options, Task};
 pub use error::{Names, ProgramError, TimeOption};
-pub use input::{read_key_line, read_line, read_password};
+pub use input::{read_key_line, read_line, read_password, read_text};
 pub use key_line::{PairLines, begins_as};
 pub use output::{with_line_feed, write_whole};
 pub use rsa::{NoSalt, SaltedRsa, signer, verifier};

@@ -202,7 +202,8 @@ fn verify_by<V: PairLines + Verifies<S>, S, R: Read>(
     verified(alloc, kind, scheme, &key, token, options)
 }
 
-fn verified<V: Verifies<S>, S>(
+/// The text of a token that verifies.
+pub fn verified<V: Verifies<S>, S>(
     alloc: Global,
     kind: TokenKind,
     scheme: &S,

@@ -5,13 +5,15 @@ ghost use Rattle.std.specs.Io.KnownBytes.{Appends};
 ghost use Rattle.paseto_tasks.specs.Half.{HasHalf, HasNoHalf};
 ghost use Rattle.paseto_tasks.specs.Id.{Identifies, IdentifiesNothing};
 ghost use Rattle.paseto_tasks.specs.Error.{IsCauseOf, IsOutside, IsPlain, status_of};
+ghost use Rattle.paseto_tasks.specs.Explain.{Explains, ExplainsNothing, TellsForged, TellsIssued};
 ghost use Rattle.paseto_tasks.specs.Input.{line_of_input};
 ghost use Rattle.paseto_tasks.specs.Inspect.{Inspects, InspectsNothing};
 ghost use Rattle.paseto_tasks.specs.Output.{IsLeftOf, IsTextOf};
-ghost use Rattle.paseto_tasks.specs.Run.{IsPlainIn, IsRefused, IsRefusedOf, Leaves, PrintsOf, Tells};
+ghost use Rattle.paseto_tasks.specs.Run.{IsPlainIn, IsRefused, IsRefusedOf, Leaves, PrintsOf, Tells, Told, forged_status};
 
 use crate::arguments::{Options, Task};
 use crate::error::{Names, ProgramError};
+use crate::explain::{Explanation, explain};
 use crate::half::public;
 use crate::id::id;
 use crate::input::{read_key_line, read_line};
@@ -83,6 +85,63 @@ fn inspected<R: Read>(alloc: Global, input: &mut R) -> Result<String, ProgramErr
 {
     let token = read_line(alloc, input)?;
     inspect(alloc, token.as_str())
+}
+
+/// Prints which issued token a token is, or that it is a forgery, and returns the status: 0 where it was issued, 1 where it
+/// is a forgery, and else that of the error, as `run` does.
+pub fn run_explain<R: Read, W: Write, E: Write>(
+    alloc: Global,
+    names: &Names<'_>,
+    key: &str,
+    options: &Options<'_>,
+    issued: &str,
+    input: &mut R,
+    output: &mut W,
+    errors: &mut E,
+) -> u8
+    ensures no_usage { result ≢ 2 }
+    ensures told { Told W.contents E.contents names.now
+        (λ lines. IfSome (R.remaining input.old) (λ bytes.
+        TellsIssued key.now options.now issued.now (line_of_input bytes) lines))
+        (λ lines. IfSome (R.remaining input.old) (λ bytes.
+        TellsForged key.now options.now issued.now (line_of_input bytes) lines))
+        (IfSome (R.remaining input.old) (λ bytes.
+        ExplainsNothing key.now options.now (line_of_input bytes)))
+        result output.old output.new errors.old errors.new }
+{
+    match explained(alloc, key, options, issued, input) {
+        Ok(Explanation::Issued(lines)) => finish(Ok(lines), names, output, errors),
+        Ok(Explanation::Forged(lines)) => {
+            forged_status(finish(Ok(lines), names, output, errors))
+        }
+        Err(error) => finish(Err(error), names, output, errors),
+    }
+}
+
+/// The status of a forgery, from the status with which it was written.
+fn forged_status(written: u8) -> u8
+    ensures status { result ≡ forged_status written }
+    ensures no_usage { written ≢ 2 → result ≢ 2 }
+{
+    if written == 0 { 1 } else { written }
+}
+
+/// What the token in the input is.
+fn explained<R: Read>(
+    alloc: Global,
+    key: &str,
+    options: &Options<'_>,
+    issued: &str,
+    input: &mut R,
+) -> Result<Explanation, ProgramError>
+    ensures told { IfOk result (λ told. IfSome (R.remaining input.old)
+        (λ bytes. Explains key.now options.now issued.now (line_of_input bytes) told)) }
+    ensures refused { IfErr result (λ error. IfSome (R.remaining input.old) (λ bytes.
+        IsOutside error ⊎ ExplainsNothing key.now options.now (line_of_input bytes))) }
+    ensures plain { IfErr result IsPlain }
+{
+    let token = read_line(alloc, input)?;
+    explain(alloc, key, options, issued, token.as_str())
 }
 
 /// The output of a task.

@@ -1,6 +1,8 @@
 //! The version of a key, on which the commands depend, and what it accepts.
 
-ghost use Rattle.std.specs.Prelude.{◌≡◌, IfErr, IfOk, OnErr, OnOk};
+ghost use Rattle.std.specs.Prelude.{◌≡◌, IfErr, IfOk, MatchBool, OnErr, OnOk};
+ghost use Rattle.rusty_paseto_paserk.specs.declared.header.PaserkType.TheVariants.{Local as LocalKeys};
+ghost use Rattle.rusty_paseto_paserk.specs.declared.header.PaserkVersion.{PaserkVersion as Version};
 ghost use Rattle.paseto_tasks.specs.Arguments.{Takes};
 ghost use Rattle.paseto_tasks.specs.Error.{IsPlain};
 ghost use Rattle.paseto_tasks.specs.KeyLine.{BeginsAs};
@@ -38,6 +40,14 @@ fn version_of(line: &str, kind: PaserkType) -> Result<PaserkVersion, ProgramErro
         Some((_, found)) => Err(ProgramError::Key(PaserkError::OtherType(found))),
         None => Err(ProgramError::Key(PaserkError::NoKey)),
     }
+}
+
+/// Whether a line begins like a key of local tokens.
+pub fn is_local(line: &str) -> bool
+    ensures { MatchBool result ((version : Version) × BeginsAs version LocalKeys line.now)
+        ((version : Version) → ¬ BeginsAs version LocalKeys line.now) }
+{
+    version_of(line, PaserkType::Local).is_ok()
 }
 
 /// Refuses a non-empty assertion in versions 1 and 2, whose tokens are not bound to one.

@@ -1,0 +1,10 @@
+use Rattle.std.proofs.lemmas.Result.{err_from_is_err_and}
+use Rattle.rusty_paseto_core.specs.Local.BoxForgery.{BoxOpens}
+use Rattle.paseto_xchacha20poly1305.specs.Sealing.{box_sealing}
+use Rattle.paseto_tasks.proofs.Showing.{alone}
+use Rattle.paseto_tasks.proofs.shown.found_box.Goals as goal
+
+pub returns-in_err-found-clause-err : goal.returns-in_err-found-clause-err
+returns-in_err-found-clause-err c = λ opens.
+    let p = err_from_is_err_and c.from_residual.result c.from_residual.ensures.1 in
+    rw (p.1, p.2) (c.in_err-found.ensures.complete (alone (BoxOpens box_sealing) opens))
