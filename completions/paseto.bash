@@ -3,11 +3,11 @@ _paseto() {
     local word=${COMP_WORDS[COMP_CWORD]} before=${COMP_WORDS[COMP_CWORD - 1]} command=${COMP_WORDS[1]}
     COMPREPLY=()
     if [ "$COMP_CWORD" -eq 1 ]; then
-        mapfile -t COMPREPLY < <(compgen -W 'keygen public id wrap unwrap seal unseal issue check encrypt decrypt sign verify inspect help --help --version' -- "$word")
+        mapfile -t COMPREPLY < <(compgen -W 'keygen public id wrap unwrap seal unseal issue check encrypt decrypt sign verify explain inspect help --help --version' -- "$word")
         return
     fi
     case "$before" in
-        --key | --out | --public | --password-file | --unlock-key | --wrapping-key | --to) mapfile -t COMPREPLY < <(compgen -f -- "$word"); return ;;
+        --key | --out | --public | --password-file | --unlock-key | --wrapping-key | --to | --issued) mapfile -t COMPREPLY < <(compgen -f -- "$word"); return ;;
         --format) mapfile -t COMPREPLY < <(compgen -W 'paserk pem' -- "$word"); return ;;
         --ring) mapfile -t COMPREPLY < <(compgen -d -- "$word"); return ;;
         --claim | --require | --expires | --not-before | --at | --leeway | --footer | --footer-kid | --assertion) return ;;
@@ -23,6 +23,7 @@ _paseto() {
         check) options="$opening --ring --claim --require --at --leeway --footer --footer-kid --assertion" ;;
         encrypt | sign) options="$opening --footer --assertion --out" ;;
         decrypt | verify) options="$opening --footer --assertion" ;;
+        explain) options="$opening --issued --footer --assertion" ;;
         inspect) options='' ;;
     esac
     if [[ $word == -* ]]; then

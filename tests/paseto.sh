@@ -455,6 +455,107 @@ is "issue to a closed output" "$? $(cat err)" "3 paseto: $bad_stream"
 "$program" check --key v4.local <&- >out 2>err
 is "check of a closed input" "$? $(cat out)$(cat err)" "3 paseto: $bad_stream"
 
+# -- explain
+
+# forges NAME INPUT WORD..: status 1, on standard output that the token is a forgery, and nothing on standard error.
+forges() {
+    local name=$1
+    printf %s "$2" >in
+    shift 2
+    timeout 10 "$program" "$@" <in >out 2>err
+    is "$name, status" $? 1
+    is "$name, output" "$(head -n 1 out)" "forged: in no line of the file"
+    is "$name, standard error" "$(bytes_of err)" .
+    keeps "$name" "$1"
+}
+
+# shows NAME: what the last run printed as this.
+shows() {
+    sed -nE "s/^$1: //p" out
+}
+
+: >none
+for kind in v1.local v2.local v3.local v4.local v2.public v3.public v4.public; do
+    case $kind in
+        *.local) make="encrypt --key $kind" key=$kind names="forged nonce message tag" ;;
+        *) make="sign --key half${kind:1:1}.secret" key=half${kind:1:1}.public names="forged message signature" ;;
+    esac
+    [ $kind = v2.local ] && names="forged nonce associated data sealing"
+    # shellcheck disable=SC2086
+    one=$(printf one | "$program" $make) two=$(printf two | "$program" $make) three=$(printf three | "$program" $make)
+    printf '%s\n%s\n%s' "$one" "$two" "$two" >issued
+    gives "an issued token, $kind" "$one" "issued: line 1
+spelling: the same
+" explain --key $key --issued issued
+    gives "a token that was issued twice, $kind" "$two
+" "issued: line 2
+spelling: the same
+" explain --key $key --issued issued
+    gives "a token with a dot, $kind" "$two." "issued: line 2
+spelling: with a dot at the end, which the line lacks
+" explain --key $key --issued issued
+    printf '\n%s.\r\n%s\n' "$three" "$three" >issued
+    gives "a token without the dot, $kind" "$three" "issued: line 2
+spelling: without the dot at the end of the line
+" explain --key $key --issued issued
+    forges "a token that was not issued, $kind" "$two" explain --key $key --issued issued
+    is "what it shows, $kind" "$(cut -d : -f 1 out | paste -sd ' ')" "$names"
+    is "in hexadecimal, $kind" "$(tail -n +2 out | grep -cvE '^[a-z ]+: ([0-9a-f]{2})+$')" 0
+    forges "no issued tokens, $kind" "$three" explain --key $key --issued none
+    refuses "another footer, explain, $kind" 1 "$one" "$input: $bad_footer" explain --key $key --issued issued --footer id
+    # shellcheck disable=SC2086
+    token=$(made $make --footer id)
+    echo "$token." >issued
+    forges "a dot behind a footer, $kind" "$token" explain --key $key --issued issued --footer id
+    echo "$token" >>issued
+    gives "a token with a footer, $kind" "$token" "issued: line 2
+spelling: the same
+" explain --key $key --issued issued --footer id
+done
+for kind in v3.local v4.local; do
+    token=$(made encrypt --key $kind --assertion for)
+    echo "$token" >issued
+    gives "an assertion, explain, $kind" "$token" "issued: line 1
+spelling: the same
+" explain --key $kind --issued issued --assertion for
+    refuses "another assertion, explain, $kind" 1 "$token" "$input: $bad_tag" explain --key $kind --issued issued
+done
+refuses "an assertion of version 2, explain" 1 "$token" "v2.local: $no_assertion" explain --key v2.local --issued issued --assertion for
+token=$(made encrypt --key v4.local)
+echo "$token" >issued
+refuses "another key, explain" 1 "$token" "$input: $bad_tag" explain --key other.local --issued issued
+refuses "another public key, explain" 1 "$(made sign --key v4.secret)" "$input: $bad_signature" explain --key half4.public --issued issued
+refuses "a key of another version, explain" 1 "$token" "$input: the token is v4.local, and the key is for v3.local" explain --key v3.local --issued issued
+refuses "a public key for a local token" 1 "$token" "$input: the token is v4.local, and the key is for v4.public" explain --key v4.public --issued issued
+refuses "a private key to explain" 1 "$token" "v4.secret: The key is a private one, which signs" explain --key v4.secret --issued issued
+refuses "a changed token, explain" 1 "${token:0:60}AAAA${token:64}" "$input: $bad_tag" explain --key v4.local --issued issued
+refuses "no token, explain" 1 "" "$input: $bad_count" explain --key v4.local --issued issued
+refuses "no file of issued tokens" 3 "$token" "nowhere: $no_file" explain --key v4.local --issued nowhere
+refuses "a binary file of issued tokens" 1 "$token" "binary: $not_utf8" explain --key v4.local --issued binary
+misused "explain without issued tokens" "error: the following required arguments were not provided:" explain --key v4.local
+# Python's BLAKE2b makes the same tag of the message.
+forges "a forged tag" "$token" explain --key v4.local --issued none
+is "the tag of the message" "$(shows tag)" "$(python3 -c '
+import hashlib, sys
+key, nonce, message = map(bytes.fromhex, sys.argv[1:])
+derived = hashlib.blake2b(b"paseto-auth-key-for-aead" + nonce, key=key, digest_size=32).digest()
+print(hashlib.blake2b(message, key=derived, digest_size=32).hexdigest())' $hex "$(shows nonce)" "$(shows message)")"
+# Everybody can make the twin of a token of version 3: the message is the same, and the signature is not.
+token=$(made sign --key half3.secret)
+echo "$token" >issued
+twin=$(python3 -c '
+import base64, sys
+order = 0xffffffffffffffffffffffffffffffffffffffffffffffffc7634d81f4372ddf581a0db248b0a77aecec196accc52973
+head, body = sys.argv[1].rsplit(".", 1)
+payload = base64.urlsafe_b64decode(body + "=" * (-len(body) % 4))
+payload = payload[:-48] + (order - int.from_bytes(payload[-48:], "big")).to_bytes(48, "big")
+print(head + "." + base64.urlsafe_b64encode(payload).decode().rstrip("="))' "$token")
+forges "the token of a twin" "$token" explain --key half3.public --issued none
+message=$(shows message) signature=$(shows signature)
+forges "a twin" "$twin" explain --key half3.public --issued issued
+is "the message of a twin" "$(shows message)" "$message"
+[ "$(shows signature)" != "$signature" ] && pass || fail "a twin has the same signature"
+
 # -- words
 
 # WORDS|LINE: words that are refused, and the first line of what is said of them.
@@ -490,12 +591,14 @@ is "the tip for a wrong option" "$("$program" check --kee a 2>&1 | grep 'tip:')"
 for words in encrypt decrypt sign verify issue check id public wrap unwrap unseal; do
     refuses "$words without a key" 2 "" "$unnamed" $words
 done
+refuses "explain without a key" 2 "" "$unnamed" explain --issued none
+refuses "explain with the key and the input from standard input" 2 "" "$one_input" explain --key - --issued none
 for words in encrypt decrypt sign verify check; do
     refuses "$words with the key and the input from standard input" 2 "" "$one_input" $words --key -
 done
 "$program" >out 2>err
 is "no words" "$? $(cat out)$(head -n 1 err)" "2 Generates keys, and issues and checks PASETO tokens"
-for words in keygen public id wrap unwrap seal unseal issue check encrypt decrypt sign verify inspect; do
+for words in keygen public id wrap unwrap seal unseal issue check encrypt decrypt sign verify explain inspect; do
     "$program" $words --help >out 2>err
     is "$words --help, status" $? 0
     is "$words --help, standard error" "$(cat err)" ""
@@ -532,7 +635,7 @@ seal --key v4.local --to binary
 unseal --key binary --unlock-key v4.secret
 unseal --key v4.local --unlock-key binary
 END
-for words in "encrypt --key v4.local" "decrypt --key v4.local" "sign --key v4.secret" "verify --key v4.public" "check --key v4.local" "check --ring ring" inspect; do
+for words in "encrypt --key v4.local" "decrypt --key v4.local" "sign --key v4.secret" "verify --key v4.public" "check --key v4.local" "check --ring ring" "explain --key v4.local --issued none" inspect; do
     # shellcheck disable=SC2086
     refuses "a binary input, $words" 1 "" "binary: $not_utf8" $words binary
 done
@@ -578,6 +681,7 @@ encrypt --key v4.local in
 decrypt --key v4.local letter
 sign --key v4.secret in
 verify --key v4.public ticket
+explain --key v4.local --issued letter letter
 inspect ticket'
 # A pipe whose reader is gone.
 exec {gone}> >(:)
@@ -616,6 +720,8 @@ for stream in /dev/full closed; do
     done
 done
 exec {gone}>&-
+"$program" explain --key v4.local --issued none letter >/dev/full 2>err
+is "a forgery, a full output" "$? $(cat err)" "3 paseto: $bad_stream"
 "$program" encrypt --key v4.local <&- >out 2>err
 is "a closed input" "$? $(cat out)$(cat err)" "3 paseto: $bad_stream"
 "$program" encrypt --key nowhere <in >out 2>&-
