@@ -320,7 +320,7 @@ const VERIFY: Subcommand = Subcommand {
 
 const EXPLAIN: Subcommand = Subcommand {
     name: "explain",
-    about: "Says which issued token a token is, or that it is a forgery, with its message and tag",
+    about: "Says which issued token a token is (status 0), or that it is a forgery (status 1)",
     example: "Example: paseto explain --key office.key --issued tokens.log token",
     usage: None,
     parameters: &[KEY, PASSWORD, OPENER, ISSUED, FOOTER, ASSERTION, INPUT],
