@@ -1,5 +1,5 @@
 -- What a token shows, and why nothing is shown.
-use Rattle.std.proofs.Common.{◌≡◌, ◌⊎◌, ℕ, List, [], ◌∷◌, Bool, true, false, Some, Result, Ok, Err, IfErr, IfOk, String, Global, string_bytes, inl, inr, refl, sym, ap}
+use Rattle.std.proofs.Common.{◌⊎◌, ℕ, List, [], ◌∷◌, Bool, true, false, Some, Result, Ok, Err, String, Global, inl, inr, refl, sym, ap}
 use Rattle.std.proofs.lemmas.Bool.{false≢true}
 use Rattle.std.proofs.lemmas.List.Elements.{All-cons, All-nil}
 use Rattle.std.specs.List.{All}
@@ -20,7 +20,7 @@ use Rattle.rusty_paseto_core.specs.Public.SignatureForgery.{IsVerified}
 use Rattle.rusty_paseto_core.specs.Public.Verifying.{verification}
 use Rattle.rusty_paseto_core.specs.Reading.{IsRead}
 use Rattle.rusty_paseto_paserk.specs.declared.header.PaserkVersion.{PaserkVersion}
-use Rattle.rusty_paseto_paserk.specs.declared.header.PaserkVersion.TheVariants.{V1, V2, V3, V4}
+use Rattle.rusty_paseto_paserk.specs.declared.header.PaserkVersion.TheVariants.{V1}
 use Rattle.rusty_paseto_paserk.specs.declared.header.PaserkType.{PaserkType}
 use Rattle.rusty_paseto_paserk.specs.declared.header.PaserkType.TheVariants.{Local, Public}
 use Rattle.paseto_tasks.specs.declared.arguments.Options.{Options}

@@ -1,6 +1,6 @@
 //! The command `explain`: which issued token a token is, or that it is a forgery.
 
-ghost use Rattle.std.specs.Prelude.{◌≡◌, ◌++◌, ◌⊎◌, ℕ, List, IfErr, IfOk, codes, string_bytes};
+ghost use Rattle.std.specs.Prelude.{◌≡◌, ◌⊎◌, ℕ, List, IfErr, IfOk, string_bytes};
 ghost use Rattle.rusty_paseto_core.specs.Context.{footer_of};
 ghost use Rattle.paseto_tasks.specs.Error.{IsOutside, IsPlain};
 ghost use Rattle.paseto_tasks.specs.Explain.{Explains, forged_text};

@@ -1,4 +1,4 @@
-use Rattle.std.proofs.Common.{◌≡◌, ℕ, List, ◌++◌, ◌∷◌, [], IsTrue, nat_eq, true, ap, sym, subst, refl, ◌∙◌}
+use Rattle.std.proofs.Common.{◌≡◌, ℕ, List, ◌++◌, ◌∷◌, [], nat_eq, true, ap, sym, subst, refl, ◌∙◌}
 use Rattle.std.proofs.lemmas.List.{append_cancel_left}
 use Rattle.std.specs.Cmp.Lexicographic.{pointwise, same_text}
 use Rattle.paseto_tasks.proofs.spelling.is_with_dot.Goals as goal
