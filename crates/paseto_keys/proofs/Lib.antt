@@ -1,0 +1,4 @@
+pub mod Signed
+pub mod LineLaws
+pub mod UnlockLaws
+pub mod WrittenLineLaws

@@ -1,0 +1,11 @@
+pub mod AnyKey
+pub mod Claims
+pub mod Error
+pub mod Id
+pub mod Line
+pub mod Reading
+pub mod Salted
+pub mod Writing
+pub mod WrittenLine
+pub mod Tokens
+pub mod Unlock
