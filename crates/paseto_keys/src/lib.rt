@@ -30,8 +30,10 @@
 mod any_key;
 mod claims;
 mod error;
+mod forms;
 mod id;
 mod line;
+mod public_half;
 mod reading;
 mod salted;
 mod token_reader;

@@ -6,17 +6,21 @@ mod rows;
 use crate::expect::{expect_same, expect_text};
 use crate::hexadecimal::bytes_of;
 use crate::paserk::rows::ROWS;
-use crate::pem::texts::{ED25519_PRIVATE, P384_PUBLIC, RSA_PRIVATE, RSA_PUBLIC};
+use crate::pem::texts::{ED25519_PRIVATE, P384_PRIVATE, P384_PUBLIC, RSA_PRIVATE, RSA_PUBLIC};
 use paseto_key_files::Openers;
 use paseto_keys::{
     AnyKey, ClaimsBuilder, ClaimsParser, admit, decrypt, encrypt, issue, sign, verify,
 };
+use paseto_wrapping::PasswordCost;
 use rows::{Token, VERIFIED, WRITTEN};
 use rusty_paseto_core::{Footer, ImplicitAssertion};
 use rusty_paseto_generic::{AudienceClaim, ClaimSetter};
 use rusty_paseto_paserk::{PaserkType, PaserkVersion};
 use std::alloc::Global;
 use std::process::Abort;
+use test_toys::generators::Zeros;
+
+const ZEROS_LINE: &str = "k4.local.AAAAAAAAAAAAAAAAAAAAAAAAAAAAAAAAAAAAAAAAAAA";
 
 const OPENERS: Openers<'static> = Openers {
     password: Some(b"a password"),
@@ -106,11 +110,77 @@ fn keys_of_files_sign_and_verify(rt: HostRuntime) {
 }
 
 #[test]
-fn ids_are_those_of_the_rows(rt: HostRuntime) {
+fn lines_and_ids_are_those_of_the_rows(rt: HostRuntime) {
     'rows: for &(_, _, _, line, id) in ROWS {
         let key = key_of(&rt, rt.alloc(), line);
         expect_text(&rt, key.id(rt.alloc()).expect(&rt, "an id").as_str(), id);
+        let again = key.to_line(rt.alloc()).expect(&rt, "a line");
+        expect_text(&rt, again.as_str(), line);
     }
+}
+
+fn expect_half(rt: &impl Abort, alloc: Global, private: &AnyKey, line: &str) {
+    let half = private.public_half(alloc).expect(rt, "a public key");
+    expect_text(rt, half.to_line(alloc).expect(rt, "a line").as_str(), line);
+}
+
+#[test]
+fn halves_and_texts_in_pem(rt: HostRuntime) {
+    let alloc = rt.alloc();
+    expect_half(&rt, alloc, &key_of(&rt, alloc, WRITTEN[4].0), VERIFIED[0].0);
+    let private = file_key(&rt, alloc, P384_PRIVATE);
+    let half = private.public_half(alloc).expect(&rt, "a public key");
+    expect_text(
+        &rt,
+        half.to_pem(alloc).expect(&rt, "a text").as_str(),
+        P384_PUBLIC,
+    );
+    let private = file_key(&rt, alloc, ED25519_PRIVATE);
+    expect_text(
+        &rt,
+        private.to_pem(alloc).expect(&rt, "a text").as_str(),
+        ED25519_PRIVATE,
+    );
+    let private = file_key(&rt, alloc, RSA_PRIVATE);
+    expect_text(
+        &rt,
+        private.to_line(alloc).expect(&rt, "a line").as_str(),
+        RSA_PRIVATE,
+    );
+}
+
+// The key that a text opens as, under the test's password or the key of a line, is that of the line.
+fn expect_unlocked(rt: &impl Abort, alloc: Global, text: &str, opener: &str, line: &str) {
+    let openers = Openers {
+        key: Some(opener),
+        ..OPENERS
+    };
+    let key = AnyKey::unlock(alloc, &openers, text).expect(rt, "a key");
+    expect_text(rt, key.to_line(alloc).expect(rt, "a line").as_str(), line);
+}
+
+#[test]
+fn locked_keys_are_unlocked(rt: HostRuntime) {
+    let (alloc, line, opener) = (rt.alloc(), WRITTEN[3].0, ZEROS_LINE);
+    let (key, mut generator) = (key_of(&rt, alloc, line), Zeros);
+    let cost = PasswordCost {
+        memory: 8192,
+        passes: 1,
+        ..PasswordCost::default()
+    };
+    let text = key
+        .protect(alloc, b"a password", cost, &mut generator)
+        .expect(&rt, "a text");
+    expect_unlocked(&rt, alloc, text.as_str(), opener, line);
+    let text = key
+        .wrap(alloc, opener, &mut generator)
+        .expect(&rt, "a text");
+    expect_unlocked(&rt, alloc, text.as_str(), opener, line);
+    let (private, public) = (WRITTEN[5].0, VERIFIED[2].0);
+    let text = key
+        .seal(alloc, public, &mut generator)
+        .expect(&rt, "a text");
+    expect_unlocked(&rt, alloc, text.as_str(), private, line);
 }
 
 // A token of a claim, and its parser.

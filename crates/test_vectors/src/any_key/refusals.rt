@@ -3,7 +3,7 @@
 use super::key_of;
 use super::rows::{VERIFIED, WRITTEN};
 use crate::expect::expect_shown;
-use crate::pem::texts::RSA_1024_PUBLIC;
+use crate::pem::texts::{RSA_1024_PUBLIC, RSA_PRIVATE};
 use paseto_keys::{AnyKey, ClaimsParser, admit, decrypt, encrypt, sign, verify};
 use rusty_paseto_core::ImplicitAssertion;
 use rusty_paseto_paserk::{PaserkType, PaserkVersion};
@@ -102,6 +102,38 @@ fn assertions_and_tokens(rt: HostRuntime) {
     parser.set_longest(100);
     let answer = admit(alloc, &first, &parser, WRITTEN[0].5);
     expect_refusal(&rt, alloc, answer, "A paseto cipher error occurred");
+}
+
+#[test]
+fn halves_and_texts(rt: HostRuntime) {
+    let alloc = rt.alloc();
+    let local = key_of(&rt, alloc, WRITTEN[3].0);
+    let first = key_of(&rt, alloc, RSA_PRIVATE);
+    expect_refusal(&rt, alloc, local.public_half(alloc), LOCAL);
+    expect_refusal(
+        &rt,
+        alloc,
+        first.public_half(alloc),
+        "The key is one of version 1",
+    );
+    expect_refusal(&rt, alloc, first.id(alloc), "The key is one of version 1");
+    let wanted = "keys for local tokens have no PEM text";
+    expect_refusal(&rt, alloc, local.to_pem(alloc), wanted);
+    let odd = AnyKey::from_bytes(alloc, PaserkType::Secret, PaserkVersion::V4, &[7u8; 64]);
+    let wanted = "The key was not in the correct format";
+    expect_refusal(
+        &rt,
+        alloc,
+        odd.expect(&rt, "a key").public_half(alloc),
+        wanted,
+    );
+    let empty = AnyKey::from_bytes(alloc, PaserkType::Public, PaserkVersion::V1, &[]);
+    expect_refusal(
+        &rt,
+        alloc,
+        empty.expect(&rt, "a key").to_line(alloc),
+        wanted,
+    );
 }
 
 /// A line, and what is said of it.
