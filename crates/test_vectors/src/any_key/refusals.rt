@@ -1,11 +1,14 @@
 //! What keys of any version and type refuse.
 
 use super::key_of;
-use super::rows::{VERIFIED, WRITTEN};
+use super::rows::WRITTEN;
 use crate::expect::expect_shown;
 use crate::pem::texts::{RSA_1024_PUBLIC, RSA_PRIVATE};
-use paseto_keys::{AnyKey, ClaimsParser, admit, decrypt, encrypt, sign, verify};
-use rusty_paseto_core::ImplicitAssertion;
+use paseto_keys::{
+    AnyKey, ClaimsParser, KeyError, TokenWriter, admit, decrypt, encrypt, sign, verify,
+};
+use rusty_paseto_core::{ImplicitAssertion, Key, PasetoError, PasetoSymmetricKey};
+use rusty_paseto_generic::GenericParserError;
 use rusty_paseto_paserk::{PaserkType, PaserkVersion};
 use std::alloc::Global;
 use std::fmt::Display;
@@ -32,76 +35,70 @@ const PUBLIC: &str = "The key is a public one, which verifies";
 
 const UNBOUND: &str = "Keys of versions 1 and 2 take no implicit assertion";
 
-#[test]
-fn keys_of_another_type(rt: HostRuntime) {
-    let alloc = rt.alloc();
-    let local = key_of(&rt, alloc, WRITTEN[0].0);
-    let private = key_of(&rt, alloc, WRITTEN[4].0);
-    let public = key_of(&rt, alloc, VERIFIED[0].0);
-    let assertion = Some(ImplicitAssertion::from("an assertion"));
-    expect_refusal(
-        &rt,
-        alloc,
-        decrypt(alloc, &private, "", None, assertion),
-        PRIVATE,
-    );
-    expect_refusal(&rt, alloc, decrypt(alloc, &public, "", None, None), PUBLIC);
-    expect_refusal(&rt, alloc, verify(alloc, &local, "", None, None), LOCAL);
-    expect_refusal(&rt, alloc, verify(alloc, &private, "", None, None), PRIVATE);
-    expect_refusal(
-        &rt,
-        alloc,
-        encrypt(alloc, &private, &[], "", None, None),
-        PRIVATE,
-    );
-    expect_refusal(
-        &rt,
-        alloc,
-        sign(alloc, &local, &[7u8; 32], "", None, None),
-        LOCAL,
-    );
-    expect_refusal(
-        &rt,
-        alloc,
-        sign(alloc, &public, &[], "", None, assertion),
-        PUBLIC,
-    );
+const FIRST: &str = "k1.local.cHFyc3R1dnd4eXp7fH1-f4CBgoOEhYaHiImKi4yNjo8";
+
+const SECOND: &str = "k2.public.Hrnbu7wEfAP9cGBOAHHwmH4Wsot1ciXBHwBBXQ4gsaI";
+
+const THIRD: &str = "k3.secret.AuEW8g8o7tXDzTX8Dw6MaHSPfdVpnXl6-9C5aRANAPyPT83j_3yE-OJBBwq01JDM";
+
+/// A call, the line of its key, whether an assertion is given, and what is said.
+const REFUSED: &[(&str, &str, bool, &str)] = &[
+    ("decrypt", THIRD, true, PRIVATE),
+    ("decrypt", SECOND, false, PUBLIC),
+    ("verify", FIRST, true, LOCAL),
+    ("verify", THIRD, false, PRIVATE),
+    ("encrypt", THIRD, true, PRIVATE),
+    ("sign", FIRST, false, LOCAL),
+    ("sign", SECOND, true, PUBLIC),
+    ("decrypt", FIRST, true, UNBOUND),
+    ("encrypt", FIRST, true, UNBOUND),
+    ("verify", SECOND, true, UNBOUND),
+    ("decrypt", FIRST, false, "The token header is invalid"),
+    ("verify", SECOND, false, "The token header is invalid"),
+];
+
+// What a call answers for the token or the text `v4.local.AAAA`.
+fn answer(
+    rt: &impl Abort,
+    alloc: Global,
+    call: &str,
+    key: &AnyKey,
+    is_bound: bool,
+) -> Result<String, KeyError> {
+    let drawn = [7u8; 48];
+    let drawn = drawn.get(..key.draws()).expect(rt, "drawn bytes");
+    let assertion = is_bound.then(|| ImplicitAssertion::from("an assertion"));
+    match call {
+        "decrypt" => decrypt(alloc, key, "v4.local.AAAA", None, assertion),
+        "verify" => verify(alloc, key, "v4.local.AAAA", None, assertion),
+        "encrypt" => encrypt(alloc, key, drawn, "v4.local.AAAA", None, assertion),
+        _ => sign(alloc, key, drawn, "v4.local.AAAA", None, assertion),
+    }
 }
 
 #[test]
-fn assertions_and_tokens(rt: HostRuntime) {
+fn types_assertions_and_tokens(rt: HostRuntime) {
+    'rows: for &(call, line, is_bound, wanted) in REFUSED {
+        let key = key_of(&rt, rt.alloc(), line);
+        let answer = answer(&rt, rt.alloc(), call, &key, is_bound);
+        expect_refusal(&rt, rt.alloc(), answer, wanted);
+    }
+}
+
+#[test]
+fn tokens_beyond_the_limit(rt: HostRuntime) {
     let alloc = rt.alloc();
-    let assertion = Some(ImplicitAssertion::from("an assertion"));
-    let first = key_of(&rt, alloc, WRITTEN[0].0);
-    expect_refusal(
-        &rt,
-        alloc,
-        decrypt(alloc, &first, "", None, assertion),
-        UNBOUND,
-    );
-    expect_refusal(
-        &rt,
-        alloc,
-        encrypt(alloc, &first, &[7u8; 32], "", None, assertion),
-        UNBOUND,
-    );
-    let second = key_of(&rt, alloc, VERIFIED[0].0);
-    expect_refusal(
-        &rt,
-        alloc,
-        verify(alloc, &second, "", None, assertion),
-        UNBOUND,
-    );
-    expect_refusal(
-        &rt,
-        alloc,
-        decrypt(alloc, &first, WRITTEN[1].5, None, None),
-        "The token header is invalid",
-    );
+    let key = AnyKey::V4Local(PasetoSymmetricKey::from(Key::from([7u8; 32])));
     let mut parser = ClaimsParser::new(alloc);
     parser.set_longest(100);
-    let answer = admit(alloc, &first, &parser, WRITTEN[0].5);
-    expect_refusal(&rt, alloc, answer, "A paseto cipher error occurred");
+    match admit(alloc, &key, &parser, WRITTEN[0].5) {
+        Err(
+            GenericParserError::CipherError {
+                source: PasetoError::TooLong,
+            },
+        ) => {}
+        _ => assert!(rt; false, "a token that is too long"),
+    }
 }
 
 #[test]
