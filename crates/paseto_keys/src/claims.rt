@@ -25,9 +25,9 @@ pub type ClaimsBuilder<'a> = GenericBuilder<'a, V4, Local>;
 /// What checks the claims of tokens of any version and purpose: of the type parameters `admit` uses nothing.
 pub type ClaimsParser<'a> = GenericParser<'a, V4, Local>;
 
-/// The claims of a token that the reader reads with the parser's footer and implicit assertion, and that pass the parser's
-/// checks: as `parse` of a `GenericParser` returns them, with the same errors in the same order. A token that is longer
-/// than the parser's limit is refused first.
+/// The claims of a token that the reader reads with the parser's footer and implicit assertion, and that pass the
+/// parser's checks: as `parse` of a `GenericParser` returns them, with the same errors in the same order. A token that
+/// is longer than the parser's limit is refused first.
 pub fn admit<R: TokenReader>(
     alloc: Global,
     reader: &R,

@@ -17,8 +17,8 @@ use std::alloc::Global;
 impl AnyKey {
     /// The text of the key in PEM, byte for byte as `openssl pkey` writes it.
     ///
-    /// The errors are those of `to_line`, and of `pem_of` of `paseto_key_files`: `LocalInPem` for a key for local tokens,
-    /// `SecondInPem` for one of version 2, and `Pem(InvalidKey)` for a key that is not valid.
+    /// The errors are those of `to_line`, and of `pem_of` of `paseto_key_files`: `LocalInPem` for a key for local
+    /// tokens, `SecondInPem` for one of version 2, and `Pem(InvalidKey)` for a key that is not valid.
     ///
     /// Source: RFC 7468, sections 3, 10 and 13.
     pub fn to_pem(&self, alloc: Global) -> Result<String, KeyFileError>
@@ -54,12 +54,12 @@ impl AnyKey {
         }
     }
 
-    /// The text of the key under the wrapping key of a line, of type `local-wrap.pie` or `secret-wrap.pie`. The nonce is
-    /// drawn.
+    /// The text of the key under the wrapping key of a line, of type `local-wrap.pie` or `secret-wrap.pie`. The nonce
+    /// is drawn.
     ///
     /// The errors are those of `to_line`, and of `wrap` of `paseto_key_files`: `PublicKey` for a public key,
-    /// `OtherOpener` if the line is not that of a key for local tokens of the same version, and `Random` if the generator
-    /// fails.
+    /// `OtherOpener` if the line is not that of a key for local tokens of the same version, and `Random` if the
+    /// generator fails.
     ///
     /// Source: PASERK specification, types `local-wrap` and `secret-wrap`.
     pub fn wrap<G: TryRng>(
@@ -78,12 +78,12 @@ impl AnyKey {
         }
     }
 
-    /// The text of the key, one for local tokens, sealed to the public key of a line, of type `seal`. The ephemeral key is
-    /// drawn.
+    /// The text of the key, one for local tokens, sealed to the public key of a line, of type `seal`. The ephemeral
+    /// key is drawn.
     ///
     /// The errors are those of `seal` of `paseto_key_files`: `Paserk(OtherType)` for a key of another type,
-    /// `OtherOpener` if the line is not that of a public key of the same version, `NoSealing` in version 1, `Wrap` if no
-    /// secret can be shared with the public key, and `Random` if the generator fails.
+    /// `OtherOpener` if the line is not that of a public key of the same version, `NoSealing` in version 1, `Wrap` if
+    /// no secret can be shared with the public key, and `Random` if the generator fails.
     ///
     /// Source: PASERK specification, type `seal`.
     pub fn seal<G: TryRng>(

@@ -1,14 +1,14 @@
 //! Keys of any version and type, and the tokens that they read and write.
 //!
-//! A token is a text, and so are its claims. So code that reads or writes tokens needs no type parameter for the version
-//! or the purpose: it takes an [`AnyKey`], or any [`TokenReader`] or [`TokenWriter`]. A key is bound to its version and
-//! its type, and reads and writes no other tokens.
+//! A token is a text, and so are its claims. So code that reads or writes tokens needs no type parameter for the
+//! version or the purpose: it takes an [`AnyKey`], or any [`TokenReader`] or [`TokenWriter`]. A key is bound to its
+//! version and its type, and reads and writes no other tokens.
 //!
 //! ```rust
 //! use paseto_keys::{AnyKey, KeyError, TokenWriter, decrypt, encrypt};
 //! use std::alloc::Global;
 //!
-//! /// Encrypts a text with a key for local tokens, and with random bytes that were drawn for this token, and decrypts it.
+//! /// Encrypts a text with a key for local tokens, with random bytes that were drawn for it, and decrypts the token.
 //! /// `None` if the key takes another number of random bytes.
 //! pub fn there_and_back(
 //!     alloc: Global,

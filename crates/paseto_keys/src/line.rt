@@ -19,12 +19,12 @@ use rusty_paseto_paserk::{
 use std::alloc::Global;
 
 impl AnyKey {
-    /// The key of a line: of its text in PASERK, such as `k4.local...`, or in PEM for the key pairs of version 1, which
-    /// have no text in PASERK here. The line has no line end.
+    /// The key of a line: of its text in PASERK, such as `k4.local...`, or in PEM for the key pairs of version 1,
+    /// which have no text in PASERK here. The line has no line end.
     ///
-    /// `Paserk(NoKey)` is returned if the line begins like no key, `Paserk(OtherVersion)` for a key pair of version 1 in
-    /// PASERK, `Paserk(InvalidKey)` if what follows the header is not the base64url encoding of a key, and `Pem` if the
-    /// line begins like PEM and is not a key of RSA. Otherwise it fails only with `Memory`.
+    /// `Paserk(NoKey)` is returned if the line begins like no key, `Paserk(OtherVersion)` for a key pair of version 1
+    /// in PASERK, `Paserk(InvalidKey)` if what follows the header is not the base64url encoding of a key, and `Pem` if
+    /// the line begins like PEM and is not a key of RSA. Otherwise it fails only with `Memory`.
     ///
     /// Source: PASERK specification, types `local`, `secret` and `public`; RFC 7468, sections 10 and 13.
     pub fn from_line(alloc: Global, line: &str) -> Result<AnyKey, KeyFileError>

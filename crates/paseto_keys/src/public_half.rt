@@ -21,8 +21,8 @@ impl AnyKey {
     ///
     /// `OtherType` is returned for a key of another type, `OtherVersion` for one of version 1, and `InvalidKey` for a
     /// private key without a public half of its own: in versions 2 and 4 if it does not have 64 bytes or the last 32
-    /// belong to another seed, and in version 3 if it is 0 or not below the order of P-384. Otherwise it fails only with
-    /// `Memory`.
+    /// belong to another seed, and in version 3 if it is 0 or not below the order of P-384. Otherwise it fails only
+    /// with `Memory`.
     pub fn public_half(&self, alloc: Global) -> Result<AnyKey, PaserkError>
         ensures { GivesHalf (parts_of self.now) result }
     {

@@ -38,8 +38,8 @@ impl TryRng for Given<'_> {
     }
 }
 
-/// RSASSA-PSS with a salt that was drawn before: of 48 bytes for a signature, and of any length for verifying, which draws
-/// none.
+/// RSASSA-PSS with a salt that was drawn before: of 48 bytes for a signature, and of any length for verifying, which
+/// draws none.
 #[derive(Drop)]
 pub(crate) struct Salted<'a> {
     scheme: RsaPss<Given<'a>>,

@@ -17,8 +17,9 @@ use std::alloc::Global;
 
 /// Decrypts a local token with a key for local tokens.
 ///
-/// `OtherType` is returned for a key of another type, `NoAssertion` if an implicit assertion is given and the key's version
-/// has none, and otherwise, as `Refused` or `Memory`, the errors of `try_decrypt` of `Paseto`, in the same order.
+/// `OtherType` is returned for a key of another type, `NoAssertion` if an implicit assertion is given and the key's
+/// version has none, and otherwise, as `Refused` or `Memory`, the errors of `try_decrypt` of `Paseto`, in the same
+/// order.
 pub fn decrypt(
     alloc: Global,
     key: &AnyKey,
@@ -36,8 +37,9 @@ pub fn decrypt(
 
 /// Verifies a public token with a public key.
 ///
-/// `OtherType` is returned for a key of another type, `NoAssertion` if an implicit assertion is given and the key's version
-/// has none, and otherwise, as `Refused` or `Memory`, the errors of `try_verify` of `Paseto`, in the same order.
+/// `OtherType` is returned for a key of another type, `NoAssertion` if an implicit assertion is given and the key's
+/// version has none, and otherwise, as `Refused` or `Memory`, the errors of `try_verify` of `Paseto`, in the same
+/// order.
 pub fn verify(
     alloc: Global,
     key: &AnyKey,
@@ -53,11 +55,11 @@ pub fn verify(
     }
 }
 
-/// Encrypts a text with a key for local tokens, and with random bytes that were drawn for this token: 24 in version 2, and
-/// 32 in the others.
+/// Encrypts a text with a key for local tokens, and with random bytes that were drawn for this token: 24 in version 2,
+/// and 32 in the others.
 ///
-/// `OtherType` is returned for a key of another type, `NoAssertion` if an implicit assertion is given and the key's version
-/// has none, and otherwise, as `Refused` or `Memory`, the errors of `try_encrypt` of `Paseto`.
+/// `OtherType` is returned for a key of another type, `NoAssertion` if an implicit assertion is given and the key's
+/// version has none, and otherwise, as `Refused` or `Memory`, the errors of `try_encrypt` of `Paseto`.
 pub fn encrypt(
     alloc: Global,
     key: &AnyKey,
@@ -76,11 +78,11 @@ pub fn encrypt(
     }
 }
 
-/// Signs a text with a private key, and with random bytes that were drawn for this token: 48 in version 1, and none in the
-/// others.
+/// Signs a text with a private key, and with random bytes that were drawn for this token: 48 in version 1, and none in
+/// the others.
 ///
-/// `OtherType` is returned for a key of another type, `NoAssertion` if an implicit assertion is given and the key's version
-/// has none, and otherwise, as `Refused` or `Memory`, the errors of `try_sign` of `Paseto`.
+/// `OtherType` is returned for a key of another type, `NoAssertion` if an implicit assertion is given and the key's
+/// version has none, and otherwise, as `Refused` or `Memory`, the errors of `try_sign` of `Paseto`.
 pub fn sign(
     alloc: Global,
     key: &AnyKey,

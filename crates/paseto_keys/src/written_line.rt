@@ -19,8 +19,8 @@ use rusty_paseto_paserk::{
 use std::alloc::Global;
 
 impl AnyKey {
-    /// The line of the key, which `from_line` reads: its text in PASERK, such as `k4.local...`, or in PEM for a key pair
-    /// of version 1, as `openssl pkey` writes it. The line of a secret key is as secret as the key.
+    /// The line of the key, which `from_line` reads: its text in PASERK, such as `k4.local...`, or in PEM for a key
+    /// pair of version 1, as `openssl pkey` writes it. The line of a secret key is as secret as the key.
     ///
     /// `Paserk(InvalidKey)` is returned for a private key that does not have the length of its version's, and
     /// `Pem(InvalidKey)` for a key of version 1 that is not one of RSA of 2048 bits. Otherwise it fails only with

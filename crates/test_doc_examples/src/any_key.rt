@@ -3,7 +3,7 @@
 use paseto_keys::{AnyKey, KeyError, TokenWriter, decrypt, encrypt};
 use std::alloc::Global;
 
-/// Encrypts a text with a key for local tokens, and with random bytes that were drawn for this token, and decrypts it.
+/// Encrypts a text with a key for local tokens, with random bytes that were drawn for it, and decrypts the token.
 /// `None` if the key takes another number of random bytes.
 pub fn there_and_back(
     alloc: Global,

@@ -1,7 +1,7 @@
 //! Published tokens of the PASETO specification, with the lines of their keys.
 
-/// A token: the line of its key, what is drawn for it in hexadecimal digits, its text, its footer, its implicit assertion,
-/// and itself.
+/// A token: the line of its key, what is drawn for it in hexadecimal digits, its text, its footer, its implicit
+/// assertion, and itself.
 pub(super) type Token = (
     &'static str,
     &'static str,
