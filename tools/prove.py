@@ -35,7 +35,7 @@ OTHERS = 60
 SECONDS = {
     "paseto": 590, "paseto_argon2": 63, "paseto_c": 120, "paseto_calls": 230, "paseto_der": 10, "paseto_ed25519": 35,
     "paseto_edwards_laws": 15,
-    "paseto_edwards25519": 75, "paseto_key_files": 130, "paseto_montgomery": 38, "paseto_p384": 65, "paseto_pem": 120,
+    "paseto_edwards25519": 75, "paseto_key_files": 130, "paseto_keys": 150, "paseto_montgomery": 38, "paseto_p384": 65, "paseto_pem": 120,
     "paseto_primes": 8, "paseto_rsa": 48, "paseto_streams": 15,
     "paseto_tasks": 260, "paseto_tool": 110, "paseto_weierstrass_laws": 12, "paseto_words": 120, "paseto_wrapping": 128,
     "paseto_x25519": 18, "paseto_xchacha20poly1305": 20, "rusty_paseto": 240, "rusty_paseto_claims": 97,

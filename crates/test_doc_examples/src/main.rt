@@ -2,6 +2,7 @@
 //! proved here, and most are run.
 #![tactic(auto)]
 
+mod any_key;
 mod argon2_key;
 mod blame;
 mod boxed_decrypting;
@@ -55,6 +56,7 @@ use anyhow::Result;
 use even::Even;
 use jiff::Timestamp;
 use paseto_ed25519::Ed25519;
+use paseto_keys::AnyKey;
 use paseto_wrapping::WrappingKey;
 use rand::rngs::SysRng;
 use rusty_paseto::prelude::*;
@@ -120,6 +122,10 @@ fn show_core(rt: &HostRuntime) -> Result<()> {
         "wrapped and unwrapped: {}",
         again.as_bytes() == key.as_bytes()
     )?;
+    let any_key = AnyKey::V4Local(key.clone());
+    if let Some(text) = any_key::there_and_back(alloc, &any_key, nonce.as_bytes(), "a message")? {
+        println!(rt; "by a key of any version: {text}")?;
+    }
     show_collision(rt, &key, &nonce)
 }
 

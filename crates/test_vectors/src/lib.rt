@@ -6,6 +6,8 @@
 #![tactic(auto)]
 
 #[cfg(test)]
+mod any_key;
+#[cfg(test)]
 mod argon2;
 #[cfg(test)]
 mod boxes;

@@ -1,7 +1,7 @@
 //! Published values, rows of an independent implementation, and what is refused.
 
 mod refusals;
-mod rows;
+pub(crate) mod rows;
 
 use crate::expect::{expect_bytes, expect_digits, expect_text};
 use crate::hexadecimal::array_of;

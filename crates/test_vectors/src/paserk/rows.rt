@@ -1,9 +1,9 @@
 //! What an independent implementation made of keys: `tests/paserk_rows.py` prints this file.
 
 /// A row: the version, the type, the key's bytes in hexadecimal digits, its text, and its id.
-pub(super) type Row = (u8, &'static str, &'static str, &'static str, &'static str);
+pub(crate) type Row = (u8, &'static str, &'static str, &'static str, &'static str);
 
-pub(super) const ROWS: &[Row] = &[
+pub(crate) const ROWS: &[Row] = &[
     (
         1,
         "local",

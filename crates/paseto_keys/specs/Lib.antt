@@ -1,0 +1,13 @@
+pub mod AnyKey
+pub mod Claims
+pub mod Error
+pub mod Id
+pub mod Line
+pub mod PublicHalf
+pub mod Reading
+pub mod Salted
+pub mod Writing
+pub mod WrittenLine
+pub mod Forms
+pub mod Tokens
+pub mod Unlock

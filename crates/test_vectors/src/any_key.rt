@@ -1,0 +1,203 @@
+//! Keys of any version and type: what they read and write, their texts and ids, and what is refused.
+
+mod refusals;
+mod rows;
+
+use crate::expect::{expect_same, expect_shown, expect_text};
+use crate::hexadecimal::bytes_of;
+use crate::paserk::rows::ROWS;
+use crate::pem::texts::{ED25519_PRIVATE, P384_PRIVATE, P384_PUBLIC, RSA_PRIVATE, RSA_PUBLIC};
+use paseto_key_files::Openers;
+use paseto_keys::{
+    AnyKey, ClaimsBuilder, ClaimsParser, TokenWriter, admit, decrypt, encrypt, issue, sign, verify,
+};
+use paseto_wrapping::PasswordCost;
+use rows::{Token, VERIFIED, WRITTEN};
+use rusty_paseto_core::{Footer, ImplicitAssertion, Key, PasetoSymmetricKey};
+use rusty_paseto_generic::{AudienceClaim, ClaimSetter};
+use rusty_paseto_paserk::{PaserkType, PaserkVersion};
+use std::alloc::Global;
+use std::process::Abort;
+use test_toys::generators::Zeros;
+
+const ZEROS_LINE: &str = "k4.local.AAAAAAAAAAAAAAAAAAAAAAAAAAAAAAAAAAAAAAAAAAA";
+
+const OPENERS: Openers<'static> = Openers {
+    password: Some(b"a password"),
+    key: None,
+};
+
+fn key_of(rt: &impl Abort, alloc: Global, line: &str) -> AnyKey {
+    AnyKey::from_line(alloc, line).expect(rt, "a key")
+}
+
+fn file_key(rt: &impl Abort, alloc: Global, text: &str) -> AnyKey {
+    AnyKey::unlock(alloc, &OPENERS, text).expect(rt, "a key")
+}
+
+fn reads(rt: &impl Abort, alloc: Global, token: &Token) {
+    let (line, _, text, footer, assertion, token) = *token;
+    let key = key_of(rt, alloc, line);
+    let (footer, assertion) = (
+        footer.map(Footer::from),
+        assertion.map(ImplicitAssertion::from),
+    );
+    let read = match key.kind() {
+        PaserkType::Local => decrypt(alloc, &key, token, footer, assertion),
+        _ => verify(alloc, &key, token, footer, assertion),
+    };
+    expect_text(rt, read.expect(rt, "a text").as_str(), text);
+}
+
+#[test]
+fn keys_read_published_tokens(rt: HostRuntime) {
+    'written: for token in WRITTEN {
+        if token.0.contains(".local.") {
+            reads(&rt, rt.alloc(), token);
+        }
+    }
+    'verified: for token in VERIFIED {
+        reads(&rt, rt.alloc(), token);
+    }
+}
+
+fn writes(rt: &impl Abort, alloc: Global, token: &Token) {
+    let (line, drawn, text, footer, assertion, token) = *token;
+    let key = key_of(rt, alloc, line);
+    let drawn = bytes_of(rt, alloc, drawn);
+    assert!(rt; drawn.len() == key.draws(), "{line:?}");
+    let (footer, assertion) = (
+        footer.map(Footer::from),
+        assertion.map(ImplicitAssertion::from),
+    );
+    let written = match key.kind() {
+        PaserkType::Local => encrypt(alloc, &key, &drawn, text, footer, assertion),
+        _ => sign(alloc, &key, &drawn, text, footer, assertion),
+    };
+    expect_text(rt, written.expect(rt, "a token").as_str(), token);
+}
+
+#[test]
+fn keys_write_published_tokens(rt: HostRuntime) {
+    'rows: for token in WRITTEN {
+        writes(&rt, rt.alloc(), token);
+    }
+}
+
+// What the first key signs, the second verifies.
+fn signs_for(rt: &impl Abort, alloc: Global, private: &AnyKey, public: &AnyKey, drawn: &[u8]) {
+    assert!(rt; drawn.len() == private.draws(), "drawn bytes");
+    let token = sign(alloc, private, drawn, "text", None, None).expect(rt, "a token");
+    let text = verify(alloc, public, token.as_str(), None, None).expect(rt, "a text");
+    expect_text(rt, text.as_str(), "text");
+}
+
+#[test]
+fn keys_of_files_sign_and_verify(rt: HostRuntime) {
+    let alloc = rt.alloc();
+    let private = file_key(&rt, alloc, RSA_PRIVATE);
+    signs_for(
+        &rt,
+        alloc,
+        &private,
+        &file_key(&rt, alloc, RSA_PUBLIC),
+        &[7u8; 48],
+    );
+    expect_same(&rt, private.version(), PaserkVersion::V1, "RSA");
+    let private = file_key(&rt, alloc, ED25519_PRIVATE);
+    expect_same(&rt, private.kind(), PaserkType::Secret, "Ed25519");
+    let public = file_key(&rt, alloc, P384_PUBLIC);
+    expect_same(&rt, public.version(), PaserkVersion::V3, "P-384");
+    expect_same(&rt, public.kind(), PaserkType::Public, "P-384");
+}
+
+#[test]
+fn lines_and_ids_are_those_of_the_rows(rt: HostRuntime) {
+    'rows: for &(_, _, _, line, id) in ROWS {
+        let key = key_of(&rt, rt.alloc(), line);
+        expect_text(&rt, key.id(rt.alloc()).expect(&rt, "an id").as_str(), id);
+        let again = key.to_line(rt.alloc()).expect(&rt, "a line");
+        expect_text(&rt, again.as_str(), line);
+    }
+}
+
+fn expect_half(rt: &impl Abort, alloc: Global, private: &AnyKey, line: &str) {
+    let half = private.public_half(alloc).expect(rt, "a public key");
+    expect_text(rt, half.to_line(alloc).expect(rt, "a line").as_str(), line);
+}
+
+#[test]
+fn halves_and_texts_in_pem(rt: HostRuntime) {
+    let alloc = rt.alloc();
+    expect_half(&rt, alloc, &key_of(&rt, alloc, WRITTEN[4].0), VERIFIED[0].0);
+    let private = file_key(&rt, alloc, P384_PRIVATE);
+    let half = private.public_half(alloc).expect(&rt, "a public key");
+    expect_text(
+        &rt,
+        half.to_pem(alloc).expect(&rt, "a text").as_str(),
+        P384_PUBLIC,
+    );
+    let private = file_key(&rt, alloc, ED25519_PRIVATE);
+    expect_text(
+        &rt,
+        private.to_pem(alloc).expect(&rt, "a text").as_str(),
+        ED25519_PRIVATE,
+    );
+    let private = file_key(&rt, alloc, RSA_PRIVATE);
+    expect_text(
+        &rt,
+        private.to_line(alloc).expect(&rt, "a line").as_str(),
+        RSA_PRIVATE,
+    );
+}
+
+// The key that a text opens as, under the test's password or the key of a line, is that of the line.
+fn expect_unlocked(rt: &impl Abort, alloc: Global, text: &str, opener: &str, line: &str) {
+    let openers = Openers {
+        key: Some(opener),
+        ..OPENERS
+    };
+    let key = AnyKey::unlock(alloc, &openers, text).expect(rt, "a key");
+    expect_text(rt, key.to_line(alloc).expect(rt, "a line").as_str(), line);
+}
+
+#[test]
+fn locked_keys_are_unlocked(rt: HostRuntime) {
+    let (alloc, line, opener) = (rt.alloc(), WRITTEN[3].0, ZEROS_LINE);
+    let (key, mut generator) = (key_of(&rt, alloc, line), Zeros);
+    let cost = PasswordCost {
+        memory: 8192,
+        passes: 1,
+        ..PasswordCost::default()
+    };
+    let text = key
+        .protect(alloc, b"a password", cost, &mut generator)
+        .expect(&rt, "a text");
+    expect_unlocked(&rt, alloc, text.as_str(), opener, line);
+    let text = key
+        .wrap(alloc, opener, &mut generator)
+        .expect(&rt, "a text");
+    expect_unlocked(&rt, alloc, text.as_str(), opener, line);
+    let (private, public) = (WRITTEN[5].0, VERIFIED[2].0);
+    let text = key
+        .seal(alloc, public, &mut generator)
+        .expect(&rt, "a text");
+    expect_unlocked(&rt, alloc, text.as_str(), private, line);
+}
+
+// A token of a claim, and its parser.
+#[test]
+fn claims_are_issued_and_admitted(rt: HostRuntime) {
+    let alloc = rt.alloc();
+    let key = AnyKey::V4Local(PasetoSymmetricKey::from(Key::from([7u8; 32])));
+    let mut claims = ClaimsBuilder::new(alloc);
+    claims
+        .put_claim(&AudienceClaim::from("customers"))
+        .expect(&rt, "a claim");
+    let footer = Some(Footer::from("{\"kid\":\"2026-11\"}"));
+    let token = issue(alloc, &key, &[7u8; 32], &claims, footer, None).expect(&rt, "a token");
+    let mut parser = ClaimsParser::new(alloc);
+    parser.set_footer(Footer::from("{\"kid\":\"2026-11\"}"));
+    let value = admit(alloc, &key, &parser, token.as_str()).expect(&rt, "claims");
+    expect_shown(&rt, alloc, &value, "{\"aud\":\"customers\"}");
+}

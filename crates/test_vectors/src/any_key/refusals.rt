@@ -1,0 +1,164 @@
+//! What keys of any version and type refuse.
+
+use super::key_of;
+use super::rows::WRITTEN;
+use crate::expect::expect_shown;
+use crate::pem::texts::{RSA_1024_PUBLIC, RSA_PRIVATE};
+use paseto_keys::{
+    AnyKey, ClaimsParser, KeyError, TokenWriter, admit, decrypt, encrypt, sign, verify,
+};
+use rusty_paseto_core::{ImplicitAssertion, Key, PasetoError, PasetoSymmetricKey};
+use rusty_paseto_generic::GenericParserError;
+use rusty_paseto_paserk::{PaserkType, PaserkVersion};
+use std::alloc::Global;
+use std::fmt::Display;
+use std::process::Abort;
+
+// The answer is the error that shows this.
+fn expect_refusal<T: Drop, E: Display + Drop>(
+    rt: &impl Abort,
+    alloc: Global,
+    answer: Result<T, E>,
+    wanted: &str,
+) {
+    match answer {
+        Ok(_) => assert!(rt; false, "{wanted:?}"),
+        Err(error) => expect_shown(rt, alloc, &error, wanted),
+    }
+}
+
+const LOCAL: &str = "The key is one for local tokens";
+
+const PRIVATE: &str = "The key is a private one, which signs";
+
+const PUBLIC: &str = "The key is a public one, which verifies";
+
+const UNBOUND: &str = "Keys of versions 1 and 2 take no implicit assertion";
+
+const FIRST: &str = "k1.local.cHFyc3R1dnd4eXp7fH1-f4CBgoOEhYaHiImKi4yNjo8";
+
+const SECOND: &str = "k2.public.Hrnbu7wEfAP9cGBOAHHwmH4Wsot1ciXBHwBBXQ4gsaI";
+
+const THIRD: &str = "k3.secret.AuEW8g8o7tXDzTX8Dw6MaHSPfdVpnXl6-9C5aRANAPyPT83j_3yE-OJBBwq01JDM";
+
+/// A call, the line of its key, whether an assertion is given, and what is said.
+const REFUSED: &[(&str, &str, bool, &str)] = &[
+    ("decrypt", THIRD, true, PRIVATE),
+    ("decrypt", SECOND, false, PUBLIC),
+    ("verify", FIRST, true, LOCAL),
+    ("verify", THIRD, false, PRIVATE),
+    ("encrypt", THIRD, true, PRIVATE),
+    ("sign", FIRST, false, LOCAL),
+    ("sign", SECOND, true, PUBLIC),
+    ("decrypt", FIRST, true, UNBOUND),
+    ("encrypt", FIRST, true, UNBOUND),
+    ("verify", SECOND, true, UNBOUND),
+    ("decrypt", FIRST, false, "The token header is invalid"),
+    ("verify", SECOND, false, "The token header is invalid"),
+];
+
+// What a call answers for the token or the text `v4.local.AAAA`.
+fn answer(
+    rt: &impl Abort,
+    alloc: Global,
+    call: &str,
+    key: &AnyKey,
+    is_bound: bool,
+) -> Result<String, KeyError> {
+    let drawn = [7u8; 48];
+    let drawn = drawn.get(..key.draws()).expect(rt, "drawn bytes");
+    let assertion = is_bound.then(|| ImplicitAssertion::from("an assertion"));
+    match call {
+        "decrypt" => decrypt(alloc, key, "v4.local.AAAA", None, assertion),
+        "verify" => verify(alloc, key, "v4.local.AAAA", None, assertion),
+        "encrypt" => encrypt(alloc, key, drawn, "v4.local.AAAA", None, assertion),
+        _ => sign(alloc, key, drawn, "v4.local.AAAA", None, assertion),
+    }
+}
+
+#[test]
+fn types_assertions_and_tokens(rt: HostRuntime) {
+    'rows: for &(call, line, is_bound, wanted) in REFUSED {
+        let key = key_of(&rt, rt.alloc(), line);
+        let answer = answer(&rt, rt.alloc(), call, &key, is_bound);
+        expect_refusal(&rt, rt.alloc(), answer, wanted);
+    }
+}
+
+#[test]
+fn tokens_beyond_the_limit(rt: HostRuntime) {
+    let alloc = rt.alloc();
+    let key = AnyKey::V4Local(PasetoSymmetricKey::from(Key::from([7u8; 32])));
+    let mut parser = ClaimsParser::new(alloc);
+    parser.set_longest(100);
+    match admit(alloc, &key, &parser, WRITTEN[0].5) {
+        Err(
+            GenericParserError::CipherError {
+                source: PasetoError::TooLong,
+            },
+        ) => {}
+        _ => assert!(rt; false, "a token that is too long"),
+    }
+}
+
+#[test]
+fn halves_and_texts(rt: HostRuntime) {
+    let alloc = rt.alloc();
+    let local = key_of(&rt, alloc, WRITTEN[3].0);
+    let first = key_of(&rt, alloc, RSA_PRIVATE);
+    expect_refusal(&rt, alloc, local.public_half(alloc), LOCAL);
+    expect_refusal(
+        &rt,
+        alloc,
+        first.public_half(alloc),
+        "The key is one of version 1",
+    );
+    expect_refusal(&rt, alloc, first.id(alloc), "The key is one of version 1");
+    let wanted = "keys for local tokens have no PEM text";
+    expect_refusal(&rt, alloc, local.to_pem(alloc), wanted);
+    let odd = AnyKey::from_bytes(alloc, PaserkType::Secret, PaserkVersion::V4, &[7u8; 64]);
+    let wanted = "The key was not in the correct format";
+    expect_refusal(
+        &rt,
+        alloc,
+        odd.expect(&rt, "a key").public_half(alloc),
+        wanted,
+    );
+    let empty = AnyKey::from_bytes(alloc, PaserkType::Public, PaserkVersion::V1, &[]);
+    expect_refusal(
+        &rt,
+        alloc,
+        empty.expect(&rt, "a key").to_line(alloc),
+        wanted,
+    );
+}
+
+/// A line, and what is said of it.
+const LINES: &[(&str, &str)] = &[
+    ("", "The text is no PASERK key"),
+    ("k5.local.AAAA", "The text is no PASERK key"),
+    ("k1.secret.AAAA", "The key is one of version 1"),
+    ("k1.public.AAAA", "The key is one of version 1"),
+    ("k4.local.AAAA", "The key was not in the correct format"),
+    ("k3.public.AAAA", "The key was not in the correct format"),
+    ("-----BEGIN ", "The text is no PEM"),
+    (RSA_1024_PUBLIC, "The key has another size"),
+];
+
+#[test]
+fn lines_of_no_key(rt: HostRuntime) {
+    'lines: for &(line, wanted) in LINES {
+        expect_refusal(&rt, rt.alloc(), AnyKey::from_line(rt.alloc(), line), wanted);
+    }
+}
+
+#[test]
+fn bytes_of_no_key(rt: HostRuntime) {
+    let alloc = rt.alloc();
+    'versions: for version in [PaserkVersion::V2, PaserkVersion::V3, PaserkVersion::V4] {
+        'kinds: for kind in [PaserkType::Local, PaserkType::Secret, PaserkType::Public] {
+            let answer = AnyKey::from_bytes(alloc, kind, version, &[7u8; 31]);
+            expect_refusal(&rt, alloc, answer, "Key was not in the correct format");
+        }
+    }
+}
