@@ -101,6 +101,11 @@ LIST
 [ "$("$program" sign --key rsa.pem <in)" != "$("$program" sign --key rsa.pem <in)" ] && pass || fail 'one salt signs twice'
 is "PEM of SEC 1" "$("$program" sign --key sec1.pem <in | "$program" verify --key p384.public.pem)" hello
 is "PEM of PKCS #1" "$("$program" sign --key rsa.pem <in | "$program" verify --key rsa.pkcs1.pem)" hello
+"$program" sign --key rsa.pem <in >token
+is "a token of RSA that was issued" "$("$program" explain --key rsa.public.pem --issued token token)" "issued: line 1
+spelling: the same"
+is "a token of RSA that was not issued" "$("$program" explain --key rsa.public.pem --issued in token | cut -d : -f 1 | paste -sd ' ')" \
+    "forged message signature"
 for name in ed p384; do
     "$program" unwrap --key $name.pem --out $name.line
     "$program" unwrap --key $name.line --format pem --out $name.again
