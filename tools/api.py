@@ -17,7 +17,7 @@ PAGES = f"{ROOT}/docs/api"
 # The libraries that others call, in the order of the index.
 CRATES = [
     "rusty_paseto", "rusty_paseto_generic", "rusty_paseto_claims", "rusty_paseto_core", "rusty_paseto_parts",
-    "rusty_paseto_paserk", "paseto_wrapping", "paseto_key_files", "paseto_keys",
+    "paseto_base64", "rusty_paseto_paserk", "paseto_wrapping", "paseto_key_files", "paseto_keys",
     "paseto_pem", "paseto_xchacha20poly1305", "paseto_ed25519", "paseto_p384", "paseto_rsa",
     "rusty_paseto_primitives", "paseto_x25519", "paseto_argon2", "paseto_der",
 ]

@@ -29,7 +29,7 @@ ROOT = os.path.dirname(os.path.dirname(os.path.abspath(__file__)))
 # What one process of a check takes of memory, in bytes, as measured over the crates of this repository.
 EACH = 2_000_000_000
 # What one process takes to prove each crate, in seconds, as measured once; of paseto_c and paseto_calls only their sum was,
-# when they were one crate, and the shares are estimates. It decides which crate goes first and how many processes it gets, and
+# when they were one crate, and the shares are estimates, as is what paseto_keys takes. It decides which crate goes first and how many processes it gets, and
 # nothing else. A crate that is not listed counts as OTHERS.
 OTHERS = 60
 SECONDS = {

@@ -1,0 +1,4 @@
+pub mod Ends
+pub mod Padding
+pub mod Symbols
+pub mod Tails

@@ -1,0 +1,10 @@
+use Rattle.std.proofs.Common.{◌≡◌, ◌++◌, length}
+use Rattle.base64.specs.GeneralPurpose.{encode_of}
+use Rattle.paseto_base64.specs.Alphabet.{engine}
+use Rattle.paseto_base64.proofs.encoding.encoded.Given as goal
+
+abbrev pub invariant-loop-rest : goal.invariant-loop-rest
+invariant-loop-rest l = l.text.items ++ encode_of (engine l.alphabet) l.rest ≡ encode_of (engine l.alphabet) l.bytes
+
+abbrev pub decreases-loop-rest : goal.decreases-loop-rest
+decreases-loop-rest l = length l.rest

@@ -1,0 +1,14 @@
+//! Base64 (RFC 4648, sections 4 and 5) of secrets, by arithmetic on each character: no address and no branch depends on
+//! a byte, or on a character but the padding. What is written is what the crate `base64` writes, and nothing else is read.
+#![tactic(auto)]
+
+mod alphabet;
+mod decoding;
+mod encoding;
+mod less;
+#[cfg(test)]
+mod tests;
+
+pub use alphabet::Alphabet;
+pub use decoding::decode;
+pub use encoding::encode;
