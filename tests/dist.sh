@@ -75,6 +75,6 @@ if tar -tzf one/*.crate | grep '/lib/libpaseto\.a$' >/dev/null; then pass; else 
 mkdir archive && tar -C archive -xzf one/*.tar.gz
 # Its pages are those of docs/site.sh, which tests/site.sh asks.
 bash "$root/docs/site.sh" "$work/site" >/dev/null
-if diff -r "$work/site" archive/*/share/doc/paseto/html >"$work/log" 2>&1; then pass; else fail "the pages of the archive: $(tail -n 3 "$work/log")"; fi
+if diff -rq "$work/site" archive/*/share/doc/paseto/html >"$work/log" 2>&1; then pass; else fail "the pages of the archive: $(tail -n 3 "$work/log")"; fi
 if [ "$(archive/*/bin/paseto --version)" = "paseto $(cat "$root/VERSION")" ]; then pass; else fail 'the program of the archive'; fi
 finish
