@@ -1,7 +1,7 @@
 #!/usr/bin/env bash
-# Makes what a release page holds, from what build.sh proved and built: an archive of programs, libraries, header, manual pages
-# and completions, Debian packages of the program and of the library, the wheel for Python, the crate for Rust with the library
-# in it, and their sums. The same build gives the same bytes.
+# Makes what a release page holds, from what build.sh proved and built: an archive of programs, libraries, header, manual
+# pages, completions, and the guides and the API in HTML; Debian packages of the program and of the library, the wheel for
+# Python, the crate for Rust with the library in it, and their sums. The same build gives the same bytes.
 #
 #   bash dist.sh [FOLDER [PREFIX]]
 #
@@ -95,6 +95,7 @@ archive=paseto-$version-x86_64-linux
 mkdir "$work/$archive"
 cp -a "$prefix/bin" "$prefix/lib" "$prefix/include" "$prefix/share" "$here/LICENSE" "$work/$archive"
 find "$work/$archive/bin" -type f ! -name paseto ! -name paseto_tool -delete
+bash "$here/docs/site.sh" "$work/$archive/share/doc/paseto/html" >/dev/null
 tar -C "$work" --sort=name --mtime="@$SOURCE_DATE_EPOCH" --owner=0 --group=0 --numeric-owner -cf - "$archive" |
     gzip -9n >"$folder/$archive.tar.gz"
 

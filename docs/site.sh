@@ -1,5 +1,5 @@
 #!/usr/bin/env bash
-# Makes pages of HTML of docs/api, with a search by name.
+# Makes pages of HTML of the guides and of docs/api, with one search over both. They need nothing else, and no network.
 #
 #   bash docs/site.sh [FOLDER]
 #

@@ -71,7 +71,10 @@ if cc -I "$fresh/usr/include" -o client client.c "$lib/libpaseto.a" 2>"$work/log
 if in_root --purge paseto libpaseto1 libpaseto-dev; then pass; else fail "dpkg --purge: $(tail -n 3 "$work/log")"; fi
 left=$(find "$fresh" -type f ! -path "$fresh/var/*")
 if [ -z "$left" ]; then pass; else fail "files that are left: $left"; fi
-if tar -tzf one/*.crate | grep -q '/lib/libpaseto\.a$'; then pass; else fail 'the crate for Rust has no library'; fi
+if tar -tzf one/*.crate | grep '/lib/libpaseto\.a$' >/dev/null; then pass; else fail 'the crate for Rust has no library'; fi
 mkdir archive && tar -C archive -xzf one/*.tar.gz
+# Its pages are those of docs/site.sh, which tests/site.sh asks.
+bash "$root/docs/site.sh" "$work/site" >/dev/null
+if diff -r "$work/site" archive/*/share/doc/paseto/html >"$work/log" 2>&1; then pass; else fail "the pages of the archive: $(tail -n 3 "$work/log")"; fi
 if [ "$(archive/*/bin/paseto --version)" = "paseto $(cat "$root/VERSION")" ]; then pass; else fail 'the program of the archive'; fi
 finish
