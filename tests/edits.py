@@ -7,6 +7,10 @@ reads what `rt ci` printed. `rt ci` passes an edit that no longer applies, and c
 because a proof names what the edit took away, or only by a limit of the prover; here each of these fails, and so does an
 edit that was not tried. tests/edits.txt says how many edits each crate has, so that none is lost.
 
+Before the first edit of a crate `rt ci` proves the crate once more. So the edits of crates with few of them stand in
+tests/edits/CRATE, where `rt ci` does not see them: their first line, `only:`, names the function or the module that each is
+in, and this script tries that alone, over the libraries that `rt ci` has built.
+
     python3 tests/edits.py --without-answers [--unedited] [CRATE/NAME..]
 
 tries edits without the written answers of the function that each is in, over the libraries that a check has built. A written
@@ -63,6 +67,12 @@ def edits():
     return [f"{file.split('/')[-3]}/{os.path.basename(file)}" for file in files]
 
 
+def apart():
+    """The names of the edits that are tried here, as CRATE/NAME."""
+    files = sorted(glob.glob(f"{ROOT}/tests/edits/*/*.edit"))
+    return [f"{file.split('/')[-2]}/{os.path.basename(file)}" for file in files]
+
+
 def counted():
     """How many edits each crate has, by tests/edits.txt."""
     with open(f"{ROOT}/tests/edits.txt", encoding="utf-8") as file:
@@ -85,10 +95,45 @@ def judge(report):
             yield f"{name}: {why}"
     for name in sorted(set(told) - set(there)):
         yield f"{name}: there is no such edit"
-    crates = [name.split("/")[0] for name in there]
+    crates = [name.split("/")[0] for name in [*there, *apart()]]
     for crate, number in sorted({**dict.fromkeys(crates, 0), **counted()}.items()):
         if crates.count(crate) != number:
             yield f"{crate} has {crates.count(crate)} edits, and not {number} as tests/edits.txt says"
+
+
+# ---- the edits of crates with few
+
+
+def refusal(ran):
+    """Why what a check said of an edit is no refusal at a goal, or None if it is one."""
+    told = [line for line in ran.stdout.split("\n") if re.match(r"(note: )?\S+:\d+:\d+:", line)]
+    names = re.compile(r"(note: )?(\./)?proofs/.*(has no field|is not in scope|has no `|was not admitted)")
+    if ran.returncode == 1 and any(not names.match(line) for line in told):
+        return None
+    if ran.returncode == 1 and told:
+        return LITTLE[NAMES]
+    return "it is proved with this edit" if ran.returncode == 0 else f"its check ended with status {ran.returncode}: {ran.stdout[-200:]}"
+
+
+def try_apart():
+    """Tries the edits of tests/edits, one after the other, and yields what is wrong."""
+    import prove
+
+    rt = prove.toolchain()
+    rt.rtlib.guarded()
+    for name in apart():
+        crate = prove.crates_of(rt, [name.split("/")[0]])[name.split("/")[0]]
+        with open(f"{ROOT}/tests/edits/{name}", encoding="utf-8") as file:
+            edit = file.read()
+        texts, why = rt.edited(edit, crate.folder)
+        only = re.match(r"only: (\S+)\n", edit)
+        if not why and only:
+            why = refusal(rt.checked(crate, texts, ["--jobs", "1", "--only", only[1]], None))
+        elif not why:
+            why = "its first line names no function"
+        print(f"{name}: {why or REFUSED}", flush=True)
+        if why:
+            yield f"{name}: {why}"
 
 
 # ---- without the written answers
@@ -158,11 +203,13 @@ def main():
         asked = words[1 + is_unedited :] or edits()
         wrong = list(without_answers(asked, is_unedited))
     elif len(words) == 1 and not words[0].startswith("-"):
-        asked = edits()
+        asked = [*edits(), *apart()]
         with open(words[0], encoding="utf-8", errors="replace") as file:
-            wrong = list(judge(file.read()))
+            wrong = [*judge(file.read()), *try_apart()]
+    elif words == ["--apart"]:
+        asked, wrong = apart(), list(try_apart())
     else:
-        sys.exit("usage: tests/edits.py REPORT | --without-answers [--unedited] [CRATE/NAME..]")
+        sys.exit("usage: tests/edits.py REPORT | --apart | --without-answers [--unedited] [CRATE/NAME..]")
     for it in wrong:
         print(f"FAILED: {it}")
     print(f"{len(asked) - min(len(wrong), len(asked))} passed, {len(wrong)} failed")

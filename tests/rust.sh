@@ -64,7 +64,8 @@ cat >"$work/python" <<END
 PYTHONPATH=$root/bindings/python/src PASETO_LIBRARY=$prefix/lib/libpaseto.so.1 PYTHONDONTWRITEBYTECODE=1 exec python3 "\$@"
 END
 chmod +x "$work/python"
-PASETO_PROGRAM=${PASETO_PROGRAM:-$prefix/bin/paseto} PASETO_CLIENT=$work/both_ways PASETO_PYTHON=$work/python \
+if [ -x "$prefix/bin/paseto" ]; then export PASETO_PROGRAM=$prefix/bin/paseto; else fail "there is no $prefix/bin/paseto: build.sh makes it"; fi
+PASETO_CLIENT=$work/both_ways PASETO_PYTHON=$work/python \
     tested 'tokens both ways' 1 cargo test --test both_ways --no-fail-fast -- --ignored
 
 # A system that gives no random bytes.
@@ -98,8 +99,9 @@ searched() {
 }
 mkdir "$work/copy" && cp -R Cargo.toml build.rs README.md src examples "$work/copy"
 none=PKG_CONFIG_LIBDIR=$work/none
+mkdir "$work/pkgconfig" && sed "s|^prefix=.*|prefix=$prefix|" "$prefix/lib/pkgconfig/paseto.pc" >"$work/pkgconfig/paseto.pc"
 mkdir -p "$work/fast/x86-64-v3" && cp "$prefix/lib/libpaseto.a" "$work/fast" && cp "$prefix/lib/libpaseto.a" "$work/fast/x86-64-v3"
-is 'by pkg-config' "$(searched -u PASETO_LIB_DIR PKG_CONFIG_PATH="$prefix/lib/pkgconfig")" "$prefix/lib"
+is 'by pkg-config' "$(searched -u PASETO_LIB_DIR PKG_CONFIG_PATH="$work/pkgconfig")" "$prefix/lib"
 is 'by PASETO_LIB_DIR' "$(searched PASETO_LIB_DIR="$work/fast")" "$work/fast"
 is 'for x86-64-v3' "$(searched PASETO_LIB_DIR="$work/fast" RUSTFLAGS='-C target-cpu=x86-64-v3')" "$work/fast/x86-64-v3"
 is 'for x86-64-v3 without such a library' "$(searched RUSTFLAGS='-C target-cpu=x86-64-v3')" "$prefix/lib"

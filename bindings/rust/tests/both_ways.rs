@@ -11,17 +11,24 @@ use paseto_proved::keys::KeyPair;
 use paseto_proved::prelude::*;
 use std::env::var;
 use std::error::Error;
-use std::process::Command;
+use std::io::{BufRead, BufReader, Write};
+use std::process::{Child, Command, Stdio};
 use std::time::{SystemTime, UNIX_EPOCH};
 
 // How often a token is made again, where its second was over before it was checked.
 const TURNS: usize = 200;
 
+// Answers lines of JSON, so that a token waits for no start of Python.
 const PYTHON: &str = "
-import sys, paseto
-call, text, *token = sys.argv[1:]
-key = paseto.Key.from_text(text)
-print(paseto.issue(key, {'sub': 'ada'}) if call == 'make' else paseto.admit(token[0], key)['sub'])
+import json, sys, paseto
+for line in sys.stdin:
+    call, text, token = json.loads(line)
+    key = paseto.Key.from_text(text)
+    try:
+        answer = paseto.issue(key, {'sub': 'ada'}) if call == 'make' else paseto.admit(token, key)['sub']
+    except paseto.PasetoError as fault:
+        answer = f'refused: {fault}'
+    print(answer, flush=True)
 ";
 
 // A kind of tokens: its name, and the texts and the bytes of the keys that make and read them.
@@ -44,56 +51,93 @@ fn told(command: &mut Command) -> Result<String, Box<dyn Error>> {
     Ok(String::from_utf8(output.stdout)?.trim_end().to_owned())
 }
 
-// The three others, which make a token of the subject ada, or say the subject of one.
-const OTHERS: [&str; 3] = ["program", "C", "Python"];
+// One of the three others, which make a token of the subject ada, or say the subject of one.
+enum Other {
+    Program(String),
+    C(String),
+    Python(Child),
+}
 
-fn made_by(other: &str, kind: &Kind) -> Result<String, Box<dyn Error>> {
-    match other {
-        "program" => told(
-            Command::new(var("PASETO_PROGRAM")?)
-                .env("PASETO_KEY", &kind.making.0)
-                .args(["issue", "--claim", "sub=ada"]),
-        ),
-        "C" => told(Command::new(var("PASETO_CLIENT")?).args([
-            "make",
-            kind.name,
-            &hex(&kind.making.1),
-        ])),
-        _ => told(Command::new(var("PASETO_PYTHON")?).args(["-c", PYTHON, "make", &kind.making.0])),
+// Those that the environment names.
+fn others() -> Result<Vec<Other>, Box<dyn Error>> {
+    let mut others: Vec<Other> = Vec::new();
+    others.extend(var("PASETO_PROGRAM").ok().map(Other::Program));
+    others.extend(var("PASETO_CLIENT").ok().map(Other::C));
+    if let Ok(python) = var("PASETO_PYTHON") {
+        let mut command = Command::new(python);
+        command
+            .args(["-c", PYTHON])
+            .stdin(Stdio::piped())
+            .stdout(Stdio::piped());
+        others.push(Other::Python(command.spawn()?));
+    }
+    Ok(others)
+}
+
+impl Other {
+    fn name(&self) -> &'static str {
+        match self {
+            Other::Program(_) => "the program",
+            Other::C(_) => "C",
+            Other::Python(_) => "Python",
+        }
+    }
+
+    fn make(&mut self, kind: &Kind) -> Result<String, Box<dyn Error>> {
+        match self {
+            Other::Program(program) => told(
+                Command::new(program)
+                    .env("PASETO_KEY", &kind.making.0)
+                    .args(["issue", "--claim", "sub=ada"]),
+            ),
+            Other::C(client) => {
+                told(Command::new(client).args(["make", kind.name, &hex(&kind.making.1)]))
+            }
+            Other::Python(python) => answered(python, ["make", &kind.making.0, ""]),
+        }
+    }
+
+    fn read(&mut self, kind: &Kind, token: &str) -> Result<String, Box<dyn Error>> {
+        match self {
+            Other::Program(program) => {
+                let file = std::env::temp_dir().join(format!(
+                    "both-ways-{}-{}",
+                    std::process::id(),
+                    kind.name
+                ));
+                std::fs::write(&file, token)?;
+                let mut command = Command::new(program);
+                command
+                    .env("PASETO_KEY", &kind.reading.0)
+                    .args(["check", "--claim", "sub=ada"])
+                    .arg(&file);
+                let claims = told(&mut command);
+                std::fs::remove_file(&file)?;
+                claims
+            }
+            Other::C(client) => {
+                told(Command::new(client).args(["read", kind.name, &hex(&kind.reading.1), token]))
+            }
+            Other::Python(python) => answered(python, ["read", &kind.reading.0, token]),
+        }
     }
 }
 
-fn read_by(other: &str, kind: &Kind, token: &str) -> Result<String, Box<dyn Error>> {
-    match other {
-        "program" => {
-            let file = std::env::temp_dir().join(format!(
-                "both-ways-{}-{}",
-                std::process::id(),
-                kind.name
-            ));
-            std::fs::write(&file, token)?;
-            let command = told(
-                Command::new(var("PASETO_PROGRAM")?)
-                    .env("PASETO_KEY", &kind.reading.0)
-                    .args(["check", "--claim", "sub=ada"])
-                    .arg(&file),
-            );
-            std::fs::remove_file(&file)?;
-            Ok(command?)
-        }
-        "C" => told(Command::new(var("PASETO_CLIENT")?).args([
-            "read",
-            kind.name,
-            &hex(&kind.reading.1),
-            token,
-        ])),
-        _ => told(Command::new(var("PASETO_PYTHON")?).args([
-            "-c",
-            PYTHON,
-            "read",
-            &kind.reading.0,
-            token,
-        ])),
+// The line that Python answers to a line.
+fn answered(python: &mut Child, words: [&str; 3]) -> Result<String, Box<dyn Error>> {
+    let question = serde_json::to_string(&words)? + "\n";
+    python
+        .stdin
+        .as_mut()
+        .ok_or("no input")?
+        .write_all(question.as_bytes())?;
+    let mut answer = String::new();
+    // No byte is behind the line, so that a reader for one line loses none.
+    BufReader::new(python.stdout.as_mut().ok_or("no output")?).read_line(&mut answer)?;
+    match answer.trim_end() {
+        "" => Err("it has ended".into()),
+        refused if refused.starts_with("refused: ") => Err(refused.into()),
+        answer => Ok(answer.to_owned()),
     }
 }
 
@@ -101,14 +145,18 @@ fn second() -> Result<u64, Box<dyn Error>> {
     Ok(SystemTime::now().duration_since(UNIX_EPOCH)?.as_secs())
 }
 
+type Answer = Result<String, Box<dyn Error>>;
+
 // Makes and reads tokens until one was made and read within one second, and each must be taken.
 fn within_a_second(
-    make: impl Fn() -> Result<String, Box<dyn Error>>,
-    read: impl Fn(&str) -> Result<String, Box<dyn Error>>,
+    other: &mut Other,
+    make: impl Fn(&mut Other) -> Answer,
+    read: impl Fn(&mut Other, &str) -> Answer,
 ) -> Outcome {
     for _ in 0..TURNS {
         let begun = second()?;
-        let subject = read(&make()?)?;
+        let token = make(other)?;
+        let subject = read(other, &token)?;
         assert!(subject.contains("ada"), "{subject}");
         if second()? == begun {
             return Ok(());
@@ -117,17 +165,23 @@ fn within_a_second(
     Err("no token was made and read within one second".into())
 }
 
-fn both_ways(
-    kind: &Kind,
-    make: impl Fn() -> Result<String, Box<dyn Error>>,
-    read: impl Fn(&str) -> Result<String, Box<dyn Error>>,
-) -> Outcome {
-    for other in OTHERS {
+fn both_ways(kind: &Kind, make: impl Fn() -> Answer, read: impl Fn(&str) -> Answer) -> Outcome {
+    for mut other in others()? {
+        let name = other.name();
         let failed =
-            |way: &str, fault: Box<dyn Error>| format!("{} {way} {other}: {fault}", kind.name);
-        within_a_second(&make, |token| read_by(other, kind, token))
-            .map_err(|fault| failed("to", fault))?;
-        within_a_second(|| made_by(other, kind), &read).map_err(|fault| failed("from", fault))?;
+            |way: &str, fault: Box<dyn Error>| format!("{} {way} {name}: {fault}", kind.name);
+        within_a_second(
+            &mut other,
+            |_| make(),
+            |other, token| other.read(kind, token),
+        )
+        .map_err(|fault| failed("to", fault))?;
+        within_a_second(&mut other, |other| other.make(kind), |_, token| read(token))
+            .map_err(|fault| failed("from", fault))?;
+        if let Other::Python(mut python) = other {
+            drop(python.stdin.take());
+            python.wait()?;
+        }
     }
     Ok(())
 }

@@ -9,7 +9,7 @@ use crate::generic::{
     PasetoClaimError,
 };
 use crate::library::{self, Fault, Parts, Version};
-use crate::moment::this_second;
+use crate::moment::last_second;
 use std::collections::HashSet;
 use std::marker::PhantomData;
 use time::format_description::well_known::Rfc3339;
@@ -145,7 +145,7 @@ impl<Version, Purpose> Default for PasetoBuilder<'_, Version, Purpose> {
             keys: HashSet::new(),
             twice: None,
             never_expires: false,
-            moment: this_second().saturating_sub(1),
+            moment: last_second(),
         }
     }
 }
