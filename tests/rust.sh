@@ -30,7 +30,11 @@ cd "$root/bindings/rust" || exit 1
 asked() {
     local name=$1
     shift
-    if "$@" >"$work/log" 2>&1 && ! grep -q '^warning' "$work/log"; then pass; else fail "$name: $(tail -n 20 "$work/log")"; fi
+    if "$@" >"$work/log" 2>&1 && ! grep -q '^warning' "$work/log"; then
+        pass
+    else
+        fail "$name: $(grep -E -A 4 'FAILED|panicked|^error|^warning|^Error' "$work/log" | head -n 30)"
+    fi
 }
 
 # tested NAME KINDS COMMAND..: as many kinds of tests as said, each test counted.

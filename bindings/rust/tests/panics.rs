@@ -3,23 +3,30 @@
 use paseto_proved::prelude::*;
 use serde::{Serialize, Serializer};
 use std::alloc::{GlobalAlloc, Layout, System};
+use std::cell::Cell;
 use std::error::Error;
 use std::panic::{catch_unwind, set_hook, AssertUnwindSafe};
-use std::sync::atomic::{AtomicIsize, Ordering};
 
-static LIVE: AtomicIsize = AtomicIsize::new(0);
+thread_local! {
+    static LIVE: Cell<isize> = const { Cell::new(0) };
+}
 
-// Counts the bytes that are allocated and not freed.
+// Counts the bytes that this thread has allocated and not freed; the thread that runs the tests has others.
 struct Counting;
+
+fn count(change: isize) {
+    // A thread that ends has no counter left.
+    let _ = LIVE.try_with(|live| live.set(live.get() + change));
+}
 
 unsafe impl GlobalAlloc for Counting {
     unsafe fn alloc(&self, layout: Layout) -> *mut u8 {
-        LIVE.fetch_add(layout.size() as isize, Ordering::SeqCst);
+        count(layout.size() as isize);
         System.alloc(layout)
     }
 
     unsafe fn dealloc(&self, bytes: *mut u8, layout: Layout) {
-        LIVE.fetch_sub(layout.size() as isize, Ordering::SeqCst);
+        count(-(layout.size() as isize));
         System.dealloc(bytes, layout)
     }
 }
@@ -52,7 +59,7 @@ fn round() -> Result<(), Box<dyn Error>> {
     let token = builder.build(&key)?;
 
     let kept = "what the closure holds".repeat(100);
-    let is_kind = std::cell::Cell::new(false);
+    let is_kind = Cell::new(false);
     let closure = |_: &str, _: &serde_json::Value| match is_kind.get() {
         true => Ok(()),
         false => panic!("{kept}"),
@@ -70,10 +77,10 @@ fn round() -> Result<(), Box<dyn Error>> {
 fn a_panic_leaves_no_lock_and_no_leak() -> Result<(), Box<dyn Error>> {
     set_hook(Box::new(|_| {}));
     round()?;
-    let before = LIVE.load(Ordering::SeqCst);
+    let before = LIVE.with(Cell::get);
     for _ in 0..100 {
         round()?;
     }
-    assert_eq!(LIVE.load(Ordering::SeqCst), before);
+    assert_eq!(LIVE.with(Cell::get), before);
     Ok(())
 }
