@@ -11,6 +11,10 @@ Before the first edit of a crate `rt ci` proves the crate once more. So the edit
 tests/edits/CRATE, where `rt ci` does not see them: their first line, `only:`, names the function or the module that each is
 in, and this script tries that alone, over the libraries that `rt ci` has built.
 
+    python3 tests/edits.py --apart [CRATE/NAME..]
+
+tries these edits alone, or some of them.
+
     python3 tests/edits.py --without-answers [--unedited] [CRATE/NAME..]
 
 tries edits without the written answers of the function that each is in, over the libraries that a check has built. A written
@@ -115,13 +119,13 @@ def refusal(ran):
     return "it is proved with this edit" if ran.returncode == 0 else f"its check ended with status {ran.returncode}: {ran.stdout[-200:]}"
 
 
-def try_apart():
-    """Tries the edits of tests/edits, one after the other, and yields what is wrong."""
+def try_apart(names):
+    """Tries these edits of tests/edits, one after the other, and yields what is wrong."""
     import prove
 
     rt = prove.toolchain()
     rt.rtlib.guarded()
-    for name in apart():
+    for name in names:
         crate = prove.crates_of(rt, [name.split("/")[0]])[name.split("/")[0]]
         with open(f"{ROOT}/tests/edits/{name}", encoding="utf-8") as file:
             edit = file.read()
@@ -205,11 +209,12 @@ def main():
     elif len(words) == 1 and not words[0].startswith("-"):
         asked = [*edits(), *apart()]
         with open(words[0], encoding="utf-8", errors="replace") as file:
-            wrong = [*judge(file.read()), *try_apart()]
-    elif words == ["--apart"]:
-        asked, wrong = apart(), list(try_apart())
+            wrong = [*judge(file.read()), *try_apart(apart())]
+    elif words[:1] == ["--apart"]:
+        asked = words[1:] or apart()
+        wrong = list(try_apart(asked))
     else:
-        sys.exit("usage: tests/edits.py REPORT | --apart | --without-answers [--unedited] [CRATE/NAME..]")
+        sys.exit("usage: tests/edits.py REPORT | --apart [CRATE/NAME..] | --without-answers [--unedited] [CRATE/NAME..]")
     for it in wrong:
         print(f"FAILED: {it}")
     print(f"{len(asked) - min(len(wrong), len(asked))} passed, {len(wrong)} failed")
