@@ -129,6 +129,10 @@ def try_apart(names):
         crate = prove.crates_of(rt, [name.split("/")[0]])[name.split("/")[0]]
         with open(f"{ROOT}/tests/edits/{name}", encoding="utf-8") as file:
             edit = file.read()
+        # `rt ci` leaves them, and a run by hand may begin without.
+        lost = [it.name for it in crate.below() if not os.path.isdir(it.rlib)]
+        if lost:
+            subprocess.run([sys.executable, f"{ROOT}/tools/prove.py", *lost], check=False)
         texts, why = rt.edited(edit, crate.folder)
         only = re.match(r"only: (\S+)\n", edit)
         if not why and only:
