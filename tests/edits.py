@@ -105,6 +105,14 @@ def judge(report):
             yield f"{crate} has {crates.count(crate)} edits, and not {number} as tests/edits.txt says"
 
 
+def loaded(prove, rt, name, path):
+    """The crate of an edit, the edit's text, and the texts that it makes of the crate's files, or why it makes none."""
+    crate = prove.crates_of(rt, [name.split("/")[0]])[name.split("/")[0]]
+    with open(f"{ROOT}/{path}", encoding="utf-8") as file:
+        edit = file.read()
+    return (crate, edit, *rt.edited(edit, crate.folder))
+
+
 # ---- the edits of crates with few
 
 
@@ -126,14 +134,11 @@ def try_apart(names):
     rt = prove.toolchain()
     rt.rtlib.guarded()
     for name in names:
-        crate = prove.crates_of(rt, [name.split("/")[0]])[name.split("/")[0]]
-        with open(f"{ROOT}/tests/edits/{name}", encoding="utf-8") as file:
-            edit = file.read()
+        crate, edit, texts, why = loaded(prove, rt, name, f"tests/edits/{name}")
         # `rt ci` leaves them, and a run by hand may begin without.
         lost = [it.name for it in crate.below() if not os.path.isdir(it.rlib)]
         if lost:
             subprocess.run([sys.executable, f"{ROOT}/tools/prove.py", *lost], check=False)
-        texts, why = rt.edited(edit, crate.folder)
         only = re.match(r"only: (\S+)\n", edit)
         if not why and only:
             why = refusal(rt.checked(crate, texts, ["--jobs", "1", "--only", only[1]], None))
@@ -190,10 +195,7 @@ def without_answers(names, is_unedited):
     rt = prove.toolchain()
     rt.rtlib.guarded()
     for name in names:
-        crate = prove.crates_of(rt, [name.split("/")[0]])[name.split("/")[0]]
-        with open(f"{crate.folder}/must-fail/{name.split('/')[1]}", encoding="utf-8") as file:
-            edit = file.read()
-        texts, why = rt.edited(edit, crate.folder)
+        crate, edit, texts, why = loaded(prove, rt, name, f"crates/{name.replace('/', '/must-fail/')}")
         if why:
             yield f"{name}: {why}"
             continue
