@@ -23,6 +23,8 @@ import api  # noqa: E402
 PAGES = f"{ROOT}/docs/api"
 # The crates of benchmarks and of tests that define nothing of their own.
 LEFT_OUT = {"bench_calls", "test_bench", "test_cases", "test_doc_examples", "test_memory", "test_vectors"}
+# The libraries that one program alone uses: what their functions promise is what the program does.
+OF_PROGRAMS = {"paseto_tasks", "paseto_words"}
 # What begins a definition of specs/, and its name. What is lemma and no definition has none of these words.
 DEFINITION = re.compile(r"(?:abbrev pub|unfoldable pub|pub record|pub data) ([^\s:({]+)")
 USE = re.compile(r"^(?:ghost )?(?:pub )?use Rattle\.(\w+)\.specs\.([\w.]+)\.\{([^}]*)\}", re.M)
@@ -252,7 +254,7 @@ def file_promises(path, is_shown):
 def exported(crate):
     """What a crate shows: the names, and the modules whose public items it shows. A program shows its functions."""
     path = f"{ROOT}/crates/{crate}/src/lib.rt"
-    if not os.path.exists(path):
+    if crate in OF_PROGRAMS or not os.path.exists(path):
         return None, []
     text = read(path)
     names = set()
@@ -262,10 +264,10 @@ def exported(crate):
 
 
 def names_in(path, is_program):
-    """The names of a file's public items, and in the root file of a program of all its functions."""
+    """The names of a file's public items, and in a program of all its functions."""
     lines = read(path).split("\n")
     found = [re.match(r'pub (?:const )?(?:extern "C" )?(?:fn|trait|struct|enum) (\w+)', line) for line in lines]
-    found += [FUNCTION.match(line) for line in lines] if is_program and path.endswith("/main.rt") else []
+    found += [FUNCTION.match(line) for line in lines] if is_program else []
     return {it[1] for it in found if it}
 
 
@@ -325,7 +327,46 @@ def promises_page(crate, addresses):
             lines += [part, ""]
         lines += ["```text", *promise.contract, "```", ""]
         lines += [f"{f'Terms: {named}. ' if named else ''}In `{promise.source}`.", ""]
-    return re.sub(r"\n{3,}", "\n\n", "\n".join(lines)).rstrip() + "\n"
+    return re.sub(r"\n{3,}", "\n\n", "\n".join(lines + edit_lines(crate))).rstrip() + "\n"
+
+
+# ---- must-fail edits
+
+
+def edits(crate="*"):
+    """The files of the must-fail edits, by their names."""
+    files = glob.glob(f"{ROOT}/crates/{crate}/must-fail/*.edit") + glob.glob(f"{ROOT}/tests/edits/{crate}/*.edit")
+    return {os.path.basename(file).removesuffix(".edit"): file for file in sorted(files, key=os.path.basename)}
+
+
+def function_around(crate, source, old):
+    """The function in which a text of a source file stands."""
+    lines = read(f"{ROOT}/crates/{crate}/{source}").split("\n")
+    at = next((number for number, line in enumerate(lines) if old.strip() in line), 0)
+    heads = [re.match(r" *(?:pub(?:\(crate\))? )?(?:final )?(?:const )?fn (\w+)", line) for line in lines[: at + 1]]
+    found = [it[1] for it in heads if it]
+    return f"`{found[-1]}` of `{source}`" if found else f"`{source}`"
+
+
+def edit_lines(crate):
+    """The lines of the crate's must-fail edits: where each is, and what it changes."""
+    lines = []
+    for name, path in edits(crate).items():
+        source, places, changes = "", [], []
+        for line in read(path).split("\n"):
+            kind, _, text = line.partition(": ")
+            if kind == "file":
+                source = text
+            elif source.startswith("proofs/"):
+                continue
+            elif kind == "old":
+                places.append(function_around(crate, source, text))
+                changes.append(f"- {text.strip()}")
+            elif kind == "new":
+                changes.append(f"+ {text.strip()}")
+        lines += [f"### `{name}`", "", f"In {', '.join(dict.fromkeys(places))}.", "", "```text", *changes, "```", ""]
+    head = ["## Must-fail edits", "", "Planted mistakes, each of which the prover must refuse (docs/PROMISES.md says which promise it breaks).", ""]
+    return head + lines if lines else []
 
 
 # ---- all pages
@@ -356,12 +397,6 @@ def pages():
         names = [crate for crate in crates() if f"{kind}/{crate}.md" in made]
         made[f"{kind}/README.md"] = index(title, what, names)
     return made
-
-
-def edits():
-    """The names of the must-fail edits."""
-    files = glob.glob(f"{ROOT}/crates/*/must-fail/*.edit") + glob.glob(f"{ROOT}/tests/edits/*/*.edit")
-    return sorted(os.path.basename(file).removesuffix(".edit") for file in files)
 
 
 def cells(text):
