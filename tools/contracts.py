@@ -94,10 +94,20 @@ def spec_files(crate):
     return {os.path.relpath(path, folder).removesuffix(".antt"): path for path in files}
 
 
+def without_modules(text):
+    """The lines of a file of specs/, where what stands in a module with parameters is moved to the margin, below a
+    heading that names them."""
+    is_inside = False
+    for line in text.split("\n"):
+        module = re.match(r"module _ (.*) where$", line)
+        is_inside = bool(module) or is_inside and (line.startswith("  ") or not line)
+        yield f"-- ---- for every {module[1]}" if module else line[2:] if is_inside else line
+
+
 def read_definitions(text):
     """What a file of specs/ says first, and its parts: a heading as a text, or definitions under one comment."""
     head, parts, comment, group = [], [], [], None
-    for line in text.split("\n"):
+    for line in without_modules(text):
         found = DEFINITION.match(line)
         if line.startswith("-- ---- "):
             parts.append(line[8:].strip())
