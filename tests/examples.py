@@ -82,7 +82,8 @@ def in_guides():
     for guide in GUIDES:
         for number, lines in paragraphs(guide):
             file = found([line.strip() for line in lines], texts)
-            yield f"{guide}:{number}: {file.relative_to(CRATES) if file else 'it stands in no proved file'}", file is not None
+            place = file.relative_to(CRATES) if file else "it stands in no proved file"
+            yield f"{guide}:{number}: {place}", file is not None
 
 
 def main():

@@ -4,11 +4,11 @@
     python3 tools/contracts.py            writes the pages
     python3 tools/contracts.py --check    compares them with what would be written, and changes nothing
 
-A page of definitions has each definition of the crate's specs/: its comment, and the definition itself. A page of promises
-has each public call that has a contract: what its doc comment says first, its signature with the contract, and links to the
-definitions that the contract names. With --check a line tells each page. Then it looks at docs/PROMISES.md: each must-fail
-edit has to be named there, and each function that a table names under `Contract` has to stand on a page of promises. The last
-line is 'N passed, M failed', and the status is 0 where none failed.
+A page of definitions has each definition of the crate's specs/: its comment, and the definition itself. A page of
+promises has each public call that has a contract: what its doc comment says first, its signature with the contract, and
+links to the definitions that the contract names; and the crate's must-fail edits. With --check a line tells each page.
+Then it looks at docs/PROMISES.md: each must-fail edit has to be named there, and what its tables name under `Contract` and
+`Tests` has to be there. The last line is 'N passed, M failed', and the status is 0 where none failed.
 """
 import glob
 import os
@@ -32,6 +32,10 @@ FUNCTION = re.compile(r"(?:pub )?(?:final )?(?:const )?(?:extern \"C\" )?fn (\w+
 CONTRACT = re.compile(r"\s*(requires|ensures|decreases)\b")
 # A definition of more lines is shown up to there; the rest of one that is longer is a table.
 MOST_LINES = 40
+INDEXES = {
+    "definitions": ("The definitions", "What the contracts mean, a page for each crate ([how to read them](../../DEFINITIONS.md))."),
+    "promises": ("The promises", "What is proved of each public call, a page for each crate ([the main ones](../../PROMISES.md))."),
+}
 
 
 class Definition:
@@ -375,8 +379,8 @@ def edit_lines(crate):
             elif kind == "new":
                 changes.append(f"+ {text.strip()}")
         lines += [f"### `{name}`", "", f"In {', '.join(dict.fromkeys(places))}.", "", "```text", *changes, "```", ""]
-    head = ["## Must-fail edits", "", "Planted mistakes, each of which the prover must refuse (docs/PROMISES.md says which promise it breaks).", ""]
-    return head + lines if lines else []
+    about_them = "Planted mistakes, each of which the prover must refuse; docs/PROMISES.md says which promise it breaks."
+    return ["## Must-fail edits", "", about_them, "", *lines] if lines else []
 
 
 # ---- all pages
@@ -400,10 +404,7 @@ def pages():
         text = promises_page(crate, addresses)
         if text:
             made[f"promises/{crate}.md"] = text
-    for kind, title, what in (
-        ("definitions", "The definitions", "What the contracts mean, a page for each crate; docs/DEFINITIONS.md says how to read them."),
-        ("promises", "The promises", "What is proved of each public call, a page for each crate; docs/PROMISES.md has the main ones in words."),
-    ):
+    for kind, (title, what) in INDEXES.items():
         names = [crate for crate in crates() if f"{kind}/{crate}.md" in made]
         made[f"{kind}/README.md"] = index(title, what, names)
     return made
