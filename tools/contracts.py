@@ -105,7 +105,7 @@ def without_modules(text):
     for line in text.split("\n"):
         module = re.match(r"module _ (.*) where$", line)
         is_inside = bool(module) or is_inside and (line.startswith("  ") or not line)
-        yield f"-- ---- for every {module[1]}" if module else line[2:] if is_inside else line
+        yield f"-- ---- for every `{module[1]}`" if module else line[2:] if is_inside else line
 
 
 def read_definitions(text):
@@ -141,7 +141,7 @@ def definition_lines(parts):
     lines = []
     for part in parts:
         if isinstance(part, str):
-            lines += [f"**{sentence([part])}**", ""]
+            lines += [f"**{part[0].upper()}{part[1:]}**", ""]
             continue
         lines += [f"### {', '.join(f'`{name}`' for name in part.names)}", ""]
         lines += [sentence(part.comment), ""] if part.comment else []
