@@ -349,36 +349,24 @@ def promises_page(crate, addresses):
 
 def edits(crate="*"):
     """The files of the must-fail edits, by their names."""
-    files = glob.glob(f"{ROOT}/crates/{crate}/must-fail/*.edit") + glob.glob(f"{ROOT}/tests/edits/{crate}/*.edit")
+    files = glob.glob(f"{ROOT}/tests/edits/{crate}/*.edit")
     return {os.path.basename(file).removesuffix(".edit"): file for file in sorted(files, key=os.path.basename)}
 
 
-def function_around(crate, source, old):
-    """The function in which a text of a source file stands."""
-    lines = read(f"{ROOT}/crates/{crate}/{source}").split("\n")
-    at = next((number for number, line in enumerate(lines) if old.strip() in line), 0)
-    heads = [re.match(r" *(?:pub(?:\(crate\))? )?(?:final )?(?:const )?fn (\w+)", line) for line in lines[: at + 1]]
-    found = [it[1] for it in heads if it]
-    return f"`{found[-1]}` of `{source}`" if found else f"`{source}`"
-
-
 def edit_lines(crate):
-    """The lines of the crate's must-fail edits: where each is, and what it changes."""
+    """The lines of the crate's must-fail edits: the function that each is in, and what it changes in the source."""
     lines = []
     for name, path in edits(crate).items():
-        source, places, changes = "", [], []
+        function, source, changes = "", "", []
         for line in read(path).split("\n"):
             kind, _, text = line.partition(": ")
-            if kind == "file":
+            if kind == "only":
+                function = text
+            elif kind == "file":
                 source = text
-            elif source.startswith("proofs/"):
-                continue
-            elif kind == "old":
-                places.append(function_around(crate, source, text))
-                changes.append(f"- {text.strip()}")
-            elif kind == "new":
-                changes.append(f"+ {text.strip()}")
-        lines += [f"### `{name}`", "", f"In {', '.join(dict.fromkeys(places))}.", "", "```text", *changes, "```", ""]
+            elif kind in ("old", "new") and source.startswith("src/"):
+                changes.append(f"{'-' if kind == 'old' else '+'} {text.strip()}")
+        lines += [f"### `{name}`", "", f"In `{function}`.", "", "```text", *changes, "```", ""]
     about_them = "Planted mistakes, each of which the prover must refuse; docs/PROMISES.md says which promise it breaks."
     return ["## Must-fail edits", "", about_them, "", *lines] if lines else []
 
