@@ -6,8 +6,8 @@ src/, and begins with its `use` lines; each that it opens by ```text, in one fil
 test of test_cases in place of it. A block in C is no code of a crate.
 
 In README, docs/GUIDE.md and docs/SCHEMES.md each paragraph of a block that ```rust opens stands so in one file of
-paseto_example or test_doc_examples, but for its indentation. The program for the crate for Rust, which has a `main`, is
-run by tests/rust.sh.
+paseto_example or test_doc_examples, but for its indentation. Each other block of README is run by a script, which takes
+it from there by tests/readme.py.
 
 One line tells each example; the last line is 'N passed, M failed', and the status is 0 where none failed.
 """
@@ -21,6 +21,15 @@ ROOT = pathlib.Path(__file__).resolve().parent.parent
 CRATES = ROOT / "crates"
 PROVED = "test_doc_examples"
 GUIDES = ["README.md", "docs/GUIDE.md", "docs/SCHEMES.md"]
+# The other blocks of README: their languages, words of them, and the scripts that run them.
+RUN = [
+    ("sh", "keygen", "tests/paseto.sh"),
+    ("python", "import paseto", "tests/python.sh"),
+    ("rust", "fn main", "tests/rust.sh"),
+    ("c", "#include <paseto.h>", "tests/c_library.sh"),
+    ("sh", "first.c", "tests/c_library.sh"),
+    ("sh", "bash .ci/run", None),
+]
 # The example that hands a boxed validator out, which the gate takes in tests alone.
 TESTED = CRATES / "test_cases/src/defaults/at_most.rt"
 COMMENT = re.compile(r"\s*//[/!] ?(.*)")
@@ -86,6 +95,19 @@ def in_guides():
             yield f"{guide}:{number}: {place}", file is not None
 
 
+def in_readme():
+    """Whether each block of README is Rattle, or is run by a script."""
+    text = (ROOT / "README.md").read_text(encoding="utf-8")
+    for block in re.finditer(r"^```(\w*)\n(.*?)^```$", text, re.M | re.S):
+        number = text.count("\n", 0, block.start()) + 1
+        script = next((run for run in RUN if run[0] == block[1] and run[1] in block[2]), None)
+        if script is None and block[1] == "rust":
+            continue
+        taken = script and script[2] and (ROOT / script[2]).read_text(encoding="utf-8")
+        is_run = script is not None and (taken is None or f'readme.py" {block[1]}' in taken)
+        yield f"README.md:{number}: {(script[2] or 'the gate') if is_run else 'no script runs it'}", is_run
+
+
 def main():
     files = {"rust": proved("src", ".rt"), "text": proved("specs", ".antt")}
     passed, failed, named = 0, 0, set()
@@ -102,7 +124,7 @@ def main():
         if file not in named and file.name not in ("main.rt", "everyday.rt", "Lib.antt"):
             print(f"{file}: it is the example of no doc comment")
             failed += 1
-    for line, is_there in in_guides():
+    for line, is_there in [*in_guides(), *in_readme()]:
         print(line)
         passed, failed = passed + is_there, failed + (not is_there)
     print(f"{passed} passed, {failed} failed")
