@@ -179,7 +179,8 @@ def page_of(crate):
     for path in sources(crate):
         read_file(path, items, methods)
     names, modules = exports(root, crate)
-    lines = [f"# {crate}", "", *sections(about, 1), ""]
+    proved = f"The contracts of these calls: [promises](promises/{crate}.md), and [what their terms mean](definitions/{crate}.md)."
+    lines = [f"# {crate}", "", *sections(about, 1), "", proved, ""]
     for name in sorted(set(names), key=str.lower):
         if name in items:
             lines += written(items[name], methods)
