@@ -32,6 +32,7 @@ table { border-collapse: collapse }
 td, th { border: 1px solid #ddd; padding: .2rem .5rem; text-align: left; vertical-align: top }
 img { max-width: 100% }
 h2, h3 { border-top: 1px solid #eee; padding-top: .6rem }
+h2 code, h3 code { font-size: 18px }
 a { color: #05a }
 """
 # A heading with all words of the search in its name comes before one with some of them only in its text.
@@ -233,7 +234,8 @@ def main():
     sections = [section for page in pages for section in page.sections()]
     with open(f"{folder}/search.js", "w", encoding="utf-8") as file:
         file.write(f"const SECTIONS = {json.dumps(sections, ensure_ascii=False)};{SEARCH}")
-    links = [f'<a href="{address_of(path)}">{name_of(path)}</a>' for path in [*guides, *(f"{it}/README.md" for it in ("docs/api", *KINDS))]]
+    links = [f'<a href="{address_of(path)}">{name_of(path)}</a>' for path in guides]
+    links += [f'<a href="{address_of(f"{it}/README.md")}">{it.removeprefix("docs/")}</a>' for it in ("docs/api", *KINDS)]
     for page in pages:
         for path in page.copied:
             shutil.copyfile(f"{ROOT}/{path}", f"{folder}/{os.path.basename(path)}")
