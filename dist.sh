@@ -1,7 +1,7 @@
 #!/usr/bin/env bash
 # Makes what a release page holds, from what build.sh proved and built: an archive of programs, libraries, header, manual
-# pages, completions, and the guides and the API in HTML; Debian packages of the program and of the library, the wheel for
-# Python, the crate for Rust with the library in it, and their sums. The same build gives the same bytes.
+# pages, completions, and the guides and the API in HTML; Debian packages of the program, of the library and of the module for
+# nginx, the wheel for Python, the module for Go, the crate for Rust with the library in it, and their sums. The same build gives the same bytes.
 #
 #   bash dist.sh [FOLDER [PREFIX]]
 #
@@ -92,6 +92,23 @@ sed -e 's|^prefix=.*|prefix=/usr|; s|^libdir=.*|libdir=/usr/lib/x86_64-linux-gnu
 gzip -9nc "$prefix/share/man/man3/libpaseto.3" >"$work/libpaseto-dev/usr/share/man/man3/libpaseto.3.gz"
 package libpaseto-dev "libpaseto1 (= $version)" 'header and static library for PASETO tokens'
 
+# The module for nginx, where nginx and its sources are: the package says for which nginx it is.
+module=libnginx-mod-http-paseto
+if [ -e /usr/share/nginx/src/conf_flags ]; then
+    abi=$(dpkg-query -W -f '${Provides}' nginx | grep -o 'nginx-abi-[^ ,]*')
+    bash "$here/bindings/nginx/build.sh" "$work/built" "$prefix" >/dev/null
+    install -D -m 644 "$work/built/ngx_http_paseto_module.so" "$work/$module/usr/lib/nginx/modules/ngx_http_paseto_module.so"
+    strip --strip-unneeded "$work/$module/usr/lib/nginx/modules/ngx_http_paseto_module.so"
+    install -D -m 644 /dev/stdin "$work/$module/usr/share/nginx/modules-available/mod-http-paseto.conf" \
+        <<<'load_module modules/ngx_http_paseto_module.so;'
+    mkdir -p "$work/$module/etc/nginx/modules-enabled" "$work/$module/DEBIAN"
+    ln -s /usr/share/nginx/modules-available/mod-http-paseto.conf "$work/$module/etc/nginx/modules-enabled/50-mod-http-paseto.conf"
+    echo 'activate-noawait nginx-reload' >"$work/$module/DEBIAN/triggers"
+    package "$module" "libc6 (>= 2.34), libpaseto1 (>= $version), $abi" 'PASETO tokens in nginx'
+else
+    echo 'no package for nginx: its sources are missing. On Debian: apt-get install nginx-dev' >&2
+fi
+
 archive=paseto-$version-x86_64-linux
 mkdir "$work/$archive"
 cp -a "$prefix/bin" "$prefix/lib" "$prefix/include" "$prefix/share" "$here/LICENSE" "$work/$archive"
@@ -110,6 +127,11 @@ cp "$here/LICENSE" "$work/rust"
 bash "$here/bindings/rust/offline.sh" "$work/cargo"
 (cd "$work/rust" && CARGO_HOME=$work/cargo cargo package --quiet --offline --no-verify --allow-dirty --target-dir "$work/target")
 cp "$work"/target/package/*.crate "$folder"
+
+# The module for Go is its folder, to be named by a `replace` of go.mod.
+mkdir "$work/go" && cp -a "$here/bindings/go" "$work/go/paseto-proved-go-$version" && cp "$here/LICENSE" "$work/go/paseto-proved-go-$version"
+tar -C "$work/go" --sort=name --mtime="@$SOURCE_DATE_EPOCH" --owner=0 --group=0 --numeric-owner -cf - "paseto-proved-go-$version" |
+    gzip -9n >"$folder/paseto-proved-go-$version.tar.gz"
 
 (cd "$folder" && sha256sum -- *.tar.gz *.deb *.whl *.crate | sort -k 2 >SHA256SUMS)
 cat "$folder/SHA256SUMS"

@@ -200,15 +200,6 @@ echo "random calls, SEED=$seed: $(tail -n 1 "$work/log")"
 export PASETO_LIBRARY=$prefix/lib/libpaseto.so PYTHONPATH=$root/bindings/python/src PYTHONDONTWRITEBYTECODE=1
 counted 'a program in Python' timeout 120 python3 "$here/client.py"
 
-# ---- Go
-
-if command -v go >/dev/null && command -v pkg-config >/dev/null; then
-    check 'the example in Go' env PKG_CONFIG_PATH="$prefix/lib/pkgconfig" LD_LIBRARY_PATH="$prefix/lib" GOCACHE="$work/go" go run "$root/examples/go/token.go"
-    if grep -q '"sub":"ada"' "$work/log"; then pass; else fail "the example in Go prints $(cat "$work/log")"; fi
-else
-    echo 'there is no Go or no pkg-config: examples/go/token.go is not run'
-fi
-
 # ---- the session service
 
 # serve NAME OPTION..: starts the service, and sets its address under the name.

@@ -18,7 +18,9 @@ for turn in one two; do
     if bash "$root/dist.sh" "$work/$turn" "$prefix" >"$work/log" 2>&1; then pass; else fail "dist.sh: $(tail -n 3 "$work/log")"; finish; fi
 done
 if diff "$work/one/SHA256SUMS" "$work/two/SHA256SUMS" >"$work/log"; then pass; else fail "two runs differ: $(cat "$work/log")"; fi
-if [ "$(wc -l <"$work/one/SHA256SUMS")" = 6 ]; then pass; else fail "not six files: $(cat "$work/one/SHA256SUMS")"; fi
+# Without the sources of nginx there is no package of the module.
+if [ -e /usr/share/nginx/src/conf_flags ]; then files=8; else files=7; echo 'there is no nginx-dev: the module for nginx is not packed'; fi
+if [ "$(wc -l <"$work/one/SHA256SUMS")" = "$files" ]; then pass; else fail "not $files files: $(cat "$work/one/SHA256SUMS")"; fi
 if (cd "$work/one" && sha256sum --quiet -c SHA256SUMS) >"$work/log" 2>&1; then pass; else fail "the sums: $(cat "$work/log")"; fi
 
 if command -v lintian >/dev/null; then
@@ -38,6 +40,14 @@ Maintainer: nobody <nobody@localhost>
 Architecture: amd64
 Version: $(getconf GNU_LIBC_VERSION | cut -d ' ' -f 2)
 Description: the C library of this machine
+
+Package: nginx
+Status: install ok installed
+Maintainer: nobody <nobody@localhost>
+Architecture: amd64
+Version: 1.22.1
+Provides: $(dpkg-query -W -f '${Provides}' nginx 2>/dev/null || echo nginx-abi-none)
+Description: the nginx of this machine
 STATUS
 in_root() {
     PATH=$PATH:/usr/sbin:/sbin dpkg --root="$fresh" --log=/dev/null --force-not-root --force-script-chrootless "$@" >"$work/log" 2>&1
@@ -49,6 +59,13 @@ for package in paseto libpaseto1 libpaseto-dev; do
 done
 cd "$work" || exit 1
 export PATH=/usr/bin:/bin
+if [ "$files" = 8 ]; then
+    in_root --status libnginx-mod-http-paseto
+    if grep -qx 'Status: install ok installed' "$work/log"; then pass; else fail "the module is not installed: $(tail -n 3 "$work/log")"; fi
+    is 'what nginx loads' "$(cat "$fresh$(readlink "$fresh/etc/nginx/modules-enabled/50-mod-http-paseto.conf")")" 'load_module modules/ngx_http_paseto_module.so;'
+    printf 'load_module %s;\npid %s/pid;\nerror_log stderr;\nevents { }\nhttp { paseto off; access_log off; }\n' "$fresh/usr/lib/nginx/modules/ngx_http_paseto_module.so" "$work" >nginx.conf
+    if LD_LIBRARY_PATH=$fresh/usr/lib/x86_64-linux-gnu /usr/sbin/nginx -t -p "$work" -c "$work/nginx.conf" >log 2>&1; then pass; else fail "nginx with the module of the package: $(tail -n 2 log)"; fi
+fi
 paseto=$fresh/usr/bin/paseto
 "$paseto" keygen v4.local --quiet --out key && "$paseto" issue --key key --claim sub=ada --out token
 if "$paseto" check --key key --claim sub=ada token | grep -q '"sub":"ada"'; then pass; else fail 'the program of the package'; fi
@@ -68,11 +85,14 @@ END
 lib=$fresh/usr/lib/x86_64-linux-gnu
 if cc -I "$fresh/usr/include" -o client client.c -L "$lib" -lpaseto 2>"$work/log" && LD_LIBRARY_PATH=$lib ./client; then pass; else fail "a program in C over the packages: $(tail -n 3 "$work/log")"; fi
 if cc -I "$fresh/usr/include" -o client client.c "$lib/libpaseto.a" 2>"$work/log" && ./client; then pass; else fail "a program in C over libpaseto.a: $(tail -n 3 "$work/log")"; fi
-if in_root --purge paseto libpaseto1 libpaseto-dev; then pass; else fail "dpkg --purge: $(tail -n 3 "$work/log")"; fi
+packages=(paseto libpaseto1 libpaseto-dev)
+[ "$files" = 7 ] || packages+=(libnginx-mod-http-paseto)
+if in_root --purge "${packages[@]}"; then pass; else fail "dpkg --purge: $(tail -n 3 "$work/log")"; fi
 left=$(find "$fresh" -type f ! -path "$fresh/var/*")
 if [ -z "$left" ]; then pass; else fail "files that are left: $left"; fi
 if tar -tzf one/*.crate | grep '/lib/libpaseto\.a$' >/dev/null; then pass; else fail 'the crate for Rust has no library'; fi
-mkdir archive && tar -C archive -xzf one/*.tar.gz
+mkdir archive && tar -C archive -xzf one/paseto-[0-9]*.tar.gz
+if tar -tzf one/paseto-proved-go-*.tar.gz | grep '/go\.mod$' >/dev/null; then pass; else fail 'the archive for Go has no module'; fi
 # Its pages are those of docs/site.sh, which tests/site.sh asks.
 bash "$root/docs/site.sh" "$work/site" >/dev/null
 if diff -rq "$work/site" archive/*/share/doc/paseto/html >"$work/log" 2>&1; then pass; else fail "the pages of the archive: $(tail -n 3 "$work/log")"; fi

@@ -1,6 +1,7 @@
 #!/usr/bin/env bash
-# Makes the wheel of bindings/python, installs it into a fresh environment, and runs its tests there; with mypy, where there
-# is one, it reads the types too. The last line is 'N passed, M failed'.
+# Makes the wheel of bindings/python, installs it into a fresh environment, and runs its tests there, and those of the
+# middlewares and recipes over the frameworks of Debian's packages; with mypy, where there is one, it reads the types too. The
+# last line is 'N passed, M failed'.
 #
 #   tests/python.sh PREFIX
 #
@@ -25,14 +26,36 @@ if ! python3 -m venv "$work/environment" >"$work/log" 2>&1; then
 fi
 python=$work/environment/bin/python
 if "$python" -m pip install --quiet --no-index "$wheel" >"$work/log" 2>&1; then pass; else fail "pip install: $(tail -n 3 "$work/log")"; fi
-cp "$root/bindings/python/tests/test_paseto.py" "$work"
-(cd "$work" && RSA_KEYS="$root/tests/c_library/rsa.h" "$python" -m unittest -v test_paseto) >"$work/log" 2>&1
-ran=$(sed -nE 's/^Ran ([0-9]+) tests? in .*/\1/p' "$work/log")
-wrong=$(grep -cE '^(ERROR|FAIL): ' "$work/log")
-passed=$((passed + ${ran:-0} - wrong))
-failed=$((failed + wrong))
-grep -E '^(ERROR|FAIL): ' "$work/log" | sed 's/^/FAILED: /'
-if [ "${ran:-0}" -gt 0 ] && grep -qE '^OK' "$work/log"; then pass; else fail "the tests of the package: $(tail -n 5 "$work/log")"; fi
+# tested NAME MODULE PYTHON: runs the tests of a module, each of which counts.
+tested() {
+    local name=$1 module=$2 python=$3 ran wrong
+    cp "$root/bindings/python/tests/$module.py" "$work"
+    (cd "$work" && RSA_KEYS="$root/tests/c_library/rsa.h" README="$root/bindings/python/README.md" "$python" -m unittest -v "$module") >"$work/log" 2>&1
+    ran=$(sed -nE 's/^Ran ([0-9]+) tests? in .*/\1/p' "$work/log")
+    wrong=$(grep -cE '^(ERROR|FAIL): ' "$work/log")
+    passed=$((passed + ${ran:-0} - wrong))
+    failed=$((failed + wrong))
+    grep -E '^(ERROR|FAIL): ' "$work/log" | sed 's/^/FAILED: /'
+    if [ "${ran:-0}" -gt 0 ] && grep -qE '^OK' "$work/log"; then pass; else fail "$name: $(tail -n 5 "$work/log")"; fi
+}
+
+tested 'the tests of the package' test_paseto "$python"
+is 'the version of the package' "$("$python" -c 'import paseto; print(paseto.__version__)')" "$(cat "$root/VERSION")"
+is 'the version of the wheel' "$("$python" -c 'import importlib.metadata; print(importlib.metadata.version("paseto-proved"))')" "$(cat "$root/VERSION")"
+# One file alone calls the library.
+is 'the files that know ctypes' "$(cd "$root/bindings/python/src/paseto" && grep -l ctypes ./*.py)" ./_library.py
+# The frameworks are packages of Debian, for its own Python.
+missing=()
+for module in starlette uvicorn flask django fastapi; do
+    /usr/bin/python3 -c "import $module" 2>/dev/null || missing+=("python3-$module")
+done
+if [ ${#missing[@]} -gt 0 ]; then
+    fail "the frameworks are missing. On Debian: apt-get install ${missing[*]}"
+elif /usr/bin/python3 -m venv --system-site-packages "$work/web" >"$work/log" 2>&1 && "$work/web/bin/python" -m pip install --quiet --no-index "$wheel" >"$work/log" 2>&1; then
+    tested 'the tests of the middlewares' test_web "$work/web/bin/python"
+else
+    fail "an environment with the frameworks: $(tail -n 3 "$work/log")"
+fi
 # The examples of README.md and of the package's own, as they stand there.
 python3 "$root/tests/readme.py" python >"$work/first.py"
 is 'the example of README.md' "$(cd "$work" && "$python" first.py 2>&1)" ada

@@ -14,7 +14,8 @@ import sys
 ROOT = os.path.dirname(os.path.dirname(os.path.abspath(__file__)))
 # The guides, in the order of the list that each page begins with; the rest of docs/ follows.
 GUIDES = [
-    "README.md", "docs/GUIDE.md", "docs/PASETO.md", "docs/C.md", "bindings/python/README.md", "bindings/rust/README.md",
+    "README.md", "docs/GUIDE.md", "docs/PASETO.md", "docs/C.md", "docs/SERVICES.md", "bindings/python/README.md",
+    "bindings/go/README.md", "bindings/nginx/README.md", "bindings/rust/README.md",
     "docs/SCHEMES.md", "SECURITY.md", "docs/PROMISES.md", "docs/DEFINITIONS.md", "docs/ATTACKERS.md", "docs/DIFFERENCES.md",
     "docs/ARCHITECTURE.md",
     "docs/DECISIONS.md", "CONTRIBUTING.md", "CHANGELOG.md", "bench/README.md",

@@ -1,11 +1,11 @@
 #!/usr/bin/env python3
-"""Prints what C and Python know of the statuses of the library for C, from the one table c/statuses.txt.
+"""Prints what C, Python and Go know of the statuses of the library for C, from the one table c/statuses.txt.
 
     python3 tools/statuses.py
     python3 tools/statuses.py --check
 
-It writes the statuses of c/paseto.h and the exceptions of bindings/python/src/paseto/_errors.py between the lines that mark
-them. --check writes nothing: it compares both with the table, and the numbers of the table with those that the crate
+It writes the statuses of c/paseto.h, the exceptions of bindings/python/src/paseto/_errors.py and the reasons of
+bindings/go/reasons.go between the lines that mark them. --check writes nothing: it compares them with the table, and the numbers of the table with those that the crate
 paseto_calls is proved to answer. The last line is then 'N passed, M failed'.
 """
 import os
@@ -17,6 +17,7 @@ ROOT = os.path.dirname(os.path.dirname(os.path.abspath(__file__)))
 TABLE = f"{ROOT}/c/statuses.txt"
 HEADER = f"{ROOT}/c/paseto.h"
 PYTHON = f"{ROOT}/bindings/python/src/paseto/_errors.py"
+GO = f"{ROOT}/bindings/go/reasons.go"
 SOURCE = f"{ROOT}/crates/paseto_calls/src/refusal.rt"
 DEFINITION = f"{ROOT}/crates/paseto_calls/specs/Refusal.antt"
 # What Python calls those whose names it has for other things.
@@ -74,8 +75,20 @@ def python():
         if isinstance(row, tuple) and row[3]:
             number, name, _, base, text = row
             quoted = textwrap.fill(f'"""{text}"""', 120, initial_indent="    ", subsequent_indent="    ", break_on_hyphens=False)
-            classes.append(f"class {CLASSES.get(name, name)}({base}):\n{quoted}\n\n    status = {number}\n")
+            classes.append(f"class {CLASSES.get(name, name)}({base}):\n{quoted}\n\n    code = {number}\n")
     return "\n\n".join(classes)
+
+
+def go():
+    """The reasons of the package for Go, and which of them are of a token."""
+    found = [row for row in rows() if isinstance(row, tuple) and row[3]]
+    width, digits = max(len(row[1]) for row in found), max(len(str(row[0])) for row in found)
+    lines = [f"\tErr{name.ljust(width)} Reason = {str(number).ljust(digits)} // {text[0].lower()}{text[1:].rstrip('.')}".replace("``", "")
+             for number, name, _, _, text in found]
+    refused = "".join(f"\n\t\tErr{row[1]}," for row in found if row[3] in ("Refused", "Forbidden"))
+    return "\n".join(["const (", *lines, ")", "", "// isOfToken tells whether the fault lies in the token.",
+                      "func (r Reason) isOfToken() bool {", "\tswitch r {", f"\tcase{refused}", "\t\tErrUnknownKey,", "\t\tErrRevoked:",
+                      "\t\treturn true", "\t}", "\treturn false", "}", ""]).replace("\tcase\n\t\t", "\tcase ")
 
 
 def between(path, first, last):
@@ -88,6 +101,7 @@ def between(path, first, last):
 
 PLACES = [
     (HEADER, "/* The statuses, from c/statuses.txt: */\n", "\n\n/* Draws secret random bytes", header),
+    (GO, "// The reasons of the library, from c/statuses.txt:\n", "\n// Beside the reasons of the library", go),
     (PYTHON, "# ---- the statuses, from c/statuses.txt\n\n\n", "\n\n# ---- other faults\n", python),
 ]
 

@@ -8,13 +8,15 @@ import json
 import os
 import pickle
 import re
+import tempfile
 import unittest
 from datetime import datetime, timedelta, timezone
 from decimal import Decimal
 from pathlib import Path
+from uuid import UUID
 
 import paseto
-from paseto import _keys, _ring, _tokens
+from paseto import _http, _keys, _reader, _ring, _tokens
 
 # Keys of the versions whose pairs can be made here.
 PAIRS = (2, 3, 4)
@@ -109,6 +111,13 @@ class Keys(unittest.TestCase):
         with self.assertRaises(ValueError):
             paseto.LocalKey(bytes(32), 5)
 
+    def test_equality(self) -> None:
+        key, pair = paseto.LocalKey(BYTES), paseto.PrivateKey.generate()
+        self.assertEqual(key, paseto.LocalKey(BYTES))
+        self.assertEqual(len({key, paseto.LocalKey(BYTES), paseto.LocalKey(BYTES, 3), paseto.PublicKey(BYTES), pair}), 4)
+        for other in (paseto.LocalKey(BYTES, 3), paseto.PublicKey(BYTES), paseto.LocalKey(bytes(32)), pair, BYTES, None):
+            self.assertNotEqual(key, other)
+
     def test_keys_do_not_show(self) -> None:
         key = paseto.LocalKey(BYTES)
         self.assertNotIn("pqrs", repr(key))
@@ -170,8 +179,11 @@ class Pem(unittest.TestCase):
             with self.assertRaises(paseto.InvalidKey, msg=text) as caught:
                 paseto.Key.from_text(text)
             self.assertIs(type(caught.exception), fault, text)
-        with self.assertRaises(paseto.NotUtf8):
-            paseto.Key.from_text("-----BEGIN \ud800")
+        for text in ("-----BEGIN \ud800", b"-----BEGIN \xff"):
+            with self.assertRaises(UnicodeError):
+                paseto.Key.from_text(text)
+        with self.assertRaises(TypeError):
+            paseto.Key.from_text(None)  # type: ignore[arg-type]
 
     def test_what_has_no_text(self) -> None:
         halves = paseto.PrivateKey.generate().to_bytes()[:32] + bytes(32)
@@ -240,8 +252,49 @@ class Texts(unittest.TestCase):
             paseto.decrypt(paseto.encrypt(paseto.LocalKey.generate(3), "a"), key)
         with self.assertRaises(paseto.PayloadBase64Decode):
             paseto.decrypt("v4.local.!", key)
-        with self.assertRaises(paseto.NotUtf8):
-            paseto.encrypt(key, "\udc80")
+        for token in ("v4.local.\udc80", b"v4.local.\xff"):
+            with self.assertRaises(paseto.NotUtf8):
+                paseto.decrypt(token, key)
+
+    def test_faults_of_the_caller(self) -> None:
+        """They are no refusal of a token."""
+        key, moment = paseto.LocalKey.generate(), datetime(2027, 1, 2)
+        deep: list[object] = []
+        for _ in range(200):
+            deep = [deep]
+        token = paseto.issue(key, {})
+        for fault, call in (
+            (TypeError, lambda: paseto.issue(key, {"price": 1.5})),
+            (TypeError, lambda: paseto.issue(key, {"prices": [{"price": float("nan")}]})),
+            (TypeError, lambda: paseto.issue(key, [("a", 1)])),
+            (ValueError, lambda: paseto.issue(key, {"a": 2**64})),
+            (ValueError, lambda: paseto.issue(key, {"a": "\ud800"})),
+            (ValueError, lambda: paseto.issue(key, {"a": deep})),
+            (TypeError, lambda: paseto.issue(key, {}, footer=7)),
+            (ValueError, lambda: paseto.issue(key, {}, footer=b"\xff")),
+            (ValueError, lambda: paseto.issue(key, {}, footer="\ud800")),
+            (TypeError, lambda: paseto.issue(key, {}, footer={"kid": 1.5})),
+            (ValueError, lambda: paseto.issue(key, {}, assertion=b"\xff")),
+            (TypeError, lambda: paseto.issue(key, {}, expires_in=1.5)),
+            (TypeError, lambda: paseto.issue(key, {}, now=moment)),
+            (ValueError, lambda: paseto.encrypt(key, "\udc80")),
+            (ValueError, lambda: paseto.encrypt(key, b"\xff")),
+            (TypeError, lambda: paseto.encrypt(key, 7)),
+            (TypeError, lambda: paseto.admit(7, key)),
+            (TypeError, lambda: paseto.admit(token, key, aud=7)),
+            (TypeError, lambda: paseto.admit(token, key, expected={"price": 1.5})),
+            (TypeError, lambda: paseto.admit(token, key, require=[7])),
+            (TypeError, lambda: paseto.admit(token, key, leeway=1.5)),
+            (ValueError, lambda: paseto.admit(token, key, longest=-1)),
+            (TypeError, lambda: paseto.LocalKey("k" * 32)),
+            (ValueError, lambda: paseto.LocalKey(bytes(31))),
+            (TypeError, lambda: paseto.Reader([key])),
+            (ValueError, lambda: paseto.Reader(paseto.KeyRing(), footer="a")),
+        ):
+            with self.assertRaises(fault) as caught:
+                call()  # type: ignore[no-untyped-call]
+            self.assertNotIsInstance(caught.exception, paseto.Refused)
+            self.assertEqual(getattr(caught.exception, "status", 500), 500)
 
 
 class Claims(unittest.TestCase):
@@ -283,10 +336,10 @@ class Claims(unittest.TestCase):
         for claim in (Decimal(1), b"a", datetime(2027, 1, 2), {1, 2}):
             with self.assertRaises(TypeError, msg=repr(claim)):
                 paseto.issue(key, {"a": claim})
-        with self.assertRaises(paseto.Unexpected):
-            paseto.issue(key, {"a": 1.5})
-        with self.assertRaises(ValueError):
-            paseto.issue(key, {"a": float("nan")})
+        given = {"a": [-(2**63), 2**64 - 1], "b": UUID(int=7), "c": (None, True), "d": {"e": "grüße"}}
+        claims = paseto.admit(paseto.issue(key, given), key)
+        wanted = {**given, "b": "00000000-0000-0000-0000-000000000007", "c": [None, True]}
+        self.assertEqual({name: claims[name] for name in given}, wanted)
         with self.assertRaises(TypeError):
             paseto.issue(key, {1: "a"})
 
@@ -300,6 +353,56 @@ class Claims(unittest.TestCase):
                 call()
         with self.assertRaises(TypeError):
             paseto.issue(key, {}, now=datetime(2027, 1, 2))
+
+    def test_no_end(self) -> None:
+        for issuing, admitting in ((key := paseto.LocalKey.generate(),) * 2, ((pair := paseto.PrivateKey.generate()), pair.public)):
+            token = paseto.issue(issuing, {"sub": "ada"}, expires_in=None)
+            claims = paseto.admit(token, admitting)
+            self.assertEqual(set(claims), {"sub", "iat", "nbf"})
+            self.assertEqual(paseto.admit(token, admitting, now=MOMENT * 9), claims)
+            with self.assertRaises(paseto.Missing):
+                paseto.admit(token, admitting, require=["exp"])
+        ring = paseto.KeyRing()
+        self.assertNotIn("exp", ring.admit(ring.issue(ring.add(key), {}, expires_in=None)))
+
+    def test_bytes_and_mappings(self) -> None:
+        key = paseto.LocalKey.generate()
+        token = paseto.issue(key, {"sub": "ada"}, footer={"kid": "1", "é": [1]}, assertion=b"mira")
+        self.assertEqual(paseto.footer_of(token.encode()), '{"kid":"1","é":[1]}')
+        for read in (token, token.encode()):
+            self.assertEqual(paseto.admit(read, key, footer={"kid": "1", "é": [1]}, assertion="mira")["sub"], "ada")
+        text = paseto.encrypt(key, "grüße".encode(), footer=b"office-1")
+        self.assertEqual(paseto.decrypt(text.encode(), key, footer="office-1"), "grüße")
+
+    def test_timedeltas(self) -> None:
+        key = paseto.LocalKey.generate()
+        token = paseto.issue(key, {}, now=MOMENT, expires_in=timedelta(seconds=1.5))
+        self.assertIn("exp", paseto.admit(token, key, now=MOMENT + 3, leeway=timedelta(seconds=1.5)))
+        with self.assertRaises(paseto.Expired):
+            paseto.admit(token, key, now=MOMENT + 4, leeway=timedelta(seconds=2))
+        ring = paseto.KeyRing()
+        token = ring.issue(ring.add(key), {}, now=MOMENT, expires_in=timedelta(minutes=1))
+        self.assertIn("exp", ring.admit(token, now=MOMENT + 61, leeway=timedelta(seconds=5)))
+
+    def test_statuses(self) -> None:
+        key = paseto.LocalKey.generate()
+        token = paseto.issue(key, {"aud": "customers", "seats": 4}, now=MOMENT)
+        for status, call in (
+            (401, lambda: paseto.admit(token, key)),
+            (401, lambda: paseto.admit("", key)),
+            (401, lambda: paseto.admit(token, key, now=MOMENT, require=["jti"])),
+            (401, lambda: paseto.KeyRing().admit(token)),
+            (403, lambda: paseto.admit(token, key, now=MOMENT, aud="staff")),
+            (403, lambda: paseto.admit(token, key, now=MOMENT, expected={"seats": 5})),
+            (500, lambda: paseto.sign(paseto.PrivateKey(b"no key", 1), "a")),
+        ):
+            with self.assertRaises(paseto.PasetoError) as caught:
+                call()  # type: ignore[no-untyped-call]
+            self.assertEqual(caught.exception.status, status, repr(caught.exception))
+            if isinstance(caught.exception, paseto.Refused):
+                word = "insufficient_scope" if status == 403 else "invalid_token"
+                self.assertRegex(caught.exception.challenge, rf'^Bearer error="{word}", error_description="[ !#-\[\]-~]+"$')
+        self.assertEqual(paseto.Expired.code, 20)
 
     def test_no_object(self) -> None:
         key = paseto.LocalKey.generate()
@@ -341,9 +444,80 @@ class Rings(unittest.TestCase):
             ring.admit(other.issue("a", {}))
 
 
+    def test_folder(self) -> None:
+        local, private = paseto.LocalKey.generate(), paseto.PrivateKey.generate(3)
+        with tempfile.TemporaryDirectory() as folder:
+            (Path(folder) / "a.key").write_text(local.to_text() + "\n")
+            (Path(folder) / "b.pem").write_text(private.to_pem())
+            (Path(folder) / ".hidden").write_text("no key")
+            (Path(folder) / "folder").mkdir()
+            ring = paseto.KeyRing.from_folder(folder)
+            self.assertEqual(len(ring), 2)
+            for kid in (local.id, private.public.id):
+                self.assertEqual(ring.admit(ring.issue(kid, {"sub": "ada"}))["sub"], "ada")
+            for name, text in (("c.txt", b"no key"), ("d.pem", rsa()[1].to_pem().encode()), ("e.key", b"\xff")):
+                (Path(folder) / name).write_bytes(text)
+                with self.assertRaisesRegex(paseto.InvalidKey, re.escape(name)):
+                    paseto.KeyRing.from_folder(folder)
+                (Path(folder) / name).unlink()
+            with self.assertRaises(FileNotFoundError):
+                paseto.KeyRing.from_folder(f"{folder}/none")
+
+
+class Readers(unittest.TestCase):
+    def test_one_key(self) -> None:
+        for key in (paseto.LocalKey.generate(), paseto.PrivateKey.generate(), paseto.PrivateKey.generate(3)):
+            reader = paseto.Reader(key, aud="customers", assertion="mira")
+            for footer in ("", "office-1", paseto.key_footer("1")):
+                token = paseto.issue(key, {"sub": "ada", "aud": "customers"}, footer=footer, assertion="mira")
+                self.assertEqual(reader.admit(token)["sub"], "ada")
+                self.assertEqual(reader.admit(token.encode())["sub"], "ada")
+                with self.assertRaises(paseto.Refused):
+                    reader.admit(token, assertion="ada")
+            bound = paseto.Reader(key, footer="office-1", assertion="mira")
+            with self.assertRaises(paseto.FooterInvalid):
+                bound.admit(token)
+
+    def test_what_it_decides(self) -> None:
+        key = paseto.LocalKey.generate()
+        reader = paseto.Reader(key, aud="customers", expected={"seats": 4}, require=["exp", "jti"], leeway=timedelta(seconds=5), longest=400)
+        claims = {"aud": "customers", "seats": 4, "jti": "1"}
+        token = paseto.issue(key, claims, now=MOMENT, expires_in=60)
+        self.assertEqual(reader.admit(token, now=MOMENT + 64)["jti"], "1")
+        for fault, read, now in (
+            (paseto.Expired, token, MOMENT + 65),
+            (paseto.UseBeforeAvailable, token, MOMENT - 7),
+            (paseto.Invalid, paseto.issue(key, {**claims, "aud": "staff"}, now=MOMENT), MOMENT),
+            (paseto.Unexpected, paseto.issue(key, {**claims, "seats": 5}, now=MOMENT), MOMENT),
+            (paseto.Missing, paseto.issue(key, {**claims, "jti": None}, now=MOMENT), MOMENT),
+            (paseto.Missing, paseto.issue(key, claims, now=MOMENT, expires_in=None), MOMENT),
+            (paseto.TooLong, paseto.issue(key, {**claims, "text": "x" * 300}, now=MOMENT), MOMENT),
+            (paseto.IncorrectSize, "", MOMENT),
+        ):
+            with self.assertRaises(fault):
+                reader.admit(read, now=now)
+
+    def test_the_first_second(self) -> None:
+        """A token of another issuer, dated as it is made, is admitted at once; a call of ``admit`` needs the leeway."""
+        key = paseto.LocalKey.generate()
+        token = paseto.issue(key, {"nbf": datetime.fromtimestamp(MOMENT, timezone.utc)}, now=MOMENT)
+        self.assertIn("nbf", paseto.Reader(key).admit(token, now=MOMENT))
+
+    def test_ring(self) -> None:
+        ring = paseto.KeyRing()
+        reader = paseto.Reader(ring)
+        kid = ring.add(paseto.PrivateKey.generate())
+        token = ring.issue(kid, {"sub": "ada"})
+        self.assertEqual(reader.admit(token)["sub"], "ada")
+        ring.remove(kid)
+        for read in (token, "v4.local.AA", paseto.issue(paseto.LocalKey.generate(), {}, footer="office-1")):
+            with self.assertRaises(paseto.UnknownKey):
+                reader.admit(read)
+
+
 class Examples(unittest.TestCase):
     def test_examples(self) -> None:
-        for module in (paseto, _keys, _ring, _tokens):
+        for module in (paseto, _http, _keys, _reader, _ring, _tokens):
             self.assertEqual(doctest.testmod(module).failed, 0, module.__name__)
 
 

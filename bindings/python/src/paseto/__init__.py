@@ -7,13 +7,15 @@
     'ada'
 
 A token that a ``LocalKey`` issues is encrypted. One that a ``PrivateKey`` issues is signed: everybody can read it, and the
-``PublicKey`` verifies it. Each error is an exception class of its own. Exceptions that the token caused are subclasses of
-``Refused``: a service answers them with 401, while the others point to its own code. All calls may be made from several
-threads at once.
+``PublicKey`` verifies it. A service decides once, in a ``Reader``, which tokens it takes; ``paseto.asgi`` and ``paseto.wsgi``
+have a middleware over it. Each error is an exception class of its own. Exceptions that the token caused are subclasses of
+``Refused``, whose ``status`` a service answers: 401, or 403 for a token of another audience. What is wrong with the caller's
+own values is a ``TypeError`` or a ``ValueError``, before anything is called. All calls may be made from several threads at once.
 
 The library is the ``libpaseto.so`` of the package, or the one that the environment variable ``PASETO_LIBRARY`` names.
 """
 
+from . import asgi, wsgi
 from ._errors import (
     ChaChaCipherError,
     Cryption,
@@ -21,6 +23,7 @@ from ._errors import (
     EncryptedKey,
     Expired,
     FooterInvalid,
+    Forbidden,
     FromUtf8Error,
     IncorrectSize,
     Invalid,
@@ -47,6 +50,7 @@ from ._errors import (
     PayloadBase64Decode,
     PayloadJsonError,
     Refused,
+    Revoked,
     Rfc3339Date,
     RsaCipher,
     Signature,
@@ -57,9 +61,13 @@ from ._errors import (
     Utf8Error,
     WrongHeader,
 )
+from ._http import bearer_token
 from ._keys import Key, LocalKey, PrivateKey, PublicKey
+from ._reader import Reader
 from ._ring import KeyRing, key_footer, kid_of
 from ._tokens import admit, decrypt, encrypt, footer_of, issue, sign, verify
+
+__version__ = "1.0.0"
 
 __all__ = [
     "ChaChaCipherError",
@@ -68,6 +76,7 @@ __all__ = [
     "EncryptedKey",
     "Expired",
     "FooterInvalid",
+    "Forbidden",
     "FromUtf8Error",
     "IncorrectSize",
     "Invalid",
@@ -98,7 +107,9 @@ __all__ = [
     "PayloadJsonError",
     "PrivateKey",
     "PublicKey",
+    "Reader",
     "Refused",
+    "Revoked",
     "Rfc3339Date",
     "RsaCipher",
     "Signature",
@@ -109,6 +120,8 @@ __all__ = [
     "Utf8Error",
     "WrongHeader",
     "admit",
+    "asgi",
+    "bearer_token",
     "decrypt",
     "encrypt",
     "footer_of",
@@ -117,4 +130,5 @@ __all__ = [
     "kid_of",
     "sign",
     "verify",
+    "wsgi",
 ]

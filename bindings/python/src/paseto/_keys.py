@@ -2,17 +2,22 @@
 
 from __future__ import annotations
 
-import ctypes
+import hashlib
+import hmac
 import os
 from typing import ClassVar, NoReturn
 
-from ._calls import ask, bytes_of, lent
-from ._errors import InvalidKey, KeyRejected, NoPaserk, raise_for
-from ._library import CALLS
+from ._errors import InvalidKey, KeyRejected
+from ._library import key_of, key_text, pair, public_half
+from ._values import Text, text_of
+
+# Keys are hashed under it, so that a hash tells nothing of a key.
+_HASHED = os.urandom(32)
 
 
 class Key:
-    """A key of a version. Its ``repr`` does not show it, and it cannot be pickled."""
+    """A key of a version. Its ``repr`` does not show it, and it cannot be pickled. Two keys are compared in a time that does
+    not depend on their bytes."""
 
     __slots__ = ("_bytes", "_version")
     # How many bytes a key of each version has; one of RSA is DER of any length.
@@ -23,6 +28,8 @@ class Key:
     def __init__(self, value: bytes, version: int = 4) -> None:
         if version not in self._lengths:
             raise ValueError("a version is 1, 2, 3 or 4")
+        if not isinstance(value, (bytes, bytearray, memoryview)):
+            raise TypeError(f"a key is made from bytes, and not from a {type(value).__name__}")
         length = self._lengths[version]
         if length is not None and len(value) != length:
             raise InvalidKey
@@ -33,6 +40,15 @@ class Key:
 
     def __reduce__(self) -> NoReturn:
         raise TypeError(f"a {type(self).__name__} is stored by to_bytes() or to_text() alone")
+
+    def __eq__(self, other: object) -> bool:
+        if not isinstance(other, Key):
+            return NotImplemented
+        is_same = hmac.compare_digest(self._bytes, other._bytes)
+        return is_same and (self._type, self._version) == (other._type, other._version)
+
+    def __hash__(self) -> int:
+        return hash((self._type, self._version, hashlib.blake2b(self._bytes, key=_HASHED, digest_size=16).digest()))
 
     @property
     def version(self) -> int:
@@ -59,36 +75,40 @@ class Key:
         """
         if isinstance(self, LocalKey):
             raise InvalidKey("a key for local tokens has no PEM text")
-        return ask(f"paseto_v{self._version}_{self._type}_key_to_pem", lent(self._bytes), 2048).decode()
+        return key_text(self._version, self._type, "to_pem", self._bytes)
 
     @property
     def id(self) -> str:
         """The PASERK id, ``k4.lid..``, which identifies the key without revealing it."""
         return self._told("id")
 
-    def _told(self, call: str) -> str:
-        """The text that a call of the library makes from the key."""
+    def _told(self, form: str) -> str:
+        """The text that the library makes from the key."""
         if self._version == 1 and not isinstance(self, LocalKey):
             raise InvalidKey("a key pair of version 1 has no PASERK text here")
-        return ask(f"paseto_v{self._version}_{self._type}_key_{call}", lent(self._bytes), 128).decode()
+        return key_text(self._version, self._type, form, self._bytes)
 
     @staticmethod
-    def from_text(text: str) -> LocalKey | PrivateKey | PublicKey:
+    def from_text(text: Text) -> LocalKey | PrivateKey | PublicKey:
         """Reads a key from PASERK text, which may end in one newline, or a key pair's key from PEM, as ``openssl`` writes it.
 
         In PEM, an Ed25519 key is read as version 4, a P-384 key as version 3, and an RSA key as version 1. For version 2, make
         the key from its bytes: ``PrivateKey(key.to_bytes(), 2)``.
 
         >>> key = LocalKey.generate()
-        >>> Key.from_text(key.to_text()).id == key.id
+        >>> Key.from_text(key.to_text()) == key
         True
         >>> pair = PrivateKey.generate()
-        >>> Key.from_text(pair.to_pem()).id == pair.id
+        >>> Key.from_text(pair.to_pem()) == pair
         True
         """
-        if text.startswith("-----BEGIN"):
-            return _read(text, "paseto_pem_kind", "from_pem", 2048)
-        return _read(text.removesuffix("\n"), "paseto_key_kind", "from_paserk", 64)
+        read = text_of(text, "the text of a key")
+        if not read.startswith(b"-----BEGIN"):
+            read = read.removesuffix(b"\n")
+        version, key_type, value = key_of(read)
+        kinds: dict[str, type[LocalKey] | type[PrivateKey] | type[PublicKey]]
+        kinds = {"local": LocalKey, "private": PrivateKey, "public": PublicKey}
+        return kinds[key_type](value, version)
 
 
 class LocalKey(Key):
@@ -131,9 +151,11 @@ class PrivateKey(Key):
         """A new key from a random seed of ``os.urandom``. Make keys of version 1 with ``openssl``."""
         if version == 1:
             raise ValueError("a key of version 1 is made by openssl genpkey")
+        if version not in cls._lengths:
+            raise ValueError("a version is 1, 2, 3 or 4")
         while True:
             try:
-                return cls(_pair(os.urandom(48 if version == 3 else 32), version)[0], version)
+                return cls(pair(version)[0], version)
             except KeyRejected:
                 continue
 
@@ -143,24 +165,4 @@ class PrivateKey(Key):
         if self._version == 1:
             raise InvalidKey("the public key of version 1 is made elsewhere, as by openssl")
         seed = self._bytes if self._version == 3 else self._bytes[:32]
-        return PublicKey(_pair(seed, self._version)[1], self._version)
-
-
-def _read(text: str, kind_call: str, form: str, length: int) -> LocalKey | PrivateKey | PublicKey:
-    """The key of a text, whose version and type a first call returns."""
-    read, version, number = bytes_of(text), ctypes.c_uint8(), ctypes.c_uint8()
-    raise_for(CALLS[kind_call](*lent(read), ctypes.byref(version), ctypes.byref(number)))
-    kinds: dict[int, type[LocalKey] | type[PrivateKey] | type[PublicKey]] = {1: LocalKey, 2: PrivateKey, 3: PublicKey}
-    kind = kinds[number.value]
-    call = f"paseto_v{version.value}_{kind._type}_key_{form}"
-    if call not in CALLS:
-        raise NoPaserk("a key pair of version 1 has no PASERK text here")
-    return kind(ask(call, lent(read), length), version.value)
-
-
-def _pair(seed: bytes, version: int) -> tuple[bytes, bytes]:
-    """The bytes of the private and the public key of a seed."""
-    private, public = (48, 49) if version == 3 else (64, 32)
-    rooms = ctypes.create_string_buffer(private), ctypes.create_string_buffer(public)
-    raise_for(CALLS[f"paseto_v{version}_public_keypair"](*lent(seed), rooms[0], private, rooms[1], public))
-    return rooms[0].raw, rooms[1].raw
+        return PublicKey(public_half(self._version, seed)[1], self._version)

@@ -3,13 +3,15 @@
 from __future__ import annotations
 
 import json
+import os
 from collections.abc import Iterable, Mapping
-from datetime import datetime, timedelta
+from pathlib import Path
 from typing import Any
 
-from ._errors import UnknownKey
-from ._keys import LocalKey, PrivateKey, PublicKey
+from ._errors import InvalidKey, PasetoError, UnknownKey
+from ._keys import Key, LocalKey, PrivateKey, PublicKey
 from ._tokens import admit, footer_of, issue
+from ._values import Moment, Seconds, Text
 
 
 def key_footer(kid: str) -> str:
@@ -49,6 +51,20 @@ class KeyRing:
     def __init__(self) -> None:
         self._keys: dict[str, LocalKey | PrivateKey | PublicKey] = {}
 
+    @classmethod
+    def from_folder(cls, folder: str | os.PathLike[str]) -> KeyRing:
+        """The keys of a folder's files, by their PASERK ids. Each file holds a key, as PASERK or in PEM; one that does not is
+        named by the ``InvalidKey``. Folders in it, and names that begin with a dot, are passed over."""
+        ring = cls()
+        for path in sorted(Path(folder).iterdir()):
+            if path.name.startswith(".") or path.is_dir():
+                continue
+            try:
+                ring.add(Key.from_text(path.read_bytes()))
+            except (PasetoError, UnicodeDecodeError) as fault:
+                raise InvalidKey(f"{path}: {fault}") from fault
+        return ring
+
     def add(self, key: LocalKey | PrivateKey | PublicKey, kid: str | None = None) -> str:
         """Adds a key under an id, by default its PASERK id, and returns the id. A private key issues tokens, and its public key
         verifies them; its default id is that of the public key."""
@@ -71,9 +87,9 @@ class KeyRing:
         kid: str,
         claims: Mapping[str, Any],
         *,
-        expires_in: int | timedelta = 3600,
-        now: int | datetime | None = None,
-        assertion: str = "",
+        expires_in: Seconds | None = 3600,
+        now: Moment = None,
+        assertion: Text = "",
     ) -> str:
         """Issues a token under the key with an id. The footer of the token names the key."""
         key = self._keys.get(kid)
@@ -83,27 +99,30 @@ class KeyRing:
             raise TypeError("a token is issued under a LocalKey or a PrivateKey")
         return issue(key, claims, expires_in=expires_in, now=now, footer=key_footer(kid), assertion=assertion)
 
+    def key_for(self, footer: str) -> LocalKey | PublicKey:
+        """The key that a footer names, to read tokens with. Raises ``UnknownKey`` if it names none of the ring."""
+        kid = kid_of(footer)
+        key = None if kid is None else self._keys.get(kid)
+        if key is None:
+            raise UnknownKey
+        return key.public if isinstance(key, PrivateKey) else key
+
     def admit(
         self,
-        token: str,
+        token: Text,
         *,
         aud: str | None = None,
         expected: Mapping[str, Any] | None = None,
         require: Iterable[str] = (),
-        leeway: int = 0,
+        leeway: Seconds = 0,
         longest: int = 0,
-        now: int | datetime | None = None,
-        assertion: str = "",
+        now: Moment = None,
+        assertion: Text = "",
     ) -> dict[str, Any]:
         """Returns the claims of a token like ``admit``, with the key that its footer names. Raises ``UnknownKey`` if the footer
         names no key of the ring."""
         footer = footer_of(token)
-        kid = kid_of(footer)
-        key = None if kid is None else self._keys.get(kid)
-        if key is None:
-            raise UnknownKey("the footer of the token names no key of the ring")
-        reader = key.public if isinstance(key, PrivateKey) else key
         return admit(
-            token, reader, aud=aud, expected=expected, require=require, leeway=leeway, longest=longest, now=now,
+            token, self.key_for(footer), aud=aud, expected=expected, require=require, leeway=leeway, longest=longest, now=now,
             footer=footer, assertion=assertion,
         )

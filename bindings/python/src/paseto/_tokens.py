@@ -2,80 +2,102 @@
 
 from __future__ import annotations
 
-import ctypes
 import json
-import os
 from collections.abc import Iterable, Mapping
-from datetime import datetime, timedelta
 from typing import Any
 
-from ._calls import ask, ask_with_reason, bytes_of, date_of, json_of, lent, moment_of
-from ._errors import NotObject
+from . import _library
+from ._errors import Forbidden, NotObject, Refused, Unexpected
 from ._keys import Key, LocalKey, PrivateKey, PublicKey
-from ._library import ASSERTING, Options
+from ._library import ASSERTING, Bound, Checks, Kind
+from ._values import Footer, Moment, Seconds, Text, date_of, json_of, moment_of, names_of, seconds_of, text_of, token_of
+from ._values import footer_of as _footer_of
 
 
 def issue(
     key: LocalKey | PrivateKey,
     claims: Mapping[str, Any],
     *,
-    expires_in: int | timedelta = 3600,
-    now: int | datetime | None = None,
-    footer: str = "",
-    assertion: str = "",
+    expires_in: Seconds | None = 3600,
+    now: Moment = None,
+    footer: Footer = "",
+    assertion: Text = "",
 ) -> str:
     """Makes a token with claims. The claims are JSON values; numbers must be 64-bit integers. A ``datetime`` with a time zone
-    becomes an RFC 3339 string, and a ``Decimal`` raises a ``TypeError``.
+    becomes an RFC 3339 string, and a ``UUID`` its text. Anything else, a float among them, raises a ``TypeError``.
 
-    The token is usable at once and expires ``expires_in`` seconds after ``now``, unless the claims set ``exp``, ``iat`` and
-    ``nbf`` otherwise. ``now`` is in seconds after 1970 or a ``datetime``, and the current time by default. Everybody can
-    read the footer, which often holds the id of the key. The implicit assertion is not in the token: ``admit`` needs the
-    same one.
+    The token is usable at once and expires ``expires_in`` after ``now``, in seconds or a ``timedelta``, or never for ``None``;
+    the claims may set ``exp``, ``iat`` and ``nbf`` otherwise. ``now`` is in seconds after 1970 or a ``datetime``, and the
+    current time by default. Everybody can read the footer, which often holds the id of the key; a mapping becomes compact JSON.
+    The implicit assertion is not in the token: ``admit`` needs the same one.
     """
+    kind, bound = _kind(_writer(key)), _bound(key, footer, assertion)
     moment = moment_of(now)
-    dated = json_of({"exp": date_of(moment, expires_in), "nbf": date_of(moment, -1), **claims})
-    words = (*_drawn(key, "build"), *lent(dated), moment, *_tail(key, footer, assertion))
-    return ask(f"{_kind(key)}_build", words, 1024).decode()
+    dated = {"nbf": date_of(moment - 1), **claims}
+    if expires_in is None:
+        # The library would add an `exp`.
+        text = json_of({"iat": date_of(moment), **dated}, "a claim")
+        return _library.write(kind, key.to_bytes(), text, bound).decode()
+    given = json_of({"exp": date_of(moment + seconds_of(expires_in, "expires_in")), **dated}, "a claim")
+    try:
+        return _library.build(kind, key.to_bytes(), given, moment, bound).decode()
+    except Refused as fault:
+        raise ValueError(f"the claims are no claims: {fault}") from fault
 
 
 def admit(
-    token: str,
+    token: Text,
     key: LocalKey | PublicKey,
     *,
     aud: str | None = None,
     expected: Mapping[str, Any] | None = None,
     require: Iterable[str] = (),
-    leeway: int = 0,
+    leeway: Seconds = 0,
     longest: int = 0,
-    now: int | datetime | None = None,
-    footer: str = "",
-    assertion: str = "",
+    now: Moment = None,
+    footer: Footer = "",
+    assertion: Text = "",
 ) -> dict[str, Any]:
     """Returns the claims of a token, if it was made with this key, footer and implicit assertion, is usable at the time
     ``now``, and has the audience ``aud``, if given, and each expected claim. Otherwise raises a subclass of ``Refused``, whose
     text says which claim failed.
 
     A token without ``exp`` never expires: use ``require=["exp"]`` to refuse it. The clocks of issuer and reader may differ by
-    ``leeway`` seconds. A token of more than ``longest`` bytes is refused before it is decoded; 0 means no limit.
+    ``leeway``, in seconds or a ``timedelta``. A token of more than ``longest`` bytes is refused before it is decoded; 0 means no
+    limit. A ``Reader`` decides all of this once.
     """
-    wanted = dict(expected or {})
-    if aud is not None:
-        wanted["aud"] = aud
-    if not (0 <= leeway < 2**32 and 0 <= longest < 2**64):
+    checks = checks_of(aud, expected, require, leeway, longest)
+    names = [*(expected or {}), *(() if aud is None else ("aud",))]
+    return claims_of(token_of(token), key, _bound(_reader(key), footer, assertion), moment_of(now), checks, names)
+
+
+def checks_of(aud: str | None, expected: Mapping[str, Any] | None, require: Iterable[str], leeway: Seconds, longest: int) -> Checks:
+    """What is asked of claims."""
+    if aud is not None and not isinstance(aud, str):
+        raise TypeError(f"an audience is a str, and not a {type(aud).__name__}")
+    wanted = {**(expected or {}), **({} if aud is None else {"aud": aud})}
+    gap = seconds_of(leeway, "leeway")
+    if not (0 <= gap < 2**32 and 0 <= longest < 2**64):
         raise ValueError("leeway is a number of seconds below 2**32, and longest one of bytes")
-    names = [require] if isinstance(require, str) else list(require)
-    required = bytes_of(json.dumps(names, ensure_ascii=False)) if names else b""
-    options = Options(leeway, longest, *lent(required))
-    read = bytes_of(token)
-    words = (*lent(_reader(key).to_bytes()), *lent(read), *lent(json_of(wanted)), moment_of(now), *_tail(key, footer, assertion))
-    text = ask_with_reason(f"{_kind(key)}_parse_with", (*words, ctypes.byref(options)), len(read))
+    return Checks(json_of(wanted, "an expected claim"), names_of(require), gap, longest)
+
+
+def claims_of(token: bytes, key: Key, bound: Bound, moment: int, checks: Checks, names: Iterable[str]) -> dict[str, Any]:
+    """The claims of a token that passes the checks, which expect claims of these names."""
+    try:
+        text = _library.parse(_kind(key), key.to_bytes(), token, moment, bound, checks)
+    except Unexpected as fault:
+        # An expected number or list that is another one: the token is for another audience, as with a text.
+        if any(f"'{name}'" in str(fault) for name in names):
+            fault.status = Forbidden.status
+        raise
     claims = json.loads(text)
     if not isinstance(claims, dict):
         raise NotObject
     return claims
 
 
-def encrypt(key: LocalKey, text: str, *, footer: str = "", assertion: str = "") -> str:
+def encrypt(key: LocalKey, text: Text, *, footer: Footer = "", assertion: Text = "") -> str:
     """Encrypts a text as a local token, with a nonce from ``os.urandom``.
 
     >>> key = LocalKey.generate()
@@ -84,17 +106,17 @@ def encrypt(key: LocalKey, text: str, *, footer: str = "", assertion: str = "") 
     """
     if not isinstance(key, LocalKey):
         raise TypeError("a text is encrypted under a LocalKey")
-    return _token("encrypt", key, text, footer, assertion)
+    return _library.write(_kind(key), key.to_bytes(), text_of(text, "a text"), _bound(key, footer, assertion)).decode()
 
 
-def decrypt(token: str, key: LocalKey, *, footer: str = "", assertion: str = "") -> str:
-    """Decrypts a local token with this key, footer and implicit assertion, and returns its text."""
+def decrypt(token: Text, key: LocalKey, *, footer: Footer = "", assertion: Text = "") -> str:
+    """Decrypts a local token with this key, footer and implicit assertion, and returns its text. It checks no times."""
     if not isinstance(key, LocalKey):
         raise TypeError("a token is decrypted under a LocalKey")
-    return _text("decrypt", token, key, footer, assertion)
+    return _library.read(_kind(key), key.to_bytes(), token_of(token), _bound(key, footer, assertion)).decode()
 
 
-def sign(key: PrivateKey, text: str, *, footer: str = "", assertion: str = "") -> str:
+def sign(key: PrivateKey, text: Text, *, footer: Footer = "", assertion: Text = "") -> str:
     """Signs a text as a public token, which everybody can read.
 
     >>> key = PrivateKey.generate()
@@ -103,38 +125,33 @@ def sign(key: PrivateKey, text: str, *, footer: str = "", assertion: str = "") -
     """
     if not isinstance(key, PrivateKey):
         raise TypeError("a text is signed under a PrivateKey")
-    return _token("sign", key, text, footer, assertion)
+    return _library.write(_kind(key), key.to_bytes(), text_of(text, "a text"), _bound(key, footer, assertion)).decode()
 
 
-def verify(token: str, key: PublicKey, *, footer: str = "", assertion: str = "") -> str:
-    """Verifies a public token with this key, footer and implicit assertion, and returns its text."""
+def verify(token: Text, key: PublicKey, *, footer: Footer = "", assertion: Text = "") -> str:
+    """Verifies a public token with this key, footer and implicit assertion, and returns its text. It checks no times."""
     if not isinstance(key, PublicKey):
         raise TypeError("a token is verified under a PublicKey")
-    return _text("verify", token, key, footer, assertion)
+    return _library.read(_kind(key), key.to_bytes(), token_of(token), _bound(key, footer, assertion)).decode()
 
 
-def footer_of(token: str) -> str:
+def footer_of(token: Text) -> str:
     """The footer of a token, for example the id of its key, or the empty string if it has none.
 
     Do not trust it before the token has been admitted with it.
     """
-    read = bytes_of(token)
-    return ask("paseto_footer", lent(read), len(read)).decode()
+    return _library.footer(token_of(token)).decode()
 
 
-def _kind(key: Key) -> str:
-    """The prefix of the calls for tokens under a key."""
-    return f"paseto_v{key.version}_{'local' if isinstance(key, LocalKey) else 'public'}"
+def _kind(key: Key) -> Kind:
+    """The kind of the tokens under a key."""
+    return Kind(key.version, "local" if isinstance(key, LocalKey) else "public")
 
 
-def _drawn(key: LocalKey | PrivateKey, call: str) -> tuple[Any, ...]:
-    """The key, and the random nonce, seed or salt that the call takes with it."""
-    if isinstance(key, LocalKey):
-        drawn = os.urandom(24 if (key.version, call) == (2, "build") else 32)
-        return (*lent(key.to_bytes()), *lent(drawn))
-    if not isinstance(key, PrivateKey):
+def _writer(key: LocalKey | PrivateKey) -> LocalKey | PrivateKey:
+    if not isinstance(key, (LocalKey, PrivateKey)):
         raise TypeError("a token is issued under a LocalKey or a PrivateKey")
-    return (*lent(key.to_bytes()), *(lent(os.urandom(48)) if key.version == 1 else ()))
+    return key
 
 
 def _reader(key: LocalKey | PublicKey) -> LocalKey | PublicKey:
@@ -143,23 +160,9 @@ def _reader(key: LocalKey | PublicKey) -> LocalKey | PublicKey:
     return key
 
 
-def _tail(key: Key, footer: str, assertion: str) -> tuple[Any, ...]:
-    """The footer, and the implicit assertion in the versions that have one."""
-    if key.version in ASSERTING:
-        return (*lent(bytes_of(footer)), *lent(bytes_of(assertion)))
-    if assertion:
+def _bound(key: Key, footer: Footer, assertion: Text) -> Bound:
+    """What a token under the key is bound to."""
+    bound = Bound(_footer_of(footer), text_of(assertion, "an implicit assertion"))
+    if bound.assertion and key.version not in ASSERTING:
         raise ValueError("tokens of the versions 1 and 2 have no implicit assertion")
-    return lent(bytes_of(footer))
-
-
-def _token(call: str, key: LocalKey | PrivateKey, text: str, footer: str, assertion: str) -> str:
-    """The token that holds a text."""
-    words = (*_drawn(key, call), *lent(bytes_of(text)), *_tail(key, footer, assertion))
-    return ask(f"{_kind(key)}_{call}", words, 1024 + 2 * len(text)).decode()
-
-
-def _text(call: str, token: str, key: Key, footer: str, assertion: str) -> str:
-    """The text that a token holds."""
-    read = bytes_of(token)
-    words = (*lent(key.to_bytes()), *lent(read), *_tail(key, footer, assertion))
-    return ask(f"{_kind(key)}_{call}", words, len(read)).decode()
+    return bound

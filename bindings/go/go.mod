@@ -1,0 +1,3 @@
+module paseto-proved
+
+go 1.19

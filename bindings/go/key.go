@@ -1,0 +1,137 @@
+package paseto
+
+import (
+	"bytes"
+	"crypto/rand"
+	"crypto/subtle"
+	"fmt"
+)
+
+// KeyType is what a key does.
+type KeyType uint8
+
+// Local keys encrypt and decrypt, private ones sign, and public ones verify.
+const (
+	Local   KeyType = 1
+	Private KeyType = 2
+	Public  KeyType = 3
+)
+
+func (t KeyType) String() string {
+	return [...]string{"no", "local", "private", "public"}[t&3]
+}
+
+// Key is a key of a version, which no verb of fmt shows. It may be used by several goroutines at once.
+type Key struct {
+	// A function, since fmt shows what is behind a pointer where a key is a hidden member of another struct.
+	held func() *material
+}
+
+// hidden is the key of some material.
+func hidden(held *material) Key {
+	return Key{func() *material { return held }}
+}
+
+// hiddenOr is the same for what a call returns with an error.
+func hiddenOr(held *material, err error) (Key, error) {
+	if err != nil {
+		return Key{}, err
+	}
+	return hidden(held), nil
+}
+
+// material is what a key is made of.
+type material struct {
+	version uint8
+	kind    KeyType
+	bytes   []byte
+}
+
+// ParseKey reads a key from PASERK text, as in the files of `paseto keygen`, which may end in one newline, or from PEM, as
+// openssl writes it: an Ed25519 key is read as version 4, a P-384 key as version 3, and an RSA key as version 1.
+func ParseKey(text []byte) (Key, error) {
+	if !bytes.HasPrefix(text, []byte("-----BEGIN")) {
+		text = bytes.TrimSuffix(text, []byte("\n"))
+	}
+	return hiddenOr(keyOf(text))
+}
+
+// GenerateKey draws a new local or private key. Those that sign in version 1 are made by openssl.
+func GenerateKey(kind KeyType, version int) (Key, error) {
+	if version < 1 || version > 4 || kind != Local && kind != Private {
+		return Key{}, wrong("a key is Local or Private, of version 1 to 4")
+	}
+	if kind == Private && version == 1 {
+		return Key{}, wrong("a private key of version 1 is made by openssl genpkey")
+	}
+	if kind == Private {
+		return hiddenOr(generate(uint8(version)))
+	}
+	drawn := make([]byte, 32)
+	if _, err := rand.Read(drawn); err != nil {
+		return Key{}, &Error{Reason: ErrNoRandom}
+	}
+	return hidden(&material{uint8(version), Local, drawn}), nil
+}
+
+// Version is the version of tokens that the key is for, or 0 for the zero Key.
+func (k Key) Version() int {
+	if k.held == nil {
+		return 0
+	}
+	return int(k.held().version)
+}
+
+// Type is what the key does, or 0 for the zero Key.
+func (k Key) Type() KeyType {
+	if k.held == nil {
+		return 0
+	}
+	return k.held().kind
+}
+
+// Format shows the type and the version of a key, for every verb.
+func (k Key) Format(state fmt.State, _ rune) {
+	fmt.Fprintf(state, "<%s key of version %d>", k.Type(), k.Version())
+}
+
+// Equal compares two keys in a time that does not depend on their bytes.
+func (k Key) Equal(other Key) bool {
+	if k.held == nil || other.held == nil {
+		return k.held == nil && other.held == nil
+	}
+	one, two := k.held(), other.held()
+	isSame := subtle.ConstantTimeCompare(one.bytes, two.bytes) == 1
+	return isSame && one.version == two.version && one.kind == two.kind
+}
+
+// PASERK is the key as text, k4.local.., to store it. A key pair of version 1 has none.
+func (k Key) PASERK() (string, error) {
+	return k.told((*material).paserk)
+}
+
+// PEM is a private or public key byte for byte as `openssl pkey` writes it.
+func (k Key) PEM() (string, error) {
+	return k.told((*material).pem)
+}
+
+// ID is the PASERK id, k4.lid.., which identifies the key without revealing it. A key pair of version 1 has none.
+func (k Key) ID() (string, error) {
+	return k.told((*material).id)
+}
+
+// Public is the public key of a private one, of version 2, 3 or 4.
+func (k Key) Public() (Key, error) {
+	if k.Type() != Private || k.Version() == 1 {
+		return Key{}, wrong("the public key of a %v", k)
+	}
+	return hiddenOr(k.held().public())
+}
+
+func (k Key) told(call func(*material) ([]byte, error)) (string, error) {
+	if k.held == nil {
+		return "", wrong("there is no key")
+	}
+	text, err := call(k.held())
+	return string(text), err
+}
