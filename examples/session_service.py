@@ -121,7 +121,7 @@ class Sessions:
             key = self._store.admitting(paseto.kid_of(footer))
             if key is None:
                 return None
-            claims = paseto.admit(token, key, aud=AUDIENCE, footer=footer)
+            claims = paseto.admit(token, key, aud=AUDIENCE, require=["exp", "jti"], longest=8192, footer=footer)
         except paseto.Refused:
             return None
         return None if self._store.is_ended(claims["jti"]) else claims

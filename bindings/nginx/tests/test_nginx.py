@@ -611,6 +611,55 @@ class Broken(unittest.TestCase):
         shutil.rmtree(work)
 
 
+class Json(unittest.TestCase):
+    """The reader of JSON, alone under the sanitizers, beside that of Python."""
+
+    def value(self, drawn: random.Random, depth: int) -> Any:
+        kind = drawn.randrange(8)
+        if kind < 4:
+            return (None, drawn.random() < 0.5, drawn.randrange(-(10**6), 10**6), drawn.random())[kind]
+        if kind < 6 or depth > 3:
+            return "".join(drawn.choice(("a", "é", '"', "\\", "\n", "\0", "🔑", "\ud800", "{", "]", ",", ":", " ")) for _ in range(drawn.randrange(8)))
+        if kind == 6:
+            return [self.value(drawn, depth + 1) for _ in range(drawn.randrange(4))]
+        return {drawn.choice("aAbé"): self.value(drawn, depth + 1) for _ in range(drawn.randrange(4))}
+
+    def changed(self, drawn: random.Random, text: bytes) -> bytes:
+        made = bytearray(text)
+        for _ in range(drawn.randrange(1, 4)):
+            at = drawn.randrange(len(made) + 1)
+            if drawn.random() < 0.3:
+                del made[at:]
+            else:
+                made[at : at + drawn.randrange(3)] = bytes(drawn.choice(b'{}[]",:\\u0d8a e1') for _ in range(drawn.randrange(3)))
+        return bytes(made)
+
+    def test_members(self) -> None:
+        here, drawn = Path(os.environ["README"]).parent, random.Random(SEED)
+        with tempfile.TemporaryDirectory() as work:
+            words = ["cc", "-std=c11", "-D_GNU_SOURCE", "-Wall", "-Wextra", "-Werror", "-g", "-O1", "-fsanitize=address,undefined", "-fno-sanitize-recover=all"]
+            subprocess.run([*words, "-I", here / "tests/alone", "-I", here, "-o", f"{work}/json", here / "tests/json.c", here / "paseto_json.c"], check=True)
+            whole = [json.dumps({drawn.choice(("a", "A", "b", "é", "aa")): self.value(drawn, 0) for _ in range(drawn.randrange(5))},
+                                indent=drawn.choice((None, 1))).encode() for _ in range(2000)]
+            texts = [*whole, *(self.changed(drawn, drawn.choice(whole)) for _ in range(10000))]
+            ran = subprocess.run([f"{work}/json"], input="".join(f"{text.hex()}\n" for text in texts), capture_output=True, text=True)
+        self.assertEqual((ran.returncode, ran.stderr), (0, ""))
+        found = ran.stdout.splitlines()
+        self.assertEqual(len(found), len(texts))
+        for text, line in zip(texts, found):
+            try:
+                wanted = json.loads(text)
+            except ValueError:
+                continue
+            if not isinstance(wanted, dict) or "a" not in wanted:
+                self.assertEqual(line, "0", text)
+                continue
+            words = line.split(" ")
+            self.assertEqual((words[0], json.loads(bytes.fromhex(words[1]))), ("1", wanted["a"]), text)
+            is_text = isinstance(wanted["a"], str) and not any("\ud800" <= letter <= "\udfff" for letter in wanted["a"])
+            self.assertEqual(words[2:], ["text" + wanted["a"].encode().hex()] if is_text else [], text)
+
+
 class Readme(unittest.TestCase):
     def test_the_configuration_of_the_readme(self) -> None:
         gateway = Gateway()
