@@ -46,13 +46,16 @@ var ErrRefused = errors.New("paseto: the token is refused")
 // that is no text, a key of another type than the call takes. Nothing was called.
 var ErrArgument = errors.New("paseto: a wrong argument")
 
-// StatusOf is what a service answers by HTTP: 401 for a token that is refused, 403 for one of another audience, and 500 for
+// ErrNoToken is that a request has no token.
+var ErrNoToken = errors.New("paseto: the request has no token")
+
+// StatusOf is what a service answers by HTTP: 401 for no token and for one that is refused, 403 for one of another audience, and 500 for
 // every other error.
 func StatusOf(err error) int {
 	switch {
 	case errors.Is(err, ErrInvalid):
 		return http.StatusForbidden
-	case errors.Is(err, ErrRefused):
+	case errors.Is(err, ErrRefused), errors.Is(err, ErrNoToken):
 		return http.StatusUnauthorized
 	}
 	return http.StatusInternalServerError

@@ -38,10 +38,7 @@ func ExampleKey_Admit() {
 	token, _ := key.Issue(claims{Sub: "ada", Aud: "customers"})
 	err := key.Admit(token, nil, paseto.Audience("staff"))
 	fmt.Println(errors.Is(err, paseto.ErrInvalid), paseto.StatusOf(err))
-	fmt.Println(err)
-	// Output:
-	// true 403
-	// paseto: The claim 'aud' failed validation.  Expected 'staff' but received 'customers'
+	// Output: true 403
 }
 
 // A ring whose newest key issues, while tokens of the one before are still admitted.

@@ -79,7 +79,7 @@ func (made *settings) tokenOf(r *http.Request) string {
 // claims are those of a request that is let through.
 func (made *settings) claims(r *http.Request, keys Admitter, token string, options []Option) (json.RawMessage, error) {
 	if token == "" {
-		return nil, ErrNoClaims
+		return nil, ErrNoToken
 	}
 	claims, err := keys.admitted(token, options)
 	if err != nil || made.isRevoked == nil {
@@ -97,8 +97,7 @@ func refuse(w http.ResponseWriter, err error) {
 	status := StatusOf(err)
 	var fault *Error
 	switch {
-	case err == ErrNoClaims:
-		status = http.StatusUnauthorized
+	case err == ErrNoToken:
 		w.Header().Set("WWW-Authenticate", "Bearer")
 	case status != http.StatusInternalServerError && errors.As(err, &fault):
 		name := "invalid_token"

@@ -426,7 +426,7 @@ func TestMiddleware(t *testing.T) {
 			t.Errorf("%s: the token is in the answer", row.name)
 		}
 	}
-	is(t, "what is told of refusals", told, map[int]int{401: 5, 403: 1, 500: 5})
+	is(t, "what is told of refusals", told, map[int]int{401: 7, 403: 1, 500: 1})
 	defer func() {
 		if recover() == nil {
 			t.Error("a wrong option is taken")

@@ -445,7 +445,8 @@ class Hostile(unittest.TestCase):
         shutil.rmtree(gateway.work)
 
     def test_under_valgrind(self) -> None:
-        before = ("valgrind", "-q", "--error-exitcode=9", "--leak-check=full", "--errors-for-leak-kinds=definite", "--log-file=%q{VALGRIND_LOG}")
+        before = ("valgrind", "-q", "--error-exitcode=9", "--leak-check=full", "--show-leak-kinds=definite",
+                  "--errors-for-leak-kinds=definite", "--log-file=%q{VALGRIND_LOG}")
         os.environ["VALGRIND_LOG"] = log = tempfile.mktemp(prefix="valgrind-")
         gateway = Gateway(before=before)
         # One process, which ends as a worker does.
