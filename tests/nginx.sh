@@ -26,7 +26,7 @@ if bash "$root/bindings/nginx/build.sh" "$work" "$prefix" >"$work/log" 2>&1; the
 cp "$root/bindings/nginx/tests/test_nginx.py" "$work"
 export MODULE=$work/ngx_http_paseto_module.so LD_LIBRARY_PATH=$prefix/lib PASETO_LIBRARY=$prefix/lib/libpaseto.so.1
 export PYTHONPATH=$root/bindings/python/src PYTHONDONTWRITEBYTECODE=1 README=$root/bindings/nginx/README.md
-export SEED=${SEED:-$(date +%s)}
+export PUBLISHED=$root/crates/test_rows/data/published.txt SEED=${SEED:-$(date +%s)}
 (cd "$work" && python3 -m unittest -v test_nginx) >"$work/log" 2>&1
 ran=$(sed -nE 's/^Ran ([0-9]+) tests? in .*/\1/p' "$work/log")
 wrong=$(grep -cE '^(ERROR|FAIL): ' "$work/log")
