@@ -203,6 +203,21 @@ static void tell(ngx_http_request_t *r, ngx_uint_t status, ngx_str_t *line, ngx_
     ngx_log_error(level, r->connection->log, 0, "paseto: token refused: %V: %V, jti: %V", &name, line, jti);
 }
 
+/* Whether the library's line names a claim that the location expects: it has another type, and not only another text. */
+static ngx_uint_t is_expected(location_t *location, u_char *line, size_t length) {
+    ngx_keyval_t *claim = location->claims == NULL ? NULL : location->claims->elts;
+    ngx_uint_t i;
+    u_char *at;
+
+    for (i = 0; claim != NULL && i < location->claims->nelts; i++) {
+        at = memmem(line, length, claim[i].key.data, claim[i].key.len);
+        if (at != NULL && at > line && at[-1] == '\'' && at + claim[i].key.len < line + length && at[claim[i].key.len] == '\'') {
+            return 1;
+        }
+    }
+    return 0;
+}
+
 /* Reads the claims of a token. */
 static ngx_uint_t admit(ngx_http_request_t *r, location_t *location, ngx_str_t *token, outcome_t *outcome) {
     u_char said[LINE];
@@ -228,6 +243,9 @@ static ngx_uint_t admit(ngx_http_request_t *r, location_t *location, ngx_str_t *
         status = room.at == NULL ? PASETO_MEMORY : any_key_parse(key->key, lent(token), lent(&location->expected), ngx_time(), lent(&footer),
                                                               lent(&assertion), &options, room, message);
         outcome->kid = key->id;
+        if (status == PASETO_UNEXPECTED && is_expected(location, said, ngx_min(told, sizeof said))) {
+            status = PASETO_INVALID;
+        }
         if (status >= PASETO_PAYLOAD_JSON_ERROR && status <= PASETO_INVALID) {
             jti = jti_of(r, key->key, token, lent(&footer), lent(&assertion));
         }

@@ -255,6 +255,8 @@ class Requests(unittest.TestCase):
             ("/require", token, 401, "missing"),
             ("/on", paseto.encrypt(LOCAL, '{"price":1.5,"exp":"2100-01-01T00:00:00Z"}', footer=paseto.key_footer(KID)), 401, "unexpected"),
             ("/claims", issue(aud="staff"), 403, "invalid"),
+            ("/claims", issue(aud=["customers"]), 403, "invalid"),
+            ("/claims", issue(seats=4), 401, "missing"),
             ("/short", issue(text="x" * 300), 401, "too_long"),
             ("/on", issue(OTHER, OTHER.id), 401, "unknown_key"),
             ("/on", issue(kid=None), 401, "unknown_key"),
