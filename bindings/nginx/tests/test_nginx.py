@@ -492,6 +492,30 @@ class Hostile(unittest.TestCase):
         shutil.rmtree(gateway.work)
 
 
+class Memory(unittest.TestCase):
+    def test_refused_memory(self) -> None:
+        """The library gets none: 500, said at the level of errors, and nothing stays behind."""
+        here = Path(os.environ["README"]).parent
+        gateway = Gateway()
+        subprocess.run(["cc", "-shared", "-fPIC", "-o", gateway.work / "refuse.so", here / "tests/refuse.c", "-ldl"], check=True)
+        file = gateway.work / "refuse"
+        gateway.before = ("env", f"LD_PRELOAD={gateway.work}/refuse.so", f"REFUSE={file}")
+        # nginx passes on the variables that it is told to, and the loader has read its own.
+        conf = gateway.work / "nginx.conf"
+        conf.write_text("env REFUSE;\n" + conf.read_text())
+        gateway.start()
+        token = issue()
+        for _ in range(2):
+            self.assertEqual(gateway.get("/on", token)[0], 200)
+            file.touch()
+            self.assertEqual(gateway.get("/on", token)[:2], (500, ""))
+            self.assertEqual(gateway.access()[-1].split()[:3], ["/on", "500", "memory"])
+            file.unlink()
+        self.assertRegex(gateway.log(), r"\[error\] .*paseto: token refused: memory: ")
+        gateway.stop()
+        shutil.rmtree(gateway.work)
+
+
 class Load(unittest.TestCase):
     def wrk(self, port: int, path: str, token: str | None, seconds: int) -> str:
         words = ["-H", f"Authorization: Bearer {token}"] if token else []
