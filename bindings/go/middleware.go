@@ -69,7 +69,8 @@ func (made *settings) tokenOf(r *http.Request) string {
 		}
 		return ""
 	}
-	scheme, token, _ := strings.Cut(r.Header.Get("Authorization"), " ")
+	// Of two headers another service might read the other one: together they are no token.
+	scheme, token, _ := strings.Cut(strings.Join(r.Header.Values("Authorization"), ","), " ")
 	if !strings.EqualFold(scheme, "Bearer") {
 		return ""
 	}

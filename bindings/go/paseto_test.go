@@ -426,7 +426,12 @@ func TestMiddleware(t *testing.T) {
 			t.Errorf("%s: the token is in the answer", row.name)
 		}
 	}
-	is(t, "what is told of refusals", told, map[int]int{401: 7, 403: 1, 500: 1})
+	two := httptest.NewRequest("GET", "/", nil)
+	two.Header["Authorization"] = []string{"Bearer " + fresh, "Bearer " + fresh}
+	answer := httptest.NewRecorder()
+	Middleware(local, options...)(hello).ServeHTTP(answer, two)
+	is(t, "the status of two headers", answer.Code, 401)
+	is(t, "what is told of refusals", told, map[int]int{401: 8, 403: 1, 500: 1})
 	defer func() {
 		if recover() == nil {
 			t.Error("a wrong option is taken")

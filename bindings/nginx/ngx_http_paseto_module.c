@@ -115,7 +115,7 @@ static ngx_int_t answer_of(ngx_uint_t status) {
     return memchr(refused, (int) status, sizeof refused) != NULL ? NGX_HTTP_UNAUTHORIZED : NGX_HTTP_INTERNAL_SERVER_ERROR;
 }
 
-/* The token of a request, empty where there is none. */
+/* The token of a request, empty where there is none. nginx itself answers 400 to two headers of this name. */
 static ngx_int_t token_of(ngx_http_request_t *r, location_t *location, ngx_str_t *token) {
     static const ngx_str_t scheme = ngx_string("bearer ");
     ngx_table_elt_t *header = r->headers_in.authorization;

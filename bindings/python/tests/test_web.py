@@ -193,6 +193,9 @@ class Asgi(Services):
         self.assertEqual(seen, [])
         self.assertEqual(sent("websocket", (b"authorization", b"Bearer " + token().encode())), [{"type": "websocket.accept"}])
         self.assertEqual(seen[0]["sub"], "ada")
+        two = [(b"authorization", b"Bearer " + token().encode())] * 2
+        self.assertEqual(sent("websocket", *two), [{"type": "websocket.close", "code": 1008}])
+        self.assertEqual(sent("http", *two)[0]["status"], 401)
         sent("lifespan")
         self.assertEqual(seen[1:], ["none"])
 

@@ -59,7 +59,8 @@ class TokenMiddleware:
         if self._cookie is not None:
             # HTTP/2 may send the cookies in several headers.
             return cookie_token("; ".join(found), self._cookie)
-        return bearer_token(found[0] if found else None)
+        # Of two headers another service might read the other one: together they are no token, as under WSGI.
+        return bearer_token(",".join(found) or None)
 
     async def _admitted(self, token: str) -> dict[str, Any]:
         """The claims of a token that is admitted, and that was not revoked."""
