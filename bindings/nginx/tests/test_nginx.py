@@ -7,6 +7,7 @@ The tokens are made by the package for Python. SEED decides the hostile tokens; 
 
 from __future__ import annotations
 
+import atexit
 import contextlib
 import http.client
 import json
@@ -150,6 +151,7 @@ http {{
     def start(self) -> Gateway:
         words = [*self.before, NGINX, "-p", str(self.work), "-c", str(self.work / "nginx.conf"), "-g", "daemon off;"]
         self.process = subprocess.Popen(words, stdout=subprocess.DEVNULL, stderr=open(self.work / "stderr", "w"))
+        atexit.register(self.end)
         for _ in range(600):
             with contextlib.suppress(OSError), socket.create_connection(("127.0.0.1", self.port), 1):
                 return self
@@ -160,9 +162,14 @@ http {{
 
     def stop(self) -> int:
         self.process.send_signal(signal.SIGQUIT)
-        status = self.process.wait(60)
-        self.status = status
-        return status
+        return self.process.wait(60)
+
+    def end(self) -> None:
+        """Where a test failed, nothing of it goes on."""
+        if self.process.poll() is None:
+            self.process.terminate()
+            self.process.wait(60)
+        shutil.rmtree(self.work, ignore_errors=True)
 
     def log(self) -> str:
         return (self.work / "error.log").read_text(errors="replace")
