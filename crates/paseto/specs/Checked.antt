@@ -1,5 +1,5 @@
 -- What `check` prints.
-use Rattle.std.specs.Prelude.{◌≡◌, ◌⊎◌, ℕ, List, [], ◌∷◌, ◌++◌, Option, false, IsUtf8}
+use Rattle.std.specs.Prelude.{◌≡◌, ◌⊎◌, ℕ, List, [], ◌∷◌, ◌++◌, Option, false, IsUtf8, map}
 use Rattle.jiff.specs.Types.{Timestamp}
 use Rattle.serde_json.specs.Data.{Data}
 use Rattle.rusty_paseto_parts.specs.declared.texts.implicit_assertion.ImplicitAssertion.{ImplicitAssertion}
@@ -7,7 +7,7 @@ use Rattle.serde_json.specs.Written.{compact_text, has_float}
 use Rattle.paseto_tasks.specs.declared.arguments.Options.{Options}
 use Rattle.paseto.specs.declared.commands.check.Keys.{Keys}
 use Rattle.paseto.specs.declared.commands.check.Keys.TheVariants.{One, Ring}
-use Rattle.paseto_tasks.specs.Arguments.{words_of}
+use Rattle.paseto_keys.specs.AnyKey.{parts_of}
 use Rattle.rusty_paseto_claims.specs.declared.error.PasetoClaimError.{PasetoClaimError}
 use Rattle.rusty_paseto_generic.specs.Parsers.Parsing.{IsCheckFault}
 use Rattle.rusty_paseto_generic.specs.declared.error.GenericParserError.TheVariants.{ClaimError}
@@ -15,10 +15,10 @@ use Rattle.paseto.specs.Answers.{claim_line}
 use Rattle.paseto.specs.Check.{AreDemands, Demanded, IsDemanded, IsOtherFooter, ParsesByKey, demanded_rules}
 use Rattle.paseto.specs.Ring.{IsRingLine, ParsesByRing}
 
--- the value is that of the token under the key of the line, or the one of the lines that its footer names
+-- the value is that of the token under the key, or under the one of the ring that its footer names
 abbrev pub ParsesBy : Keys → Option (List ℕ) → Option ImplicitAssertion → List ℕ → Data → Type 0
-ParsesBy (One key) footer assertion token value = ParsesByKey key.now footer assertion token value
-ParsesBy (Ring lines) footer assertion token value = ParsesByRing (words_of lines.now) footer assertion token value
+ParsesBy (One key) footer assertion token value = ParsesByKey (parts_of key.now) footer assertion token value
+ParsesBy (Ring keys) footer assertion token value = ParsesByRing (map parts_of keys.now) footer assertion token value
 
 -- the line is the JSON of the value, with no space
 abbrev pub IsJsonLine : Data → List ℕ → Type 0
@@ -40,10 +40,10 @@ pub record ChecksFor (claims : List (List ℕ)) (options : Options) (now : Times
 abbrev pub ChecksNothing : List (List ℕ) → Options → Timestamp → Keys → List ℕ → Type 0
 ChecksNothing claims options now keys token = (line : List ℕ) → ¬ ChecksFor claims options now keys token line
 
--- the token's footer is another one than words say, for the key of a line; the keys of a ring are found by the token's own
+-- the token's footer is another one than words say, for one key; the keys of a ring are found by the token's own
 abbrev pub IsOtherFooterFor : Keys → Option (List ℕ) → List ℕ → Type 0
 IsOtherFooterFor (One key) footer token = IsOtherFooter footer token
-IsOtherFooterFor (Ring lines) footer token = ⊥
+IsOtherFooterFor (Ring keys) footer token = ⊥
 
 -- ---- what is said of a token that is refused, beside what stands in the table of errors
 

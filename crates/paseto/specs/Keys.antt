@@ -1,8 +1,10 @@
 -- What is said of a key that the arguments name.
-use Rattle.std.specs.Prelude.{ℕ, List, Option, None, Some, codes}
+use Rattle.std.specs.Prelude.{◌≡◌, ◌⊎◌, ℕ, List, [], ◌++◌, ◌∷◌, Option, None, Some, codes}
 use Rattle.paseto_key_files.specs.declared.error.KeyFileError.{KeyFileError}
 use Rattle.paseto_key_files.specs.declared.error.KeyFileError.TheVariants.{OtherOpener}
+use Rattle.paseto_tasks.specs.Error.{IsMemory, key_file_error_of}
 use Rattle.paseto.specs.Files.{input_name}
+use Rattle.paseto.specs.declared.fault.Fault.{Fault}
 
 -- the name of a key in lines on standard error: the environment's variable where no key is named
 abbrev pub key_name : Option (List ℕ) → List ℕ
@@ -13,3 +15,8 @@ key_name (Some path) = input_name (Some path)
 abbrev pub about_of : KeyFileError → List ℕ → List ℕ → List ℕ
 about_of (OtherOpener source) opener name = opener
 about_of error opener name = name
+
+-- memory was refused, or the key of this name is at fault, as this says
+abbrev pub IsKeyFault : List ℕ → (KeyFileError → Type 0) → Fault → Type 0
+IsKeyFault name Is fault =
+    IsMemory fault.error ⊎ ((fault.about.now ≡ name) × ((source : KeyFileError) × Is source × (fault.error ≡ key_file_error_of source)))
