@@ -4,7 +4,7 @@ use Rattle.std.specs.Borrow.{Bor}
 use Rattle.std.specs.Cmp.Lexicographic.{pointwise}
 use Rattle.std.specs.declared.alloc.Global.{Global}
 use Rattle.std.specs.declared.string.String.{String}
-use Rattle.rusty_paseto_core.specs.Context.{Binding, assertion_of, binding_of}
+use Rattle.rusty_paseto_core.specs.Context.{assertion_of}
 use Rattle.rusty_paseto_parts.specs.declared.texts.implicit_assertion.ImplicitAssertion.{ImplicitAssertion}
 use Rattle.rusty_paseto_paserk.specs.declared.header.PaserkVersion.{PaserkVersion}
 use Rattle.rusty_paseto_paserk.specs.declared.header.PaserkVersion.TheVariants.{V1, V2}
@@ -53,16 +53,3 @@ abbrev pub Takes : PaserkVersion → Option ImplicitAssertion → Type 0
 Takes V1 assertion = assertion_of assertion ≡ []
 Takes V2 assertion = assertion_of assertion ≡ []
 Takes _ assertion = ⊤
-
-abbrev pub binds_in : PaserkVersion → Bool
-binds_in V1 = false
-binds_in V2 = false
-binds_in _ = true
-
--- the assertion, in a version that binds its tokens to one
-abbrev pub assertion_where : Bool → Option ImplicitAssertion → Option ImplicitAssertion
-assertion_where binds assertion = if binds then assertion else None
-
--- what a key and the options bind a token to
-abbrev pub bound_by : Bool → List ℕ → Options → Binding
-bound_by binds key options = binding_of key options.footer (assertion_where binds options.assertion)
