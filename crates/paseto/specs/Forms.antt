@@ -8,6 +8,7 @@ use Rattle.paseto_keys.specs.AnyKey.{KeyParts}
 use Rattle.paseto_keys.specs.Forms.{ByLine, ByNoLine}
 use Rattle.paseto_keys.specs.WrittenLine.{HasNoLine, IsWrittenIn}
 use Rattle.paseto_tasks.specs.Arguments.{format_of}
+use Rattle.paseto_tasks.specs.Output.{IsLineOf}
 use Rattle.paseto_tasks.specs.declared.arguments.Format.{Format}
 use Rattle.paseto_tasks.specs.declared.arguments.Format.TheVariants.{Paserk, Pem}
 
@@ -38,7 +39,7 @@ new_cost = record { iterations = 100000; memory = 67108864; passes = 2; lanes = 
 
 -- the text is that of a key under a password, with what was drawn for it
 abbrev pub IsLocked : List ℕ → (List ℕ → Type 0) → KeyParts → List ℕ → Type 0
-IsLocked password IsDrawn key text = (locked : List ℕ) × ByLine key (Protects password new_cost IsDrawn) locked × (text ≡ locked ++ (10 ∷ []))
+IsLocked password IsDrawn key text = (locked : List ℕ) × ByLine key (Protects password new_cost IsDrawn) locked × IsLineOf locked text
 
 -- why it has none
 abbrev pub IsNotLocked : List ℕ → Type 0 → KeyParts → KeyFileError → Type 0

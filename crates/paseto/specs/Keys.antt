@@ -1,10 +1,14 @@
 -- What is said of a key that the arguments name.
-use Rattle.std.specs.Prelude.{◌≡◌, ◌⊎◌, ℕ, List, [], ◌++◌, ◌∷◌, Option, None, Some, codes}
+use Rattle.std.specs.Prelude.{◌≡◌, ◌⊎◌, ℕ, List, Option, None, Some, codes}
+use Rattle.std.specs.Io.BufRead.{strip_last}
 use Rattle.paseto_key_files.specs.declared.error.KeyFileError.{KeyFileError}
 use Rattle.paseto_key_files.specs.declared.error.KeyFileError.TheVariants.{OtherOpener}
+use Rattle.paseto_key_files.specs.declared.openers.Openers.{Openers}
 use Rattle.paseto_tasks.specs.Error.{IsMemory, key_file_error_of}
+use Rattle.paseto_tasks.specs.Output.{IsLineOf}
 use Rattle.paseto.specs.Files.{input_name}
 use Rattle.paseto.specs.declared.fault.Fault.{Fault}
+use Rattle.paseto.specs.declared.keys.Held.{Held}
 
 -- the name of a key in lines on standard error: the environment's variable where no key is named
 abbrev pub key_name : Option (List ℕ) → List ℕ
@@ -20,3 +24,21 @@ about_of error opener name = name
 abbrev pub IsKeyFault : List ℕ → (KeyFileError → Type 0) → Fault → Type 0
 IsKeyFault name Is fault =
     IsMemory fault.error ⊎ ((fault.about.now ≡ name) × ((source : KeyFileError) × Is source × (fault.error ≡ key_file_error_of source)))
+
+-- a text without the carriage return at its end, if there is one
+abbrev pub without_return : List ℕ → List ℕ
+without_return text = strip_last 13 text
+
+-- the password and the key that are held
+abbrev pub openers_of : Held → Openers
+openers_of held = record { password = held.password; key = held.key }
+
+-- the text is one that is so, with a line feed behind it
+abbrev pub IsTextBy : (List ℕ → Type 0) → List ℕ → Type 0
+IsTextBy Is text = (made : List ℕ) × Is made × IsLineOf made text
+
+-- memory was refused, or the key of this name or the other one is at fault, as this says
+abbrev pub IsOtherFault : List ℕ → List ℕ → (KeyFileError → Type 0) → Fault → Type 0
+IsOtherFault name other Is fault =
+    IsMemory fault.error
+    ⊎ ((source : KeyFileError) × Is source × (fault.about.now ≡ about_of source other name) × (fault.error ≡ key_file_error_of source))

@@ -13,3 +13,16 @@ IsKindFor word half kind = (kind_of word ≡ Some kind) × ((is_some half ≡ fa
 abbrev pub IsKindFault : List ℕ → Option (List ℕ) → ProgramError → Type 0
 IsKindFault word half error = ((kind_of word ≡ None) × (error ≡ NoKind))
     ⊎ ((kind : Kind) × (kind_of word ≡ Some kind) × (is_pair kind ≡ false) × (is_some half ≡ true) × (error ≡ NoHalf))
+
+-- the type and the version of the keys of a kind: its private ones, of a pair
+abbrev pub type_of : Kind → PaserkType
+type_of kind = if is_pair kind then Secret else Local
+
+abbrev pub version_of : Kind → PaserkVersion
+version_of V1Local = V1
+version_of V2Local = V2
+version_of V2Public = V2
+version_of V3Local = V3
+version_of V3Public = V3
+version_of V4Local = V4
+version_of V4Public = V4

@@ -2,6 +2,7 @@
 
 ghost use Rattle.std.specs.Prelude.{◌≡◌, IfErr, IfOk, None, Some, option_map, string_bytes};
 ghost use Rattle.paseto_keys.specs.AnyKey.{parts_of};
+ghost use Rattle.paseto_tasks.specs.Error.{IsMemory};
 ghost use Rattle.paseto.specs.Forms.{HasNoForm, IsEnded, IsFormed, IsLocked, IsNotLocked, format_in, new_cost};
 ghost use Rattle.paseto.specs.Keys.{IsKeyFault};
 
@@ -10,7 +11,7 @@ use paseto_keys::AnyKey;
 use paseto_tasks::{Format, ProgramError, with_line_feed};
 use paseto_wrapping::PasswordCost;
 use rand_core::TryRng;
-use std::alloc::{AllocError, Global};
+use std::alloc::Global;
 
 /// The format that an argument names, or PASERK if there is none.
 pub fn format_of(word: Option<&str>) -> Result<Format, ProgramError>
@@ -50,8 +51,9 @@ pub fn formed<'a>(
 }
 
 /// A line, and a line feed behind it if it does not end in one.
-fn ended(line: String) -> Result<String, AllocError>
-    ensures { IfOk result (λ text. IsEnded (string_bytes line) (string_bytes text)) }
+fn ended(line: String) -> Result<String, ProgramError>
+    ensures ended { IfOk result (λ text. IsEnded (string_bytes line) (string_bytes text)) }
+    ensures memory { IfErr result IsMemory }
 {
     let mut text = line;
     if !text.ends_with('\n') {
