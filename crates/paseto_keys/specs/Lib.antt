@@ -1,6 +1,8 @@
 pub mod AnyKey
 pub mod Claims
+pub mod Drawing
 pub mod Error
+pub mod Generation
 pub mod Id
 pub mod Line
 pub mod PublicHalf

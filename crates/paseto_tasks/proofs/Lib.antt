@@ -1,14 +1,10 @@
 pub mod Outputs
 pub mod Inspections
-pub mod Refusals
-pub mod Versions
-pub mod Boxes
 pub mod Statuses
 pub mod Blames
+pub mod Inputs
 pub mod Fronts
-pub mod Ids
 pub mod KeyLines
-pub mod Halves
+pub mod Uses
 pub mod Spellings
 pub mod Showing
-pub mod Explanations

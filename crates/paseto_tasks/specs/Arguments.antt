@@ -7,7 +7,9 @@ use Rattle.std.specs.declared.string.String.{String}
 use Rattle.rusty_paseto_core.specs.Context.{assertion_of}
 use Rattle.rusty_paseto_parts.specs.declared.texts.implicit_assertion.ImplicitAssertion.{ImplicitAssertion}
 use Rattle.rusty_paseto_paserk.specs.declared.header.PaserkVersion.{PaserkVersion}
-use Rattle.rusty_paseto_paserk.specs.declared.header.PaserkVersion.TheVariants.{V1, V2}
+use Rattle.rusty_paseto_paserk.specs.declared.header.PaserkVersion.TheVariants.{V1, V2, V3, V4}
+use Rattle.rusty_paseto_paserk.specs.declared.header.PaserkType.{PaserkType}
+use Rattle.rusty_paseto_paserk.specs.declared.header.PaserkType.TheVariants.{Local, Secret}
 use Rattle.paseto_tasks.specs.declared.arguments.Kind.{Kind}
 use Rattle.paseto_tasks.specs.declared.arguments.Kind.TheVariants.{V1Local, V2Local, V2Public, V3Local, V3Public, V4Local, V4Public}
 use Rattle.paseto_tasks.specs.declared.arguments.Format.{Format}
@@ -47,6 +49,25 @@ is_pair V4Local = false
 is_pair V2Public = true
 is_pair V3Public = true
 is_pair V4Public = true
+
+-- the type and the version of the key that is generated: of a pair, the private half
+abbrev pub type_of : Kind → PaserkType
+type_of V1Local = Local
+type_of V2Local = Local
+type_of V3Local = Local
+type_of V4Local = Local
+type_of V2Public = Secret
+type_of V3Public = Secret
+type_of V4Public = Secret
+
+abbrev pub version_of : Kind → PaserkVersion
+version_of V1Local = V1
+version_of V2Local = V2
+version_of V2Public = V2
+version_of V3Local = V3
+version_of V3Public = V3
+version_of V4Local = V4
+version_of V4Public = V4
 
 -- the assertion may stand in a token of a version: one that binds its tokens to none takes the empty one alone
 abbrev pub Takes : PaserkVersion → Option ImplicitAssertion → Type 0

@@ -13,9 +13,9 @@ use Rattle.rusty_paseto_parts.specs.declared.error.PasetoError.{PasetoError}
 use Rattle.rusty_paseto_parts.specs.declared.error.PasetoError.TheVariants.{ChaChaCipherError, Cipher, Cryption, InvalidSignature, Memory as NoMemory, WrongHeader, Signature, KeyRejected}
 use Rattle.rusty_paseto_paserk.specs.Error.{error_text as key_error_text}
 use Rattle.rusty_paseto_paserk.specs.declared.error.PaserkError.{PaserkError}
-use Rattle.rusty_paseto_paserk.specs.declared.error.PaserkError.TheVariants.{Memory as NoKeyMemory, OtherType as OtherKeyType}
+use Rattle.rusty_paseto_paserk.specs.declared.error.PaserkError.TheVariants.{Memory as NoKeyMemory, OtherType as OtherKeyType, OtherVersion as OtherKeyVersion}
 use Rattle.paseto_keys.specs.declared.error.KeyError.{KeyError}
-use Rattle.paseto_keys.specs.declared.error.KeyError.TheVariants.{OtherType, NoAssertion as NoBinding, OtherLength, Refused as RefusedToken, Random as NoDraw, Memory as NoUseMemory}
+use Rattle.paseto_keys.specs.declared.error.KeyError.TheVariants.{OtherType, OtherVersion, NoAssertion as NoBinding, OtherLength, Refused as RefusedToken, Random as NoDraw, Memory as NoUseMemory}
 use Rattle.paseto_streams.specs.declared.error.StreamError.{StreamError}
 use Rattle.paseto_streams.specs.declared.error.StreamError.TheVariants.{InputOrOutput as NoStream, Memory as NoStreamMemory}
 use Rattle.paseto_tasks.specs.declared.error.About.{About}
@@ -141,6 +141,7 @@ program_error_of error = Refused error
 -- the same of why a key did not read or write a token
 abbrev pub use_error_of : KeyError → ProgramError
 use_error_of (OtherType kind) = Key (OtherKeyType kind)
+use_error_of (OtherVersion version) = Key (OtherKeyVersion version)
 use_error_of NoBinding = NoAssertion
 use_error_of (OtherLength _) = Random
 use_error_of (RefusedToken source) = Refused source

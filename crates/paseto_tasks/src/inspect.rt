@@ -4,8 +4,8 @@ ghost use Rattle.std.specs.Prelude.{◌≡◌, ◌⊎◌, ◌++◌, ℕ, List, I
 ghost use Rattle.std.specs.List.{slice_get};
 ghost use Rattle.std.specs.Cmp.Lexicographic.{pointwise};
 ghost use Rattle.rusty_paseto_parts.specs.Section.{HasCount, sections};
-ghost use Rattle.paseto_tasks.specs.Error.{Fails, IsOutside, IsPlain, nothing};
-ghost use Rattle.paseto_tasks.specs.Inspect.{Inspects, IsTextLine, RefusesInspecting, SaysText, footer_line, line, signature_length};
+ghost use Rattle.paseto_tasks.specs.Error.{IsOutside, IsPlain};
+ghost use Rattle.paseto_tasks.specs.Inspect.{Inspects, InspectsNothing, IsTextLine, SaysText, footer_line, line, signature_length};
 
 use crate::error::ProgramError;
 use rusty_paseto_core::{PasetoError, UntrustedToken, from_section, split_token};
@@ -15,8 +15,8 @@ use std::str;
 /// Returns the lines that describe a token. Its content is not verified and must not be trusted.
 pub fn inspect(alloc: Global, token: &str) -> Result<String, ProgramError>
     ensures printed { IfOk result (λ lines. Inspects token.now (string_bytes lines)) }
-    ensures refused { IfErr result (λ error. RefusesInspecting token.now error
-        ⊎ Fails nothing error) }
+    ensures refused { IfErr result (λ error. IsOutside error ⊎ InspectsNothing token.now) }
+    ensures plain { IfErr result IsPlain }
 {
     let untrusted = UntrustedToken::try_parse(token)?;
     let (version, purpose) = (untrusted.version(), untrusted.purpose());

@@ -16,7 +16,6 @@ mod rsa;
 pub mod run;
 mod shown;
 mod spelling;
-mod suite;
 mod token_kind;
 mod tokens;
 
