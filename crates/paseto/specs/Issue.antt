@@ -14,7 +14,10 @@ use Rattle.paseto.specs.declared.commands.issue.Order.{Order}
 use Rattle.paseto.specs.Answers.{one_line, repeated_text}
 use Rattle.paseto.specs.Claims.{AreClaims, AreSet, Named, all_counted, all_named}
 use Rattle.paseto.specs.Footers.{IsFooter}
+use Rattle.rusty_paseto.specs.Moment.{FitsDefault}
+use Rattle.paseto_tasks.specs.Error.{Blame, IsNoUsage, IsOfWords, IsOutside, Says, nothing}
 use Rattle.paseto_tasks.specs.Output.{IsLineOf}
+use Rattle.paseto_tasks.specs.declared.error.ProgramError.{ProgramError}
 use Rattle.paseto.specs.Times.{IsTimeSet, SaysTime, time_counted}
 
 -- what is ordered: a moment, claims, when the token expires and when it may first be used, and its footer and its assertion
@@ -60,10 +63,6 @@ pub record AreOrdered (order : Ordered) (claims : Members) : Type 0 where
 abbrev pub AreNever : Ordered → Type 0
 AreNever order = (claims : Members) → ¬ AreOrdered order claims
 
--- the words order nothing, or what no claims are
-abbrev pub OrdersNothing : List (List ℕ) → Options → Timestamp → Type 0
-OrdersNothing claims options now = (order : Ordered) → IsOrder claims options now order → AreNever order
-
 -- the keys that are set then, and the last of them that is set again
 abbrev pub keys_set : Ordered → Counting
 keys_set order =
@@ -76,10 +75,6 @@ IsOnce order = (keys_set order).repeated ≡ None
 -- how many bytes a key draws for a token
 abbrev pub draws : KeyParts → ℕ
 draws key = drawn_length key.kind key.version
-
--- it draws some
-abbrev pub Draws : KeyParts → Type 0
-Draws key = draws key ≢ 0
 
 -- the text is that of the claims of what is ordered, of which none is set twice
 pub record IsPayload (order : Ordered) (text : List ℕ) : Type 0 where
@@ -122,23 +117,31 @@ pub record Declines (key : KeyParts) (order : Ordered) : Type 0 where
   pub error : PasetoError
   pub is_declined : (writing key order drawn).Declines (is_some order.footer) text error
 
--- no token is made, whatever bytes are drawn: what the words order at a moment has none under the key, or the key declines
--- it, as one whose halves do not belong together
-abbrev pub IssuesNothing : List (List ℕ) → Options → Timestamp → KeyParts → Type 0
-IssuesNothing claims options now key =
-    ((line : List ℕ) → ¬ IssuesFor claims options now key (λ drawn. length drawn ≡ draws key) line)
-    ⊎ ((order : Ordered) × IsOrder claims options now order × Declines key order)
-
 -- what is said where a claim is set twice, beside what stands in the table of errors: the last one that is
 abbrev pub IsRepeatedLine : Ordered → List ℕ → Type 0
 IsRepeatedLine order line = (name : List ℕ) × ((keys_set order).repeated ≡ Some name) × (line ≡ one_line (repeated_text name))
 
--- the same of what the words order at a moment
-abbrev pub IsIssueLineFor : List (List ℕ) → Options → Timestamp → List ℕ → Type 0
-IsIssueLineFor claims options now line = (order : Ordered) × IsOrder claims options now order × IsRepeatedLine order line
+-- why the claims of what is ordered have no text: they are none, or one is set twice
+pub record RefusesPayload (order : Ordered) (error : ProgramError) : Type 0 where
+  pub none : (text : List ℕ) → ¬ IsPayload order text
+  pub words : IsNoUsage error ⊎ AreNever order
+  pub said : Says (IsRepeatedLine order) error
+  pub inside : ¬ IsOutside error
 
--- ---- for private clauses
+-- why what is ordered has no token, whatever bytes are drawn: there is none under the key, or the key declines it, as one
+-- whose halves do not belong together
+pub record RefusesOrder (key : KeyParts) (order : Ordered) (error : ProgramError) : Type 0 where
+  pub none : ((line : List ℕ) → ¬ Issues key order (λ drawn. length drawn ≡ draws key) line) ⊎ Declines key order
+  pub words : IsNoUsage error ⊎ AreNever order
+  pub said : Says (IsRepeatedLine order) error
+  pub inside : ¬ IsOutside error
 
--- what is ordered has no token under the key, or the key declines it
-abbrev pub IssuesNone : KeyParts → Ordered → Type 0
-IssuesNone key order = ((line : List ℕ) → ¬ Issues key order (λ drawn. length drawn ≡ draws key) line) ⊎ Declines key order
+-- why words have none at a moment: they order nothing, or what they order has none
+abbrev pub RefusesIssue : List (List ℕ) → Options → Timestamp → KeyParts → ProgramError → Type 0
+RefusesIssue claims options now key error =
+    (((order : Ordered) → ¬ IsOrder claims options now order) × IsOfWords error × ¬ IsOutside error)
+    ⊎ ((order : Ordered) × IsOrder claims options now order × RefusesOrder key order error)
+
+-- where an error may come while a token is issued: random bytes, which the key takes, and a moment that is none for claims
+abbrev pub issuing : KeyParts → Type 0 → Timestamp → Blame
+issuing key Failure now = record nothing { no_bytes = (draws key ≢ 0) × Failure; no_moment = ¬ FitsDefault now }

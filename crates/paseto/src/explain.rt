@@ -45,5 +45,14 @@ fn explained<R: Read>(
     };
     let options = text_options(words.footer, words.assertion);
     let (output, errors) = (&mut rt.stdout(), &mut rt.stderr());
-    run_explain(rt.alloc(), &names, key, &options, issued, input, output, errors)
+    run_explain(
+        rt.alloc(),
+        &names,
+        key,
+        &options,
+        issued,
+        input,
+        output,
+        errors,
+    )
 }

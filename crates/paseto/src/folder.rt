@@ -35,12 +35,7 @@ pub fn keys_in(
 
 /// The key in a file of the folder. A key pair of version 1 has no id by which a key ring could find
 /// it.
-fn key_in(
-    alloc: Global,
-    held: &Held<'_>,
-    name: &str,
-    text: &str,
-) -> Result<AnyKey, ProgramError> {
+fn key_in(alloc: Global, held: &Held<'_>, name: &str, text: &str) -> Result<AnyKey, ProgramError> {
     let line = match held.unlock(alloc, text) {
         Ok(line) => line,
         Err(error) => return Err(not_opened(alloc, name, error)),

@@ -43,7 +43,14 @@ fn under_key<'a>(
     key: &AnyKey,
 ) -> Result<String, Fault<'a>> {
     let wrapping = opener_line(rt, path)?;
-    under_line(rt.alloc(), name, path, key, wrapping.as_str(), &mut SysRng::new(rt))
+    under_line(
+        rt.alloc(),
+        name,
+        path,
+        key,
+        wrapping.as_str(),
+        &mut SysRng::new(rt),
+    )
 }
 
 /// The text of a key under the wrapping key of a line, with a line feed.
@@ -90,7 +97,14 @@ pub fn sealed<'a>(rt: &HostRuntime, words: &Seal<'a>) -> Result<u8, Fault<'a>> {
     let name = key_name(words.key.file);
     let key = key_of(rt, &words.key)?;
     let to = opener_line(rt, words.to)?;
-    let made = sealed_to(rt.alloc(), name, words.to, &key, to.as_str(), &mut SysRng::new(rt))?;
+    let made = sealed_to(
+        rt.alloc(),
+        name,
+        words.to,
+        &key,
+        to.as_str(),
+        &mut SysRng::new(rt),
+    )?;
     written(rt, words.out, made.as_str())
 }
 

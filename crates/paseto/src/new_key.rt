@@ -1,9 +1,10 @@
 //! The command `keygen`.
 
-ghost use Rattle.std.specs.Prelude.{◌≡◌, IfErr, IfOk, option_map, string_bytes};
+ghost use Rattle.std.specs.Prelude.{◌≡◌, ◌⊎◌, ◌×◌, Bool, Err, IfErr, IfOk, Ok, option_map, string_bytes};
 ghost use Rattle.paseto_keys.specs.AnyKey.{parts_of};
-ghost use Rattle.paseto_tasks.specs.Error.{IsMemory};
-ghost use Rattle.paseto.specs.NewKey.{HasPublic, IsGenerateFault, IsKindFault, IsKindFor, IsNotSecret, IsNewKey, IsPublicFault, IsSecretText};
+ghost use Rattle.paseto_keys.specs.declared.any_key.AnyKey.{AnyKey as Generated};
+ghost use Rattle.paseto_tasks.specs.Keygen.{IsGenerated};
+ghost use Rattle.paseto.specs.NewKey.{IsHalfText, IsKindFault, IsKindFor, IsNoHalfText, IsNotSecret, IsSecretText};
 
 use crate::fault::Fault;
 use crate::files::{put, write_new};
@@ -11,11 +12,11 @@ use crate::forms::{format_of, formed, locked};
 use crate::half::half_of;
 use crate::keys::password_of;
 use paseto_keys::AnyKey;
+use paseto_tasks::keygen::keygen;
 use paseto_tasks::{Format, Kind, ProgramError};
 use paseto_words::Keygen;
 use rand::rngs::SysRng;
 use rand_core::TryRng;
-use rusty_paseto_paserk::{PaserkType, PaserkVersion};
 use std::alloc::Global;
 
 /// Writes a new key, under a password if one is named, to standard output or to a new file, and its
@@ -25,15 +26,16 @@ pub fn make<'a>(rt: &HostRuntime, words: &Keygen<'a>) -> Result<u8, Fault<'a>> {
     let kind = kind_of(words)?;
     let format = format_of(words.format)?;
     let password = password_of(rt, words.password)?;
-    let (alloc, mut generator) = (rt.alloc(), SysRng::new(rt));
-    let key = new_key(alloc, kind, &mut generator)?;
     let password = password.as_deref();
-    let secret = secret_text(alloc, words.kind, &key, format, password, &mut generator)?;
-    if let Some(path) = words.public {
-        let half = half_of(alloc, words.kind, &key, format)?;
+    let (alloc, generator) = (rt.alloc(), &mut SysRng::new(rt));
+    let asks_half = words.public.is_some();
+    let made = new_texts(
+        alloc, words.kind, kind, format, password, asks_half, generator,
+    )?;
+    if let (Some(path), Some(half)) = (words.public, &made.public) {
         write_new(rt, path, 0o644, half.as_str().as_bytes())?;
     }
-    put(rt, words.out, 0o600, secret.as_str().as_bytes())?;
+    put(rt, words.out, 0o600, made.secret.as_str().as_bytes())?;
     if !words.quiet {
         tell(rt, words, kind, password.is_some())?;
     }
@@ -56,21 +58,61 @@ fn kind_of<'a>(words: &Keygen<'a>) -> Result<Kind, Fault<'a>>
     }
 }
 
-/// A new key of a kind.
-fn new_key<'a, G: TryRng>(
+/// The texts of a new key, each with its line feed.
+#[derive(Drop)]
+struct NewTexts {
+    secret: String,
+    public: Option<String>,
+}
+
+/// The text of a new key of a kind, in a format or under a password, and that of its public half if it
+/// is asked for.
+fn new_texts<'a, G: TryRng>(
     alloc: Global,
+    name: &'a str,
     kind: Kind,
+    format: Format,
+    password: Option<&[u8]>,
+    asks_half: bool,
     generator: &mut G,
-) -> Result<AnyKey, ProgramError>
-    ensures made { IfOk result (λ key. IsNewKey kind
-        (λ drawn. G.may_fill generator.old drawn generator.new) (parts_of key)) }
-    ensures refused { IfErr result (IsGenerateFault kind
-        (λ drawn. G.may_fill generator.old drawn generator.new) G.Error) }
+) -> Result<NewTexts, Fault<'a>>
+    ensures made { IfOk result (λ made. (key : Generated) × (between : G)
+        × IsGenerated kind (λ drawn. G.may_fill generator.old drawn between) G.Error
+        (between ≡ generator.old) (Ok key)
+        × IsSecretText format (option_map (λ bytes. bytes.now) password.entry)
+        (λ drawn. G.may_fill between drawn generator.new) (parts_of key) (string_bytes made.secret)
+        × IsHalfText asks_half format (parts_of key) (option_map string_bytes made.public)) }
+    ensures refused { IfErr result (λ fault. ((between : G)
+        × IsGenerated kind (λ drawn. G.may_fill generator.old drawn between) G.Error
+        (between ≡ generator.old) (Err fault.error))
+        ⊎ ((key : Generated)
+        × (IsNotSecret name.now format (option_map (λ bytes. bytes.now) password.entry) G.Error
+        (parts_of key) fault ⊎ IsNoHalfText name.now format (parts_of key) fault))) }
 {
-    let (kind, version) = kind.parts();
-    match AnyKey::generate(alloc, kind, version, generator) {
-        Ok(key) => Ok(key),
-        Err(error) => Err(ProgramError::from(error)),
+    let key = keygen(alloc, kind, generator)?;
+    let secret = secret_text(alloc, name, &key, format, password, generator)?;
+    let public = half_text(alloc, name, &key, format, asks_half)?;
+    Ok(NewTexts { secret, public })
+}
+
+/// The text of the public half of a key in a format, if it is asked for.
+fn half_text<'a>(
+    alloc: Global,
+    name: &'a str,
+    key: &AnyKey,
+    format: Format,
+    is_asked: bool,
+) -> Result<Option<String>, Fault<'a>>
+    ensures made { IfOk result (λ half. IsHalfText is_asked format (parts_of key.now)
+        (option_map string_bytes half)) }
+    ensures refused { IfErr result (IsNoHalfText name.now format (parts_of key.now)) }
+{
+    if !is_asked {
+        return Ok(None);
+    }
+    match half_of(alloc, name, key, format) {
+        Ok(half) => Ok(Some(half)),
+        Err(fault) => Err(fault),
     }
 }
 

@@ -44,10 +44,28 @@ fn with_input<'a, R: Read>(
     let errors = &mut rt.stderr();
     let Some(path) = words.out else {
         let output = &mut rt.stdout();
-        return Ok(done(alloc, task, words, key, &mut generator, input, output, errors));
+        return Ok(done(
+            alloc,
+            task,
+            words,
+            key,
+            &mut generator,
+            input,
+            output,
+            errors,
+        ));
     };
     let mut made = Vec::new(alloc);
-    let status = done(alloc, task, words, key, &mut generator, input, &mut made, errors);
+    let status = done(
+        alloc,
+        task,
+        words,
+        key,
+        &mut generator,
+        input,
+        &mut made,
+        errors,
+    );
     if status == 0 {
         write_new(rt, path, 0o600, &made)?;
     }
@@ -75,5 +93,7 @@ fn done<G: TryRng, R: Read, W: Write, E: Write>(
         input: name_of(words.input),
     };
     let options = text_options(words.footer, words.assertion);
-    run(alloc, task, &options, &names, key, generator, input, output, errors)
+    run(
+        alloc, task, &options, &names, key, generator, input, output, errors,
+    )
 }

@@ -2,84 +2,73 @@
 
 ghost use Rattle.std.specs.Prelude.{◌≡◌, ◌*ℤ◌, IfErr, IfOk, IsErr, Ok, pos};
 ghost use Rattle.jiff.specs.Words.{IsTimestampNanos};
+ghost use Rattle.paseto_keys.specs.AnyKey.{parts_of};
 ghost use Rattle.paseto.specs.Answers.{second_of};
+ghost use Rattle.paseto.specs.Tokens.{ChecksToken, IssuesToken};
 
 use crate::commands::check::Keys;
 use crate::commands::run::{run_check, run_issue};
 use crate::fault::Fault;
 use crate::files::{is_standard, name_of, opened, write_new};
-use crate::folder::key_lines;
-use crate::keys::{Held, key_line, key_name};
+use crate::folder::keys_in;
+use crate::keys::{Held, key_name, key_of};
+use crate::options::{check_options, issue_options};
 use jiff::Timestamp;
-use paseto_tasks::{Names, Options, ProgramError};
-use paseto_words::{Check, Foot, Issue, KeyFile, Keys as KeyWords};
+use paseto_keys::AnyKey;
+use paseto_tasks::{Names, ProgramError};
+use paseto_words::{Check, Issue, KeyFile, Keys as KeyWords};
 use rand::rngs::SysRng;
-use rusty_paseto_core::{Footer, ImplicitAssertion};
+use rand_core::TryRng;
+use std::alloc::Global;
 use std::io::{Read, Write};
 
 /// Issues a token at the current second.
 pub fn issue<'a>(rt: &HostRuntime, words: &Issue<'a>) -> Result<u8, Fault<'a>> {
-    let line = key_line(rt, &words.key)?;
+    let key = key_of(rt, &words.key)?;
     let now = second_of(clock(rt)?)?;
+    let (alloc, generator, errors) = (rt.alloc(), &mut SysRng::new(rt), &mut rt.stderr());
     let Some(path) = words.out else {
-        return Ok(issued(rt, words, line.as_str(), now, &mut rt.stdout()));
+        let output = &mut rt.stdout();
+        return Ok(issued(alloc, words, &key, now, generator, output, errors));
     };
-    let mut made = Vec::new(rt.alloc());
-    let status = issued(rt, words, line.as_str(), now, &mut made);
+    let mut made = Vec::new(alloc);
+    let status = issued(alloc, words, &key, now, generator, &mut made, errors);
     if status == 0 {
         write_new(rt, path, 0o600, &made)?;
     }
     Ok(status)
 }
 
-fn issued<W: Write>(
-    rt: &HostRuntime,
+/// Issues the token of the arguments at a moment, and returns the status.
+fn issued<G: TryRng, W: Write, E: Write>(
+    alloc: Global,
     words: &Issue<'_>,
-    line: &str,
+    key: &AnyKey,
     now: Timestamp,
+    generator: &mut G,
     output: &mut W,
-) -> u8 {
+    errors: &mut E,
+) -> u8
+    ensures { IssuesToken words.now (parts_of key.now) now
+        (λ given. G.may_fill generator.old given generator.new) (generator.new ≡ generator.old)
+        G.Error W.contents E.contents result output.old output.new errors.old errors.new }
+{
     let names = Names {
         key: key_name(words.key.file),
         input: "",
     };
-    let mut options = options_of(words.foot, words.assertion, &[]);
-    options.expires = words.expires;
-    options.not_before = words.not_before;
+    let options = issue_options(words);
     run_issue(
-        rt.alloc(),
+        alloc,
         &names,
         &words.claims,
         &options,
-        line,
+        key,
         now,
-        &mut SysRng::new(rt),
+        generator,
         output,
-        &mut rt.stderr(),
+        errors,
     )
-}
-
-/// The options for a token from the arguments.
-fn options_of<'a>(
-    foot: Foot<'a>,
-    assertion: Option<&'a str>,
-    required: &'a [&'a str],
-) -> Options<'a> {
-    let (footer, kid) = match foot {
-        Foot::Unsaid => (None, None),
-        Foot::Text(text) => (Some(Footer::from(text)), None),
-        Foot::Kid(id) => (None, Some(id)),
-    };
-    Options {
-        footer,
-        kid,
-        assertion: assertion.map(ImplicitAssertion::from),
-        expires: None,
-        not_before: None,
-        at: None,
-        leeway: None,
-        required,
-    }
 }
 
 /// The second that contains a moment.
@@ -116,8 +105,8 @@ pub fn check<'a>(rt: &HostRuntime, words: &Check<'a>) -> Result<u8, Fault<'a>> {
     match words.keys {
         KeyWords::Ring(folder) => {
             let held = Held::of(rt, &words.openers)?;
-            match key_lines(rt, folder, &held) {
-                Ok(lines) => with_keys(rt, words, folder, &Keys::Ring(&lines)),
+            match keys_in(rt, folder, &held) {
+                Ok(keys) => with_keys(rt, words, folder, &Keys::Ring(&keys)),
                 Err(error) => Err(Fault::about(folder, error)),
             }
         }
@@ -134,8 +123,8 @@ fn with_key<'a>(
     file: Option<&'a str>,
 ) -> Result<u8, Fault<'a>> {
     let openers = words.openers;
-    let line = key_line(rt, &KeyFile { file, openers })?;
-    with_keys(rt, words, key_name(file), &Keys::One(line.as_str()))
+    let key = key_of(rt, &KeyFile { file, openers })?;
+    with_keys(rt, words, key_name(file), &Keys::One(&key))
 }
 
 /// Passes `check` its input: the named file, or standard input.
@@ -145,35 +134,64 @@ fn with_keys<'a>(
     name: &'a str,
     keys: &Keys<'_>,
 ) -> Result<u8, Fault<'a>> {
-    match words.input {
-        None | Some("-") => checked(rt, words, name, keys, &mut rt.stdin()),
-        Some(path) => checked(rt, words, name, keys, &mut opened(rt, path)?),
-    }
+    let (output, errors) = (&mut rt.stdout(), &mut rt.stderr());
+    let (alloc, now) = (rt.alloc(), clock(rt)?);
+    Ok(match words.input {
+        None | Some("-") => {
+            checked(
+                alloc,
+                words,
+                name,
+                keys,
+                now,
+                &mut rt.stdin(),
+                output,
+                errors,
+            )
+        }
+        Some(path) => {
+            checked(
+                alloc,
+                words,
+                name,
+                keys,
+                now,
+                &mut opened(rt, path)?,
+                output,
+                errors,
+            )
+        }
+    })
 }
 
-fn checked<'a, R: Read>(
-    rt: &HostRuntime,
-    words: &Check<'a>,
-    name: &'a str,
+/// Checks the token in an input at a moment, as the arguments say, and returns the status.
+fn checked<R: Read, W: Write, E: Write>(
+    alloc: Global,
+    words: &Check<'_>,
+    name: &str,
     keys: &Keys<'_>,
+    now: Timestamp,
     input: &mut R,
-) -> Result<u8, Fault<'a>> {
+    output: &mut W,
+    errors: &mut E,
+) -> u8
+    ensures { ChecksToken words.now name.now keys.now now (R.remaining input.old) W.contents
+        E.contents result output.old output.new errors.old errors.new }
+{
     let names = Names {
         key: name,
         input: name_of(words.input),
     };
-    let mut options = options_of(words.foot, words.assertion, &words.required);
-    options.at = words.at;
-    options.leeway = words.leeway;
-    Ok(run_check(
-        rt.alloc(),
+    let options = check_options(words);
+    run_check(
+        alloc,
         &names,
         &words.claims,
         &options,
         keys,
-        clock(rt)?,
+        now,
         input,
-        &mut rt.stdout(),
-        &mut rt.stderr(),
-    ))
+        output,
+        errors,
+    )
 }

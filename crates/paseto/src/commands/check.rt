@@ -8,15 +8,16 @@ ghost use Rattle.rusty_paseto_generic.specs.Parsers.Rules.{AreSame, no_rule};
 ghost use Rattle.rusty_paseto_generic.specs.Parsers.Times.{times_at};
 ghost use Rattle.paseto_keys.specs.AnyKey.{parts_of};
 ghost use Rattle.paseto_tasks.specs.Arguments.{texts};
-ghost use Rattle.paseto.specs.Check.{AreDemands, IsCheckedAt, IsOtherFooter, IsTheValue, ParsesByKey, demanded, demanded_rules};
-ghost use Rattle.paseto.specs.Checked.{ChecksBy, IsCheckLine, IsJsonLine, IsOtherFooterFor, ParsesBy};
+ghost use Rattle.paseto_tasks.specs.Error.{Fails, IsMemory, IsOfWords, IsOutside, IsPlain, Lacks, nothing};
+ghost use Rattle.paseto_tasks.specs.Output.{Makes};
+ghost use Rattle.paseto.specs.Check.{AreDemands, IsCheckedAt, IsTheValueOf, RefusesKey, demanded, demanded_rules};
+ghost use Rattle.paseto.specs.Checked.{ChecksBy, IsJsonLine, IsTheValueBy, RefusesDemands, RefusesKeys};
 ghost use Rattle.paseto.specs.Claims.{all_demanded, all_named, all_required, are_whole};
-ghost use Rattle.paseto_tasks.specs.Error.{BlamesOnly, IsFixed, IsNoUsage, IsOfWords, IsOutside, IsPlain, Lacks, Says};
-ghost use Rattle.paseto.specs.Ring.{IsRingLine};
+ghost use Rattle.paseto.specs.Gives.{Gives};
 
 use crate::commands::answers::{admitted, checked, demanded as taken};
 use crate::commands::claims::{NamedClaim, claims_of};
-use crate::commands::footer::footer_of;
+use crate::commands::footer::{footer_of, lent};
 use crate::commands::ring::claims_by_ring;
 use crate::commands::times::{leeway_of, moment_of};
 use jiff::Timestamp;
@@ -24,7 +25,7 @@ use paseto_keys::{AnyKey, ClaimsParser, admit};
 use paseto_tasks::{Options, ProgramError, TimeOption, TokenKind};
 use rusty_paseto::DefaultParser;
 use rusty_paseto::prelude::{
-    CheckSetter, Footer, ImplicitAssertion, Local, PasetoError, PasetoParser, PurposeTrait, V4,
+    CheckSetter, ImplicitAssertion, Local, PasetoError, PasetoParser, PurposeTrait, V4,
     VersionTrait,
 };
 use serde_json::Value;
@@ -84,8 +85,8 @@ impl<'w> Demands<'w> {
         ensures longest { result.longest ≡ None }
     {
         let mut parser = ClaimsParser::new(alloc);
-        if let Some(footer) = &self.footer {
-            parser.set_footer(Footer::from(footer.as_str()));
+        if let Some(footer) = lent(&self.footer) {
+            parser.set_footer(footer);
         }
         if let Some(assertion) = self.assertion {
             parser.set_implicit_assertion(assertion);
@@ -199,13 +200,8 @@ pub fn check(
     demands: &Demands<'_>,
     token: &str,
 ) -> Result<String, ProgramError>
-    ensures found { IfOk result (λ line. ChecksBy keys.now (demanded demands.now) token.now
-        (string_bytes line)) }
-    ensures none { IfErr result (Lacks (λ line. ChecksBy keys.now (demanded demands.now) token.now
-        line)) }
-    ensures no_usage { IfErr result IsNoUsage }
-    ensures said { IfErr result (Says (IsCheckLine keys.now (demanded demands.now) token.now)) }
-    ensures blames { IfErr result (BlamesOnly ⊥ ⊥ ⊥ (IsOtherFooterFor keys.now (demanded demands.now).footer token.now)) }
+    ensures { Makes (ChecksBy keys.now (demanded demands.now) token.now)
+        (RefusesDemands keys.now (demanded demands.now) token.now) (Fails nothing) result }
 {
     let checker = demands.checker(alloc)?;
     let claims = claims_by(alloc, keys, demands, token)?;
@@ -216,26 +212,24 @@ pub fn check(
 /// The line of a value as JSON.
 fn json_line(alloc: Global, value: &Value) -> Result<String, ProgramError>
     ensures line { IfOk result (λ line. IsJsonLine (view value.now) (string_bytes line)) }
-    ensures memory { IfErr result IsOutside }
-    ensures plain { IfErr result IsPlain }
+    ensures memory { IfErr result IsMemory }
 {
     let mut line = value.to_string(alloc)?;
     line.push('\n')?;
     Ok(line)
 }
 
+/// The claims of a token, with one key, or with the one of a ring that its footer names.
 fn claims_by(
     alloc: Global,
     keys: &Keys<'_>,
     demands: &Demands<'_>,
     token: &str,
 ) -> Result<Value, ProgramError>
-    ensures answer { IsTheValue (λ value. ParsesBy keys.now (demanded demands.now).footer
-        (demanded demands.now).assertion token.now value) result }
-    ensures no_usage { IfErr result IsNoUsage }
-    ensures said { IfErr result (Says (IsRingLine token.now)) }
-    ensures blames { IfErr result (BlamesOnly ⊥ ⊥ ⊥
-        (IsOtherFooterFor keys.now (demanded demands.now).footer token.now)) }
+    ensures { Gives (λ value. IsTheValueBy keys.now (demanded demands.now).footer
+        (demanded demands.now).assertion token.now (view value))
+        (RefusesKeys keys.now (demanded demands.now).footer (demanded demands.now).assertion token.now)
+        (Fails nothing) result }
 {
     match keys {
         Keys::One(key) => with_kinds(claims_by_key(alloc, key, demands, token), token, key),
@@ -253,8 +247,6 @@ fn with_kinds(
     ensures value { IfOk result (λ value. answer ≡ Ok value) }
     ensures refused { IfErr result (λ error. IsErrAnd answer (λ source. (source ≡ error)
         ⊎ ((source ≡ ProgramError.Refused PasetoError.WrongHeader) × IsPlain error))) }
-    ensures no_usage { IfErr answer IsNoUsage → IfErr result IsNoUsage }
-    ensures fixed { IfErr answer IsFixed → IfErr result IsFixed }
 {
     match answer {
         Err(ProgramError::Refused(PasetoError::WrongHeader)) => Err(ProgramError::OtherKind(
@@ -272,11 +264,10 @@ fn claims_by_key(
     demands: &Demands<'_>,
     token: &str,
 ) -> Result<Value, ProgramError>
-    ensures answer { IsTheValue (λ value. ParsesByKey (parts_of key.now)
-        (demanded demands.now).footer (demanded demands.now).assertion token.now value) result }
-    ensures fixed { IfErr result IsFixed }
-    ensures blames { IfErr result (BlamesOnly ⊥ ⊥ ⊥
-        (IsOtherFooter (demanded demands.now).footer token.now)) }
+    ensures { Gives (λ value. IsTheValueOf (parts_of key.now) (demanded demands.now).footer
+        (demanded demands.now).assertion token.now (view value))
+        (RefusesKey (parts_of key.now) (demanded demands.now).footer (demanded demands.now).assertion
+        token.now) (Fails nothing) result }
 {
     admitted(admit(alloc, key, &demands.reader(alloc), token))
 }

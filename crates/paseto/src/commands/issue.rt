@@ -9,20 +9,21 @@ ghost use Rattle.paseto_keys.specs.AnyKey.{parts_of};
 ghost use Rattle.paseto_keys.specs.Drawing.{IsDraw};
 ghost use Rattle.paseto_tasks.specs.Arguments.{texts};
 ghost use Rattle.paseto.specs.Claims.{AreNeverSet, AreSet, all_counted, all_named};
-ghost use Rattle.paseto_tasks.specs.Error.{BlamesNone, BlamesOnly, IsNoUsage, IsOfWords, IsOutside, Lacks, Says};
-ghost use Rattle.paseto.specs.Issue.{AreNever, AreOrdered, Draws, IsOrder, IsPayload, IsRepeatedLine, Issues, IssuesNone, draws, keys_set, ordered};
+ghost use Rattle.paseto_tasks.specs.Error.{BlamesNone, BlamesOnly, Fails, IsNoUsage, IsOfWords, IsOutside, Lacks, Says, nothing};
+ghost use Rattle.paseto_tasks.specs.Output.{Makes};
+ghost use Rattle.paseto.specs.Issue.{AreNever, AreOrdered, IsOrder, IsPayload, Issues, RefusesOrder, RefusesPayload, draws, issuing, keys_set, ordered};
 ghost use Rattle.paseto.specs.Times.{IsNeverSet, IsTimeSet, SaysTime, time_counted};
 
-use crate::commands::answers::{built, dated, keyed};
+use crate::commands::answers::{built, dated};
 use crate::commands::claims::{NamedClaim, claims_of};
-use crate::commands::footer::footer_of;
+use crate::commands::footer::{footer_of, lent};
 use crate::commands::times::moment_of;
 use jiff::Timestamp;
 use paseto_keys::{AnyKey, TokenWriter};
 use paseto_tasks::{Options, ProgramError, TimeOption, with_line_feed};
 use rand_core::TryRng;
 use rusty_paseto::prelude::{
-    CountingSetter, ExpirationClaim, Footer, ImplicitAssertion, Local, NotBeforeClaim,
+    CountingSetter, ExpirationClaim, ImplicitAssertion, Local, NotBeforeClaim,
     PasetoBuilder, PurposeTrait, V4, VersionTrait, fits_default,
 };
 use rusty_paseto_claims::moment_text;
@@ -92,31 +93,22 @@ pub fn issue<G: TryRng>(
     order: &Order<'_>,
     generator: &mut G,
 ) -> Result<String, ProgramError>
-    ensures found { IfOk result (λ line. Issues (parts_of key.now) (ordered order.now)
-        (IsDraw (draws (parts_of key.now)) (λ given. G.may_fill generator.old given generator.new)
-        (generator.new ≡ generator.old)) (string_bytes line)) }
-    ensures none { IfErr result (λ error. IsOutside error
-        ⊎ IssuesNone (parts_of key.now) (ordered order.now)) }
-    ensures usage { IfErr result (λ error. IsNoUsage error ⊎ AreNever (ordered order.now)) }
-    ensures said { IfErr result (Says (IsRepeatedLine (ordered order.now))) }
-    ensures blames { IfErr result (BlamesOnly (Draws (parts_of key.now) × G.Error)
-        (¬ FitsDefault order.now.moment) ⊥ ⊥) }
+    ensures { Makes (Issues (parts_of key.now) (ordered order.now) (IsDraw (draws (parts_of key.now))
+        (λ given. G.may_fill generator.old given generator.new) (generator.new ≡ generator.old)))
+        (RefusesOrder (parts_of key.now) (ordered order.now))
+        (Fails (issuing (parts_of key.now) G.Error order.now.moment)) result }
 {
     let payload = payload_of(alloc, order)?;
-    let drawn = keyed(key.draw(alloc, generator))?;
-    let footer = order.footer.as_deref().map(Footer::from);
-    let token = keyed(key.write(alloc, &drawn, payload.as_str(), footer, order.assertion))?;
+    let drawn = key.draw(alloc, generator)?;
+    let footer = lent(&order.footer);
+    let token = key.write(alloc, &drawn, payload.as_str(), footer, order.assertion)?;
     with_line_feed(token)
 }
 
 /// The text of the requested claims.
 fn payload_of(alloc: Global, order: &Order<'_>) -> Result<String, ProgramError>
-    ensures found { IfOk result (λ text. IsPayload (ordered order.now) (string_bytes text)) }
-    ensures none { IfErr result (λ error. IsOutside error
-        ⊎ ((text : List ℕ) → ¬ IsPayload (ordered order.now) text)) }
-    ensures usage { IfErr result (λ error. IsNoUsage error ⊎ AreNever (ordered order.now)) }
-    ensures said { IfErr result (Says (IsRepeatedLine (ordered order.now))) }
-    ensures blames { IfErr result (BlamesOnly ⊥ (¬ FitsDefault order.now.moment) ⊥ ⊥) }
+    ensures { Makes (IsPayload (ordered order.now)) (RefusesPayload (ordered order.now))
+        (Fails (record nothing { no_moment = ¬ FitsDefault order.now.moment })) result }
 {
     let builder = builder_of(alloc, order)?;
     built(alloc, builder.build_payload_from_claims())
@@ -134,7 +126,8 @@ fn builder_of(
     ensures never { IfErr result (λ error. IsOutside error ⊎ AreNever (ordered order.now)) }
     ensures usage { IfErr result (λ error. IsNoUsage error ⊎ AreNever (ordered order.now)) }
     ensures said { IfErr result (Says (λ line. ⊥)) }
-    ensures blames { IfErr result (BlamesOnly ⊥ (¬ FitsDefault order.now.moment) ⊥ ⊥) }
+    ensures blames { IfErr result (BlamesOnly
+        (record nothing { no_moment = ¬ FitsDefault order.now.moment })) }
 {
     if !fits_default(order.moment) {
         return Err(ProgramError::Clock);

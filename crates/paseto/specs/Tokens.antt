@@ -1,0 +1,33 @@
+-- The commands `issue` and `check`.
+use Rattle.std.specs.Prelude.{◌≡◌, ℕ, List, [], Option}
+use Rattle.jiff.specs.Types.{Timestamp}
+use Rattle.paseto_keys.specs.AnyKey.{KeyParts}
+use Rattle.paseto_tasks.specs.declared.arguments.Options.{Options}
+use Rattle.paseto_tasks.specs.declared.error.Names.{Names}
+use Rattle.paseto_words.specs.Action.{text, texts_of}
+use Rattle.paseto_words.specs.declared.action.Check.{Check}
+use Rattle.paseto_words.specs.declared.action.Issue.{Issue}
+use Rattle.paseto.specs.Files.{input_name}
+use Rattle.paseto.specs.Keys.{key_name}
+use Rattle.paseto.specs.Options.{check_options, issue_options, option_texts}
+use Rattle.paseto.specs.Run.{RunsCheck, RunsIssue}
+use Rattle.paseto.specs.declared.commands.check.Keys.{Keys}
+
+-- the token of the words is issued with a key at a moment, and what is said names the file of the key
+pub record IssuesToken {W E : Type 0} (words : Issue) (key : KeyParts) (now : Timestamp) (IsGiven : List ℕ → Type 0) (IsNotCalled Failure : Type 0)
+    (contents : W → Option (List ℕ)) (errors : E → Option (List ℕ)) (status : ℕ) (before after : W) (said_before said_after : E) : Type 0 where
+  pub options : Options
+  pub are_options : option_texts options ≡ issue_options words
+  pub names : Names
+  pub key_is : names.key.now ≡ key_name (text words.key.file)
+  pub runs : RunsIssue (texts_of words.claims.items) options key now IsGiven IsNotCalled Failure contents errors names status before after said_before said_after
+
+-- the token of an input is checked with keys at a moment, as the words say, and what is said names the keys and the input
+pub record ChecksToken {W E : Type 0} (words : Check) (name : List ℕ) (keys : Keys) (now : Timestamp) (known : Option (List ℕ))
+    (contents : W → Option (List ℕ)) (errors : E → Option (List ℕ)) (status : ℕ) (before after : W) (said_before said_after : E) : Type 0 where
+  pub options : Options
+  pub are_options : option_texts options ≡ check_options words
+  pub names : Names
+  pub key_is : names.key.now ≡ name
+  pub input_is : names.input.now ≡ input_name (text words.input)
+  pub runs : RunsCheck (texts_of words.claims.items) options keys now known contents errors names status before after said_before said_after
