@@ -7,6 +7,7 @@ pub mod Id
 pub mod Line
 pub mod PublicHalf
 pub mod Reading
+pub mod Ring
 pub mod Salted
 pub mod Writing
 pub mod WrittenLine
