@@ -1,6 +1,7 @@
 //! Keys of any version and type: what they read and write, their texts and ids, and what is refused.
 
 mod refusals;
+mod rings;
 mod rows;
 
 use crate::expect::{expect_same, expect_shown, expect_text};

@@ -45,7 +45,8 @@ const FIRST: &str = "k1.local.cHFyc3R1dnd4eXp7fH1-f4CBgoOEhYaHiImKi4yNjo8";
 
 const SECOND: &str = "k2.public.Hrnbu7wEfAP9cGBOAHHwmH4Wsot1ciXBHwBBXQ4gsaI";
 
-const THIRD: &str = "k3.secret.AuEW8g8o7tXDzTX8Dw6MaHSPfdVpnXl6-9C5aRANAPyPT83j_3yE-OJBBwq01JDM";
+pub(super) const THIRD: &str =
+    "k3.secret.AuEW8g8o7tXDzTX8Dw6MaHSPfdVpnXl6-9C5aRANAPyPT83j_3yE-OJBBwq01JDM";
 
 /// A call, the line of its key, whether an assertion is given, and what is said where 31 bytes are drawn.
 const REFUSED: &[(&str, &str, bool, &str)] = &[
