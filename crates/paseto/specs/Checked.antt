@@ -20,8 +20,8 @@ use Rattle.paseto.specs.Ring.{IsRingLine, ParsesByRing}
 
 -- the value is that of the token under the key, or under the one of the ring that its footer names
 abbrev pub ParsesBy : Keys → Option (List ℕ) → Option ImplicitAssertion → List ℕ → Data → Type 0
-ParsesBy (One key) footer assertion token value = ParsesByKey (parts_of key.now) footer assertion token value
-ParsesBy (Ring keys) footer assertion token value = ParsesByRing keys.now footer assertion token value
+ParsesBy (One key) footer assertion token value = ParsesByKey (parts_of key) footer assertion token value
+ParsesBy (Ring keys) footer assertion token value = ParsesByRing keys.items footer assertion token value
 
 -- the line is the JSON of the value, with no space
 abbrev pub IsJsonLine : Data → List ℕ → Type 0

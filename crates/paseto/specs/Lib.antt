@@ -10,7 +10,6 @@ pub mod Gives
 pub mod Run
 pub mod Options
 pub mod Texts
-pub mod Tokens
 pub mod Files
 pub mod Forms
 pub mod Half

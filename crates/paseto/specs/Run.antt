@@ -11,6 +11,12 @@ use Rattle.paseto_tasks.specs.declared.error.Names.{Names}
 use Rattle.paseto_tasks.specs.declared.error.ProgramError.{ProgramError}
 use Rattle.paseto.specs.Checked.{ChecksFor, RefusesCheck}
 use Rattle.paseto.specs.Issue.{IssuesFor, RefusesIssue, draws, issuing}
+use Rattle.paseto_words.specs.Action.{text, texts_of}
+use Rattle.paseto_words.specs.declared.action.Check.{Check}
+use Rattle.paseto_words.specs.declared.action.Issue.{Issue}
+use Rattle.paseto.specs.Files.{input_name}
+use Rattle.paseto.specs.Keys.{key_name}
+use Rattle.paseto.specs.Options.{check_options, issue_options, option_texts}
 use Rattle.paseto.specs.declared.commands.check.Keys.{Keys}
 
 -- how a command ends that prints, refuses or fails so: what it leaves in its output, and what it says on standard error
@@ -19,16 +25,23 @@ pub record EndsSo {W E : Type 0} (Prints : List ℕ → Type 0) (Refuses Fault :
   pub leaves : Leaves contents Prints (IsRefusal Refuses status) status before after
   pub tells : Tells errors names (Ends Prints Refuses Fault) status said_before said_after
 
--- a token of what words order at a moment is printed, written with a key and with what is drawn
-abbrev pub RunsIssue : {W E : Type 0} → List (List ℕ) → Options → KeyParts → Timestamp → (List ℕ → Type 0) → Type 0 → Type 0
-    → (W → Option (List ℕ)) → (E → Option (List ℕ)) → Names → ℕ → W → W → E → E → Type 0
-RunsIssue claims options key now IsGiven IsNotCalled Failure =
-    EndsSo (IssuesFor claims options now key (IsDraw (draws key) IsGiven IsNotCalled)) (RefusesIssue claims options now key)
-    (Fails (issuing key Failure now))
+-- the token of the words is issued with a key at a moment, and what is said names the file of the key
+pub record IssuesToken {W E : Type 0} (words : Issue) (key : KeyParts) (now : Timestamp) (IsGiven : List ℕ → Type 0) (IsNotCalled Failure : Type 0)
+    (contents : W → Option (List ℕ)) (errors : E → Option (List ℕ)) (status : ℕ) (before after : W) (said_before said_after : E) : Type 0 where
+  pub options : Options
+  pub are_options : option_texts options ≡ issue_options words
+  pub names : Names
+  pub key_is : names.key.now ≡ key_name (text words.key.file)
+  pub runs : EndsSo (IssuesFor (texts_of words.claims.items) options now key (IsDraw (draws key) IsGiven IsNotCalled))
+      (RefusesIssue (texts_of words.claims.items) options now key) (Fails (issuing key Failure now)) contents errors names status before after said_before said_after
 
--- the claims of the token in an input are printed, read with keys and checked at a moment as words demand
-abbrev pub RunsCheck : {W E : Type 0} → List (List ℕ) → Options → Keys → Timestamp → Option (List ℕ)
-    → (W → Option (List ℕ)) → (E → Option (List ℕ)) → Names → ℕ → W → W → E → E → Type 0
-RunsCheck claims options keys now known =
-    EndsSo (λ line. OfInput known (λ bytes. ChecksFor claims options now keys (line_of_input bytes) line))
-    (RefusesCheck claims options now keys known) (Fails reading)
+-- the token of an input is checked with keys at a moment, as the words say, and what is said names the keys and the input
+pub record ChecksToken {W E : Type 0} (words : Check) (name : List ℕ) (keys : Keys) (now : Timestamp) (known : Option (List ℕ))
+    (contents : W → Option (List ℕ)) (errors : E → Option (List ℕ)) (status : ℕ) (before after : W) (said_before said_after : E) : Type 0 where
+  pub options : Options
+  pub are_options : option_texts options ≡ check_options words
+  pub names : Names
+  pub key_is : names.key.now ≡ name
+  pub input_is : names.input.now ≡ input_name (text words.input)
+  pub runs : EndsSo (λ line. OfInput known (λ bytes. ChecksFor (texts_of words.claims.items) options now keys (line_of_input bytes) line))
+      (RefusesCheck (texts_of words.claims.items) options now keys known) (Fails reading) contents errors names status before after said_before said_after

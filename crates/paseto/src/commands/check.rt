@@ -32,12 +32,12 @@ use serde_json::Value;
 use std::alloc::Global;
 
 /// The keys to check a token with: one key, or those of a ring.
-#[derive(Clone, Copy)]
-pub enum Keys<'k> {
+#[derive(Drop)]
+pub enum Keys {
     /// The key of a key file.
-    One(&'k AnyKey),
+    One(AnyKey),
     /// The keys of a folder's key files.
-    Ring(&'k [AnyKey]),
+    Ring(Vec<AnyKey>),
 }
 
 /// What is required of a token.
@@ -196,7 +196,7 @@ fn put_requirements<V: VersionTrait, P: PurposeTrait, B: Drop>(
 /// The line of the claims of a token that meets the requirements.
 pub fn check(
     alloc: Global,
-    keys: &Keys<'_>,
+    keys: &Keys,
     demands: &Demands<'_>,
     token: &str,
 ) -> Result<String, ProgramError>
@@ -222,7 +222,7 @@ fn json_line(alloc: Global, value: &Value) -> Result<String, ProgramError>
 /// The claims of a token, with one key, or with the one of a ring that its footer names.
 fn claims_by(
     alloc: Global,
-    keys: &Keys<'_>,
+    keys: &Keys,
     demands: &Demands<'_>,
     token: &str,
 ) -> Result<Value, ProgramError>

@@ -23,8 +23,8 @@ use paseto_keys::{AnyKey, TokenWriter};
 use paseto_tasks::{Options, ProgramError, TimeOption, with_line_feed};
 use rand_core::TryRng;
 use rusty_paseto::prelude::{
-    CountingSetter, ExpirationClaim, ImplicitAssertion, Local, NotBeforeClaim,
-    PasetoBuilder, PurposeTrait, V4, VersionTrait, fits_default,
+    CountingSetter, ExpirationClaim, ImplicitAssertion, Local, NotBeforeClaim, PasetoBuilder,
+    PurposeTrait, V4, VersionTrait, fits_default,
 };
 use rusty_paseto_claims::moment_text;
 use std::alloc::Global;

@@ -9,14 +9,18 @@ ghost use Rattle.paseto_tasks.specs.Input.{OfInput, line_of_input, reading};
 ghost use Rattle.paseto_tasks.specs.Output.{Makes};
 ghost use Rattle.paseto.specs.Checked.{ChecksFor, RefusesCheck};
 ghost use Rattle.paseto.specs.Issue.{IssuesFor, RefusesIssue, draws, issuing};
-ghost use Rattle.paseto.specs.Run.{RunsCheck, RunsIssue};
+ghost use Rattle.paseto.specs.Run.{ChecksToken, IssuesToken};
 
 use crate::commands::check::{Demands, Keys, check};
 use crate::commands::issue::{Order, issue};
+use crate::files::name_of;
+use crate::keys::key_name;
+use crate::options::{check_options, issue_options};
 use jiff::Timestamp;
 use paseto_keys::AnyKey;
 use paseto_tasks::run::finish;
 use paseto_tasks::{Names, Options, ProgramError, read_line};
+use paseto_words::{Check, Issue};
 use rand_core::TryRng;
 use std::alloc::Global;
 use std::io::{Read, Write};
@@ -25,21 +29,30 @@ use std::io::{Read, Write};
 /// if nothing can be ordered by the arguments.
 pub fn run_issue<G: TryRng, W: Write, E: Write>(
     alloc: Global,
-    names: &Names<'_>,
-    claims: &[&str],
-    options: &Options<'_>,
+    words: &Issue<'_>,
     key: &AnyKey,
     now: Timestamp,
     generator: &mut G,
     output: &mut W,
     errors: &mut E,
 ) -> u8
-    ensures { RunsIssue (texts claims.now) options.now (parts_of key.now) now
+    ensures { IssuesToken words.now (parts_of key.now) now
         (λ given. G.may_fill generator.old given generator.new) (generator.new ≡ generator.old)
-        G.Error W.contents E.contents names.now result output.old output.new errors.old errors.new }
+        G.Error W.contents E.contents result output.old output.new errors.old errors.new }
 {
-    let made = token_of(alloc, claims, options, key, now, generator);
-    finish(made, names, output, errors)
+    let names = Names {
+        key: key_name(words.key.file),
+        input: "",
+    };
+    let made = token_of(
+        alloc,
+        &words.claims,
+        &issue_options(words),
+        key,
+        now,
+        generator,
+    );
+    finish(made, &names, output, errors)
 }
 
 /// The line of the requested token of claims.
@@ -65,20 +78,30 @@ fn token_of<G: TryRng>(
 /// can be demanded by the arguments.
 pub fn run_check<R: Read, W: Write, E: Write>(
     alloc: Global,
-    names: &Names<'_>,
-    claims: &[&str],
-    options: &Options<'_>,
-    keys: &Keys<'_>,
+    words: &Check<'_>,
+    name: &str,
+    keys: &Keys,
     now: Timestamp,
     input: &mut R,
     output: &mut W,
     errors: &mut E,
 ) -> u8
-    ensures { RunsCheck (texts claims.now) options.now keys.now now (R.remaining input.old)
-        W.contents E.contents names.now result output.old output.new errors.old errors.new }
+    ensures { ChecksToken words.now name.now keys.now now (R.remaining input.old) W.contents
+        E.contents result output.old output.new errors.old errors.new }
 {
-    let made = claims_line(alloc, claims, options, keys, now, input);
-    finish(made, names, output, errors)
+    let names = Names {
+        key: name,
+        input: name_of(words.input),
+    };
+    let made = claims_line(
+        alloc,
+        &words.claims,
+        &check_options(words),
+        keys,
+        now,
+        input,
+    );
+    finish(made, &names, output, errors)
 }
 
 /// The line of the claims of a token.
@@ -86,7 +109,7 @@ fn claims_line<R: Read>(
     alloc: Global,
     claims: &[&str],
     options: &Options<'_>,
-    keys: &Keys<'_>,
+    keys: &Keys,
     now: Timestamp,
     input: &mut R,
 ) -> Result<String, ProgramError>
