@@ -21,7 +21,8 @@ done
 mkdir -p "${1:-$here/build/dist}"
 folder=$(cd "${1:-$here/build/dist}" && pwd)
 version=$(cat "$here/VERSION")
-maintainer='Rivondra <rivondra@localhost>'
+# The address that SECURITY.md names, in its line of that name.
+maintainer="Rivondra <$(sed -n 's/^Address: `\([^`]*\)`.*/\1/p' "$here/SECURITY.md")>"
 # The moment of the last commit is that of every file; outside of a checkout it is the beginning of 2026.
 SOURCE_DATE_EPOCH=$(git -C "$here" log -1 --format=%ct 2>/dev/null || echo 1767225600)
 export SOURCE_DATE_EPOCH
@@ -49,7 +50,7 @@ $name ($version) unstable; urgency=medium
 
  -- $maintainer  $(date -R -u -d "@$SOURCE_DATE_EPOCH")
 END
-    # Nobody reads mail to the maintainer's address (SECURITY.md).
+    # While SECURITY.md has no address of its own yet.
     install -D -m 644 /dev/stdin "$root/usr/share/lintian/overrides/$name" <<<"$name: bogus-mail-host *
 $name: bogus-mail-host-in-debian-changelog *"
     mkdir -p "$root/DEBIAN"
@@ -94,6 +95,8 @@ package libpaseto-dev "libpaseto1 (= $version)" 'header and static library for P
 archive=paseto-$version-x86_64-linux
 mkdir "$work/$archive"
 cp -a "$prefix/bin" "$prefix/lib" "$prefix/include" "$prefix/share" "$here/LICENSE" "$work/$archive"
+# Wherever the archive is unpacked, its header and libraries are beside paseto.pc.
+sed -i 's|^prefix=.*|prefix=${pcfiledir}/../..|' "$work/$archive/lib/pkgconfig/paseto.pc"
 find "$work/$archive/bin" -type f ! -name paseto ! -name paseto_tool -delete
 bash "$here/docs/site.sh" "$work/$archive/share/doc/paseto/html" >/dev/null
 tar -C "$work" --sort=name --mtime="@$SOURCE_DATE_EPOCH" --owner=0 --group=0 --numeric-owner -cf - "$archive" |

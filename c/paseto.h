@@ -360,32 +360,32 @@ struct paseto_options {
 
        The claim 'aud' failed validation.  Expected 'others' but received 'customers'
 
-   into a buffer of its own (line, line_length). The message is cut off if that buffer is too short; *told is the length
-   of the whole message, which has no newline at its end and is not null-terminated. With PASETO_OK and PASETO_ROOM
-   *told is 0, and the message buffer is unchanged. The message contains names and texts of claims as they are, newlines
-   included. Statuses: those of parsing, and PASETO_TOO_LONG and PASETO_NOT_NAMES.
+   into a buffer of its own (message, message_length). The message is cut off if that buffer is too short, and
+   *message_written is the length of the whole message, which has no newline at its end and is not null-terminated. With
+   PASETO_OK and PASETO_ROOM *message_written is 0, and the message buffer is unchanged. The message contains names and
+   texts of claims as they are, newlines included. Statuses: those of parsing, and PASETO_TOO_LONG and PASETO_NOT_NAMES.
 
        const char *names = "[\"exp\"]";
        struct paseto_options options = {5, 65536, (const uint8_t *)names, strlen(names)};
-       uint8_t line[200];
-       size_t told;
+       uint8_t message[200];
+       size_t m;
        if (paseto_v4_local_parse_with(key, 32, token, token_length, (const uint8_t *)"{}", 2, time(NULL), NULL, 0, NULL, 0,
-                                      &options, claims, sizeof claims, &n, line, sizeof line, &told) != PASETO_OK)
-           fprintf(stderr, "%.*s\n", (int)(told < sizeof line ? told : sizeof line), (const char *)line); */
+                                      &options, claims, sizeof claims, &n, message, sizeof message, &m) != PASETO_OK)
+           fprintf(stderr, "%.*s\n", (int)(m < sizeof message ? m : sizeof message), (const char *)message); */
 paseto_status paseto_v1_local_parse_with(const uint8_t *key, size_t key_length,
                                          const uint8_t *token, size_t token_length,
                                          const uint8_t *expected, size_t expected_length, int64_t now,
                                          const uint8_t *footer, size_t footer_length,
                                          const struct paseto_options *options,
                                          uint8_t *room, size_t room_length, size_t *written,
-                                         uint8_t *line, size_t line_length, size_t *told);
+                                         uint8_t *message, size_t message_length, size_t *message_written);
 paseto_status paseto_v2_local_parse_with(const uint8_t *key, size_t key_length,
                                          const uint8_t *token, size_t token_length,
                                          const uint8_t *expected, size_t expected_length, int64_t now,
                                          const uint8_t *footer, size_t footer_length,
                                          const struct paseto_options *options,
                                          uint8_t *room, size_t room_length, size_t *written,
-                                         uint8_t *line, size_t line_length, size_t *told);
+                                         uint8_t *message, size_t message_length, size_t *message_written);
 paseto_status paseto_v3_local_parse_with(const uint8_t *key, size_t key_length,
                                          const uint8_t *token, size_t token_length,
                                          const uint8_t *expected, size_t expected_length, int64_t now,
@@ -393,7 +393,7 @@ paseto_status paseto_v3_local_parse_with(const uint8_t *key, size_t key_length,
                                          const uint8_t *assertion, size_t assertion_length,
                                          const struct paseto_options *options,
                                          uint8_t *room, size_t room_length, size_t *written,
-                                         uint8_t *line, size_t line_length, size_t *told);
+                                         uint8_t *message, size_t message_length, size_t *message_written);
 paseto_status paseto_v4_local_parse_with(const uint8_t *key, size_t key_length,
                                          const uint8_t *token, size_t token_length,
                                          const uint8_t *expected, size_t expected_length, int64_t now,
@@ -401,21 +401,21 @@ paseto_status paseto_v4_local_parse_with(const uint8_t *key, size_t key_length,
                                          const uint8_t *assertion, size_t assertion_length,
                                          const struct paseto_options *options,
                                          uint8_t *room, size_t room_length, size_t *written,
-                                         uint8_t *line, size_t line_length, size_t *told);
+                                         uint8_t *message, size_t message_length, size_t *message_written);
 paseto_status paseto_v1_public_parse_with(const uint8_t *public_key, size_t public_key_length,
                                           const uint8_t *token, size_t token_length,
                                           const uint8_t *expected, size_t expected_length, int64_t now,
                                           const uint8_t *footer, size_t footer_length,
                                           const struct paseto_options *options,
                                           uint8_t *room, size_t room_length, size_t *written,
-                                          uint8_t *line, size_t line_length, size_t *told);
+                                          uint8_t *message, size_t message_length, size_t *message_written);
 paseto_status paseto_v2_public_parse_with(const uint8_t *public_key, size_t public_key_length,
                                           const uint8_t *token, size_t token_length,
                                           const uint8_t *expected, size_t expected_length, int64_t now,
                                           const uint8_t *footer, size_t footer_length,
                                           const struct paseto_options *options,
                                           uint8_t *room, size_t room_length, size_t *written,
-                                          uint8_t *line, size_t line_length, size_t *told);
+                                          uint8_t *message, size_t message_length, size_t *message_written);
 paseto_status paseto_v3_public_parse_with(const uint8_t *public_key, size_t public_key_length,
                                           const uint8_t *token, size_t token_length,
                                           const uint8_t *expected, size_t expected_length, int64_t now,
@@ -423,7 +423,7 @@ paseto_status paseto_v3_public_parse_with(const uint8_t *public_key, size_t publ
                                           const uint8_t *assertion, size_t assertion_length,
                                           const struct paseto_options *options,
                                           uint8_t *room, size_t room_length, size_t *written,
-                                          uint8_t *line, size_t line_length, size_t *told);
+                                          uint8_t *message, size_t message_length, size_t *message_written);
 paseto_status paseto_v4_public_parse_with(const uint8_t *public_key, size_t public_key_length,
                                           const uint8_t *token, size_t token_length,
                                           const uint8_t *expected, size_t expected_length, int64_t now,
@@ -431,7 +431,7 @@ paseto_status paseto_v4_public_parse_with(const uint8_t *public_key, size_t publ
                                           const uint8_t *assertion, size_t assertion_length,
                                           const struct paseto_options *options,
                                           uint8_t *room, size_t room_length, size_t *written,
-                                          uint8_t *line, size_t line_length, size_t *told);
+                                          uint8_t *message, size_t message_length, size_t *message_written);
 
 /* ---- keys as text
 

@@ -48,6 +48,7 @@ counted() {
 
 needs cc gcc
 needs c++ g++
+needs pkg-config pkg-config
 needs nm binutils
 needs objcopy binutils
 needs readelf binutils
@@ -122,6 +123,12 @@ check 'client.c is built over libpaseto.so' cc -std=c99 "${strict[@]}" -o "$work
 counted 'a program in C over libpaseto.so' "$work/client"
 needed=$(readelf -d "$work/client" | sed -nE 's/.*\(NEEDED\).*\[(libpaseto.*)\]$/\1/p')
 if [ "$needed" = libpaseto.so.1 ]; then pass; else fail "a program over libpaseto.so needs $needed"; fi
+# The program of README.md, and the lines that build and run it, as they stand there.
+mkdir "$work/readme"
+python3 "$root/tests/readme.py" c >"$work/readme/first.c"
+python3 "$root/tests/readme.py" sh first.c >"$work/readme/block"
+found=$(cd "$work/readme" && PKG_CONFIG_PATH=$prefix/lib/pkgconfig bash -e block 2>"$work/log")
+is 'the program of README.md' "$(sed -E 's/"(exp|iat|nbf)":"[^"]*"/"\1":"T"/g' <<<"$found")" '{"exp":"T","iat":"T","nbf":"T","sub":"ada"}'
 # The version that paseto.pc tells is the one that the library tells.
 cat >"$work/version.c" <<'END'
 #include <inttypes.h>

@@ -12,7 +12,7 @@ root=$(cd "$(dirname "$0")/.." && pwd)
 prefix=$(cd "${1:?usage: tests/dist.sh PREFIX}" && pwd)
 work=$(mktemp -d)
 trap 'rm -rf "$work"' EXIT
-for tool in dpkg-deb:dpkg cargo:cargo cc:gcc objdump:binutils; do needs "${tool%:*}" "${tool#*:}"; done
+for tool in dpkg-deb:dpkg cargo:cargo cc:gcc pkg-config:pkg-config objdump:binutils; do needs "${tool%:*}" "${tool#*:}"; done
 
 for turn in one two; do
     if bash "$root/dist.sh" "$work/$turn" "$prefix" >"$work/log" 2>&1; then pass; else fail "dist.sh: $(tail -n 3 "$work/log")"; finish; fi
@@ -76,5 +76,8 @@ mkdir archive && tar -C archive -xzf one/*.tar.gz
 # Its pages are those of docs/site.sh, which tests/site.sh asks.
 bash "$root/docs/site.sh" "$work/site" >/dev/null
 if diff -rq "$work/site" archive/*/share/doc/paseto/html >"$work/log" 2>&1; then pass; else fail "the pages of the archive: $(tail -n 3 "$work/log")"; fi
+found=$(export PKG_CONFIG_PATH=$(echo "$work"/archive/*/lib/pkgconfig) && cc -o unpacked client.c $(pkg-config --cflags --libs paseto) \
+    -Wl,-rpath,"$(pkg-config --variable=libdir paseto)" 2>&1 && ./unpacked && echo same)
+is 'a program in C over the archive' "$found" same
 if [ "$(archive/*/bin/paseto --version)" = "paseto $(cat "$root/VERSION")" ]; then pass; else fail 'the program of the archive'; fi
 finish

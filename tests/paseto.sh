@@ -125,6 +125,15 @@ made() {
     printf hello | timeout 10 "$program" "$@"
 }
 
+# -- the first token of README.md, as it stands there
+
+mkdir readme bin && ln -s "$program" bin/paseto
+python3 "$root/tests/readme.py" sh keygen >readme/block
+(cd readme && PATH=$work/bin:$PATH timeout 10 bash -e block) >out 2>err
+is 'README.md, status' $? 0
+is 'README.md, output' "$(sed -E 's/"(exp|iat|nbf)":"[^"]*"/"\1":"T"/g' out)" \
+    '{"aud":"customers","exp":"T","iat":"T","nbf":"T","seats":4}'
+
 # -- keygen
 
 for kind in v1.local v2.local v3.local v4.local; do

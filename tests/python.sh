@@ -33,6 +33,10 @@ passed=$((passed + ${ran:-0} - wrong))
 failed=$((failed + wrong))
 grep -E '^(ERROR|FAIL): ' "$work/log" | sed 's/^/FAILED: /'
 if [ "${ran:-0}" -gt 0 ] && grep -qE '^OK' "$work/log"; then pass; else fail "the tests of the package: $(tail -n 5 "$work/log")"; fi
+# The examples of README.md and of the package's own, as they stand there.
+python3 "$root/tests/readme.py" python >"$work/first.py"
+is 'the example of README.md' "$(cd "$work" && "$python" first.py 2>&1)" ada
+is 'the examples of the package' "$(cd "$work" && "$python" -m doctest "$root/bindings/python/README.md" 2>&1)" ''
 if command -v mypy >/dev/null; then
     if mypy --strict "$root/bindings/python/src/paseto" >"$work/log" 2>&1; then pass; else fail "mypy: $(tail -n 5 "$work/log")"; fi
 else

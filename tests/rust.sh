@@ -124,16 +124,8 @@ mkdir "$work/user" && tar -C "$work/user" -xzf "$work"/packaged/package/paseto-p
 crate=$(basename "$work"/user/paseto-proved-*)
 if [ -s "$work/user/$crate/lib/libpaseto.a" ]; then pass; else fail 'the packaged crate has no library'; fi
 (cd "$work/user" && cargo new --quiet --vcs none program && cd program && cargo add --quiet --path "../$crate" --rename rusty_paseto paseto-proved) >"$work/log" 2>&1 || fail "cargo add: $(tail -n 3 "$work/log")"
-cat >"$work/user/program/src/main.rs" <<'END'
-use rusty_paseto::prelude::*;
-
-fn main() -> Result<(), Box<dyn std::error::Error>> {
-    let key = PasetoSymmetricKey::<V4, Local>::from(Key::from(b"thirty-two bytes for each of you"));
-    let token = PasetoBuilder::<V4, Local>::default().set_claim(SubjectClaim::from("ada")).build(&key)?;
-    println!("{}", PasetoParser::<V4, Local>::default().parse(&token, &key)?["sub"]);
-    Ok(())
-}
-END
+# The program of README.md, as it stands there.
+python3 "$root/tests/readme.py" rust 'fn main' >"$work/user/program/src/main.rs"
 is 'a program over the packaged crate' \
     "$(cd "$work/user/program" && env -u PASETO_LIB_DIR "$none" cargo run --quiet 2>"$work/log" || tail -n 5 "$work/log")" '"ada"'
 

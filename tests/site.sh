@@ -9,7 +9,7 @@ work=$(mktemp -d)
 trap 'rm -rf "$work"' EXIT
 
 bash "$root/docs/site.sh" "$work/site" >"$work/log" 2>&1 || { fail "docs/site.sh: $(cat "$work/log")"; finish; }
-sources=("$root"/{README,SECURITY,CONTRIBUTING,CHANGELOG}.md "$root"/docs/*.md "$root"/docs/api/*.md "$root"/bindings/*/README.md
+sources=("$root"/{README,SECURITY,CONTRIBUTING,CHANGELOG}.md "$root"/docs/*.md "$root"/docs/api/*.md "$root"/docs/api/*/*.md "$root"/bindings/*/README.md
     "$root"/bench/README.md)
 is 'one page for each guide and each page of docs/api' "$(ls "$work/site"/*.html | wc -l)" "${#sources[@]}"
 
@@ -53,6 +53,7 @@ if page 'index.html?q=nothing_of_this_name' | grep -qF '<ul id="found"></ul>'; t
 has 'what the link leads to' 'paseto_argon2.html#argon2id_with' 'id="argon2id_with"'
 has 'a guide' GUIDE.html '<h2 id="what-to-know-before-you-go-live">'
 has 'a table of a guide' C.html '<tr><th>Call</th><th>Does</th></tr>'
+has 'a promise' promises-rusty_paseto_core.html '<a href="definitions-rusty_paseto_core.html#isanswer">'
 # SysRng stands in the text of the guide, and in no heading.
 if grep -q 'id="[^"]*SysRng' "$work/site"/*.html; then fail 'SysRng is a heading'; else pass; fi
 has 'a guide by a word of it' 'rusty_paseto.html?q=SysRng' '<a href="GUIDE.html#a-token-with-claims">A token with claims (GUIDE)</a>'

@@ -179,7 +179,8 @@ def page_of(crate):
     for path in sources(crate):
         read_file(path, items, methods)
     names, modules = exports(root, crate)
-    lines = [f"# {crate}", "", *sections(about, 1), ""]
+    proved = f"The contracts of these calls: [promises](promises/{crate}.md), and [what their terms mean](definitions/{crate}.md)."
+    lines = [f"# {crate}", "", *sections(about, 1), "", proved, ""]
     for name in sorted(set(names), key=str.lower):
         if name in items:
             lines += written(items[name], methods)
@@ -208,6 +209,7 @@ def pages():
         found[f"{crate}.md"] = text
         rows.append(f"- [`{crate}`]({crate}.md): {first}")
     head = "The public calls of the libraries, a page for each crate. `python3 tools/api.py` makes these pages from the doc comments."
+    head += "\n\nWhat is proved of each call has [pages of its own](promises/README.md), and so has [what the contracts mean](definitions/README.md)."
     found["README.md"] = f"# The API\n\n{head}\n\n" + "\n".join(rows) + "\n"
     return found
 
@@ -223,7 +225,7 @@ def main():
                 file.write(text)
         return
     passed = failed = 0
-    there = set(os.listdir(PAGES)) if os.path.isdir(PAGES) else set()
+    there = {name for name in os.listdir(PAGES) if name.endswith(".md")} if os.path.isdir(PAGES) else set()
     for name in sorted(there | set(made)):
         kept = open(f"{PAGES}/{name}", encoding="utf-8").read() if name in there else None
         is_same = kept == made.get(name)

@@ -15,7 +15,8 @@ ROOT = os.path.dirname(os.path.dirname(os.path.abspath(__file__)))
 # The guides, in the order of the list that each page begins with; the rest of docs/ follows.
 GUIDES = [
     "README.md", "docs/GUIDE.md", "docs/PASETO.md", "docs/C.md", "bindings/python/README.md", "bindings/rust/README.md",
-    "docs/SCHEMES.md", "SECURITY.md", "docs/ATTACKERS.md", "docs/DIFFERENCES.md", "docs/ARCHITECTURE.md",
+    "docs/SCHEMES.md", "SECURITY.md", "docs/PROMISES.md", "docs/DEFINITIONS.md", "docs/ATTACKERS.md", "docs/DIFFERENCES.md",
+    "docs/ARCHITECTURE.md",
     "docs/DECISIONS.md", "CONTRIBUTING.md", "CHANGELOG.md", "bench/README.md",
 ]
 STYLE = """
@@ -31,6 +32,7 @@ table { border-collapse: collapse }
 td, th { border: 1px solid #ddd; padding: .2rem .5rem; text-align: left; vertical-align: top }
 img { max-width: 100% }
 h2, h3 { border-top: 1px solid #eee; padding-top: .6rem }
+h2 code, h3 code { font-size: 18px }
 a { color: #05a }
 """
 # A heading with all words of the search in its name comes before one with some of them only in its text.
@@ -60,10 +62,16 @@ INLINE = re.compile(rf"`(?P<code>[^`]+)`|{LINK}|\*\*(?P<strong>.+?)\*\*")
 ITEM = re.compile(r"(- |\d+\. )")
 
 
+# The folders of docs/api whose pages have the names of crates, too.
+KINDS = ("docs/api/definitions", "docs/api/promises")
+
+
 def name_of(path):
     """The name of a source's page: that of the file, and for a README that of its folder."""
     folder, file = os.path.split(path)
     name = file.removesuffix(".md")
+    if folder in KINDS:
+        return f"{os.path.basename(folder)}-{'all' if name == 'README' else name}"
     return os.path.basename(folder) or name if name == "README" else name
 
 
@@ -72,18 +80,21 @@ def address_of(path):
     return "index.html" if path == "README.md" else f"{name_of(path)}.html"
 
 
-def anchor_of(path, name):
-    """The anchor of a heading: in the API its name, where case matters, and in a guide as GitHub writes it."""
-    if path.startswith("docs/api/"):
+def anchor_of(path, name, made):
+    """The anchor of a heading: in the API its name, where case matters, and elsewhere as GitHub writes it, with a number
+    if the page has made it before."""
+    if os.path.dirname(path) == "docs/api":
         return re.sub(r"[^\w:]+", "-", name).strip("-")
-    return re.sub(r"[^\w -]", "", name.lower()).replace(" ", "-")
+    anchor = re.sub(r"[^\w -]", "", name.lower()).replace(" ", "-")
+    made[anchor] = made.get(anchor, -1) + 1
+    return f"{anchor}-{made[anchor]}" if made[anchor] else anchor
 
 
 class Page:
     """A page, made of the Markdown of a source, whose path is one of `paths`."""
 
     def __init__(self, path, paths):
-        self.path, self.paths, self.copied = path, paths, []
+        self.path, self.paths, self.copied, self.anchors = path, paths, [], {}
         with open(f"{ROOT}/{path}", encoding="utf-8") as file:
             self.text = file.read()
         self.title = self.text.split("\n", 1)[0].lstrip("# ").replace("`", "")
@@ -163,7 +174,7 @@ class Page:
 
     def heading(self, line):
         level, name = len(line) - len(line.lstrip("#")), line.lstrip("# ")
-        anchor = anchor_of(self.path, name.replace("`", ""))
+        anchor = anchor_of(self.path, name.replace("`", ""), self.anchors)
         return f'<h{level} id="{anchor}">{self.inline(name)}</h{level}>'
 
     def table(self, lines):
@@ -198,19 +209,19 @@ class Page:
                 found.append((line.lstrip("# ").replace("`", ""), []))
             else:
                 found[-1][1].extend(re.findall(r"\w+", line.lower()))
-        if self.path.startswith("docs/api/"):
-            found = found[1:]
-        address = address_of(self.path)
-        return [
-            (name, name_of(self.path), f"{address}#{anchor_of(self.path, name)}", " ".join(dict.fromkeys(words)))
+        address, made = address_of(self.path), {}
+        all_of_them = [
+            (name, name_of(self.path), f"{address}#{anchor_of(self.path, name, made)}", " ".join(dict.fromkeys(words)))
             for name, words in found
         ]
+        return all_of_them[1:] if self.path.startswith("docs/api/") else all_of_them
 
 
 def sources():
     """The paths of the guides, and of the pages of docs/api."""
     others = sorted(os.path.relpath(path, ROOT) for path in glob.glob(f"{ROOT}/docs/*.md"))
-    api = sorted(os.path.relpath(path, ROOT) for path in glob.glob(f"{ROOT}/docs/api/*.md"))
+    api = [sorted(glob.glob(f"{folder}/*.md", root_dir=ROOT)) for folder in ("docs/api", *KINDS)]
+    api = [path for paths in api for path in paths]
     return GUIDES + [path for path in others if path not in GUIDES], api
 
 
@@ -223,7 +234,8 @@ def main():
     sections = [section for page in pages for section in page.sections()]
     with open(f"{folder}/search.js", "w", encoding="utf-8") as file:
         file.write(f"const SECTIONS = {json.dumps(sections, ensure_ascii=False)};{SEARCH}")
-    links = [f'<a href="{address_of(path)}">{name_of(path)}</a>' for path in [*guides, "docs/api/README.md"]]
+    links = [f'<a href="{address_of(path)}">{name_of(path)}</a>' for path in guides]
+    links += [f'<a href="{address_of(f"{it}/README.md")}">{it.removeprefix("docs/")}</a>' for it in ("docs/api", *KINDS)]
     for page in pages:
         for path in page.copied:
             shutil.copyfile(f"{ROOT}/{path}", f"{folder}/{os.path.basename(path)}")
