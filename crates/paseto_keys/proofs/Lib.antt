@@ -8,3 +8,5 @@ pub mod Used
 pub mod Admitting
 pub mod Issuing
 pub mod Generated
+pub mod RingLaws
+pub mod Rings

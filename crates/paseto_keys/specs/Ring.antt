@@ -1,5 +1,5 @@
 -- Rings of keys of any version and type, each under its id, and what they answer for a token, whose footer names the key.
-use Rattle.std.specs.Prelude.{◌≡◌, ⊤, ℕ, Bool, true, false, List, [], ◌∷◌, length, if◌then◌else◌, Option, Some, None, is_some, codes, nat_eq, Result, Ok, Err, String}
+use Rattle.std.specs.Prelude.{◌≡◌, ℕ, true, false, List, [], ◌∷◌, length, if◌then◌else◌, Option, Some, None, is_some, codes, nat_eq, Result, Ok, Err, String}
 use Rattle.std.specs.Cmp.Lexicographic.{pointwise}
 use Rattle.std.specs.Global.{Global}
 use Rattle.std.specs.List.{slice_get}
@@ -18,7 +18,7 @@ use Rattle.rusty_paseto.specs.declared.error.KeyRingParserError.{KeyRingParserEr
 use Rattle.rusty_paseto.specs.declared.error.KeyRingParserError.TheVariants.{Ring as OfRing, Parser as OfParser, Memory as OfMemory}
 use Rattle.rusty_paseto_paserk.specs.Id.{id_of}
 use Rattle.rusty_paseto_paserk.specs.declared.header.PaserkType.{PaserkType}
-use Rattle.rusty_paseto_paserk.specs.declared.header.PaserkType.TheVariants.{Local, Secret, Public}
+use Rattle.rusty_paseto_paserk.specs.declared.header.PaserkType.TheVariants.{Local, Public}
 use Rattle.rusty_paseto_paserk.specs.declared.header.PaserkVersion.{PaserkVersion}
 use Rattle.rusty_paseto_paserk.specs.declared.header.PaserkVersion.TheVariants.{V1, V2, V3, V4}
 use Rattle.paseto_keys.specs.AnyKey.{binding, parts_of, reads_tokens, takes_assertion}
