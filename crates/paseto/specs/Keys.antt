@@ -2,7 +2,13 @@
 use Rattle.std.specs.Prelude.{◌≡◌, ◌⊎◌, ℕ, List, Option, None, Some, codes}
 use Rattle.std.specs.Io.BufRead.{strip_last}
 use Rattle.paseto_key_files.specs.declared.error.KeyFileError.{KeyFileError}
-use Rattle.paseto_key_files.specs.declared.error.KeyFileError.TheVariants.{OtherOpener}
+use Rattle.paseto_key_files.specs.declared.error.KeyFileError.TheVariants.{OtherOpener, Paserk}
+use Rattle.paseto_keys.specs.Line.{IsLineFault}
+use Rattle.paseto_pem.specs.declared.error.PemError.TheVariants.{NotPem}
+use Rattle.rusty_paseto_paserk.specs.declared.error.PaserkError.TheVariants.{OtherVersion}
+use Rattle.rusty_paseto_paserk.specs.declared.header.PaserkVersion.TheVariants.{V1}
+use Rattle.paseto_tasks.specs.declared.error.ProgramError.{ProgramError}
+use Rattle.paseto_tasks.specs.declared.error.ProgramError.TheVariants.{Pem}
 use Rattle.paseto_key_files.specs.declared.openers.Openers.{Openers}
 use Rattle.paseto_tasks.specs.Error.{IsMemory, key_file_error_of}
 use Rattle.paseto_tasks.specs.Output.{IsLineOf}
@@ -42,3 +48,15 @@ abbrev pub IsOtherFault : List ℕ → List ℕ → (KeyFileError → Type 0) �
 IsOtherFault name other Is fault =
     IsMemory fault.error
     ⊎ ((source : KeyFileError) × Is source × (fault.about.now ≡ about_of source other name) × (fault.error ≡ key_file_error_of source))
+
+-- ---- lines
+
+-- why a line is not read as a key: key pairs of version 1 are read from PEM alone
+abbrev pub line_error_of : KeyFileError → ProgramError
+line_error_of (Paserk (OtherVersion V1)) = Pem NotPem
+line_error_of error = key_file_error_of error
+
+-- memory was refused, or the line of the key of this name is that of none
+abbrev pub IsNoKeyLine : List ℕ → List ℕ → Fault → Type 0
+IsNoKeyLine name line fault =
+    IsMemory fault.error ⊎ ((fault.about.now ≡ name) × ((source : KeyFileError) × IsLineFault line source × (fault.error ≡ line_error_of source)))

@@ -5,17 +5,18 @@ ghost use Rattle.std.specs.Prelude.{◌≡◌, [], None, IfErr, IfOk, option_map
 ghost use Rattle.paseto_key_files.specs.Held.{GivesLine};
 ghost use Rattle.paseto_key_files.specs.Opening.{Unlocks, UnlocksNone};
 ghost use Rattle.paseto_keys.specs.AnyKey.{parts_of};
-ghost use Rattle.paseto_keys.specs.Line.{IsLineFault, IsLineOf};
+ghost use Rattle.paseto_keys.specs.Line.{IsLineOf};
 ghost use Rattle.paseto_tasks.specs.Error.{key_file_error_of};
-ghost use Rattle.paseto.specs.Keys.{IsKeyFault, about_of, key_name, openers_of, without_return};
+ghost use Rattle.paseto.specs.Keys.{IsNoKeyLine, about_of, key_name, line_error_of, openers_of, without_return};
 
 use crate::fault::Fault;
 use crate::files::{name_of, opened};
 use paseto_key_files::{KeyFileError, Openers, unlock};
 use paseto_keys::AnyKey;
+use paseto_pem::PemError;
 use paseto_tasks::{ProgramError, begins_as, read_key_line, read_password};
 use paseto_words::{KeyFile, Openers as OpenerWords};
-use rusty_paseto_paserk::{PaserkError, PaserkType};
+use rusty_paseto_paserk::{PaserkError, PaserkType, PaserkVersion};
 use std::alloc::{AllocError, Global};
 use std::env::{self, VarError};
 use std::fs::File;
@@ -125,11 +126,23 @@ fn without_return(text: &str) -> &str
 /// The key of a line.
 pub fn key_of_line<'a>(alloc: Global, name: &'a str, line: &str) -> Result<AnyKey, Fault<'a>>
     ensures found { IfOk result (λ key. IsLineOf line.now (parts_of key)) }
-    ensures refused { IfErr result (IsKeyFault name.now (IsLineFault line.now)) }
+    ensures refused { IfErr result (IsNoKeyLine name.now line.now) }
 {
     match AnyKey::from_line(alloc, line) {
         Ok(key) => Ok(key),
-        Err(error) => Err(Fault::about(name, ProgramError::from(error))),
+        Err(error) => Err(Fault::about(name, line_error(error))),
+    }
+}
+
+/// The error for a line that is not read as a key. Key pairs of version 1 are read from PEM alone.
+fn line_error(error: KeyFileError) -> ProgramError
+    ensures { result ≡ line_error_of error }
+{
+    match error {
+        KeyFileError::Paserk(PaserkError::OtherVersion(PaserkVersion::V1)) => {
+            ProgramError::Pem(PemError::NotPem)
+        }
+        error => ProgramError::from(error),
     }
 }
 
