@@ -140,18 +140,18 @@ module _ (key : KeyParts) (wanted : Option (List ℕ)) (demanded : Option Implic
   pub key_gives : (answer : Result Value AdmitError)
       → IsUse OfKey (reads_tokens key.kind ≡ true) key.kind (takes_assertion key.version) (is_some demanded) (Admits None Read (λ key. no_rule) token) answer
       → Gives Is Refuses (Fails nothing) (admitted answer)
-  key_gives answer use = by_reads (reads_tokens key.kind) refl
+  key_gives answer used = by_reads (reads_tokens key.kind) refl
     where
       so : (other : Result Value AdmitError) → answer ≡ other → Gives Is Refuses (Fails nothing) (admitted other) → Gives Is Refuses (Fails nothing) (admitted answer)
       so other same gives = subst (λ (a : Result Value AdmitError). Gives Is Refuses (Fails nothing) (admitted a)) (sym same) gives
 
       by_answer : reads_tokens key.kind ≡ true → (takes_assertion key.version ≡ false → is_some demanded ≡ false) → Gives Is Refuses (Fails nothing) (admitted answer)
       by_answer reads bound =
-          let admits = use.answer reads bound in
+          let admits = used.answer reads bound in
           so (answered admits.0) admits.1 (parsed_gives reads bound admits.0 (admits.2.answer (unlimited _ _ refl)))
 
       by_given : reads_tokens key.kind ≡ true → takes_assertion key.version ≡ false → (given : Bool) → is_some demanded ≡ given → Gives Is Refuses (Fails nothing) (admitted answer)
-      by_given reads none true is = so (Err (OfKey NoAssertion)) (use.unbound reads none is) (no_assertion none is)
+      by_given reads none true is = so (Err (OfKey NoAssertion)) (used.unbound reads none is) (no_assertion none is)
       by_given reads none false is = by_answer reads (λ _. is)
 
       by_binds : reads_tokens key.kind ≡ true → (binds : Bool) → takes_assertion key.version ≡ binds → Gives Is Refuses (Fails nothing) (admitted answer)
@@ -160,4 +160,4 @@ module _ (key : KeyParts) (wanted : Option (List ℕ)) (demanded : Option Implic
 
       by_reads : (reads : Bool) → reads_tokens key.kind ≡ reads → Gives Is Refuses (Fails nothing) (admitted answer)
       by_reads true is = by_binds is (takes_assertion key.version) refl
-      by_reads false is = so (Err (OfKey (OtherType key.kind))) (use.other (λ reads. false≢true (sym is ∙ reads))) (other_type is)
+      by_reads false is = so (Err (OfKey (OtherType key.kind))) (used.other (λ reads. false≢true (sym is ∙ reads))) (other_type is)

@@ -71,17 +71,17 @@ module _ (key : KeyParts) (order : Ordered) where
     may_or_not : (answer : Result (String Global) KeyError) → Answers answer
         → (MayWrite key order × Writes (draws key) drawn (writing key order drawn) (is_some order.footer) text answer)
         ⊎ ((error : KeyError) × (answer ≡ Err error) × RefusesOrder key order (use_error_of error))
-    may_or_not answer use = by_writes (writes_tokens key.kind) refl
+    may_or_not answer used = by_writes (writes_tokens key.kind) refl
       where
         Goal : Type 0
         Goal = (MayWrite key order × Writes (draws key) drawn (writing key order drawn) (is_some order.footer) text answer)
             ⊎ ((error : KeyError) × (answer ≡ Err error) × RefusesOrder key order (use_error_of error))
 
         by_answer : writes_tokens key.kind ≡ true → (takes_assertion key.version ≡ false → is_some order.assertion ≡ false) → Goal
-        by_answer writes bound = inl (record { writes = writes; bound = bound }, use.answer writes bound)
+        by_answer writes bound = inl (record { writes = writes; bound = bound }, used.answer writes bound)
 
         by_given : writes_tokens key.kind ≡ true → takes_assertion key.version ≡ false → (given : Bool) → is_some order.assertion ≡ given → Goal
-        by_given writes none true given = inr (NoAssertion, use.unbound writes none given, no_assertion none given)
+        by_given writes none true given = inr (NoAssertion, used.unbound writes none given, no_assertion none given)
         by_given writes none false given = by_answer writes (λ _. given)
 
         by_binds : writes_tokens key.kind ≡ true → (binds : Bool) → takes_assertion key.version ≡ binds → Goal
@@ -90,13 +90,13 @@ module _ (key : KeyParts) (order : Ordered) where
 
         by_writes : (writes : Bool) → writes_tokens key.kind ≡ writes → Goal
         by_writes true writes = by_binds writes (takes_assertion key.version) refl
-        by_writes false none = inr (OtherType key.kind, use.other (λ writes. false≢true (sym none ∙ writes)), other_type none)
+        by_writes false none = inr (OtherType key.kind, used.other (λ writes. false≢true (sym none ∙ writes)), other_type none)
 
     same_error : (one other : KeyError) → Err {A = String Global} one ≡ Err other → one ≡ other
     same_error one other same = cc
 
     pub write_refuses : (error : KeyError) → Answers (Err error) → RefusesOrder key order (use_error_of error) ⊎ Fails nothing (use_error_of error)
-    write_refuses error use = by (may_or_not (Err error) use)
+    write_refuses error used = by (may_or_not (Err error) used)
       where
         by_lifted : MayWrite key order → (found : Result (String Global) PasetoError) → Err error ≡ lifted found
             → IsWriteAnswer (writing key order drawn) (is_some order.footer) text found → RefusesOrder key order (use_error_of error) ⊎ Fails nothing (use_error_of error)
@@ -112,7 +112,7 @@ module _ (key : KeyParts) (order : Ordered) where
 
     pub write_issues : (token : String Global) (line : List ℕ) (IsDrawn : List ℕ → Type 0) → Answers (Ok token) → IsDrawn drawn → IsLineOf (string_bytes token) line
         → Issues key order IsDrawn line
-    write_issues token line IsDrawn use is_drawn line_is = by (may_or_not (Ok token) use)
+    write_issues token line IsDrawn used is_drawn line_is = by (may_or_not (Ok token) used)
       where
         by_lifted : MayWrite key order → (found : Result (String Global) PasetoError) → Ok token ≡ lifted found
             → IsWriteAnswer (writing key order drawn) (is_some order.footer) text found → Issues key order IsDrawn line
