@@ -8,9 +8,9 @@ use Rattle.paseto_pem.specs.declared.error.PemError.TheVariants.{Memory as NoPem
 use Rattle.rusty_paseto_paserk.specs.declared.error.PaserkError.TheVariants.{Memory as NoKeyMemory}
 use Rattle.paseto_tasks.specs.declared.error.Names.{Names}
 use Rattle.paseto_tasks.specs.declared.error.ProgramError.{ProgramError}
-use Rattle.paseto_tasks.specs.declared.error.ProgramError.TheVariants.{InputOrOutput, Key, KeyFile, Pem}
-use Rattle.paseto_tasks.specs.Error.{IsCauseOf, IsNoUsage, IsOutside, line_of, status_of}
-use Rattle.paseto_tasks.specs.Output.{IsLeftOf, IsTextOf, Makes}
+use Rattle.paseto_tasks.specs.declared.error.ProgramError.TheVariants.{InputOrOutput, Key, KeyFile, Memory, Pem}
+use Rattle.paseto_tasks.specs.Error.{Blame, Fails, IsCauseOf, IsMemory, IsNoUsage, IsOutside, line_of, status_of}
+use Rattle.paseto_tasks.specs.Output.{IsLeftOf, IsLineOf, IsTextOf, Makes}
 use Rattle.paseto_tasks.specs.Run.{Ends, IsRefusal, Leaves, Tells}
 use Rattle.paseto_tasks.proofs.Statuses.{cause_so, not_2, outside, outside_three}
 
@@ -177,3 +177,11 @@ pub both_so : {T : Type 0} (made : Result T ProgramError) (IsOne IsOther : Progr
     → IfErr made (λ error. IsOne error × IsOther error)
 both_so (Ok value) IsOne IsOther one other = tt
 both_so (Err error) IsOne IsOther one other = (one, other)
+
+-- the line of a text
+pub line_makes : (Prints : List ℕ → Type 0) (Refuses : ProgramError → Type 0) (blame : Blame) (text : List ℕ) (made : Result (String Global) ProgramError)
+    → IfOk made (λ line. IsLineOf text (string_bytes line)) → IfErr made IsMemory → ((line : List ℕ) → IsLineOf text line → Prints line)
+    → Makes Prints Refuses (Fails blame) made
+line_makes Prints Refuses blame text (Ok line) is memory prints = record { printed = prints (string_bytes line) is; refused = tt }
+line_makes Prints Refuses blame text (Err (Memory source)) is memory prints = record { printed = tt; refused = inr (tt, tt) }
+line_makes Prints Refuses blame text (Err error) is memory prints = absurd memory
