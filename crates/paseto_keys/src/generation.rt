@@ -1,15 +1,18 @@
 //! New keys.
 
-ghost use Rattle.std.specs.Prelude.{◌≡◌, ◌⊎◌, ℕ, IfErr, IfOk, List};
-ghost use Rattle.rusty_paseto_paserk.specs.declared.header.PaserkType.TheVariants.{Local as LocalKey};
-ghost use Rattle.paseto_keys.specs.Generation.{Generates, IsNew, IsNewEd25519, IsNewLocal, IsNewP384, IsNoKey, IsNoNewKey, IsNoP384};
+ghost use Rattle.std.specs.Prelude.{◌≡◌, ℕ, IfErr, IfOk, List, length, true};
+ghost use Rattle.rusty_paseto_paserk.specs.declared.header.PaserkType.TheVariants.{Local as LocalKey, Secret};
+ghost use Rattle.rusty_paseto_paserk.specs.declared.header.PaserkVersion.TheVariants.{V3};
+ghost use Rattle.paseto_keys.specs.AnyKey.{is_key, key_parts, parts_of};
+ghost use Rattle.paseto_keys.specs.Error.{IsMemory};
+ghost use Rattle.paseto_keys.specs.Generation.{Generates, IsNew, IsNewEd25519, IsNewLocal, IsNewP384, IsNoKey, IsNoP384};
 
 use crate::any_key::{AnyKey, local_key};
 use crate::error::KeyError;
 use paseto_ed25519::Ed25519;
 use paseto_p384::P384;
 use rand_core::TryRng;
-use rusty_paseto_core::{Key, PasetoAsymmetricPrivateKey, PasetoError, PrivateKey, V2orV4, V3};
+use rusty_paseto_core::{Key, PasetoError};
 use rusty_paseto_paserk::{PaserkType, PaserkVersion};
 use std::alloc::Global;
 
@@ -37,15 +40,17 @@ impl AnyKey {
         match (kind, version) {
             (PaserkType::Local, _) => new_local(version, generator),
             (PaserkType::Secret, PaserkVersion::V1) => Err(KeyError::OtherVersion(version)),
-            (PaserkType::Secret, PaserkVersion::V2) => Ok(AnyKey::V2Secret(new_ed25519(
-                alloc, generator,
-            )?)),
-            (PaserkType::Secret, PaserkVersion::V3) => Ok(AnyKey::V3Secret(new_p384(
-                alloc, generator,
-            )?)),
-            (PaserkType::Secret, PaserkVersion::V4) => Ok(AnyKey::V4Secret(new_ed25519(
-                alloc, generator,
-            )?)),
+            (PaserkType::Secret, PaserkVersion::V2) => new_ed25519(
+                alloc,
+                PaserkVersion::V2,
+                generator,
+            ),
+            (PaserkType::Secret, PaserkVersion::V3) => new_p384(alloc, generator),
+            (PaserkType::Secret, PaserkVersion::V4) => new_ed25519(
+                alloc,
+                PaserkVersion::V4,
+                generator,
+            ),
             (PaserkType::Public, _) => Err(KeyError::OtherType(kind)),
         }
     }
@@ -56,44 +61,45 @@ fn new_local<G: TryRng>(version: PaserkVersion, generator: &mut G) -> Result<Any
     ensures { IsNew LocalKey version IsNewLocal IsNoKey
         (λ drawn. G.may_fill generator.old drawn generator.new) G.Error result }
 {
-    match Key::<32>::try_new_random(generator) {
-        Ok(key) => Ok(local_key(version, key)),
-        Err(_) => Err(KeyError::Random),
-    }
+    let Ok(key) = Key::<32>::try_new_random(generator) else {
+        return Err(KeyError::Random);
+    };
+    Ok(local_key(version, key))
 }
 
 // A new private key of version 2 or 4.
-fn new_ed25519<V: V2orV4, G: TryRng>(
+fn new_ed25519<G: TryRng>(
     alloc: Global,
+    version: PaserkVersion,
     generator: &mut G,
-) -> Result<PrivateKey<V>, KeyError>
-    ensures ok { IfOk result (λ key. (drawn : List ℕ) × G.may_fill generator.old drawn generator.new
-        × IsNewEd25519 drawn key) }
-    ensures err { IfErr result (IsNoNewKey IsNoKey
-        (λ drawn. G.may_fill generator.old drawn generator.new) G.Error) }
+) -> Result<AnyKey, KeyError>
+    requires { (key : List ℕ) → length key ≡ 64 → is_key Secret version key ≡ true }
+    ensures { IsNew Secret version IsNewEd25519 IsNoKey
+        (λ drawn. G.may_fill generator.old drawn generator.new) G.Error result }
 {
-    match Ed25519::key_pair(generator) {
-        Ok((private, _)) => Ok(PrivateKey::copy_of(
-            alloc,
-            &PasetoAsymmetricPrivateKey::from(&private),
-        )?),
-        Err(_) => Err(KeyError::Random),
-    }
+    let Ok((private, _public)) = Ed25519::key_pair(generator) else {
+        return Err(KeyError::Random);
+    };
+    private_key(alloc, version, private.as_bytes())
 }
 
 // A new private key of version 3.
-fn new_p384<G: TryRng>(alloc: Global, generator: &mut G) -> Result<PrivateKey<V3>, KeyError>
-    ensures ok { IfOk result (λ key. (drawn : List ℕ) × G.may_fill generator.old drawn generator.new
-        × IsNewP384 drawn key) }
-    ensures err { IfErr result (IsNoNewKey IsNoP384
-        (λ drawn. G.may_fill generator.old drawn generator.new) G.Error) }
+fn new_p384<G: TryRng>(alloc: Global, generator: &mut G) -> Result<AnyKey, KeyError>
+    ensures { IsNew Secret V3 IsNewP384 IsNoP384
+        (λ drawn. G.may_fill generator.old drawn generator.new) G.Error result }
 {
     match P384::key_pair(generator) {
-        Ok((private, _)) => Ok(PrivateKey::copy_of(
-            alloc,
-            &PasetoAsymmetricPrivateKey::from(&private),
-        )?),
+        Ok((private, _)) => private_key(alloc, PaserkVersion::V3, private.as_bytes()),
         Err(PasetoError::Cipher) => Err(KeyError::Random),
         Err(error) => Err(KeyError::from(error)),
     }
+}
+
+// The private key of these bytes, which are copied.
+fn private_key(alloc: Global, version: PaserkVersion, bytes: &[u8]) -> Result<AnyKey, KeyError>
+    requires { is_key Secret version bytes.now ≡ true }
+    ensures ok { IfOk result (λ key. parts_of key ≡ key_parts Secret version bytes.now) }
+    ensures err { IfErr result IsMemory }
+{
+    Ok(AnyKey::from_bytes(alloc, PaserkType::Secret, version, bytes)?)
 }
