@@ -20,11 +20,12 @@ use Rattle.paseto_tasks.specs.declared.arguments.Task.{Task}
 use Rattle.paseto_tasks.specs.declared.error.ProgramError.{ProgramError}
 use Rattle.paseto_tasks.specs.declared.token_kind.TokenKind.{TokenKind}
 use Rattle.paseto_tasks.specs.Error.{Blame, Fails, IsTokenError, nothing, use_error_of}
-use Rattle.paseto_tasks.specs.Input.{reading}
+use Rattle.paseto_tasks.specs.Input.{OfInput, reading}
 use Rattle.paseto_tasks.specs.Output.{Makes}
 use Rattle.paseto_tasks.specs.TokenKind.{kind_read_by}
 use Rattle.paseto_tasks.proofs.Blames.{fails_so}
-use Rattle.paseto_tasks.specs.Tokens.{DeclinesText, RefusesReading, reading_with, writing_with}
+use Rattle.paseto_tasks.proofs.Inputs.{of_more}
+use Rattle.paseto_tasks.specs.Tokens.{DeclinesText, RefusesReading, RefusesText, reading_with, writing_with}
 
 -- ---- keys
 
@@ -110,6 +111,19 @@ draw_fails Failure count error (inr random) =
     subst (λ (e : KeyError). Fails (record reading { no_bytes = (count ≢ 0) × Failure }) (use_error_of e)) (sym random.0) (tt, (random.2, random.1))
 
 -- a read that failed, where bytes might have been drawn
-pub fails_drawing : {X : Type 0} (NoDraw : Type 0) (error : ProgramError) → X ⊎ Fails reading error → X ⊎ Fails (record reading { no_bytes = NoDraw }) error
-fails_drawing NoDraw error (inl is) = inl is
-fails_drawing NoDraw error (inr fails) = inr (fails_so (record { bytes = λ h. absurd h; moment = λ h. h; long = λ h. h; footer = λ h. h; stream = λ h. h }) error fails)
+pub fails_drawing : {X : Type 0} (Undrawn : Type 0) (error : ProgramError) → X ⊎ Fails reading error → X ⊎ Fails (record reading { no_bytes = Undrawn }) error
+fails_drawing Undrawn error (inl is) = inl is
+fails_drawing Undrawn error (inr fails) = inr (fails_so (record { bytes = λ h. absurd h; moment = λ h. h; long = λ h. h; footer = λ h. h; stream = λ h. h }) error fails)
+
+-- a text that has no token
+pub text_unmade : (Prints : List ℕ → Type 0) (key : KeyParts) (options : Options) (IsDrawn : ℕ → List ℕ → Type 0) (known : Option (List ℕ)) (drawn text : List ℕ)
+    (blame : Blame) (error : KeyError) → IsDrawn (drawn_length key.kind key.version) drawn → OfInput known (λ bytes. bytes ≡ text)
+    → Lifts (IsWriteAnswer (writing_with key options drawn) (is_some options.footer) text) (Err error)
+    → Makes Prints (λ refusal. OfInput known (λ bytes. RefusesText key options IsDrawn bytes refusal)) (Fails blame) (Err (use_error_of error))
+text_unmade Prints key options IsDrawn known drawn text blame error is_drawn is lifts = record {
+  printed = tt;
+  refused = elim (not_written key options IsDrawn drawn text is_drawn blame error lifts) [
+    | inl declined ↦ inl (of_more known (λ bytes. bytes ≡ text) (λ bytes. RefusesText key options IsDrawn bytes (use_error_of error)) (λ bytes same. rw same (inr declined)) is)
+    | inr fails ↦ inr fails
+  ];
+}

@@ -16,7 +16,7 @@ returns-in-V1Public c =
 pub returns-in_err-to_line : goal.returns-in_err-to_line
 returns-in_err-to_line c =
     let p = err_from_is_err_and c.from_residual-in_err-to_line.result c.from_residual-in_err-to_line.ensures.1 in
-    rw (p.1, p.2) (record { printed = tt; refused = inr (half_unwritten (parts_of c.args.key.now) c.in_ok-half.half c.in_err-to_line.field-0.0 c.in_ok-half.ensures c.in_err-to_line.ensures) })
+    rw (p.1, p.2) (record { printed = tt; refused = inr (half_unwritten (parts_of c.args.key.now) c.in_ok-half.half c.in_err-to_line.field-0.0 c.in_ok-half.ensures c.in_err-to_line.ensures.refused) })
 
 pub returns : goal.returns
 returns c =
@@ -25,6 +25,6 @@ returns c =
       half = c.in_ok-half.half;
       text = c.in_ok-to_line.field-0;
       is_half = c.in_ok-half.ensures;
-      is_text = record { ok = c.in_ok-to_line.ensures; refused = tt };
+      is_text = c.in_ok-to_line.ensures;
       line_is = is;
     })

@@ -1,12 +1,10 @@
-use Rattle.std.proofs.Common.{◌≡◌, ◌≢◌, ◌⊎◌, ℕ, List, inl, inr, sym, ◌∙◌}
+use Rattle.std.proofs.Common.{inl, length, ap, ◌∙◌}
 use Rattle.std.proofs.lemmas.Result.{err_from_is_err_and}
 use Rattle.paseto_keys.specs.AnyKey.{parts_of}
-use Rattle.paseto_keys.specs.Writing.{drawn_length}
-use Rattle.paseto_tasks.specs.Error.{Fails}
-use Rattle.paseto_tasks.specs.Input.{IsNoText, reading}
-use Rattle.paseto_tasks.specs.Tokens.{RefusesText, drawn_by}
-use Rattle.paseto_tasks.proofs.Inputs.{of_more, refused_more}
-use Rattle.paseto_tasks.proofs.Uses.{fails_drawing, not_given, not_written}
+use Rattle.paseto_tasks.specs.Input.{IsNoText}
+use Rattle.paseto_tasks.specs.Tokens.{RefusesText}
+use Rattle.paseto_tasks.proofs.Inputs.{refused_more}
+use Rattle.paseto_tasks.proofs.Uses.{fails_drawing, not_given, text_unmade}
 use Rattle.paseto_tasks.proofs.tokens.write.Goals as goal
 
 pub returns-in_err-text : goal.returns-in_err-text
@@ -20,4 +18,11 @@ returns-in_err-text g c =
     })
 
 pub returns-in_err-token : goal.returns-in_err-token
-returns-in_err-token g c = ?
+returns-in_err-token g c =
+    let p = err_from_is_err_and c.from_residual-in_err-token.result c.from_residual-in_err-token.ensures.1 in
+    let given = c.bound-assertion.ensures in
+    let drawn = c.in_ok-drawn.ensures.ok in
+    let answer = c.in_err-token.ensures.answer c.requires.writes (λ unbound. not_given _ (given.none unbound)) in
+    let lifts = answer.answer (ap length c.deref.ensures.value ∙ drawn.size) in
+    rw (p.1, p.2) (text_unmade _ (parts_of c.args.key.now) c.args.options.now _ (g.R.Read.remaining c.args.input.now) c.in_ok-drawn.drawn.items _ _
+    c.in_err-token.field-0.0 drawn c.in_ok-text.ensures.text (rw (given.same c.requires.taken, c.deref.ensures.value, c.as_str.ensures.value) at lifts))
