@@ -1,5 +1,5 @@
 -- What is said of the bytes that were read.
-use Rattle.std.proofs.Common.{◌≡◌, ℕ, List, [], Option, None, Some, IfSome, refl, subst}
+use Rattle.std.proofs.Common.{◌≡◌, ◌⊎◌, inl, inr, ℕ, List, [], Option, None, Some, IfSome, refl, subst}
 use Rattle.paseto_streams.specs.Input.{IsReadFault}
 use Rattle.paseto_streams.specs.declared.error.StreamError.{StreamError}
 use Rattle.paseto_streams.specs.declared.error.StreamError.TheVariants.{InputOrOutput, Memory}
@@ -29,3 +29,8 @@ read_fails (Memory source) fault = (tt, tt)
 pub read_plain : (error : StreamError) → IsReadFault error → IsPlainBut reading (stream_error_of error)
 read_plain InputOrOutput fault = (tt, fault)
 read_plain (Memory source) fault = (tt, tt)
+
+-- why nothing is made of an input, in more words
+pub refused_more : (known : Option (List ℕ)) (P Q : List ℕ → Type 0) {F : Type 0} → ((bytes : List ℕ) → P bytes → Q bytes) → OfInput known P ⊎ F → OfInput known Q ⊎ F
+refused_more known P Q more (inl is) = inl (of_more known P Q more is)
+refused_more known P Q more (inr fails) = inr fails

@@ -6,5 +6,8 @@ pub mod Inputs
 pub mod Fronts
 pub mod KeyLines
 pub mod Uses
+pub mod Tasks
+pub mod Halves
+pub mod Refusals
 pub mod Spellings
 pub mod Showing

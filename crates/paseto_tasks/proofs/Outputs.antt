@@ -8,9 +8,9 @@ use Rattle.paseto_pem.specs.declared.error.PemError.TheVariants.{Memory as NoPem
 use Rattle.rusty_paseto_paserk.specs.declared.error.PaserkError.TheVariants.{Memory as NoKeyMemory}
 use Rattle.paseto_tasks.specs.declared.error.Names.{Names}
 use Rattle.paseto_tasks.specs.declared.error.ProgramError.{ProgramError}
-use Rattle.paseto_tasks.specs.declared.error.ProgramError.TheVariants.{InputOrOutput, Key, KeyFile, Pem}
-use Rattle.paseto_tasks.specs.Error.{IsCauseOf, IsNoUsage, IsOutside, line_of, status_of}
-use Rattle.paseto_tasks.specs.Output.{IsLeftOf, IsTextOf, Makes}
+use Rattle.paseto_tasks.specs.declared.error.ProgramError.TheVariants.{InputOrOutput, Key, KeyFile, Memory, Pem}
+use Rattle.paseto_tasks.specs.Error.{Blame, Fails, IsCauseOf, IsMemory, IsNoUsage, IsOutside, line_of, status_of}
+use Rattle.paseto_tasks.specs.Output.{IsLeftOf, IsLineOf, IsTextOf, Makes}
 use Rattle.paseto_tasks.specs.Run.{Ends, IsRefusal, Leaves, Tells}
 use Rattle.paseto_tasks.proofs.Statuses.{cause_so, not_2, outside, outside_three}
 
@@ -168,12 +168,34 @@ module _ (Prints : List ℕ → Type 0) (Refuses Fault : ProgramError → Type 0
     ends_no_usage none error (inl (inr fault)) = outside error (outside_of error fault)
     ends_no_usage none error (inr write) = subst IsNoUsage (sym write.0) tt
 
--- what is made is never refused
-pub only_printed : (Prints : List ℕ → Type 0) (text : String Global) → Prints (string_bytes text) → Makes Prints (λ error. ⊥) (λ error. ⊥) (Ok text)
-only_printed Prints text is = record { printed = is; refused = tt }
+-- what was printed, and what was refused
+pub printed_makes : (Prints : List ℕ → Type 0) (Refuses Fault : ProgramError → Type 0) (text : String Global) → Prints (string_bytes text)
+    → Makes Prints Refuses Fault (Ok text)
+printed_makes Prints Refuses Fault text is = record { printed = is; refused = tt }
+
+pub refused_makes : (Prints : List ℕ → Type 0) (Refuses Fault : ProgramError → Type 0) (error : ProgramError) → Refuses error ⊎ Fault error
+    → Makes Prints Refuses Fault (Err error)
+refused_makes Prints Refuses Fault error is = record { printed = tt; refused = is }
 
 -- what is so of an error in both ways
 pub both_so : {T : Type 0} (made : Result T ProgramError) (IsOne IsOther : ProgramError → Type 0) → IfErr made IsOne → IfErr made IsOther
     → IfErr made (λ error. IsOne error × IsOther error)
 both_so (Ok value) IsOne IsOther one other = tt
 both_so (Err error) IsOne IsOther one other = (one, other)
+
+-- the line of a text
+pub line_makes : (Prints : List ℕ → Type 0) (Refuses : ProgramError → Type 0) (blame : Blame) (text : List ℕ) (made : Result (String Global) ProgramError)
+    → IfOk made (λ line. IsLineOf text (string_bytes line)) → IfErr made IsMemory → ((line : List ℕ) → IsLineOf text line → Prints line)
+    → Makes Prints Refuses (Fails blame) made
+line_makes Prints Refuses blame text (Ok line) is memory prints = record { printed = prints (string_bytes line) is; refused = tt }
+line_makes Prints Refuses blame text (Err (Memory source)) is memory prints = record { printed = tt; refused = inr (tt, tt) }
+line_makes Prints Refuses blame text (Err error) is memory prints = absurd memory
+
+-- so that what is left is so
+pub leaves_forged : {W : Type 0} (contents : W → Option (List ℕ)) (before after : W) (Prints : List ℕ → Type 0) (text : String Global) (status : ℕ)
+    → Makes Prints (λ error. ⊥) (λ error. ⊥) (Ok text)
+    → Leaves contents (IsTextOf {E = ProgramError} (Ok text)) (IsErrAnd {T = String Global} {E = ProgramError} (Ok text) (λ error. status_of error ≡ status)) status before after
+    → Leaves contents Prints ⊥ status before after
+leaves_forged contents before after Prints text status makes leaves =
+    let ended = leaves_end Prints (λ error. ⊥) (λ error. ⊥) (λ error none. absurd none) contents before after (Ok text) status makes leaves in
+    record { written = ended.written; cut = ended.cut; refused = λ some. let none = ended.refused some in (none.0, none.1.1) }

@@ -12,18 +12,20 @@ use Rattle.paseto_keys.specs.AnyKey.{KeyParts, reads_tokens, writes_tokens}
 use Rattle.paseto_keys.specs.Drawing.{IsDrawFault}
 use Rattle.paseto_keys.specs.Error.{key_error_of}
 use Rattle.paseto_keys.specs.Tokens.{Lifts, lifted}
-use Rattle.paseto_keys.specs.Writing.{IsWriteAnswer, Writing}
+use Rattle.paseto_keys.specs.Writing.{IsWriteAnswer, Writing, drawn_length}
 use Rattle.paseto_keys.specs.declared.error.KeyError.{KeyError}
 use Rattle.paseto_keys.specs.declared.error.KeyError.TheVariants.{OtherType, NoAssertion, OtherLength, Refused as RefusedToken, Random as NoDraw, Memory as NoUseMemory}
 use Rattle.paseto_tasks.specs.declared.arguments.Options.{Options}
 use Rattle.paseto_tasks.specs.declared.arguments.Task.{Task}
 use Rattle.paseto_tasks.specs.declared.error.ProgramError.{ProgramError}
 use Rattle.paseto_tasks.specs.declared.token_kind.TokenKind.{TokenKind}
-use Rattle.paseto_tasks.specs.Error.{Fails, IsTokenError, nothing, use_error_of}
-use Rattle.paseto_tasks.specs.Input.{reading}
+use Rattle.paseto_tasks.specs.Error.{Blame, Fails, IsTokenError, nothing, use_error_of}
+use Rattle.paseto_tasks.specs.Input.{OfInput, reading}
 use Rattle.paseto_tasks.specs.Output.{Makes}
 use Rattle.paseto_tasks.specs.TokenKind.{kind_read_by}
-use Rattle.paseto_tasks.specs.Tokens.{RefusesReading, reading_with}
+use Rattle.paseto_tasks.proofs.Blames.{fails_so}
+use Rattle.paseto_tasks.proofs.Inputs.{of_more}
+use Rattle.paseto_tasks.specs.Tokens.{DeclinesText, RefusesReading, RefusesText, reading_with, writing_with}
 
 -- ---- keys
 
@@ -38,11 +40,6 @@ local_reads kind is = ap reads_tokens is
 -- ---- reading
 
 module _ (key : KeyParts) (options : Options) (token : List ℕ) where
-  told_refusal : (source : PasetoError) (error : ProgramError) → IsMemory source ⊎ ((RefusesReading key options token error))
-      → RefusesReading key options token error ⊎ IsMemory source
-  told_refusal source error (inl memory) = inr memory
-  told_refusal source error (inr refused) = inl refused
-
   unread : (source : PasetoError) (error : ProgramError) → IsAnswer (reading_with key options) token (Err source)
       → IsTokenError token (kind_read_by key.version key.kind) (key_error_of source) error
       → RefusesReading key options token error ⊎ Fails nothing error
@@ -83,3 +80,50 @@ was_written writing written text token lifts = by_answer lifts.0 lifts.1 lifts.2
     by_answer : (answer : Result (String Global) PasetoError) → Ok token ≡ lifted answer → IsWriteAnswer writing written text answer → writing.Writes written text (string_bytes token)
     by_answer (Ok found) is answers = let same : token ≡ found = cc in rw same answers.made
     by_answer (Err source) is answers = absurd (cc)
+
+-- or why it was not
+module _ (key : KeyParts) (options : Options) (IsDrawn : ℕ → List ℕ → Type 0) (drawn text : List ℕ) (is_drawn : IsDrawn (drawn_length key.kind key.version) drawn)
+    (blame : Blame) where
+  declined_of : (source : PasetoError) → IsMemory source ⊎ (writing_with key options drawn).Declines (is_some options.footer) text source
+      → DeclinesText key options IsDrawn text (use_error_of (key_error_of source)) ⊎ Fails blame (use_error_of (key_error_of source))
+  declined_of (NoMemory source) h = inr (tt, tt)
+  declined_of source (inl memory) = absurd memory
+  declined_of source (inr declined) = inl (record { drawn = drawn; source = source; is_drawn = is_drawn; declined = declined; told = refl })
+
+  pub not_written : (error : KeyError) → Lifts (IsWriteAnswer (writing_with key options drawn) (is_some options.footer) text) (Err error)
+      → DeclinesText key options IsDrawn text (use_error_of error) ⊎ Fails blame (use_error_of error)
+  not_written error lifts = by_answer lifts.0 lifts.1 lifts.2
+    where
+      by_answer : (answer : Result (String Global) PasetoError) → Err error ≡ lifted answer
+          → IsWriteAnswer (writing_with key options drawn) (is_some options.footer) text answer
+          → DeclinesText key options IsDrawn text (use_error_of error) ⊎ Fails blame (use_error_of error)
+      by_answer (Ok token) is answers = absurd (cc)
+      by_answer (Err source) is answers =
+          let same : error ≡ key_error_of source = cc in
+          subst (λ (e : KeyError). DeclinesText key options IsDrawn text (use_error_of e) ⊎ Fails blame (use_error_of e)) (sym same) (declined_of source answers.declined)
+
+-- bytes that are not drawn
+pub draw_fails : (Failure : Type 0) (count : ℕ) (error : KeyError) → IsDrawFault Failure count error
+    → Fails (record reading { no_bytes = (count ≢ 0) × Failure }) (use_error_of error)
+draw_fails Failure count (NoUseMemory source) fault = (tt, tt)
+draw_fails Failure count error (inl memory) = absurd memory
+draw_fails Failure count error (inr random) =
+    subst (λ (e : KeyError). Fails (record reading { no_bytes = (count ≢ 0) × Failure }) (use_error_of e)) (sym random.0) (tt, (random.2, random.1))
+
+-- a read that failed, where bytes might have been drawn
+pub fails_drawing : {X : Type 0} (Undrawn : Type 0) (error : ProgramError) → X ⊎ Fails reading error → X ⊎ Fails (record reading { no_bytes = Undrawn }) error
+fails_drawing Undrawn error (inl is) = inl is
+fails_drawing Undrawn error (inr fails) = inr (fails_so (record { bytes = λ h. absurd h; moment = λ h. h; long = λ h. h; footer = λ h. h; stream = λ h. h }) error fails)
+
+-- a text that has no token
+pub text_unmade : (Prints : List ℕ → Type 0) (key : KeyParts) (options : Options) (IsDrawn : ℕ → List ℕ → Type 0) (known : Option (List ℕ)) (drawn text : List ℕ)
+    (blame : Blame) (error : KeyError) → IsDrawn (drawn_length key.kind key.version) drawn → OfInput known (λ bytes. bytes ≡ text)
+    → Lifts (IsWriteAnswer (writing_with key options drawn) (is_some options.footer) text) (Err error)
+    → Makes Prints (λ refusal. OfInput known (λ bytes. RefusesText key options IsDrawn bytes refusal)) (Fails blame) (Err (use_error_of error))
+text_unmade Prints key options IsDrawn known drawn text blame error is_drawn is lifts = record {
+  printed = tt;
+  refused = elim (not_written key options IsDrawn drawn text is_drawn blame error lifts) [
+    | inl declined ↦ inl (of_more known (λ bytes. bytes ≡ text) (λ bytes. RefusesText key options IsDrawn bytes (use_error_of error)) (λ bytes same. rw same (inr declined)) is)
+    | inr fails ↦ inr fails
+  ];
+}

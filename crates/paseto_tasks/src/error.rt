@@ -440,8 +440,9 @@ impl From<KeyError> for ProgramError {
     fn from(source: KeyError) -> ProgramError {
         match source {
             KeyError::OtherType(kind) => ProgramError::Key(PaserkError::OtherType(kind)),
-            KeyError::OtherVersion(version) =>
-                ProgramError::Key(PaserkError::OtherVersion(version)),
+            KeyError::OtherVersion(version) => ProgramError::Key(PaserkError::OtherVersion(
+                version,
+            )),
             KeyError::NoAssertion => ProgramError::NoAssertion,
             KeyError::Refused(source) => ProgramError::Refused(source),
             KeyError::OtherLength(_) | KeyError::Random => ProgramError::Random,
