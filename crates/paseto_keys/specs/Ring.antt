@@ -113,6 +113,9 @@ pub record Wanted : Type 0 where
   pub assertion : Option ImplicitAssertion
   pub rules : Rules Verdict
 
+abbrev pub wanted_of : Option ℕ → Option Footer → Option ImplicitAssertion → Rules Verdict → Wanted
+wanted_of longest footer assertion rules = record { longest = longest; footer = footer; assertion = assertion; rules = rules }
+
 -- the answer for a token of this type and this version: no assertion in its version, where one is expected; else a token that
 -- is too long, whatever memory there is; and else what the ring of the keys of this type and this version answers
 pub record IsAdmittedIn (kind : PaserkType) (version : PaserkVersion) (keys : List AnyKey) (wanted : Wanted) (token : List ℕ)

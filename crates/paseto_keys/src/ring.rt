@@ -9,7 +9,7 @@ ghost use Rattle.rusty_paseto_generic.specs.Parsers.Times.{times_at};
 ghost use Rattle.rusty_paseto.specs.KeyRing.{IsClaimsAnswer, IsFindingFault, IsFound, IsMemory, IsOpenedUnder, IsRingAnswer, Keys};
 ghost use Rattle.rusty_paseto.specs.declared.error.KeyRingError.TheVariants.{Untrusted};
 ghost use Rattle.paseto_keys.specs.AnyKey.{parts_of, takes_assertion};
-ghost use Rattle.paseto_keys.specs.Ring.{IsAdmittedByRing, IsKeyFor, bytes_for, kind_in, readings_in, ring_kind, ring_of, type_in, version_in, with_own};
+ghost use Rattle.paseto_keys.specs.Ring.{IsAdmittedByRing, IsKeyFor, bytes_for, kind_in, readings_in, ring_kind, ring_of, type_in, version_in, wanted_of, with_own};
 
 use crate::any_key::AnyKey;
 use crate::claims::ClaimsParser;
@@ -56,13 +56,9 @@ pub fn admit_by_ring(
     token: &str,
 ) -> Result<(String, Value), RingError>
     ensures { IsAdmittedByRing keys.now
-        (record {
-          longest = parser.now.longest;
-          footer = parser.now.footer;
-          assertion = parser.now.implicit_assertion;
-          rules = verdicts_of (λ b. verdict b) (times_at parser.now.moment parser.now.leeway)
-              parser.now.checks;
-        }) token.now result }
+        (wanted_of parser.now.longest parser.now.footer parser.now.implicit_assertion
+        (verdicts_of (λ b. verdict b) (times_at parser.now.moment parser.now.leeway)
+        parser.now.checks)) token.now result }
 {
     let (kind, version) = match kind_of(token) {
         Ok(found) => found,

@@ -195,6 +195,6 @@ fn rings_refuse_by_parsers(rt: HostRuntime) {
     expect_refused(&rt, alloc, answer_by(&rt, alloc, &parser), wanted);
     let mut parser = ClaimsParser::new(alloc);
     parser.put_required("sub").expect(&rt, "a check");
-    let wanted = "The claim 'sub' failed validation.  Expected '' but received ''";
+    let wanted = "The expected claim 'sub' was not found in the payload";
     expect_refused(&rt, alloc, answer_by(&rt, alloc, &parser), wanted);
 }
