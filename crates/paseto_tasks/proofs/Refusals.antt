@@ -1,5 +1,5 @@
 -- No refusal says anything of the words.
-use Rattle.std.proofs.Common.{◌≡◌, ◌⊎◌, ℕ, List, Option, inl, inr, sym, subst}
+use Rattle.std.proofs.Common.{ℕ, List, Option, inl, inr, sym, subst}
 use Rattle.rusty_paseto_parts.specs.declared.error.PasetoError.{PasetoError}
 use Rattle.rusty_paseto_parts.specs.declared.error.PasetoError.TheVariants.{WrongHeader}
 use Rattle.rusty_paseto_paserk.specs.declared.header.PaserkType.{PaserkType}
@@ -12,7 +12,7 @@ use Rattle.paseto_tasks.specs.declared.error.ProgramError.{ProgramError}
 use Rattle.paseto_tasks.specs.declared.token_kind.TokenKind.{TokenKind}
 use Rattle.paseto_tasks.specs.Error.{IsNoUsage, IsTokenError}
 use Rattle.paseto_tasks.specs.Explain.{RefusesExplaining}
-use Rattle.paseto_tasks.specs.Input.{IsNoText, OfInput, line_of_input}
+use Rattle.paseto_tasks.specs.Input.{IsNoText, line_of_input}
 use Rattle.paseto_tasks.specs.Run.{RefusesOf}
 use Rattle.paseto_tasks.specs.Tokens.{RefusesInput, RefusesKey, RefusesReading, RefusesText, RefusesToken}
 

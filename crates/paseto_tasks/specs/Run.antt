@@ -7,11 +7,11 @@ use Rattle.paseto_keys.specs.AnyKey.{KeyParts}
 use Rattle.paseto_keys.specs.Writing.{drawn_length}
 use Rattle.paseto_tasks.specs.declared.arguments.Options.{Options}
 use Rattle.paseto_tasks.specs.declared.arguments.Task.{Task}
-use Rattle.paseto_tasks.specs.declared.arguments.Task.TheVariants.{Encrypt, Decrypt, Sign, Verify}
+use Rattle.paseto_tasks.specs.declared.arguments.Task.TheVariants.{Encrypt, Sign}
 use Rattle.paseto_tasks.specs.declared.error.Names.{Names}
 use Rattle.paseto_tasks.specs.declared.error.ProgramError.{ProgramError}
 use Rattle.paseto_tasks.specs.declared.error.ProgramError.TheVariants.{InputOrOutput}
-use Rattle.paseto_tasks.specs.Error.{Blame, Fails, line_of, nothing, status_of}
+use Rattle.paseto_tasks.specs.Error.{Fails, line_of, nothing, status_of}
 use Rattle.paseto_tasks.specs.Input.{OfInput}
 use Rattle.paseto_tasks.specs.Output.{IsLeftOf}
 use Rattle.paseto_tasks.specs.Tokens.{Does, Fits, RefusesInput, RefusesKey, type_for}
