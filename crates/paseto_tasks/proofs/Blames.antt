@@ -2,7 +2,7 @@
 use Rattle.std.proofs.Common.{Result, Ok, Err, IfErr}
 use Rattle.paseto_tasks.specs.declared.error.ProgramError.{ProgramError}
 use Rattle.paseto_tasks.specs.declared.error.ProgramError.TheVariants.{Clock, InputOrOutput, OtherFooter, Random, TooLong}
-use Rattle.paseto_tasks.specs.Error.{Blame, BlamesNone, BlamesOnly, Fails, IsFixed, IsPlain, IsPlainBut, nothing}
+use Rattle.paseto_tasks.specs.Error.{Blame, BlamesOnly, Fails, IsPlainBut, nothing}
 
 -- wherever one may, another may
 pub record IsWithin (one other : Blame) : Type 0 where

@@ -1,11 +1,6 @@
 -- What is said of the bytes that were read.
-use Rattle.std.proofs.Common.{◌≡◌, ◌⊎◌, inl, inr, ℕ, List, [], Option, None, Some, IfSome, refl, subst}
-use Rattle.paseto_streams.specs.Input.{IsReadFault}
-use Rattle.paseto_streams.specs.declared.error.StreamError.{StreamError}
-use Rattle.paseto_streams.specs.declared.error.StreamError.TheVariants.{InputOrOutput, Memory}
-use Rattle.paseto_tasks.specs.declared.error.ProgramError.{ProgramError}
-use Rattle.paseto_tasks.specs.Error.{Fails, IsPlainBut, stream_error_of}
-use Rattle.paseto_tasks.specs.Input.{OfInput, reading}
+use Rattle.std.proofs.Common.{◌⊎◌, inl, inr, ℕ, List, [], Option, None, Some, IfSome, refl, subst}
+use Rattle.paseto_tasks.specs.Input.{OfInput}
 
 -- what is so of some bytes is so of the known input
 pub of_known : (known : Option (List ℕ)) (P : List ℕ → Type 0) → OfInput known P → IfSome known P
@@ -20,15 +15,6 @@ of_more known P Q more is = (is.0, is.1, more is.0 is.2)
 pub some_input : (known : Option (List ℕ)) (P : List ℕ → Type 0) → ((bytes : List ℕ) → P bytes) → OfInput known P
 some_input None P all = ([], tt, all [])
 some_input (Some bytes) P all = (bytes, refl, all bytes)
-
--- a read that failed
-pub read_fails : (error : StreamError) → IsReadFault error → Fails reading (stream_error_of error)
-read_fails InputOrOutput fault = (tt, fault)
-read_fails (Memory source) fault = (tt, tt)
-
-pub read_plain : (error : StreamError) → IsReadFault error → IsPlainBut reading (stream_error_of error)
-read_plain InputOrOutput fault = (tt, fault)
-read_plain (Memory source) fault = (tt, tt)
 
 -- why nothing is made of an input, in more words
 pub refused_more : (known : Option (List ℕ)) (P Q : List ℕ → Type 0) {F : Type 0} → ((bytes : List ℕ) → P bytes → Q bytes) → OfInput known P ⊎ F → OfInput known Q ⊎ F

@@ -9,10 +9,10 @@ use Rattle.rusty_paseto_paserk.specs.declared.error.PaserkError.TheVariants.{Mem
 use Rattle.paseto_tasks.specs.declared.error.Names.{Names}
 use Rattle.paseto_tasks.specs.declared.error.ProgramError.{ProgramError}
 use Rattle.paseto_tasks.specs.declared.error.ProgramError.TheVariants.{InputOrOutput, Key, KeyFile, Memory, Pem}
-use Rattle.paseto_tasks.specs.Error.{Blame, Fails, IsCauseOf, IsMemory, IsNoUsage, IsOutside, line_of, status_of}
+use Rattle.paseto_tasks.specs.Error.{Blame, Fails, IsCauseOf, IsFixed, IsMemory, IsNoUsage, IsOutside, line_of, status_of}
 use Rattle.paseto_tasks.specs.Output.{IsLeftOf, IsLineOf, IsTextOf, Makes}
 use Rattle.paseto_tasks.specs.Run.{Ends, IsRefusal, Leaves, Tells}
-use Rattle.paseto_tasks.proofs.Statuses.{cause_so, not_2, outside, outside_three}
+use Rattle.paseto_tasks.proofs.Statuses.{cause_so, fixed_no_usage, not_2, outside_fixed, outside_three}
 
 -- what is left of what was made is left of the output that it is
 pub left_of_made : {E : Type 0} (made : Result (String Global) E) (IsOutput : List ℕ → Type 0) (left : List ℕ)
@@ -131,10 +131,18 @@ module _ {E : Type 0} (contents : E → Option (List ℕ)) (names : Names) (befo
 
 -- ---- how a command ends that prints or refuses
 
-module _ (Prints : List ℕ → Type 0) (Refuses Fault : ProgramError → Type 0) where
+module _ (Prints : List ℕ → Type 0) (Refuses Fault : ProgramError → Type 0) (fixed_of : (error : ProgramError) → Refuses error → IsFixed error)
+    (outside_of : (error : ProgramError) → Fault error → IsOutside error) where
+  either_fixed : (error : ProgramError) → Refuses error ⊎ Fault error → IsFixed error
+  either_fixed error (inl refuses) = fixed_of error refuses
+  either_fixed error (inr fault) = outside_fixed error (outside_of error fault)
+
   ends_so : (made : Result (String Global) ProgramError) (error : ProgramError) → Makes Prints Refuses Fault made → IsCauseOf made error → Ends Prints Refuses Fault error
-  ends_so (Ok text) error makes is = inr (is, (string_bytes text, makes.printed))
-  ends_so (Err cause) error makes is = inl (subst (λ (e : ProgramError). Refuses e ⊎ Fault e) (sym is) makes.refused)
+  ends_so (Ok text) error makes is = record { fixed = subst IsFixed (sym is) tt; why = inr (is, (string_bytes text, makes.printed)) }
+  ends_so (Err cause) error makes is = record {
+    fixed = subst IsFixed (sym is) (either_fixed cause makes.refused);
+    why = inl (subst (λ (e : ProgramError). Refuses e ⊎ Fault e) (sym is) makes.refused);
+  }
 
   pub tells_end : {E : Type 0} (contents : E → Option (List ℕ)) (names : Names) (before after : E) (made : Result (String Global) ProgramError) (status : ℕ)
       → Makes Prints Refuses Fault made → Tells contents names (IsCauseOf made) status before after
@@ -145,28 +153,28 @@ module _ (Prints : List ℕ → Type 0) (Refuses Fault : ProgramError → Type 0
     said = λ some. let told = tells.said some in (told.0, told.1, ends_so made told.0 makes told.2, told.3);
   }
 
-  module _ (outside_of : (error : ProgramError) → Fault error → IsOutside error) where
-    is_refusal : (made : Result (String Global) ProgramError) (status : ℕ) → (status ≡ 1) ⊎ (status ≡ 2) → IfErr made (λ error. Refuses error ⊎ Fault error)
-        → IsErrAnd made (λ error. status_of error ≡ status) → IsRefusal Refuses status
-    is_refusal (Ok text) status some refused is = absurd is
-    is_refusal (Err error) status some (inl refuses) is = (error, refuses, is)
-    is_refusal (Err error) status some (inr fault) is = absurd (not_three error status (sym is) (outside_three error (outside_of error fault)) some)
+  -- no word is at fault
+  pub no_usage_end : {E : Type 0} (contents : E → Option (List ℕ)) (names : Names) (before after : E) (made : Result (String Global) ProgramError) (status : ℕ)
+      → Makes Prints Refuses Fault made → Tells contents names (IsCauseOf made) status before after → status ≢ 2
+  no_usage_end contents names before after made status makes tells =
+      tells_no_usage contents names before after (Ends Prints Refuses Fault) status (λ error ends. fixed_no_usage error ends.fixed)
+      (tells_end contents names before after made status makes tells)
 
-    pub leaves_end : {W : Type 0} (contents : W → Option (List ℕ)) (before after : W) (made : Result (String Global) ProgramError) (status : ℕ)
-        → Makes Prints Refuses Fault made
-        → Leaves contents (IsTextOf made) (IsErrAnd made (λ error. status_of error ≡ status)) status before after
-        → Leaves contents Prints (IsRefusal Refuses status) status before after
-    leaves_end contents before after made status makes leaves = record {
-      written = λ zero. let whole = leaves.written zero in (whole.0, whole.1, text_printed made Prints whole.0 makes.printed whole.2);
-      cut = λ some. let left = leaves.cut some in (left.0, left.1, left_of_made made Prints left.0 makes.printed left.2);
-      refused = λ some. let none = leaves.refused some in (none.0, is_refusal made status some makes.refused none.1);
-    }
+  is_refusal : (made : Result (String Global) ProgramError) (status : ℕ) → (status ≡ 1) ⊎ (status ≡ 2) → IfErr made (λ error. Refuses error ⊎ Fault error)
+      → IsErrAnd made (λ error. status_of error ≡ status) → IsRefusal Refuses status
+  is_refusal (Ok text) status some refused is = absurd is
+  is_refusal (Err error) status some (inl refuses) is = (error, refuses, is)
+  is_refusal (Err error) status some (inr fault) is = absurd (not_three error status (sym is) (outside_three error (outside_of error fault)) some)
 
-    -- no word is at fault
-    pub ends_no_usage : ((error : ProgramError) → Refuses error → IsNoUsage error) → (error : ProgramError) → Ends Prints Refuses Fault error → IsNoUsage error
-    ends_no_usage none error (inl (inl refuses)) = none error refuses
-    ends_no_usage none error (inl (inr fault)) = outside error (outside_of error fault)
-    ends_no_usage none error (inr write) = subst IsNoUsage (sym write.0) tt
+  pub leaves_end : {W : Type 0} (contents : W → Option (List ℕ)) (before after : W) (made : Result (String Global) ProgramError) (status : ℕ)
+      → Makes Prints Refuses Fault made
+      → Leaves contents (IsTextOf made) (IsErrAnd made (λ error. status_of error ≡ status)) status before after
+      → Leaves contents Prints (IsRefusal Refuses status) status before after
+  leaves_end contents before after made status makes leaves = record {
+    written = λ zero. let whole = leaves.written zero in (whole.0, whole.1, text_printed made Prints whole.0 makes.printed whole.2);
+    cut = λ some. let left = leaves.cut some in (left.0, left.1, left_of_made made Prints left.0 makes.printed left.2);
+    refused = λ some. let none = leaves.refused some in (none.0, is_refusal made status some makes.refused none.1);
+  }
 
 -- what was printed, and what was refused
 pub printed_makes : (Prints : List ℕ → Type 0) (Refuses Fault : ProgramError → Type 0) (text : String Global) → Prints (string_bytes text)
@@ -197,5 +205,5 @@ pub leaves_forged : {W : Type 0} (contents : W → Option (List ℕ)) (before af
     → Leaves contents (IsTextOf {E = ProgramError} (Ok text)) (IsErrAnd {T = String Global} {E = ProgramError} (Ok text) (λ error. status_of error ≡ status)) status before after
     → Leaves contents Prints ⊥ status before after
 leaves_forged contents before after Prints text status makes leaves =
-    let ended = leaves_end Prints (λ error. ⊥) (λ error. ⊥) (λ error none. absurd none) contents before after (Ok text) status makes leaves in
+    let ended = leaves_end Prints (λ error. ⊥) (λ error. ⊥) (λ error none. absurd none) (λ error none. absurd none) contents before after (Ok text) status makes leaves in
     record { written = ended.written; cut = ended.cut; refused = λ some. let none = ended.refused some in (none.0, none.1.1) }

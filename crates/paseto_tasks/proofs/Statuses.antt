@@ -60,8 +60,16 @@ usage_says (Ok value) status X is two says = absurd is
 usage_says (Err error) status X is two (inl none) = absurd (not_2 error status (sym is) none two)
 usage_says (Err error) status X is two (inr x) = x
 
+-- nor has one from outside
+pub outside_fixed : (error : ProgramError) → IsOutside error → IsFixed error
+outside_fixed Clock h = tt
+outside_fixed Random h = tt
+outside_fixed InputOrOutput h = tt
+outside_fixed (Memory source) h = tt
+outside_fixed error h = absurd h
+
 -- an error from outside says nothing of the words
-pub outside : (error : ProgramError) → IsOutside error → IsNoUsage error
+outside : (error : ProgramError) → IsOutside error → IsNoUsage error
 outside Clock h = tt
 outside Random h = tt
 outside InputOrOutput h = tt

@@ -1,24 +1,19 @@
 -- What a key answered, in the words of the program.
-use Rattle.std.proofs.Common.{◌≡◌, ◌≢◌, ◌⊎◌, ℕ, List, Bool, true, false, Option, None, is_some, Result, Ok, Err, IfOk, IfErr, IsErrAnd, OnOk, IsUtf8, String, Global, string_bytes, inl, inr, refl, sym, ap, subst, ◌∙◌}
-use Rattle.std.proofs.lemmas.Bool.{false≢true}
+use Rattle.std.proofs.Common.{◌≡◌, ◌≢◌, ◌⊎◌, ℕ, List, false, Option, None, is_some, Result, Ok, Err, IfOk, IfErr, IsErrAnd, String, Global, string_bytes, inl, inr, refl, sym, ap, subst, ◌∙◌}
 use Rattle.rusty_paseto_parts.specs.Error.{IsMemory}
 use Rattle.rusty_paseto_parts.specs.declared.error.PasetoError.{PasetoError}
 use Rattle.rusty_paseto_parts.specs.declared.error.PasetoError.TheVariants.{Memory as NoMemory}
 use Rattle.rusty_paseto_parts.specs.declared.texts.implicit_assertion.ImplicitAssertion.{ImplicitAssertion}
-use Rattle.rusty_paseto_core.specs.Reading.{IsAnswer, IsRead, Reading}
-use Rattle.rusty_paseto_paserk.specs.declared.header.PaserkType.{PaserkType}
-use Rattle.rusty_paseto_paserk.specs.declared.header.PaserkType.TheVariants.{Local, Secret, Public}
-use Rattle.paseto_keys.specs.AnyKey.{KeyParts, reads_tokens, writes_tokens}
+use Rattle.rusty_paseto_core.specs.Reading.{IsAnswer, IsRead}
+use Rattle.paseto_keys.specs.AnyKey.{KeyParts}
 use Rattle.paseto_keys.specs.Drawing.{IsDrawFault}
 use Rattle.paseto_keys.specs.Error.{key_error_of}
 use Rattle.paseto_keys.specs.Tokens.{Lifts, lifted}
-use Rattle.paseto_keys.specs.Writing.{IsWriteAnswer, Writing, drawn_length}
+use Rattle.paseto_keys.specs.Writing.{IsWriteAnswer, drawn_length}
 use Rattle.paseto_keys.specs.declared.error.KeyError.{KeyError}
-use Rattle.paseto_keys.specs.declared.error.KeyError.TheVariants.{OtherType, NoAssertion, OtherLength, Refused as RefusedToken, Random as NoDraw, Memory as NoUseMemory}
+use Rattle.paseto_keys.specs.declared.error.KeyError.TheVariants.{Memory as NoUseMemory}
 use Rattle.paseto_tasks.specs.declared.arguments.Options.{Options}
-use Rattle.paseto_tasks.specs.declared.arguments.Task.{Task}
 use Rattle.paseto_tasks.specs.declared.error.ProgramError.{ProgramError}
-use Rattle.paseto_tasks.specs.declared.token_kind.TokenKind.{TokenKind}
 use Rattle.paseto_tasks.specs.Error.{Blame, Fails, IsTokenError, nothing, use_error_of}
 use Rattle.paseto_tasks.specs.Input.{OfInput, reading}
 use Rattle.paseto_tasks.specs.Output.{Makes}
@@ -32,10 +27,6 @@ use Rattle.paseto_tasks.specs.Tokens.{DeclinesText, RefusesReading, RefusesText,
 -- an assertion that is none is not given
 pub not_given : (assertion : Option ImplicitAssertion) → assertion ≡ None → is_some assertion ≡ false
 not_given assertion none = ap (λ (a : Option ImplicitAssertion). is_some a) none
-
--- keys of these types read tokens, and write them
-pub local_reads : (kind : PaserkType) → kind ≡ Local → reads_tokens kind ≡ true
-local_reads kind is = ap reads_tokens is
 
 -- ---- reading
 
@@ -72,16 +63,7 @@ module _ (key : KeyParts) (options : Options) (token : List ℕ) where
 
 -- ---- writing
 
--- the token of a text that was written
-pub was_written : (writing : Writing) (written : Bool) (text : List ℕ) (token : String Global) → Lifts (IsWriteAnswer writing written text) (Ok token)
-    → writing.Writes written text (string_bytes token)
-was_written writing written text token lifts = by_answer lifts.0 lifts.1 lifts.2
-  where
-    by_answer : (answer : Result (String Global) PasetoError) → Ok token ≡ lifted answer → IsWriteAnswer writing written text answer → writing.Writes written text (string_bytes token)
-    by_answer (Ok found) is answers = let same : token ≡ found = cc in rw same answers.made
-    by_answer (Err source) is answers = absurd (cc)
-
--- or why it was not
+-- why a token was not written
 module _ (key : KeyParts) (options : Options) (IsDrawn : ℕ → List ℕ → Type 0) (drawn text : List ℕ) (is_drawn : IsDrawn (drawn_length key.kind key.version) drawn)
     (blame : Blame) where
   declined_of : (source : PasetoError) → IsMemory source ⊎ (writing_with key options drawn).Declines (is_some options.footer) text source

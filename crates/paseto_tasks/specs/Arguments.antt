@@ -14,7 +14,6 @@ use Rattle.paseto_tasks.specs.declared.arguments.Kind.{Kind}
 use Rattle.paseto_tasks.specs.declared.arguments.Kind.TheVariants.{V1Local, V2Local, V2Public, V3Local, V3Public, V4Local, V4Public}
 use Rattle.paseto_tasks.specs.declared.arguments.Format.{Format}
 use Rattle.paseto_tasks.specs.declared.arguments.Format.TheVariants.{Paserk, Pem}
-use Rattle.paseto_tasks.specs.declared.arguments.Options.{Options}
 
 -- the texts of lines
 abbrev pub words_of : List (String Global) → List (List ℕ)

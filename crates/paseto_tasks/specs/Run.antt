@@ -7,11 +7,11 @@ use Rattle.paseto_keys.specs.AnyKey.{KeyParts}
 use Rattle.paseto_keys.specs.Writing.{drawn_length}
 use Rattle.paseto_tasks.specs.declared.arguments.Options.{Options}
 use Rattle.paseto_tasks.specs.declared.arguments.Task.{Task}
-use Rattle.paseto_tasks.specs.declared.arguments.Task.TheVariants.{Encrypt, Decrypt, Sign, Verify}
+use Rattle.paseto_tasks.specs.declared.arguments.Task.TheVariants.{Encrypt, Sign}
 use Rattle.paseto_tasks.specs.declared.error.Names.{Names}
 use Rattle.paseto_tasks.specs.declared.error.ProgramError.{ProgramError}
 use Rattle.paseto_tasks.specs.declared.error.ProgramError.TheVariants.{InputOrOutput}
-use Rattle.paseto_tasks.specs.Error.{Blame, Fails, line_of, nothing, status_of}
+use Rattle.paseto_tasks.specs.Error.{Fails, IsFixed, line_of, nothing, status_of}
 use Rattle.paseto_tasks.specs.Input.{OfInput}
 use Rattle.paseto_tasks.specs.Output.{IsLeftOf}
 use Rattle.paseto_tasks.specs.Tokens.{Does, Fits, RefusesInput, RefusesKey, type_for}
@@ -64,10 +64,11 @@ pub record Tells {E : Type 0} (contents : E → Option (List ℕ)) (names : Name
 abbrev pub IsRefusal : (ProgramError → Type 0) → ℕ → Type 0
 IsRefusal Refuses status = (error : ProgramError) × Refuses error × (status_of error ≡ status)
 
--- the error that ends a command: it refuses, or fails, or the output that it prints was not written
-abbrev pub Ends : (List ℕ → Type 0) → (Refuses Fault : ProgramError → Type 0) → ProgramError → Type 0
-Ends Prints Refuses Fault error =
-    (Refuses error ⊎ Fault error) ⊎ ((error ≡ InputOrOutput) × ((output : List ℕ) × Prints output))
+-- the error that ends a command, which has no text of its own: it refuses, or fails, or the output that it prints was not
+-- written
+pub record Ends (Prints : List ℕ → Type 0) (Refuses Fault : ProgramError → Type 0) (error : ProgramError) : Type 0 where
+  pub fixed : IsFixed error
+  pub why : (Refuses error ⊎ Fault error) ⊎ ((error ≡ InputOrOutput) × ((output : List ℕ) × Prints output))
 
 -- the status of a forgery, from the status with which it was written: 1 where it was written whole
 abbrev pub forged_status : ℕ → ℕ
