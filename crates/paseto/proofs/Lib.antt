@@ -4,5 +4,8 @@ pub mod SameWords
 pub mod Lines
 pub mod Payloads
 pub mod Writes
-pub mod Reads
+pub mod KeyReads
 pub mod RingReads
+pub mod Endings
+pub mod Checks
+pub mod Faults

@@ -1,5 +1,5 @@
 -- The text of the claims that are ordered, and why there is none.
-use Rattle.std.proofs.Common.{◌≡◌, ◌⊎◌, ℕ, List, Option, None, Result, Ok, Err, IfErr, IsErrAnd, String, Global, string_bytes, inl, inr, sym, ◌∙◌}
+use Rattle.std.proofs.Common.{◌≡◌, ◌⊎◌, ℕ, List, Option, None, Result, Ok, Err, IfErr, IfOk, IsErrAnd, String, Global, string_bytes, inl, inr, sym, ◌∙◌}
 use Rattle.serde_json.specs.Data.{Members}
 use Rattle.rusty_paseto_generic.specs.Builders.Claims.{payload}
 use Rattle.rusty_paseto_generic.specs.Error.{IsMemory}
@@ -8,6 +8,7 @@ use Rattle.rusty_paseto.specs.PasetoBuilder.{Counting, IsRefusedRepeat, IsSame}
 use Rattle.paseto_tasks.specs.declared.error.ProgramError.{ProgramError}
 use Rattle.paseto_tasks.specs.declared.error.ProgramError.TheVariants.{Clock, InputOrOutput, Memory, Random}
 use Rattle.paseto_tasks.specs.Error.{BlamesNone, BlamesOnly, Fails, IsNoUsage, IsOutside, Says, nothing}
+use Rattle.paseto_tasks.specs.Output.{Makes}
 use Rattle.paseto_tasks.proofs.Blames.{blames_so, within_all}
 use Rattle.paseto_tasks.proofs.Statuses.{says_so}
 use Rattle.paseto.specs.Answers.{SaysOfBuilder}
@@ -64,3 +65,14 @@ module _ (order : Ordered) (NoMoment : Type 0) where
           said = says;
           inside = inside;
         })
+
+    -- the text, or why there is none
+    pub built_makes : (claims : Members) (answer : Result (String Global) GenericBuilderError) (made : Result (String Global) ProgramError) → AreOrdered order claims
+        → IfOk answer (λ text. string_bytes text ≡ payload claims) → IsRefusedRepeat keys.repeated answer → (keys.repeated ≡ None → IfErr answer IsMemory)
+        → IfOk made (λ text. answer ≡ Ok text) → IfErr made (λ error. IsErrAnd answer (λ source. IsOutside error ⊎ (¬ IsMemory source))) → IfErr made IsNoUsage
+        → IfErr made BlamesNone → IfErr made (λ error. IsErrAnd answer (λ source. SaysOfBuilder source error))
+        → Makes (IsPayload order) (RefusesPayload order) (Fails (record nothing { no_moment = NoMoment })) made
+    built_makes claims answer (Ok text) are ok repeated wants is told no_usage blames said =
+        record { printed = payload_found claims text are (rw is at repeated.ok) (rw is at ok); refused = tt }
+    built_makes claims answer (Err error) are ok repeated wants is told no_usage blames said =
+        record { printed = tt; refused = built_refuses answer error repeated wants told no_usage blames said }

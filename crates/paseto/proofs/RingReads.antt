@@ -1,5 +1,5 @@
 -- What a ring answers for a token, in the words of the program.
-use Rattle.std.proofs.Common.{◌≡◌, ◌⊎◌, ◌≤◌, ◌×◌, ℕ, zero, suc, List, length, Bool, true, false, Option, None, Some, option_map, is_some, unwrap_or, Result, Ok, Err, IfOk, IfErr, IsErrAnd, IsOkAnd, String, Global, string_bytes, inl, inr, refl, sym, ap, subst, rules, arith, ◌∙◌}
+use Rattle.std.proofs.Common.{◌≡◌, ◌⊎◌, ◌≤◌, ℕ, zero, suc, List, length, Bool, true, false, Option, None, Some, option_map, is_some, unwrap_or, Result, Ok, Err, IfOk, IfErr, IsErrAnd, IsOkAnd, String, Global, string_bytes, inl, inr, refl, sym, ap, subst, rules, arith, ◌∙◌}
 use Rattle.std.proofs.lemmas.Bool.{false≢true}
 use Rattle.serde_json.specs.Data.{Data}
 use Rattle.serde_json.specs.View.{view}
@@ -84,7 +84,7 @@ module _ (keys : List AnyKey) (footer : Option Footer) (demanded : Option Implic
   }
 
   module _ (kind : PaserkType) (version : PaserkVersion) (count : HasCount (sections token)) (is_kind : kind_in (sections token) ≡ Some (kind, version)) where
-    one_kind : (value : Data) (so : Parses value) → (so.kind, so.version) ≡ (kind, version)
+    one_kind : (value : Data) (so : Parses value) → ◌≡◌ {A = PaserkType × PaserkVersion} (so.kind, so.version) (kind, version)
     one_kind value so = some_same (so.kind, so.version) (kind, version) (sym so.is_kind ∙ is_kind)
       where
         some_same : (a b : PaserkType × PaserkVersion) → Some a ≡ Some b → a ≡ b
@@ -150,7 +150,7 @@ module _ (keys : List AnyKey) (footer : Option Footer) (demanded : Option Implic
 
         by_answer : (takes_assertion version ≡ false → is_some demanded ≡ false) → Told result
         by_answer bound =
-            let parsing = is.answer bound (unlimited _ _ refl) in
+            let parsing = is.answer bound (unlimited None (length token) refl) in
             parsing_told bound parsing.0 parsing.2 result (told_as (by_ring parsing.0) parsing.1)
 
         by_given : takes_assertion version ≡ false → (given : Bool) → is_some demanded ≡ given → Told result

@@ -23,10 +23,19 @@ pub record IsEnded (line text : List ℕ) : Type 0 where
   pub text_is : text ≡ body ++ (10 ∷ [])
   pub line_is : (line ≡ text) ⊎ (line ≡ body)
 
--- the text is that of a key in a format: its line, with a line feed, or its PEM
+-- the same in a format: PEM ends in a line feed
+abbrev pub IsEndedIn : Format → List ℕ → List ℕ → Type 0
+IsEndedIn Paserk line text = IsEnded line text
+IsEndedIn Pem line text = text ≡ line
+
+-- the line of a key, or its PEM
+abbrev pub IsTextIn : Format → KeyParts → List ℕ → Type 0
+IsTextIn Paserk key = IsWrittenIn key.kind key.version key.bytes
+IsTextIn Pem key = ByLine key WritesPem
+
+-- the text is that of a key in a format
 abbrev pub IsFormed : Format → KeyParts → List ℕ → Type 0
-IsFormed Paserk key text = (line : List ℕ) × IsWrittenIn key.kind key.version key.bytes line × IsEnded line text
-IsFormed Pem key text = ByLine key WritesPem text
+IsFormed format key text = (line : List ℕ) × IsTextIn format key line × IsEndedIn format line text
 
 -- why a key has no text in a format
 abbrev pub HasNoForm : Format → KeyParts → KeyFileError → Type 0

@@ -1,6 +1,8 @@
 -- What is said of a key that the arguments name.
-use Rattle.std.specs.Prelude.{◌≡◌, ◌⊎◌, ℕ, List, Option, None, Some, codes}
-use Rattle.std.specs.Io.BufRead.{strip_last}
+use Rattle.std.specs.Prelude.{◌≡◌, ◌≢◌, ◌⊎◌, ◌++◌, ℕ, List, Option, None, Some, Result, String, codes, option_map, string_bytes}
+use Rattle.std.specs.Global.{Global}
+use Rattle.paseto_key_files.specs.Held.{GivesLine}
+use Rattle.paseto_key_files.specs.Opening.{Unlocks, UnlocksNone}
 use Rattle.paseto_key_files.specs.declared.error.KeyFileError.{KeyFileError}
 use Rattle.paseto_key_files.specs.declared.error.KeyFileError.TheVariants.{OtherOpener, Paserk}
 use Rattle.paseto_keys.specs.Line.{IsLineFault}
@@ -32,12 +34,19 @@ IsKeyFault name Is fault =
     IsMemory fault.error ⊎ ((fault.about.now ≡ name) × ((source : KeyFileError) × Is source × (fault.error ≡ key_file_error_of source)))
 
 -- a text without the carriage return at its end, if there is one
-abbrev pub without_return : List ℕ → List ℕ
-without_return text = strip_last 13 text
+abbrev pub IsWithoutReturn : List ℕ → List ℕ → Type 0
+IsWithoutReturn text rest = (text ≡ rest ++ codes "\r") ⊎ ((rest ≡ text) × ((other : List ℕ) → text ≢ other ++ codes "\r"))
 
--- the password and the key that are held
-abbrev pub openers_of : Held → Openers
-openers_of held = record { password = held.password; key = held.key }
+-- what opens key files is the password and the key that are held
+pub record AreOpeners (held : Held) (openers : Openers) : Type 0 where
+  pub password : option_map (λ bytes. bytes.now) openers.password ≡ option_map (λ bytes. bytes.items) held.password
+  pub key : option_map (λ line. line.now) openers.key ≡ option_map string_bytes held.key
+
+-- the answer for a text is that of opening it with what is held
+abbrev pub OpensHeld : Held → List ℕ → Result (String Global) KeyFileError → Type 0
+OpensHeld held text answer =
+    (openers : Openers) × (rest : List ℕ) × AreOpeners held openers × IsWithoutReturn text rest
+    × GivesLine (Unlocks openers rest) (UnlocksNone openers rest) answer
 
 -- the text is one that is so, with a line feed behind it
 abbrev pub IsTextBy : (List ℕ → Type 0) → List ℕ → Type 0

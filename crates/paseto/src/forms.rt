@@ -2,11 +2,13 @@
 
 ghost use Rattle.std.specs.Prelude.{◌≡◌, IfErr, IfOk, None, Some, option_map, string_bytes};
 ghost use Rattle.paseto_keys.specs.AnyKey.{parts_of};
+ghost use Rattle.paseto_keys.specs.WrittenLine.{WritesIn};
 ghost use Rattle.paseto_tasks.specs.Error.{IsMemory};
-ghost use Rattle.paseto.specs.Forms.{HasNoForm, IsEnded, IsFormed, IsLocked, IsNotLocked, format_in, new_cost};
+ghost use Rattle.paseto.specs.Forms.{HasNoForm, IsEnded, IsEndedIn, IsFormed, IsLocked, IsNotLocked, IsTextIn, format_in, new_cost};
 ghost use Rattle.paseto.specs.Keys.{IsKeyFault};
 
 use crate::fault::Fault;
+use paseto_key_files::KeyFileError;
 use paseto_keys::AnyKey;
 use paseto_tasks::{Format, ProgramError, with_line_feed};
 use paseto_wrapping::PasswordCost;
@@ -39,14 +41,31 @@ pub fn formed<'a>(
     ensures formed { IfOk result (λ text. IsFormed format (parts_of key.now) (string_bytes text)) }
     ensures refused { IfErr result (IsKeyFault name.now (HasNoForm format (parts_of key.now))) }
 {
-    let made = match format {
+    match text_in(alloc, key, format) {
+        Ok(text) => Ok(in_format(text, format)?),
+        Err(error) => Err(Fault::about(name, ProgramError::from(error))),
+    }
+}
+
+/// The line of a key, or its PEM.
+fn text_in(alloc: Global, key: &AnyKey, format: Format) -> Result<String, KeyFileError>
+    ensures { WritesIn (IsTextIn format (parts_of key.now)) (HasNoForm format (parts_of key.now))
+        result }
+{
+    match format {
         Format::Paserk => key.to_line(alloc),
         Format::Pem => key.to_pem(alloc),
-    };
-    match (format, made) {
-        (Format::Paserk, Ok(line)) => Ok(ended(line)?),
-        (Format::Pem, Ok(text)) => Ok(text),
-        (_, Err(error)) => Err(Fault::about(name, ProgramError::from(error))),
+    }
+}
+
+/// A line with a line feed behind it, or PEM as it is.
+fn in_format(text: String, format: Format) -> Result<String, ProgramError>
+    ensures made { IfOk result (λ made. IsEndedIn format (string_bytes text) (string_bytes made)) }
+    ensures memory { IfErr result IsMemory }
+{
+    match format {
+        Format::Paserk => ended(text),
+        Format::Pem => Ok(text),
     }
 }
 

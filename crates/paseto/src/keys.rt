@@ -2,12 +2,10 @@
 //! they are locked.
 
 ghost use Rattle.std.specs.Prelude.{◌≡◌, [], None, IfErr, IfOk, option_map};
-ghost use Rattle.paseto_key_files.specs.Held.{GivesLine};
-ghost use Rattle.paseto_key_files.specs.Opening.{Unlocks, UnlocksNone};
 ghost use Rattle.paseto_keys.specs.AnyKey.{parts_of};
 ghost use Rattle.paseto_keys.specs.Line.{IsLineOf};
 ghost use Rattle.paseto_tasks.specs.Error.{key_file_error_of};
-ghost use Rattle.paseto.specs.Keys.{IsNoKeyLine, about_of, key_name, line_error_of, openers_of, without_return};
+ghost use Rattle.paseto.specs.Keys.{AreOpeners, IsNoKeyLine, IsWithoutReturn, OpensHeld, about_of, key_name, line_error_of};
 
 use crate::fault::Fault;
 use crate::files::{name_of, opened};
@@ -99,15 +97,14 @@ impl<'a> Held<'a> {
     /// The line of the key in the text of a key file. The line feed at its end was removed when the
     /// file was read.
     pub fn unlock(&self, alloc: Global, text: &str) -> Result<String, KeyFileError>
-        ensures { GivesLine (Unlocks (openers_of self.now) (without_return text.now))
-            (UnlocksNone (openers_of self.now) (without_return text.now)) result }
+        ensures { OpensHeld self.now text.now result }
     {
         unlock(alloc, &self.openers(), without_return(text))
     }
 
     /// What opens key files, as it is borrowed.
     fn openers(&self) -> Openers<'_>
-        ensures { result ≡ openers_of self.now }
+        ensures { AreOpeners self.now result }
     {
         Openers {
             password: self.password.as_deref(),
@@ -118,9 +115,12 @@ impl<'a> Held<'a> {
 
 /// A text without the carriage return at its end, if there is one.
 fn without_return(text: &str) -> &str
-    ensures { result.now ≡ without_return text.now }
+    ensures { IsWithoutReturn text.now result.now }
 {
-    text.strip_suffix('\r').unwrap_or(text)
+    match text.strip_suffix("\r") {
+        Some(rest) => rest,
+        None => text,
+    }
 }
 
 /// The key of a line.

@@ -1,19 +1,16 @@
 //! The commands `wrap`, `unwrap`, `seal` and `unseal`.
 
-ghost use Rattle.std.specs.Prelude.{◌≡◌, Ok, IfErr, IfOk, IsErrAnd, string_bytes};
+ghost use Rattle.std.specs.Prelude.{IfErr, IfOk, string_bytes};
 ghost use Rattle.paseto_key_files.specs.Sealing.{SealsLine, SealsNone};
 ghost use Rattle.paseto_key_files.specs.Wrapping.{WrapsLine, WrapsNone};
 ghost use Rattle.paseto_keys.specs.AnyKey.{parts_of};
 ghost use Rattle.paseto_keys.specs.Forms.{ByLine, ByNoLine};
-ghost use Rattle.paseto_tasks.specs.Error.{key_file_error_of};
-ghost use Rattle.paseto_tasks.specs.Output.{IsLineOf};
-ghost use Rattle.paseto.specs.Keys.{IsOtherFault, IsTextBy, about_of};
+ghost use Rattle.paseto.specs.Keys.{IsOtherFault, IsTextBy};
 
 use crate::fault::Fault;
 use crate::files::put;
 use crate::forms::{format_of, formed, locked};
 use crate::keys::{Held, key_file_fault, key_name, key_of, key_text, opener_line, password_of};
-use paseto_key_files::KeyFileError;
 use paseto_keys::AnyKey;
 use paseto_tasks::{ProgramError, with_line_feed};
 use paseto_words::{Seal, Under, Wrap, Written};
@@ -67,8 +64,10 @@ fn under_line<'a, G: TryRng>(
     ensures refused { IfErr result (IsOtherFault name.now other.now (ByNoLine (parts_of key.now)
         (WrapsNone wrapping.now G.Error))) }
 {
-    let made = key.wrap(alloc, wrapping, generator);
-    Ok(with_line_feed(by_other(made, name, other)?)?)
+    match key.wrap(alloc, wrapping, generator) {
+        Ok(text) => Ok(with_line_feed(text)?),
+        Err(error) => Err(key_file_fault(other, name, error)),
+    }
 }
 
 /// A key wrapped under the password of a file, or of the environment.
@@ -122,8 +121,10 @@ fn sealed_to<'a, G: TryRng>(
     ensures refused { IfErr result (IsOtherFault name.now other.now (ByNoLine (parts_of key.now)
         (SealsNone public.now (λ drawn. G.may_fill generator.old drawn generator.new) G.Error))) }
 {
-    let made = key.seal(alloc, public, generator);
-    Ok(with_line_feed(by_other(made, name, other)?)?)
+    match key.seal(alloc, public, generator) {
+        Ok(text) => Ok(with_line_feed(text)?),
+        Err(error) => Err(key_file_fault(other, name, error)),
+    }
 }
 
 /// Prints the key that was sealed to a public key.
@@ -138,24 +139,6 @@ pub fn unsealed<'a>(rt: &HostRuntime, words: &Written<'a>) -> Result<u8, Fault<'
     let key = held.open(rt.alloc(), name, text.as_str())?;
     let made = formed(rt.alloc(), name, &key, format)?;
     written(rt, words.out, made.as_str())
-}
-
-/// The result of an operation with a key and a second one. If the second key was refused, the error
-/// names its file.
-fn by_other<'a>(
-    made: Result<String, KeyFileError>,
-    name: &'a str,
-    other: &'a str,
-) -> Result<String, Fault<'a>>
-    ensures made { IfOk result (λ text. made ≡ Ok text) }
-    ensures refused { IfErr result (λ fault. IsErrAnd made (λ source.
-        (fault.about.now ≡ about_of source other.now name.now)
-        × (fault.error ≡ key_file_error_of source))) }
-{
-    match made {
-        Ok(text) => Ok(text),
-        Err(error) => Err(key_file_fault(other, name, error)),
-    }
 }
 
 /// Writes the text of a secret key to a new file that its owner alone can read, or to standard output,

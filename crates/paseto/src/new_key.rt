@@ -1,6 +1,6 @@
 //! The command `keygen`.
 
-ghost use Rattle.std.specs.Prelude.{◌≡◌, ◌⊎◌, ◌×◌, Bool, Err, IfErr, IfOk, Ok, option_map, string_bytes};
+ghost use Rattle.std.specs.Prelude.{◌≡◌, ◌⊎◌, Bool, Err, IfErr, IfOk, Ok, option_map, string_bytes};
 ghost use Rattle.paseto_keys.specs.AnyKey.{parts_of};
 ghost use Rattle.paseto_keys.specs.declared.any_key.AnyKey.{AnyKey as Generated};
 ghost use Rattle.paseto_tasks.specs.Keygen.{IsGenerated};

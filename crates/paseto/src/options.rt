@@ -1,8 +1,9 @@
 //! The options for a token, of the arguments.
 
 ghost use Rattle.std.specs.Prelude.{◌≡◌, option_map};
+ghost use Rattle.rusty_paseto_parts.specs.Footer.{footer_text};
 ghost use Rattle.rusty_paseto_parts.specs.ImplicitAssertion.{assertion_text};
-ghost use Rattle.paseto_words.specs.Action.{text};
+ghost use Rattle.paseto_words.specs.Action.{footing, text};
 ghost use Rattle.paseto.specs.Options.{check_options, issue_options, not_empty, option_texts, text_options};
 
 use paseto_tasks::Options;
@@ -64,7 +65,10 @@ pub fn check_options<'w>(words: &'w Check<'_>) -> Options<'w>
 }
 
 /// The footer, or the id of a key that the footer names.
-fn parts(foot: Foot<'_>) -> (Option<Footer<'_>>, Option<&str>) {
+fn parts(foot: Foot<'_>) -> (Option<Footer<'_>>, Option<&str>)
+    ensures footer { option_map footer_text result.0 ≡ (footing foot.entry).0 }
+    ensures kid { text result.1 ≡ (footing foot.entry).1 }
+{
     match foot {
         Foot::Unsaid => (None, None),
         Foot::Text(text) => (Some(Footer::from(text)), None),

@@ -1,9 +1,8 @@
 //! The commands `encrypt`, `decrypt`, `sign` and `verify`.
 
-ghost use Rattle.std.specs.Prelude.{◌≡◌, ◌×◌};
+ghost use Rattle.std.specs.Prelude.{◌≡◌};
 ghost use Rattle.paseto_keys.specs.AnyKey.{parts_of};
-ghost use Rattle.paseto_words.specs.Action.{text};
-ghost use Rattle.paseto.specs.Texts.{DoesTask, names_of};
+ghost use Rattle.paseto.specs.Texts.{DoesTask};
 
 use crate::fault::Fault;
 use crate::files::{is_standard, name_of, opened, write_new};

@@ -1,5 +1,5 @@
 -- What keys and rings answer for a token, in the words of the program.
-use Rattle.std.proofs.Common.{◌≡◌, ◌⊎◌, ◌≤◌, ℕ, zero, suc, List, [], Bool, true, false, Option, None, Some, option_map, is_some, unwrap_or, Result, Ok, Err, IfOk, IfErr, IsErrAnd, IsOkAnd, String, Global, string_bytes, inl, inr, refl, sym, ap, subst, rules, arith, ◌∙◌}
+use Rattle.std.proofs.Common.{◌≡◌, ◌⊎◌, ◌≤◌, ℕ, zero, suc, List, [], length, Bool, true, false, Option, None, Some, option_map, is_some, unwrap_or, Result, Ok, Err, IfOk, IfErr, IsErrAnd, IsOkAnd, String, Global, string_bytes, inl, inr, refl, sym, ap, subst, rules, arith, ◌∙◌}
 use Rattle.std.proofs.lemmas.Bool.{false≢true}
 use Rattle.serde_json.specs.Data.{Data}
 use Rattle.serde_json.specs.View.{view}
@@ -9,15 +9,9 @@ use Rattle.rusty_paseto_parts.specs.declared.texts.footer.Footer.{Footer}
 use Rattle.rusty_paseto_parts.specs.declared.texts.implicit_assertion.ImplicitAssertion.{ImplicitAssertion}
 use Rattle.rusty_paseto_parts.proofs.LimitLemmas.{unlimited}
 use Rattle.rusty_paseto_core.specs.Context.{Binding, assertion_of, footer_of}
-use Rattle.rusty_paseto_core.specs.Public.{PublicDesign, v1_public, v2_public, v3_public, v4_public}
-use Rattle.rusty_paseto_core.specs.Public.Scheme.{Refusal, Validity}
-use Rattle.rusty_paseto_core.specs.Public.Verifying.{IsSignedFault}
 use Rattle.rusty_paseto_core.specs.Reading.{Reading}
 use Rattle.rusty_paseto_core.specs.declared.PasetoError.{PasetoError}
 use Rattle.rusty_paseto_core.specs.declared.PasetoError.TheVariants.{FooterInvalid, IncorrectSize, InvalidSignature, FromUtf8Error}
-use Rattle.paseto_ed25519.specs.Ed25519.{Ed25519Verifies, IsRefused}
-use Rattle.paseto_p384.specs.P384.{P384Verifies}
-use Rattle.paseto_rsa.specs.RsaPss.{RsaPssVerifies}
 use Rattle.rusty_paseto_generic.specs.Error.Parser.{IsMemory}
 use Rattle.rusty_paseto_generic.specs.Parsers.Parsing.{IsFirstFault, IsParseAnswer, IsParsed}
 use Rattle.rusty_paseto_generic.specs.Parsers.Rules.{Rules, no_rule}
@@ -50,11 +44,11 @@ is_signed_fault InvalidSignature = true
 is_signed_fault FromUtf8Error = true
 is_signed_fault _ = false
 
-signed_fault : (valid : Validity) (design : PublicDesign) (binding : Binding) (payload : List ℕ) (error : PasetoError)
-    → IsSignedFault valid IsRefused design binding payload error → is_signed_fault error ≡ true
-signed_fault valid design binding payload error (inl short) = ap is_signed_fault short.1
-signed_fault valid design binding payload error (inr (inl invalid)) = ap is_signed_fault invalid.2
-signed_fault valid design binding payload error (inr (inr no_text)) = ap is_signed_fault no_text.3
+signed_fault : {A B C D E F : Type 0} (error : PasetoError)
+    → (A × (error ≡ IncorrectSize)) ⊎ ((B × C × (error ≡ InvalidSignature)) ⊎ (D × E × F × (error ≡ FromUtf8Error))) → is_signed_fault error ≡ true
+signed_fault error (inl short) = ap is_signed_fault short.1
+signed_fault error (inr (inl invalid)) = ap is_signed_fault invalid.2
+signed_fault error (inr (inr no_text)) = ap is_signed_fault no_text.3
 
 -- no payload is refused for its footer
 no_footer : (kind : PaserkType) (version : PaserkVersion) (binding : Binding) (payload : List ℕ) → (reading_of kind version binding).IsPayloadFault payload FooterInvalid → ⊥
@@ -63,10 +57,10 @@ no_footer Local V2 binding payload is = is
 no_footer Local V3 binding payload is = is
 no_footer Local V4 binding payload is = is
 no_footer Secret version binding payload is = is
-no_footer Public V1 binding payload is = false≢true (signed_fault RsaPssVerifies v1_public binding payload FooterInvalid is)
-no_footer Public V2 binding payload is = false≢true (signed_fault Ed25519Verifies v2_public binding payload FooterInvalid is)
-no_footer Public V3 binding payload is = false≢true (signed_fault P384Verifies v3_public binding payload FooterInvalid is)
-no_footer Public V4 binding payload is = false≢true (signed_fault Ed25519Verifies v4_public binding payload FooterInvalid is)
+no_footer Public V1 binding payload is = false≢true (signed_fault FooterInvalid is)
+no_footer Public V2 binding payload is = false≢true (signed_fault FooterInvalid is)
+no_footer Public V3 binding payload is = false≢true (signed_fault FooterInvalid is)
+no_footer Public V4 binding payload is = false≢true (signed_fault FooterInvalid is)
 
 -- the footer of a token that is read is the one that is bound
 footer_is : (kind : PaserkType) (version : PaserkVersion) (binding : Binding) → (reading_of kind version binding).footer ≡ binding.footer
@@ -84,6 +78,10 @@ footer_is Public V4 binding = refl
 pub expected : (footer : Option Footer) → footer_of footer ≡ unwrap_or (option_map footer_text footer) []
 expected None = refl
 expected (Some footer) = refl
+
+pub given : (footer : Option Footer) → is_some footer ≡ is_some (option_map footer_text footer)
+given None = refl
+given (Some footer) = refl
 
 -- ---- one key
 
@@ -148,7 +146,7 @@ module _ (key : KeyParts) (wanted : Option (List ℕ)) (demanded : Option Implic
       by_answer : reads_tokens key.kind ≡ true → (takes_assertion key.version ≡ false → is_some demanded ≡ false) → Gives Is Refuses (Fails nothing) (admitted answer)
       by_answer reads bound =
           let admits = used.answer reads bound in
-          so (answered admits.0) admits.1 (parsed_gives reads bound admits.0 (admits.2.answer (unlimited _ _ refl)))
+          so (answered admits.0) admits.1 (parsed_gives reads bound admits.0 (admits.2.answer (unlimited None (length token) refl)))
 
       by_given : reads_tokens key.kind ≡ true → takes_assertion key.version ≡ false → (given : Bool) → is_some demanded ≡ given → Gives Is Refuses (Fails nothing) (admitted answer)
       by_given reads none true is = so (Err (OfKey NoAssertion)) (used.unbound reads none is) (no_assertion none is)
