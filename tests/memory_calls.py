@@ -32,6 +32,8 @@ CRATES = [
     "paseto_argon2",
     "paseto_pem",
     "paseto_wrapping",
+    "paseto_key_files",
+    "paseto_keys",
 ]
 
 # The versions for which a block is that is bound by one of these traits.
@@ -204,8 +206,18 @@ def hidden_traits(sources):
     return {name for text in sources.values() for name in re.findall(r"^(?:pub\(crate\) )?trait (\w+)", text, re.M)}
 
 
+def hidden_types(sources):
+    """The types that no caller sees."""
+    def named(word):
+        return {name for text in sources.values() for name in re.findall(rf"^{word}(?:struct|enum) (\w+)", text, re.M)}
+    return named(r"(?:pub\(crate\) )?") - named("pub ")
+
+
 def is_listed(block, function, hidden):
-    """Whether a function of a block is public, by its own word or its trait's."""
+    """Whether a function of a block is public, by its own word or by its trait's and its type's."""
+    target = re.search(r" for &?(?:'\w+ )?(\w+)", block)
+    if target and target.group(1) in hidden:
+        return False
     trait = re.match(r"(?:pub(?:\(crate\))? )?trait (\w+)", block) or re.match(r".*?(\w+)(?:<.*>)? for ", block)
     return trait.group(1) not in hidden if trait else bool(function.group(2))
 
@@ -236,7 +248,7 @@ def main():
     for path, text in sources.items():
         refuse_unknown_shapes(path, text)
     errors = errors_of(sources)
-    hidden, setters = hidden_traits(sources), setters_of(sources)
+    hidden, setters = hidden_traits(sources) | hidden_types(sources), setters_of(sources)
     calls = sorted({call for text in sources.values() for call in calls_of(text, errors, hidden, setters)})
     if not calls:
         sys.exit("no call was found")

@@ -3,9 +3,7 @@ use Rattle.std.proofs.Common.{◌≡◌, ◌⊎◌, ℕ, List, Option, None, Som
 use Rattle.std.specs.Bool.{⊤}
 use Rattle.std.specs.declared.alloc.AllocError.{AllocError}
 use Rattle.serde_json.specs.Data.{Data}
-use Rattle.rusty_paseto_core.specs.declared.PasetoError.{PasetoError}
-use Rattle.rusty_paseto_core.specs.declared.PasetoError.TheVariants.{Memory as NoTokenMemory}
-use Rattle.rusty_paseto_generic.specs.Error.{IsMemory, IsOfBox, IsOfGenerator, of_cipher}
+use Rattle.rusty_paseto_generic.specs.Error.{IsMemory}
 use Rattle.rusty_paseto_generic.specs.Parsers.Parsing.{IsCheckAnswer, IsCheckFault}
 use Rattle.rusty_paseto_generic.specs.Parsers.Rules.{Rules}
 use Rattle.rusty_paseto_generic.specs.Validator.{Verdict}
@@ -47,49 +45,14 @@ told_check keys demands token claims rules (Err source) error parses same answer
 
 -- ---- of a builder
 
--- the error is another one than that a key was set again
-abbrev pub IsNoRepeat : GenericBuilderError → Type 0
-IsNoRepeat (DuplicateTopLevelPayloadClaim name) = ⊥
-IsNoRepeat source = ⊤
-
-no_repeat_so : (source other : GenericBuilderError) → source ≡ other → IsNoRepeat other → IsNoRepeat source
-no_repeat_so source other same none = subst IsNoRepeat (sym same) none
-
-memory_no_repeat : (source : GenericBuilderError) → IsMemory source → IsNoRepeat source
-memory_no_repeat (DuplicateTopLevelPayloadClaim name) memory = absurd memory
-memory_no_repeat source memory = tt
-
-cipher_no_repeat : (refusal : PasetoError) → IsNoRepeat (of_cipher refusal)
-cipher_no_repeat (NoTokenMemory source) = tt
-cipher_no_repeat refusal = tt
-
-pub sealed_no_repeat : {T : Type 0} (Failure : Type 0) (answer : Result T GenericBuilderError)
-    → IfErr answer (λ source. IsMemory source ⊎ IsOfGenerator Failure source) → IfErr answer IsNoRepeat
-sealed_no_repeat Failure (Ok token) is = tt
-sealed_no_repeat Failure (Err source) (inl memory) = memory_no_repeat source memory
-sealed_no_repeat Failure (Err source) (inr failed) = no_repeat_so source _ failed.0 tt
-
-pub boxed_no_repeat : {T : Type 0} (Failure X : Type 0) (answer : Result T GenericBuilderError)
-    → IfErr answer (λ source. IsMemory source ⊎ (IsOfGenerator Failure source ⊎ (IsOfBox source × X))) → IfErr answer IsNoRepeat
-boxed_no_repeat Failure X (Ok token) is = tt
-boxed_no_repeat Failure X (Err source) (inl memory) = memory_no_repeat source memory
-boxed_no_repeat Failure X (Err source) (inr (inl failed)) = no_repeat_so source _ failed.0 tt
-boxed_no_repeat Failure X (Err source) (inr (inr none)) = no_repeat_so source _ none.0 tt
-
-pub signed_no_repeat : {T : Type 0} (Declined : PasetoError → Type 0) (answer : Result T GenericBuilderError)
-    → IfErr answer (λ source. IsMemory source ⊎ ((refusal : PasetoError) × Declined refusal × (source ≡ of_cipher refusal))) → IfErr answer IsNoRepeat
-signed_no_repeat Declined (Ok token) is = tt
-signed_no_repeat Declined (Err source) (inl memory) = memory_no_repeat source memory
-signed_no_repeat Declined (Err source) (inr declined) = no_repeat_so source (of_cipher declined.0) declined.2 (cipher_no_repeat declined.0)
-
 is_repeated : (repeated : Option (List ℕ)) (name : String Global)
     → (IsSome repeated → IsMemory (DuplicateTopLevelPayloadClaim name) ⊎ IsDuplicate repeated (DuplicateTopLevelPayloadClaim name))
-    → (repeated ≡ None → IsNoRepeat (DuplicateTopLevelPayloadClaim name)) → repeated ≡ Some (string_bytes name)
+    → (repeated ≡ None → IsMemory (DuplicateTopLevelPayloadClaim name)) → repeated ≡ Some (string_bytes name)
 is_repeated None name some none = absurd (none refl)
 is_repeated (Some other) name some none = elim (some refl) [ inl memory ↦ absurd memory | inr is ↦ is ]
 
 pub told_built : (order : Ordered) (keys : Counting) (answer : Result (String Global) GenericBuilderError) (error : ProgramError)
-    → IsSame (keys_set order) keys → IsRefusedRepeat keys.repeated answer → (keys.repeated ≡ None → IfErr answer IsNoRepeat)
+    → IsSame (keys_set order) keys → IsRefusedRepeat keys.repeated answer → (keys.repeated ≡ None → IfErr answer IsMemory)
     → IsErrAnd answer (λ source. SaysOfBuilder source error) → Says (IsRepeatedLine order) error
 told_built order keys (Ok token) error same refused none said = absurd said
 told_built order keys (Err (DuplicateTopLevelPayloadClaim name)) error same refused none said =

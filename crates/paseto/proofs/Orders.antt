@@ -1,5 +1,5 @@
 -- The claims that a builder is given.
-use Rattle.std.proofs.Common.{◌≡◌, ◌≢◌, ◌⊎◌, ℕ, List, [], ◌∷◌, Bool, true, false, if◌then◌else◌, Option, None, Some, MatchOption, Result, Ok, Err, IfErr, IfOk, IsErrAnd, OnOk, codes, inl, inr, refl, sym, ◌∙◌}
+use Rattle.std.proofs.Common.{◌≡◌, ◌⊎◌, ℕ, List, [], ◌∷◌, Bool, true, false, if◌then◌else◌, Option, None, Some, MatchOption, Result, Ok, Err, IfErr, IfOk, IsErrAnd, OnOk, codes, inl, inr, refl, sym, ◌∙◌}
 use Rattle.jiff.specs.Types.{Timestamp}
 use Rattle.serde_json.specs.Data.{Data, Members, put, string}
 use Rattle.rusty_paseto_claims.specs.Claim.{gives, one_member}
@@ -7,13 +7,11 @@ use Rattle.rusty_paseto_claims.specs.DateClaim.{IsDate}
 use Rattle.rusty_paseto_claims.specs.Error.{Fault, fault_of, unexpected}
 use Rattle.rusty_paseto_claims.specs.Moment.{IsMomentText}
 use Rattle.rusty_paseto_claims.specs.Whole.{is_whole}
-use Rattle.rusty_paseto_core.specs.declared.PasetoError.TheVariants.{Cipher}
 use Rattle.rusty_paseto_generic.specs.Builders.Claims.{IsRefusal, Outcome, becomes, refused, claim_set, unwrapped}
 use Rattle.rusty_paseto_generic.specs.Error.{IsMemory}
 use Rattle.rusty_paseto_generic.specs.declared.error.GenericBuilderError.{GenericBuilderError}
-use Rattle.rusty_paseto_generic.specs.declared.error.GenericBuilderError.TheVariants.{CipherError, ClaimError, Memory}
+use Rattle.rusty_paseto_generic.specs.declared.error.GenericBuilderError.TheVariants.{ClaimError, Memory}
 use Rattle.rusty_paseto.specs.PasetoBuilder.{Counting, IsSame, counted, nothing_counted}
-use Rattle.rusty_paseto.proofs.DefaultClaims.{same_default}
 use Rattle.rusty_paseto_claims.proofs.MomentLemmas.{same_text}
 use Rattle.paseto_tasks.specs.declared.error.ProgramError.{ProgramError}
 use Rattle.paseto.specs.Claims.{AreNeverSet, AreSet, Named, all_counted, json_of}
@@ -56,22 +54,22 @@ nbf_set text old = refl
 
 pub outside_set : {T U : Type 0} (result : Result T ProgramError) (answer : Result U GenericBuilderError) (outcome : Outcome) (made : Members) (X : Type 0)
     → outcome ≡ becomes made → IfErr answer (IsRefusal outcome)
-    → IfErr result (λ error. IsErrAnd answer (λ source. IsOutside error ⊎ ((¬ IsMemory source) × (source ≢ CipherError Cipher))))
+    → IfErr result (λ error. IsErrAnd answer (λ source. IsOutside error ⊎ (¬ IsMemory source)))
     → IfErr result (λ error. IsOutside error ⊎ X)
 outside_set (Ok value) answer outcome made X is refusal built = tt
 outside_set (Err error) (Ok value) outcome made X is refusal built = absurd built
 outside_set (Err error) (Err source) outcome made X is refusal (inl outside) = inl outside
-outside_set (Err error) (Err source) outcome made X is refusal (inr none) = absurd (none.0 (only_memory outcome made source is refusal))
+outside_set (Err error) (Err source) outcome made X is refusal (inr none) = absurd (none (only_memory outcome made source is refusal))
 
 pub exp_refused : {T U : Type 0} (result : Result T ProgramError) (answer : Result U GenericBuilderError) (text : List ℕ) (old : Members) (X : Type 0)
     → IfErr answer (IsRefusal (claim_set (codes "exp") (gives (one_member (codes "exp") (string text))) old))
-    → IfErr result (λ error. IsErrAnd answer (λ source. IsOutside error ⊎ ((¬ IsMemory source) × (source ≢ CipherError Cipher))))
+    → IfErr result (λ error. IsErrAnd answer (λ source. IsOutside error ⊎ (¬ IsMemory source)))
     → IfErr result (λ error. IsOutside error ⊎ X)
 exp_refused result answer text old X = outside_set result answer _ _ X (exp_set text old)
 
 pub nbf_refused : {T U : Type 0} (result : Result T ProgramError) (answer : Result U GenericBuilderError) (text : List ℕ) (old : Members) (X : Type 0)
     → IfErr answer (IsRefusal (claim_set (codes "nbf") (gives (one_member (codes "nbf") (string text))) old))
-    → IfErr result (λ error. IsErrAnd answer (λ source. IsOutside error ⊎ ((¬ IsMemory source) × (source ≢ CipherError Cipher))))
+    → IfErr result (λ error. IsErrAnd answer (λ source. IsOutside error ⊎ (¬ IsMemory source)))
     → IfErr result (λ error. IsOutside error ⊎ X)
 nbf_refused result answer text old X = outside_set result answer _ _ X (nbf_set text old)
 
@@ -101,11 +99,11 @@ claim_never claim claims held source is none = absurd is
 
 pub claim_refused : {T : Type 0} (claim : Named) (claims : List Named) (held : Members) (answer : Result T GenericBuilderError) (error : ProgramError)
     → IfErr answer (IsRefusal (claim_set claim.name (gives (json_of claim)) held))
-    → IsErrAnd answer (λ source. IsOutside error ⊎ ((¬ IsMemory source) × (source ≢ CipherError Cipher)))
+    → IsErrAnd answer (λ source. IsOutside error ⊎ (¬ IsMemory source))
     → IsOutside error ⊎ AreNeverSet (claim ∷ claims)
 claim_refused claim claims held (Ok value) error is built = absurd built
 claim_refused claim claims held (Err source) error is (inl outside) = inl outside
-claim_refused claim claims held (Err source) error is (inr none) = inr (claim_never claim claims held source is none.0)
+claim_refused claim claims held (Err source) error is (inr none) = inr (claim_never claim claims held source is none)
 
 -- what is ordered is never the claims of a builder, where a part of it is never set
 module _ (order : Ordered) (error : ProgramError) where
@@ -158,25 +156,3 @@ counted_all order begun named expiring last a b c d =
     let claims = then_same _ _ _ (all_same order.claims nothing_counted begun a) b in
     let times = then_same _ _ _ (time_same (codes "exp") order.expires _ named claims) c in
     then_same _ _ _ (time_same (codes "nbf") order.not_before _ expiring times) d
-
--- ---- the one object that they make
-
-same_next : (outcome : Outcome) (one two : Members) → outcome ≡ becomes one → outcome ≡ becomes two → one ≡ two
-same_next outcome one two a b = let same : becomes one ≡ becomes two = sym a ∙ b in cc
-
-same_set : (claims : List Named) (old other one two : Members) → old ≡ other → AreSet claims old one → AreSet claims other two → one ≡ two
-same_set [] old other one two same a b = a ∙ same ∙ sym b
-same_set (claim ∷ claims) old other one two same a b =
-    same_set claims a.0 b.0 one two (same_next _ a.0 b.0 (rw same at a.1) b.1) a.2 b.2
-
-same_time : (key : List ℕ) (moment : Option Timestamp) (old other one two : Members) → old ≡ other → IsTimeSet key moment old one → IsTimeSet key moment other two → one ≡ two
-same_time key None old other one two same a b = a ∙ same ∙ sym b
-same_time key (Some moment) old other one two same a b =
-    same_next _ one two (rw (same, same_text moment.nanosecond a.0 b.0 a.1 b.1) at a.3) b.3
-
-pub same_ordered : (order : Ordered) (one two : Members) → AreOrdered order one → AreOrdered order two → one ≡ two
-same_ordered order one two a b =
-    let begun = same_default order.moment order.moment a.begun b.begun refl a.is_default b.is_default in
-    let named = same_set order.claims a.begun b.begun a.named b.named begun a.are_set b.are_set in
-    let expiring = same_time (codes "exp") order.expires a.named b.named a.expiring b.expiring named a.expires b.expires in
-    same_time (codes "nbf") order.not_before a.expiring b.expiring one two expiring a.not_before b.not_before

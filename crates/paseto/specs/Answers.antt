@@ -6,22 +6,24 @@ use Rattle.jiff.specs.Types.{Timestamp}
 use Rattle.jiff.specs.Words.{parse_timestamp}
 use Rattle.serde_json.specs.Data.{Data}
 use Rattle.serde_json.specs.Find.{as_str}
+use Rattle.serde_json.specs.declared.value.Value.{Value}
 use Rattle.rusty_paseto_claims.specs.Error.{error_text}
 use Rattle.rusty_paseto_claims.specs.declared.error.PasetoClaimError.{PasetoClaimError}
 use Rattle.rusty_paseto_claims.specs.declared.error.PasetoClaimError.TheVariants.{Expired, Invalid, UseBeforeAvailable}
-use Rattle.rusty_paseto_core.specs.declared.PasetoError.{PasetoError}
-use Rattle.rusty_paseto_core.specs.declared.PasetoError.TheVariants.{Cipher, FooterInvalid}
+use Rattle.rusty_paseto_core.specs.declared.PasetoError.TheVariants.{FooterInvalid}
 use Rattle.rusty_paseto_generic.specs.Parsers.Verdicts.{entry}
 use Rattle.rusty_paseto_generic.specs.declared.error.GenericBuilderError.{GenericBuilderError}
-use Rattle.rusty_paseto_generic.specs.declared.error.GenericBuilderError.TheVariants.{DuplicateTopLevelPayloadClaim, CipherError as NotBuilt}
+use Rattle.rusty_paseto_generic.specs.declared.error.GenericBuilderError.TheVariants.{DuplicateTopLevelPayloadClaim}
 use Rattle.rusty_paseto_generic.specs.declared.error.GenericParserError.{GenericParserError}
-use Rattle.rusty_paseto_generic.specs.declared.error.GenericParserError.TheVariants.{ClaimError, CipherError as NotRead}
-use Rattle.rusty_paseto.specs.declared.error.KeyRingError.{KeyRingError}
-use Rattle.rusty_paseto.specs.declared.error.KeyRingError.TheVariants.{Token, UnknownKey, Untrusted}
-use Rattle.rusty_paseto.specs.declared.error.KeyRingParserError.{KeyRingParserError}
-use Rattle.rusty_paseto.specs.declared.error.KeyRingParserError.TheVariants.{Parser, Ring}
+use Rattle.rusty_paseto_generic.specs.declared.error.GenericParserError.TheVariants.{CipherError as NotRead, ClaimError, Memory as NoMemory, PayloadJsonError}
+use Rattle.rusty_paseto.specs.declared.error.KeyRingError.TheVariants.{Memory as NoKeyRingMemory, UnknownKey}
+use Rattle.paseto_keys.specs.declared.error.AdmitError.{AdmitError}
+use Rattle.paseto_keys.specs.declared.error.AdmitError.TheVariants.{Key as OfKey, Parser as OfParser, Memory as NoAdmitMemory}
+use Rattle.paseto_keys.specs.declared.ring_error.RingError.{RingError}
+use Rattle.paseto_keys.specs.declared.ring_error.RingError.TheVariants.{Memory as NoRingMemory, Parser as ByParser, Ring as ByRing}
 use Rattle.paseto_tasks.specs.declared.error.ProgramError.{ProgramError}
-use Rattle.paseto_tasks.specs.Error.{BlamesNone, BlamesOnly, IsFixed, Says}
+use Rattle.paseto_tasks.specs.declared.error.ProgramError.TheVariants.{Memory, NotJson, OddNumber, OtherFooter, Refused}
+use Rattle.paseto_tasks.specs.Error.{IsFixed, Says, use_error_of}
 
 -- ---- lengths of time
 
@@ -95,41 +97,39 @@ repeated_text name = codes "The claim '" ++ (name ++ codes "' appears more than 
 abbrev pub unknown_text : List ℕ → List ℕ
 unknown_text id = codes "The key '" ++ (id ++ codes "' is not in the ring")
 
+-- ---- errors in the words of the program
+
+-- why a text is none of claims, or its claims are refused
+abbrev pub text_error_of : GenericParserError → ProgramError
+text_error_of (NoMemory source) = Memory source
+text_error_of (NotRead source) = Refused source
+text_error_of (ClaimError _) = OddNumber
+text_error_of (PayloadJsonError _) = NotJson
+
+-- why a token is none of claims
+abbrev pub parser_error_of : GenericParserError → ProgramError
+parser_error_of (NotRead FooterInvalid) = OtherFooter
+parser_error_of error = text_error_of error
+
+-- why a key does not read one
+abbrev pub admit_error_of : AdmitError → ProgramError
+admit_error_of (OfKey source) = use_error_of source
+admit_error_of (OfParser source) = parser_error_of source
+admit_error_of (NoAdmitMemory source) = Memory source
+
+-- the answer of a key
+abbrev pub admitted : Result Value AdmitError → Result Value ProgramError
+admitted (Ok value) = Ok value
+admitted (Err error) = Err (admit_error_of error)
+
 -- ---- for private clauses
 
--- the error of a token that a builder, a parser or a ring hands on is so
-abbrev pub OfBuilder : (PasetoError → Type 0) → GenericBuilderError → Type 0
-OfBuilder Is (NotBuilt source) = Is source
-OfBuilder Is _ = ⊥
-
-abbrev pub OfParser : (PasetoError → Type 0) → GenericParserError → Type 0
-OfParser Is (NotRead source) = Is source
-OfParser Is _ = ⊥
-
-abbrev pub OfRing : (PasetoError → Type 0) → KeyRingError → Type 0
-OfRing Is (Untrusted source) = Is source
-OfRing Is (Token source) = Is source
-OfRing Is _ = ⊥
-
-abbrev pub IsCipher : PasetoError → Type 0
-IsCipher Cipher = ⊤
-IsCipher _ = ⊥
-
-abbrev pub IsFooterInvalid : PasetoError → Type 0
-IsFooterInvalid FooterInvalid = ⊤
-IsFooterInvalid _ = ⊥
-
--- what is said says that random bytes or the footer is at fault only where the library says so
-abbrev pub BlamesOfParser : GenericParserError → ProgramError → Type 0
-BlamesOfParser source = BlamesOnly (OfParser IsCipher source) ⊥ ⊥ (OfParser IsFooterInvalid source)
-
-abbrev pub BlamesOfRing : KeyRingError → ProgramError → Type 0
-BlamesOfRing source = BlamesOnly (OfRing IsCipher source) ⊥ ⊥ ⊥
-
-abbrev pub BlamesOfParsing : KeyRingParserError → ProgramError → Type 0
-BlamesOfParsing (Ring source) = BlamesOfRing source
-BlamesOfParsing (Parser source) = BlamesOfParser source
-BlamesOfParsing _ = BlamesNone
+-- what a ring says is not that memory was refused
+abbrev pub IsNoMemoryOfRing : RingError → Type 0
+IsNoMemoryOfRing (NoRingMemory _) = ⊥
+IsNoMemoryOfRing (ByRing (NoKeyRingMemory _)) = ⊥
+IsNoMemoryOfRing (ByParser (NoMemory _)) = ⊥
+IsNoMemoryOfRing _ = ⊤
 
 abbrev pub SaysOfBuilder : GenericBuilderError → ProgramError → Type 0
 SaysOfBuilder (DuplicateTopLevelPayloadClaim name) error = Says (λ line. line ≡ one_line (repeated_text (string_bytes name))) error
@@ -139,10 +139,6 @@ abbrev pub SaysOfCheck : Data → Timestamp → GenericParserError → ProgramEr
 SaysOfCheck claims at (ClaimError fault) error = Says (λ line. line ≡ claim_line claims at fault) error
 SaysOfCheck claims at _ error = IsFixed error
 
-abbrev pub SaysOfRing : KeyRingError → ProgramError → Type 0
-SaysOfRing (UnknownKey id) error = Says (λ line. line ≡ one_line (unknown_text (string_bytes id))) error
+abbrev pub SaysOfRing : RingError → ProgramError → Type 0
+SaysOfRing (ByRing (UnknownKey id)) error = Says (λ line. line ≡ one_line (unknown_text (string_bytes id))) error
 SaysOfRing _ error = IsFixed error
-
-abbrev pub SaysOfParsing : KeyRingParserError → ProgramError → Type 0
-SaysOfParsing (Ring source) error = SaysOfRing source error
-SaysOfParsing _ error = IsFixed error

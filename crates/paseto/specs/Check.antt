@@ -1,11 +1,9 @@
 -- The command `check`.
-use Rattle.std.specs.Prelude.{◌≡◌, ℕ, List, [], true, Option, None, Some, Result, IfErr, IfOk, codes, option_map, string_bytes, unwrap_or}
+use Rattle.std.specs.Prelude.{◌≡◌, ℕ, List, [], true, false, Option, None, Some, is_some, codes, option_map, string_bytes, unwrap_or}
 use Rattle.jiff.specs.Types.{Timestamp}
 use Rattle.serde_json.specs.Data.{Data}
-use Rattle.serde_json.specs.View.{view}
-use Rattle.serde_json.specs.declared.value.Value.{Value}
-use Rattle.rusty_paseto_core.specs.Context.{Binding, assertion_of}
-use Rattle.rusty_paseto_core.specs.Reading.{HasFooter, Reading}
+use Rattle.rusty_paseto_core.specs.Context.{assertion_of}
+use Rattle.rusty_paseto_core.specs.Reading.{HasFooter}
 use Rattle.rusty_paseto_generic.specs.Parsers.Held.{default_date}
 use Rattle.rusty_paseto_generic.specs.Parsers.Parsing.{IsParsed}
 use Rattle.rusty_paseto_generic.specs.Parsers.Rules.{Rules, edited, no_rule, with_both}
@@ -14,17 +12,15 @@ use Rattle.rusty_paseto_generic.specs.Parsers.Verdicts.{PassesAll}
 use Rattle.rusty_paseto_generic.specs.Validator.{Verdict}
 use Rattle.rusty_paseto_parts.specs.Section.{HasCount, sections}
 use Rattle.rusty_paseto_parts.specs.declared.texts.implicit_assertion.ImplicitAssertion.{ImplicitAssertion}
-use Rattle.rusty_paseto_paserk.specs.declared.header.PaserkVersion.{PaserkVersion}
-use Rattle.rusty_paseto_paserk.specs.declared.header.PaserkType.{PaserkType}
+use Rattle.paseto_keys.specs.AnyKey.{KeyParts, reads_tokens, takes_assertion}
+use Rattle.paseto_keys.specs.Reading.{reading_by}
 use Rattle.paseto_tasks.specs.declared.arguments.Options.{Options}
+use Rattle.paseto_tasks.specs.Error.{BlamesOnly, IsFixed, nothing}
 use Rattle.paseto_tasks.specs.declared.error.ProgramError.{ProgramError}
 use Rattle.paseto.specs.declared.commands.check.Demands.{Demands}
 use Rattle.paseto.specs.Claims.{AreClaims, Named, all_demanded, all_named, all_required, are_whole}
 use Rattle.paseto.specs.Footers.{IsFooter}
-use Rattle.paseto_tasks.specs.Arguments.{Takes, assertion_where, binds_in, texts}
-use Rattle.paseto_tasks.specs.Error.{Lacks}
-use Rattle.paseto_tasks.specs.KeyLine.{IsKeyIn}
-use Rattle.paseto.specs.Readers.{IsReader, reading_of}
+use Rattle.paseto_tasks.specs.Arguments.{texts}
 use Rattle.paseto.specs.Times.{IsLeeway, SaysMoment}
 
 -- what is demanded of a token: the moment at which it is checked, and how many seconds clocks may differ by, its claims,
@@ -61,10 +57,6 @@ pub record AreDemands (claims : List (List ℕ)) (options : Options) (now : Time
   pub footer : IsFooter options demands.footer
   pub assertion : demands.assertion ≡ options.assertion
 
--- the words demand nothing
-abbrev pub DemandsNothing : List (List ℕ) → Options → Timestamp → Type 0
-DemandsNothing claims options now = (demands : Demanded) → ¬ AreDemands claims options now demands
-
 -- `exp` and `nbf` are checked at a moment, before the claims that are demanded
 abbrev pub first_rules : Timestamp → ℕ → Rules Verdict
 first_rules moment leeway =
@@ -80,33 +72,24 @@ pub record IsDemanded (demands : Demanded) (value : Data) : Type 0 where
   pub whole : are_whole demands.claims ≡ true
   pub passes : PassesAll (demanded_rules demands) value
 
--- what a token is bound to under a key, which has this footer of its own: the footer that is demanded, or else its own,
--- and the assertion
-abbrev pub bound_to : List ℕ → Option (List ℕ) → List ℕ → Option ImplicitAssertion → Binding
-bound_to key footer own assertion = record { key = key; footer = unwrap_or footer own; assertion = assertion_of assertion }
-
 -- the token's footer is another one than this, or than the empty one where this is none
 abbrev pub IsOtherFooter : Option (List ℕ) → List ℕ → Type 0
 IsOtherFooter footer token = HasCount (sections token) × ¬ HasFooter (unwrap_or footer []) (sections token)
 
--- the answer is the one value that is so, or there is none, or the error came from outside
-pub record IsTheValue (Is : Data → Type 0) (result : Result Value ProgramError) : Type 0 where
-  pub found : IfOk result (λ value. Is (view value))
-  pub one : IfOk result (λ value. (other : Data) → Is other → other ≡ view value)
-  pub none : IfErr result (Lacks Is)
+-- the value is that of the token, read under a key that reads tokens, the footer that is demanded and the assertion, which
+-- the key's version has; where no footer is demanded, the token has none, or the empty one
+pub record ParsesByKey (key : KeyParts) (footer : Option (List ℕ)) (assertion : Option ImplicitAssertion) (token : List ℕ) (value : Data) : Type 0 where
+  pub reads : reads_tokens key.kind ≡ true
+  pub bound : takes_assertion key.version ≡ false → is_some assertion ≡ false
+  pub is_parsed : IsParsed (reading_by key (unwrap_or footer []) (assertion_of assertion)) (λ key. no_rule) token value
 
--- the value is that of the token, read under the key of the line, and the footer and the assertion that are demanded; where
--- no footer is demanded, the token has none, or the empty one
-pub record ParsesWith (kind : PaserkType) (version : PaserkVersion) (reading : Binding → Reading)
-    (line : List ℕ) (footer : Option (List ℕ)) (assertion : Option ImplicitAssertion) (token : List ℕ) (value : Data) : Type 0 where
-  pub key : List ℕ
-  pub is_key : IsKeyIn kind version line key
-  pub is_parsed : IsParsed (reading (bound_to key footer [] (assertion_where (binds_in version) assertion))) (λ key. no_rule) token value
+-- the value is the one that the token has under a key
+abbrev pub IsTheValueOf : KeyParts → Option (List ℕ) → Option ImplicitAssertion → List ℕ → Data → Type 0
+IsTheValueOf key footer assertion token value =
+    ParsesByKey key footer assertion token value × ((other : Data) → ParsesByKey key footer assertion token other → other ≡ value)
 
--- the same for a key of whatever type and version reads tokens, and takes the assertion
-pub record ParsesByKey (line : List ℕ) (footer : Option (List ℕ)) (assertion : Option ImplicitAssertion) (token : List ℕ) (value : Data) : Type 0 where
-  pub kind : PaserkType
-  pub version : PaserkVersion
-  pub takes : Takes version assertion
-  pub is_reader : IsReader kind version
-  pub parses : ParsesWith kind version (reading_of kind version) line footer assertion token value
+-- why it has none
+pub record RefusesKey (key : KeyParts) (footer : Option (List ℕ)) (assertion : Option ImplicitAssertion) (token : List ℕ) (error : ProgramError) : Type 0 where
+  pub none : (value : Data) → ¬ ParsesByKey key footer assertion token value
+  pub fixed : IsFixed error
+  pub blames : BlamesOnly (record nothing { other_footer = IsOtherFooter footer token }) error

@@ -7,18 +7,21 @@ use Rattle.serde_json.specs.Written.{compact_text, has_float}
 use Rattle.paseto_tasks.specs.declared.arguments.Options.{Options}
 use Rattle.paseto.specs.declared.commands.check.Keys.{Keys}
 use Rattle.paseto.specs.declared.commands.check.Keys.TheVariants.{One, Ring}
-use Rattle.paseto_tasks.specs.Arguments.{words_of}
+use Rattle.paseto_keys.specs.AnyKey.{parts_of}
 use Rattle.rusty_paseto_claims.specs.declared.error.PasetoClaimError.{PasetoClaimError}
 use Rattle.rusty_paseto_generic.specs.Parsers.Parsing.{IsCheckFault}
 use Rattle.rusty_paseto_generic.specs.declared.error.GenericParserError.TheVariants.{ClaimError}
 use Rattle.paseto.specs.Answers.{claim_line}
+use Rattle.paseto_tasks.specs.Error.{BlamesOnly, IsNoUsage, IsOfWords, IsOutside, Says, nothing}
+use Rattle.paseto_tasks.specs.Input.{IsNoText, OfInput, line_of_input}
+use Rattle.paseto_tasks.specs.declared.error.ProgramError.{ProgramError}
 use Rattle.paseto.specs.Check.{AreDemands, Demanded, IsDemanded, IsOtherFooter, ParsesByKey, demanded_rules}
 use Rattle.paseto.specs.Ring.{IsRingLine, ParsesByRing}
 
--- the value is that of the token under the key of the line, or the one of the lines that its footer names
+-- the value is that of the token under the key, or under the one of the ring that its footer names
 abbrev pub ParsesBy : Keys → Option (List ℕ) → Option ImplicitAssertion → List ℕ → Data → Type 0
-ParsesBy (One key) footer assertion token value = ParsesByKey key.now footer assertion token value
-ParsesBy (Ring lines) footer assertion token value = ParsesByRing (words_of lines.now) footer assertion token value
+ParsesBy (One key) footer assertion token value = ParsesByKey (parts_of key) footer assertion token value
+ParsesBy (Ring keys) footer assertion token value = ParsesByRing keys.items footer assertion token value
 
 -- the line is the JSON of the value, with no space
 abbrev pub IsJsonLine : Data → List ℕ → Type 0
@@ -36,14 +39,10 @@ pub record ChecksFor (claims : List (List ℕ)) (options : Options) (now : Times
   pub utf8 : IsUtf8 token
   pub checks : ChecksBy keys demands token line
 
--- no line is printed for the token: it is none of the keys', or another one than the words demand
-abbrev pub ChecksNothing : List (List ℕ) → Options → Timestamp → Keys → List ℕ → Type 0
-ChecksNothing claims options now keys token = (line : List ℕ) → ¬ ChecksFor claims options now keys token line
-
--- the token's footer is another one than words say, for the key of a line; the keys of a ring are found by the token's own
+-- the token's footer is another one than words say, for one key; the keys of a ring are found by the token's own
 abbrev pub IsOtherFooterFor : Keys → Option (List ℕ) → List ℕ → Type 0
 IsOtherFooterFor (One key) footer token = IsOtherFooter footer token
-IsOtherFooterFor (Ring lines) footer token = ⊥
+IsOtherFooterFor (Ring keys) footer token = ⊥
 
 -- ---- what is said of a token that is refused, beside what stands in the table of errors
 
@@ -58,7 +57,31 @@ pub record IsClaimLine (keys : Keys) (demands : Demanded) (token line : List ℕ
 abbrev pub IsCheckLine : Keys → Demanded → List ℕ → List ℕ → Type 0
 IsCheckLine keys demands token line = IsRingLine token line ⊎ IsClaimLine keys demands token line
 
--- the same of what words demand at a moment
-abbrev pub IsCheckLineFor : List (List ℕ) → Options → Timestamp → Keys → List ℕ → List ℕ → Type 0
-IsCheckLineFor claims options now keys token line =
-    (demands : Demanded) × AreDemands claims options now demands × IsCheckLine keys demands token line
+-- ---- why a token is refused
+
+-- the value is the one that the token has under the keys
+abbrev pub IsTheValueBy : Keys → Option (List ℕ) → Option ImplicitAssertion → List ℕ → Data → Type 0
+IsTheValueBy keys footer assertion token value =
+    ParsesBy keys footer assertion token value × ((other : Data) → ParsesBy keys footer assertion token other → other ≡ value)
+
+-- why it has none
+pub record RefusesKeys (keys : Keys) (footer : Option (List ℕ)) (assertion : Option ImplicitAssertion) (token : List ℕ) (error : ProgramError) : Type 0 where
+  pub none : (value : Data) → ¬ ParsesBy keys footer assertion token value
+  pub no_usage : IsNoUsage error
+  pub said : Says (IsRingLine token) error
+  pub blames : BlamesOnly (record nothing { other_footer = IsOtherFooterFor keys footer token }) error
+
+-- why it is not what is demanded
+pub record RefusesDemands (keys : Keys) (demands : Demanded) (token : List ℕ) (error : ProgramError) : Type 0 where
+  pub none : (line : List ℕ) → ¬ ChecksBy keys demands token line
+  pub no_usage : IsNoUsage error
+  pub said : Says (IsCheckLine keys demands token) error
+  pub blames : BlamesOnly (record nothing { other_footer = IsOtherFooterFor keys demands.footer token }) error
+
+-- why words print nothing for an input at a moment: they demand nothing, or the input is no text, or it is not what they
+-- demand
+abbrev pub RefusesCheck : List (List ℕ) → Options → Timestamp → Keys → Option (List ℕ) → ProgramError → Type 0
+RefusesCheck claims options now keys known error =
+    (((demands : Demanded) → ¬ AreDemands claims options now demands) × IsOfWords error × ¬ IsOutside error)
+    ⊎ ((demands : Demanded) × AreDemands claims options now demands
+    × OfInput known (λ bytes. IsNoText (line_of_input bytes) error ⊎ RefusesDemands keys demands (line_of_input bytes) error))

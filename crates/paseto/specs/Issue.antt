@@ -1,39 +1,23 @@
 -- The command `issue`.
-use Rattle.std.specs.Prelude.{◌≡◌, ◌≢◌, ◌⊎◌, ⊤, ℕ, List, [], Option, None, Some, codes, is_some, option_map, string_bytes}
+use Rattle.std.specs.Prelude.{◌≡◌, ◌≢◌, ◌⊎◌, ℕ, List, [], true, false, length, Option, None, Some, codes, is_some, option_map, string_bytes, unwrap_or}
 use Rattle.jiff.specs.Types.{Timestamp}
 use Rattle.serde_json.specs.Data.{Members}
+use Rattle.rusty_paseto_core.specs.Context.{assertion_of}
 use Rattle.rusty_paseto_core.specs.declared.PasetoError.{PasetoError}
-use Rattle.rusty_paseto_core.specs.declared.PasetoError.TheVariants.{Cipher}
-use Rattle.rusty_paseto_core.specs.Local.{Design}
-use Rattle.rusty_paseto_core.specs.Local.V1.{v1}
-use Rattle.rusty_paseto_core.specs.Local.V3.{v3}
-use Rattle.rusty_paseto_core.specs.Local.V4.{v4}
-use Rattle.rusty_paseto_core.specs.Public.{PublicDesign, message, v1_public, v2_public, v3_public, v4_public}
-use Rattle.rusty_paseto_core.specs.Public.Scheme.{Declining, Validity}
-use Rattle.rusty_paseto_core.specs.Public.Signing.{IsSigning}
-use Rattle.paseto_ed25519.specs.Ed25519.{Ed25519Verifies, IsDeclined, partner}
-use Rattle.paseto_p384.specs.P384.{P384Verifies, IsDeclined as IsDeclinedByP384, p384_public}
-use Rattle.paseto_rsa.specs.Keys.{rsa_public}
-use Rattle.paseto_rsa.specs.RsaPss.{RsaPssVerifies}
-use Rattle.paseto_xchacha20poly1305.specs.Sealing.{box_sealing}
 use Rattle.rusty_paseto_generic.specs.Builders.Claims.{payload}
-use Rattle.rusty_paseto_generic.specs.Builders.GenericBuilder.{IsBoxAnswer, IsSealed}
 use Rattle.rusty_paseto_parts.specs.declared.texts.implicit_assertion.ImplicitAssertion.{ImplicitAssertion}
 use Rattle.rusty_paseto.specs.PasetoBuilder.{Counting, IsDefaultClaims, nothing_counted}
-use Rattle.rusty_paseto_paserk.specs.declared.header.PaserkVersion.{PaserkVersion}
-use Rattle.rusty_paseto_paserk.specs.declared.header.PaserkVersion.TheVariants.{V1, V2, V3, V4}
-use Rattle.rusty_paseto_paserk.specs.declared.header.PaserkType.TheVariants.{Secret}
+use Rattle.paseto_keys.specs.AnyKey.{KeyParts, takes_assertion, writes_tokens}
+use Rattle.paseto_keys.specs.Writing.{Writing, drawn_length, writing_by}
 use Rattle.paseto_tasks.specs.declared.arguments.Options.{Options}
 use Rattle.paseto.specs.declared.commands.issue.Order.{Order}
 use Rattle.paseto.specs.Answers.{one_line, repeated_text}
-use Rattle.paseto.specs.Check.{bound_to}
 use Rattle.paseto.specs.Claims.{AreClaims, AreSet, Named, all_counted, all_named}
 use Rattle.paseto.specs.Footers.{IsFooter}
-use Rattle.paseto_tasks.specs.Arguments.{Takes, assertion_where}
-use Rattle.paseto_tasks.specs.KeyLine.{IsKeyIn}
-use Rattle.paseto_tasks.specs.Local.{IsLocalKey}
+use Rattle.rusty_paseto.specs.Moment.{FitsDefault}
+use Rattle.paseto_tasks.specs.Error.{Blame, IsNoUsage, IsOfWords, IsOutside, Says, nothing}
 use Rattle.paseto_tasks.specs.Output.{IsLineOf}
-use Rattle.paseto_tasks.specs.Public.{DeclinesKey, IsUnsigned}
+use Rattle.paseto_tasks.specs.declared.error.ProgramError.{ProgramError}
 use Rattle.paseto.specs.Times.{IsTimeSet, SaysTime, time_counted}
 
 -- what is ordered: a moment, claims, when the token expires and when it may first be used, and its footer and its assertion
@@ -79,10 +63,6 @@ pub record AreOrdered (order : Ordered) (claims : Members) : Type 0 where
 abbrev pub AreNever : Ordered → Type 0
 AreNever order = (claims : Members) → ¬ AreOrdered order claims
 
--- the words order nothing, or what no claims are
-abbrev pub OrdersNothing : List (List ℕ) → Options → Timestamp → Type 0
-OrdersNothing claims options now = (order : Ordered) → IsOrder claims options now order → AreNever order
-
 -- the keys that are set then, and the last of them that is set again
 abbrev pub keys_set : Ordered → Counting
 keys_set order =
@@ -92,106 +72,76 @@ keys_set order =
 abbrev pub IsOnce : Ordered → Type 0
 IsOnce order = (keys_set order).repeated ≡ None
 
--- in a version: the token of the claims is their sealing under the key of the line
-pub record SealsClaims (version : PaserkVersion) (design : Design) (key : List ℕ) (order : Ordered) (IsDrawn : List ℕ → Type 0) (line : List ℕ) : Type 0 where
-  pub key_bytes : List ℕ
-  pub is_key : IsLocalKey version key key_bytes
+-- how many bytes a key draws for a token
+abbrev pub draws : KeyParts → ℕ
+draws key = drawn_length key.kind key.version
+
+-- the text is that of the claims of what is ordered, of which none is set twice
+pub record IsPayload (order : Ordered) (text : List ℕ) : Type 0 where
   pub claims : Members
   pub are_ordered : AreOrdered order claims
   pub once : IsOnce order
+  pub text_is : text ≡ payload claims
+
+-- how a key writes a token of what is ordered, with what is drawn
+abbrev pub writing : KeyParts → Ordered → List ℕ → Writing
+writing key order drawn = writing_by key drawn (unwrap_or order.footer []) (assertion_of order.assertion)
+
+-- the key writes tokens, and its version has the implicit assertion that is ordered
+pub record MayWrite (key : KeyParts) (order : Ordered) : Type 0 where
+  pub writes : writes_tokens key.kind ≡ true
+  pub bound : takes_assertion key.version ≡ false → is_some order.assertion ≡ false
+
+-- the line is that of a token of what is ordered, which a key writes with what is drawn
+pub record Issues (key : KeyParts) (order : Ordered) (IsDrawn : List ℕ → Type 0) (line : List ℕ) : Type 0 where
+  pub may : MayWrite key order
+  pub text : List ℕ
+  pub is_payload : IsPayload order text
+  pub drawn : List ℕ
+  pub is_drawn : IsDrawn drawn
   pub token : List ℕ
-  pub is_sealed : IsSealed design (bound_to key_bytes order.footer [] (assertion_where design.binds_assertion order.assertion)) (is_some order.footer) claims IsDrawn token
+  pub is_token : (writing key order drawn).Writes (is_some order.footer) text token
   pub line_is : IsLineOf token line
-
--- the same in version 2, by the box
-pub record BoxesClaims (key : List ℕ) (order : Ordered) (IsDrawn : List ℕ → Type 0) (line : List ℕ) : Type 0 where
-  pub key_bytes : List ℕ
-  pub is_key : IsLocalKey V2 key key_bytes
-  pub claims : Members
-  pub are_ordered : AreOrdered order claims
-  pub once : IsOnce order
-  pub token : List ℕ
-  pub is_sealed : IsBoxAnswer box_sealing (bound_to key_bytes order.footer [] None) (is_some order.footer) claims IsDrawn (Some token)
-  pub line_is : IsLineOf token line
-
--- under a key of local tokens of each version
-abbrev pub SealsIn : PaserkVersion → List ℕ → Ordered → (List ℕ → Type 0) → List ℕ → Type 0
-SealsIn V1 = SealsClaims V1 v1
-SealsIn V2 = BoxesClaims
-SealsIn V3 = SealsClaims V3 v3
-SealsIn V4 = SealsClaims V4 v4
-
--- the token of the claims is signed validly for the public half of a key
-pub record SignsOrder (valid : Validity) (design : PublicDesign) (public : List ℕ) (order : Ordered) (line : List ℕ) : Type 0 where
-  pub claims : Members
-  pub are_ordered : AreOrdered order claims
-  pub once : IsOnce order
-  pub token : List ℕ
-  pub is_signed : IsSigning valid design (bound_to public order.footer [] (assertion_where design.binds_assertion order.assertion)) (is_some order.footer) (payload claims) token
-  pub line_is : IsLineOf token line
-
--- in a version: the same by the private key of the line
-pub record SignsClaims (version : PaserkVersion) (valid : Validity) (design : PublicDesign) (half : List ℕ → List ℕ)
-    (key : List ℕ) (order : Ordered) (line : List ℕ) : Type 0 where
-  pub key_bytes : List ℕ
-  pub is_key : IsKeyIn Secret version key key_bytes
-  pub signs : SignsOrder valid design (half key_bytes) order line
-
--- under a private key of each version
-abbrev pub SignsIn : PaserkVersion → List ℕ → Ordered → List ℕ → Type 0
-SignsIn V1 = SignsClaims V1 RsaPssVerifies v1_public rsa_public
-SignsIn V2 = SignsClaims V2 Ed25519Verifies v2_public partner
-SignsIn V3 = SignsClaims V3 P384Verifies v3_public p384_public
-SignsIn V4 = SignsClaims V4 Ed25519Verifies v4_public partner
-
--- the line is that of a token of what is ordered, under the key of a version that takes the assertion
-abbrev pub Issues : List ℕ → Ordered → (List ℕ → Type 0) → List ℕ → Type 0
-Issues key order IsDrawn line =
-    ((version : PaserkVersion) × SealsIn version key order IsDrawn line × Takes version order.assertion)
-    ⊎ ((version : PaserkVersion) × SignsIn version key order line × Takes version order.assertion)
 
 -- the line is that of a token of what the words order at a moment
-abbrev pub IssuesFor : List (List ℕ) → Options → Timestamp → List ℕ → (List ℕ → Type 0) → List ℕ → Type 0
+abbrev pub IssuesFor : List (List ℕ) → Options → Timestamp → KeyParts → (List ℕ → Type 0) → List ℕ → Type 0
 IssuesFor claims options now key IsDrawn line = (order : Ordered) × IsOrder claims options now order × Issues key order IsDrawn line
 
--- a scheme declines the claims of what is ordered for a private key, and not for want of random bytes
-pub record DeclinesOrder (declined : Declining) (half : List ℕ → List ℕ) (design : PublicDesign) (order : Ordered)
-    (private : List ℕ) (error : PasetoError) : Type 0 where
-  pub claims : Members
-  pub are_ordered : AreOrdered order claims
-  pub own : error ≢ Cipher
-  pub is_declined : declined private (message design (bound_to (half private) order.footer [] (assertion_where design.binds_assertion order.assertion)) (payload claims)) error
-
--- the line is that of a private key of a version whose scheme declines what is ordered for it
-abbrev pub DeclinesIn : PaserkVersion → List ℕ → Ordered → Type 0
-DeclinesIn V1 = λ key order. DeclinesKey V1 (DeclinesOrder IsUnsigned rsa_public v1_public order) key
-DeclinesIn V2 = λ key order. DeclinesKey V2 (DeclinesOrder IsDeclined partner v2_public order) key
-DeclinesIn V3 = λ key order. DeclinesKey V3 (DeclinesOrder IsDeclinedByP384 p384_public v3_public order) key
-DeclinesIn V4 = λ key order. DeclinesKey V4 (DeclinesOrder IsDeclined partner v4_public order) key
-
-abbrev pub IsDeclinedOrder : List ℕ → Ordered → Type 0
-IsDeclinedOrder key order = (version : PaserkVersion) × DeclinesIn version key order
-
--- no token is made, whatever bytes are drawn: what the words order at a moment has none under the key of the line, or the
--- scheme declines it for the key, as one whose halves do not belong together
-abbrev pub IssuesNothing : List (List ℕ) → Options → Timestamp → List ℕ → Type 0
-IssuesNothing claims options now key =
-    ((line : List ℕ) → ¬ IssuesFor claims options now key (λ nonce. ⊤) line)
-    ⊎ ((order : Ordered) × IsOrder claims options now order × IsDeclinedOrder key order)
+-- the key declines what is ordered, with some bytes that are drawn for it
+pub record Declines (key : KeyParts) (order : Ordered) : Type 0 where
+  pub may : MayWrite key order
+  pub text : List ℕ
+  pub is_payload : IsPayload order text
+  pub drawn : List ℕ
+  pub size : length drawn ≡ draws key
+  pub error : PasetoError
+  pub is_declined : (writing key order drawn).Declines (is_some order.footer) text error
 
 -- what is said where a claim is set twice, beside what stands in the table of errors: the last one that is
 abbrev pub IsRepeatedLine : Ordered → List ℕ → Type 0
 IsRepeatedLine order line = (name : List ℕ) × ((keys_set order).repeated ≡ Some name) × (line ≡ one_line (repeated_text name))
 
--- the same of what the words order at a moment
-abbrev pub IsIssueLineFor : List (List ℕ) → Options → Timestamp → List ℕ → Type 0
-IsIssueLineFor claims options now line = (order : Ordered) × IsOrder claims options now order × IsRepeatedLine order line
+-- why the claims of what is ordered have no text: they are none, or one is set twice
+pub record RefusesPayload (order : Ordered) (error : ProgramError) : Type 0 where
+  pub none : (text : List ℕ) → ¬ IsPayload order text
+  pub words : IsNoUsage error ⊎ AreNever order
+  pub said : Says (IsRepeatedLine order) error
+  pub inside : ¬ IsOutside error
 
--- ---- for private clauses
+-- why what is ordered has no token, whatever bytes are drawn: there is none under the key, or the key declines it, as one
+-- whose halves do not belong together
+pub record RefusesOrder (key : KeyParts) (order : Ordered) (error : ProgramError) : Type 0 where
+  pub none : ((line : List ℕ) → ¬ Issues key order (λ drawn. length drawn ≡ draws key) line) ⊎ Declines key order
+  pub words : IsNoUsage error ⊎ AreNever order
+  pub said : Says (IsRepeatedLine order) error
+  pub inside : ¬ IsOutside error
 
--- what is ordered has no token under the key, or it is declined for the key
-abbrev pub IssuesNone : List ℕ → Ordered → Type 0
-IssuesNone key order = ((line : List ℕ) → ¬ Issues key order (λ nonce. ⊤) line) ⊎ IsDeclinedOrder key order
+-- why words have none at a moment: they order nothing, or what they order has none
+abbrev pub RefusesIssue : List (List ℕ) → Options → Timestamp → KeyParts → ProgramError → Type 0
+RefusesIssue claims options now key error =
+    (((order : Ordered) → ¬ IsOrder claims options now order) × IsOfWords error × ¬ IsOutside error)
+    ⊎ ((order : Ordered) × IsOrder claims options now order × RefusesOrder key order error)
 
-abbrev pub SignsNone : PaserkVersion → List ℕ → Ordered → Type 0
-SignsNone version key order = ((line : List ℕ) → ¬ SignsIn version key order line) ⊎ DeclinesIn version key order
+-- where an error may come while a token is issued: random bytes, which the key takes, and a moment that is none for claims
+abbrev pub issuing : KeyParts → Type 0 → Timestamp → Blame
+issuing key Failure now = record nothing { no_bytes = (draws key ≢ 0) × Failure; no_moment = ¬ FitsDefault now }

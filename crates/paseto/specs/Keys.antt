@@ -1,8 +1,22 @@
 -- What is said of a key that the arguments name.
-use Rattle.std.specs.Prelude.{ℕ, List, Option, None, Some, codes}
+use Rattle.std.specs.Prelude.{◌≡◌, ◌≢◌, ◌⊎◌, ◌++◌, ℕ, List, Option, None, Some, Result, String, codes, option_map, string_bytes}
+use Rattle.std.specs.Global.{Global}
+use Rattle.paseto_key_files.specs.Held.{GivesLine}
+use Rattle.paseto_key_files.specs.Opening.{Unlocks, UnlocksNone}
 use Rattle.paseto_key_files.specs.declared.error.KeyFileError.{KeyFileError}
-use Rattle.paseto_key_files.specs.declared.error.KeyFileError.TheVariants.{OtherOpener}
+use Rattle.paseto_key_files.specs.declared.error.KeyFileError.TheVariants.{OtherOpener, Paserk}
+use Rattle.paseto_keys.specs.Line.{IsLineFault}
+use Rattle.paseto_pem.specs.declared.error.PemError.TheVariants.{NotPem}
+use Rattle.rusty_paseto_paserk.specs.declared.error.PaserkError.TheVariants.{OtherVersion}
+use Rattle.rusty_paseto_paserk.specs.declared.header.PaserkVersion.TheVariants.{V1}
+use Rattle.paseto_tasks.specs.declared.error.ProgramError.{ProgramError}
+use Rattle.paseto_tasks.specs.declared.error.ProgramError.TheVariants.{Pem}
+use Rattle.paseto_key_files.specs.declared.openers.Openers.{Openers}
+use Rattle.paseto_tasks.specs.Error.{IsMemory, key_file_error_of}
+use Rattle.paseto_tasks.specs.Output.{IsLineOf}
 use Rattle.paseto.specs.Files.{input_name}
+use Rattle.paseto.specs.declared.fault.Fault.{Fault}
+use Rattle.paseto.specs.declared.keys.Held.{Held}
 
 -- the name of a key in lines on standard error: the environment's variable where no key is named
 abbrev pub key_name : Option (List ℕ) → List ℕ
@@ -13,3 +27,45 @@ key_name (Some path) = input_name (Some path)
 abbrev pub about_of : KeyFileError → List ℕ → List ℕ → List ℕ
 about_of (OtherOpener source) opener name = opener
 about_of error opener name = name
+
+-- memory was refused, or the key of this name is at fault, as this says
+abbrev pub IsKeyFault : List ℕ → (KeyFileError → Type 0) → Fault → Type 0
+IsKeyFault name Is fault =
+    IsMemory fault.error ⊎ ((fault.about.now ≡ name) × ((source : KeyFileError) × Is source × (fault.error ≡ key_file_error_of source)))
+
+-- a text without the carriage return at its end, if there is one
+abbrev pub IsWithoutReturn : List ℕ → List ℕ → Type 0
+IsWithoutReturn text rest = (text ≡ rest ++ codes "\r") ⊎ ((rest ≡ text) × ((other : List ℕ) → text ≢ other ++ codes "\r"))
+
+-- what opens key files is the password and the key that are held
+pub record AreOpeners (held : Held) (openers : Openers) : Type 0 where
+  pub password : option_map (λ bytes. bytes.now) openers.password ≡ option_map (λ bytes. bytes.items) held.password
+  pub key : option_map (λ line. line.now) openers.key ≡ option_map string_bytes held.key
+
+-- the answer for a text is that of opening it with what is held
+abbrev pub OpensHeld : Held → List ℕ → Result (String Global) KeyFileError → Type 0
+OpensHeld held text answer =
+    (openers : Openers) × (rest : List ℕ) × AreOpeners held openers × IsWithoutReturn text rest
+    × GivesLine (Unlocks openers rest) (UnlocksNone openers rest) answer
+
+-- the text is one that is so, with a line feed behind it
+abbrev pub IsTextBy : (List ℕ → Type 0) → List ℕ → Type 0
+IsTextBy Is text = (made : List ℕ) × Is made × IsLineOf made text
+
+-- memory was refused, or the key of this name or the other one is at fault, as this says
+abbrev pub IsOtherFault : List ℕ → List ℕ → (KeyFileError → Type 0) → Fault → Type 0
+IsOtherFault name other Is fault =
+    IsMemory fault.error
+    ⊎ ((source : KeyFileError) × Is source × (fault.about.now ≡ about_of source other name) × (fault.error ≡ key_file_error_of source))
+
+-- ---- lines
+
+-- why a line is not read as a key: key pairs of version 1 are read from PEM alone
+abbrev pub line_error_of : KeyFileError → ProgramError
+line_error_of (Paserk (OtherVersion V1)) = Pem NotPem
+line_error_of error = key_file_error_of error
+
+-- memory was refused, or the line of the key of this name is that of none
+abbrev pub IsNoKeyLine : List ℕ → List ℕ → Fault → Type 0
+IsNoKeyLine name line fault =
+    IsMemory fault.error ⊎ ((fault.about.now ≡ name) × ((source : KeyFileError) × IsLineFault line source × (fault.error ≡ line_error_of source)))

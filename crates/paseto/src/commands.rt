@@ -1,7 +1,6 @@
 //! The commands on claims, `issue` and `check`, over any generator, input and outputs.
 
 pub mod answers;
-pub mod asserts;
 pub mod check;
 pub mod claims;
 pub mod footer;

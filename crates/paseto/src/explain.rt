@@ -2,11 +2,12 @@
 
 use crate::fault::Fault;
 use crate::files::{is_standard, name_of, opened};
-use crate::keys::{key_line, key_name};
+use crate::keys::{key_name, key_of};
+use crate::options::text_options;
+use paseto_keys::AnyKey;
 use paseto_tasks::run::run_explain;
-use paseto_tasks::{Names, Options, ProgramError, read_text};
+use paseto_tasks::{Names, ProgramError, read_text};
 use paseto_words::Explain;
-use rusty_paseto_core::{Footer, ImplicitAssertion};
 use std::io::Read;
 
 /// Looks for a token among those that were issued, with the key that the arguments name.
@@ -14,12 +15,12 @@ pub fn explain<'a>(rt: &HostRuntime, words: &Explain<'a>) -> Result<u8, Fault<'a
     if words.key.file == Some("-") && is_standard(words.input) {
         return Err(Fault::from(ProgramError::OneInput));
     }
-    let key = key_line(rt, &words.key)?;
+    let key = key_of(rt, &words.key)?;
     let issued = issued_text(rt, words.issued)?;
-    let (key, issued) = (key.as_str(), issued.as_str());
+    let issued = issued.as_str();
     Ok(match words.input {
-        None | Some("-") => explained(rt, words, key, issued, &mut rt.stdin()),
-        Some(path) => explained(rt, words, key, issued, &mut opened(rt, path)?),
+        None | Some("-") => explained(rt, words, &key, issued, &mut rt.stdin()),
+        Some(path) => explained(rt, words, &key, issued, &mut opened(rt, path)?),
     })
 }
 
@@ -34,7 +35,7 @@ fn issued_text<'a>(rt: &HostRuntime, path: &'a str) -> Result<String, Fault<'a>>
 fn explained<R: Read>(
     rt: &HostRuntime,
     words: &Explain<'_>,
-    key: &str,
+    key: &AnyKey,
     issued: &str,
     input: &mut R,
 ) -> u8 {
@@ -42,16 +43,8 @@ fn explained<R: Read>(
         key: key_name(words.key.file),
         input: name_of(words.input),
     };
-    let options = Options {
-        footer: words.footer.map(Footer::from),
-        kid: None,
-        assertion: words.assertion.map(ImplicitAssertion::from),
-        expires: None,
-        not_before: None,
-        at: None,
-        leeway: None,
-        required: &[],
-    };
+    let options = text_options(words.footer, words.assertion);
+    let (output, errors) = (&mut rt.stdout(), &mut rt.stderr());
     run_explain(
         rt.alloc(),
         &names,
@@ -59,7 +52,7 @@ fn explained<R: Read>(
         &options,
         issued,
         input,
-        &mut rt.stdout(),
-        &mut rt.stderr(),
+        output,
+        errors,
     )
 }

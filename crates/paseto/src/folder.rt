@@ -3,6 +3,7 @@
 use crate::commands::answers::{one_line_of, told};
 use crate::keys::Held;
 use paseto_key_files::KeyFileError;
+use paseto_keys::AnyKey;
 use paseto_tasks::{ProgramError, begins_as, read_key_line};
 use rusty_paseto_paserk::{PaserkType, PaserkVersion};
 use std::alloc::Global;
@@ -13,28 +14,28 @@ use std::os::fd::AsRawFd;
 /// The number of standard error, the last of the standard streams.
 const LAST_STREAM: i32 = 2;
 
-/// The lines of the key files of a folder, opened if they are locked. Files whose names begin with
-/// a dot are left out.
-pub fn key_lines(
+/// The keys of the key files of a folder, opened if they are locked. Files whose names begin with a
+/// dot are left out.
+pub fn keys_in(
     rt: &HostRuntime,
     folder: &str,
     held: &Held<'_>,
-) -> Result<Vec<String>, ProgramError> {
-    let mut lines = Vec::new(rt.alloc());
+) -> Result<Vec<AnyKey>, ProgramError> {
+    let mut keys = Vec::new(rt.alloc());
     for entry in fs::read_dir(rt, folder).map_err(|source| ProgramError::of_file(&source))? {
         let entry = entry?;
         if !entry.file_name().starts_with('.') {
             let mut file = opened(File::open(rt, entry.path()))?;
             let text = read_key_line(rt.alloc(), &mut file)?;
-            lines.push(line_of(rt.alloc(), held, entry.file_name(), text.as_str())?)?;
+            keys.push(key_in(rt.alloc(), held, entry.file_name(), text.as_str())?)?;
         }
     }
-    Ok(lines)
+    Ok(keys)
 }
 
-/// The line of the key in a file of the folder. A key pair of version 1 has no id by which a key
-/// ring could find it.
-fn line_of(alloc: Global, held: &Held<'_>, name: &str, text: &str) -> Result<String, ProgramError> {
+/// The key in a file of the folder. A key pair of version 1 has no id by which a key ring could find
+/// it.
+fn key_in(alloc: Global, held: &Held<'_>, name: &str, text: &str) -> Result<AnyKey, ProgramError> {
     let line = match held.unlock(alloc, text) {
         Ok(line) => line,
         Err(error) => return Err(not_opened(alloc, name, error)),
@@ -52,7 +53,15 @@ fn line_of(alloc: Global, held: &Held<'_>, name: &str, text: &str) -> Result<Str
                 ),
             ),
         )),
-        Some(_) => Ok(line),
+        Some(_) => key_of(alloc, name, line.as_str()),
+    }
+}
+
+/// The key of a line that begins like one.
+fn key_of(alloc: Global, name: &str, line: &str) -> Result<AnyKey, ProgramError> {
+    match AnyKey::from_line(alloc, line) {
+        Ok(key) => Ok(key),
+        Err(error) => Err(not_opened(alloc, name, error)),
     }
 }
 

@@ -1,11 +1,18 @@
-//! The formats in which keys are written.
+//! The forms in which keys are written.
 
-ghost use Rattle.std.specs.Prelude.{◌≡◌, IfErr, IfOk, None, Some, option_map};
-ghost use Rattle.paseto.specs.Forms.{format_in};
+ghost use Rattle.std.specs.Prelude.{◌≡◌, IfErr, IfOk, None, Some, option_map, string_bytes};
+ghost use Rattle.paseto_keys.specs.AnyKey.{parts_of};
+ghost use Rattle.paseto_keys.specs.WrittenLine.{WritesIn};
+ghost use Rattle.paseto_tasks.specs.Error.{IsMemory};
+ghost use Rattle.paseto.specs.Forms.{HasNoForm, IsEnded, IsEndedIn, IsFormed, IsLocked, IsNotLocked, IsTextIn, format_in, new_cost};
+ghost use Rattle.paseto.specs.Keys.{IsKeyFault};
 
 use crate::fault::Fault;
-use paseto_key_files::pem_of;
+use paseto_key_files::KeyFileError;
+use paseto_keys::AnyKey;
 use paseto_tasks::{Format, ProgramError, with_line_feed};
+use paseto_wrapping::PasswordCost;
+use rand_core::TryRng;
 use std::alloc::Global;
 
 /// The format that an argument names, or PASERK if there is none.
@@ -24,29 +31,79 @@ pub fn format_of(word: Option<&str>) -> Result<Format, ProgramError>
     }
 }
 
-/// The text of a key line in a format, with a line feed at its end. A line in PEM, as for key pairs
-/// of version 1, is written unchanged.
+/// The text of a key in a format, with a line feed at its end.
 pub fn formed<'a>(
-    rt: &HostRuntime,
+    alloc: Global,
     name: &'a str,
-    line: &str,
+    key: &AnyKey,
     format: Format,
-) -> Result<String, Fault<'a>> {
-    match format {
-        Format::Paserk => Ok(ended(rt.alloc(), without_line_feed(line))?),
-        Format::Pem => match pem_of(rt.alloc(), without_line_feed(line)) {
-            Ok(text) => Ok(text),
-            Err(error) => Err(Fault::about(name, ProgramError::from(error))),
-        },
+) -> Result<String, Fault<'a>>
+    ensures formed { IfOk result (λ text. IsFormed format (parts_of key.now) (string_bytes text)) }
+    ensures refused { IfErr result (IsKeyFault name.now (HasNoForm format (parts_of key.now))) }
+{
+    match text_in(alloc, key, format) {
+        Ok(text) => Ok(in_format(text, format)?),
+        Err(error) => Err(Fault::about(name, ProgramError::from(error))),
     }
 }
 
-/// A text and a line feed.
-fn ended(alloc: Global, text: &str) -> Result<String, ProgramError> {
-    with_line_feed(String::from_str(alloc, text)?)
+/// The line of a key, or its PEM.
+fn text_in(alloc: Global, key: &AnyKey, format: Format) -> Result<String, KeyFileError>
+    ensures { WritesIn (IsTextIn format (parts_of key.now)) (HasNoForm format (parts_of key.now))
+        result }
+{
+    match format {
+        Format::Paserk => key.to_line(alloc),
+        Format::Pem => key.to_pem(alloc),
+    }
 }
 
-/// A text without the line feed at its end, if there is one.
-pub fn without_line_feed(text: &str) -> &str {
-    text.strip_suffix('\n').unwrap_or(text)
+/// A line with a line feed behind it, or PEM as it is.
+fn in_format(text: String, format: Format) -> Result<String, ProgramError>
+    ensures made { IfOk result (λ made. IsEndedIn format (string_bytes text) (string_bytes made)) }
+    ensures memory { IfErr result IsMemory }
+{
+    match format {
+        Format::Paserk => ended(text),
+        Format::Pem => Ok(text),
+    }
+}
+
+/// A line, and a line feed behind it if it does not end in one.
+fn ended(line: String) -> Result<String, ProgramError>
+    ensures ended { IfOk result (λ text. IsEnded (string_bytes line) (string_bytes text)) }
+    ensures memory { IfErr result IsMemory }
+{
+    let mut text = line;
+    if !text.ends_with('\n') {
+        text.push('\n')?;
+    }
+    Ok(text)
+}
+
+/// The text of a key under a password, with a line feed, at the cost of new ones.
+pub fn locked<'a, G: TryRng>(
+    alloc: Global,
+    name: &'a str,
+    key: &AnyKey,
+    password: &[u8],
+    generator: &mut G,
+) -> Result<String, Fault<'a>>
+    ensures locked { IfOk result (λ text. IsLocked password.now
+        (λ drawn. G.may_fill generator.old drawn generator.new) (parts_of key.now)
+        (string_bytes text)) }
+    ensures refused { IfErr result (IsKeyFault name.now
+        (IsNotLocked password.now G.Error (parts_of key.now))) }
+{
+    match key.protect(alloc, password, cost(), generator) {
+        Ok(text) => Ok(with_line_feed(text)?),
+        Err(error) => Err(Fault::about(name, ProgramError::from(error))),
+    }
+}
+
+/// The cost of new texts under a password.
+fn cost() -> PasswordCost
+    ensures { result ≡ new_cost }
+{
+    PasswordCost::default()
 }

@@ -1,16 +1,20 @@
 //! The keys that the arguments name: in a file, on standard input or in the environment, opened if
 //! they are locked.
 
-ghost use Rattle.std.specs.Prelude.{◌≡◌, [], None, option_map};
+ghost use Rattle.std.specs.Prelude.{◌≡◌, [], None, IfErr, IfOk, option_map};
+ghost use Rattle.paseto_keys.specs.AnyKey.{parts_of};
+ghost use Rattle.paseto_keys.specs.Line.{IsLineOf};
 ghost use Rattle.paseto_tasks.specs.Error.{key_file_error_of};
-ghost use Rattle.paseto.specs.Keys.{about_of, key_name};
+ghost use Rattle.paseto.specs.Keys.{AreOpeners, IsNoKeyLine, IsWithoutReturn, OpensHeld, about_of, key_name, line_error_of};
 
 use crate::fault::Fault;
 use crate::files::{name_of, opened};
 use paseto_key_files::{KeyFileError, Openers, unlock};
+use paseto_keys::AnyKey;
+use paseto_pem::PemError;
 use paseto_tasks::{ProgramError, begins_as, read_key_line, read_password};
 use paseto_words::{KeyFile, Openers as OpenerWords};
-use rusty_paseto_paserk::{PaserkError, PaserkType};
+use rusty_paseto_paserk::{PaserkError, PaserkType, PaserkVersion};
 use std::alloc::{AllocError, Global};
 use std::env::{self, VarError};
 use std::fs::File;
@@ -22,6 +26,12 @@ const KEY: &str = "PASETO_KEY";
 
 /// The environment variable for the password if no password file is named.
 const PASSWORD: &str = "PASETO_PASSWORD";
+
+/// No file of what opens a key.
+const NO_OPENERS: OpenerWords<'static> = OpenerWords {
+    password: None,
+    key: None,
+};
 
 /// The password and the key that open locked key files, with the name of the key's file.
 #[derive(Drop)]
@@ -59,16 +69,22 @@ impl<'a> Held<'a> {
             key: None,
             key_name: path,
         };
-        let key = held.open(rt, path, key_text(rt, Some(path))?.as_str())?;
+        let key = held.line(rt.alloc(), path, key_text(rt, Some(path))?.as_str())?;
         Ok(Held {
             key: Some(key),
             ..held
         })
     }
 
-    /// The key line in the text of a key file, with its name for lines on standard error.
-    pub fn open(&self, rt: &HostRuntime, name: &'a str, text: &str) -> Result<String, Fault<'a>> {
-        match self.unlock(rt.alloc(), text) {
+    /// The key in the text of a key file of this name.
+    pub fn open(&self, alloc: Global, name: &'a str, text: &str) -> Result<AnyKey, Fault<'a>> {
+        let line = self.line(alloc, name, text)?;
+        key_of_line(alloc, name, line.as_str())
+    }
+
+    /// The line of the key in the text of a key file of this name.
+    fn line(&self, alloc: Global, name: &'a str, text: &str) -> Result<String, Fault<'a>> {
+        match self.unlock(alloc, text) {
             Ok(line) if has_second_line(line.as_str()) => Err(Fault::about(
                 name,
                 ProgramError::SecondLine,
@@ -78,15 +94,55 @@ impl<'a> Held<'a> {
         }
     }
 
-    /// The key line in the text of a key file. The line feed at its end was removed when the file was
-    /// read.
-    pub fn unlock(&self, alloc: Global, text: &str) -> Result<String, KeyFileError> {
-        let text = text.strip_suffix('\r').unwrap_or(text);
-        let openers = Openers {
+    /// The line of the key in the text of a key file. The line feed at its end was removed when the
+    /// file was read.
+    pub fn unlock(&self, alloc: Global, text: &str) -> Result<String, KeyFileError>
+        ensures { OpensHeld self.now text.now result }
+    {
+        unlock(alloc, &self.openers(), without_return(text))
+    }
+
+    /// What opens key files, as it is borrowed.
+    fn openers(&self) -> Openers<'_>
+        ensures { AreOpeners self.now result }
+    {
+        Openers {
             password: self.password.as_deref(),
             key: self.key.as_deref(),
-        };
-        unlock(alloc, &openers, text)
+        }
+    }
+}
+
+/// A text without the carriage return at its end, if there is one.
+fn without_return(text: &str) -> &str
+    ensures { IsWithoutReturn text.now result.now }
+{
+    match text.strip_suffix("\r") {
+        Some(rest) => rest,
+        None => text,
+    }
+}
+
+/// The key of a line.
+pub fn key_of_line<'a>(alloc: Global, name: &'a str, line: &str) -> Result<AnyKey, Fault<'a>>
+    ensures found { IfOk result (λ key. IsLineOf line.now (parts_of key)) }
+    ensures refused { IfErr result (IsNoKeyLine name.now line.now) }
+{
+    match AnyKey::from_line(alloc, line) {
+        Ok(key) => Ok(key),
+        Err(error) => Err(Fault::about(name, line_error(error))),
+    }
+}
+
+/// The error for a line that is not read as a key. Key pairs of version 1 are read from PEM alone.
+fn line_error(error: KeyFileError) -> ProgramError
+    ensures { result ≡ line_error_of error }
+{
+    match error {
+        KeyFileError::Paserk(PaserkError::OtherVersion(PaserkVersion::V1)) => {
+            ProgramError::Pem(PemError::NotPem)
+        }
+        error => ProgramError::from(error),
     }
 }
 
@@ -118,11 +174,18 @@ pub fn key_name(key: Option<&str>) -> &str
     }
 }
 
-/// The line of the named key, opened if it is locked.
-pub fn key_line<'a>(rt: &HostRuntime, key: &KeyFile<'a>) -> Result<String, Fault<'a>> {
+/// The named key, opened if it is locked.
+pub fn key_of<'a>(rt: &HostRuntime, key: &KeyFile<'a>) -> Result<AnyKey, Fault<'a>> {
     let held = Held::of(rt, &key.openers)?;
     let text = key_text(rt, key.file)?;
-    held.open(rt, key_name(key.file), text.as_str())
+    held.open(rt.alloc(), key_name(key.file), text.as_str())
+}
+
+/// The line of the key of a file that is not locked, which is to wrap or to seal another key.
+pub fn opener_line<'a>(rt: &HostRuntime, path: &'a str) -> Result<String, Fault<'a>> {
+    let held = Held::of(rt, &NO_OPENERS)?;
+    let text = key_text(rt, Some(path))?;
+    held.line(rt.alloc(), key_name(Some(path)), text.as_str())
 }
 
 /// The text of the named key, with a warning if it is secret and others can read its file.

@@ -1,36 +1,35 @@
 //! The commands `wrap`, `unwrap`, `seal` and `unseal`.
 
-ghost use Rattle.std.specs.Prelude.{◌≡◌, Ok, IfErr, IfOk, IsErrAnd};
-ghost use Rattle.paseto_tasks.specs.Error.{key_file_error_of};
-ghost use Rattle.paseto.specs.Keys.{about_of};
+ghost use Rattle.std.specs.Prelude.{IfErr, IfOk, string_bytes};
+ghost use Rattle.paseto_key_files.specs.Sealing.{SealsLine, SealsNone};
+ghost use Rattle.paseto_key_files.specs.Wrapping.{WrapsLine, WrapsNone};
+ghost use Rattle.paseto_keys.specs.AnyKey.{parts_of};
+ghost use Rattle.paseto_keys.specs.Forms.{ByLine, ByNoLine};
+ghost use Rattle.paseto.specs.Keys.{IsOtherFault, IsTextBy};
 
 use crate::fault::Fault;
 use crate::files::put;
-use crate::forms::{format_of, formed};
-use crate::keys::{Held, key_file_fault, key_line, key_name, key_text, password_of};
-use paseto_key_files::{KeyFileError, protect, seal, wrap};
+use crate::forms::{format_of, formed, locked};
+use crate::keys::{Held, key_file_fault, key_name, key_of, key_text, opener_line, password_of};
+use paseto_keys::AnyKey;
 use paseto_tasks::{ProgramError, with_line_feed};
-use paseto_words::{KeyFile, Openers, Seal, Under, Wrap, Written};
-use paseto_wrapping::{PasswordCost, WrappedType, wrapped_header_of};
+use paseto_words::{Seal, Under, Wrap, Written};
+use paseto_wrapping::{WrappedType, wrapped_header_of};
 use rand::rngs::SysRng;
-
-/// No file of what opens a key.
-const NO_OPENERS: Openers<'static> = Openers {
-    password: None,
-    key: None,
-};
+use rand_core::TryRng;
+use std::alloc::Global;
 
 /// Prints a key wrapped under a password or a wrapping key.
 pub fn wrapped<'a>(rt: &HostRuntime, words: &Wrap<'a>) -> Result<u8, Fault<'a>> {
     let name = key_name(words.key);
     let text = key_text(rt, words.key)?;
-    let line = Held::nothing().open(rt, name, text.as_str())?;
+    let key = Held::nothing().open(rt.alloc(), name, text.as_str())?;
     let made = match words.under {
-        Under::Key(path) => under_key(rt, name, path, line.as_str())?,
-        Under::Password(path) => under_password(rt, name, Some(path), line.as_str())?,
-        Under::Unsaid => under_password(rt, name, None, line.as_str())?,
+        Under::Key(path) => under_key(rt, name, path, &key)?,
+        Under::Password(path) => under_password(rt, name, Some(path), &key)?,
+        Under::Unsaid => under_password(rt, name, None, &key)?,
     };
-    written(rt, words.out, made)
+    written(rt, words.out, made.as_str())
 }
 
 /// A key wrapped under the wrapping key of a file.
@@ -38,15 +37,37 @@ fn under_key<'a>(
     rt: &HostRuntime,
     name: &'a str,
     path: &'a str,
-    line: &str,
+    key: &AnyKey,
 ) -> Result<String, Fault<'a>> {
-    let file = KeyFile {
-        file: Some(path),
-        openers: NO_OPENERS,
-    };
-    let wrapping = key_line(rt, &file)?;
-    let made = wrap(rt.alloc(), wrapping.as_str(), &mut SysRng::new(rt), line);
-    by_other(made, name, path)
+    let wrapping = opener_line(rt, path)?;
+    under_line(
+        rt.alloc(),
+        name,
+        path,
+        key,
+        wrapping.as_str(),
+        &mut SysRng::new(rt),
+    )
+}
+
+/// The text of a key under the wrapping key of a line, with a line feed.
+fn under_line<'a, G: TryRng>(
+    alloc: Global,
+    name: &'a str,
+    other: &'a str,
+    key: &AnyKey,
+    wrapping: &str,
+    generator: &mut G,
+) -> Result<String, Fault<'a>>
+    ensures wrapped { IfOk result (λ text. IsTextBy (ByLine (parts_of key.now) (WrapsLine
+        wrapping.now (λ drawn. G.may_fill generator.old drawn generator.new))) (string_bytes text)) }
+    ensures refused { IfErr result (IsOtherFault name.now other.now (ByNoLine (parts_of key.now)
+        (WrapsNone wrapping.now G.Error))) }
+{
+    match key.wrap(alloc, wrapping, generator) {
+        Ok(text) => Ok(with_line_feed(text)?),
+        Err(error) => Err(key_file_fault(other, name, error)),
+    }
 }
 
 /// A key wrapped under the password of a file, or of the environment.
@@ -54,37 +75,56 @@ fn under_password<'a>(
     rt: &HostRuntime,
     name: &'a str,
     file: Option<&'a str>,
-    line: &str,
+    key: &AnyKey,
 ) -> Result<String, Fault<'a>> {
     let Some(password) = password_of(rt, file)? else {
         return Err(Fault::from(ProgramError::NoPassword));
     };
-    let cost = PasswordCost::default();
-    let made = protect(rt.alloc(), &password, cost, &mut SysRng::new(rt), line);
-    by_other(made, name, name)
+    locked(rt.alloc(), name, key, &password, &mut SysRng::new(rt))
 }
 
 /// Prints the key of a key file, decrypted if it is protected, wrapped or sealed.
 pub fn unwrapped<'a>(rt: &HostRuntime, words: &Written<'a>) -> Result<u8, Fault<'a>> {
     let format = format_of(words.format)?;
-    let line = key_line(rt, &words.key)?;
-    let made = formed(rt, key_name(words.key.file), line.as_str(), format)?;
-    put(rt, words.out, 0o600, made.as_str().as_bytes())?;
-    Ok(0)
+    let key = key_of(rt, &words.key)?;
+    let made = formed(rt.alloc(), key_name(words.key.file), &key, format)?;
+    written(rt, words.out, made.as_str())
 }
 
 /// Prints a key for local tokens, sealed to a public key.
 pub fn sealed<'a>(rt: &HostRuntime, words: &Seal<'a>) -> Result<u8, Fault<'a>> {
     let name = key_name(words.key.file);
-    let line = key_line(rt, &words.key)?;
-    let file = KeyFile {
-        file: Some(words.to),
-        openers: NO_OPENERS,
-    };
-    let to = key_line(rt, &file)?;
-    let made = seal(rt.alloc(), to.as_str(), &mut SysRng::new(rt), line.as_str());
-    let made = by_other(made, name, words.to)?;
-    written(rt, words.out, made)
+    let key = key_of(rt, &words.key)?;
+    let to = opener_line(rt, words.to)?;
+    let made = sealed_to(
+        rt.alloc(),
+        name,
+        words.to,
+        &key,
+        to.as_str(),
+        &mut SysRng::new(rt),
+    )?;
+    written(rt, words.out, made.as_str())
+}
+
+/// The text of a key sealed to the public key of a line, with a line feed.
+fn sealed_to<'a, G: TryRng>(
+    alloc: Global,
+    name: &'a str,
+    other: &'a str,
+    key: &AnyKey,
+    public: &str,
+    generator: &mut G,
+) -> Result<String, Fault<'a>>
+    ensures sealed { IfOk result (λ text. IsTextBy (ByLine (parts_of key.now) (SealsLine public.now
+        (λ drawn. G.may_fill generator.old drawn generator.new))) (string_bytes text)) }
+    ensures refused { IfErr result (IsOtherFault name.now other.now (ByNoLine (parts_of key.now)
+        (SealsNone public.now (λ drawn. G.may_fill generator.old drawn generator.new) G.Error))) }
+{
+    match key.seal(alloc, public, generator) {
+        Ok(text) => Ok(with_line_feed(text)?),
+        Err(error) => Err(key_file_fault(other, name, error)),
+    }
 }
 
 /// Prints the key that was sealed to a public key.
@@ -96,33 +136,14 @@ pub fn unsealed<'a>(rt: &HostRuntime, words: &Written<'a>) -> Result<u8, Fault<'
     let Some((_, WrappedType::Seal, _)) = wrapped_header_of(text.as_str()) else {
         return Err(Fault::about(name, ProgramError::NotSealed));
     };
-    let line = held.open(rt, name, text.as_str())?;
-    let made = formed(rt, name, line.as_str(), format)?;
-    put(rt, words.out, 0o600, made.as_str().as_bytes())?;
-    Ok(0)
+    let key = held.open(rt.alloc(), name, text.as_str())?;
+    let made = formed(rt.alloc(), name, &key, format)?;
+    written(rt, words.out, made.as_str())
 }
 
-/// The result of an operation with a key and a second one. If the second key was refused, the error
-/// names its file.
-fn by_other<'a>(
-    made: Result<String, KeyFileError>,
-    name: &'a str,
-    other: &'a str,
-) -> Result<String, Fault<'a>>
-    ensures made { IfOk result (λ text. made ≡ Ok text) }
-    ensures refused { IfErr result (λ fault. IsErrAnd made (λ source.
-        (fault.about.now ≡ about_of source other.now name.now)
-        × (fault.error ≡ key_file_error_of source))) }
-{
-    match made {
-        Ok(text) => Ok(text),
-        Err(error) => Err(key_file_fault(other, name, error)),
-    }
-}
-
-/// Writes a line, and returns the status.
-fn written<'a>(rt: &HostRuntime, out: Option<&'a str>, made: String) -> Result<u8, Fault<'a>> {
-    let line = with_line_feed(made)?;
-    put(rt, out, 0o600, line.as_str().as_bytes())?;
+/// Writes the text of a secret key to a new file that its owner alone can read, or to standard output,
+/// and returns the status.
+fn written<'a>(rt: &HostRuntime, out: Option<&'a str>, made: &str) -> Result<u8, Fault<'a>> {
+    put(rt, out, 0o600, made.as_bytes())?;
     Ok(0)
 }

@@ -2,8 +2,8 @@
 //! signs and verifies texts.
 #![tactic(auto)]
 
-ghost use Rattle.std.specs.Prelude.{MatchBool};
-ghost use Rattle.paseto.specs.Main.{HoldsNoSecretKey, HoldsSecretKey, IsSecretKey};
+ghost use Rattle.std.specs.Prelude.{◌≡◌, MatchBool};
+ghost use Rattle.paseto.specs.Main.{HoldsNoSecretKey, HoldsSecretKey, IsSecretKey, task_of};
 
 mod commands;
 mod explain;
@@ -15,13 +15,14 @@ mod half;
 mod keys;
 mod locks;
 mod new_key;
+mod options;
 mod texts;
 mod tokens;
 
 use clap::Error;
 use fault::Fault;
 use files::{is_standard, name_of, opened};
-use keys::{key_line, key_name};
+use keys::{key_name, key_of};
 use paseto_tasks::run::{run_id, run_inspect};
 use paseto_tasks::{Names, ProgramError, Task};
 use paseto_words::{Action, KeyFile, parse, status};
@@ -101,30 +102,36 @@ fn done<'a>(rt: &HostRuntime, action: &Action<'a>) -> Result<u8, Fault<'a>> {
         Action::Unseal(words) => locks::unsealed(rt, words),
         Action::Issue(words) => tokens::issue(rt, words),
         Action::Check(words) => tokens::check(rt, words),
-        Action::Encrypt(words) => texts::keyed(rt, Task::Encrypt, words),
-        Action::Decrypt(words) => texts::keyed(rt, Task::Decrypt, words),
-        Action::Sign(words) => texts::keyed(rt, Task::Sign, words),
-        Action::Verify(words) => texts::keyed(rt, Task::Verify, words),
         Action::Explain(words) => explain::explain(rt, words),
         Action::Inspect(input) => inspect(rt, *input),
+        Action::Encrypt(words)
+        | Action::Decrypt(words)
+        | Action::Sign(words)
+        | Action::Verify(words) => texts::keyed(rt, task_of(action), words),
+    }
+}
+
+/// The task of an action with a key and a text. The others have none, and are not asked for it.
+fn task_of(action: &Action<'_>) -> Task
+    ensures { result ≡ task_of action.now }
+{
+    match action {
+        Action::Decrypt(_) => Task::Decrypt,
+        Action::Sign(_) => Task::Sign,
+        Action::Verify(_) => Task::Verify,
+        _ => Task::Encrypt,
     }
 }
 
 /// Prints the id of a key.
-fn tell_id<'a>(rt: &HostRuntime, key: &KeyFile<'a>) -> Result<u8, Fault<'a>> {
-    let line = key_line(rt, key)?;
-    let name = key_name(key.file);
+fn tell_id<'a>(rt: &HostRuntime, words: &KeyFile<'a>) -> Result<u8, Fault<'a>> {
+    let key = key_of(rt, words)?;
+    let name = key_name(words.file);
     let names = Names {
         key: name,
         input: name,
     };
-    Ok(run_id(
-        rt.alloc(),
-        &names,
-        line.as_str(),
-        &mut rt.stdout(),
-        &mut rt.stderr(),
-    ))
+    Ok(run_id(rt.alloc(), &names, &key, &mut rt.stdout(), &mut rt.stderr()))
 }
 
 /// Prints what a token says about itself.

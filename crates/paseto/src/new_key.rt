@@ -1,18 +1,23 @@
 //! The command `keygen`.
 
-ghost use Rattle.std.specs.Prelude.{◌≡◌, IfErr, IfOk, option_map};
-ghost use Rattle.paseto.specs.NewKey.{IsKindFault, IsKindFor};
+ghost use Rattle.std.specs.Prelude.{◌≡◌, ◌⊎◌, Bool, Err, IfErr, IfOk, Ok, option_map, string_bytes};
+ghost use Rattle.paseto_keys.specs.AnyKey.{parts_of};
+ghost use Rattle.paseto_keys.specs.declared.any_key.AnyKey.{AnyKey as Generated};
+ghost use Rattle.paseto_tasks.specs.Keygen.{IsGenerated};
+ghost use Rattle.paseto.specs.NewKey.{IsHalfText, IsKindFault, IsKindFor, IsNoHalfText, IsNotSecret, IsSecretText};
 
 use crate::fault::Fault;
 use crate::files::{put, write_new};
-use crate::forms::{format_of, formed, without_line_feed};
+use crate::forms::{format_of, formed, locked};
+use crate::half::half_of;
 use crate::keys::password_of;
-use paseto_key_files::protect;
+use paseto_keys::AnyKey;
 use paseto_tasks::keygen::keygen;
-use paseto_tasks::{Format, Kind, ProgramError, with_line_feed};
+use paseto_tasks::{Format, Kind, ProgramError};
 use paseto_words::Keygen;
-use paseto_wrapping::PasswordCost;
 use rand::rngs::SysRng;
+use rand_core::TryRng;
+use std::alloc::Global;
 
 /// Writes a new key, under a password if one is named, to standard output or to a new file, and its
 /// public half to another new file. No file is overwritten, and nothing is printed if a file cannot
@@ -21,16 +26,16 @@ pub fn make<'a>(rt: &HostRuntime, words: &Keygen<'a>) -> Result<u8, Fault<'a>> {
     let kind = kind_of(words)?;
     let format = format_of(words.format)?;
     let password = password_of(rt, words.password)?;
-    let made = keygen(rt.alloc(), kind, &mut SysRng::new(rt))?;
-    let secret = match &password {
-        Some(password) => locked(rt, made.secret.as_str(), password, format)?,
-        None => formed(rt, words.kind, made.secret.as_str(), format)?,
-    };
-    if let (Some(path), Some(line)) = (words.public, &made.public) {
-        let half = formed(rt, words.kind, line.as_str(), format)?;
+    let password = password.as_deref();
+    let (alloc, generator) = (rt.alloc(), &mut SysRng::new(rt));
+    let asks_half = words.public.is_some();
+    let made = new_texts(
+        alloc, words.kind, kind, format, password, asks_half, generator,
+    )?;
+    if let (Some(path), Some(half)) = (words.public, &made.public) {
         write_new(rt, path, 0o644, half.as_str().as_bytes())?;
     }
-    put(rt, words.out, 0o600, secret.as_str().as_bytes())?;
+    put(rt, words.out, 0o600, made.secret.as_str().as_bytes())?;
     if !words.quiet {
         tell(rt, words, kind, password.is_some())?;
     }
@@ -53,19 +58,86 @@ fn kind_of<'a>(words: &Keygen<'a>) -> Result<Kind, Fault<'a>>
     }
 }
 
-/// A key under a password, in PASERK.
-fn locked(
-    rt: &HostRuntime,
-    line: &str,
-    password: &[u8],
+/// The texts of a new key, each with its line feed.
+#[derive(Drop)]
+struct NewTexts {
+    secret: String,
+    public: Option<String>,
+}
+
+/// The text of a new key of a kind, in a format or under a password, and that of its public half if it
+/// is asked for.
+fn new_texts<'a, G: TryRng>(
+    alloc: Global,
+    name: &'a str,
+    kind: Kind,
     format: Format,
-) -> Result<String, ProgramError> {
-    if matches!(format, Format::Pem) {
-        return Err(ProgramError::LockedPem);
+    password: Option<&[u8]>,
+    asks_half: bool,
+    generator: &mut G,
+) -> Result<NewTexts, Fault<'a>>
+    ensures made { IfOk result (λ made. (key : Generated) × (between : G)
+        × IsGenerated kind (λ drawn. G.may_fill generator.old drawn between) G.Error
+        (between ≡ generator.old) (Ok key)
+        × IsSecretText format (option_map (λ bytes. bytes.now) password.entry)
+        (λ drawn. G.may_fill between drawn generator.new) (parts_of key) (string_bytes made.secret)
+        × IsHalfText asks_half format (parts_of key) (option_map string_bytes made.public)) }
+    ensures refused { IfErr result (λ fault. ((between : G)
+        × IsGenerated kind (λ drawn. G.may_fill generator.old drawn between) G.Error
+        (between ≡ generator.old) (Err fault.error))
+        ⊎ ((key : Generated)
+        × (IsNotSecret name.now format (option_map (λ bytes. bytes.now) password.entry) G.Error
+        (parts_of key) fault ⊎ IsNoHalfText name.now format (parts_of key) fault))) }
+{
+    let key = keygen(alloc, kind, generator)?;
+    let secret = secret_text(alloc, name, &key, format, password, generator)?;
+    let public = half_text(alloc, name, &key, format, asks_half)?;
+    Ok(NewTexts { secret, public })
+}
+
+/// The text of the public half of a key in a format, if it is asked for.
+fn half_text<'a>(
+    alloc: Global,
+    name: &'a str,
+    key: &AnyKey,
+    format: Format,
+    is_asked: bool,
+) -> Result<Option<String>, Fault<'a>>
+    ensures made { IfOk result (λ half. IsHalfText is_asked format (parts_of key.now)
+        (option_map string_bytes half)) }
+    ensures refused { IfErr result (IsNoHalfText name.now format (parts_of key.now)) }
+{
+    if !is_asked {
+        return Ok(None);
     }
-    let (line, cost) = (without_line_feed(line), PasswordCost::default());
-    let text = protect(rt.alloc(), password, cost, &mut SysRng::new(rt), line)?;
-    with_line_feed(text)
+    match half_of(alloc, name, key, format) {
+        Ok(half) => Ok(Some(half)),
+        Err(fault) => Err(fault),
+    }
+}
+
+/// The text of a new key: under the password if there is one, and otherwise in the format. Under a
+/// password it is not written in PEM.
+fn secret_text<'a, G: TryRng>(
+    alloc: Global,
+    name: &'a str,
+    key: &AnyKey,
+    format: Format,
+    password: Option<&[u8]>,
+    generator: &mut G,
+) -> Result<String, Fault<'a>>
+    ensures made { IfOk result (λ text. IsSecretText format
+        (option_map (λ bytes. bytes.now) password.entry)
+        (λ drawn. G.may_fill generator.old drawn generator.new) (parts_of key.now)
+        (string_bytes text)) }
+    ensures refused { IfErr result (IsNotSecret name.now format
+        (option_map (λ bytes. bytes.now) password.entry) G.Error (parts_of key.now)) }
+{
+    match (password, format) {
+        (Some(_), Format::Pem) => Err(Fault::from(ProgramError::LockedPem)),
+        (Some(password), Format::Paserk) => locked(alloc, name, key, password, generator),
+        (None, format) => formed(alloc, name, key, format),
+    }
 }
 
 /// Reports on standard error the files of what was made.

@@ -7,79 +7,45 @@ ghost use Rattle.paseto.specs.Answers.{second_of};
 use crate::commands::check::Keys;
 use crate::commands::run::{run_check, run_issue};
 use crate::fault::Fault;
-use crate::files::{is_standard, name_of, opened, write_new};
-use crate::folder::key_lines;
-use crate::keys::{Held, key_line, key_name};
+use crate::files::{is_standard, opened, write_new};
+use crate::folder::keys_in;
+use crate::keys::{Held, key_name, key_of};
 use jiff::Timestamp;
-use paseto_tasks::{Names, Options, ProgramError};
-use paseto_words::{Check, Foot, Issue, KeyFile, Keys as KeyWords};
+use paseto_tasks::ProgramError;
+use paseto_words::{Check, Issue, KeyFile, Keys as KeyWords};
 use rand::rngs::SysRng;
-use rusty_paseto_core::{Footer, ImplicitAssertion};
-use std::io::{Read, Write};
 
 /// Issues a token at the current second.
 pub fn issue<'a>(rt: &HostRuntime, words: &Issue<'a>) -> Result<u8, Fault<'a>> {
-    let line = key_line(rt, &words.key)?;
+    let key = key_of(rt, &words.key)?;
     let now = second_of(clock(rt)?)?;
+    let (alloc, mut generator, mut errors) = (rt.alloc(), SysRng::new(rt), rt.stderr());
     let Some(path) = words.out else {
-        return Ok(issued(rt, words, line.as_str(), now, &mut rt.stdout()));
+        let mut output = rt.stdout();
+        return Ok(run_issue(
+            alloc,
+            words,
+            &key,
+            now,
+            &mut generator,
+            &mut output,
+            &mut errors,
+        ));
     };
-    let mut made = Vec::new(rt.alloc());
-    let status = issued(rt, words, line.as_str(), now, &mut made);
+    let mut made = Vec::new(alloc);
+    let status = run_issue(
+        alloc,
+        words,
+        &key,
+        now,
+        &mut generator,
+        &mut made,
+        &mut errors,
+    );
     if status == 0 {
         write_new(rt, path, 0o600, &made)?;
     }
     Ok(status)
-}
-
-fn issued<W: Write>(
-    rt: &HostRuntime,
-    words: &Issue<'_>,
-    line: &str,
-    now: Timestamp,
-    output: &mut W,
-) -> u8 {
-    let names = Names {
-        key: key_name(words.key.file),
-        input: "",
-    };
-    let mut options = options_of(words.foot, words.assertion, &[]);
-    options.expires = words.expires;
-    options.not_before = words.not_before;
-    run_issue(
-        rt.alloc(),
-        &names,
-        &words.claims,
-        &options,
-        line,
-        now,
-        &mut SysRng::new(rt),
-        output,
-        &mut rt.stderr(),
-    )
-}
-
-/// The options for a token from the arguments.
-fn options_of<'a>(
-    foot: Foot<'a>,
-    assertion: Option<&'a str>,
-    required: &'a [&'a str],
-) -> Options<'a> {
-    let (footer, kid) = match foot {
-        Foot::Unsaid => (None, None),
-        Foot::Text(text) => (Some(Footer::from(text)), None),
-        Foot::Kid(id) => (None, Some(id)),
-    };
-    Options {
-        footer,
-        kid,
-        assertion: assertion.map(ImplicitAssertion::from),
-        expires: None,
-        not_before: None,
-        at: None,
-        leeway: None,
-        required,
-    }
 }
 
 /// The second that contains a moment.
@@ -113,67 +79,58 @@ fn told(read: Result<Timestamp, jiff::Error>) -> Result<Timestamp, ProgramError>
 
 /// Checks a token at the current moment.
 pub fn check<'a>(rt: &HostRuntime, words: &Check<'a>) -> Result<u8, Fault<'a>> {
-    match words.keys {
-        KeyWords::Ring(folder) => {
-            let held = Held::of(rt, &words.openers)?;
-            match key_lines(rt, folder, &held) {
-                Ok(lines) => with_keys(rt, words, folder, &Keys::Ring(&lines)),
-                Err(error) => Err(Fault::about(folder, error)),
-            }
+    let (name, keys) = keys_of(rt, words)?;
+    let (alloc, mut output, mut errors) = (rt.alloc(), rt.stdout(), rt.stderr());
+    Ok(match words.input {
+        None | Some("-") => {
+            let (now, mut input) = (clock(rt)?, rt.stdin());
+            run_check(
+                alloc,
+                words,
+                name,
+                &keys,
+                now,
+                &mut input,
+                &mut output,
+                &mut errors,
+            )
         }
-        KeyWords::File("-") if is_standard(words.input) => Err(Fault::from(ProgramError::OneInput)),
-        KeyWords::File(path) => with_key(rt, words, Some(path)),
-        KeyWords::Unsaid => with_key(rt, words, None),
-    }
+        Some(path) => {
+            let (mut input, now) = (opened(rt, path)?, clock(rt)?);
+            run_check(
+                alloc,
+                words,
+                name,
+                &keys,
+                now,
+                &mut input,
+                &mut output,
+                &mut errors,
+            )
+        }
+    })
 }
 
-/// Checks a token with the named key.
-fn with_key<'a>(
-    rt: &HostRuntime,
-    words: &Check<'a>,
-    file: Option<&'a str>,
-) -> Result<u8, Fault<'a>> {
+/// The keys that the arguments name, opened if they are locked, with the name of their file or folder.
+fn keys_of<'a>(rt: &HostRuntime, words: &Check<'a>) -> Result<(&'a str, Keys), Fault<'a>> {
     let openers = words.openers;
-    let line = key_line(rt, &KeyFile { file, openers })?;
-    with_keys(rt, words, key_name(file), &Keys::One(line.as_str()))
-}
-
-/// Passes `check` its input: the named file, or standard input.
-fn with_keys<'a>(
-    rt: &HostRuntime,
-    words: &Check<'a>,
-    name: &'a str,
-    keys: &Keys<'_>,
-) -> Result<u8, Fault<'a>> {
-    match words.input {
-        None | Some("-") => checked(rt, words, name, keys, &mut rt.stdin()),
-        Some(path) => checked(rt, words, name, keys, &mut opened(rt, path)?),
-    }
-}
-
-fn checked<'a, R: Read>(
-    rt: &HostRuntime,
-    words: &Check<'a>,
-    name: &'a str,
-    keys: &Keys<'_>,
-    input: &mut R,
-) -> Result<u8, Fault<'a>> {
-    let names = Names {
-        key: name,
-        input: name_of(words.input),
+    let file = match words.keys {
+        KeyWords::Ring(folder) => return Ok((folder, ring_of(rt, words, folder)?)),
+        KeyWords::File("-") if is_standard(words.input) => {
+            return Err(Fault::from(ProgramError::OneInput));
+        }
+        KeyWords::File(path) => Some(path),
+        KeyWords::Unsaid => None,
     };
-    let mut options = options_of(words.foot, words.assertion, &words.required);
-    options.at = words.at;
-    options.leeway = words.leeway;
-    Ok(run_check(
-        rt.alloc(),
-        &names,
-        &words.claims,
-        &options,
-        keys,
-        clock(rt)?,
-        input,
-        &mut rt.stdout(),
-        &mut rt.stderr(),
-    ))
+    let key = key_of(rt, &KeyFile { file, openers })?;
+    Ok((key_name(file), Keys::One(key)))
+}
+
+/// The keys of a folder.
+fn ring_of<'a>(rt: &HostRuntime, words: &Check<'a>, folder: &'a str) -> Result<Keys, Fault<'a>> {
+    let held = Held::of(rt, &words.openers)?;
+    match keys_in(rt, folder, &held) {
+        Ok(keys) => Ok(Keys::Ring(keys)),
+        Err(error) => Err(Fault::about(folder, error)),
+    }
 }

@@ -4,3 +4,9 @@ pub mod UnlockLaws
 pub mod WrittenLineLaws
 pub mod FormLaws
 pub mod HalfLaws
+pub mod Used
+pub mod Admitting
+pub mod Issuing
+pub mod Generated
+pub mod RingLaws
+pub mod Rings

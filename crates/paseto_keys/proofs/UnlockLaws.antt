@@ -1,10 +1,10 @@
 -- Key files that are read as keys.
-use Rattle.std.proofs.Common.{◌≡◌, ℕ, List, Ok, Err, Result, String, Global, string_bytes, inl, inr, sym, subst}
+use Rattle.std.proofs.Common.{ℕ, List, Ok, Err, Result, String, Global, string_bytes, inl, inr, sym, subst}
 use Rattle.paseto_key_files.specs.Held.{GivesLine}
 use Rattle.paseto_key_files.specs.Opening.{Unlocks, UnlocksNone}
 use Rattle.paseto_key_files.specs.declared.error.KeyFileError.{KeyFileError}
 use Rattle.paseto_key_files.specs.declared.openers.Openers.{Openers}
-use Rattle.paseto_keys.specs.AnyKey.{KeyParts, parts_of}
+use Rattle.paseto_keys.specs.AnyKey.{KeyParts}
 use Rattle.paseto_keys.specs.Line.{GivesKey, IsLineFault, IsLineOf}
 use Rattle.paseto_keys.specs.Unlock.{IsUnlockFault, UnlocksKey}
 use Rattle.paseto_keys.specs.declared.any_key.AnyKey.{AnyKey}

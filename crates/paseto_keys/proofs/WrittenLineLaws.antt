@@ -1,5 +1,5 @@
 -- Why a key has no line.
-use Rattle.std.proofs.Common.{◌≡◌, ◌≢◌, ◌⊎◌, ℕ, List, length, inl, inr, refl, ap}
+use Rattle.std.proofs.Common.{◌≡◌, ◌⊎◌, ℕ, List, inl, inr, refl, ap}
 use Rattle.paseto_pem.specs.Error.{IsMemory as IsPemMemory}
 use Rattle.paseto_pem.specs.Key.{Contents}
 use Rattle.paseto_pem.specs.declared.error.PemError.{PemError}

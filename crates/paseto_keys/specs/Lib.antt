@@ -1,10 +1,13 @@
 pub mod AnyKey
 pub mod Claims
+pub mod Drawing
 pub mod Error
+pub mod Generation
 pub mod Id
 pub mod Line
 pub mod PublicHalf
 pub mod Reading
+pub mod Ring
 pub mod Salted
 pub mod Writing
 pub mod WrittenLine

@@ -14,7 +14,7 @@ use Rattle.paseto_p384.specs.P384.{P384Verifies, IsRefused as IsRefusedByP384}
 use Rattle.paseto_rsa.specs.RsaPss.{RsaPssVerifies, IsRefused as IsRefusedByRsa}
 use Rattle.paseto_xchacha20poly1305.specs.Sealing.{box_sealing}
 use Rattle.rusty_paseto_paserk.specs.declared.header.PaserkType.{PaserkType}
-use Rattle.rusty_paseto_paserk.specs.declared.header.PaserkType.TheVariants.{Local, Secret, Public}
+use Rattle.rusty_paseto_paserk.specs.declared.header.PaserkType.TheVariants.{Local, Public}
 use Rattle.rusty_paseto_paserk.specs.declared.header.PaserkVersion.{PaserkVersion}
 use Rattle.rusty_paseto_paserk.specs.declared.header.PaserkVersion.TheVariants.{V1, V2, V3, V4}
 use Rattle.paseto_keys.specs.AnyKey.{KeyParts, binding}

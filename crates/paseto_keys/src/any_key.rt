@@ -114,8 +114,8 @@ fn is_key(kind: PaserkType, version: PaserkVersion, bytes: &[u8]) -> bool
     }
 }
 
-// The key for local tokens of a version.
-fn local_key(version: PaserkVersion, key: Key<32>) -> AnyKey
+/// The key for local tokens of a version.
+pub(crate) fn local_key(version: PaserkVersion, key: Key<32>) -> AnyKey
     ensures { parts_of result ≡ key_parts LocalKey version key }
 {
     match version {

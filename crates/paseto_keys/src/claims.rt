@@ -1,81 +1,85 @@
 //! The claims of tokens.
 
-ghost use Rattle.std.specs.Prelude.{◌≡◌, None, OnOk, false, is_some, length, true};
+ghost use Rattle.std.specs.Prelude.{◌≡◌, IfOk, OnOk, is_some, string_bytes, true};
 ghost use Rattle.rusty_paseto_core.specs.Context.{assertion_of, footer_of};
 ghost use Rattle.rusty_paseto_generic.specs.Builders.Claims.{IsReadBack, payload};
 ghost use Rattle.rusty_paseto_generic.specs.Builders.Held.{held};
 ghost use Rattle.rusty_paseto_generic.specs.Parsers.Held.{verdicts_of};
-ghost use Rattle.rusty_paseto_generic.specs.Parsers.Parsing.{IsAnswerWithin};
 ghost use Rattle.rusty_paseto_generic.specs.Parsers.Times.{times_at};
-ghost use Rattle.paseto_keys.specs.Claims.{IsIssueAnswer};
+ghost use Rattle.paseto_keys.specs.AnyKey.{reads_tokens, writes_tokens};
+ghost use Rattle.paseto_keys.specs.Claims.{Admits};
+ghost use Rattle.paseto_keys.specs.Tokens.{IsUse, Writes};
+ghost use Rattle.paseto_keys.specs.declared.error.AdmitError.TheVariants.{Key};
 
-use crate::token_reader::TokenReader;
-use crate::token_writer::TokenWriter;
+use crate::claims_builder::ClaimsBuilder;
+use crate::error::{AdmitError, KeyError};
+use crate::token_key::check_use;
+use crate::token_reader::{TokenReader, reads_tokens};
+use crate::token_writer::{TokenWriter, check_length, writes_tokens};
 use rusty_paseto_core::{Footer, ImplicitAssertion, Local, PasetoError, V4};
-use rusty_paseto_generic::{
-    GenericBuilder, GenericBuilderError, GenericParser, GenericParserError,
-};
+use rusty_paseto_generic::{GenericParser, GenericParserError};
 use rusty_paseto_parts::is_longer;
 use serde_json::Value;
 use std::alloc::Global;
-
-/// The claims of a token of any version and purpose: of the type parameters `issue` uses nothing.
-pub type ClaimsBuilder<'a> = GenericBuilder<'a, V4, Local>;
 
 /// What checks the claims of tokens of any version and purpose: of the type parameters `admit` uses nothing.
 pub type ClaimsParser<'a> = GenericParser<'a, V4, Local>;
 
 /// The claims of a token that the reader reads with the parser's footer and implicit assertion, and that pass the
-/// parser's checks: as `parse` of a `GenericParser` returns them, with the same errors in the same order. A token that
-/// is longer than the parser's limit is refused first.
+/// parser's checks.
+///
+/// The errors, of which the first is returned: `Key(OtherType)` for a private key, which reads no tokens;
+/// `Key(NoAssertion)` if the parser has an implicit assertion and the key's version has none; `Parser` of `CipherError`
+/// of `TooLong` for a token that is longer than the parser's limit; and, as `Parser` or `Memory`, the errors of `parse`
+/// of a `GenericParser`, in the same order.
 pub fn admit<R: TokenReader>(
     alloc: Global,
     reader: &R,
     parser: &ClaimsParser<'_>,
     token: &str,
-) -> Result<Value, GenericParserError>
-    requires reads { R.reads reader.now ≡ true }
-    requires bound { R.binds reader.now ≡ false → parser.now.implicit_assertion ≡ None }
-    ensures { IsAnswerWithin parser.now.longest
+) -> Result<Value, AdmitError>
+    ensures { IsUse Key (reads_tokens (R.type_of reader.now) ≡ true) (R.type_of reader.now)
+        (R.binds reader.now) (is_some parser.now.implicit_assertion)
+        (Admits parser.now.longest
         (R.reading reader.now (footer_of parser.now.footer)
         (assertion_of parser.now.implicit_assertion))
         (verdicts_of (λ b. verdict b) (times_at parser.now.moment parser.now.leeway)
-        parser.now.checks) token.now result }
+        parser.now.checks) token.now) result }
 {
-    if is_longer(token, parser.longest()) {
-        return Err(GenericParserError::CipherError {
-            source: PasetoError::TooLong,
-        });
-    }
     let (footer, assertion) = (parser.expected_footer(), parser.expected_assertion());
-    match reader.read(alloc, token, footer, assertion) {
-        Ok(text) => parser.value_of(text.as_str()),
-        Err(error) => Err(GenericParserError::from(error)),
+    check_use(reader, reads_tokens(reader.key_type()), assertion)?;
+    if is_longer(token, parser.longest()) {
+        return Err(AdmitError::Parser(GenericParserError::CipherError {
+            source: PasetoError::TooLong,
+        }));
     }
+    let text = reader.read(alloc, token, footer, assertion)?;
+    Ok(parser.value_of(text.as_str())?)
 }
 
-/// A token of the claims of a builder, with what was drawn for the token: `draws` says how many bytes.
+/// A token of the claims of a builder, with random bytes that were drawn for it: `draws` says how many, and `draw` draws
+/// them.
 ///
-/// The footer and the implicit assertion are those that are given here; the builder has none. `CipherError` is returned
-/// of the error of `write`. Otherwise it fails only with `Memory`.
+/// The errors, of which the first is returned: `OtherType` for a public key, which writes no tokens; `NoAssertion` if an
+/// implicit assertion is given and the key's version has none; `OtherLength` if another number of bytes was drawn; and,
+/// as `Refused` or `Memory`, those of `try_encrypt` or `try_sign` of `Paseto`.
 pub fn issue<W: TokenWriter>(
     alloc: Global,
     writer: &W,
     drawn: &[u8],
-    claims: &ClaimsBuilder<'_>,
+    claims: &ClaimsBuilder,
     footer: Option<Footer<'_>>,
     assertion: Option<ImplicitAssertion<'_>>,
-) -> Result<String, GenericBuilderError>
-    requires writes { W.writes writer.now ≡ true }
-    requires drawn { length drawn.now ≡ W.draws writer.now }
-    requires bound { W.binds_written writer.now ≡ false → assertion ≡ None }
-    requires footer { claims.now.paseto.footer ≡ None }
-    requires assertion { claims.now.paseto.implicit_assertion ≡ None }
-    ensures answer { IsIssueAnswer
+) -> Result<String, KeyError>
+    ensures answer { IsUse (λ error. error) (writes_tokens (W.type_of writer.now) ≡ true)
+        (W.type_of writer.now) (W.binds writer.now) (is_some assertion.entry)
+        (Writes (W.draws writer.now) drawn.now
         (W.writing writer.now drawn.now (footer_of footer.entry) (assertion_of assertion.entry))
-        (is_some footer.entry) (payload (held claims.now.claims)) result }
-    ensures read_back { OnOk result (IsReadBack (held claims.now.claims)) }
+        (is_some footer.entry) (payload (held claims.now.builder.claims))) result }
+    ensures read_back { OnOk result (IsReadBack (held claims.now.builder.claims)) }
 {
+    check_use(writer, writes_tokens(writer.key_type()), assertion)?;
+    check_length(drawn, writer.draws())?;
     let text = claims.build_payload_from_claims()?;
-    Ok(writer.write(alloc, drawn, text.as_str(), footer, assertion)?)
+    writer.write(alloc, drawn, text.as_str(), footer, assertion)
 }

@@ -6,21 +6,19 @@
 //!
 //! ```rust
 //! use paseto_keys::{AnyKey, KeyError, TokenWriter, decrypt, encrypt};
+//! use rand_core::TryRng;
 //! use std::alloc::Global;
 //!
-//! /// Encrypts a text with a key for local tokens, with random bytes that were drawn for it, and decrypts the token.
-//! /// `None` if the key takes another number of random bytes.
-//! pub fn there_and_back(
+//! /// Encrypts a text with a key for local tokens, with random bytes from a generator, and decrypts the token.
+//! pub fn there_and_back<G: TryRng>(
 //!     alloc: Global,
 //!     key: &AnyKey,
-//!     drawn: &[u8],
+//!     generator: &mut G,
 //!     text: &str,
-//! ) -> Result<Option<String>, KeyError> {
-//!     if drawn.len() != key.draws() {
-//!         return Ok(None);
-//!     }
-//!     let token = encrypt(alloc, key, drawn, text, None, None)?;
-//!     Ok(Some(decrypt(alloc, key, token.as_str(), None, None)?))
+//! ) -> Result<String, KeyError> {
+//!     let drawn = key.draw(alloc, generator)?;
+//!     let token = encrypt(alloc, key, &drawn, text, None, None)?;
+//!     decrypt(alloc, key, token.as_str(), None, None)
 //! }
 //! ```
 //!
@@ -29,13 +27,20 @@
 
 mod any_key;
 mod claims;
+mod claims_builder;
+mod drawing;
 mod error;
 mod forms;
+mod generation;
 mod id;
 mod line;
+mod naming;
 mod public_half;
 mod reading;
+mod ring;
+mod ring_error;
 mod salted;
+mod token_key;
 mod token_reader;
 mod token_writer;
 mod tokens;
@@ -44,8 +49,12 @@ mod writing;
 mod written_line;
 
 pub use any_key::AnyKey;
-pub use claims::{ClaimsBuilder, ClaimsParser, admit, issue};
-pub use error::KeyError;
+pub use claims::{ClaimsParser, admit, issue};
+pub use claims_builder::ClaimsBuilder;
+pub use error::{AdmitError, KeyError};
+pub use ring::admit_by_ring;
+pub use ring_error::RingError;
+pub use token_key::TokenKey;
 pub use token_reader::TokenReader;
 pub use token_writer::TokenWriter;
 pub use tokens::{decrypt, encrypt, sign, verify};

@@ -1,8 +1,8 @@
 //! Reading the whole input.
 
-ghost use Rattle.std.specs.Prelude.{IfOk, OnOk};
+ghost use Rattle.std.specs.Prelude.{IfErr, IfOk, OnOk};
 ghost use Rattle.std.specs.Io.KnownBytes.{IsAtEnd};
-ghost use Rattle.paseto_streams.specs.Input.{IsInput};
+ghost use Rattle.paseto_streams.specs.Input.{IsInput, IsReadFault};
 
 use crate::error::StreamError;
 use std::alloc::Global;
@@ -21,6 +21,7 @@ const LONGEST: usize = 65536;
 pub fn read_whole<R: Read>(alloc: Global, input: &mut R) -> Result<Vec<u8>, StreamError>
     ensures whole { IfOk result (λ bytes. IsInput (R.remaining input.old) bytes.items) }
     ensures ended { OnOk result (IsAtEnd (R.remaining input.new)) }
+    ensures failed { IfErr result IsReadFault }
 {
     let mut bytes = Vec::new(alloc);
     let mut space = [0u8; LONGEST];

@@ -1,5 +1,5 @@
 -- The lines of a token, from what was appended to them, and why there are none.
-use Rattle.std.proofs.Common.{◌≡◌, ◌⊎◌, ℕ, ◌<◌, ◌≤◌, ◌-◌, List, [], ◌++◌, length, take, Option, None, Some, codes, nat_eq, append_assoc, IsUtf8, inl, inr, sym, ap, ◌∙◌, arith}
+use Rattle.std.proofs.Common.{◌≡◌, ◌⊎◌, ℕ, ◌<◌, ◌≤◌, ◌-◌, List, [], ◌++◌, length, take, Option, None, Some, codes, nat_eq, append_assoc, IsUtf8, Result, Ok, Err, IfOk, IfErr, String, Global, string_bytes, inl, inr, sym, ap, subst, ◌∙◌, arith}
 use Rattle.std.specs.List.{slice_get}
 use Rattle.std.specs.Cmp.Lexicographic.{pointwise}
 use Rattle.base64.specs.GeneralPurpose.{IsBytes}
@@ -10,8 +10,12 @@ use Rattle.rusty_paseto_parts.specs.Section.{HasCount, sections, base64url}
 use Rattle.rusty_paseto_parts.specs.UntrustedToken.{AreKept, HasFooterText, footer_section, purpose_section, version_section}
 use Rattle.rusty_paseto_parts.specs.declared.untrusted_token.UntrustedToken.{UntrustedToken}
 use Rattle.paseto_tasks.specs.declared.error.ProgramError.{ProgramError}
-use Rattle.paseto_tasks.specs.Error.{IsOutside, program_error_of}
-use Rattle.paseto_tasks.specs.Inspect.{Inspects, InspectsNothing, IsTextLine, SaysText, footer_line, line, signature_length}
+use Rattle.paseto_tasks.specs.Error.{Fails, IsOutside, IsPlain, program_error_of}
+use Rattle.paseto_tasks.specs.Input.{IsNoText, OfInput, line_of_input, reading}
+use Rattle.paseto_tasks.specs.Output.{Makes}
+use Rattle.paseto_tasks.proofs.Blames.{blames_so, within_all}
+use Rattle.paseto_tasks.proofs.Inputs.{of_more}
+use Rattle.paseto_tasks.specs.Inspect.{Inspects, InspectsNothing, IsTextLine, RefusesInspecting, SaysText, footer_line, line, signature_length}
 
 in_order : (none v p f t one two three all : List ℕ) → none ≡ [] → one ≡ none ++ v → two ≡ one ++ p → three ≡ two ++ f → all ≡ three ++ t
     → all ≡ v ++ (p ++ (f ++ t))
@@ -92,3 +96,25 @@ pub no_utf8 : (version section payload : List ℕ) → ((bytes : List ℕ) → I
 no_utf8 version section payload read none added is =
     let same = read is.payload is.bytes is.spelled in
     none (rw same (rw is.text_is at is.utf8))
+
+-- what is said of a token
+pub inspect_makes : (known : Option (List ℕ)) (token : List ℕ) (made : Result (String Global) ProgramError) → OfInput known (λ bytes. line_of_input bytes ≡ token)
+    → IfOk made (λ lines. Inspects token (string_bytes lines)) → IfErr made (λ error. IsOutside error ⊎ InspectsNothing token) → IfErr made IsPlain
+    → Makes (λ lines. OfInput known (λ bytes. Inspects (line_of_input bytes) lines)) (λ error. OfInput known (λ bytes. RefusesInspecting (line_of_input bytes) error))
+    (Fails reading) made
+inspect_makes known token (Ok lines) is printed refused plain = record {
+  printed = of_more known (λ bytes. line_of_input bytes ≡ token) (λ bytes. Inspects (line_of_input bytes) (string_bytes lines)) (λ bytes same. rw same printed) is;
+  refused = tt;
+}
+inspect_makes known token (Err error) is printed (inl outside) plain = record {
+  printed = tt;
+  refused = inr (outside, blames_so (within_all reading) error plain.1);
+}
+inspect_makes known token (Err error) is printed (inr none) plain = record {
+  printed = tt;
+  refused = inl (of_more known (λ bytes. line_of_input bytes ≡ token) (λ bytes. RefusesInspecting (line_of_input bytes) error) (λ bytes same. rw same (none, plain)) is);
+}
+
+-- an input that is no text
+pub no_text_inspected : (bytes : List ℕ) (error : ProgramError) → IsNoText (line_of_input bytes) error → RefusesInspecting (line_of_input bytes) error
+no_text_inspected bytes error none = ((λ lines is. none.0 is.utf8), subst IsPlain (sym none.1.1) (tt, tt))

@@ -1,5 +1,5 @@
 -- What is written of an output, and said of an error.
-use Rattle.std.proofs.Common.{◌≡◌, ◌≢◌, ◌≤◌, ◌⊎◌, ◌∙◌, ℕ, ◌==◌, List, false, Option, None, Some, IfSome, Result, Ok, Err, IfErr, IfOk, IsErrAnd, IsOkAnd, String, Global, string_bytes, inl, inr, refl, sym, ap, subst, rules}
+use Rattle.std.proofs.Common.{◌≡◌, ◌≢◌, ◌≤◌, ◌⊎◌, ◌∙◌, ℕ, ◌==◌, List, false, Option, Result, Ok, Err, IfErr, IfOk, IsErrAnd, IsOkAnd, OnOk, String, Global, string_bytes, inl, inr, refl, sym, ap, subst, rules}
 use Rattle.std.proofs.lemmas.Bool.{false≢true}
 use Rattle.std.specs.Io.{StartsWith}
 use Rattle.std.specs.Io.KnownBytes.{Appends}
@@ -8,12 +8,11 @@ use Rattle.paseto_pem.specs.declared.error.PemError.TheVariants.{Memory as NoPem
 use Rattle.rusty_paseto_paserk.specs.declared.error.PaserkError.TheVariants.{Memory as NoKeyMemory}
 use Rattle.paseto_tasks.specs.declared.error.Names.{Names}
 use Rattle.paseto_tasks.specs.declared.error.ProgramError.{ProgramError}
-use Rattle.paseto_tasks.specs.declared.error.ProgramError.TheVariants.{InputOrOutput, Key, KeyFile, Pem}
-use Rattle.paseto_tasks.specs.Error.{IsCauseOf, IsFixed, IsOutside, line_of, status_of}
-use Rattle.paseto_tasks.specs.Output.{IsLeftOf, IsTextOf}
-use Rattle.paseto_tasks.specs.Run.{Leaves, Tells}
-use Rattle.paseto_tasks.proofs.Refusals.{refused_as}
-use Rattle.paseto_tasks.proofs.Statuses.{cause_so, fixed_no_usage, not_2}
+use Rattle.paseto_tasks.specs.declared.error.ProgramError.TheVariants.{InputOrOutput, Key, KeyFile, Memory, Pem}
+use Rattle.paseto_tasks.specs.Error.{Blame, Fails, IsCauseOf, IsFixed, IsMemory, IsNoUsage, IsOutside, line_of, status_of}
+use Rattle.paseto_tasks.specs.Output.{IsLeftOf, IsLineOf, IsTextOf, Makes}
+use Rattle.paseto_tasks.specs.Run.{Ends, IsRefusal, Leaves, Tells}
+use Rattle.paseto_tasks.proofs.Statuses.{cause_so, fixed_no_usage, not_2, outside_fixed, outside_three}
 
 -- what is left of what was made is left of the output that it is
 pub left_of_made : {E : Type 0} (made : Result (String Global) E) (IsOutput : List ℕ → Type 0) (left : List ℕ)
@@ -44,6 +43,13 @@ not_zero error status is zero = false≢true (sym (status_of-some error) ∙ ap 
 not_three : (error : ProgramError) (status : ℕ) → status ≡ status_of error → status_of error ≡ 3 → (status ≡ 1) ⊎ (status ≡ 2) → ⊥
 not_three error status is three (inl one) = false≢true (ap (λ (n : ℕ). n == 3) (sym one ∙ is ∙ three))
 not_three error status is three (inr two) = false≢true (ap (λ (n : ℕ). n == 3) (sym two ∙ is ∙ three))
+
+-- what was refused is so where the status says that something was
+refused_as : {T : Type 0} (made : Result T ProgramError) (status : ℕ) (Refused : Type 0) → (status ≡ 1) ⊎ (status ≡ 2)
+    → IsErrAnd made (λ error. status_of error ≡ status) → IfErr made (λ error. IsOutside error ⊎ Refused) → Refused
+refused_as (Ok value) status Refused some is refused = absurd is
+refused_as (Err error) status Refused some is (inl outside) = absurd (not_three error status (sym is) (outside_three error outside) some)
+refused_as (Err error) status Refused some is (inr refused) = refused
 
 -- ---- what a command leaves in its output
 
@@ -108,7 +114,7 @@ module _ {E : Type 0} (contents : E → Option (List ℕ)) (names : Names) (befo
   }
 
   -- in the words of what was made
-  pub tells_made : {T : Type 0} (made : Result T ProgramError) (IsSo : ProgramError → Type 0) (status : ℕ) → IfErr made IsSo → IsSo InputOrOutput
+  pub tells_made : {T : Type 0} (made : Result T ProgramError) (IsSo : ProgramError → Type 0) (status : ℕ) → IfErr made IsSo → OnOk made (IsSo InputOrOutput)
       → Tells contents names (IsCauseOf made) status before after → Tells contents names IsSo status before after
   tells_made made IsSo status so failed tells = record {
     most = tells.most;
@@ -117,30 +123,87 @@ module _ {E : Type 0} (contents : E → Option (List ℕ)) (names : Names) (befo
   }
 
   -- no word is at fault
-  pub tells_no_usage : {T : Type 0} (made : Result T ProgramError) (IsSo : ProgramError → Type 0) (status : ℕ) → ((error : ProgramError) → IsSo error → IsFixed error)
-      → IfErr made IsSo → IsSo InputOrOutput → Tells contents names (IsCauseOf made) status before after → status ≢ 2
-  tells_no_usage made IsSo status fixed so failed tells two =
+  pub tells_no_usage : (IsSo : ProgramError → Type 0) (status : ℕ) → ((error : ProgramError) → IsSo error → IsNoUsage error)
+      → Tells contents names IsSo status before after → status ≢ 2
+  tells_no_usage IsSo status none tells two =
       let told = tells.said (λ zero. false≢true (ap (λ (n : ℕ). n == 2) (sym zero ∙ two))) in
-      not_2 told.0 status (sym told.1) (fixed_no_usage told.0 (fixed told.0 (cause_so IsSo made told.0 told.2 so failed))) two
+      not_2 told.0 status (sym told.1) (none told.0 told.2) two
 
--- ---- what is known of an input
+-- ---- how a command ends that prints or refuses
 
-pub made_or : {T X : Type 0} (made : Result T ProgramError) (known : Option X) (P : X → Type 0) → IfErr made (λ error. IfSome known (λ x. IsOutside error ⊎ P x))
-    → IfErr made (λ error. IsOutside error ⊎ IfSome known P)
-made_or (Ok value) known P h = tt
-made_or (Err error) None P h = inr tt
-made_or (Err error) (Some x) P h = h
+module _ (Prints : List ℕ → Type 0) (Refuses Fault : ProgramError → Type 0) (fixed_of : (error : ProgramError) → Refuses error → IsFixed error)
+    (outside_of : (error : ProgramError) → Fault error → IsOutside error) where
+  either_fixed : (error : ProgramError) → Refuses error ⊎ Fault error → IsFixed error
+  either_fixed error (inl refuses) = fixed_of error refuses
+  either_fixed error (inr fault) = outside_fixed error (outside_of error fault)
 
-pub made_or_both : {T X Y : Type 0} (made : Result T ProgramError) (one : Option X) (other : Option Y) (P : X → Y → Type 0)
-    → IfErr made (λ error. IfSome one (λ x. IfSome other (λ y. IsOutside error ⊎ P x y)))
-    → IfErr made (λ error. IsOutside error ⊎ IfSome one (λ x. IfSome other (λ y. P x y)))
-made_or_both (Ok value) one other P h = tt
-made_or_both (Err error) None other P h = inr tt
-made_or_both (Err error) (Some x) None P h = inr tt
-made_or_both (Err error) (Some x) (Some y) P h = h
+  ends_so : (made : Result (String Global) ProgramError) (error : ProgramError) → Makes Prints Refuses Fault made → IsCauseOf made error → Ends Prints Refuses Fault error
+  ends_so (Ok text) error makes is = record { fixed = subst IsFixed (sym is) tt; why = inr (is, (string_bytes text, makes.printed)) }
+  ends_so (Err cause) error makes is = record {
+    fixed = subst IsFixed (sym is) (either_fixed cause makes.refused);
+    why = inl (subst (λ (e : ProgramError). Refuses e ⊎ Fault e) (sym is) makes.refused);
+  }
+
+  pub tells_end : {E : Type 0} (contents : E → Option (List ℕ)) (names : Names) (before after : E) (made : Result (String Global) ProgramError) (status : ℕ)
+      → Makes Prints Refuses Fault made → Tells contents names (IsCauseOf made) status before after
+      → Tells contents names (Ends Prints Refuses Fault) status before after
+  tells_end contents names before after made status makes tells = record {
+    most = tells.most;
+    quiet = tells.quiet;
+    said = λ some. let told = tells.said some in (told.0, told.1, ends_so made told.0 makes told.2, told.3);
+  }
+
+  -- no word is at fault
+  pub no_usage_end : {E : Type 0} (contents : E → Option (List ℕ)) (names : Names) (before after : E) (made : Result (String Global) ProgramError) (status : ℕ)
+      → Makes Prints Refuses Fault made → Tells contents names (IsCauseOf made) status before after → status ≢ 2
+  no_usage_end contents names before after made status makes tells =
+      tells_no_usage contents names before after (Ends Prints Refuses Fault) status (λ error ends. fixed_no_usage error ends.fixed)
+      (tells_end contents names before after made status makes tells)
+
+  is_refusal : (made : Result (String Global) ProgramError) (status : ℕ) → (status ≡ 1) ⊎ (status ≡ 2) → IfErr made (λ error. Refuses error ⊎ Fault error)
+      → IsErrAnd made (λ error. status_of error ≡ status) → IsRefusal Refuses status
+  is_refusal (Ok text) status some refused is = absurd is
+  is_refusal (Err error) status some (inl refuses) is = (error, refuses, is)
+  is_refusal (Err error) status some (inr fault) is = absurd (not_three error status (sym is) (outside_three error (outside_of error fault)) some)
+
+  pub leaves_end : {W : Type 0} (contents : W → Option (List ℕ)) (before after : W) (made : Result (String Global) ProgramError) (status : ℕ)
+      → Makes Prints Refuses Fault made
+      → Leaves contents (IsTextOf made) (IsErrAnd made (λ error. status_of error ≡ status)) status before after
+      → Leaves contents Prints (IsRefusal Refuses status) status before after
+  leaves_end contents before after made status makes leaves = record {
+    written = λ zero. let whole = leaves.written zero in (whole.0, whole.1, text_printed made Prints whole.0 makes.printed whole.2);
+    cut = λ some. let left = leaves.cut some in (left.0, left.1, left_of_made made Prints left.0 makes.printed left.2);
+    refused = λ some. let none = leaves.refused some in (none.0, is_refusal made status some makes.refused none.1);
+  }
+
+-- what was printed, and what was refused
+pub printed_makes : (Prints : List ℕ → Type 0) (Refuses Fault : ProgramError → Type 0) (text : String Global) → Prints (string_bytes text)
+    → Makes Prints Refuses Fault (Ok text)
+printed_makes Prints Refuses Fault text is = record { printed = is; refused = tt }
+
+pub refused_makes : (Prints : List ℕ → Type 0) (Refuses Fault : ProgramError → Type 0) (error : ProgramError) → Refuses error ⊎ Fault error
+    → Makes Prints Refuses Fault (Err error)
+refused_makes Prints Refuses Fault error is = record { printed = tt; refused = is }
 
 -- what is so of an error in both ways
 pub both_so : {T : Type 0} (made : Result T ProgramError) (IsOne IsOther : ProgramError → Type 0) → IfErr made IsOne → IfErr made IsOther
     → IfErr made (λ error. IsOne error × IsOther error)
 both_so (Ok value) IsOne IsOther one other = tt
 both_so (Err error) IsOne IsOther one other = (one, other)
+
+-- the line of a text
+pub line_makes : (Prints : List ℕ → Type 0) (Refuses : ProgramError → Type 0) (blame : Blame) (text : List ℕ) (made : Result (String Global) ProgramError)
+    → IfOk made (λ line. IsLineOf text (string_bytes line)) → IfErr made IsMemory → ((line : List ℕ) → IsLineOf text line → Prints line)
+    → Makes Prints Refuses (Fails blame) made
+line_makes Prints Refuses blame text (Ok line) is memory prints = record { printed = prints (string_bytes line) is; refused = tt }
+line_makes Prints Refuses blame text (Err (Memory source)) is memory prints = record { printed = tt; refused = inr (tt, tt) }
+line_makes Prints Refuses blame text (Err error) is memory prints = absurd memory
+
+-- so that what is left is so
+pub leaves_forged : {W : Type 0} (contents : W → Option (List ℕ)) (before after : W) (Prints : List ℕ → Type 0) (text : String Global) (status : ℕ)
+    → Makes Prints (λ error. ⊥) (λ error. ⊥) (Ok text)
+    → Leaves contents (IsTextOf {E = ProgramError} (Ok text)) (IsErrAnd {T = String Global} {E = ProgramError} (Ok text) (λ error. status_of error ≡ status)) status before after
+    → Leaves contents Prints ⊥ status before after
+leaves_forged contents before after Prints text status makes leaves =
+    let ended = leaves_end Prints (λ error. ⊥) (λ error. ⊥) (λ error none. absurd none) (λ error none. absurd none) contents before after (Ok text) status makes leaves in
+    record { written = ended.written; cut = ended.cut; refused = λ some. let none = ended.refused some in (none.0, none.1.1) }

@@ -1,5 +1,5 @@
 -- Which errors end the program with which status.
-use Rattle.std.proofs.Common.{◌≡◌, ◌≢◌, ◌⊎◌, ℕ, List, ◌==◌, Bool, true, false, MatchBool, Result, Ok, Err, IfErr, IsErrAnd, string_bytes, inl, inr, refl, sym, ap, subst, ◌∙◌}
+use Rattle.std.proofs.Common.{◌≡◌, ◌≢◌, ◌⊎◌, ℕ, List, ◌==◌, Bool, true, false, MatchBool, Result, Ok, Err, IfErr, IsErrAnd, OnOk, string_bytes, inl, inr, refl, sym, ap, subst, ◌∙◌}
 use Rattle.std.proofs.lemmas.Bool.{false≢true}
 use Rattle.std.specs.Bool.{⊤}
 use Rattle.paseto_key_files.specs.declared.error.KeyFileError.TheVariants.{Random as NoBytes, Memory as NoFileMemory}
@@ -30,13 +30,11 @@ pub fixed_no_usage : (error : ProgramError) → IsFixed error → IsNoUsage erro
 fixed_no_usage (Unfit text) fixed = absurd fixed
 fixed_no_usage error fixed = fixed
 
--- what is so of why nothing was made, and of a write that failed, is so of the error that ends the program
+-- what is so of why nothing was made, and of a write that failed where something was, is so of the error that ends the program
 pub cause_so : {T : Type 0} (IsSo : ProgramError → Type 0) (made : Result T ProgramError) (error : ProgramError) → IsCauseOf made error
-    → IfErr made IsSo → IsSo InputOrOutput → IsSo error
-cause_so IsSo (Ok value) error (inl is) so failed = absurd is
-cause_so IsSo (Ok value) error (inr is) so failed = subst IsSo (sym is) failed
-cause_so IsSo (Err cause) error (inl is) so failed = subst IsSo is so
-cause_so IsSo (Err cause) error (inr is) so failed = subst IsSo (sym is) failed
+    → IfErr made IsSo → OnOk made (IsSo InputOrOutput) → IsSo error
+cause_so IsSo (Ok value) error is so failed = subst IsSo (sym is) failed
+cause_so IsSo (Err cause) error is so failed = subst IsSo (sym is) so
 
 -- ---- lines
 
@@ -62,6 +60,14 @@ usage_says (Ok value) status X is two says = absurd is
 usage_says (Err error) status X is two (inl none) = absurd (not_2 error status (sym is) none two)
 usage_says (Err error) status X is two (inr x) = x
 
+-- nor has one from outside
+pub outside_fixed : (error : ProgramError) → IsOutside error → IsFixed error
+outside_fixed Clock h = tt
+outside_fixed Random h = tt
+outside_fixed InputOrOutput h = tt
+outside_fixed (Memory source) h = tt
+outside_fixed error h = absurd h
+
 -- an error from outside says nothing of the words
 outside : (error : ProgramError) → IsOutside error → IsNoUsage error
 outside Clock h = tt
@@ -73,6 +79,16 @@ outside error h = absurd h
 pub no_usage_or : {X : Type 0} (error : ProgramError) → IsOutside error ⊎ X → IsNoUsage error ⊎ X
 no_usage_or error (inl is) = inl (outside error is)
 no_usage_or error (inr x) = inr x
+
+-- ---- 3
+
+-- an error from outside ends the program with this status
+pub outside_three : (error : ProgramError) → IsOutside error → status_of error ≡ 3
+outside_three Clock h = refl
+outside_three Random h = refl
+outside_three InputOrOutput h = refl
+outside_three (Memory source) h = refl
+outside_three error h = absurd h
 
 -- ---- 1
 

@@ -4,15 +4,16 @@ use Rattle.std.specs.Borrow.{Bor}
 use Rattle.std.specs.Cmp.Lexicographic.{pointwise}
 use Rattle.std.specs.declared.alloc.Global.{Global}
 use Rattle.std.specs.declared.string.String.{String}
-use Rattle.rusty_paseto_core.specs.Context.{Binding, assertion_of, binding_of}
+use Rattle.rusty_paseto_core.specs.Context.{assertion_of}
 use Rattle.rusty_paseto_parts.specs.declared.texts.implicit_assertion.ImplicitAssertion.{ImplicitAssertion}
 use Rattle.rusty_paseto_paserk.specs.declared.header.PaserkVersion.{PaserkVersion}
-use Rattle.rusty_paseto_paserk.specs.declared.header.PaserkVersion.TheVariants.{V1, V2}
+use Rattle.rusty_paseto_paserk.specs.declared.header.PaserkVersion.TheVariants.{V1, V2, V3, V4}
+use Rattle.rusty_paseto_paserk.specs.declared.header.PaserkType.{PaserkType}
+use Rattle.rusty_paseto_paserk.specs.declared.header.PaserkType.TheVariants.{Local, Secret}
 use Rattle.paseto_tasks.specs.declared.arguments.Kind.{Kind}
 use Rattle.paseto_tasks.specs.declared.arguments.Kind.TheVariants.{V1Local, V2Local, V2Public, V3Local, V3Public, V4Local, V4Public}
 use Rattle.paseto_tasks.specs.declared.arguments.Format.{Format}
 use Rattle.paseto_tasks.specs.declared.arguments.Format.TheVariants.{Paserk, Pem}
-use Rattle.paseto_tasks.specs.declared.arguments.Options.{Options}
 
 -- the texts of lines
 abbrev pub words_of : List (String Global) → List (List ℕ)
@@ -48,21 +49,27 @@ is_pair V2Public = true
 is_pair V3Public = true
 is_pair V4Public = true
 
+-- the type and the version of the key that is generated: of a pair, the private half
+abbrev pub type_of : Kind → PaserkType
+type_of V1Local = Local
+type_of V2Local = Local
+type_of V3Local = Local
+type_of V4Local = Local
+type_of V2Public = Secret
+type_of V3Public = Secret
+type_of V4Public = Secret
+
+abbrev pub version_of : Kind → PaserkVersion
+version_of V1Local = V1
+version_of V2Local = V2
+version_of V2Public = V2
+version_of V3Local = V3
+version_of V3Public = V3
+version_of V4Local = V4
+version_of V4Public = V4
+
 -- the assertion may stand in a token of a version: one that binds its tokens to none takes the empty one alone
 abbrev pub Takes : PaserkVersion → Option ImplicitAssertion → Type 0
 Takes V1 assertion = assertion_of assertion ≡ []
 Takes V2 assertion = assertion_of assertion ≡ []
 Takes _ assertion = ⊤
-
-abbrev pub binds_in : PaserkVersion → Bool
-binds_in V1 = false
-binds_in V2 = false
-binds_in _ = true
-
--- the assertion, in a version that binds its tokens to one
-abbrev pub assertion_where : Bool → Option ImplicitAssertion → Option ImplicitAssertion
-assertion_where binds assertion = if binds then assertion else None
-
--- what a key and the options bind a token to
-abbrev pub bound_by : Bool → List ℕ → Options → Binding
-bound_by binds key options = binding_of key options.footer (assertion_where binds options.assertion)

@@ -1,5 +1,5 @@
 -- What the program says of an error, and the status that it ends with.
-use Rattle.std.specs.Prelude.{◌≡◌, ◌==◌, ◌⊎◌, ℕ, ⊤, MatchBool, List, [], ◌∷◌, ◌++◌, Result, IsErrAnd, alloc_error, codes, string_bytes}
+use Rattle.std.specs.Prelude.{◌≡◌, ◌==◌, ◌⊎◌, ℕ, ⊤, MatchBool, List, [], ◌∷◌, ◌++◌, Result, Ok, Err, alloc_error, codes, string_bytes}
 use Rattle.std.specs.declared.io.ErrorKind.{ErrorKind}
 use Rattle.std.specs.declared.io.ErrorKind.TheVariants.{AlreadyExists, InvalidData, NotFound, OutOfMemory}
 use Rattle.paseto_key_files.specs.Error.{error_text as key_file_error_text}
@@ -13,7 +13,11 @@ use Rattle.rusty_paseto_parts.specs.declared.error.PasetoError.{PasetoError}
 use Rattle.rusty_paseto_parts.specs.declared.error.PasetoError.TheVariants.{ChaChaCipherError, Cipher, Cryption, InvalidSignature, Memory as NoMemory, WrongHeader, Signature, KeyRejected}
 use Rattle.rusty_paseto_paserk.specs.Error.{error_text as key_error_text}
 use Rattle.rusty_paseto_paserk.specs.declared.error.PaserkError.{PaserkError}
-use Rattle.rusty_paseto_paserk.specs.declared.error.PaserkError.TheVariants.{Memory as NoKeyMemory}
+use Rattle.rusty_paseto_paserk.specs.declared.error.PaserkError.TheVariants.{Memory as NoKeyMemory, OtherType as OtherKeyType, OtherVersion as OtherKeyVersion}
+use Rattle.paseto_keys.specs.declared.error.KeyError.{KeyError}
+use Rattle.paseto_keys.specs.declared.error.KeyError.TheVariants.{OtherType, OtherVersion, NoAssertion as NoBinding, OtherLength, Refused as RefusedToken, Random as NoDraw, Memory as NoUseMemory}
+use Rattle.paseto_streams.specs.declared.error.StreamError.{StreamError}
+use Rattle.paseto_streams.specs.declared.error.StreamError.TheVariants.{InputOrOutput as NoStream, Memory as NoStreamMemory}
 use Rattle.paseto_tasks.specs.declared.error.About.{About}
 use Rattle.paseto_tasks.specs.declared.error.About.TheVariants.{Key as OfKey, Input as OfInput, Nothing as OfNothing}
 use Rattle.paseto_tasks.specs.declared.error.Names.{Names}
@@ -134,10 +138,20 @@ program_error_of (NoMemory source) = Memory source
 program_error_of Cipher = Random
 program_error_of error = Refused error
 
+-- the same of why a key did not read or write a token
+abbrev pub use_error_of : KeyError → ProgramError
+use_error_of (OtherType kind) = Key (OtherKeyType kind)
+use_error_of (OtherVersion version) = Key (OtherKeyVersion version)
+use_error_of NoBinding = NoAssertion
+use_error_of (OtherLength _) = Random
+use_error_of (RefusedToken source) = Refused source
+use_error_of NoDraw = Random
+use_error_of (NoUseMemory source) = Memory source
+
 -- why a token was refused that is to be read by a key for tokens of a kind: where it is of another, both are named
-abbrev pub IsTokenError : List ℕ → TokenKind → PasetoError → ProgramError → Type 0
-IsTokenError token key WrongHeader error = (named : TokenKind) × NamesKind named token × (error ≡ OtherKind named key)
-IsTokenError token key source error = error ≡ program_error_of source
+abbrev pub IsTokenError : List ℕ → TokenKind → KeyError → ProgramError → Type 0
+IsTokenError token key (RefusedToken WrongHeader) error = (named : TokenKind) × NamesKind named token × (error ≡ OtherKind named key)
+IsTokenError token key source error = error ≡ use_error_of source
 
 abbrev pub key_error_of : PaserkError → ProgramError
 key_error_of (NoKeyMemory source) = Memory source
@@ -146,6 +160,10 @@ key_error_of error = Key error
 abbrev pub pem_error_of : PemError → ProgramError
 pem_error_of (NoPemMemory source) = Memory source
 pem_error_of error = Pem error
+
+abbrev pub stream_error_of : StreamError → ProgramError
+stream_error_of NoStream = InputOrOutput
+stream_error_of (NoStreamMemory source) = Memory source
 
 abbrev pub key_file_error_of : KeyFileError → ProgramError
 key_file_error_of (NoFileMemory source) = Memory source
@@ -189,34 +207,51 @@ abbrev pub IsFixed : ProgramError → Type 0
 IsFixed (Unfit _) = ⊥
 IsFixed error = IsNoUsage error
 
--- an error says that random bytes, the clock, the length of a key file or a footer is at fault only where it is
-abbrev pub BlamesOnly : (NoDraw NoMoment IsLong IsOther : Type 0) → ProgramError → Type 0
-BlamesOnly NoDraw NoMoment IsLong IsOther Random = NoDraw
-BlamesOnly NoDraw NoMoment IsLong IsOther Clock = NoMoment
-BlamesOnly NoDraw NoMoment IsLong IsOther TooLong = IsLong
-BlamesOnly NoDraw NoMoment IsLong IsOther OtherFooter = IsOther
-BlamesOnly NoDraw NoMoment IsLong IsOther _ = ⊤
+-- where some errors may come: that random bytes are at fault, the clock, the length of a key file, a footer, a read or a write
+pub record Blame : Type 1 where
+  pub no_bytes : Type 0
+  pub no_moment : Type 0
+  pub too_long : Type 0
+  pub other_footer : Type 0
+  pub no_stream : Type 0
+
+-- nowhere
+abbrev pub nothing : Blame
+nothing = record { no_bytes = ⊥; no_moment = ⊥; too_long = ⊥; other_footer = ⊥; no_stream = ⊥ }
+
+-- the error may come there
+abbrev pub BlamesOnly : Blame → ProgramError → Type 0
+BlamesOnly blame Random = blame.no_bytes
+BlamesOnly blame Clock = blame.no_moment
+BlamesOnly blame TooLong = blame.too_long
+BlamesOnly blame OtherFooter = blame.other_footer
+BlamesOnly blame InputOrOutput = blame.no_stream
+BlamesOnly blame _ = ⊤
 
 -- an error that says none of this
 abbrev pub BlamesNone : ProgramError → Type 0
-BlamesNone = BlamesOnly ⊥ ⊥ ⊥ ⊥
+BlamesNone = BlamesOnly nothing
 
 -- one of them that has no text of its own
-abbrev pub IsPlain : ProgramError → Type 0
-IsPlain error = IsFixed error × BlamesNone error
+abbrev pub IsPlainBut : Blame → ProgramError → Type 0
+IsPlainBut blame error = IsFixed error × BlamesOnly blame error
 
--- the same, but for random bytes, which are at fault only for a reason
-abbrev pub IsPlainBut : Type 0 → ProgramError → Type 0
-IsPlainBut NoDraw error = IsFixed error × BlamesOnly NoDraw ⊥ ⊥ ⊥ error
+abbrev pub IsPlain : ProgramError → Type 0
+IsPlain = IsPlainBut nothing
+
+-- one of them from outside
+abbrev pub Fails : Blame → ProgramError → Type 0
+Fails blame error = IsOutside error × BlamesOnly blame error
 
 -- what is said of the error stands in this table, or is a line that is so
 abbrev pub Says : (List ℕ → Type 0) → ProgramError → Type 0
 Says IsLine (Unfit line) = IsLine (string_bytes line)
 Says IsLine error = ⊤
 
--- the error that ends the program: why nothing was made, or a write that failed
+-- the error that ends the program: why nothing was made, or else a write that failed
 abbrev pub IsCauseOf : {T : Type 0} → Result T ProgramError → ProgramError → Type 0
-IsCauseOf made error = IsErrAnd made (λ cause. cause ≡ error) ⊎ (error ≡ InputOrOutput)
+IsCauseOf (Ok value) error = error ≡ InputOrOutput
+IsCauseOf (Err cause) error = error ≡ cause
 
 -- an error of the words or from outside, which refuses no key, text or token, so that the program does not end with status 1
 abbrev pub IsNoRefusal : ProgramError → Type 0

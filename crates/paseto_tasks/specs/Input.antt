@@ -1,10 +1,29 @@
 -- The line of an input.
-use Rattle.std.specs.Prelude.{◌≡◌, ℕ, ◌<◌, ◌⊎◌, List, [], length, IsUtf8}
+use Rattle.std.specs.Prelude.{◌≡◌, ℕ, ◌<◌, ◌⊎◌, List, [], length, IsUtf8, Option}
 use Rattle.std.specs.Io.BufRead.{strip_last}
+use Rattle.std.specs.declared.io.Error.{Error as SystemError}
+use Rattle.std.specs.declared.str.Utf8Error.{Utf8Error as Utf8Fault}
+use Rattle.paseto_streams.specs.Input.{IsInput}
+use Rattle.rusty_paseto_parts.specs.declared.error.PasetoError.TheVariants.{Utf8Error}
+use Rattle.paseto_tasks.specs.declared.error.ProgramError.{ProgramError}
+use Rattle.paseto_tasks.specs.declared.error.ProgramError.TheVariants.{Refused}
+use Rattle.paseto_tasks.specs.Error.{Blame, nothing}
 
 -- the line that an input is: without the line feed at its end, where it has one
 abbrev pub line_of_input : List ℕ → List ℕ
 line_of_input input = strip_last 10 input
+
+-- this is so of the bytes that were read, which are those of the input where it is known
+abbrev pub OfInput : Option (List ℕ) → (List ℕ → Type 0) → Type 0
+OfInput known P = (bytes : List ℕ) × IsInput known bytes × P bytes
+
+-- where nothing is at fault but a read, which returned an error of the system
+abbrev pub reading : Blame
+reading = record nothing { no_stream = SystemError }
+
+-- why bytes are refused that are no text
+abbrev pub IsNoText : List ℕ → ProgramError → Type 0
+IsNoText bytes error = (¬ IsUtf8 bytes) × ((fault : Utf8Fault) × (error ≡ Refused (Utf8Error fault)))
 
 -- the bytes are too many for a key file
 abbrev pub IsLong : List ℕ → Type 0

@@ -5,6 +5,8 @@ use Rattle.std.specs.Cmp.Lexicographic.{pointwise}
 use Rattle.base64.specs.GeneralPurpose.{IsBytes}
 use Rattle.rusty_paseto_parts.specs.Section.{HasCount, sections, base64url}
 use Rattle.rusty_paseto_parts.specs.UntrustedToken.{HasFooterText}
+use Rattle.paseto_tasks.specs.declared.error.ProgramError.{ProgramError}
+use Rattle.paseto_tasks.specs.Error.{IsPlain}
 
 -- a line of a name and what stands there
 abbrev pub line : List ℕ → List ℕ → List ℕ
@@ -57,3 +59,7 @@ pub record Inspects (token lines : List ℕ) : Type 0 where
 -- no lines are printed of the token
 abbrev pub InspectsNothing : List ℕ → Type 0
 InspectsNothing token = (lines : List ℕ) → ¬ Inspects token lines
+
+-- and why: with an error that has no text of its own, and that is not one of a stream
+abbrev pub RefusesInspecting : List ℕ → ProgramError → Type 0
+RefusesInspecting token error = InspectsNothing token × IsPlain error

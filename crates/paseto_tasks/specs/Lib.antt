@@ -3,8 +3,7 @@ pub mod Error
 pub mod Input
 pub mod Output
 pub mod Arguments
-pub mod Local
-pub mod Public
+pub mod Tokens
 pub mod Keygen
 pub mod Inspect
 pub mod Half

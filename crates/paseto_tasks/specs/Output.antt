@@ -1,10 +1,9 @@
 -- The line that is printed, and what a write that fails leaves of it.
-use Rattle.std.specs.Prelude.{◌≡◌, ◌⊎◌, ℕ, List, [], ◌∷◌, ◌++◌, Option, IfSome, Result, IfErr, IfOk, IsOkAnd, string_bytes}
+use Rattle.std.specs.Prelude.{◌≡◌, ◌⊎◌, ℕ, List, [], ◌∷◌, ◌++◌, Result, IfErr, IfOk, IsOkAnd, string_bytes}
 use Rattle.std.specs.declared.alloc.Global.{Global}
 use Rattle.std.specs.declared.string.String.{String}
 use Rattle.paseto_streams.specs.Output.{IsCutShort}
 use Rattle.paseto_tasks.specs.declared.error.ProgramError.{ProgramError}
-use Rattle.paseto_tasks.specs.Error.{IsOutside}
 
 -- the line is that of a text
 abbrev pub IsLineOf : List ℕ → List ℕ → Type 0
@@ -18,10 +17,7 @@ IsLeftOf IsOutput written = (written ≡ []) ⊎ ((output : List ℕ) × IsOutpu
 abbrev pub IsTextOf : {E : Type 0} → Result (String Global) E → List ℕ → Type 0
 IsTextOf made output = IsOkAnd made (λ text. string_bytes text ≡ output)
 
--- what a command makes of bytes, as far as they are known: an output that it prints for them; else an error that is so,
--- which is from outside, or there is no such output
-pub record Makes (known : Option (List ℕ)) (Prints : List ℕ → List ℕ → Type 0) (IsSo : ProgramError → Type 0)
-    (made : Result (String Global) ProgramError) : Type 0 where
-  pub printed : IfOk made (λ text. IfSome known (λ bytes. Prints bytes (string_bytes text)))
-  pub refused : IfErr made (λ error. IfSome known (λ bytes. IsOutside error ⊎ ((output : List ℕ) → ¬ Prints bytes output)))
-  pub so : IfErr made IsSo
+-- what a command makes: an output that it prints; else an error with which it refuses, or one from outside
+pub record Makes (Prints : List ℕ → Type 0) (Refuses Fault : ProgramError → Type 0) (made : Result (String Global) ProgramError) : Type 0 where
+  pub printed : IfOk made (λ text. Prints (string_bytes text))
+  pub refused : IfErr made (λ error. Refuses error ⊎ Fault error)

@@ -1,59 +1,45 @@
--- What the program prints for a task, its options, its key file and its input.
-use Rattle.std.specs.Prelude.{◌≡◌, ◌≢◌, ◌≤◌, ◌==◌, ◌⊎◌, ℕ, List, if◌then◌else◌, Option, IfSome}
+-- What the program prints for a task, its options, its key and its input, and how it ends.
+use Rattle.std.specs.Prelude.{◌≡◌, ◌≢◌, ◌≤◌, ◌==◌, ◌⊎◌, ℕ, List, if◌then◌else◌, Option}
 use Rattle.std.specs.Io.{StartsWith}
 use Rattle.std.specs.Io.KnownBytes.{Appends}
+use Rattle.std.specs.declared.io.Error.{Error as SystemError}
+use Rattle.paseto_keys.specs.AnyKey.{KeyParts}
+use Rattle.paseto_keys.specs.Writing.{drawn_length}
 use Rattle.paseto_tasks.specs.declared.arguments.Options.{Options}
 use Rattle.paseto_tasks.specs.declared.arguments.Task.{Task}
-use Rattle.paseto_tasks.specs.declared.arguments.Task.TheVariants.{Encrypt, Decrypt, Sign, Verify}
+use Rattle.paseto_tasks.specs.declared.arguments.Task.TheVariants.{Encrypt, Sign}
 use Rattle.paseto_tasks.specs.declared.error.Names.{Names}
 use Rattle.paseto_tasks.specs.declared.error.ProgramError.{ProgramError}
-use Rattle.paseto_tasks.specs.Error.{BlamesOnly, IsFixed, IsPlain, line_of, status_of}
-use Rattle.paseto_tasks.specs.Input.{IsLong, IsNoKeyFile, line_of_input}
-use Rattle.paseto_tasks.specs.KeyLine.{TakesBytes}
+use Rattle.paseto_tasks.specs.declared.error.ProgramError.TheVariants.{InputOrOutput}
+use Rattle.paseto_tasks.specs.Error.{Fails, IsFixed, line_of, nothing, status_of}
+use Rattle.paseto_tasks.specs.Input.{OfInput}
 use Rattle.paseto_tasks.specs.Output.{IsLeftOf}
-use Rattle.paseto_tasks.specs.Local.{Decrypts, DecryptsNothing, Encrypts, EncryptsNothing}
-use Rattle.paseto_tasks.specs.Public.{SignsBy, SignsNothing, VerifiesBy, VerifiesNothing}
+use Rattle.paseto_tasks.specs.Tokens.{Does, Fits, RefusesInput, RefusesKey, type_for}
 
--- the task has this output, with the line of the key file, some bytes that are drawn, and the input
-abbrev pub Prints : Task → Options → (List ℕ → Type 0) → List ℕ → List ℕ → List ℕ → Type 0
-Prints Encrypt options IsDrawn file input output = Encrypts (line_of_input file) options IsDrawn input output
-Prints Decrypt options IsDrawn file input output = Decrypts (line_of_input file) options input output
-Prints Sign options IsDrawn file input output = SignsBy (line_of_input file) options input output
-Prints Verify options IsDrawn file input output = VerifiesBy (line_of_input file) options input output
+-- ---- tasks
 
--- the task has no output with this line as its key
-abbrev pub PrintsNothing : Task → Options → (List ℕ → Type 0) → List ℕ → List ℕ → Type 0
-PrintsNothing Encrypt options IsDrawn key input = EncryptsNothing key options IsDrawn input
-PrintsNothing Decrypt options IsDrawn key input = DecryptsNothing key options input
-PrintsNothing Sign options IsDrawn key input = SignsNothing key options input
-PrintsNothing Verify options IsDrawn key input = VerifiesNothing key options input
+-- what the task prints for the input, as far as that is known, with bytes that may be drawn: the key fits
+abbrev pub PrintsOf : Task → Options → (ℕ → List ℕ → Type 0) → KeyParts → Option (List ℕ) → List ℕ → Type 0
+PrintsOf task options IsDrawn key known output =
+    Fits (type_for task) options key × OfInput known (λ input. Does task key options IsDrawn input output)
 
--- what is refused: a file that is no key file, or what has no output with its line
-abbrev pub IsRefused : Task → Options → (List ℕ → Type 0) → List ℕ → List ℕ → Type 0
-IsRefused task options IsDrawn file input = IsNoKeyFile file ⊎ PrintsNothing task options IsDrawn (line_of_input file) input
+-- why it prints nothing: the key does not fit, or the input is refused
+abbrev pub RefusesOf : Task → Options → (ℕ → List ℕ → Type 0) → KeyParts → Option (List ℕ) → ProgramError → Type 0
+RefusesOf task options IsDrawn key known error =
+    RefusesKey (type_for task) options key error
+    ⊎ (Fits (type_for task) options key × OfInput known (λ input. RefusesInput task key options IsDrawn input error))
 
--- the task takes bytes that are drawn, with this line as its key
-abbrev pub Draws : Task → List ℕ → Type 0
-Draws Encrypt key = TakesBytes key
-Draws Sign key = TakesBytes key
+-- the task takes bytes that are drawn
+abbrev pub Draws : Task → KeyParts → Type 0
+Draws Encrypt key = drawn_length key.kind key.version ≢ 0
+Draws Sign key = drawn_length key.kind key.version ≢ 0
 Draws _ key = ⊥
 
--- the error says that random bytes are at fault only where the task draws some and the generator failed, and that the key
--- file is too long only where it is
-abbrev pub BlamesIn : Task → Type 0 → Option (List ℕ) → ProgramError → Type 0
-BlamesIn task Failure file =
-    BlamesOnly (IfSome file (λ bytes. Draws task (line_of_input bytes)) × Failure) ⊥ (IfSome file IsLong) ⊥
-
--- the same of one that has no text of its own
-abbrev pub IsPlainIn : Task → Type 0 → Option (List ℕ) → ProgramError → Type 0
-IsPlainIn task Failure file error = IsFixed error × BlamesIn task Failure file error
-
--- of a key file and an input as far as they are known: what the task prints, and that it is refused
-abbrev pub PrintsOf : Task → Options → (List ℕ → Type 0) → Option (List ℕ) → Option (List ℕ) → List ℕ → Type 0
-PrintsOf task options IsDrawn file input output = IfSome file (λ f. IfSome input (λ i. Prints task options IsDrawn f i output))
-
-abbrev pub IsRefusedOf : Task → Options → (List ℕ → Type 0) → Option (List ℕ) → Option (List ℕ) → Type 0
-IsRefusedOf task options IsDrawn file input = IfSome file (λ f. IfSome input (λ i. IsRefused task options IsDrawn f i))
+-- or it fails, with a key that fits: memory is refused, a read fails, or the generator where bytes are drawn
+abbrev pub FailsOf : Task → Options → Type 0 → KeyParts → ProgramError → Type 0
+FailsOf task options Failure key error =
+    Fits (type_for task) options key
+    × Fails (record nothing { no_bytes = Draws task key × Failure; no_stream = SystemError }) error
 
 -- ---- how a command ends with a status
 
@@ -74,15 +60,25 @@ pub record Tells {E : Type 0} (contents : E → Option (List ℕ)) (names : Name
   pub said : status ≢ 0 → (error : ProgramError) × (status_of error ≡ status) × IsSo error
       × ((said : List ℕ) × StartsWith (line_of names error) said × Appends (contents before) (contents after) said)
 
+-- an error with which a command refuses, and that has this status
+abbrev pub IsRefusal : (ProgramError → Type 0) → ℕ → Type 0
+IsRefusal Refuses status = (error : ProgramError) × Refuses error × (status_of error ≡ status)
+
+-- the error that ends a command, which has no text of its own: it refuses, or fails, or the output that it prints was not
+-- written
+pub record Ends (Prints : List ℕ → Type 0) (Refuses Fault : ProgramError → Type 0) (error : ProgramError) : Type 0 where
+  pub fixed : IsFixed error
+  pub why : (Refuses error ⊎ Fault error) ⊎ ((error ≡ InputOrOutput) × ((output : List ℕ) × Prints output))
+
 -- the status of a forgery, from the status with which it was written: 1 where it was written whole
 abbrev pub forged_status : ℕ → ℕ
 forged_status written = if written == 0 then 1 else written
 
 -- how the command `explain` ends: as each command with what it tells of a token that was issued, and with a refusal; and with
 -- what it tells of a forgery likewise, but for the status of one that was written whole
-abbrev pub Told : {W E : Type 0} → (W → Option (List ℕ)) → (E → Option (List ℕ)) → Names → (Issued Forged : List ℕ → Type 0) → (Refused : Type 0)
-    → ℕ → W → W → E → E → Type 0
-Told {W} {E} contents errors names Issued Forged Refused status before after said_before said_after =
-    (Leaves contents Issued Refused status before after × Tells errors names IsPlain status said_before said_after)
-    ⊎ ((written : ℕ) × (status ≡ forged_status written) × Leaves contents Forged Refused written before after
-    × Tells errors names IsPlain written said_before said_after)
+abbrev pub Told : {W E : Type 0} → (W → Option (List ℕ)) → (E → Option (List ℕ)) → Names → (Issued Forged : List ℕ → Type 0)
+    → (Refuses Fault : ProgramError → Type 0) → ℕ → W → W → E → E → Type 0
+Told {W} {E} contents errors names Issued Forged Refuses Fault status before after said_before said_after =
+    (Leaves contents Issued (IsRefusal Refuses status) status before after × Tells errors names (Ends Issued Refuses Fault) status said_before said_after)
+    ⊎ ((written : ℕ) × (status ≡ forged_status written) × Leaves contents Forged ⊥ written before after
+    × Tells errors names (Ends Forged (λ error. ⊥) (λ error. ⊥)) written said_before said_after)

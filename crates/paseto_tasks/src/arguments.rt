@@ -1,9 +1,10 @@
 //! The arguments of a command, apart from its key and its input.
 
 ghost use Rattle.std.specs.Prelude.{◌≡◌};
-ghost use Rattle.paseto_tasks.specs.Arguments.{format_of, is_pair, kind_of};
+ghost use Rattle.paseto_tasks.specs.Arguments.{format_of, is_pair, kind_of, type_of, version_of};
 
 use rusty_paseto_core::{Footer, ImplicitAssertion};
+use rusty_paseto_paserk::{PaserkType, PaserkVersion};
 
 /// The kinds of keys that the program generates.
 #[derive(Clone, Copy)]
@@ -38,6 +39,28 @@ impl Kind {
             "v4.local" => Some(Kind::V4Local),
             "v4.public" => Some(Kind::V4Public),
             _ => None,
+        }
+    }
+
+    /// The type of the key that is generated: of a pair, the private half.
+    pub fn key_type(self) -> PaserkType
+        ensures { result ≡ type_of self }
+    {
+        match self {
+            Kind::V1Local | Kind::V2Local | Kind::V3Local | Kind::V4Local => PaserkType::Local,
+            Kind::V2Public | Kind::V3Public | Kind::V4Public => PaserkType::Secret,
+        }
+    }
+
+    /// The version of the key that is generated.
+    pub fn version(self) -> PaserkVersion
+        ensures { result ≡ version_of self }
+    {
+        match self {
+            Kind::V1Local => PaserkVersion::V1,
+            Kind::V2Local | Kind::V2Public => PaserkVersion::V2,
+            Kind::V3Local | Kind::V3Public => PaserkVersion::V3,
+            Kind::V4Local | Kind::V4Public => PaserkVersion::V4,
         }
     }
 

@@ -7,11 +7,12 @@ ghost use Rattle.std.specs.Io.KnownBytes.{Appends};
 ghost use Rattle.std.specs.IoError.{error_kind};
 ghost use Rattle.rusty_paseto_parts.specs.declared.error.PasetoError.TheVariants.{Utf8Error as NotUtf8};
 ghost use Rattle.paseto_tasks.specs.declared.error.ProgramError.TheVariants.{InputOrOutput, Memory, Refused};
-ghost use Rattle.paseto_tasks.specs.Error.{IsFixed, IsOutside, IsPlain, IsTokenError, colon_behind, file_error, joined, key_error_of, key_file_error_of, line_of, name_of, pem_error_of, pem_text, program_error_of, refusal_of, status_of, subject_of, text_of, time_text, words_error};
+ghost use Rattle.paseto_tasks.specs.Error.{IsTokenError, colon_behind, file_error, joined, key_error_of, key_file_error_of, line_of, name_of, pem_error_of, pem_text, program_error_of, refusal_of, status_of, stream_error_of, subject_of, text_of, time_text, use_error_of, words_error};
 
 use crate::output::write_whole;
 use crate::token_kind::TokenKind;
 use paseto_key_files::KeyFileError;
+use paseto_keys::KeyError;
 use paseto_pem::PemError;
 use paseto_streams::StreamError;
 use rusty_paseto_core::PasetoError;
@@ -293,20 +294,22 @@ impl ProgramError {
     }
 }
 
-/// Converts the result of opening or verifying a token with a key for tokens of a kind.
+/// Converts the result of reading a token with a key for tokens of a kind.
 pub fn answered(
-    answer: Result<String, PasetoError>,
+    answer: Result<String, KeyError>,
     token: &str,
     key: TokenKind,
 ) -> Result<String, ProgramError>
     ensures read { IfOk result (λ text. answer ≡ Ok text) }
     ensures refused { IfErr result (λ error. IsErrAnd answer
         (λ source. IsTokenError token.now key source error)) }
-    ensures fixed { IfErr result IsFixed }
 {
     match answer {
         Ok(text) => Ok(text),
-        Err(PasetoError::WrongHeader) => Err(ProgramError::OtherKind(TokenKind::of(token), key)),
+        Err(KeyError::Refused(PasetoError::WrongHeader)) => Err(ProgramError::OtherKind(
+            TokenKind::of(token),
+            key,
+        )),
         Err(source) => Err(ProgramError::from(source)),
     }
 }
@@ -431,6 +434,23 @@ impl From<PasetoError> for ProgramError {
     }
 }
 
+impl From<KeyError> for ProgramError {
+    ghost from_gives = { λ source error. error ≡ use_error_of source };
+
+    fn from(source: KeyError) -> ProgramError {
+        match source {
+            KeyError::OtherType(kind) => ProgramError::Key(PaserkError::OtherType(kind)),
+            KeyError::OtherVersion(version) => ProgramError::Key(PaserkError::OtherVersion(
+                version,
+            )),
+            KeyError::NoAssertion => ProgramError::NoAssertion,
+            KeyError::Refused(source) => ProgramError::Refused(source),
+            KeyError::OtherLength(_) | KeyError::Random => ProgramError::Random,
+            KeyError::Memory(source) => ProgramError::Memory(source),
+        }
+    }
+}
+
 impl From<PaserkError> for ProgramError {
     ghost from_gives = { λ source error. error ≡ key_error_of source };
 
@@ -474,7 +494,7 @@ impl From<io::Error> for ProgramError {
 }
 
 impl From<StreamError> for ProgramError {
-    ghost from_gives = { λ _ error. IsOutside error × IsPlain error };
+    ghost from_gives = { λ source error. error ≡ stream_error_of source };
 
     fn from(source: StreamError) -> ProgramError {
         match source {

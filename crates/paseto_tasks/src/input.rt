@@ -1,8 +1,8 @@
 //! The text of the input, and that of a key file.
 
 ghost use Rattle.std.specs.Prelude.{◌≡◌, ◌≢◌, [], ◌⊎◌, IfOk, IfErr, IfSome, string_bytes, IsUtf8};
-ghost use Rattle.paseto_tasks.specs.Error.{BlamesOnly, IsFixed, IsNoUsage, IsOutside, IsPlain};
-ghost use Rattle.paseto_tasks.specs.Input.{IsLong, IsNoKeyFile, IsNoPassword, line_of_input};
+ghost use Rattle.paseto_tasks.specs.Error.{Fails, IsNoUsage, IsOutside, IsPlainBut};
+ghost use Rattle.paseto_tasks.specs.Input.{IsLong, IsNoKeyFile, IsNoPassword, IsNoText, OfInput, line_of_input, reading};
 ghost use Rattle.paseto_streams.specs.Input.{IsInput};
 
 use crate::error::ProgramError;
@@ -18,11 +18,11 @@ const LIMIT: usize = 4096;
 
 /// Reads the text of the input. Input that is not UTF-8 is refused.
 pub fn read_text<R: Read>(alloc: Global, input: &mut R) -> Result<String, ProgramError>
-    ensures text { IfOk result (λ text. IfSome (R.remaining input.old)
+    ensures text { IfOk result (λ text. OfInput (R.remaining input.old)
         (λ bytes. bytes ≡ string_bytes text)) }
-    ensures refused { IfErr result (λ error. IfSome (R.remaining input.old)
-        (λ bytes. IsOutside error ⊎ (¬ IsUtf8 bytes))) }
-    ensures plain { IfErr result IsPlain }
+    ensures refused { IfErr result (λ error. OfInput (R.remaining input.old)
+        (λ bytes. IsNoText bytes error) ⊎ Fails reading error) }
+    ensures plain { IfErr result (IsPlainBut reading) }
 {
     let bytes = read_whole(alloc, input)?;
     match String::from_utf8(bytes) {
@@ -34,12 +34,11 @@ pub fn read_text<R: Read>(alloc: Global, input: &mut R) -> Result<String, Progra
 /// Reads the line of the input: its text without the line feed at its end, if there is one. Input
 /// that is not UTF-8 is refused.
 pub fn read_line<R: Read>(alloc: Global, input: &mut R) -> Result<String, ProgramError>
-    ensures line { IfOk result (λ line. IfSome (R.remaining input.old)
+    ensures line { IfOk result (λ line. OfInput (R.remaining input.old)
         (λ bytes. line_of_input bytes ≡ string_bytes line)) }
-    ensures refused { IfErr result (λ error. IfSome (R.remaining input.old)
-        (λ bytes. IsOutside error ⊎ (¬ IsUtf8 (line_of_input bytes)))) }
-    ensures no_usage { IfErr result IsNoUsage }
-    ensures plain { IfErr result IsPlain }
+    ensures refused { IfErr result (λ error. OfInput (R.remaining input.old)
+        (λ bytes. IsNoText (line_of_input bytes) error) ⊎ Fails reading error) }
+    ensures plain { IfErr result (IsPlainBut reading) }
 {
     let bytes = read_whole(alloc, input)?;
     let line = str::from_utf8(without_line_feed(&bytes))?;
@@ -54,8 +53,8 @@ pub fn read_key_line<K: Read>(alloc: Global, file: &mut K) -> Result<String, Pro
     ensures refused { IfErr result (λ error. IfSome (K.remaining file.old)
         (λ bytes. IsOutside error ⊎ IsNoKeyFile bytes)) }
     ensures no_usage { IfErr result IsNoUsage }
-    ensures fixed { IfErr result IsFixed }
-    ensures blames { IfErr result (BlamesOnly ⊥ ⊥ (IfSome (K.remaining file.old) IsLong) ⊥) }
+    ensures plain { IfErr result (IsPlainBut (record reading
+        { too_long = IfSome (K.remaining file.old) IsLong })) }
 {
     let bytes = read_short(alloc, file)?;
     let Ok(line) = str::from_utf8(without_line_feed(&bytes)) else {
@@ -72,7 +71,7 @@ pub fn read_password<P: Read>(alloc: Global, file: &mut P) -> Result<Vec<u8>, Pr
     ensures some { IfOk result (λ password. password.items ≢ []) }
     ensures refused { IfErr result (λ error. IfSome (P.remaining file.old)
         (λ bytes. IsOutside error ⊎ IsNoPassword bytes)) }
-    ensures plain { IfErr result IsPlain }
+    ensures plain { IfErr result (IsPlainBut reading) }
 {
     let bytes = match read_short(alloc, file) {
         Err(ProgramError::TooLong) => return Err(ProgramError::OddPassword),
@@ -90,8 +89,8 @@ fn read_short<K: Read>(alloc: Global, file: &mut K) -> Result<Vec<u8>, ProgramEr
     ensures whole { IfOk result (λ bytes. IsInput (K.remaining file.old) bytes.items) }
     ensures failed { IfErr result (λ error. IfSome (K.remaining file.old)
         (λ bytes. IsOutside error ⊎ IsLong bytes)) }
-    ensures fixed { IfErr result IsFixed }
-    ensures blames { IfErr result (BlamesOnly ⊥ ⊥ (IfSome (K.remaining file.old) IsLong) ⊥) }
+    ensures plain { IfErr result (IsPlainBut (record reading
+        { too_long = IfSome (K.remaining file.old) IsLong })) }
 {
     let mut bytes = Vec::new(alloc);
     let mut space = [0u8; LIMIT];

@@ -1,60 +1,97 @@
-//! The program, over any key file, generator, input and outputs.
+//! The program, over any key, generator, input and outputs.
 
-ghost use Rattle.std.specs.Prelude.{◌≡◌, ◌≢◌, ◌⊎◌, ℕ, List, IfOk, IfErr, IfSome, IsErrAnd, OnErr, OnOk, string_bytes};
+ghost use Rattle.std.specs.Prelude.{◌≡◌, ◌≢◌, ◌⊎◌, ℕ, List, IfOk, IfErr, IsErrAnd, OnErr, OnOk, string_bytes};
 ghost use Rattle.std.specs.Io.KnownBytes.{Appends};
+ghost use Rattle.paseto_keys.specs.AnyKey.{parts_of};
+ghost use Rattle.paseto_tasks.specs.Error.{Fails, IsCauseOf, nothing, status_of};
+ghost use Rattle.paseto_tasks.specs.Explain.{Explains, RefusesExplaining, TellsForged, TellsIssued};
 ghost use Rattle.paseto_tasks.specs.Half.{HasHalf, HasNoHalf};
-ghost use Rattle.paseto_tasks.specs.Id.{Identifies, IdentifiesNothing};
-ghost use Rattle.paseto_tasks.specs.Error.{IsCauseOf, IsOutside, IsPlain, status_of};
-ghost use Rattle.paseto_tasks.specs.Explain.{Explains, ExplainsNothing, TellsForged, TellsIssued};
-ghost use Rattle.paseto_tasks.specs.Input.{line_of_input};
-ghost use Rattle.paseto_tasks.specs.Inspect.{Inspects, InspectsNothing};
-ghost use Rattle.paseto_tasks.specs.Output.{IsLeftOf, IsTextOf};
-ghost use Rattle.paseto_tasks.specs.Run.{IsPlainIn, IsRefused, IsRefusedOf, Leaves, PrintsOf, Tells, Told, forged_status};
+ghost use Rattle.paseto_tasks.specs.Id.{HasId, HasNoId};
+ghost use Rattle.paseto_tasks.specs.Input.{IsNoText, OfInput, line_of_input, reading};
+ghost use Rattle.paseto_tasks.specs.Inspect.{Inspects, RefusesInspecting};
+ghost use Rattle.paseto_tasks.specs.Output.{IsLeftOf, IsTextOf, Makes};
+ghost use Rattle.paseto_tasks.specs.Run.{Ends, FailsOf, IsRefusal, Leaves, PrintsOf, RefusesOf, Tells, Told, forged_status};
+ghost use Rattle.paseto_tasks.specs.Tokens.{drawn_by, type_for};
 
 use crate::arguments::{Options, Task};
 use crate::error::{Names, ProgramError};
 use crate::explain::{Explanation, explain};
 use crate::half::public;
 use crate::id::id;
-use crate::input::{read_key_line, read_line};
+use crate::input::read_line;
 use crate::inspect::inspect;
-use crate::local::{decrypt, encrypt};
 use crate::output::write_whole;
-use crate::public::{sign, verify};
+use crate::tokens::{fits, read, write};
+use paseto_keys::AnyKey;
 use rand_core::TryRng;
+use rusty_paseto_paserk::PaserkType;
 use std::alloc::Global;
 use std::io::{Read, Write};
 
-/// Does a task with the key of a key file, and returns the status.
+/// Does a task with a key, and returns the status.
 ///
 /// The status is 0 if the whole output was written, 1 if the key, the text or the token was
 /// refused, and 3 if an allocation failed, the generator failed, or a read or a write failed. If it
 /// is not 0, the error's text and a line feed are written to `errors`; if a write fails there, a
 /// prefix of them is, and the status stays the same. The text contains nothing of the key or the
 /// input. A refusal writes nothing to `output`, and a write that fails leaves a prefix of the
-/// output there.
-pub fn run<K: Read, G: TryRng, R: Read, W: Write, E: Write>(
+/// output there. A key that is refused is refused before the input is read.
+pub fn run<G: TryRng, R: Read, W: Write, E: Write>(
     alloc: Global,
     task: Task,
     options: &Options<'_>,
     names: &Names<'_>,
-    key_file: &mut K,
+    key: &AnyKey,
     generator: &mut G,
     input: &mut R,
     output: &mut W,
     errors: &mut E,
 ) -> u8
     ensures no_usage { result ≢ 2 }
-    ensures output { Leaves W.contents
-        (PrintsOf task options.now (λ drawn. G.may_fill generator.old drawn generator.new)
-        (K.remaining key_file.old) (R.remaining input.old))
-        (IsRefusedOf task options.now (λ drawn. G.may_fill generator.old drawn generator.new)
-        (K.remaining key_file.old) (R.remaining input.old)) result output.old output.new }
-    ensures errors { Tells E.contents names.now
-        (IsPlainIn task G.Error (K.remaining key_file.old)) result errors.old errors.new }
+    ensures output { let IsDrawn = drawn_by (λ given. G.may_fill generator.old given generator.new)
+        (generator.new ≡ generator.old) in Leaves W.contents (PrintsOf task options.now IsDrawn (parts_of key.now) (R.remaining input.old))
+        (IsRefusal (RefusesOf task options.now IsDrawn (parts_of key.now) (R.remaining input.old)) result)
+        result output.old output.new }
+    ensures errors { let IsDrawn = drawn_by (λ given. G.may_fill generator.old given generator.new)
+        (generator.new ≡ generator.old) in Tells E.contents names.now
+        (Ends (PrintsOf task options.now IsDrawn (parts_of key.now) (R.remaining input.old))
+        (RefusesOf task options.now IsDrawn (parts_of key.now) (R.remaining input.old))
+        (FailsOf task options.now G.Error (parts_of key.now))) result errors.old errors.new }
 {
-    let made = make(alloc, task, options, key_file, generator, input);
+    let made = make(alloc, task, options, key, generator, input);
     finish(made, names, output, errors)
+}
+
+/// The output of a task.
+fn make<G: TryRng, R: Read>(
+    alloc: Global,
+    task: Task,
+    options: &Options<'_>,
+    key: &AnyKey,
+    generator: &mut G,
+    input: &mut R,
+) -> Result<String, ProgramError>
+    ensures { let IsDrawn = drawn_by (λ given. G.may_fill generator.old given generator.new)
+        (generator.new ≡ generator.old) in Makes (PrintsOf task options.now IsDrawn (parts_of key.now) (R.remaining input.old))
+        (RefusesOf task options.now IsDrawn (parts_of key.now) (R.remaining input.old))
+        (FailsOf task options.now G.Error (parts_of key.now)) result }
+{
+    fits(key, type_for(task), options)?;
+    match task {
+        Task::Encrypt | Task::Sign => write(alloc, key, options, generator, input),
+        Task::Decrypt | Task::Verify => read(alloc, key, options, input),
+    }
+}
+
+/// The type of the keys that a task takes.
+fn type_for(task: Task) -> PaserkType
+    ensures { result ≡ type_for task }
+{
+    match task {
+        Task::Encrypt | Task::Decrypt => PaserkType::Local,
+        Task::Sign => PaserkType::Secret,
+        Task::Verify => PaserkType::Public,
+    }
 }
 
 /// Prints what a token says about itself, and returns the status, as `run` does.
@@ -67,21 +104,24 @@ pub fn run_inspect<R: Read, W: Write, E: Write>(
 ) -> u8
     ensures no_usage { result ≢ 2 }
     ensures output { Leaves W.contents
-        (λ lines. IfSome (R.remaining input.old) (λ bytes. Inspects (line_of_input bytes) lines))
-        (IfSome (R.remaining input.old) (λ bytes. InspectsNothing (line_of_input bytes)))
+        (λ lines. OfInput (R.remaining input.old) (λ bytes. Inspects (line_of_input bytes) lines))
+        (IsRefusal (λ error. OfInput (R.remaining input.old)
+        (λ bytes. RefusesInspecting (line_of_input bytes) error)) result)
         result output.old output.new }
-    ensures errors { Tells E.contents names.now IsPlain result errors.old errors.new }
+    ensures errors { Tells E.contents names.now (Ends
+        (λ lines. OfInput (R.remaining input.old) (λ bytes. Inspects (line_of_input bytes) lines))
+        (λ error. OfInput (R.remaining input.old) (λ bytes. RefusesInspecting (line_of_input bytes) error))
+        (Fails reading)) result errors.old errors.new }
 {
     finish(inspected(alloc, input), names, output, errors)
 }
 
 /// What the token in the input says about itself.
 fn inspected<R: Read>(alloc: Global, input: &mut R) -> Result<String, ProgramError>
-    ensures printed { IfOk result (λ lines. IfSome (R.remaining input.old)
-        (λ bytes. Inspects (line_of_input bytes) (string_bytes lines))) }
-    ensures refused { IfErr result (λ error. IfSome (R.remaining input.old)
-        (λ bytes. IsOutside error ⊎ InspectsNothing (line_of_input bytes))) }
-    ensures plain { IfErr result IsPlain }
+    ensures { Makes
+        (λ lines. OfInput (R.remaining input.old) (λ bytes. Inspects (line_of_input bytes) lines))
+        (λ error. OfInput (R.remaining input.old) (λ bytes. RefusesInspecting (line_of_input bytes) error))
+        (Fails reading) result }
 {
     let token = read_line(alloc, input)?;
     inspect(alloc, token.as_str())
@@ -92,7 +132,7 @@ fn inspected<R: Read>(alloc: Global, input: &mut R) -> Result<String, ProgramErr
 pub fn run_explain<R: Read, W: Write, E: Write>(
     alloc: Global,
     names: &Names<'_>,
-    key: &str,
+    key: &AnyKey,
     options: &Options<'_>,
     issued: &str,
     input: &mut R,
@@ -101,13 +141,13 @@ pub fn run_explain<R: Read, W: Write, E: Write>(
 ) -> u8
     ensures no_usage { result ≢ 2 }
     ensures told { Told W.contents E.contents names.now
-        (λ lines. IfSome (R.remaining input.old) (λ bytes.
-        TellsIssued key.now options.now issued.now (line_of_input bytes) lines))
-        (λ lines. IfSome (R.remaining input.old) (λ bytes.
-        TellsForged key.now options.now issued.now (line_of_input bytes) lines))
-        (IfSome (R.remaining input.old) (λ bytes.
-        ExplainsNothing key.now options.now (line_of_input bytes)))
-        result output.old output.new errors.old errors.new }
+        (λ lines. OfInput (R.remaining input.old) (λ bytes.
+        TellsIssued (parts_of key.now) options.now issued.now (line_of_input bytes) lines))
+        (λ lines. OfInput (R.remaining input.old) (λ bytes.
+        TellsForged (parts_of key.now) options.now issued.now (line_of_input bytes) lines))
+        (λ error. OfInput (R.remaining input.old) (λ bytes.
+        RefusesExplaining (parts_of key.now) options.now (line_of_input bytes) error))
+        (Fails reading) result output.old output.new errors.old errors.new }
 {
     match explained(alloc, key, options, issued, input) {
         Ok(Explanation::Issued(lines)) => finish(Ok(lines), names, output, errors),
@@ -129,61 +169,35 @@ fn forged_status(written: u8) -> u8
 /// What the token in the input is.
 fn explained<R: Read>(
     alloc: Global,
-    key: &str,
+    key: &AnyKey,
     options: &Options<'_>,
     issued: &str,
     input: &mut R,
 ) -> Result<Explanation, ProgramError>
-    ensures told { IfOk result (λ told. IfSome (R.remaining input.old)
-        (λ bytes. Explains key.now options.now issued.now (line_of_input bytes) told)) }
-    ensures refused { IfErr result (λ error. IfSome (R.remaining input.old) (λ bytes.
-        IsOutside error ⊎ ExplainsNothing key.now options.now (line_of_input bytes))) }
-    ensures plain { IfErr result IsPlain }
+    ensures told { IfOk result (λ told. OfInput (R.remaining input.old)
+        (λ bytes. Explains (parts_of key.now) options.now issued.now (line_of_input bytes) told)) }
+    ensures refused { IfErr result (λ error. OfInput (R.remaining input.old)
+        (λ bytes. RefusesExplaining (parts_of key.now) options.now (line_of_input bytes) error)
+        ⊎ Fails reading error) }
 {
     let token = read_line(alloc, input)?;
     explain(alloc, key, options, issued, token.as_str())
-}
-
-/// The output of a task.
-fn make<K: Read, G: TryRng, R: Read>(
-    alloc: Global,
-    task: Task,
-    options: &Options<'_>,
-    key_file: &mut K,
-    generator: &mut G,
-    input: &mut R,
-) -> Result<String, ProgramError>
-    ensures printed { IfOk result (λ made. PrintsOf task options.now
-        (λ drawn. G.may_fill generator.old drawn generator.new)
-        (K.remaining key_file.old) (R.remaining input.old) (string_bytes made)) }
-    ensures refused { IfErr result (λ error. IfSome (K.remaining key_file.old)
-        (λ file. IfSome (R.remaining input.old) (λ bytes.
-        IsOutside error ⊎ IsRefused task options.now
-        (λ drawn. G.may_fill generator.old drawn generator.new) file bytes))) }
-    ensures so { IfErr result (IsPlainIn task G.Error (K.remaining key_file.old)) }
-{
-    let key = read_key_line(alloc, key_file)?;
-    let key = key.as_str();
-    match task {
-        Task::Encrypt => encrypt(alloc, key, options, generator, input),
-        Task::Decrypt => decrypt(alloc, key, options, input),
-        Task::Sign => sign(alloc, key, options, generator, input),
-        Task::Verify => verify(alloc, key, options, input),
-    }
 }
 
 /// Prints the id of a key, and returns the status, as `run` does.
 pub fn run_id<W: Write, E: Write>(
     alloc: Global,
     names: &Names<'_>,
-    key: &str,
+    key: &AnyKey,
     output: &mut W,
     errors: &mut E,
 ) -> u8
     ensures no_usage { result ≢ 2 }
-    ensures output { Leaves W.contents (Identifies key.now) (IdentifiesNothing key.now) result
-        output.old output.new }
-    ensures errors { Tells E.contents names.now IsPlain result errors.old errors.new }
+    ensures output { Leaves W.contents (HasId (parts_of key.now))
+        (IsRefusal (HasNoId (parts_of key.now)) result) result output.old output.new }
+    ensures errors { Tells E.contents names.now
+        (Ends (HasId (parts_of key.now)) (HasNoId (parts_of key.now)) (Fails nothing))
+        result errors.old errors.new }
 {
     finish(id(alloc, key), names, output, errors)
 }
@@ -192,14 +206,16 @@ pub fn run_id<W: Write, E: Write>(
 pub fn run_public<W: Write, E: Write>(
     alloc: Global,
     names: &Names<'_>,
-    key: &str,
+    key: &AnyKey,
     output: &mut W,
     errors: &mut E,
 ) -> u8
     ensures no_usage { result ≢ 2 }
-    ensures output { Leaves W.contents (HasHalf key.now) (HasNoHalf key.now) result
-        output.old output.new }
-    ensures errors { Tells E.contents names.now IsPlain result errors.old errors.new }
+    ensures output { Leaves W.contents (HasHalf (parts_of key.now))
+        (IsRefusal (HasNoHalf (parts_of key.now)) result) result output.old output.new }
+    ensures errors { Tells E.contents names.now
+        (Ends (HasHalf (parts_of key.now)) (HasNoHalf (parts_of key.now)) (Fails nothing))
+        result errors.old errors.new }
 {
     finish(public(alloc, key), names, output, errors)
 }

@@ -2,6 +2,7 @@
 //! then, and what the same object answers after it.
 #![tactic(auto)]
 
+mod any_key;
 mod builders;
 mod claims;
 mod defaults;
@@ -71,5 +72,6 @@ fn ask(run: &mut Run<'_>) -> Result<()> {
     passwords::ask(run)?;
     wrapping::ask(run)?;
     pem::ask(run)?;
+    any_key::ask(run)?;
     no_memory::ask(run)
 }

@@ -1,6 +1,7 @@
 //! Keys of any version and type: what they read and write, their texts and ids, and what is refused.
 
 mod refusals;
+mod rings;
 mod rows;
 
 use crate::expect::{expect_same, expect_shown, expect_text};
@@ -18,7 +19,7 @@ use rusty_paseto_generic::{AudienceClaim, ClaimSetter};
 use rusty_paseto_paserk::{PaserkType, PaserkVersion};
 use std::alloc::Global;
 use std::process::Abort;
-use test_toys::generators::Zeros;
+use test_toys::generators::{Counting, Zeros};
 
 const ZEROS_LINE: &str = "k4.local.AAAAAAAAAAAAAAAAAAAAAAAAAAAAAAAAAAAAAAAAAAA";
 
@@ -195,9 +196,38 @@ fn claims_are_issued_and_admitted(rt: HostRuntime) {
         .put_claim(&AudienceClaim::from("customers"))
         .expect(&rt, "a claim");
     let footer = Some(Footer::from("{\"kid\":\"2026-11\"}"));
-    let token = issue(alloc, &key, &[7u8; 32], &claims, footer, None).expect(&rt, "a token");
+    let drawn = key
+        .draw(alloc, &mut Counting::new())
+        .expect(&rt, "random bytes");
+    let token = issue(alloc, &key, &drawn, &claims, footer, None).expect(&rt, "a token");
     let mut parser = ClaimsParser::new(alloc);
     parser.set_footer(Footer::from("{\"kid\":\"2026-11\"}"));
     let value = admit(alloc, &key, &parser, token.as_str()).expect(&rt, "claims");
     expect_shown(&rt, alloc, &value, "{\"aud\":\"customers\"}");
+}
+
+// A new key of a type and a version, from a generator that counts.
+fn new_key(rt: &impl Abort, alloc: Global, kind: PaserkType, version: PaserkVersion) -> AnyKey {
+    AnyKey::generate(alloc, kind, version, &mut Counting::new()).expect(rt, "a key")
+}
+
+const COUNTED_LOCAL: &str = "k3.local.AQIDBAUGBwgJCgsMDQ4PEBESExQVFhcYGRobHB0eHyA";
+
+const COUNTED_SECRET: &str =
+    "k3.secret.AQIDBAUGBwgJCgsMDQ4PEBESExQVFhcYGRobHB0eHyAhIiMkJSYnKCkqKywtLi8w";
+
+#[test]
+fn new_keys_are_made_of_drawn_bytes(rt: HostRuntime) {
+    let alloc = rt.alloc();
+    let local = new_key(&rt, alloc, PaserkType::Local, PaserkVersion::V3);
+    let line = local.to_line(alloc).expect(&rt, "a line");
+    expect_text(&rt, line.as_str(), COUNTED_LOCAL);
+    let private = new_key(&rt, alloc, PaserkType::Secret, PaserkVersion::V3);
+    let line = private.to_line(alloc).expect(&rt, "a line");
+    expect_text(&rt, line.as_str(), COUNTED_SECRET);
+    'pairs: for version in [PaserkVersion::V2, PaserkVersion::V3, PaserkVersion::V4] {
+        let private = new_key(&rt, alloc, PaserkType::Secret, version);
+        let public = private.public_half(alloc).expect(&rt, "a public key");
+        signs_for(&rt, alloc, &private, &public, &[]);
+    }
 }

@@ -1,22 +1,19 @@
 //! The program's messages for the errors of builders, parsers and key rings.
 
-ghost use Rattle.std.specs.Prelude.{◌≡◌, ◌≢◌, ◌⊎◌, ◌++◌, ◌∷◌, [], Ok, IfErr, IfOk, IsErrAnd, IsOk, IsOkAnd, OnOk, codes, encode_utf8_all, map, string_bytes};
+ghost use Rattle.std.specs.Prelude.{◌≡◌, ◌⊎◌, ◌++◌, ◌∷◌, [], Ok, IfErr, IfOk, IsErrAnd, IsOk, IsOkAnd, OnOk, codes, encode_utf8_all, map, string_bytes};
 ghost use Rattle.serde_json.specs.View.{view};
-ghost use Rattle.rusty_paseto.specs.KeyRing.{IsMemory as IsMemoryOfRing, IsNoMemory};
-ghost use Rattle.rusty_paseto_core.specs.declared.PasetoError.TheVariants.{Cipher};
 ghost use Rattle.rusty_paseto_generic.specs.Error.{IsMemory as IsMemoryOfBuilder};
 ghost use Rattle.rusty_paseto_generic.specs.Error.Parser.{IsMemory};
-ghost use Rattle.rusty_paseto_generic.specs.declared.error.GenericBuilderError.TheVariants.{CipherError};
-ghost use Rattle.paseto_tasks.specs.Error.{BlamesNone, BlamesOnly, IsFixed, IsNoUsage, IsOutside, IsPlain, Says};
-ghost use Rattle.paseto.specs.Answers.{BlamesOfParser, BlamesOfParsing, BlamesOfRing, IsCipher, IsFooterInvalid, OfBuilder, SaysOfBuilder, SaysOfCheck, SaysOfParsing, SaysOfRing, claim_line, early_line, expired_line, mismatch_text, one_line, repeated_text, shown_letter, text_under, unknown_text};
+ghost use Rattle.paseto_tasks.specs.Error.{BlamesNone, Fails, IsNoUsage, IsOutside, IsPlain, Says, nothing};
+ghost use Rattle.paseto.specs.Answers.{IsNoMemoryOfRing, SaysOfBuilder, SaysOfCheck, SaysOfRing, admitted, claim_line, early_line, expired_line, mismatch_text, one_line, parser_error_of, repeated_text, shown_letter, text_error_of, text_under, unknown_text};
 ghost use Rattle.paseto.specs.Times.{claim_error_of};
 
 use crate::commands::times::between;
 use jiff::Timestamp;
+use paseto_keys::{AdmitError, RingError};
 use paseto_tasks::{ProgramError, TimeOption};
 use rusty_paseto::prelude::{
-    GenericBuilderError, GenericParserError, KeyRingError, KeyRingParserError, PasetoClaimError,
-    PasetoError,
+    GenericBuilderError, GenericParserError, KeyRingError, PasetoClaimError, PasetoError,
 };
 use serde_json::Value;
 use std::alloc::{AllocError, Global};
@@ -27,17 +24,15 @@ pub fn built<T: Drop>(
     answer: Result<T, GenericBuilderError>,
 ) -> Result<T, ProgramError>
     ensures value { IfOk result (λ value. answer ≡ Ok value) }
-    ensures refused { IfErr result (λ error. IsErrAnd answer (λ source. IsOutside error
-        ⊎ ((¬ IsMemoryOfBuilder source) × (source ≢ CipherError Cipher)))) }
+    ensures refused { IfErr result (λ error. IsErrAnd answer
+        (λ source. IsOutside error ⊎ (¬ IsMemoryOfBuilder source))) }
     ensures no_usage { IfErr result IsNoUsage }
-    ensures blames { IfErr result (λ error. IsErrAnd answer
-        (λ source. BlamesOnly (OfBuilder IsCipher source) ⊥ ⊥ ⊥ error)) }
+    ensures blames { IfErr result BlamesNone }
     ensures said { IfErr result (λ error. IsErrAnd answer (λ source. SaysOfBuilder source error)) }
 {
     match answer {
         Ok(value) => Ok(value),
         Err(GenericBuilderError::Memory(source)) => Err(ProgramError::Memory(source)),
-        Err(GenericBuilderError::CipherError { source }) => Err(ProgramError::from(source)),
         Err(GenericBuilderError::DuplicateTopLevelPayloadClaim(key)) => Err(repeated(
             alloc,
             key.as_str(),
@@ -82,18 +77,15 @@ pub fn demanded<T: Drop>(answer: Result<T, GenericParserError>) -> Result<T, Pro
     }
 }
 
-/// Converts the result of a parser that checks no claims.
-pub fn parsed<T: Drop>(answer: Result<T, GenericParserError>) -> Result<T, ProgramError>
-    ensures value { IfOk result (λ value. answer ≡ Ok value) }
-    ensures refused { IfErr result (λ error. IsErrAnd answer
-        (λ source. IsOutside error ⊎ (¬ IsMemory source))) }
-    ensures fixed { IfErr result IsFixed }
-    ensures blames { IfErr result (λ error. IsErrAnd answer
-        (λ source. BlamesOfParser source error)) }
+/// Converts the result of a key that reads a token, whose claims are not checked.
+pub fn admitted(answer: Result<Value, AdmitError>) -> Result<Value, ProgramError>
+    ensures { result ≡ admitted answer }
 {
     match answer {
         Ok(value) => Ok(value),
-        Err(source) => Err(by_parser(source)),
+        Err(AdmitError::Key(source)) => Err(ProgramError::from(source)),
+        Err(AdmitError::Parser(source)) => Err(by_parser(source)),
+        Err(AdmitError::Memory(source)) => Err(ProgramError::Memory(source)),
     }
 }
 
@@ -108,85 +100,74 @@ pub fn checked(
     ensures refused { IfErr result (λ error. IsErrAnd answer
         (λ source. IsOutside error ⊎ (¬ IsMemory source))) }
     ensures no_usage { IfErr result IsNoUsage }
-    ensures blames { IfErr result (λ error. IsErrAnd answer
-        (λ source. BlamesOfParser source error)) }
+    ensures blames { IfErr result BlamesNone }
     ensures said { IfErr result (λ error. IsErrAnd answer
         (λ source. SaysOfCheck (view claims.now) at source error)) }
 {
     match answer {
         Ok(()) => Ok(()),
         Err(GenericParserError::ClaimError { source }) => Err(by_claim(alloc, claims, at, source)),
-        Err(source) => Err(by_parser(source)),
+        Err(source) => Err(by_text(source)),
     }
 }
 
-/// Converts the result of a key ring, without the id of the key.
+/// Converts the result of a key ring that reads a token, whose claims are not checked, without the id
+/// of the key.
 pub fn found(
     alloc: Global,
-    answer: Result<(String, Value), KeyRingParserError>,
+    answer: Result<(String, Value), RingError>,
 ) -> Result<Value, ProgramError>
     ensures value { IfOk result (λ value. IsOkAnd answer (λ found. found.1 ≡ value)) }
     ensures refused { IfErr result (λ error. IsErrAnd answer
-        (λ source. IsOutside error ⊎ (¬ IsNoMemory source))) }
+        (λ source. IsOutside error ⊎ IsNoMemoryOfRing source)) }
     ensures no_usage { IfErr result IsNoUsage }
-    ensures blames { IfErr result (λ error. IsErrAnd answer (λ source. BlamesOfParsing source error)) }
-    ensures said { IfErr result (λ error. IsErrAnd answer (λ source. SaysOfParsing source error)) }
-{
-    match answer {
-        Ok((_id, value)) => Ok(value),
-        Err(KeyRingParserError::Memory(source)) => Err(ProgramError::Memory(source)),
-        Err(KeyRingParserError::Parser(source)) => Err(by_parser(source)),
-        Err(KeyRingParserError::Ring(source)) => Err(by_ring(alloc, source)),
-    }
-}
-
-/// Converts the result of a setter of a key ring.
-pub fn put(alloc: Global, answer: Result<(), KeyRingError>) -> Result<(), ProgramError>
-    ensures put { OnOk result (IsOk answer) }
-    ensures refused { IfErr result (λ error. IsErrAnd answer
-        (λ source. IsOutside error ⊎ (¬ IsMemoryOfRing source))) }
-    ensures no_usage { IfErr result IsNoUsage }
-    ensures blames { IfErr result (λ error. IsErrAnd answer (λ source. BlamesOfRing source error)) }
+    ensures blames { IfErr result BlamesNone }
     ensures said { IfErr result (λ error. IsErrAnd answer (λ source. SaysOfRing source error)) }
 {
     match answer {
-        Ok(()) => Ok(()),
-        Err(source) => Err(by_ring(alloc, source)),
+        Ok((_id, value)) => Ok(value),
+        Err(RingError::NoAssertion) => Err(ProgramError::NoAssertion),
+        Err(RingError::Memory(source)) => Err(ProgramError::Memory(source)),
+        Err(RingError::Parser(source)) => Err(by_text(source)),
+        Err(RingError::Ring(source)) => Err(by_ring(alloc, source)),
     }
 }
 
+/// The error for a token that a key does not read as claims.
 fn by_parser(source: GenericParserError) -> ProgramError
-    ensures memory { IsOutside result ⊎ (¬ IsMemory source) }
-    ensures fixed { IsFixed result }
-    ensures blames { BlamesOfParser source result }
+    ensures { result ≡ parser_error_of source }
+{
+    match source {
+        GenericParserError::CipherError {
+            source: PasetoError::FooterInvalid,
+        } => ProgramError::OtherFooter,
+        source => by_text(source),
+    }
+}
+
+/// The error for the text of a token, or for its claims.
+fn by_text(source: GenericParserError) -> ProgramError
+    ensures { result ≡ text_error_of source }
 {
     match source {
         GenericParserError::Memory(source) => ProgramError::Memory(source),
-        GenericParserError::CipherError { source } => by_token(source),
+        GenericParserError::CipherError { source } => ProgramError::Refused(source),
         GenericParserError::ClaimError { .. } => ProgramError::OddNumber,
         GenericParserError::PayloadJsonError { .. } => ProgramError::NotJson,
     }
 }
 
-fn by_token(source: PasetoError) -> ProgramError
-    ensures fixed { IsFixed result }
-    ensures blames { BlamesOnly (IsCipher source) ⊥ ⊥ (IsFooterInvalid source) result }
-{
-    match source {
-        PasetoError::FooterInvalid => ProgramError::OtherFooter,
-        source => ProgramError::from(source),
-    }
-}
-
 fn by_ring(alloc: Global, source: KeyRingError) -> ProgramError
-    ensures memory { IsOutside result ⊎ (¬ IsMemoryOfRing source) }
+    ensures memory { IsOutside result ⊎ IsNoMemoryOfRing (RingError.Ring source) }
     ensures no_usage { IsNoUsage result }
-    ensures blames { BlamesOfRing source result }
-    ensures said { SaysOfRing source result }
+    ensures blames { BlamesNone result }
+    ensures said { SaysOfRing (RingError.Ring source) result }
 {
     match source {
         KeyRingError::Memory(source) => ProgramError::Memory(source),
-        KeyRingError::Untrusted(source) | KeyRingError::Token(source) => ProgramError::from(source),
+        KeyRingError::Untrusted(source) | KeyRingError::Token(source) => {
+            ProgramError::Refused(source)
+        }
         KeyRingError::NoFooter => ProgramError::NoFooter,
         KeyRingError::NotAnObject => ProgramError::NotAnObject,
         KeyRingError::NoKeyId => ProgramError::NoKeyId,

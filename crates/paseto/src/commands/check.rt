@@ -2,53 +2,42 @@
 
 ghost use Rattle.std.specs.Prelude.{◌≡◌, ◌⊎◌, None, IfErr, IfOk, IsErrAnd, Ok, OnOk, false, option_map, string_bytes, true};
 ghost use Rattle.serde_json.specs.View.{view};
-ghost use Rattle.rusty_paseto_core.specs.Local.Opening.{opening};
-ghost use Rattle.rusty_paseto_core.specs.Public.Verifying.{verification};
 ghost use Rattle.rusty_paseto_parts.specs.Footer.{footer_text};
-ghost use Rattle.rusty_paseto_paserk.specs.declared.header.PaserkVersion.TheVariants.{V2 as K2};
-ghost use Rattle.rusty_paseto_paserk.specs.declared.header.PaserkType.TheVariants.{Local as LocalKey, Public as PublicKey};
 ghost use Rattle.rusty_paseto_generic.specs.Parsers.Held.{rules_of, verdicts_of, with_times};
 ghost use Rattle.rusty_paseto_generic.specs.Parsers.Rules.{AreSame, no_rule};
 ghost use Rattle.rusty_paseto_generic.specs.Parsers.Times.{times_at};
-ghost use Rattle.paseto_tasks.specs.Arguments.{assertion_where, binds_in, texts};
-ghost use Rattle.paseto.specs.Check.{AreDemands, IsCheckedAt, IsOtherFooter, IsTheValue, ParsesByKey, ParsesWith, demanded, demanded_rules};
-ghost use Rattle.paseto.specs.Checked.{ChecksBy, IsCheckLine, IsJsonLine, IsOtherFooterFor, ParsesBy};
+ghost use Rattle.paseto_keys.specs.AnyKey.{parts_of};
+ghost use Rattle.paseto_tasks.specs.Arguments.{texts};
+ghost use Rattle.paseto_tasks.specs.Error.{Fails, IsMemory, IsOfWords, IsOutside, IsPlain, Lacks, nothing};
+ghost use Rattle.paseto_tasks.specs.Output.{Makes};
+ghost use Rattle.paseto.specs.Check.{AreDemands, IsCheckedAt, IsTheValueOf, RefusesKey, demanded, demanded_rules};
+ghost use Rattle.paseto.specs.Checked.{ChecksBy, IsJsonLine, IsTheValueBy, RefusesDemands, RefusesKeys};
 ghost use Rattle.paseto.specs.Claims.{all_demanded, all_named, all_required, are_whole};
-ghost use Rattle.paseto_tasks.specs.Error.{BlamesOnly, IsFixed, IsNoUsage, IsOfWords, IsOutside, IsPlain, Lacks, Says};
-ghost use Rattle.paseto_tasks.specs.Public.{MayRefuse};
-ghost use Rattle.paseto.specs.Readers.{IsReader, reading_of};
-ghost use Rattle.paseto.specs.Ring.{IsRingLine};
+ghost use Rattle.paseto.specs.Gives.{Gives};
 
-use crate::commands::answers::{checked, demanded as taken, parsed};
-use crate::commands::asserts::Asserts;
+use crate::commands::answers::{admitted, checked, demanded as taken};
 use crate::commands::claims::{NamedClaim, claims_of};
-use crate::commands::footer::footer_of;
+use crate::commands::footer::{footer_of, lent};
 use crate::commands::ring::claims_by_ring;
 use crate::commands::times::{leeway_of, moment_of};
 use jiff::Timestamp;
-use paseto_ed25519::Ed25519;
-use paseto_p384::P384;
-use paseto_rsa::RsaPss;
-use paseto_tasks::{
-    NoSalt, Options, PairLines, ProgramError, TimeOption, TokenKind, begins_as, takes, verifier,
-};
-use paseto_xchacha20poly1305::XChaCha20Poly1305;
+use paseto_keys::{AnyKey, ClaimsParser, admit};
+use paseto_tasks::{Options, ProgramError, TimeOption, TokenKind};
 use rusty_paseto::DefaultParser;
 use rusty_paseto::prelude::{
-    CheckSetter, DefaultLocalVersion, Footer, ImplicitAssertion, Local, PasetoError, PasetoParser,
-    Public, PurposeTrait, V1, V2, V3, V4, Verifies, VersionTrait,
+    CheckSetter, ImplicitAssertion, Local, PasetoError, PasetoParser, PurposeTrait, V4,
+    VersionTrait,
 };
-use rusty_paseto_paserk::{PaserkError, PaserkType, PaserkVersion, local_from_paserk};
 use serde_json::Value;
 use std::alloc::Global;
 
-/// The keys to check a token with: the key of a line, or the keys of a ring's lines.
-#[derive(Clone, Copy)]
-pub enum Keys<'k> {
-    /// The line of a key file.
-    One(&'k str),
-    /// The lines of a folder's key files.
-    Ring(&'k [String]),
+/// The keys to check a token with: one key, or those of a ring.
+#[derive(Drop)]
+pub enum Keys {
+    /// The key of a key file.
+    One(AnyKey),
+    /// The keys of a folder's key files.
+    Ring(Vec<AnyKey>),
 }
 
 /// What is required of a token.
@@ -87,21 +76,21 @@ impl<'w> Demands<'w> {
     }
 
     /// The parser that reads a token with the required footer and assertion, and checks no claims.
-    pub fn reader<V: Asserts, P: PurposeTrait>(&self, alloc: Global) -> PasetoParser<'_, V, P>
-        ensures rules { verdicts_of (λ b. verdict b)
-            (times_at result.parser.moment result.parser.leeway) result.parser.checks
-            ≡ (λ key. no_rule) }
-        ensures footer { option_map footer_text result.parser.footer
+    pub fn reader(&self, alloc: Global) -> ClaimsParser<'_>
+        ensures rules { verdicts_of (λ b. verdict b) (times_at result.moment result.leeway)
+            result.checks ≡ (λ key. no_rule) }
+        ensures footer { option_map footer_text result.footer
             ≡ option_map string_bytes self.now.footer }
-        ensures assertion { result.parser.implicit_assertion
-            ≡ assertion_where (binds_in V.paserk) self.now.assertion }
-        ensures longest { result.parser.longest ≡ None }
+        ensures assertion { result.implicit_assertion ≡ self.now.assertion }
+        ensures longest { result.longest ≡ None }
     {
-        let mut parser = PasetoParser::new(alloc);
-        if let Some(footer) = &self.footer {
-            parser.set_footer(Footer::from(footer.as_str()));
+        let mut parser = ClaimsParser::new(alloc);
+        if let Some(footer) = lent(&self.footer) {
+            parser.set_footer(footer);
         }
-        V::give_parser(&mut parser, self.assertion);
+        if let Some(assertion) = self.assertion {
+            parser.set_implicit_assertion(assertion);
+        }
         parser
     }
 
@@ -207,17 +196,12 @@ fn put_requirements<V: VersionTrait, P: PurposeTrait, B: Drop>(
 /// The line of the claims of a token that meets the requirements.
 pub fn check(
     alloc: Global,
-    keys: &Keys<'_>,
+    keys: &Keys,
     demands: &Demands<'_>,
     token: &str,
 ) -> Result<String, ProgramError>
-    ensures found { IfOk result (λ line. ChecksBy keys.now (demanded demands.now) token.now
-        (string_bytes line)) }
-    ensures none { IfErr result (Lacks (λ line. ChecksBy keys.now (demanded demands.now) token.now
-        line)) }
-    ensures no_usage { IfErr result IsNoUsage }
-    ensures said { IfErr result (Says (IsCheckLine keys.now (demanded demands.now) token.now)) }
-    ensures blames { IfErr result (BlamesOnly ⊥ ⊥ ⊥ (IsOtherFooterFor keys.now (demanded demands.now).footer token.now)) }
+    ensures { Makes (ChecksBy keys.now (demanded demands.now) token.now)
+        (RefusesDemands keys.now (demanded demands.now) token.now) (Fails nothing) result }
 {
     let checker = demands.checker(alloc)?;
     let claims = claims_by(alloc, keys, demands, token)?;
@@ -228,177 +212,62 @@ pub fn check(
 /// The line of a value as JSON.
 fn json_line(alloc: Global, value: &Value) -> Result<String, ProgramError>
     ensures line { IfOk result (λ line. IsJsonLine (view value.now) (string_bytes line)) }
-    ensures memory { IfErr result IsOutside }
-    ensures plain { IfErr result IsPlain }
+    ensures memory { IfErr result IsMemory }
 {
     let mut line = value.to_string(alloc)?;
     line.push('\n')?;
     Ok(line)
 }
 
+/// The claims of a token, with one key, or with the one of a ring that its footer names.
 fn claims_by(
     alloc: Global,
-    keys: &Keys<'_>,
+    keys: &Keys,
     demands: &Demands<'_>,
     token: &str,
 ) -> Result<Value, ProgramError>
-    ensures answer { IsTheValue (λ value. ParsesBy keys.now (demanded demands.now).footer (demanded demands.now).assertion
-        token.now value) result }
-    ensures no_usage { IfErr result IsNoUsage }
-    ensures said { IfErr result (Says (IsRingLine token.now)) }
-    ensures blames { IfErr result (BlamesOnly ⊥ ⊥ ⊥ (IsOtherFooterFor keys.now (demanded demands.now).footer token.now)) }
+    ensures { Gives (λ value. IsTheValueBy keys.now (demanded demands.now).footer
+        (demanded demands.now).assertion token.now (view value))
+        (RefusesKeys keys.now (demanded demands.now).footer (demanded demands.now).assertion token.now)
+        (Fails nothing) result }
 {
     match keys {
         Keys::One(key) => with_kinds(claims_by_key(alloc, key, demands, token), token, key),
-        Keys::Ring(lines) => claims_by_ring(alloc, lines, demands, token),
+        Keys::Ring(keys) => claims_by_ring(alloc, keys, demands, token),
     }
 }
 
-/// The result for a token and the key of a line. If the token is of another kind than the key is
-/// for, the error names both.
+/// The result for a token and a key. If the token is of another kind than the key is for, the error
+/// names both.
 fn with_kinds(
     answer: Result<Value, ProgramError>,
     token: &str,
-    key: &str,
+    key: &AnyKey,
 ) -> Result<Value, ProgramError>
     ensures value { IfOk result (λ value. answer ≡ Ok value) }
     ensures refused { IfErr result (λ error. IsErrAnd answer (λ source. (source ≡ error)
         ⊎ ((source ≡ ProgramError.Refused PasetoError.WrongHeader) × IsPlain error))) }
-    ensures no_usage { IfErr answer IsNoUsage → IfErr result IsNoUsage }
-    ensures fixed { IfErr answer IsFixed → IfErr result IsFixed }
 {
-    let Some((version, kind)) = begins_as(key) else {
-        return answer;
-    };
     match answer {
         Err(ProgramError::Refused(PasetoError::WrongHeader)) => Err(ProgramError::OtherKind(
             TokenKind::of(token),
-            TokenKind::read_by(version, kind),
+            TokenKind::read_by(key.version(), key.kind()),
         )),
         answer => answer,
     }
 }
 
-/// The claims of a token, with the key of a line.
+/// The claims of a token, with a key.
 fn claims_by_key(
     alloc: Global,
-    key: &str,
+    key: &AnyKey,
     demands: &Demands<'_>,
     token: &str,
 ) -> Result<Value, ProgramError>
-    ensures answer { IsTheValue (λ value. ParsesByKey key.now (demanded demands.now).footer (demanded demands.now).assertion
-        token.now value) result }
-    ensures fixed { IfErr result IsFixed }
-    ensures blames { IfErr result (BlamesOnly ⊥ ⊥ ⊥ (IsOtherFooter (demanded demands.now).footer token.now)) }
+    ensures { Gives (λ value. IsTheValueOf (parts_of key.now) (demanded demands.now).footer
+        (demanded demands.now).assertion token.now (view value))
+        (RefusesKey (parts_of key.now) (demanded demands.now).footer (demanded demands.now).assertion
+        token.now) (Fails nothing) result }
 {
-    let Some((version, kind)) = begins_as(key) else {
-        return Err(ProgramError::Key(PaserkError::NoKey));
-    };
-    takes(version, demands.assertion)?;
-    match kind {
-        PaserkType::Local => by_local_key(alloc, version, key, demands, token),
-        PaserkType::Public => by_public_key(alloc, version, key, demands, token),
-        PaserkType::Secret => Err(ProgramError::Key(PaserkError::OtherType(kind))),
-    }
-}
-
-fn by_local_key(
-    alloc: Global,
-    version: PaserkVersion,
-    key: &str,
-    demands: &Demands<'_>,
-    token: &str,
-) -> Result<Value, ProgramError>
-    ensures answer { IsTheValue (λ value. IsReader LocalKey version × ParsesWith LocalKey version
-        (reading_of LocalKey version) key.now (demanded demands.now).footer (demanded demands.now).assertion token.now value)
-        result }
-    ensures fixed { IfErr result IsFixed }
-    ensures blames { IfErr result (BlamesOnly ⊥ ⊥ ⊥ (IsOtherFooter (demanded demands.now).footer token.now)) }
-{
-    match version {
-        PaserkVersion::V1 => opened::<V1>(alloc, key, demands, token),
-        PaserkVersion::V2 => unboxed(alloc, key, demands, token),
-        PaserkVersion::V3 => opened::<V3>(alloc, key, demands, token),
-        PaserkVersion::V4 => opened::<V4>(alloc, key, demands, token),
-    }
-}
-
-fn by_public_key(
-    alloc: Global,
-    version: PaserkVersion,
-    key: &str,
-    demands: &Demands<'_>,
-    token: &str,
-) -> Result<Value, ProgramError>
-    ensures answer { IsTheValue (λ value. IsReader PublicKey version × ParsesWith PublicKey
-        version (reading_of PublicKey version) key.now (demanded demands.now).footer (demanded demands.now).assertion token.now
-        value) result }
-    ensures fixed { IfErr result IsFixed }
-    ensures blames { IfErr result (BlamesOnly ⊥ ⊥ ⊥ (IsOtherFooter (demanded demands.now).footer token.now)) }
-{
-    match version {
-        PaserkVersion::V1 => verified::<V1, RsaPss<NoSalt>>(
-            alloc,
-            &verifier(),
-            key,
-            demands,
-            token,
-        ),
-        PaserkVersion::V2 => verified::<V2, Ed25519>(alloc, &Ed25519, key, demands, token),
-        PaserkVersion::V3 => verified::<V3, P384>(alloc, &P384, key, demands, token),
-        PaserkVersion::V4 => verified::<V4, Ed25519>(alloc, &Ed25519, key, demands, token),
-    }
-}
-
-fn opened<V: DefaultLocalVersion + Asserts>(
-    alloc: Global,
-    key: &str,
-    demands: &Demands<'_>,
-    token: &str,
-) -> Result<Value, ProgramError>
-    requires { V.design.binds_assertion ≡ binds_in V.paserk }
-    ensures answer { IsTheValue (λ value. ParsesWith LocalKey V.paserk (opening V.design) key.now
-        (demanded demands.now).footer (demanded demands.now).assertion token.now value) result }
-    ensures fixed { IfErr result IsFixed }
-    ensures blames { IfErr result (BlamesOnly ⊥ ⊥ ⊥ (IsOtherFooter (demanded demands.now).footer token.now)) }
-{
-    let key = local_from_paserk::<V>(alloc, key)?;
-    let parser = demands.reader::<V, Local>(alloc);
-    parsed(parser.parse(token, &key))
-}
-
-fn unboxed(
-    alloc: Global,
-    key: &str,
-    demands: &Demands<'_>,
-    token: &str,
-) -> Result<Value, ProgramError>
-    ensures answer { IsTheValue (λ value. ParsesWith LocalKey K2 (reading_of LocalKey K2) key.now
-        (demanded demands.now).footer (demanded demands.now).assertion token.now value) result }
-    ensures fixed { IfErr result IsFixed }
-    ensures blames { IfErr result (BlamesOnly ⊥ ⊥ ⊥ (IsOtherFooter (demanded demands.now).footer token.now)) }
-{
-    let key = local_from_paserk::<V2>(alloc, key)?;
-    let parser = demands.reader::<V2, Local>(alloc);
-    parsed(parser.parse(&XChaCha20Poly1305, token, &key))
-}
-
-fn verified<V: PairLines + Asserts + Verifies<S>, S>(
-    alloc: Global,
-    scheme: &S,
-    key: &str,
-    demands: &Demands<'_>,
-    token: &str,
-) -> Result<Value, ProgramError>
-    requires { V.public_design.binds_assertion ≡ binds_in V.paserk }
-    ensures answer { IsTheValue (λ value. ParsesWith PublicKey V.paserk (verification V.valid
-        V.refused V.public_design) key.now (demanded demands.now).footer (demanded demands.now).assertion token.now value) result }
-    ensures fixed { IfErr result IsFixed }
-    ensures blames { IfErr result (BlamesOnly (MayRefuse V.refused PasetoError.Cipher) ⊥ ⊥
-        (IsOtherFooter (demanded demands.now).footer token.now
-        ⊎ MayRefuse V.refused PasetoError.FooterInvalid)) }
-{
-    let key = V::public_key(alloc, key)?;
-    let parser = demands.reader::<V, Public>(alloc);
-    parsed(parser.parse(scheme, token, &key.lend()))
+    admitted(admit(alloc, key, &demands.reader(alloc), token))
 }

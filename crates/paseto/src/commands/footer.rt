@@ -1,11 +1,13 @@
 //! The footer that the arguments give.
 
-ghost use Rattle.std.specs.Prelude.{IfErr, IfOk, option_map, string_bytes};
+ghost use Rattle.std.specs.Prelude.{◌≡◌, IfErr, IfOk, option_map, string_bytes};
+ghost use Rattle.rusty_paseto_parts.specs.Footer.{footer_text};
 ghost use Rattle.paseto_tasks.specs.Error.{IsOutside, IsPlain};
 ghost use Rattle.paseto.specs.Footers.{IsFooter};
 
 use paseto_tasks::{Options, ProgramError};
 use rusty_paseto::key_footer;
+use rusty_paseto_core::Footer;
 use std::alloc::Global;
 
 /// The text of the footer that `--footer` or `--footer-kid` gives. For `--footer-kid` it is a JSON
@@ -22,5 +24,15 @@ pub fn footer_of(alloc: Global, options: &Options<'_>) -> Result<Option<String>,
     match options.footer {
         Some(footer) => Ok(Some(String::from_str(alloc, footer.as_str())?)),
         None => Ok(None),
+    }
+}
+
+/// A text as a footer, if there is one.
+pub fn lent(text: &Option<String>) -> Option<Footer<'_>>
+    ensures { option_map footer_text result ≡ option_map string_bytes text.now }
+{
+    match text {
+        Some(text) => Some(Footer::from(text.as_str())),
+        None => None,
     }
 }

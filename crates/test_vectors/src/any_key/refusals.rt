@@ -5,14 +5,18 @@ use super::rows::WRITTEN;
 use crate::expect::expect_shown;
 use crate::pem::texts::{RSA_1024_PUBLIC, RSA_PRIVATE};
 use paseto_keys::{
-    AnyKey, ClaimsParser, KeyError, TokenWriter, admit, decrypt, encrypt, sign, verify,
+    AdmitError, AnyKey, ClaimsBuilder, ClaimsParser, KeyError, TokenReader, TokenWriter, admit,
+    decrypt, encrypt, issue, sign, verify,
 };
+use rand_core::TryRng;
 use rusty_paseto_core::{ImplicitAssertion, Key, PasetoError, PasetoSymmetricKey};
 use rusty_paseto_generic::GenericParserError;
 use rusty_paseto_paserk::{PaserkType, PaserkVersion};
+use serde_json::Value;
 use std::alloc::Global;
 use std::fmt::Display;
 use std::process::Abort;
+use test_toys::generators::{Failing, Zeros};
 
 // The answer is the error that shows this.
 fn expect_refusal<T: Drop, E: Display + Drop>(
@@ -35,13 +39,16 @@ const PUBLIC: &str = "The key is a public one, which verifies";
 
 const UNBOUND: &str = "Keys of versions 1 and 2 take no implicit assertion";
 
+const UNDRAWN: &str = "The key takes another number of random bytes for a token";
+
 const FIRST: &str = "k1.local.cHFyc3R1dnd4eXp7fH1-f4CBgoOEhYaHiImKi4yNjo8";
 
 const SECOND: &str = "k2.public.Hrnbu7wEfAP9cGBOAHHwmH4Wsot1ciXBHwBBXQ4gsaI";
 
-const THIRD: &str = "k3.secret.AuEW8g8o7tXDzTX8Dw6MaHSPfdVpnXl6-9C5aRANAPyPT83j_3yE-OJBBwq01JDM";
+pub(super) const THIRD: &str =
+    "k3.secret.AuEW8g8o7tXDzTX8Dw6MaHSPfdVpnXl6-9C5aRANAPyPT83j_3yE-OJBBwq01JDM";
 
-/// A call, the line of its key, whether an assertion is given, and what is said.
+/// A call, the line of its key, whether an assertion is given, and what is said where 31 bytes are drawn.
 const REFUSED: &[(&str, &str, bool, &str)] = &[
     ("decrypt", THIRD, true, PRIVATE),
     ("decrypt", SECOND, false, PUBLIC),
@@ -50,38 +57,62 @@ const REFUSED: &[(&str, &str, bool, &str)] = &[
     ("encrypt", THIRD, true, PRIVATE),
     ("sign", FIRST, false, LOCAL),
     ("sign", SECOND, true, PUBLIC),
+    ("read", THIRD, true, PRIVATE),
+    ("write", SECOND, true, PUBLIC),
+    ("issue", SECOND, true, PUBLIC),
+    ("admit", THIRD, true, PRIVATE),
     ("decrypt", FIRST, true, UNBOUND),
     ("encrypt", FIRST, true, UNBOUND),
     ("verify", SECOND, true, UNBOUND),
+    ("read", SECOND, true, UNBOUND),
+    ("write", FIRST, true, UNBOUND),
+    ("issue", FIRST, true, UNBOUND),
+    ("admit", SECOND, true, UNBOUND),
+    ("encrypt", FIRST, false, UNDRAWN),
+    ("sign", THIRD, true, UNDRAWN),
+    ("write", THIRD, false, UNDRAWN),
+    ("issue", FIRST, false, UNDRAWN),
     ("decrypt", FIRST, false, "The token header is invalid"),
     ("verify", SECOND, false, "The token header is invalid"),
+    ("read", SECOND, false, "The token header is invalid"),
+    ("admit", SECOND, false, "A paseto cipher error occurred"),
 ];
 
 // What a call answers for the token or the text `v4.local.AAAA`.
-fn answer(
-    rt: &impl Abort,
-    alloc: Global,
-    call: &str,
-    key: &AnyKey,
-    is_bound: bool,
-) -> Result<String, KeyError> {
-    let drawn = [7u8; 48];
-    let drawn = drawn.get(..key.draws()).expect(rt, "drawn bytes");
+fn answer(alloc: Global, call: &str, key: &AnyKey, is_bound: bool) -> Result<String, KeyError> {
     let assertion = is_bound.then(|| ImplicitAssertion::from("an assertion"));
+    let (text, claims, drawn) = ("v4.local.AAAA", ClaimsBuilder::new(alloc), [7u8; 31]);
     match call {
-        "decrypt" => decrypt(alloc, key, "v4.local.AAAA", None, assertion),
-        "verify" => verify(alloc, key, "v4.local.AAAA", None, assertion),
-        "encrypt" => encrypt(alloc, key, drawn, "v4.local.AAAA", None, assertion),
-        _ => sign(alloc, key, drawn, "v4.local.AAAA", None, assertion),
+        "decrypt" => decrypt(alloc, key, text, None, assertion),
+        "verify" => verify(alloc, key, text, None, assertion),
+        "read" => key.read(alloc, text, None, assertion),
+        "encrypt" => encrypt(alloc, key, &drawn, text, None, assertion),
+        "sign" => sign(alloc, key, &drawn, text, None, assertion),
+        "write" => key.write(alloc, &drawn, text, None, assertion),
+        _ => issue(alloc, key, &drawn, &claims, None, assertion),
     }
+}
+
+// What `admit` answers for the token `v4.local.AAAA`. Its parser has an assertion that it is given as one of version 4.
+fn admitted(alloc: Global, key: &AnyKey, is_bound: bool) -> Result<Value, AdmitError> {
+    let mut parser = ClaimsParser::new(alloc);
+    if is_bound {
+        parser.set_implicit_assertion(ImplicitAssertion::from("an assertion"));
+    }
+    admit(alloc, key, &parser, "v4.local.AAAA")
 }
 
 #[test]
 fn types_assertions_and_tokens(rt: HostRuntime) {
     'rows: for &(call, line, is_bound, wanted) in REFUSED {
         let key = key_of(&rt, rt.alloc(), line);
-        let answer = answer(&rt, rt.alloc(), call, &key, is_bound);
-        expect_refusal(&rt, rt.alloc(), answer, wanted);
+        if call == "admit" {
+            let answer = admitted(rt.alloc(), &key, is_bound);
+            expect_refusal(&rt, rt.alloc(), answer, wanted);
+        } else {
+            let answer = answer(rt.alloc(), call, &key, is_bound);
+            expect_refusal(&rt, rt.alloc(), answer, wanted);
+        }
     }
 }
 
@@ -93,12 +124,32 @@ fn tokens_beyond_the_limit(rt: HostRuntime) {
     parser.set_longest(100);
     match admit(alloc, &key, &parser, WRITTEN[0].5) {
         Err(
-            GenericParserError::CipherError {
-                source: PasetoError::TooLong,
-            },
+            AdmitError::Parser(
+                GenericParserError::CipherError {
+                    source: PasetoError::TooLong,
+                },
+            ),
         ) => {}
         _ => assert!(rt; false, "a token that is too long"),
     }
+}
+
+// How many bytes are taken is told, and a generator that fails.
+#[test]
+fn drawn_bytes(rt: HostRuntime) {
+    let alloc = rt.alloc();
+    let key = key_of(&rt, alloc, FIRST);
+    match encrypt(alloc, &key, &[7u8; 33], "text", None, None) {
+        Err(KeyError::OtherLength(32)) => {}
+        _ => assert!(rt; false, "another number of bytes"),
+    }
+    let mut failing = Failing { asked: 0 };
+    let wanted = "The generator of random bytes failed";
+    expect_refusal(&rt, alloc, key.draw(alloc, &mut failing), wanted);
+    assert!(rt; failing.asked == 1, "asked once");
+    let key = key_of(&rt, alloc, THIRD);
+    let none = key.draw(alloc, &mut failing).expect(&rt, "no bytes");
+    assert!(rt; none.is_empty() && failing.asked == 1, "no bytes");
 }
 
 #[test]
@@ -160,5 +211,38 @@ fn bytes_of_no_key(rt: HostRuntime) {
             let answer = AnyKey::from_bytes(alloc, kind, version, &[7u8; 31]);
             expect_refusal(&rt, alloc, answer, "Key was not in the correct format");
         }
+    }
+}
+
+// What is answered for a new key of a type and a version.
+fn expect_no_new_key<G: TryRng>(
+    rt: &impl Abort,
+    alloc: Global,
+    kind: PaserkType,
+    version: PaserkVersion,
+    generator: &mut G,
+    wanted: &str,
+) {
+    let answer = AnyKey::generate(alloc, kind, version, generator);
+    expect_refusal(rt, alloc, answer, wanted);
+}
+
+#[test]
+fn new_keys(rt: HostRuntime) {
+    let (alloc, mut failing) = (rt.alloc(), Failing { asked: 0 });
+    let (secret, first) = (PaserkType::Secret, PaserkVersion::V1);
+    let wanted = "Private keys of version 1 are not generated";
+    expect_no_new_key(&rt, alloc, secret, first, &mut failing, wanted);
+    expect_no_new_key(&rt, alloc, PaserkType::Public, first, &mut failing, PUBLIC);
+    assert!(rt; failing.asked == 0, "not asked");
+    let wanted = "The generator of random bytes failed";
+    expect_no_new_key(&rt, alloc, PaserkType::Local, first, &mut failing, wanted);
+    'pairs: for version in [PaserkVersion::V2, PaserkVersion::V3, PaserkVersion::V4] {
+        expect_no_new_key(&rt, alloc, secret, version, &mut failing, wanted);
+    }
+    let answer = AnyKey::generate(alloc, secret, PaserkVersion::V3, &mut Zeros);
+    match answer {
+        Err(KeyError::Refused(PasetoError::KeyRejected)) => {}
+        _ => assert!(rt; false, "no private key"),
     }
 }

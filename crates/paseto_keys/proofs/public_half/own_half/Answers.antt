@@ -1,4 +1,4 @@
-use Rattle.std.proofs.Common.{◌≡◌, List, ℕ, length, take, drop, ap, rules, ◌∙◌}
+use Rattle.std.proofs.Common.{◌≡◌, List, ℕ, length, take, drop, ap, ◌∙◌}
 use Rattle.paseto_ed25519.specs.Ed25519.{partner}
 use Rattle.paseto_keys.proofs.HalfLaws.{rest_of}
 use Rattle.paseto_keys.proofs.public_half.own_half.Goals as goal

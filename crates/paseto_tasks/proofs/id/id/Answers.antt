@@ -1,6 +1,10 @@
-use Rattle.std.proofs.Common.{inr, refl}
-use Rattle.paseto_tasks.proofs.Ids.{no_header_identified}
+use Rattle.paseto_keys.specs.AnyKey.{parts_of}
+use Rattle.paseto_tasks.specs.Error.{nothing}
+use Rattle.paseto_tasks.specs.Id.{HasId, HasNoId}
+use Rattle.paseto_tasks.proofs.Outputs.{line_makes}
 use Rattle.paseto_tasks.proofs.id.id.Goals as goal
 
-pub returns-in-None-clause-refused : goal.returns-in-None-clause-refused
-returns-in-None-clause-refused c = inr (no_header_identified c.args.key.now (c.in-None.ensures.none refl))
+pub returns : goal.returns
+returns c =
+    line_makes (HasId (parts_of c.args.key.now)) (HasNoId (parts_of c.args.key.now)) nothing _ c.with_line_feed.result c.with_line_feed.ensures.line
+    c.with_line_feed.ensures.only_memory (λ line is. (c.in_ok-id.field-0, c.in_ok-id.ensures, is))

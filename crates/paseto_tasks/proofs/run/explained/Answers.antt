@@ -1,14 +1,14 @@
-use Rattle.std.proofs.Common.{◌⊎◌, ℕ, List, IsUtf8, string_bytes}
-use Rattle.paseto_tasks.specs.Error.{IsOutside}
-use Rattle.paseto_tasks.specs.Explain.{ExplainsNothing}
-use Rattle.paseto_tasks.specs.Shown.{Shows}
-use Rattle.paseto_tasks.proofs.Explanations.{for_text}
-use Rattle.paseto_tasks.proofs.Refusals.{line_refused}
+use Rattle.std.proofs.Common.{inl}
+use Rattle.std.proofs.lemmas.Result.{err_from_is_err_and}
+use Rattle.paseto_keys.specs.AnyKey.{parts_of}
+use Rattle.paseto_tasks.specs.Explain.{RefusesExplaining}
+use Rattle.paseto_tasks.specs.Input.{IsNoText, line_of_input}
+use Rattle.paseto_tasks.proofs.Inputs.{refused_more}
 use Rattle.paseto_tasks.proofs.run.explained.Goals as goal
 
-pub returns-clause-refused : goal.returns-clause-refused
-returns-clause-refused g c =
-    let token = c.as_str.result.now in
-    line_refused c.explain.result (g.R.Read.remaining c.args.input.now) (string_bytes c.in_ok-token.token) token
-    (λ error token. IsOutside error ⊎ ExplainsNothing c.args.key.now c.args.options.now token) c.in_ok-token.ensures.line c.as_str.ensures.value
-    (for_text c.explain.result (¬ IsUtf8 token) ((lines : List ℕ) → ¬ Shows c.args.key.now c.args.options.now token lines) c.explain.ensures.refused)
+pub returns-in_err-token-clause-refused : goal.returns-in_err-token-clause-refused
+returns-in_err-token-clause-refused g c =
+    let error = c.in_err-token.field-0.0 in
+    let p = err_from_is_err_and c.from_residual.result c.from_residual.ensures.1 in
+    rw (p.1, p.2) (refused_more (g.R.Read.remaining c.args.input.now) (λ bytes. IsNoText (line_of_input bytes) error)
+    (λ bytes. RefusesExplaining (parts_of c.args.key.now) c.args.options.now (line_of_input bytes) error) (λ bytes none. inl none) c.in_err-token.ensures.refused)

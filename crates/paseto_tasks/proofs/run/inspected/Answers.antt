@@ -1,10 +1,21 @@
-use Rattle.std.proofs.Common.{◌⊎◌, string_bytes}
-use Rattle.paseto_tasks.specs.Error.{IsOutside}
-use Rattle.paseto_tasks.specs.Inspect.{InspectsNothing}
-use Rattle.paseto_tasks.proofs.Refusals.{line_refused}
+use Rattle.std.proofs.lemmas.Result.{err_from_is_err_and}
+use Rattle.paseto_tasks.specs.Input.{IsNoText, line_of_input}
+use Rattle.paseto_tasks.specs.Inspect.{RefusesInspecting}
+use Rattle.paseto_tasks.proofs.Inputs.{refused_more}
+use Rattle.paseto_tasks.proofs.Inspections.{inspect_makes, no_text_inspected}
 use Rattle.paseto_tasks.proofs.run.inspected.Goals as goal
 
-pub returns-clause-refused : goal.returns-clause-refused
-returns-clause-refused g c =
-    line_refused c.inspect.result (g.R.Read.remaining c.args.input.now) (string_bytes c.in_ok-token.token) c.as_str.result.now
-    (λ error token. IsOutside error ⊎ InspectsNothing token) c.in_ok-token.ensures.line c.as_str.ensures.value c.inspect.ensures.refused
+pub returns-in_err-token : goal.returns-in_err-token
+returns-in_err-token g c =
+    let error = c.in_err-token.field-0.0 in
+    let p = err_from_is_err_and c.from_residual.result c.from_residual.ensures.1 in
+    rw (p.1, p.2) (record {
+      printed = tt;
+      refused = refused_more (g.R.Read.remaining c.args.input.now) (λ bytes. IsNoText (line_of_input bytes) error)
+          (λ bytes. RefusesInspecting (line_of_input bytes) error) (λ bytes none. no_text_inspected bytes error none) c.in_err-token.ensures.refused;
+    })
+
+pub returns : goal.returns
+returns g c =
+    inspect_makes (g.R.Read.remaining c.args.input.now) c.as_str.result.now c.inspect.result (rw (← c.as_str.ensures.value) at c.in_ok-token.ensures.line)
+    c.inspect.ensures.printed c.inspect.ensures.refused c.inspect.ensures.plain

@@ -1,42 +1,46 @@
-use Rattle.std.proofs.Common.{inr, refl}
+use Rattle.std.proofs.Common.{◌∙◌, ◌≡◌, ℕ, List, [], Option, ap, inl, inr, is_some, option_map, string_bytes, unwrap_or}
 use Rattle.std.proofs.lemmas.Result.{err_from_is_err_and}
+use Rattle.rusty_paseto_core.specs.Context.{footer_of}
+use Rattle.paseto_keys.specs.AnyKey.{parts_of}
+use Rattle.paseto_tasks.proofs.Blames.{fails_so, within_all}
+use Rattle.paseto_tasks.proofs.Outputs.{line_makes}
 use Rattle.paseto.specs.Issue.{ordered}
-use Rattle.paseto.proofs.Issued.{local_none, no_header_issues, not_taken_issues, private_none, public_none}
-use Rattle.std.proofs.Common.{inl, subst}
-use Rattle.rusty_paseto_paserk.specs.declared.header.PaserkVersion.{PaserkVersion}
-use Rattle.rusty_paseto_paserk.specs.declared.header.PaserkType.TheVariants.{Secret}
-use Rattle.paseto_tasks.specs.KeyLine.{BeginsAs}
-use Rattle.paseto_tasks.proofs.Blames.{blame_so, nothing}
+use Rattle.paseto.proofs.KeyReads.{expected, given}
+use Rattle.paseto.proofs.Writes.{no_payload, within_issuing, write_issues, write_refuses}
 use Rattle.paseto.proofs.commands.issue.issue.Goals as goal
 
-pub returns-in-Local-clause-none : goal.returns-in-Local-clause-none
-returns-in-Local-clause-none g c =
-    local_none c.args.key.now (ordered c.args.order.now) c.in-Some.version c.by_local_key.result
-    (rw c.in-Local.is at c.in-Some.ensures.found) c.by_local_key.ensures.none
-
-pub returns-in-Secret-clause-none : goal.returns-in-Secret-clause-none
-returns-in-Secret-clause-none g c =
-    private_none c.args.key.now (ordered c.args.order.now) c.in-Some.version c.by_private_key.result
-    (rw c.in-Secret.is at c.in-Some.ensures.found) c.by_private_key.ensures.none
-
-pub returns-in-Public-clause-none : goal.returns-in-Public-clause-none
-returns-in-Public-clause-none g c =
-    inr (public_none c.args.key.now (ordered c.args.order.now) c.in-Some.version (rw c.in-Public.is at c.in-Some.ensures.found))
-
-pub returns-in_err-takes-clause-none : goal.returns-in_err-takes-clause-none
-returns-in_err-takes-clause-none g c =
+pub returns-in_err-payload : goal.returns-in_err-payload
+returns-in_err-payload g c =
+    let error = c.in_err-payload.field-0.0 in
     let p = err_from_is_err_and c.from_residual.result c.from_residual.ensures.1 in
-    rw (p.1, p.2) (inr (not_taken_issues c.args.key.now (ordered c.args.order.now) c.in-Some.version c.in-Some.kind
-    c.in-Some.ensures.found c.in_err-takes.ensures.refused.1))
+    rw (p.1, p.2) (record {
+      printed = tt;
+      refused = elim c.in_err-payload.ensures.refused [
+        | inl none ↦ inl (no_payload (parts_of c.args.key.now) (ordered c.args.order.now) error none)
+        | inr fails ↦ inr (fails_so (within_issuing (parts_of c.args.key.now) _ c.args.order.now.moment) error fails)
+      ];
+    })
 
-pub returns-in_default-clause-none : goal.returns-in_default-clause-none
-returns-in_default-clause-none g c = inr (no_header_issues c.args.key.now (ordered c.args.order.now) (c.in_default.ensures.none refl))
+pub returns-in_err-token : goal.returns-in_err-token
+returns-in_err-token g c =
+    let p = err_from_is_err_and c.from_residual-in_err-token.result c.from_residual-in_err-token.ensures.1 in
+    let drawn = c.in_ok-drawn.ensures.ok in
+    let footer = expected c.lent-footer.result ∙ ap (λ (t : Option (List ℕ)). unwrap_or t []) c.lent-footer.ensures in
+    let some = given c.lent-footer.result ∙ ap (λ (t : Option (List ℕ)). is_some t) c.lent-footer.ensures in
+    rw (p.1, p.2) (record {
+      printed = tt;
+      refused = elim (write_refuses (parts_of c.args.key.now) (ordered c.args.order.now) (string_bytes c.in_ok-payload.payload) c.in_ok-payload.ensures.printed
+          c.in_ok-drawn.drawn.items drawn.size c.in_err-token.field-0.0 (rw (footer, some, c.deref.ensures.value, c.as_str.ensures.value) at c.in_err-token.ensures)) [
+            | inl refuses ↦ inl refuses
+            | inr fails ↦ inr (fails_so (within_all _) _ fails)
+          ];
+    })
 
-pub returns-in-Local-clause-blames : goal.returns-in-Local-clause-blames
-returns-in-Local-clause-blames g c = blame_so c.by_local_key.result
-    (λ failed. (inl (c.in-Some.version, rw c.in-Local.is at c.in-Some.ensures.found), failed)) (λ none. none) nothing nothing c.by_local_key.ensures.blames
-
-pub returns-in-Secret-clause-blames : goal.returns-in-Secret-clause-blames
-returns-in-Secret-clause-blames g c = blame_so c.by_private_key.result
-    (λ failed. (inr (subst (λ (v : PaserkVersion). BeginsAs v Secret c.args.key.now) failed.0 (rw c.in-Secret.is at c.in-Some.ensures.found)), failed.1))
-    (λ none. none) nothing nothing c.by_private_key.ensures.blames
+pub returns : goal.returns
+returns g c =
+    let drawn = c.in_ok-drawn.ensures.ok in
+    let footer = expected c.lent-footer.result ∙ ap (λ (t : Option (List ℕ)). unwrap_or t []) c.lent-footer.ensures in
+    let some = given c.lent-footer.result ∙ ap (λ (t : Option (List ℕ)). is_some t) c.lent-footer.ensures in
+    line_makes _ _ _ (string_bytes c.in_ok-token.token) c.with_line_feed.result c.with_line_feed.ensures.line c.with_line_feed.ensures.only_memory
+    (λ line is. write_issues (parts_of c.args.key.now) (ordered c.args.order.now) (string_bytes c.in_ok-payload.payload) c.in_ok-payload.ensures.printed
+    c.in_ok-drawn.drawn.items drawn.size c.in_ok-token.token line _ (rw (footer, some, c.deref.ensures.value, c.as_str.ensures.value) at c.in_ok-token.ensures) drawn is)

@@ -2,7 +2,6 @@ use Rattle.std.proofs.Common.{Some, codes, inr, string_bytes}
 use Rattle.rusty_paseto_generic.specs.Builders.Held.{held}
 use Rattle.paseto.specs.Times.{IsNeverSet}
 use Rattle.paseto.proofs.Orders.{no_date, exp_refused, time_set}
-use Rattle.paseto.proofs.Blamed.{set_blames}
 use Rattle.paseto.proofs.commands.issue.set_expiry.Goals as goal
 
 pub returns-in-Ok-clause-set : goal.returns-in-Ok-clause-set
@@ -19,6 +18,3 @@ returns-in-Ok-clause-never g c = rw c.in-Some.is
 pub returns-in-Err-clause-never : goal.returns-in-Err-clause-never
 returns-in-Err-clause-never g c = rw c.in-Some.is
     (inr (no_date (codes "exp") c.in-Some.moment (string_bytes c.in_ok-moment_text.field-0) c.in_ok-moment_text.ensures c.in-Err.ensures.refused.1))
-
-pub returns-in-Ok-clause-blames : goal.returns-in-Ok-clause-blames
-returns-in-Ok-clause-blames g c = set_blames c.built.result c.put_claim.result _ c.put_claim.ensures.fault c.built.ensures.blames

@@ -1,7 +1,5 @@
 use Rattle.std.proofs.Common.{ap}
 use Rattle.std.proofs.lemmas.Result.{err_from_is_err_and}
-use Rattle.paseto_ed25519.specs.Ed25519.{partner}
-use Rattle.paseto_p384.specs.P384.{p384_public}
 use Rattle.rusty_paseto_paserk.specs.declared.header.PaserkType.TheVariants.{Public}
 use Rattle.rusty_paseto_paserk.specs.declared.header.PaserkVersion.TheVariants.{V2, V3, V4}
 use Rattle.paseto_keys.specs.AnyKey.{key_parts}

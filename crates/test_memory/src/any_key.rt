@@ -1,0 +1,168 @@
+//! The calls of keys of any version and type, and of key files. The text of a token, a claim and a password is the one that
+//! the calls are about.
+
+use crate::builders::map_of;
+use crate::kinds::symmetric_key;
+use crate::run::{Run, Snapshot, calls, edits, shown};
+use anyhow::Result;
+use paseto_key_files::{Openers, pem_of, protect, seal, unlock, wrap};
+use paseto_keys::{
+    AnyKey, ClaimsBuilder, ClaimsParser, TokenReader, TokenWriter, admit, admit_by_ring, decrypt,
+    encrypt, issue, sign, verify,
+};
+use paseto_wrapping::PasswordCost;
+use rusty_paseto::prelude::*;
+use rusty_paseto_paserk::{PaserkType, PaserkVersion};
+use std::alloc::Global;
+use test_toys::generators::Zeros;
+
+/// What a password costs: next to nothing.
+const COST: PasswordCost = PasswordCost {
+    iterations: 1,
+    memory: 8192,
+    passes: 1,
+    lanes: 1,
+};
+
+/// A builder is known by its payload.
+impl Snapshot for ClaimsBuilder {
+    fn snapshot(&self, alloc: Global) -> Result<String> {
+        shown(alloc, self.build_payload_from_claims())
+    }
+}
+
+/// Asks them.
+pub fn ask(run: &mut Run<'_>) -> Result<()> {
+    ask_local(run)?;
+    ask_public(run)?;
+    ask_claims(run)?;
+    ask_builder(run)?;
+    ask_keys(run)?;
+    ask_texts(run)?;
+    ask_files(run)
+}
+
+// The key of all local tokens.
+fn local_key() -> AnyKey {
+    AnyKey::V4Local(symmetric_key())
+}
+
+// A new private key of version 4.
+fn private_key(alloc: Global) -> Result<AnyKey> {
+    let version = PaserkVersion::V4;
+    Ok(AnyKey::generate(alloc, PaserkType::Secret, version, &mut Zeros)?)
+}
+
+fn ask_local(run: &mut Run<'_>) -> Result<()> {
+    let (alloc, text, key, drawn) = (run.alloc, run.text, local_key(), [7u8; 32]);
+    let token = encrypt(alloc, &key, &drawn, text, None, None)?;
+    let token = token.as_str();
+    calls! { run;
+        "encrypt of any version" => encrypt(alloc, &key, &drawn, text, None, None);
+        "decrypt of any version" => decrypt(alloc, &key, token, None, None);
+        "TokenWriter::draw of a nonce" => key.draw(alloc, &mut Zeros).map(drop);
+        "TokenWriter::write of AnyKey" => key.write(alloc, &drawn, text, None, None);
+        "TokenReader::read of AnyKey" => key.read(alloc, token, None, None);
+    }
+}
+
+fn ask_public(run: &mut Run<'_>) -> Result<()> {
+    let (alloc, text, private) = (run.alloc, run.text, private_key(run.alloc)?);
+    let public = private.public_half(alloc)?;
+    let token = sign(alloc, &private, &[], text, None, None)?;
+    let token = token.as_str();
+    calls! { run;
+        "sign of any version" => sign(alloc, &private, &[], text, None, None);
+        "verify of any version" => verify(alloc, &public, token, None, None);
+    }
+}
+
+// A builder of a claim of the text.
+fn builder_of(alloc: Global, text: &str) -> Result<ClaimsBuilder> {
+    let mut builder = ClaimsBuilder::new(alloc);
+    builder.put_claim(&CustomClaim::try_from_str(alloc, "data", text)?)?;
+    Ok(builder)
+}
+
+fn ask_claims(run: &mut Run<'_>) -> Result<()> {
+    let (alloc, keys, drawn) = (run.alloc, [local_key()], [7u8; 32]);
+    let [key] = &keys;
+    let (claims, parser) = (builder_of(alloc, run.text)?, ClaimsParser::new(alloc));
+    let token = issue(alloc, key, &drawn, &claims, None, None)?;
+    let footer = key_footer(alloc, key.id(alloc)?.as_str())?;
+    let footer = Some(Footer::from(footer.as_str()));
+    let named = issue(alloc, key, &drawn, &claims, footer, None)?;
+    calls! { run;
+        "issue of any version" => issue(alloc, key, &drawn, &claims, None, None);
+        "admit of any version" => admit(alloc, key, &parser, token.as_str());
+        "admit_by_ring of any version" => admit_by_ring(alloc, &keys, &parser, named.as_str());
+        "admit_by_ring of any version and no key, refused"
+            => admit_by_ring(alloc, &[], &parser, named.as_str());
+    }
+}
+
+fn ask_builder(run: &mut Run<'_>) -> Result<()> {
+    let (alloc, text) = (run.alloc, run.text);
+    let claim = CustomClaim::try_from_str(alloc, "text", text)?;
+    let (object, odd) = ("{\"a\":[1,2],\"z\":{\"b\":\"c\"}}", "{\"a\":0.5}");
+    edits! { run, "ClaimsBuilder::", builder = builder_of(alloc, text);
+        "put_claim of a claim" => builder.put_claim(&claim);
+        "put_claims of a map", map = map_of(alloc, object)? => builder.put_claims(map);
+        "put_claims of a map with a fraction, refused", map = map_of(alloc, odd)? => builder.put_claims(map);
+    }
+}
+
+// The type of a key.
+fn kind_of(key: AnyKey) -> PaserkType {
+    key.kind()
+}
+
+fn ask_keys(run: &mut Run<'_>) -> Result<()> {
+    let (alloc, private, version) = (run.alloc, private_key(run.alloc)?, PaserkVersion::V4);
+    let kind = PaserkType::Secret;
+    calls! { run;
+        "AnyKey::generate of a private key" => AnyKey::generate(alloc, kind, version, &mut Zeros).map(kind_of);
+        "AnyKey::from_bytes of a private key" => AnyKey::from_bytes(alloc, kind, version, &[7u8; 64]).map(kind_of);
+        "AnyKey::id of a private key" => private.id(alloc);
+        "AnyKey::public_half of a private key" => private.public_half(alloc).map(kind_of);
+    }
+}
+
+fn openers<'o>(password: &'o str, key: &'o str) -> Openers<'o> {
+    Openers {
+        password: Some(password.as_bytes()),
+        key: Some(key),
+    }
+}
+
+fn ask_texts(run: &mut Run<'_>) -> Result<()> {
+    let (alloc, password, key) = (run.alloc, run.text, private_key(run.alloc)?);
+    let (line, public) = (key.to_line(alloc)?, key.public_half(alloc)?.to_line(alloc)?);
+    let wrapping = local_key().to_line(alloc)?;
+    let locked = key.protect(alloc, password.as_bytes(), COST, &mut Zeros)?;
+    let (wrapping, opened) = (wrapping.as_str(), openers(password, wrapping.as_str()));
+    calls! { run;
+        "AnyKey::from_line of a private key" => AnyKey::from_line(alloc, line.as_str()).map(kind_of);
+        "AnyKey::to_line of a private key" => key.to_line(alloc);
+        "AnyKey::to_pem of a private key" => key.to_pem(alloc);
+        "AnyKey::protect of a private key" => key.protect(alloc, password.as_bytes(), COST, &mut Zeros);
+        "AnyKey::wrap of a private key" => key.wrap(alloc, wrapping, &mut Zeros);
+        "AnyKey::seal of a local key" => local_key().seal(alloc, public.as_str(), &mut Zeros);
+        "AnyKey::unlock of a private key" => AnyKey::unlock(alloc, &opened, locked.as_str()).map(kind_of);
+    }
+}
+
+fn ask_files(run: &mut Run<'_>) -> Result<()> {
+    let (alloc, password, key) = (run.alloc, run.text, private_key(run.alloc)?);
+    let (line, public) = (key.to_line(alloc)?, key.public_half(alloc)?.to_line(alloc)?);
+    let (line, local) = (line.as_str(), local_key().to_line(alloc)?);
+    let opened = openers(password, local.as_str());
+    let locked = wrap(alloc, local.as_str(), &mut Zeros, line)?;
+    calls! { run;
+        "pem_of of a line" => pem_of(alloc, line);
+        "protect of a line" => protect(alloc, password.as_bytes(), COST, &mut Zeros, line);
+        "wrap of a line" => wrap(alloc, local.as_str(), &mut Zeros, line);
+        "seal of a line" => seal(alloc, public.as_str(), &mut Zeros, local.as_str());
+        "unlock of a wrapped key" => unlock(alloc, &opened, locked.as_str());
+    }
+}
