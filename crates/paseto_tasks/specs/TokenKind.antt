@@ -1,5 +1,5 @@
 -- The kinds of tokens.
-use Rattle.std.specs.Prelude.{◌≡◌, ⊤, ℕ, List, ◌++◌, codes}
+use Rattle.std.specs.Prelude.{◌≡◌, ℕ, List, ◌++◌, codes}
 use Rattle.rusty_paseto_paserk.specs.declared.header.PaserkVersion.{PaserkVersion}
 use Rattle.rusty_paseto_paserk.specs.declared.header.PaserkVersion.TheVariants.{V1, V2, V3, V4}
 use Rattle.rusty_paseto_paserk.specs.declared.header.PaserkType.{PaserkType}
@@ -22,7 +22,7 @@ kind_text Other = codes "of no known kind"
 abbrev Begins : List ℕ → List ℕ → Type 0
 Begins front token = (rest : List ℕ) × (token ≡ front ++ rest)
 
--- a token of a kind begins with it and a dot
+-- a token of a kind begins with it and a dot, and one of no known kind with none of these
 abbrev pub NamesKind : TokenKind → List ℕ → Type 0
 NamesKind V1Local token = Begins (codes "v1.local.") token
 NamesKind V1Public token = Begins (codes "v1.public.") token
@@ -32,7 +32,11 @@ NamesKind V3Local token = Begins (codes "v3.local.") token
 NamesKind V3Public token = Begins (codes "v3.public.") token
 NamesKind V4Local token = Begins (codes "v4.local.") token
 NamesKind V4Public token = Begins (codes "v4.public.") token
-NamesKind Other token = ⊤
+NamesKind Other token =
+    ¬ Begins (codes "v1.local.") token × ¬ Begins (codes "v1.public.") token
+    × ¬ Begins (codes "v2.local.") token × ¬ Begins (codes "v2.public.") token
+    × ¬ Begins (codes "v3.local.") token × ¬ Begins (codes "v3.public.") token
+    × ¬ Begins (codes "v4.local.") token × ¬ Begins (codes "v4.public.") token
 
 -- the kind of the tokens that keys of a version and a type are for
 abbrev pub kind_read_by : PaserkVersion → PaserkType → TokenKind
