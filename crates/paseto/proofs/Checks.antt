@@ -1,5 +1,5 @@
 -- What is answered for the claims of a token.
-use Rattle.std.proofs.Common.{◌≡◌, ◌⊎◌, ℕ, List, Option, Result, Ok, Err, IfErr, IfOk, IsErrAnd, IsOk, OnOk, String, Global, string_bytes, IsUtf8, true, inl, inr, refl, sym, subst, ◌∙◌}
+use Rattle.std.proofs.Common.{◌≡◌, ◌⊎◌, ℕ, List, Option, Result, Ok, Err, IfErr, IfOk, IsErrAnd, IsOk, String, Global, string_bytes, IsUtf8, true, inl, inr, sym, subst}
 use Rattle.std.specs.Bool.{⊤}
 use Rattle.std.proofs.lemmas.Bool.{false≢true}
 use Rattle.jiff.specs.Types.{Timestamp}
@@ -18,19 +18,19 @@ use Rattle.paseto_tasks.specs.declared.arguments.Options.{Options}
 use Rattle.paseto_tasks.specs.declared.error.ProgramError.{ProgramError}
 use Rattle.paseto_tasks.specs.declared.error.ProgramError.TheVariants.{Memory, Refused}
 use Rattle.rusty_paseto_core.specs.declared.PasetoError.TheVariants.{WrongHeader}
-use Rattle.paseto_tasks.specs.Error.{BlamesNone, BlamesOnly, Fails, IsFixed, IsMemory as IsMemoryOf, IsNoUsage, IsOfWords, IsOutside, IsPlain, Lacks, Says, nothing}
+use Rattle.paseto_tasks.specs.Error.{BlamesNone, Fails, IsMemory as IsMemoryOf, IsNoUsage, IsOfWords, IsOutside, IsPlain, Lacks, nothing}
 use Rattle.paseto_tasks.specs.Input.{IsNoText, OfInput, line_of_input, reading}
 use Rattle.paseto_tasks.specs.Output.{Makes}
 use Rattle.paseto_tasks.proofs.Blames.{blames_so, fails_so, within_all}
 use Rattle.paseto_tasks.proofs.Statuses.{fixed_no_usage, fixed_says, says_so}
 use Rattle.paseto.specs.declared.commands.check.Keys.{Keys}
-use Rattle.paseto.specs.declared.commands.check.Keys.TheVariants.{One, Ring}
+use Rattle.paseto.specs.declared.commands.check.Keys.TheVariants.{One}
 use Rattle.paseto.specs.Answers.{SaysOfCheck}
 use Rattle.paseto.specs.Check.{AreDemands, Demanded, IsDemanded, IsTheValueOf, RefusesKey, demanded_rules}
-use Rattle.paseto.specs.Checked.{ChecksBy, ChecksFor, IsCheckLine, IsJsonLine, IsTheValueBy, ParsesBy, RefusesCheck, RefusesDemands, RefusesKeys}
+use Rattle.paseto.specs.Checked.{ChecksBy, ChecksFor, IsCheckLine, IsJsonLine, IsTheValueBy, RefusesCheck, RefusesDemands, RefusesKeys}
 use Rattle.paseto.specs.Claims.{are_whole}
 use Rattle.paseto.specs.Gives.{Gives}
-use Rattle.paseto.specs.Ring.{IsRingLine, IsTheValueIn, RefusesRing}
+use Rattle.paseto.specs.Ring.{IsRingLine}
 use Rattle.paseto.proofs.Lines.{told_check}
 use Rattle.paseto.proofs.Payloads.{outside_or_not}
 

@@ -1,10 +1,10 @@
 -- How a command on claims ends.
-use Rattle.std.proofs.Common.{◌≡◌, ◌≢◌, ◌⊎◌, ◌==◌, ◌∙◌, ℕ, List, Option, Result, Ok, Err, IfErr, IfOk, IsErrAnd, String, Global, string_bytes, inl, inr, sym, ap, subst, true, false}
+use Rattle.std.proofs.Common.{◌≡◌, ◌⊎◌, ◌==◌, ◌∙◌, ℕ, List, Option, Result, Ok, Err, IfErr, IsErrAnd, String, Global, string_bytes, inl, inr, sym, ap, subst}
 use Rattle.std.specs.Bool.{⊤}
 use Rattle.std.proofs.lemmas.Bool.{false≢true}
 use Rattle.paseto_tasks.specs.declared.error.Names.{Names}
 use Rattle.paseto_tasks.specs.declared.error.ProgramError.{ProgramError}
-use Rattle.paseto_tasks.specs.Error.{Fails, IsCauseOf, IsOutside, status_of}
+use Rattle.paseto_tasks.specs.Error.{IsCauseOf, IsOutside, status_of}
 use Rattle.paseto_tasks.specs.Output.{IsTextOf, Makes}
 use Rattle.paseto_tasks.specs.Run.{IsRefusal, Leaves, Tells}
 use Rattle.paseto_tasks.proofs.Outputs.{leaves_made}

@@ -1,5 +1,5 @@
 -- What keys and rings answer for a token, in the words of the program.
-use Rattle.std.proofs.Common.{◌≡◌, ◌⊎◌, ◌≤◌, ℕ, zero, suc, List, [], length, Bool, true, false, Option, None, Some, option_map, is_some, unwrap_or, Result, Ok, Err, IfOk, IfErr, IsErrAnd, IsOkAnd, String, Global, string_bytes, inl, inr, refl, sym, ap, subst, rules, arith, ◌∙◌}
+use Rattle.std.proofs.Common.{◌≡◌, ◌⊎◌, ℕ, List, [], length, Bool, true, false, Option, None, Some, option_map, is_some, unwrap_or, Result, Ok, Err, inl, inr, refl, sym, ap, subst, ◌∙◌}
 use Rattle.std.proofs.lemmas.Bool.{false≢true}
 use Rattle.serde_json.specs.Data.{Data}
 use Rattle.serde_json.specs.View.{view}
@@ -14,8 +14,7 @@ use Rattle.rusty_paseto_core.specs.declared.PasetoError.{PasetoError}
 use Rattle.rusty_paseto_core.specs.declared.PasetoError.TheVariants.{FooterInvalid, IncorrectSize, InvalidSignature, FromUtf8Error}
 use Rattle.rusty_paseto_generic.specs.Error.Parser.{IsMemory}
 use Rattle.rusty_paseto_generic.specs.Parsers.Parsing.{IsFirstFault, IsParseAnswer, IsParsed}
-use Rattle.rusty_paseto_generic.specs.Parsers.Rules.{Rules, no_rule}
-use Rattle.rusty_paseto_generic.specs.Validator.{Verdict}
+use Rattle.rusty_paseto_generic.specs.Parsers.Rules.{no_rule}
 use Rattle.rusty_paseto_generic.specs.declared.error.GenericParserError.{GenericParserError}
 use Rattle.rusty_paseto_generic.specs.declared.error.GenericParserError.TheVariants.{CipherError as NotRead, Memory as NoMemory}
 use Rattle.rusty_paseto_paserk.specs.declared.header.PaserkType.{PaserkType}

@@ -1,5 +1,5 @@
 -- The claims that a builder is given.
-use Rattle.std.proofs.Common.{◌≡◌, ◌⊎◌, ℕ, List, [], ◌∷◌, Bool, true, false, if◌then◌else◌, Option, None, Some, MatchOption, Result, Ok, Err, IfErr, IfOk, IsErrAnd, OnOk, codes, inl, inr, refl, sym, ◌∙◌}
+use Rattle.std.proofs.Common.{◌≡◌, ◌⊎◌, ℕ, List, [], ◌∷◌, Bool, true, false, if◌then◌else◌, Option, None, Some, MatchOption, Result, Ok, Err, IfErr, IfOk, IsErrAnd, OnOk, codes, inl, inr, refl, ◌∙◌}
 use Rattle.jiff.specs.Types.{Timestamp}
 use Rattle.serde_json.specs.Data.{Data, Members, put, string}
 use Rattle.rusty_paseto_claims.specs.Claim.{gives, one_member}
@@ -14,9 +14,9 @@ use Rattle.rusty_paseto_generic.specs.declared.error.GenericBuilderError.TheVari
 use Rattle.rusty_paseto.specs.PasetoBuilder.{Counting, IsSame, counted, nothing_counted}
 use Rattle.rusty_paseto_claims.proofs.MomentLemmas.{same_text}
 use Rattle.paseto_tasks.specs.declared.error.ProgramError.{ProgramError}
-use Rattle.paseto.specs.Claims.{AreNeverSet, AreSet, Named, all_counted, json_of}
+use Rattle.paseto.specs.Claims.{AreNeverSet, Named, all_counted, json_of}
 use Rattle.paseto_tasks.specs.Error.{IsOutside}
-use Rattle.paseto.specs.Issue.{AreNever, AreOrdered, Ordered, keys_set}
+use Rattle.paseto.specs.Issue.{AreNever, Ordered, keys_set}
 use Rattle.paseto.specs.Times.{IsNeverSet, IsTimeSet, time_counted}
 
 -- ---- times

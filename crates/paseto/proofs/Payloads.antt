@@ -1,5 +1,5 @@
 -- The text of the claims that are ordered, and why there is none.
-use Rattle.std.proofs.Common.{◌≡◌, ◌⊎◌, ℕ, List, Option, None, Result, Ok, Err, IfErr, IfOk, IsErrAnd, String, Global, string_bytes, inl, inr, sym, ◌∙◌}
+use Rattle.std.proofs.Common.{◌≡◌, ◌⊎◌, None, Result, Ok, Err, IfErr, IfOk, IsErrAnd, String, Global, string_bytes, inl, inr, sym, ◌∙◌}
 use Rattle.serde_json.specs.Data.{Members}
 use Rattle.rusty_paseto_generic.specs.Builders.Claims.{payload}
 use Rattle.rusty_paseto_generic.specs.Error.{IsMemory}

@@ -1,5 +1,5 @@
 -- What a ring answers for a token, in the words of the program.
-use Rattle.std.proofs.Common.{◌≡◌, ◌⊎◌, ◌≤◌, ℕ, zero, suc, List, length, Bool, true, false, Option, None, Some, option_map, is_some, unwrap_or, Result, Ok, Err, IfOk, IfErr, IsErrAnd, IsOkAnd, String, Global, string_bytes, inl, inr, refl, sym, ap, subst, rules, arith, ◌∙◌}
+use Rattle.std.proofs.Common.{◌≡◌, ◌⊎◌, ◌≤◌, ℕ, zero, suc, List, length, Bool, true, false, Option, None, Some, option_map, is_some, unwrap_or, Result, Ok, Err, IfOk, IfErr, IsErrAnd, IsOkAnd, String, Global, string_bytes, inl, inr, refl, sym, ap, subst, arith, ◌∙◌}
 use Rattle.std.proofs.lemmas.Bool.{false≢true}
 use Rattle.serde_json.specs.Data.{Data}
 use Rattle.serde_json.specs.View.{view}
@@ -12,7 +12,7 @@ use Rattle.rusty_paseto_parts.specs.declared.texts.implicit_assertion.ImplicitAs
 use Rattle.rusty_paseto_parts.proofs.LimitLemmas.{unlimited}
 use Rattle.rusty_paseto_core.specs.Context.{assertion_of}
 use Rattle.rusty_paseto_generic.specs.Parsers.Rules.{no_rule}
-use Rattle.rusty_paseto.specs.KeyRing.{IsFirstParsingFault, IsParsed, IsParsingAnswer, Names, Readings, read_under}
+use Rattle.rusty_paseto.specs.KeyRing.{IsFirstParsingFault, IsParsed, IsParsingAnswer, Readings, read_under}
 use Rattle.rusty_paseto.specs.declared.error.KeyRingError.{KeyRingError}
 use Rattle.rusty_paseto.specs.declared.error.KeyRingError.TheVariants.{Untrusted, UnknownKey}
 use Rattle.rusty_paseto.specs.declared.error.KeyRingParserError.{KeyRingParserError}

@@ -1,5 +1,5 @@
 -- What a key writes of what is ordered, and why it writes nothing.
-use Rattle.std.proofs.Common.{◌≡◌, ◌≢◌, ◌⊎◌, ℕ, List, length, Bool, true, false, Option, is_some, Result, Ok, Err, String, Global, string_bytes, inl, inr, refl, sym, subst, ◌∙◌}
+use Rattle.std.proofs.Common.{◌≡◌, ◌⊎◌, ℕ, List, length, Bool, true, false, is_some, Result, Ok, Err, String, Global, string_bytes, inl, inr, refl, sym, subst, ◌∙◌}
 use Rattle.std.proofs.lemmas.Bool.{false≢true}
 use Rattle.rusty_paseto_parts.specs.declared.error.PasetoError.{PasetoError}
 use Rattle.rusty_paseto_parts.specs.declared.error.PasetoError.TheVariants.{Memory as NoTokenMemory}
@@ -17,7 +17,7 @@ use Rattle.paseto_tasks.specs.Output.{IsLineOf, Makes}
 use Rattle.paseto_tasks.proofs.Blames.{IsWithin, blames_so, within_all}
 use Rattle.rusty_paseto.specs.Moment.{FitsDefault}
 use Rattle.jiff.specs.Types.{Timestamp}
-use Rattle.paseto.specs.Issue.{Declines, IsOrder, IsPayload, Issues, IssuesFor, MayWrite, Ordered, RefusesIssue, RefusesOrder, RefusesPayload, draws, issuing, writing}
+use Rattle.paseto.specs.Issue.{IsOrder, IsPayload, Issues, IssuesFor, MayWrite, Ordered, RefusesIssue, RefusesOrder, RefusesPayload, draws, issuing, writing}
 use Rattle.paseto.proofs.Payloads.{outside_or_not}
 
 -- ---- drawing

@@ -1,5 +1,5 @@
 -- The options for a token, of words.
-use Rattle.std.specs.Prelude.{ℕ, List, [], ◌∷◌, Option, None, Some, option_map}
+use Rattle.std.specs.Prelude.{ℕ, List, [], Option, None, Some, option_map}
 use Rattle.rusty_paseto_parts.specs.Footer.{footer_text}
 use Rattle.rusty_paseto_parts.specs.ImplicitAssertion.{assertion_text}
 use Rattle.paseto_tasks.specs.Arguments.{texts}

@@ -1,4 +1,3 @@
-use Rattle.std.proofs.Common.{◌≡◌, ◌∙◌, rules, sym}
 use Rattle.std.proofs.lemmas.Result.{err_from_is_err_and}
 use Rattle.rusty_paseto.specs.Held.{counting}
 use Rattle.paseto_tasks.proofs.Statuses.{no_usage_or}

@@ -1,6 +1,5 @@
-use Rattle.std.proofs.Common.{◌∙◌, ◌≡◌, ℕ, List, [], Option, ap, inl, inr, is_some, option_map, string_bytes, unwrap_or}
+use Rattle.std.proofs.Common.{◌∙◌, ℕ, List, [], Option, ap, inl, inr, is_some, string_bytes, unwrap_or}
 use Rattle.std.proofs.lemmas.Result.{err_from_is_err_and}
-use Rattle.rusty_paseto_core.specs.Context.{footer_of}
 use Rattle.paseto_keys.specs.AnyKey.{parts_of}
 use Rattle.paseto_tasks.proofs.Blames.{fails_so, within_all}
 use Rattle.paseto_tasks.proofs.Outputs.{line_makes}
