@@ -340,7 +340,7 @@ done <<'LIST'
 2|encrypt|no key is given: use --key FILE, or put the text of the key into PASETO_KEY
 2|encrypt --key -|standard input cannot be the key and the input: name a file for one of them
 1|encrypt --key nothing|nothing: The text is no PASERK key
-1|id --key k1|k1: The key is one of version 1
+1|id --key k1|k1: not valid PEM; key pairs of version 1 are read from PEM
 1|sign --key office|office: The key is one for local tokens
 1|verify --key signer|signer: The key is a private one, which signs
 1|encrypt --key reader|reader: The key is a public one, which verifies
