@@ -111,7 +111,8 @@ fn begun<'a, V: Attaches, P: PurposeTrait>(
     Ok(builder)
 }
 
-/// The token of claims, whose version and purpose the maker decides. It must be absent in a version that has none.
+/// The token of claims, whose version and purpose the maker decides. The assertion must be
+/// absent in a version that has none.
 pub(crate) fn built<V: Attaches, P: PurposeTrait, M: Makes<V, P>>(
     alloc: Global,
     maker: &mut M,

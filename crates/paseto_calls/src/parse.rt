@@ -204,8 +204,8 @@ fn text_of(alloc: Global, parsed: Result<Value, GenericParserError>) -> Result<S
     }
 }
 
-/// The claims of a token, whose version and purpose the reader decides, by a parser that has nothing yet. It must be
-/// absent in a version that has none.
+/// The claims of a token, whose version and purpose the reader decides, by a parser that has nothing yet. The
+/// assertion must be absent in a version that has none.
 pub(crate) fn parsed<'a, V: Attaches, P: PurposeTrait, R: Reads<V, P>>(
     alloc: Global,
     parser: &mut PasetoParser<'a, V, P>,

@@ -246,7 +246,8 @@ fn rsa_public_line(alloc: Global, key: &PublicKey<V1>) -> Result<String, KeyFile
     }
 }
 
-// The answer of the first reading, or else of the second. Where both refuse the text, the error that tells more is told.
+// The answer of the first reading, or else of the second. Where both refuse the text, the more specific error
+// is returned.
 fn first_of(
     first: Result<String, KeyFileError>,
     second: Result<String, KeyFileError>,
@@ -261,7 +262,7 @@ fn first_of(
     }
 }
 
-// The error that tells more, and else the first.
+// The more specific of two errors, and else the first.
 fn telling(first: KeyFileError, second: KeyFileError) -> KeyFileError
     ensures { result ≡ telling first second }
 {
