@@ -131,7 +131,7 @@ const TOKENS: &[(&str, &str)] = &[
     ("v4.local.AAAA", "The token has no footer"),
     ("v4.local.AAAA.A", "A base64 decode error occurred"),
     ("v4.local.AAAA._w", "A Utf8 parsing error occurred"),
-    ("v4.local.AAAA.W10", "The footer is not a JSON object"),
+    ("v4.local.AAAA.MQ", "The footer is not a JSON object"),
     ("v4.local.AAAA.e30", "The footer names no key"),
     (
         "v4.local.AAAA.eyJraWQiOiJvbGQifQ",
