@@ -16,9 +16,10 @@ use Rattle.paseto_keys.specs.AnyKey.{parts_of}
 use Rattle.paseto_keys.specs.declared.any_key.AnyKey.{AnyKey}
 use Rattle.paseto_tasks.specs.declared.arguments.Options.{Options}
 use Rattle.paseto_tasks.specs.declared.error.ProgramError.{ProgramError}
-use Rattle.paseto_tasks.specs.declared.error.ProgramError.TheVariants.{Memory, Refused}
+use Rattle.paseto_tasks.specs.declared.error.ProgramError.TheVariants.{System}
+use Rattle.paseto_tasks.specs.declared.error.system.SystemError.TheVariants.{Memory}
 use Rattle.rusty_paseto_core.specs.declared.PasetoError.TheVariants.{WrongHeader}
-use Rattle.paseto_tasks.specs.Error.{BlamesNone, Fails, IsMemory as IsMemoryOf, IsNoUsage, IsOfWords, IsOutside, IsPlain, Lacks, nothing}
+use Rattle.paseto_tasks.specs.Error.{BlamesNone, Fails, IsMemory as IsMemoryOf, IsNoUsage, IsOfWords, IsOutside, IsPlain, Lacks, nothing, token_error_of}
 use Rattle.paseto_tasks.specs.Input.{IsNoText, OfInput, line_of_input, reading}
 use Rattle.paseto_tasks.specs.Output.{Makes}
 use Rattle.paseto_tasks.proofs.Blames.{blames_so, fails_so, within_all}
@@ -42,7 +43,7 @@ module _ (key : AnyKey) (footer : Option (List ℕ)) (assertion : Option Implici
   by_key error is = record { none = is.none; no_usage = fixed_no_usage error is.fixed; said = fixed_says (IsRingLine token) error is.fixed; blames = is.blames }
 
   -- a token of another kind
-  other_kind : (error : ProgramError) → IsPlain error → RefusesKey (parts_of key) footer assertion token (Refused WrongHeader) → RefusesKeys (One key) footer assertion token error
+  other_kind : (error : ProgramError) → IsPlain error → RefusesKey (parts_of key) footer assertion token (token_error_of WrongHeader) → RefusesKeys (One key) footer assertion token error
   other_kind error plain is = record {
     none = is.none;
     no_usage = fixed_no_usage error plain.0;
@@ -53,7 +54,7 @@ module _ (key : AnyKey) (footer : Option (List ℕ)) (assertion : Option Implici
   pub kinds_give : (answer result : Result Value ProgramError)
       → Gives (λ value. IsTheValueOf (parts_of key) footer assertion token (view value)) (RefusesKey (parts_of key) footer assertion token) (Fails nothing) answer
       → IfOk result (λ value. answer ≡ Ok value)
-      → IfErr result (λ error. IsErrAnd answer (λ source. (source ≡ error) ⊎ ((source ≡ Refused WrongHeader) × IsPlain error)))
+      → IfErr result (λ error. IsErrAnd answer (λ source. (source ≡ error) ⊎ ((source ≡ token_error_of WrongHeader) × IsPlain error)))
       → Gives (λ value. IsTheValueBy (One key) footer assertion token (view value)) (RefusesKeys (One key) footer assertion token) (Fails nothing) result
   kinds_give answer (Ok value) gives is told = record { given = rw is at gives.given; refused = tt }
   kinds_give (Ok value) (Err error) gives is told = absurd told
@@ -126,7 +127,7 @@ module _ (keys : Keys) (demands : Demanded) (token : List ℕ) where
     pub check_makes : IsOk answer → are_whole demands.claims ≡ true → (made : Result (String Global) ProgramError) → IfOk made (λ line. IsJsonLine value (string_bytes line))
         → IfErr made IsMemoryOf → Makes (ChecksBy keys demands token) (RefusesDemands keys demands token) (Fails nothing) made
     check_makes ok whole (Ok line) json memory = record { printed = check_passes ok whole (string_bytes line) json; refused = tt }
-    check_makes ok whole (Err (Memory source)) json memory = record { printed = tt; refused = inr (tt, tt) }
+    check_makes ok whole (Err (System (Memory source))) json memory = record { printed = tt; refused = inr (tt, tt) }
     check_makes ok whole (Err error) json memory = absurd memory
 
 -- ---- words

@@ -22,8 +22,10 @@ use Rattle.paseto_keys.specs.declared.error.AdmitError.TheVariants.{Key as OfKey
 use Rattle.paseto_keys.specs.declared.ring_error.RingError.{RingError}
 use Rattle.paseto_keys.specs.declared.ring_error.RingError.TheVariants.{Memory as NoRingMemory, Parser as ByParser, Ring as ByRing}
 use Rattle.paseto_tasks.specs.declared.error.ProgramError.{ProgramError}
-use Rattle.paseto_tasks.specs.declared.error.ProgramError.TheVariants.{Memory, NotJson, OddNumber, OtherFooter, Refused}
-use Rattle.paseto_tasks.specs.Error.{IsFixed, Says, use_error_of}
+use Rattle.paseto_tasks.specs.declared.error.ProgramError.TheVariants.{System, Token}
+use Rattle.paseto_tasks.specs.declared.error.system.SystemError.TheVariants.{Memory}
+use Rattle.paseto_tasks.specs.declared.error.token.TokenError.TheVariants.{NotJson, OddNumber, OtherFooter}
+use Rattle.paseto_tasks.specs.Error.{IsFixed, Says, token_error_of, use_error_of}
 
 -- ---- lengths of time
 
@@ -101,21 +103,21 @@ unknown_text id = codes "The key '" ++ (id ++ codes "' is not in the ring")
 
 -- why a text is none of claims, or its claims are refused
 abbrev pub text_error_of : GenericParserError → ProgramError
-text_error_of (NoMemory source) = Memory source
-text_error_of (NotRead source) = Refused source
-text_error_of (ClaimError _) = OddNumber
-text_error_of (PayloadJsonError _) = NotJson
+text_error_of (NoMemory source) = System (Memory source)
+text_error_of (NotRead source) = token_error_of source
+text_error_of (ClaimError _) = Token OddNumber
+text_error_of (PayloadJsonError _) = Token NotJson
 
 -- why a token is none of claims
 abbrev pub parser_error_of : GenericParserError → ProgramError
-parser_error_of (NotRead FooterInvalid) = OtherFooter
+parser_error_of (NotRead FooterInvalid) = Token OtherFooter
 parser_error_of error = text_error_of error
 
 -- why a key does not read one
 abbrev pub admit_error_of : AdmitError → ProgramError
 admit_error_of (OfKey source) = use_error_of source
 admit_error_of (OfParser source) = parser_error_of source
-admit_error_of (NoAdmitMemory source) = Memory source
+admit_error_of (NoAdmitMemory source) = System (Memory source)
 
 -- the answer of a key
 abbrev pub admitted : Result Value AdmitError → Result Value ProgramError

@@ -13,7 +13,9 @@ use Rattle.rusty_paseto_generic.specs.Builders.Claims.{becomes, claim_set}
 use Rattle.rusty_paseto.specs.PasetoBuilder.{Counting, counted}
 use Rattle.paseto_tasks.specs.declared.error.ProgramError.{ProgramError}
 use Rattle.paseto_tasks.specs.declared.error.TimeOption.{TimeOption}
-use Rattle.paseto_tasks.specs.declared.error.ProgramError.TheVariants.{Memory, Time}
+use Rattle.paseto_tasks.specs.declared.error.ProgramError.TheVariants.{System, Usage}
+use Rattle.paseto_tasks.specs.declared.error.system.SystemError.TheVariants.{Memory}
+use Rattle.paseto_tasks.specs.declared.error.usage.UsageError.TheVariants.{Time}
 
 -- the word is this number in decimal digits, behind a plus or none, and it is one of 32 bits
 pub record IsNumber (word : List ℕ) (number : ℕ) : Type 0 where
@@ -85,5 +87,5 @@ time_counted key (Some moment) old = counted key old
 
 -- why the text of a moment that an option says makes no claim: memory was refused, or the text is no date
 abbrev pub claim_error_of : TimeOption → PasetoClaimError → ProgramError
-claim_error_of option (NoClaimMemory source) = Memory source
-claim_error_of option _ = Time option
+claim_error_of option (NoClaimMemory source) = System (Memory source)
+claim_error_of option _ = Usage (Time option)

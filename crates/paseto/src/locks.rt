@@ -12,7 +12,7 @@ use crate::files::put;
 use crate::forms::{format_of, formed, locked};
 use crate::keys::{Held, key_file_fault, key_name, key_of, key_text, opener_line, password_of};
 use paseto_keys::AnyKey;
-use paseto_tasks::{ProgramError, with_line_feed};
+use paseto_tasks::{FileError, ProgramError, UsageError, with_line_feed};
 use paseto_words::{Seal, Under, Wrap, Written};
 use paseto_wrapping::{WrappedType, wrapped_header_of};
 use rand::rngs::SysRng;
@@ -78,7 +78,7 @@ fn under_password<'a>(
     key: &AnyKey,
 ) -> Result<String, Fault<'a>> {
     let Some(password) = password_of(rt, file)? else {
-        return Err(Fault::from(ProgramError::NoPassword));
+        return Err(Fault::from(ProgramError::Usage(UsageError::NoPassword)));
     };
     locked(rt.alloc(), name, key, &password, &mut SysRng::new(rt))
 }
@@ -134,7 +134,7 @@ pub fn unsealed<'a>(rt: &HostRuntime, words: &Written<'a>) -> Result<u8, Fault<'
     let held = Held::of(rt, &words.key.openers)?;
     let text = key_text(rt, words.key.file)?;
     let Some((_, WrappedType::Seal, _)) = wrapped_header_of(text.as_str()) else {
-        return Err(Fault::about(name, ProgramError::NotSealed));
+        return Err(Fault::about(name, ProgramError::File(FileError::NotSealed)));
     };
     let key = held.open(rt.alloc(), name, text.as_str())?;
     let made = formed(rt.alloc(), name, &key, format)?;

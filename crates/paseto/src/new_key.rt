@@ -13,7 +13,7 @@ use crate::half::half_of;
 use crate::keys::password_of;
 use paseto_keys::AnyKey;
 use paseto_tasks::keygen::keygen;
-use paseto_tasks::{Format, Kind, ProgramError};
+use paseto_tasks::{Format, Kind, ProgramError, UsageError};
 use paseto_words::Keygen;
 use rand::rngs::SysRng;
 use rand_core::TryRng;
@@ -53,8 +53,8 @@ fn kind_of<'a>(words: &Keygen<'a>) -> Result<Kind, Fault<'a>>
 {
     match Kind::parse(words.kind) {
         Some(kind) if words.public.is_none() || kind.is_pair() => Ok(kind),
-        Some(_) => Err(Fault::about(words.kind, ProgramError::NoHalf)),
-        None => Err(Fault::about(words.kind, ProgramError::NoKind)),
+        Some(_) => Err(Fault::about(words.kind, ProgramError::Usage(UsageError::NoHalf))),
+        None => Err(Fault::about(words.kind, ProgramError::Usage(UsageError::NoKind))),
     }
 }
 
@@ -134,7 +134,7 @@ fn secret_text<'a, G: TryRng>(
         (option_map (λ bytes. bytes.now) password.entry) G.Error (parts_of key.now)) }
 {
     match (password, format) {
-        (Some(_), Format::Pem) => Err(Fault::from(ProgramError::LockedPem)),
+        (Some(_), Format::Pem) => Err(Fault::from(ProgramError::Usage(UsageError::LockedPem))),
         (Some(password), Format::Paserk) => locked(alloc, name, key, password, generator),
         (None, format) => formed(alloc, name, key, format),
     }

@@ -10,7 +10,7 @@ use crate::keys::{key_name, key_of};
 use crate::options::text_options;
 use paseto_keys::AnyKey;
 use paseto_tasks::run::run;
-use paseto_tasks::{Names, ProgramError, Task};
+use paseto_tasks::{Names, ProgramError, Task, UsageError};
 use paseto_words::Keyed;
 use rand::rngs::SysRng;
 use rand_core::TryRng;
@@ -21,7 +21,7 @@ use std::io::{Read, Write};
 /// environment.
 pub fn keyed<'a>(rt: &HostRuntime, task: Task, words: &Keyed<'a>) -> Result<u8, Fault<'a>> {
     if words.key.file == Some("-") && is_standard(words.input) {
-        return Err(Fault::from(ProgramError::OneInput));
+        return Err(Fault::from(ProgramError::Usage(UsageError::OneInput)));
     }
     let key = key_of(rt, &words.key)?;
     match words.input {

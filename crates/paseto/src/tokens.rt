@@ -11,7 +11,7 @@ use crate::files::{is_standard, opened, write_new};
 use crate::folder::keys_in;
 use crate::keys::{Held, key_name, key_of};
 use jiff::Timestamp;
-use paseto_tasks::ProgramError;
+use paseto_tasks::{ProgramError, SystemError, UsageError};
 use paseto_words::{Check, Issue, KeyFile, Keys as KeyWords};
 use rand::rngs::SysRng;
 
@@ -52,12 +52,12 @@ pub fn issue<'a>(rt: &HostRuntime, words: &Issue<'a>) -> Result<u8, Fault<'a>> {
 fn second_of(moment: Timestamp) -> Result<Timestamp, ProgramError>
     ensures second { IfOk result (λ second. second.nanosecond
         ≡ second_of moment.nanosecond *ℤ pos 1_000_000_000) }
-    ensures none { IfErr result (λ error. (error ≡ ProgramError.Clock)
+    ensures none { IfErr result (λ error. (error ≡ ProgramError.System SystemError.Clock)
         × ¬ IsTimestampNanos (second_of moment.nanosecond *ℤ pos 1_000_000_000)) }
 {
     match Timestamp::from_second(moment.as_second()) {
         Ok(second) => Ok(second),
-        Err(_) => Err(ProgramError::Clock),
+        Err(_) => Err(ProgramError::System(SystemError::Clock)),
     }
 }
 
@@ -69,11 +69,11 @@ fn clock(rt: &HostRuntime) -> Result<Timestamp, ProgramError> {
 /// Converts the result of reading the clock.
 fn told(read: Result<Timestamp, jiff::Error>) -> Result<Timestamp, ProgramError>
     ensures now { IfOk result (λ now. read ≡ Ok now) }
-    ensures none { IfErr result (λ error. (error ≡ ProgramError.Clock) × IsErr read) }
+    ensures none { IfErr result (λ error. (error ≡ ProgramError.System SystemError.Clock) × IsErr read) }
 {
     match read {
         Ok(now) => Ok(now),
-        Err(_) => Err(ProgramError::Clock),
+        Err(_) => Err(ProgramError::System(SystemError::Clock)),
     }
 }
 
@@ -117,7 +117,7 @@ fn keys_of<'a>(rt: &HostRuntime, words: &Check<'a>) -> Result<(&'a str, Keys), F
     let file = match words.keys {
         KeyWords::Ring(folder) => return Ok((folder, ring_of(rt, words, folder)?)),
         KeyWords::File("-") if is_standard(words.input) => {
-            return Err(Fault::from(ProgramError::OneInput));
+            return Err(Fault::from(ProgramError::Usage(UsageError::OneInput)));
         }
         KeyWords::File(path) => Some(path),
         KeyWords::Unsaid => None,

@@ -6,7 +6,8 @@ use Rattle.std.specs.declared.str.Utf8Error.{Utf8Error as Utf8Fault}
 use Rattle.paseto_streams.specs.Input.{IsInput}
 use Rattle.rusty_paseto_parts.specs.declared.error.PasetoError.TheVariants.{Utf8Error}
 use Rattle.paseto_tasks.specs.declared.error.ProgramError.{ProgramError}
-use Rattle.paseto_tasks.specs.declared.error.ProgramError.TheVariants.{Refused}
+use Rattle.paseto_tasks.specs.declared.error.ProgramError.TheVariants.{Token}
+use Rattle.paseto_tasks.specs.declared.error.token.TokenError.TheVariants.{Refused}
 use Rattle.paseto_tasks.specs.Error.{Blame, nothing}
 
 -- the line that an input is: without the line feed at its end, where it has one
@@ -23,7 +24,7 @@ reading = record nothing { no_stream = SystemError }
 
 -- why bytes are refused that are no text
 abbrev pub IsNoText : List ℕ → ProgramError → Type 0
-IsNoText bytes error = (¬ IsUtf8 bytes) × ((fault : Utf8Fault) × (error ≡ Refused (Utf8Error fault)))
+IsNoText bytes error = (¬ IsUtf8 bytes) × ((fault : Utf8Fault) × (error ≡ Token (Refused (Utf8Error fault))))
 
 -- the bytes are too many for a key file
 abbrev pub IsLong : List ℕ → Type 0

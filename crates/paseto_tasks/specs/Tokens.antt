@@ -15,9 +15,10 @@ use Rattle.paseto_tasks.specs.declared.arguments.Options.{Options}
 use Rattle.paseto_tasks.specs.declared.arguments.Task.{Task}
 use Rattle.paseto_tasks.specs.declared.arguments.Task.TheVariants.{Encrypt, Decrypt, Sign, Verify}
 use Rattle.paseto_tasks.specs.declared.error.ProgramError.{ProgramError}
-use Rattle.paseto_tasks.specs.declared.error.ProgramError.TheVariants.{Key, NoAssertion, Refused}
+use Rattle.paseto_tasks.specs.declared.error.ProgramError.TheVariants.{File}
+use Rattle.paseto_tasks.specs.declared.error.file.FileError.TheVariants.{Key, NoAssertion}
 use Rattle.paseto_tasks.specs.Arguments.{Takes}
-use Rattle.paseto_tasks.specs.Error.{IsTokenError}
+use Rattle.paseto_tasks.specs.Error.{IsTokenError, token_error_of}
 use Rattle.paseto_tasks.specs.Input.{IsNoText, line_of_input}
 use Rattle.paseto_tasks.specs.Output.{IsLineOf}
 use Rattle.paseto_tasks.specs.TokenKind.{kind_read_by}
@@ -38,8 +39,8 @@ Fits wanted options key = (key.kind ≡ wanted) × Takes key.version options.ass
 -- why it is refused otherwise
 abbrev pub RefusesKey : PaserkType → Options → KeyParts → ProgramError → Type 0
 RefusesKey wanted options key error =
-    ((key.kind ≢ wanted) × (error ≡ Key (OtherType key.kind)))
-    ⊎ ((key.kind ≡ wanted) × (¬ Takes key.version options.assertion) × (error ≡ NoAssertion))
+    ((key.kind ≢ wanted) × (error ≡ File (Key (OtherType key.kind))))
+    ⊎ ((key.kind ≡ wanted) × (¬ Takes key.version options.assertion) × (error ≡ File NoAssertion))
 
 -- ---- writing
 
@@ -66,7 +67,7 @@ pub record DeclinesText (key : KeyParts) (options : Options) (IsDrawn : ℕ → 
   pub source : PasetoError
   pub is_drawn : IsDrawn (drawn_length key.kind key.version) drawn
   pub declined : (writing_with key options drawn).Declines (is_some options.footer) text source
-  pub told : error ≡ Refused source
+  pub told : error ≡ token_error_of source
 
 -- why there is none: the bytes are no text, or the text has no token
 abbrev pub RefusesText : KeyParts → Options → (ℕ → List ℕ → Type 0) → List ℕ → ProgramError → Type 0

@@ -5,7 +5,7 @@ ghost use Rattle.paseto_tasks.specs.Error.{Fails, IsNoUsage, IsOutside, IsPlainB
 ghost use Rattle.paseto_tasks.specs.Input.{IsLong, IsNoKeyFile, IsNoPassword, IsNoText, OfInput, line_of_input, reading};
 ghost use Rattle.paseto_streams.specs.Input.{IsInput};
 
-use crate::error::ProgramError;
+use crate::error::{FileError, ProgramError};
 use paseto_streams::read_whole;
 use rusty_paseto_paserk::PaserkError;
 use std::alloc::Global;
@@ -58,7 +58,7 @@ pub fn read_key_line<K: Read>(alloc: Global, file: &mut K) -> Result<String, Pro
 {
     let bytes = read_short(alloc, file)?;
     let Ok(line) = str::from_utf8(without_line_feed(&bytes)) else {
-        return Err(ProgramError::Key(PaserkError::NoKey));
+        return Err(ProgramError::from(PaserkError::NoKey));
     };
     Ok(String::from_str(alloc, line)?)
 }
@@ -74,12 +74,14 @@ pub fn read_password<P: Read>(alloc: Global, file: &mut P) -> Result<Vec<u8>, Pr
     ensures plain { IfErr result (IsPlainBut reading) }
 {
     let bytes = match read_short(alloc, file) {
-        Err(ProgramError::TooLong) => return Err(ProgramError::OddPassword),
+        Err(ProgramError::File(FileError::TooLong)) => {
+            return Err(ProgramError::File(FileError::OddPassword));
+        }
         read => read?,
     };
     let password = without_line_feed(&bytes);
     if password.is_empty() {
-        return Err(ProgramError::OddPassword);
+        return Err(ProgramError::File(FileError::OddPassword));
     }
     Ok(Vec::from_slice(alloc, password)?)
 }
@@ -101,7 +103,7 @@ fn read_short<K: Read>(alloc: Global, file: &mut K) -> Result<Vec<u8>, ProgramEr
         }
         bytes.extend_from_slice(&space[..count])?;
         if bytes.len() > LIMIT {
-            return Err(ProgramError::TooLong);
+            return Err(ProgramError::File(FileError::TooLong));
         }
     }
 }

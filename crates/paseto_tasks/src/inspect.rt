@@ -103,7 +103,7 @@ fn push_text(
     let payload = from_section(alloc, section)?;
     let length = signature_length(version);
     if payload.len() < length {
-        return Err(ProgramError::Refused(PasetoError::IncorrectSize));
+        return Err(ProgramError::from(PasetoError::IncorrectSize));
     }
     let text = str::from_utf8(&payload[..payload.len() - length])?;
     push_line(lines, "text, not verified: ", text)?;

@@ -30,9 +30,8 @@ use std::io::{Read, Write};
 
 /// Does a task with a key, and returns the status.
 ///
-/// The status is 0 if the whole output was written, 1 if the key, the text or the token was
-/// refused, and 3 if an allocation failed, the generator failed, or a read or a write failed. If it
-/// is not 0, the error's text and a line feed are written to `errors`; if a write fails there, a
+/// The status is 0 if the whole output was written, 1 if the text or the token was refused, 3 if the key
+/// was, and 4 if an allocation failed, the generator failed, or a read or a write failed. If it is not 0, the error's text and a line feed are written to `errors`; if a write fails there, a
 /// prefix of them is, and the status stays the same. The text contains nothing of the key or the
 /// input. A refusal writes nothing to `output`, and a write that fails leaves a prefix of the
 /// output there. A key that is refused is refused before the input is read.
@@ -247,7 +246,7 @@ fn written<W: Write>(made: Result<String, ProgramError>, output: &mut W) -> Resu
     ensures cut { OnErr result ((left : List ℕ)
         × Appends (W.contents output.old) (W.contents output.new) left
         × IsLeftOf (IsTextOf made) left) }
-    ensures refused { IfErr result (λ error. (status_of error ≡ 3)
+    ensures refused { IfErr result (λ error. (status_of error ≡ 4)
         ⊎ ((output.new ≡ output.old) × IsErrAnd made (λ cause. cause ≡ error))) }
     ensures cause { IfErr result (λ error. IsCauseOf made error) }
 {

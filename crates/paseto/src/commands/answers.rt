@@ -11,7 +11,7 @@ ghost use Rattle.paseto.specs.Times.{claim_error_of};
 use crate::commands::times::between;
 use jiff::Timestamp;
 use paseto_keys::{AdmitError, RingError};
-use paseto_tasks::{ProgramError, TimeOption};
+use paseto_tasks::{FileError, ProgramError, TimeOption, TokenError, UsageError};
 use rusty_paseto::prelude::{
     GenericBuilderError, GenericParserError, KeyRingError, PasetoClaimError, PasetoError,
 };
@@ -32,12 +32,12 @@ pub fn built<T: Drop>(
 {
     match answer {
         Ok(value) => Ok(value),
-        Err(GenericBuilderError::Memory(source)) => Err(ProgramError::Memory(source)),
+        Err(GenericBuilderError::Memory(source)) => Err(ProgramError::from(source)),
         Err(GenericBuilderError::DuplicateTopLevelPayloadClaim(key)) => Err(repeated(
             alloc,
             key.as_str(),
         )),
-        Err(_) => Err(ProgramError::OddClaim),
+        Err(_) => Err(ProgramError::Token(TokenError::OddClaim)),
     }
 }
 
@@ -58,8 +58,8 @@ pub fn dated(option: TimeOption, source: PasetoClaimError) -> ProgramError
     ensures { result ≡ claim_error_of option source }
 {
     match source {
-        PasetoClaimError::Memory(source) => ProgramError::Memory(source),
-        _ => ProgramError::Time(option),
+        PasetoClaimError::Memory(source) => ProgramError::from(source),
+        _ => ProgramError::Usage(UsageError::Time(option)),
     }
 }
 
@@ -72,8 +72,8 @@ pub fn demanded<T: Drop>(answer: Result<T, GenericParserError>) -> Result<T, Pro
 {
     match answer {
         Ok(value) => Ok(value),
-        Err(GenericParserError::Memory(source)) => Err(ProgramError::Memory(source)),
-        Err(_) => Err(ProgramError::OddClaim),
+        Err(GenericParserError::Memory(source)) => Err(ProgramError::from(source)),
+        Err(_) => Err(ProgramError::Token(TokenError::OddClaim)),
     }
 }
 
@@ -85,7 +85,7 @@ pub fn admitted(answer: Result<Value, AdmitError>) -> Result<Value, ProgramError
         Ok(value) => Ok(value),
         Err(AdmitError::Key(source)) => Err(ProgramError::from(source)),
         Err(AdmitError::Parser(source)) => Err(by_parser(source)),
-        Err(AdmitError::Memory(source)) => Err(ProgramError::Memory(source)),
+        Err(AdmitError::Memory(source)) => Err(ProgramError::from(source)),
     }
 }
 
@@ -126,8 +126,8 @@ pub fn found(
 {
     match answer {
         Ok((_id, value)) => Ok(value),
-        Err(RingError::NoAssertion) => Err(ProgramError::NoAssertion),
-        Err(RingError::Memory(source)) => Err(ProgramError::Memory(source)),
+        Err(RingError::NoAssertion) => Err(ProgramError::File(FileError::NoAssertion)),
+        Err(RingError::Memory(source)) => Err(ProgramError::from(source)),
         Err(RingError::Parser(source)) => Err(by_text(source)),
         Err(RingError::Ring(source)) => Err(by_ring(alloc, source)),
     }
@@ -140,7 +140,7 @@ fn by_parser(source: GenericParserError) -> ProgramError
     match source {
         GenericParserError::CipherError {
             source: PasetoError::FooterInvalid,
-        } => ProgramError::OtherFooter,
+        } => ProgramError::Token(TokenError::OtherFooter),
         source => by_text(source),
     }
 }
@@ -150,10 +150,10 @@ fn by_text(source: GenericParserError) -> ProgramError
     ensures { result ≡ text_error_of source }
 {
     match source {
-        GenericParserError::Memory(source) => ProgramError::Memory(source),
-        GenericParserError::CipherError { source } => ProgramError::Refused(source),
-        GenericParserError::ClaimError { .. } => ProgramError::OddNumber,
-        GenericParserError::PayloadJsonError { .. } => ProgramError::NotJson,
+        GenericParserError::Memory(source) => ProgramError::from(source),
+        GenericParserError::CipherError { source } => ProgramError::of_token(source),
+        GenericParserError::ClaimError { .. } => ProgramError::Token(TokenError::OddNumber),
+        GenericParserError::PayloadJsonError { .. } => ProgramError::Token(TokenError::NotJson),
     }
 }
 
@@ -164,13 +164,13 @@ fn by_ring(alloc: Global, source: KeyRingError) -> ProgramError
     ensures said { SaysOfRing (RingError.Ring source) result }
 {
     match source {
-        KeyRingError::Memory(source) => ProgramError::Memory(source),
+        KeyRingError::Memory(source) => ProgramError::from(source),
         KeyRingError::Untrusted(source) | KeyRingError::Token(source) => {
-            ProgramError::Refused(source)
+            ProgramError::of_token(source)
         }
-        KeyRingError::NoFooter => ProgramError::NoFooter,
-        KeyRingError::NotAnObject => ProgramError::NotAnObject,
-        KeyRingError::NoKeyId => ProgramError::NoKeyId,
+        KeyRingError::NoFooter => ProgramError::Token(TokenError::NoFooter),
+        KeyRingError::NotAnObject => ProgramError::Token(TokenError::NotAnObject),
+        KeyRingError::NoKeyId => ProgramError::Token(TokenError::NoKeyId),
         KeyRingError::UnknownKey(id) => unknown(alloc, id.as_str()),
     }
 }
@@ -224,8 +224,8 @@ pub fn told(line: Result<String, AllocError>) -> ProgramError
     ensures said { Says (λ text. IsOkAnd line (λ line. text ≡ string_bytes line)) result }
 {
     match line {
-        Ok(line) => ProgramError::Unfit(line),
-        Err(source) => ProgramError::Memory(source),
+        Ok(line) => ProgramError::Token(TokenError::Unfit(line)),
+        Err(source) => ProgramError::from(source),
     }
 }
 

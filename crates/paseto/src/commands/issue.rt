@@ -20,7 +20,7 @@ use crate::commands::footer::{footer_of, lent};
 use crate::commands::times::moment_of;
 use jiff::Timestamp;
 use paseto_keys::{AnyKey, TokenWriter};
-use paseto_tasks::{Options, ProgramError, TimeOption, with_line_feed};
+use paseto_tasks::{Options, ProgramError, SystemError, TimeOption, UsageError, with_line_feed};
 use rand_core::TryRng;
 use rusty_paseto::prelude::{
     CountingSetter, ExpirationClaim, ImplicitAssertion, Local, NotBeforeClaim, PasetoBuilder,
@@ -82,7 +82,7 @@ fn time_of(
     };
     match moment_of(word, now) {
         Some(moment) => Ok(Some(moment)),
-        None => Err(ProgramError::Time(option)),
+        None => Err(ProgramError::Usage(UsageError::Time(option))),
     }
 }
 
@@ -130,7 +130,7 @@ fn builder_of(
         (record nothing { no_moment = ¬ FitsDefault order.now.moment })) }
 {
     if !fits_default(order.moment) {
-        return Err(ProgramError::Clock);
+        return Err(ProgramError::System(SystemError::Clock));
     }
     let mut builder = built(alloc, PasetoBuilder::default(alloc, order.moment))?;
     set_claims(alloc, &mut builder, &order.claims)?;

@@ -7,7 +7,7 @@ ghost use Rattle.paseto.specs.Times.{HasUnit, IsLeeway, IsLength, IsNumber, Says
 ghost use Rattle.paseto_tasks.specs.Error.{IsOfWords, Lacks};
 
 use jiff::Timestamp;
-use paseto_tasks::{ProgramError, TimeOption};
+use paseto_tasks::{ProgramError, TimeOption, UsageError};
 use std::alloc::{AllocError, Global};
 
 /// The nanoseconds of a second.
@@ -40,10 +40,10 @@ pub fn leeway_of(word: Option<&str>) -> Result<u32, ProgramError>
         return Ok(0);
     };
     let Some(seconds) = seconds_of(word) else {
-        return Err(ProgramError::Time(TimeOption::Leeway));
+        return Err(ProgramError::Usage(UsageError::Time(TimeOption::Leeway)));
     };
     if seconds > u32::MAX as u64 {
-        return Err(ProgramError::Time(TimeOption::Leeway));
+        return Err(ProgramError::Usage(UsageError::Time(TimeOption::Leeway)));
     }
     Ok(seconds as u32)
 }
