@@ -1,0 +1,39 @@
+-- What is said of keys, passwords and other files that cannot be used.
+use Rattle.std.specs.Prelude.{ℕ, List, codes}
+use Rattle.paseto_key_files.specs.Error.{error_text as key_file_error_text}
+use Rattle.paseto_key_files.specs.declared.error.KeyFileError.TheVariants.{Random as NoBytes, Memory as NoFileMemory}
+use Rattle.paseto_pem.specs.Error.{error_text as pem_error_text}
+use Rattle.paseto_pem.specs.declared.error.PemError.{PemError}
+use Rattle.paseto_pem.specs.declared.error.PemError.TheVariants.{NotPem, Memory as NoPemMemory}
+use Rattle.rusty_paseto_paserk.specs.Error.{error_text as key_error_text}
+use Rattle.rusty_paseto_paserk.specs.declared.error.PaserkError.TheVariants.{Memory as NoKeyMemory}
+use Rattle.paseto_tasks.specs.declared.error.file.FileError.{FileError}
+use Rattle.paseto_tasks.specs.declared.error.file.FileError.TheVariants.{Key, Pem, KeyFile, NotSealed, SecondLine, TooLong, OtherHalves, NotPrivate, NoAssertion, OddPassword, NoFile, NoAccess, FileExists}
+
+-- what is said of a key that was refused as PEM: the text of the error, but where that leaves open what to do
+abbrev pub pem_text : PemError → List ℕ
+pem_text NotPem = codes "not valid PEM; key pairs of version 1 are read from PEM"
+pem_text error = pem_error_text error
+
+abbrev pub file_text : FileError → List ℕ
+file_text (Key error) = key_error_text error
+file_text (Pem error) = pem_text error
+file_text (KeyFile error) = key_file_error_text error
+file_text NotSealed = codes "the key is not sealed: use paseto unwrap"
+file_text SecondLine = codes "line 2: a key file has one line of PASERK, or is PEM"
+file_text TooLong = codes "too long for a key file"
+file_text OtherHalves = codes "the two halves of the private key do not belong together"
+file_text NotPrivate = codes "not a valid private key of its kind"
+file_text NoAssertion = codes "keys of versions 1 and 2 take no implicit assertion: omit --assertion"
+file_text OddPassword = codes "not a password: it must have 1 to 4095 bytes"
+file_text NoFile = codes "no such file"
+file_text NoAccess = codes "the file cannot be opened or created"
+file_text FileExists = codes "the file already exists and is not overwritten"
+
+-- the status, which is that of the system where memory or random bytes failed behind the error
+abbrev pub file_status : FileError → ℕ
+file_status (Key (NoKeyMemory _)) = 4
+file_status (Pem (NoPemMemory _)) = 4
+file_status (KeyFile NoBytes) = 4
+file_status (KeyFile (NoFileMemory _)) = 4
+file_status _ = 3

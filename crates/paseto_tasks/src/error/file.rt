@@ -1,0 +1,86 @@
+//! Keys, passwords and other files that cannot be used.
+
+ghost use Rattle.std.specs.Prelude.{◌≡◌};
+ghost use Rattle.paseto_tasks.specs.Error.File.{file_status, file_text, pem_text};
+
+use paseto_key_files::KeyFileError;
+use paseto_pem::PemError;
+use rusty_paseto_paserk::PaserkError;
+
+/// Why a key, a password or another named file cannot be used.
+#[derive(Debug, Drop)]
+pub enum FileError {
+    /// The text of the key file was refused.
+    Key(PaserkError),
+    /// The text of the key file was refused as PEM.
+    Pem(PemError),
+    /// The key file was not opened, or a key was not written to one.
+    KeyFile(KeyFileError),
+    /// The key is to be unsealed, but is not sealed.
+    NotSealed,
+    /// The key file has a second line, and is not PEM.
+    SecondLine,
+    /// The key file is longer than the program's limit.
+    TooLong,
+    /// The two halves of the private key do not belong together.
+    OtherHalves,
+    /// The key is not a private key of its kind.
+    NotPrivate,
+    /// Keys of this version take no implicit assertion.
+    NoAssertion,
+    /// The named password is not a password.
+    OddPassword,
+    /// A named file does not exist.
+    NoFile,
+    /// A named file cannot be opened or created.
+    NoAccess,
+    /// A file to be created already exists.
+    FileExists,
+}
+
+impl FileError {
+    /// The message on standard error, which follows the name of the file.
+    pub(crate) fn text(&self) -> &'static str
+        ensures { result.now ≡ file_text self.now }
+    {
+        use FileError::*;
+        match self {
+            Key(source) => source.text(),
+            Pem(source) => pem_text(source),
+            KeyFile(source) => source.text(),
+            NotSealed => "the key is not sealed: use paseto unwrap",
+            SecondLine => "line 2: a key file has one line of PASERK, or is PEM",
+            TooLong => "too long for a key file",
+            OtherHalves => "the two halves of the private key do not belong together",
+            NotPrivate => "not a valid private key of its kind",
+            NoAssertion => "keys of versions 1 and 2 take no implicit assertion: omit --assertion",
+            OddPassword => "not a password: it must have 1 to 4095 bytes",
+            NoFile => "no such file",
+            NoAccess => "the file cannot be opened or created",
+            FileExists => "the file already exists and is not overwritten",
+        }
+    }
+
+    /// The exit status: that of the system if memory or random bytes failed behind the error.
+    pub(crate) fn status(&self) -> u8
+        ensures { result ≡ file_status self.now }
+    {
+        match self {
+            FileError::Key(PaserkError::Memory(_))
+            | FileError::Pem(PemError::Memory(_))
+            | FileError::KeyFile(KeyFileError::Random | KeyFileError::Memory(_)) => 4,
+            _ => 3,
+        }
+    }
+}
+
+/// The message for a key that was refused as PEM: the text of the error, unless that leaves open
+/// what to do.
+fn pem_text(source: &PemError) -> &'static str
+    ensures { result.now ≡ pem_text source.now }
+{
+    match source {
+        PemError::NotPem => "not valid PEM; key pairs of version 1 are read from PEM",
+        _ => source.text(),
+    }
+}
