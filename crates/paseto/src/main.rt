@@ -18,6 +18,7 @@ mod new_key;
 mod options;
 mod texts;
 mod tokens;
+mod warning;
 
 use clap::Error;
 use fault::Fault;

@@ -5,9 +5,11 @@ ghost use Rattle.paseto_keys.specs.AnyKey.{parts_of};
 ghost use Rattle.paseto.specs.Texts.{DoesTask};
 
 use crate::fault::Fault;
-use crate::files::{is_standard, name_of, opened, write_new};
+use crate::files::{is_standard, name_of, opened, put};
 use crate::keys::{key_name, key_of};
 use crate::options::text_options;
+use crate::warning::line_of_text;
+use jiff::Timestamp;
 use paseto_keys::AnyKey;
 use paseto_tasks::run::run;
 use paseto_tasks::{Names, ProgramError, Task, UsageError};
@@ -16,6 +18,7 @@ use rand::rngs::SysRng;
 use rand_core::TryRng;
 use std::alloc::Global;
 use std::io::{Read, Write};
+use std::str;
 
 /// Does a task with the key that the arguments name: in a file, on standard input or in the
 /// environment.
@@ -30,8 +33,7 @@ pub fn keyed<'a>(rt: &HostRuntime, task: Task, words: &Keyed<'a>) -> Result<u8, 
     }
 }
 
-/// Passes a task its output: a new file, which is created after the task is done, or standard
-/// output.
+/// Writes the output of a task to a new file or to standard output, once the task is done.
 fn with_input<'a, R: Read>(
     rt: &HostRuntime,
     task: Task,
@@ -39,36 +41,38 @@ fn with_input<'a, R: Read>(
     key: &AnyKey,
     input: &mut R,
 ) -> Result<u8, Fault<'a>> {
-    let (alloc, mut generator) = (rt.alloc(), SysRng::new(rt));
-    let errors = &mut rt.stderr();
-    let Some(path) = words.out else {
-        let output = &mut rt.stdout();
-        return Ok(done(
-            alloc,
-            task,
-            words,
-            key,
-            &mut generator,
-            input,
-            output,
-            errors,
-        ));
-    };
-    let mut made = Vec::new(alloc);
+    let mut made = Vec::new(rt.alloc());
     let status = done(
-        alloc,
+        rt.alloc(),
         task,
         words,
         key,
-        &mut generator,
+        &mut SysRng::new(rt),
         input,
         &mut made,
-        errors,
+        &mut rt.stderr(),
     );
     if status == 0 {
-        write_new(rt, path, 0o600, &made)?;
+        if matches!(task, Task::Decrypt | Task::Verify) {
+            warn_of_times(rt, name_of(words.input), &made)?;
+        }
+        put(rt, words.out, 0o600, &made)?;
     }
     Ok(status)
+}
+
+/// Warns if a text is an object of claims that has expired, or that may not be used yet.
+fn warn_of_times(rt: &HostRuntime, name: &str, text: &[u8]) -> Result<(), ProgramError> {
+    let (Ok(text), Ok(now)) = (str::from_utf8(text), Timestamp::now(rt)) else {
+        return Ok(());
+    };
+    if let Some(line) = line_of_text(rt.alloc(), text, now)? {
+        let line = format!(in rt.alloc();
+            "paseto: {name}: warning: {line}: only paseto check refuses that"
+        )?;
+        rt.eprintln(&line)?;
+    }
+    Ok(())
 }
 
 /// Does a task with the footer and the implicit assertion of the arguments, and returns the status.

@@ -193,7 +193,7 @@ fn by_claim(alloc: Global, claims: &Value, at: Timestamp, source: PasetoClaimErr
     ensures said { Says (λ line. line ≡ claim_line (view claims.now) at source) result }
 {
     match source {
-        PasetoClaimError::Expired => told(expired(alloc, expiry_of(claims), at)),
+        PasetoClaimError::Expired => told(expired(alloc, text_under(claims, "exp"), at)),
         PasetoClaimError::UseBeforeAvailable(text) => told(early(alloc, text.as_str(), at)),
         PasetoClaimError::Invalid(key, found, wanted) => mismatch(
             alloc,
@@ -259,11 +259,11 @@ fn push_shown(line: &mut String, letter: char) -> Result<(), AllocError>
     line.push(if letter.is_control() { '?' } else { letter })
 }
 
-/// The text of `exp`, or an empty text if there is none.
-fn expiry_of(claims: &Value) -> &str
-    ensures { result.now ≡ text_under (codes "exp") (view claims.now) }
+/// The text of the claim with a name, or an empty text if there is none.
+pub fn text_under<'c>(claims: &'c Value, name: &str) -> &'c str
+    ensures { result.now ≡ text_under name.now (view claims.now) }
 {
-    match claims.get("exp") {
+    match claims.get(name) {
         Some(value) => value.as_str().unwrap_or(""),
         None => "",
     }

@@ -3,7 +3,7 @@
 ghost use Rattle.std.specs.Prelude.{◌≡◌, ◌≢◌, ◌≤◌, ◌*◌, ◌++◌, ◌+ℤ◌, ◌-ℤ◌, ℕ, List, pos, IfErr, IfOk, IfSome, MatchOption, option_map, string_bytes, unsigned_abs};
 ghost use Rattle.jiff.specs.Words.{IsTimestampNanos};
 ghost use Rattle.paseto.specs.Answers.{between_text, count_text, length_text, second_of};
-ghost use Rattle.paseto.specs.Times.{HasUnit, IsLeeway, IsLength, IsNumber, SaysMoment, SaysNone};
+ghost use Rattle.paseto.specs.Times.{HasUnit, IsLeeway, IsLength, IsNumber, IsSecondBefore, SaysMoment, SaysNone};
 ghost use Rattle.paseto_tasks.specs.Error.{IsOfWords, Lacks};
 
 use jiff::Timestamp;
@@ -55,6 +55,16 @@ fn moment_after(seconds: u64, now: Timestamp) -> Option<Timestamp>
         (λ moment. moment.nanosecond ≡ now.nanosecond +ℤ pos (seconds * 1_000_000_000)) }
 {
     match Timestamp::from_nanosecond(now.as_nanosecond() + seconds as i128 * SECOND) {
+        Ok(moment) => Some(moment),
+        Err(_) => None,
+    }
+}
+
+/// The moment a second earlier.
+pub fn second_before(now: Timestamp) -> Option<Timestamp>
+    ensures { IsSecondBefore now result }
+{
+    match Timestamp::from_nanosecond(now.as_nanosecond() - SECOND) {
         Ok(moment) => Some(moment),
         Err(_) => None,
     }
