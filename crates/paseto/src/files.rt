@@ -5,7 +5,7 @@ ghost use Rattle.paseto.specs.Files.{input_name, is_standard};
 
 use crate::fault::Fault;
 use crate::folder;
-use paseto_tasks::{ProgramError, write_whole};
+use paseto_tasks::{FileError, ProgramError, write_whole};
 use std::fs::File;
 use std::os::unix::fs::OpenOptionsExt;
 
@@ -31,10 +31,19 @@ pub fn name_of(input: Option<&str>) -> &str
 
 /// Opens the named file.
 pub fn opened<'a>(rt: &HostRuntime, path: &'a str) -> Result<File, Fault<'a>> {
-    match folder::opened(File::open(rt, path)) {
+    match no_folder(folder::opened(File::open(rt, path))) {
         Ok(file) => Ok(file),
         Err(error) => Err(Fault::about(path, error)),
     }
+}
+
+/// A file that is no folder: the system opens folders, too.
+fn no_folder(file: Result<File, ProgramError>) -> Result<File, ProgramError> {
+    let file = file?;
+    if file.metadata()?.is_dir() {
+        return Err(ProgramError::File(FileError::IsFolder));
+    }
+    Ok(file)
 }
 
 /// Writes bytes to a new file, with the permissions of the mode.

@@ -11,7 +11,6 @@ use crate::fault::Fault;
 use crate::files::{name_of, opened};
 use paseto_key_files::{KeyFileError, Openers, unlock};
 use paseto_keys::AnyKey;
-use paseto_pem::PemError;
 use paseto_tasks::{FileError, ProgramError, UsageError, begins_as, read_key_line, read_password};
 use paseto_words::{KeyFile, Openers as OpenerWords};
 use rusty_paseto_paserk::{PaserkError, PaserkType, PaserkVersion};
@@ -140,7 +139,7 @@ fn line_error(error: KeyFileError) -> ProgramError
 {
     match error {
         KeyFileError::Paserk(PaserkError::OtherVersion(PaserkVersion::V1)) => {
-            ProgramError::File(FileError::Pem(PemError::NotPem))
+            ProgramError::File(FileError::InPaserk)
         }
         error => ProgramError::from(error),
     }

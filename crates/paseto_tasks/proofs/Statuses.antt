@@ -3,12 +3,11 @@ use Rattle.std.proofs.Common.{◌≡◌, ◌≢◌, ◌⊎◌, ℕ, List, ◌==�
 use Rattle.std.proofs.lemmas.Bool.{false≢true}
 use Rattle.std.specs.Bool.{⊤}
 use Rattle.paseto_key_files.specs.declared.error.KeyFileError.TheVariants.{Random as NoBytes, Memory as NoFileMemory}
-use Rattle.paseto_pem.specs.declared.error.PemError.TheVariants.{Memory as NoPemMemory}
 use Rattle.rusty_paseto_paserk.specs.declared.error.PaserkError.TheVariants.{Memory as NoKeyMemory}
 use Rattle.paseto_tasks.specs.declared.error.ProgramError.{ProgramError}
 use Rattle.paseto_tasks.specs.declared.error.ProgramError.TheVariants.{Usage, File, Token, System}
 use Rattle.paseto_tasks.specs.declared.error.file.FileError.{FileError}
-use Rattle.paseto_tasks.specs.declared.error.file.FileError.TheVariants.{Key, Pem, KeyFile}
+use Rattle.paseto_tasks.specs.declared.error.file.FileError.TheVariants.{Key, KeyFile}
 use Rattle.paseto_tasks.specs.declared.error.system.SystemError.TheVariants.{InputOrOutput}
 use Rattle.paseto_tasks.specs.declared.error.token.TokenError.TheVariants.{Unfit}
 use Rattle.paseto_tasks.specs.Error.{IsCauseOf, IsFixed, IsNoRefusal, IsNoUsage, IsOutside, Says, status_of}
@@ -19,11 +18,9 @@ use Rattle.paseto_tasks.specs.Error.File.{file_status}
 -- a file that cannot be used ends the program with 3, or with 4 where memory or random bytes failed behind that
 pub of_file : (P : ℕ → Type 0) → P 3 → P 4 → (error : FileError) → P (file_status error)
 of_file P three four (Key (NoKeyMemory source)) = four
-of_file P three four (Pem (NoPemMemory source)) = four
 of_file P three four (KeyFile NoBytes) = four
 of_file P three four (KeyFile (NoFileMemory source)) = four
 of_file P three four (Key error) = three
-of_file P three four (Pem error) = three
 of_file P three four (KeyFile error) = three
 of_file P three four error = three
 

@@ -5,11 +5,9 @@ pub mod Token
 pub mod System
 use Rattle.std.specs.Prelude.{◌≡◌, ◌⊎◌, ℕ, ⊤, List, [], ◌∷◌, ◌++◌, Result, Ok, Err, alloc_error, codes, string_bytes}
 use Rattle.std.specs.declared.io.ErrorKind.{ErrorKind}
-use Rattle.std.specs.declared.io.ErrorKind.TheVariants.{AlreadyExists, InvalidData, NotFound, OutOfMemory}
+use Rattle.std.specs.declared.io.ErrorKind.TheVariants.{AlreadyExists, InvalidData, IsADirectory, NotADirectory, NotFound, OutOfMemory, PermissionDenied}
 use Rattle.paseto_key_files.specs.declared.error.KeyFileError.{KeyFileError}
 use Rattle.paseto_key_files.specs.declared.error.KeyFileError.TheVariants.{Wrap, Random as NoBytes, Memory as NoFileMemory}
-use Rattle.paseto_pem.specs.declared.error.PemError.{PemError}
-use Rattle.paseto_pem.specs.declared.error.PemError.TheVariants.{Memory as NoPemMemory}
 use Rattle.paseto_wrapping.specs.declared.error.WrapError.TheVariants.{WrongKey}
 use Rattle.rusty_paseto_parts.specs.declared.error.PasetoError.{PasetoError}
 use Rattle.rusty_paseto_parts.specs.declared.error.PasetoError.TheVariants.{Cipher, Memory as NoMemory, WrongHeader, Signature, KeyRejected}
@@ -22,7 +20,7 @@ use Rattle.paseto_streams.specs.declared.error.StreamError.TheVariants.{InputOrO
 use Rattle.paseto_tasks.specs.declared.error.About.{About}
 use Rattle.paseto_tasks.specs.declared.error.About.TheVariants.{Key as OfKey, Input as OfInput, Nothing as OfNothing}
 use Rattle.paseto_tasks.specs.declared.error.Names.{Names}
-use Rattle.paseto_tasks.specs.declared.error.file.FileError.TheVariants.{Key, Pem, KeyFile, TooLong, OtherHalves, NotPrivate, NoAssertion, NoFile, NoAccess, FileExists}
+use Rattle.paseto_tasks.specs.declared.error.file.FileError.TheVariants.{Key, KeyFile, TooLong, OtherHalves, NotPrivate, NoAssertion, NoFile, NoPermission, IsFolder, NotFolder, NoAccess, FileExists}
 use Rattle.paseto_tasks.specs.declared.error.system.SystemError.TheVariants.{Clock, Random, InputOrOutput, Memory}
 use Rattle.paseto_tasks.specs.declared.error.token.TokenError.TheVariants.{Refused, OtherKind, OddClaim, OtherFooter, Unfit, Wrapped}
 use Rattle.paseto_tasks.specs.declared.error.usage.UsageError.TheVariants.{NotText, NoKind, NoHalf}
@@ -117,10 +115,6 @@ abbrev pub key_error_of : PaserkError → ProgramError
 key_error_of (NoKeyMemory source) = System (Memory source)
 key_error_of error = File (Key error)
 
-abbrev pub pem_error_of : PemError → ProgramError
-pem_error_of (NoPemMemory source) = System (Memory source)
-pem_error_of error = File (Pem error)
-
 abbrev pub stream_error_of : StreamError → ProgramError
 stream_error_of NoStream = System InputOrOutput
 stream_error_of (NoStreamMemory source) = System (Memory source)
@@ -143,6 +137,9 @@ abbrev pub file_error : ErrorKind → ProgramError
 file_error OutOfMemory = System (Memory alloc_error)
 file_error NotFound = File NoFile
 file_error AlreadyExists = File FileExists
+file_error PermissionDenied = File NoPermission
+file_error IsADirectory = File IsFolder
+file_error NotADirectory = File NotFolder
 file_error _ = File NoAccess
 
 -- memory was refused

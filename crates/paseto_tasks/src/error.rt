@@ -9,7 +9,7 @@ ghost use Rattle.rusty_paseto_parts.specs.declared.error.PasetoError.TheVariants
 ghost use Rattle.paseto_tasks.specs.declared.error.ProgramError.TheVariants.{System, Token};
 ghost use Rattle.paseto_tasks.specs.declared.error.system.SystemError.TheVariants.{InputOrOutput, Memory};
 ghost use Rattle.paseto_tasks.specs.declared.error.token.TokenError.TheVariants.{Refused};
-ghost use Rattle.paseto_tasks.specs.Error.{colon_behind, file_error, joined, key_error_of, key_file_error_of, line_of, name_of, pem_error_of, program_error_of, status_of, stream_error_of, subject_of, text_of, token_error_of, use_error_of, words_error};
+ghost use Rattle.paseto_tasks.specs.Error.{colon_behind, file_error, joined, key_error_of, key_file_error_of, line_of, name_of, program_error_of, status_of, stream_error_of, subject_of, text_of, token_error_of, use_error_of, words_error};
 
 mod file;
 mod system;
@@ -20,7 +20,6 @@ use crate::output::write_whole;
 pub use file::FileError;
 use paseto_key_files::KeyFileError;
 use paseto_keys::KeyError;
-use paseto_pem::PemError;
 use paseto_streams::StreamError;
 use paseto_wrapping::WrapError;
 use rusty_paseto_core::PasetoError;
@@ -155,6 +154,9 @@ impl ProgramError {
             io::ErrorKind::OutOfMemory => ProgramError::from(AllocError),
             io::ErrorKind::NotFound => ProgramError::File(FileError::NoFile),
             io::ErrorKind::AlreadyExists => ProgramError::File(FileError::FileExists),
+            io::ErrorKind::PermissionDenied => ProgramError::File(FileError::NoPermission),
+            io::ErrorKind::IsADirectory => ProgramError::File(FileError::IsFolder),
+            io::ErrorKind::NotADirectory => ProgramError::File(FileError::NotFolder),
             _ => ProgramError::File(FileError::NoAccess),
         }
     }
@@ -268,17 +270,6 @@ impl From<PaserkError> for ProgramError {
         match source {
             PaserkError::Memory(source) => ProgramError::from(source),
             other => ProgramError::File(FileError::Key(other)),
-        }
-    }
-}
-
-impl From<PemError> for ProgramError {
-    ghost from_gives = { λ source error. error ≡ pem_error_of source };
-
-    fn from(source: PemError) -> ProgramError {
-        match source {
-            PemError::Memory(source) => ProgramError::from(source),
-            other => ProgramError::File(FileError::Pem(other)),
         }
     }
 }

@@ -4,7 +4,7 @@ ghost use Rattle.std.specs.Prelude.{◌≡◌};
 ghost use Rattle.paseto_tasks.specs.Error.File.{file_status, file_text, pem_text};
 
 use paseto_key_files::KeyFileError;
-use paseto_pem::PemError;
+use paseto_pem::{Label, PemError};
 use rusty_paseto_paserk::PaserkError;
 
 /// Why a key, a password or another named file cannot be used.
@@ -12,10 +12,10 @@ use rusty_paseto_paserk::PaserkError;
 pub enum FileError {
     /// The text of the key file was refused.
     Key(PaserkError),
-    /// The text of the key file was refused as PEM.
-    Pem(PemError),
     /// The key file was not opened, or a key was not written to one.
     KeyFile(KeyFileError),
+    /// The key pair of version 1 is in PASERK, and is read from PEM alone.
+    InPaserk,
     /// The key is to be unsealed, but is not sealed.
     NotSealed,
     /// The key file has a second line, and is not PEM.
@@ -32,7 +32,13 @@ pub enum FileError {
     OddPassword,
     /// A named file does not exist.
     NoFile,
-    /// A named file cannot be opened or created.
+    /// The system does not permit that a named file is opened or created.
+    NoPermission,
+    /// A folder is named in place of a file.
+    IsFolder,
+    /// A file is named in place of a folder, or as one that holds the named file.
+    NotFolder,
+    /// A named file cannot be opened or created for another reason.
     NoAccess,
     /// A file to be created already exists.
     FileExists,
@@ -46,8 +52,9 @@ impl FileError {
         use FileError::*;
         match self {
             Key(source) => source.text(),
-            Pem(source) => pem_text(source),
+            KeyFile(KeyFileError::Pem(source)) => pem_text(source),
             KeyFile(source) => source.text(),
+            InPaserk => "key pairs of version 1 are read from PEM, and not from PASERK",
             NotSealed => "the key is not sealed: use paseto unwrap",
             SecondLine => "line 2: a key file has one line of PASERK, or is PEM",
             TooLong => "too long for a key file",
@@ -56,6 +63,9 @@ impl FileError {
             NoAssertion => "keys of versions 1 and 2 take no implicit assertion: omit --assertion",
             OddPassword => "not a password: it must have 1 to 4095 bytes",
             NoFile => "no such file",
+            NoPermission => "permission denied",
+            IsFolder => "is a folder, and not a file",
+            NotFolder => "not a folder, or not in one",
             NoAccess => "the file cannot be opened or created",
             FileExists => "the file already exists and is not overwritten",
         }
@@ -67,7 +77,6 @@ impl FileError {
     {
         match self {
             FileError::Key(PaserkError::Memory(_))
-            | FileError::Pem(PemError::Memory(_))
             | FileError::KeyFile(KeyFileError::Random | KeyFileError::Memory(_)) => 4,
             _ => 3,
         }
@@ -80,7 +89,14 @@ fn pem_text(source: &PemError) -> &'static str
     ensures { result.now ≡ pem_text source.now }
 {
     match source {
-        PemError::NotPem => "not valid PEM; key pairs of version 1 are read from PEM",
+        PemError::NotPem => "neither PASERK nor valid PEM",
+        PemError::Encrypted | PemError::OtherLabel(Label::EncryptedPrivateKey) =>
+            "encrypted PEM: remove its password by openssl pkey -in FILE -out NEW",
+        PemError::OtherLabel(Label::RsaPrivateKey) =>
+            "a private key in PKCS #1: convert it by openssl pkcs8 -topk8 -nocrypt -in FILE -out NEW",
+        PemError::OtherAlgorithm => "a key of another algorithm than RSA, P-384 and Ed25519",
+        PemError::OtherCurve => "a key of another curve: version 3 takes P-384",
+        PemError::OtherSize => "an RSA key of another size: version 1 takes 2048 bits",
         _ => source.text(),
     }
 }
