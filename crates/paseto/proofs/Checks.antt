@@ -26,7 +26,7 @@ use Rattle.paseto_tasks.proofs.Blames.{blames_so, fails_so, within_all}
 use Rattle.paseto_tasks.proofs.Statuses.{fixed_no_usage, fixed_says, says_so}
 use Rattle.paseto.specs.declared.commands.check.Keys.{Keys}
 use Rattle.paseto.specs.declared.commands.check.Keys.TheVariants.{One}
-use Rattle.paseto.specs.Answers.{SaysOfCheck}
+use Rattle.paseto.specs.ClaimLine.{SaysOfCheck}
 use Rattle.paseto.specs.Check.{AreDemands, Demanded, IsDemanded, IsTheValueOf, RefusesKey, demanded_rules}
 use Rattle.paseto.specs.Checked.{ChecksBy, ChecksFor, IsCheckLine, IsJsonLine, IsTheValueBy, RefusesCheck, RefusesDemands, RefusesKeys}
 use Rattle.paseto.specs.Claims.{are_whole}
@@ -101,7 +101,7 @@ module _ (keys : Keys) (demands : Demanded) (token : List ℕ) where
       (answer : Result ⊤ GenericParserError) (answered : IsCheckAnswer rules value answer) where
     -- nor that of a token whose claims are others
     pub check_refuses : (error : ProgramError) → IsErrAnd answer (λ source. IsOutside error ⊎ (¬ IsMemory source)) → IsNoUsage error → BlamesNone error
-        → IsErrAnd answer (λ source. SaysOfCheck value demands.at source error) → RefusesDemands keys demands token error ⊎ Fails nothing error
+        → IsErrAnd answer (λ source. SaysOfCheck demands.claims value demands.at source error) → RefusesDemands keys demands token error ⊎ Fails nothing error
     check_refuses error refused no_usage blames said = by (outside_or_not error) (none_or answer answered refused)
       where
         none_or : (found : Result ⊤ GenericParserError) → IsCheckAnswer rules value found → IsErrAnd found (λ source. IsOutside error ⊎ (¬ IsMemory source))

@@ -4,7 +4,7 @@ use Rattle.jiff.specs.Types.{Timestamp}
 use Rattle.jiff.specs.Words.{parse_timestamp}
 use Rattle.serde_json.specs.Data.{Data}
 use Rattle.serde_json.specs.Read.{read}
-use Rattle.paseto.specs.Answers.{early_line, expired_line, text_under}
+use Rattle.paseto.specs.ClaimLine.{early_line, expired_line, text_under}
 
 -- the moment that a text is has passed, as has that of an expired token
 abbrev pub is_past : {E : Type 0} → Result ℤ E → Timestamp → Bool

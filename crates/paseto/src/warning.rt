@@ -2,10 +2,9 @@
 
 ghost use Rattle.std.specs.Prelude.{◌≡◌, IfOk, option_map, string_bytes};
 ghost use Rattle.serde_json.specs.View.{view};
-ghost use Rattle.paseto.specs.Answers.{text_under};
 ghost use Rattle.paseto.specs.Warning.{has_passed, is_to_come, line_of_claims, line_of_text};
 
-use crate::commands::answers::{early, expired, text_under};
+use crate::commands::claim_line::{early, expired, text_under};
 use jiff::Timestamp;
 use serde_json::Value;
 use std::alloc::{AllocError, Global};

@@ -5,10 +5,13 @@ ghost use Rattle.serde_json.specs.View.{view};
 ghost use Rattle.rusty_paseto_generic.specs.Error.{IsMemory as IsMemoryOfBuilder};
 ghost use Rattle.rusty_paseto_generic.specs.Error.Parser.{IsMemory};
 ghost use Rattle.paseto_tasks.specs.Error.{BlamesNone, Fails, IsNoUsage, IsOutside, IsPlain, Says, nothing};
-ghost use Rattle.paseto.specs.Answers.{IsNoMemoryOfRing, SaysOfBuilder, SaysOfCheck, SaysOfRing, admitted, claim_line, early_line, expired_line, mismatch_text, one_line, parser_error_of, repeated_text, shown_letter, text_error_of, text_under, unknown_text};
+ghost use Rattle.paseto.specs.Answers.{IsNoMemoryOfRing, SaysOfBuilder, SaysOfRing, admitted, one_line, parser_error_of, repeated_text, shown_letter, text_error_of, unknown_text};
+ghost use Rattle.paseto.specs.ClaimLine.{SaysOfCheck};
+ghost use Rattle.paseto.specs.Claims.{all_named};
 ghost use Rattle.paseto.specs.Times.{claim_error_of};
 
-use crate::commands::times::between;
+use crate::commands::claim_line::by_claim;
+use crate::commands::claims::NamedClaim;
 use jiff::Timestamp;
 use paseto_keys::{AdmitError, RingError};
 use paseto_tasks::{FileError, ProgramError, TimeOption, TokenError, UsageError};
@@ -89,9 +92,11 @@ pub fn admitted(answer: Result<Value, AdmitError>) -> Result<Value, ProgramError
     }
 }
 
-/// Converts the result of checking these claims, which a token has, at a moment.
+/// Converts the result of checking these claims, which a token has, at a moment, of which some values
+/// are required.
 pub fn checked(
     alloc: Global,
+    demands: &[NamedClaim],
     claims: &Value,
     at: Timestamp,
     answer: Result<(), GenericParserError>,
@@ -102,11 +107,13 @@ pub fn checked(
     ensures no_usage { IfErr result IsNoUsage }
     ensures blames { IfErr result BlamesNone }
     ensures said { IfErr result (λ error. IsErrAnd answer
-        (λ source. SaysOfCheck (view claims.now) at source error)) }
+        (λ source. SaysOfCheck (all_named demands.now) (view claims.now) at source error)) }
 {
     match answer {
         Ok(()) => Ok(()),
-        Err(GenericParserError::ClaimError { source }) => Err(by_claim(alloc, claims, at, source)),
+        Err(GenericParserError::ClaimError { source }) => Err(by_claim(
+            alloc, demands, claims, at, source,
+        )),
         Err(source) => Err(by_text(source)),
     }
 }
@@ -187,36 +194,6 @@ fn unknown(alloc: Global, id: &str) -> ProgramError
     ))
 }
 
-fn by_claim(alloc: Global, claims: &Value, at: Timestamp, source: PasetoClaimError) -> ProgramError
-    ensures no_usage { IsNoUsage result }
-    ensures blames { BlamesNone result }
-    ensures said { Says (λ line. line ≡ claim_line (view claims.now) at source) result }
-{
-    match source {
-        PasetoClaimError::Expired => told(expired(alloc, text_under(claims, "exp"), at)),
-        PasetoClaimError::UseBeforeAvailable(text) => told(early(alloc, text.as_str(), at)),
-        PasetoClaimError::Invalid(key, found, wanted) => mismatch(
-            alloc,
-            key.as_str(),
-            found.as_str(),
-            wanted.as_str(),
-        ),
-        source => told(one_line_of(alloc, format!(in alloc; "{source}"))),
-    }
-}
-
-/// The error for a claim whose text is not the required one.
-fn mismatch(alloc: Global, key: &str, found: &str, wanted: &str) -> ProgramError
-    ensures no_usage { IsNoUsage result }
-    ensures blames { BlamesNone result }
-    ensures said { Says (λ line. line ≡ one_line (mismatch_text key.now found.now wanted.now)) result }
-{
-    told(one_line_of(
-        alloc,
-        format!(in alloc; "The claim '{key}' is '{found}', and not '{wanted}'"),
-    ))
-}
-
 /// A refusal with a message of this program.
 pub fn told(line: Result<String, AllocError>) -> ProgramError
     ensures no_usage { IsNoUsage result }
@@ -257,40 +234,4 @@ fn push_shown(line: &mut String, letter: char) -> Result<(), AllocError>
         ++ encode_utf8_all (map shown_letter (letter ∷ []))) }
 {
     line.push(if letter.is_control() { '?' } else { letter })
-}
-
-/// The text of the claim with a name, or an empty text if there is none.
-pub fn text_under<'c>(claims: &'c Value, name: &str) -> &'c str
-    ensures { result.now ≡ text_under name.now (view claims.now) }
-{
-    match claims.get(name) {
-        Some(value) => value.as_str().unwrap_or(""),
-        None => "",
-    }
-}
-
-/// Why a token that has expired is refused: `expired 3 minutes ago, at 2026-11-22T10:00:00Z`.
-pub fn expired(alloc: Global, text: &str, at: Timestamp) -> Result<String, AllocError>
-    ensures { IfOk result (λ line. string_bytes line ≡ expired_line text.now at) }
-{
-    match text.parse::<Timestamp>() {
-        Ok(moment) => {
-            let ago = between(alloc, moment, at)?;
-            format!(in alloc; "expired {ago} ago, at {text}")
-        }
-        Err(_) => String::from_str(alloc, "expired"),
-    }
-}
-
-/// Why a token that may not be used yet is refused: `not valid before 2026-11-22T10:00:00Z, in 3 minutes`.
-pub fn early(alloc: Global, text: &str, at: Timestamp) -> Result<String, AllocError>
-    ensures { IfOk result (λ line. string_bytes line ≡ early_line text.now at) }
-{
-    match text.parse::<Timestamp>() {
-        Ok(moment) => {
-            let wait = between(alloc, at, moment)?;
-            format!(in alloc; "not valid before {text}, in {wait}")
-        }
-        Err(_) => String::from_str(alloc, "not valid yet"),
-    }
 }

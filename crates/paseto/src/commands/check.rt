@@ -205,7 +205,13 @@ pub fn check(
 {
     let checker = demands.checker(alloc)?;
     let claims = claims_by(alloc, keys, demands, token)?;
-    checked(alloc, &claims, demands.at, checker.check(&claims))?;
+    checked(
+        alloc,
+        &demands.claims,
+        &claims,
+        demands.at,
+        checker.check(&claims),
+    )?;
     json_line(alloc, &claims)
 }
 

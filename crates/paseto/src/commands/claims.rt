@@ -101,6 +101,20 @@ fn is_time(name: &str) -> bool
     matches!(name, "exp" | "nbf" | "iat")
 }
 
+/// The value of the last claim with a name.
+pub fn value_under<'c>(claims: &'c [NamedClaim], name: &str) -> Option<&'c Value>
+    ensures { option_map (λ value. view value.now) result ≡ value_under name.now (all_named claims.now) }
+{
+    let [claim, rest @ ..] = claims else {
+        return None;
+    };
+    match value_under(rest, name) {
+        Some(value) => Some(value),
+        None if claim.name.as_str() == name => Some(&claim.value),
+        None => None,
+    }
+}
+
 /// Parses the claims of the arguments, in order.
 pub fn claims_of(alloc: Global, words: &[&str]) -> Result<Vec<NamedClaim>, ProgramError>
     ensures found { IfOk result (λ claims. AreClaims (texts words.now) (all_named claims.items)) }
