@@ -27,6 +27,10 @@ pub enum TokenError {
     NotJson,
     /// A claim of the token holds a number that is not a 64-bit integer.
     OddNumber,
+    /// The text is a JWT.
+    Jwt,
+    /// The text is neither a token nor a key.
+    NoToken,
     /// A token, or the content of a new one, was refused, as this line says.
     Unfit(String),
     /// The tag of a wrapped key is wrong under the password or the key that is to open it.
@@ -50,6 +54,8 @@ impl TokenError {
             NoKeyId => "the footer of the token names no key: it has no string under kid",
             NotJson => "the text of the token is not valid JSON",
             OddNumber => "a claim of the token has a number that is not a whole number of 64 bits",
+            Jwt => "a JWT, and not a PASETO token",
+            NoToken => "not a PASETO token",
             Unfit(text) => text.as_str(),
             Wrapped => "wrong key or password, or the text was changed",
         }
