@@ -128,7 +128,7 @@ same_demands claims options now first second a b =
     let named = same_claims claims first.claims second.claims a.are_claims b.are_claims in
     let leeway = same_leeway _ first.leeway second.leeway a.leeway b.leeway in
     let required = a.required ∙ sym b.required in
-    let footer = a.footer ∙ sym b.footer in
+    let footer = a.footer.0 ∙ sym b.footer.0 in
     let assertion = a.assertion ∙ sym b.assertion in
     λ i. record { at = at i; leeway = leeway i; claims = named i; required = required i; footer = footer i; assertion = assertion i }
 
@@ -157,6 +157,6 @@ same_order claims options now first second a b =
     let named = same_claims claims first.claims second.claims a.are_claims b.are_claims in
     let expiry = same_time _ now first.expires second.expires a.expires b.expires in
     let begin = same_begin _ now first.not_before second.not_before a.not_before b.not_before in
-    let footer = a.footer ∙ sym b.footer in
+    let footer = a.footer.0 ∙ sym b.footer.0 in
     let assertion = a.assertion ∙ sym b.assertion in
     λ i. record { moment = at i; claims = named i; expires = expiry i; not_before = begin i; footer = footer i; assertion = assertion i }

@@ -1,5 +1,5 @@
 -- Moments and lengths of time, as words say them.
-use Rattle.std.specs.Prelude.{◌≡◌, ◌<◌, ◌*◌, ◌^◌, ◌==◌, ◌+ℤ◌, ◌-ℤ◌, ℕ, pos, List, [], ◌∷◌, ◌++◌, if◌then◌else◌, Option, None, Some, MatchResult}
+use Rattle.std.specs.Prelude.{◌≡◌, ◌⊎◌, ◌<◌, ◌*◌, ◌^◌, ◌==◌, ◌+ℤ◌, ◌-ℤ◌, ℕ, pos, List, [], ◌∷◌, ◌++◌, if◌then◌else◌, Option, None, Some, MatchResult}
 use Rattle.std.specs.Str.Parse.{IsNumeral, digits_value, without_leading_plus}
 use Rattle.jiff.specs.Types.{Timestamp}
 use Rattle.jiff.specs.Words.{IsTimestampNanos, parse_timestamp}
@@ -15,7 +15,8 @@ use Rattle.paseto_tasks.specs.declared.error.ProgramError.{ProgramError}
 use Rattle.paseto_tasks.specs.declared.error.usage.TimeOption.{TimeOption}
 use Rattle.paseto_tasks.specs.declared.error.ProgramError.TheVariants.{System, Usage}
 use Rattle.paseto_tasks.specs.declared.error.system.SystemError.TheVariants.{Memory}
-use Rattle.paseto_tasks.specs.declared.error.usage.UsageError.TheVariants.{Time}
+use Rattle.paseto_tasks.specs.declared.error.usage.UsageError.{UsageError}
+use Rattle.paseto_tasks.specs.declared.error.usage.UsageError.TheVariants.{Negative, Time, TooLong}
 
 -- the word is this number in decimal digits, behind a plus or none, and it is one of 32 bits
 pub record IsNumber (word : List ℕ) (number : ℕ) : Type 0 where
@@ -95,6 +96,10 @@ IsNeverSet key moment = (old new : Members) → ¬ IsTimeSet key moment old new
 abbrev pub time_counted : List ℕ → Option Timestamp → Counting → Counting
 time_counted key None old = old
 time_counted key (Some moment) old = counted key old
+
+-- an error on what an option says that is no time
+abbrev pub IsTimeError : TimeOption → UsageError → Type 0
+IsTimeError option error = (error ≡ Time option) ⊎ ((error ≡ Negative option) ⊎ (error ≡ TooLong option))
 
 -- why the text of a moment that an option says makes no claim: memory was refused, or the text is no date
 abbrev pub claim_error_of : TimeOption → PasetoClaimError → ProgramError

@@ -19,10 +19,10 @@ use crate::commands::answers::{admitted, checked, demanded as taken};
 use crate::commands::claims::{NamedClaim, claims_of};
 use crate::commands::footer::{footer_of, lent};
 use crate::commands::ring::claims_by_ring;
-use crate::commands::times::{leeway_of, moment_of};
+use crate::commands::times::{leeway_of, moment_of, time_error};
 use jiff::Timestamp;
 use paseto_keys::{AnyKey, ClaimsParser, admit};
-use paseto_tasks::{Options, ProgramError, TimeOption, TokenError, TokenKind, UsageError};
+use paseto_tasks::{Options, ProgramError, TimeOption, TokenError, TokenKind};
 use rusty_paseto::DefaultParser;
 use rusty_paseto::prelude::{
     CheckSetter, ImplicitAssertion, Local, PasetoError, PasetoParser, PurposeTrait, V4,
@@ -142,7 +142,7 @@ fn checked_at(word: Option<&str>, now: Timestamp) -> Result<Timestamp, ProgramEr
     };
     match moment_of(word, now) {
         Some(moment) => Ok(moment),
-        None => Err(ProgramError::Usage(UsageError::Time(TimeOption::At))),
+        None => Err(ProgramError::Usage(time_error(TimeOption::At, word))),
     }
 }
 

@@ -17,10 +17,10 @@ ghost use Rattle.paseto.specs.Times.{BeginsAt, IsNeverSet, IsTimeSet, SaysTime, 
 use crate::commands::answers::{built, dated};
 use crate::commands::claims::{NamedClaim, claims_of};
 use crate::commands::footer::{footer_of, lent};
-use crate::commands::times::{moment_of, second_before};
+use crate::commands::times::{moment_of, second_before, time_error};
 use jiff::Timestamp;
 use paseto_keys::{AnyKey, TokenWriter};
-use paseto_tasks::{Options, ProgramError, SystemError, TimeOption, UsageError, with_line_feed};
+use paseto_tasks::{Options, ProgramError, SystemError, TimeOption, with_line_feed};
 use rand_core::TryRng;
 use rusty_paseto::prelude::{
     CountingSetter, ExpirationClaim, ImplicitAssertion, Local, NotBeforeClaim, PasetoBuilder,
@@ -82,7 +82,7 @@ fn time_of(
     };
     match moment_of(word, now) {
         Some(moment) => Ok(Some(moment)),
-        None => Err(ProgramError::Usage(UsageError::Time(option))),
+        None => Err(ProgramError::Usage(time_error(option, word))),
     }
 }
 

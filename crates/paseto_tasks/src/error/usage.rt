@@ -1,7 +1,7 @@
 //! Arguments that do not say what to do.
 
 ghost use Rattle.std.specs.Prelude.{◌≡◌};
-ghost use Rattle.paseto_tasks.specs.Error.Usage.{time_text, usage_text};
+ghost use Rattle.paseto_tasks.specs.Error.Usage.{negative_text, time_text, too_long_text, usage_text};
 
 /// Why the arguments do not say what to do.
 #[derive(Clone, Copy, Debug, Drop, PartialEq, Eq)]
@@ -30,6 +30,14 @@ pub enum UsageError {
     TimeClaim,
     /// The value of an option is not a time.
     Time(TimeOption),
+    /// The value of an option is a negative length of time.
+    Negative(TimeOption),
+    /// The value of an option is too long a length of time.
+    TooLong(TimeOption),
+    /// An argument is the id of a private key, where the id of a public one is expected.
+    PrivateId,
+    /// An argument that names a file is a token.
+    TokenWord,
 }
 
 /// An option whose value is a time.
@@ -69,6 +77,11 @@ impl UsageError {
             TimeClaim =>
                 "--claim: set exp and nbf by --expires and --not-before; iat is set already",
             Time(option) => time_text(*option),
+            Negative(option) => negative_text(*option),
+            TooLong(option) => too_long_text(*option),
+            PrivateId =>
+                "--footer-kid: the id of a private key: give that of the public one, which paseto id prints",
+            TokenWord => "a token is among the arguments: pass it on standard input, or in a file",
         }
     }
 }
@@ -84,5 +97,29 @@ fn time_text(option: TimeOption) -> &'static str
             "--not-before: write a time as 90s, 30m, 12h, 7d or 2026-11-22T10:00:00Z",
         TimeOption::At => "--at: write a time as 90s, 30m, 12h, 7d or 2026-11-22T10:00:00Z",
         TimeOption::Leeway => "--leeway: write a length of time as 5s, 30m, 12h or 7d",
+    }
+}
+
+/// The message for an option whose value is a negative length of time.
+fn negative_text(option: TimeOption) -> &'static str
+    ensures { result.now ≡ negative_text option }
+{
+    match option {
+        TimeOption::Expires => "--expires: a length of time is not negative",
+        TimeOption::NotBefore => "--not-before: a length of time is not negative",
+        TimeOption::At => "--at: a length of time is not negative",
+        TimeOption::Leeway => "--leeway: a length of time is not negative",
+    }
+}
+
+/// The message for an option whose value is too long a length of time.
+fn too_long_text(option: TimeOption) -> &'static str
+    ensures { result.now ≡ too_long_text option }
+{
+    match option {
+        TimeOption::Expires => "--expires: the length of time is too large",
+        TimeOption::NotBefore => "--not-before: the length of time is too large",
+        TimeOption::At => "--at: the length of time is too large",
+        TimeOption::Leeway => "--leeway: the length of time is too large",
     }
 }
