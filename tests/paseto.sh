@@ -204,6 +204,14 @@ refuses "a private key to decrypt" 3 "$token" "v4.secret: The key is a private o
 refuses "a public key to encrypt" 3 hello "v4.public: The key is a public one, which verifies" encrypt --key v4.public
 refuses "a token of one section" 1 v4 "$input: $bad_count" decrypt --key v4.local
 refuses "no token" 1 "" "$input: $bad_count" decrypt --key v4.local
+for case in "$token
+" "$token
+
+" " $token" "$token"$'\r\n' $'\t'"$token "; do
+    gives "a token in white space" "$case" hello decrypt --key v4.local
+done
+refuses "white space in a token" 1 "${token:0:30} ${token:30}" "$input: $bad_base64" decrypt --key v4.local
+refuses "a token among the words" 2 "" "a token is among the arguments: pass it on standard input, or in a file" decrypt --key v4.local "$token"
 refuses "two line feeds" 1 "$token
 
 " "$input: A base64 decode error occurred" decrypt --key v4.local

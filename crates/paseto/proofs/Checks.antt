@@ -20,7 +20,7 @@ use Rattle.paseto_tasks.specs.declared.error.ProgramError.TheVariants.{System}
 use Rattle.paseto_tasks.specs.declared.error.system.SystemError.TheVariants.{Memory}
 use Rattle.rusty_paseto_core.specs.declared.PasetoError.TheVariants.{WrongHeader}
 use Rattle.paseto_tasks.specs.Error.{BlamesNone, Fails, IsMemory as IsMemoryOf, IsNoUsage, IsOfWords, IsOutside, IsPlain, Lacks, nothing, token_error_of}
-use Rattle.paseto_tasks.specs.Input.{IsNoText, OfInput, line_of_input, reading}
+use Rattle.paseto_tasks.specs.Input.{IsNoText, OfInput, reading, token_of_input}
 use Rattle.paseto_tasks.specs.Output.{Makes}
 use Rattle.paseto_tasks.proofs.Blames.{blames_so, fails_so, within_all}
 use Rattle.paseto_tasks.proofs.Statuses.{fixed_no_usage, fixed_says, says_so}
@@ -145,22 +145,22 @@ module _ (claims : List (List ℕ)) (options : Options) (now : Timestamp) (keys 
 
   module _ (demands : Demanded) (are : AreDemands claims options now demands) where
     -- the input is no text
-    pub input_refused : (error : ProgramError) → OfInput known (λ bytes. IsNoText (line_of_input bytes) error) ⊎ Fails reading error
+    pub input_refused : (error : ProgramError) → OfInput known (λ bytes. IsNoText bytes error) ⊎ Fails reading error
         → RefusesCheck claims options now keys known error ⊎ Fails reading error
     input_refused error (inl is) = inl (inr (demands, are, (is.0, is.1, inl is.2)))
     input_refused error (inr fails) = inr fails
 
     -- the token of the input
-    module _ (text : List ℕ) (read : OfInput known (λ bytes. line_of_input bytes ≡ text)) where
+    module _ (text : List ℕ) (read : OfInput known (λ bytes. token_of_input bytes ≡ text)) where
       pub token_refused : (error : ProgramError) → RefusesDemands keys demands text error ⊎ Fails nothing error
           → RefusesCheck claims options now keys known error ⊎ Fails reading error
       token_refused error (inl is) = inl (inr (demands, are, (read.0, read.1, inr (rw (sym read.2) at is))))
       token_refused error (inr fails) = inr (fails_so (within_all reading) error fails)
 
-      pub token_checked : IsUtf8 text → (line : List ℕ) → ChecksBy keys demands text line → OfInput known (λ bytes. ChecksFor claims options now keys (line_of_input bytes) line)
+      pub token_checked : IsUtf8 text → (line : List ℕ) → ChecksBy keys demands text line → OfInput known (λ bytes. ChecksFor claims options now keys (token_of_input bytes) line)
       token_checked utf8 line checks = (read.0, read.1, record { demands = demands; are_demands = are; utf8 = rw (sym read.2) at utf8; checks = rw (sym read.2) at checks })
 
       pub token_made : IsUtf8 text → (made : Result (String Global) ProgramError) → Makes (ChecksBy keys demands text) (RefusesDemands keys demands text) (Fails nothing) made
-          → Makes (λ line. OfInput known (λ bytes. ChecksFor claims options now keys (line_of_input bytes) line)) (RefusesCheck claims options now keys known) (Fails reading) made
+          → Makes (λ line. OfInput known (λ bytes. ChecksFor claims options now keys (token_of_input bytes) line)) (RefusesCheck claims options now keys known) (Fails reading) made
       token_made utf8 (Ok line) makes = record { printed = token_checked utf8 (string_bytes line) makes.printed; refused = tt }
       token_made utf8 (Err error) makes = record { printed = tt; refused = token_refused error makes.refused }

@@ -13,7 +13,7 @@ use Rattle.rusty_paseto_generic.specs.Parsers.Parsing.{IsCheckFault}
 use Rattle.rusty_paseto_generic.specs.declared.error.GenericParserError.TheVariants.{ClaimError}
 use Rattle.paseto.specs.ClaimLine.{IsLineOf}
 use Rattle.paseto_tasks.specs.Error.{BlamesOnly, IsNoUsage, IsOfWords, IsOutside, Says, nothing}
-use Rattle.paseto_tasks.specs.Input.{IsNoText, OfInput, line_of_input}
+use Rattle.paseto_tasks.specs.Input.{IsNoText, OfInput, token_of_input}
 use Rattle.paseto_tasks.specs.declared.error.ProgramError.{ProgramError}
 use Rattle.paseto.specs.Check.{AreDemands, Demanded, IsDemanded, IsOtherFooter, ParsesByKey, demanded_rules}
 use Rattle.paseto.specs.Ring.{IsRingLine, ParsesByRing}
@@ -84,4 +84,4 @@ abbrev pub RefusesCheck : List (List ℕ) → Options → Timestamp → Keys →
 RefusesCheck claims options now keys known error =
     (((demands : Demanded) → ¬ AreDemands claims options now demands) × IsOfWords error × ¬ IsOutside error)
     ⊎ ((demands : Demanded) × AreDemands claims options now demands
-    × OfInput known (λ bytes. IsNoText (line_of_input bytes) error ⊎ RefusesDemands keys demands (line_of_input bytes) error))
+    × OfInput known (λ bytes. IsNoText bytes error ⊎ RefusesDemands keys demands (token_of_input bytes) error))

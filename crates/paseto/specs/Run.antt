@@ -4,7 +4,7 @@ use Rattle.jiff.specs.Types.{Timestamp}
 use Rattle.paseto_keys.specs.AnyKey.{KeyParts}
 use Rattle.paseto_keys.specs.Drawing.{IsDraw}
 use Rattle.paseto_tasks.specs.Error.{Fails}
-use Rattle.paseto_tasks.specs.Input.{OfInput, line_of_input, reading}
+use Rattle.paseto_tasks.specs.Input.{OfInput, reading, token_of_input}
 use Rattle.paseto_tasks.specs.Run.{IsRefusal, Leaves, Tells}
 use Rattle.paseto_tasks.specs.declared.arguments.Options.{Options}
 use Rattle.paseto_tasks.specs.declared.error.Names.{Names}
@@ -50,5 +50,5 @@ pub record ChecksToken {W E : Type 0} (words : Check) (name : List ℕ) (keys : 
   pub names : Names
   pub key_is : names.key.now ≡ name
   pub input_is : names.input.now ≡ input_name (text words.input)
-  pub runs : EndsSo (λ line. OfInput known (λ bytes. ChecksFor (texts_of words.claims.items) options now keys (line_of_input bytes) line))
+  pub runs : EndsSo (λ line. OfInput known (λ bytes. ChecksFor (texts_of words.claims.items) options now keys (token_of_input bytes) line))
       (RefusesCheck (texts_of words.claims.items) options now keys known) (Fails reading) contents errors names status before after said_before said_after

@@ -5,7 +5,7 @@ ghost use Rattle.paseto.specs.Files.{input_name, is_standard};
 
 use crate::fault::Fault;
 use crate::folder;
-use paseto_tasks::{FileError, ProgramError, write_whole};
+use paseto_tasks::{FileError, ProgramError, TokenKind, UsageError, write_whole};
 use std::fs::File;
 use std::os::unix::fs::OpenOptionsExt;
 
@@ -29,10 +29,14 @@ pub fn name_of(input: Option<&str>) -> &str
     }
 }
 
-/// Opens the named file.
+/// Opens the named file. A token in place of its name is not repeated, since it is a secret of its
+/// bearer.
 pub fn opened<'a>(rt: &HostRuntime, path: &'a str) -> Result<File, Fault<'a>> {
     match no_folder(folder::opened(File::open(rt, path))) {
         Ok(file) => Ok(file),
+        Err(ProgramError::File(FileError::NoFile)) if TokenKind::of(path) != TokenKind::Other => {
+            Err(Fault::from(ProgramError::Usage(UsageError::TokenWord)))
+        }
         Err(error) => Err(Fault::about(path, error)),
     }
 }

@@ -1,13 +1,16 @@
 //! The commands `issue` and `check`.
 
-ghost use Rattle.std.specs.Prelude.{◌≡◌, ◌*ℤ◌, IfErr, IfOk, IsErr, Ok, pos};
+ghost use Rattle.std.specs.Prelude.{◌≡◌, ◌≤ℤ◌, ◌*ℤ◌, IfErr, IfOk, IsErr, IsTrue, Ok, Some, option_map, pos};
 ghost use Rattle.jiff.specs.Words.{IsTimestampNanos};
+ghost use Rattle.jiff.specs.Types.{Timestamp as Moment};
 ghost use Rattle.paseto.specs.Answers.{second_of};
+ghost use Rattle.paseto.specs.Times.{SaysTime};
 
 use crate::commands::check::Keys;
 use crate::commands::run::{run_check, run_issue};
+use crate::commands::times::moment_of;
 use crate::fault::Fault;
-use crate::files::{is_standard, opened, write_new};
+use crate::files::{is_standard, opened, put};
 use crate::folder::keys_in;
 use crate::keys::{Held, key_name, key_of};
 use jiff::Timestamp;
@@ -20,18 +23,6 @@ pub fn issue<'a>(rt: &HostRuntime, words: &Issue<'a>) -> Result<u8, Fault<'a>> {
     let key = key_of(rt, &words.key)?;
     let now = second_of(clock(rt)?)?;
     let (alloc, mut generator, mut errors) = (rt.alloc(), SysRng::new(rt), rt.stderr());
-    let Some(path) = words.out else {
-        let mut output = rt.stdout();
-        return Ok(run_issue(
-            alloc,
-            words,
-            &key,
-            now,
-            &mut generator,
-            &mut output,
-            &mut errors,
-        ));
-    };
     let mut made = Vec::new(alloc);
     let status = run_issue(
         alloc,
@@ -43,9 +34,27 @@ pub fn issue<'a>(rt: &HostRuntime, words: &Issue<'a>) -> Result<u8, Fault<'a>> {
         &mut errors,
     );
     if status == 0 {
-        write_new(rt, path, 0o600, &made)?;
+        put(rt, words.out, 0o600, &made)?;
+        if has_ended(words.expires, now) {
+            rt.eprintln("paseto: warning: --expires: the token has already expired")?;
+        }
     }
     Ok(status)
+}
+
+/// Whether an option says a moment that has passed.
+fn has_ended(word: Option<&str>, now: Timestamp) -> bool
+    ensures { IsTrue result → (moment : Moment)
+        × SaysTime (option_map (λ text. text.now) word.entry) now (Some moment)
+        × (moment.nanosecond ≤ℤ now.nanosecond) }
+{
+    let Some(word) = word else {
+        return false;
+    };
+    match moment_of(word, now) {
+        Some(moment) => moment.as_nanosecond() <= now.as_nanosecond(),
+        None => false,
+    }
 }
 
 /// The second that contains a moment.

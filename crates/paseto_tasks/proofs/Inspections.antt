@@ -11,7 +11,7 @@ use Rattle.rusty_paseto_parts.specs.UntrustedToken.{AreKept, HasFooterText, foot
 use Rattle.rusty_paseto_parts.specs.declared.untrusted_token.UntrustedToken.{UntrustedToken}
 use Rattle.paseto_tasks.specs.declared.error.ProgramError.{ProgramError}
 use Rattle.paseto_tasks.specs.Error.{Fails, IsOutside, IsPlain, program_error_of}
-use Rattle.paseto_tasks.specs.Input.{IsNoText, OfInput, line_of_input, reading}
+use Rattle.paseto_tasks.specs.Input.{OfInput, reading, token_of_input}
 use Rattle.paseto_tasks.specs.Output.{Makes}
 use Rattle.paseto_tasks.specs.Inspect.Key.{BeginsAsNone}
 use Rattle.paseto_tasks.specs.TokenKind.{NamesKind}
@@ -109,12 +109,12 @@ no_lines text none (inl other) lines (utf8, inr token) = token.1 other
 no_lines text none (inr nothing) lines (utf8, inr token) = nothing lines token.2
 
 -- what is said of a token
-pub inspect_makes : (known : Option (List ℕ)) (token : List ℕ) (made : Result (String Global) ProgramError) → OfInput known (λ bytes. line_of_input bytes ≡ token)
+pub inspect_makes : (known : Option (List ℕ)) (token : List ℕ) (made : Result (String Global) ProgramError) → OfInput known (λ bytes. token_of_input bytes ≡ token)
     → IfOk made (λ lines. Inspects token (string_bytes lines)) → IfErr made (λ error. IsOutside error ⊎ InspectsNothing token) → IfErr made IsPlain
-    → Makes (λ lines. OfInput known (λ bytes. Inspects (line_of_input bytes) lines)) (λ error. OfInput known (λ bytes. RefusesInspecting (line_of_input bytes) error))
+    → Makes (λ lines. OfInput known (λ bytes. Inspects (token_of_input bytes) lines)) (λ error. OfInput known (λ bytes. RefusesInspecting bytes error))
     (Fails reading) made
 inspect_makes known token (Ok lines) is printed refused plain = record {
-  printed = of_more known (λ bytes. line_of_input bytes ≡ token) (λ bytes. Inspects (line_of_input bytes) (string_bytes lines)) (λ bytes same. rw same printed) is;
+  printed = of_more known (λ bytes. token_of_input bytes ≡ token) (λ bytes. Inspects (token_of_input bytes) (string_bytes lines)) (λ bytes same. rw same printed) is;
   refused = tt;
 }
 inspect_makes known token (Err error) is printed (inl outside) plain = record {
@@ -123,9 +123,5 @@ inspect_makes known token (Err error) is printed (inl outside) plain = record {
 }
 inspect_makes known token (Err error) is printed (inr none) plain = record {
   printed = tt;
-  refused = inl (of_more known (λ bytes. line_of_input bytes ≡ token) (λ bytes. RefusesInspecting (line_of_input bytes) error) (λ bytes same. rw same (none, plain)) is);
+  refused = inl (of_more known (λ bytes. token_of_input bytes ≡ token) (λ bytes. RefusesInspecting bytes error) (λ bytes same. inr (rw same (none, plain))) is);
 }
-
--- an input that is no text
-pub no_text_inspected : (bytes : List ℕ) (error : ProgramError) → IsNoText (line_of_input bytes) error → RefusesInspecting (line_of_input bytes) error
-no_text_inspected bytes error none = ((λ lines is. none.0 is.0), subst IsPlain (sym none.1.1) (tt, tt))

@@ -12,7 +12,8 @@ use Rattle.paseto_tasks.specs.declared.error.ProgramError.{ProgramError}
 use Rattle.paseto_tasks.specs.declared.token_kind.TokenKind.{TokenKind}
 use Rattle.paseto_tasks.specs.Error.{IsFixed, IsOutside, IsPlain, IsTokenError, token_error_of}
 use Rattle.paseto_tasks.specs.Explain.{RefusesExplaining}
-use Rattle.paseto_tasks.specs.Input.{IsNoText, line_of_input}
+use Rattle.paseto_tasks.specs.Inspect.{RefusesInspecting}
+use Rattle.paseto_tasks.specs.Input.{IsNoText, token_of_input}
 use Rattle.paseto_tasks.specs.Run.{RefusesOf}
 use Rattle.paseto_tasks.specs.Tokens.{RefusesInput, RefusesKey, RefusesReading, RefusesText, RefusesToken}
 
@@ -42,9 +43,9 @@ token_fixed token kind source error told = subst IsFixed (sym told) (token_plain
 reading_fixed : (key : KeyParts) (options : Options) (token : List ℕ) (error : ProgramError) → RefusesReading key options token error → IsFixed error
 reading_fixed key options token error refused = token_fixed token _ refused.source error refused.told
 
-read_fixed : (key : KeyParts) (options : Options) (token : List ℕ) (error : ProgramError) → RefusesToken key options token error → IsFixed error
-read_fixed key options token error (inl none) = no_text_fixed token error none
-read_fixed key options token error (inr refused) = reading_fixed key options token error refused
+read_fixed : (key : KeyParts) (options : Options) (input : List ℕ) (error : ProgramError) → RefusesToken key options input error → IsFixed error
+read_fixed key options input error (inl none) = no_text_fixed input error none
+read_fixed key options input error (inr refused) = reading_fixed key options (token_of_input input) error refused
 
 text_fixed : (key : KeyParts) (options : Options) (IsDrawn : ℕ → List ℕ → Type 0) (text : List ℕ) (error : ProgramError) → RefusesText key options IsDrawn text error → IsFixed error
 text_fixed key options IsDrawn text error (inl none) = no_text_fixed text error none
@@ -53,16 +54,20 @@ text_fixed key options IsDrawn text error (inr declined) = subst IsFixed (sym de
 input_fixed : (task : Task) (key : KeyParts) (options : Options) (IsDrawn : ℕ → List ℕ → Type 0) (input : List ℕ) (error : ProgramError)
     → RefusesInput task key options IsDrawn input error → IsFixed error
 input_fixed Encrypt key options IsDrawn input error refused = text_fixed key options IsDrawn input error refused
-input_fixed Decrypt key options IsDrawn input error refused = read_fixed key options (line_of_input input) error refused
+input_fixed Decrypt key options IsDrawn input error refused = read_fixed key options input error refused
 input_fixed Sign key options IsDrawn input error refused = text_fixed key options IsDrawn input error refused
-input_fixed Verify key options IsDrawn input error refused = read_fixed key options (line_of_input input) error refused
+input_fixed Verify key options IsDrawn input error refused = read_fixed key options input error refused
 
 pub refuses_fixed : (task : Task) (options : Options) (IsDrawn : ℕ → List ℕ → Type 0) (key : KeyParts) (known : Option (List ℕ)) (error : ProgramError)
     → RefusesOf task options IsDrawn key known error → IsFixed error
 refuses_fixed task options IsDrawn key known error (inl refused) = key_fixed _ options key error refused
 refuses_fixed task options IsDrawn key known error (inr refused) = input_fixed task key options IsDrawn refused.1.0 error refused.1.2
 
-pub explaining_fixed : (key : KeyParts) (options : Options) (token : List ℕ) (error : ProgramError) → RefusesExplaining key options token error → IsFixed error
-explaining_fixed key options token error (inl none) = no_text_fixed token error none
-explaining_fixed key options token error (inr (inl refused)) = key_fixed _ options key error refused
-explaining_fixed key options token error (inr (inr refused)) = reading_fixed key options token error refused.1
+pub explaining_fixed : (key : KeyParts) (options : Options) (input : List ℕ) (error : ProgramError) → RefusesExplaining key options input error → IsFixed error
+explaining_fixed key options input error (inl none) = no_text_fixed input error none
+explaining_fixed key options input error (inr (inl refused)) = key_fixed _ options key error refused
+explaining_fixed key options input error (inr (inr refused)) = reading_fixed key options (token_of_input input) error refused.1
+
+pub inspecting_fixed : (input : List ℕ) (error : ProgramError) → RefusesInspecting input error → IsFixed error
+inspecting_fixed input error (inl none) = no_text_fixed input error none
+inspecting_fixed input error (inr refused) = refused.1.0

@@ -1,6 +1,7 @@
 -- The line of an input.
 use Rattle.std.specs.Prelude.{◌≡◌, ℕ, ◌<◌, ◌⊎◌, List, [], length, IsUtf8, Option}
 use Rattle.std.specs.Io.BufRead.{strip_last}
+use Rattle.std.specs.Str.{trim}
 use Rattle.std.specs.declared.io.Error.{Error as SystemError}
 use Rattle.std.specs.declared.str.Utf8Error.{Utf8Error as Utf8Fault}
 use Rattle.paseto_streams.specs.Input.{IsInput}
@@ -9,6 +10,10 @@ use Rattle.paseto_tasks.specs.declared.error.ProgramError.{ProgramError}
 use Rattle.paseto_tasks.specs.declared.error.ProgramError.TheVariants.{Token}
 use Rattle.paseto_tasks.specs.declared.error.token.TokenError.TheVariants.{Refused}
 use Rattle.paseto_tasks.specs.Error.{Blame, nothing}
+
+-- the token that an input is: its text without the white space around it
+abbrev pub token_of_input : List ℕ → List ℕ
+token_of_input input = trim input
 
 -- the line that an input is: without the line feed at its end, where it has one
 abbrev pub line_of_input : List ℕ → List ℕ

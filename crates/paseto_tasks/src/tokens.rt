@@ -7,13 +7,13 @@ ghost use Rattle.paseto_keys.specs.AnyKey.{parts_of, reads_tokens, takes_asserti
 ghost use Rattle.paseto_keys.specs.Writing.{drawn_length};
 ghost use Rattle.paseto_tasks.specs.Arguments.{Takes};
 ghost use Rattle.paseto_tasks.specs.Error.{Fails, IsTokenError, nothing};
-ghost use Rattle.paseto_tasks.specs.Input.{OfInput, line_of_input, reading};
+ghost use Rattle.paseto_tasks.specs.Input.{OfInput, reading, token_of_input};
 ghost use Rattle.paseto_tasks.specs.Output.{Makes};
 ghost use Rattle.paseto_tasks.specs.Tokens.{Fits, Reads, RefusesKey, RefusesReading, RefusesText, RefusesToken, Writes, drawn_by, reading_with};
 
 use crate::arguments::Options;
 use crate::error::{FileError, ProgramError, TokenError};
-use crate::input::{read_line, read_text};
+use crate::input::{read_text, read_token};
 use crate::output::with_line_feed;
 use crate::token_kind::TokenKind;
 use paseto_keys::{AnyKey, KeyError, TokenKey, TokenReader, TokenWriter};
@@ -102,17 +102,17 @@ pub fn read<R: Read>(
     requires taken { Takes (parts_of key.now).version options.now.assertion }
     ensures { Makes
         (λ text. OfInput (R.remaining input.old) (λ bytes.
-        Reads (parts_of key.now) options.now (line_of_input bytes) text))
+        Reads (parts_of key.now) options.now (token_of_input bytes) text))
         (λ error. OfInput (R.remaining input.old) (λ bytes.
-        RefusesToken (parts_of key.now) options.now (line_of_input bytes) error))
+        RefusesToken (parts_of key.now) options.now bytes error))
         (Fails reading) result }
 {
-    let token = read_line(alloc, input)?;
-    read_token(alloc, key, options, token.as_str())
+    let token = read_token(alloc, input)?;
+    text_of(alloc, key, options, token.as_str())
 }
 
 /// The text of a token. If the token is of another kind than the key is for, the error names both.
-pub fn read_token(
+fn text_of(
     alloc: Global,
     key: &AnyKey,
     options: &Options<'_>,
