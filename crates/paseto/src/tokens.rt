@@ -35,11 +35,17 @@ pub fn issue<'a>(rt: &HostRuntime, words: &Issue<'a>) -> Result<u8, Fault<'a>> {
     );
     if status == 0 {
         put(rt, words.out, 0o600, &made)?;
-        if has_ended(words.expires, now) {
-            rt.eprintln("paseto: warning: --expires: the token has already expired")?;
-        }
+        warn_of_end(rt, words.expires, now)?;
     }
     Ok(status)
+}
+
+/// Warns of a token that has expired when it is issued.
+fn warn_of_end(rt: &HostRuntime, word: Option<&str>, now: Timestamp) -> Result<(), ProgramError> {
+    if has_ended(word, now) {
+        rt.eprintln("paseto: warning: --expires: the token has already expired")?;
+    }
+    Ok(())
 }
 
 /// Whether an option says a moment that has passed.

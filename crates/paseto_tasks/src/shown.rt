@@ -19,7 +19,7 @@ ghost use Rattle.paseto_tasks.specs.Tokens.{RefusesReading};
 use crate::arguments::Options;
 use crate::error::ProgramError;
 use crate::rsa::verifier;
-use crate::tokens::{bound, read_token};
+use crate::tokens::{bound, text_of};
 use paseto_ed25519::Ed25519;
 use paseto_keys::AnyKey;
 use paseto_p384::P384;
@@ -44,7 +44,7 @@ pub fn shown(
     ensures { Makes (Shows (parts_of key.now) options.now token.now)
         (RefusesReading (parts_of key.now) options.now token.now) (Fails nothing) result }
 {
-    let text = read_token(alloc, key, options, token)?;
+    let text = text_of(alloc, key, options, token)?;
     drop(text);
     let assertion = bound(key, options.assertion);
     Ok(shown_by(alloc, key, options.footer, assertion, token)?)

@@ -112,7 +112,7 @@ pub fn read<R: Read>(
 }
 
 /// The text of a token. If the token is of another kind than the key is for, the error names both.
-fn text_of(
+pub fn text_of(
     alloc: Global,
     key: &AnyKey,
     options: &Options<'_>,
