@@ -296,7 +296,7 @@ const ENCRYPT: Subcommand = Subcommand {
 
 const DECRYPT: Subcommand = Subcommand {
     name: "decrypt",
-    about: "Decrypts a token and prints its text",
+    about: "Decrypts a token and prints its text, without a check of its times",
     example: "Example: paseto decrypt --key office.key token",
     usage: None,
     parameters: &[KEY, PASSWORD, OPENER, FOOTER, ASSERTION, INPUT],
@@ -312,7 +312,7 @@ const SIGN: Subcommand = Subcommand {
 
 const VERIFY: Subcommand = Subcommand {
     name: "verify",
-    about: "Verifies a signed token and prints its text",
+    about: "Verifies a signed token and prints its text, without a check of its times",
     example: "Example: paseto verify --key verifying.key token",
     usage: None,
     parameters: &[KEY, PASSWORD, OPENER, FOOTER, ASSERTION, INPUT],
@@ -328,7 +328,7 @@ const EXPLAIN: Subcommand = Subcommand {
 
 const INSPECT: Subcommand = Subcommand {
     name: "inspect",
-    about: "Shows what a token contains, without verifying it",
+    about: "Shows what a token contains, without verifying it, or which key a text is",
     example: "Example: paseto inspect token",
     usage: None,
     parameters: &[INPUT],
