@@ -31,6 +31,7 @@ cd "$work" || exit 1
 umask 077
 # shellcheck source=tests/counts.sh
 source "$root/tests/counts.sh"
+needs strace strace
 
 # Keys that Python's base64 wrote: the bytes 70, 71 and on, and what OpenSSL's Ed25519 (through Python's
 # `cryptography`) and RFC 8032 make of the seed of test 1 there.
@@ -57,6 +58,7 @@ not_utf8='A Utf8 parsing error occurred'
 no_file='no such file'
 exists='the file already exists and is not overwritten'
 bad_stream='a read or a write failed'
+unwritten='the file could not be written: is the disk full?'
 bad_claim='--claim: write a claim as aud=customers, or as seats:=4 with a value of JSON'
 a_time='write a time as 90s, 30m, 12h, 7d or 2026-11-22T10:00:00Z'
 bad_leeway='--leeway: write a length of time as 5s, 30m, 12h or 7d'
@@ -676,6 +678,71 @@ refuses "a key that 300 others are not" 1 "$("$program" issue --key v4.local --f
     "$input: The key 'k4.lid.none' is not in the ring" check --ring many
 echo nothing >many/151
 refuses "a ring of 299 keys and a file that is none" 1 "$(cat token)" "many: The file '151' of the ring is no key file" check --ring many
+
+# -- new files, whole or not at all
+
+# left FOLDER: the files in it that the program has not named yet.
+left() {
+    find "$1" -name '.paseto-*.new' | wc -l
+}
+
+# state FILE: none, or whole where it is one line of a key, or else part.
+state() {
+    if [ ! -e "$1" ]; then echo none; elif grep -qE '^k4\.(secret|public)\.[A-Za-z0-9_-]+$' "$1"; then echo whole; else echo part; fi
+}
+
+refuses "one name for both halves" 2 "" "--out and --public name one file: name two" keygen v4.public --out pair --public pair
+is "it is not there" "$(state pair)" none
+echo k4.public.AAAA >there
+refuses "a public key over a file" 3 "" "there: $exists" keygen v4.public --out pair --public there
+refuses "a private key over a file" 3 "" "there: $exists" keygen v4.public --out there --public pair
+refuses "one file by two names" 3 "" "./pair: $exists" keygen v4.public --out pair --public ./pair
+refuses "a public key in no folder" 3 "" "nowhere/half: $no_file" keygen v4.public --out pair --public nowhere/half
+refuses "a private key in no folder" 3 "" "nowhere/pair: $no_file" keygen v4.public --out nowhere/pair --public half
+is "no half is there" "$(state pair) $(state half) $(left .)" "none none 0"
+ln -s nowhere dangling
+refuses "a new file over a dangling link" 3 "" "dangling: $exists" keygen v4.local --out dangling
+for stream in 0 1 2; do
+    case $stream in
+        0) "$program" keygen v4.public --out pair --public half <&- >out 2>err ;;
+        1) "$program" keygen v4.public --out pair --public half </dev/null >&- 2>err ;;
+        2) "$program" keygen v4.public --out pair --public half </dev/null >out 2>&- ;;
+    esac
+    is "keygen, the closed stream $stream" "$? $(state pair) $(state half) $(left .)" "3 none none 0"
+done
+"$program" keygen v4.public --public half >/dev/full 2>err
+is "a full output and a public key" "$? $(state half) $(left .)" "3 none 0"
+"$program" keygen v4.public --out pair --public half 2>/dev/full
+is "what keygen says to a full standard error" "$? $(state pair) $(state half)" "0 whole whole"
+rm pair half
+(trap '' XFSZ && ulimit -f 8 && exec "$program" encrypt --key v4.local --out made <long 2>err)
+is "a file system that is full" "$? $(cat err) $(ls made 2>&1 | grep -c 'No such') $(left .)" "3 paseto: made: $unwritten 1 0"
+
+# at_each FAULT RESULT: makes a key pair in the folder new once for each system call, with this fault at that call, and says
+# each result that is not among these: the status, the private file, the public one, and how many files are left.
+at_each() {
+    local call number status
+    while read -r call number; do
+        rm -rf new && mkdir new
+        (cd new && strace -qq -o /dev/null -e trace="$call" -e inject="$call:$1:when=$number" \
+            "$program" keygen v4.public --out pair --public half >/dev/null 2>../err)
+        status=$?
+        echo "$status $(state new/pair) $(state new/half) $(left new) $(grep -c 'unfinished file' err)" | grep -vxE "$2" | sed "s/^/$call $number: /"
+    done <calls
+}
+
+mkdir new
+(cd new && strace -qq -o ../trace "$program" keygen v4.public --out pair --public half 2>../err)
+grep -oE '^[a-z_0-9]+\(' trace | tr -d '(' | grep -v '^execve$\|^exit' | awk '{ print $1, ++count[$1] }' >calls
+is "the calls of two new files" "$(grep -cE '^(fsync|link|linkat|unlink|unlinkat) [12]$' calls)" 6
+is "keygen, killed at each system call" "$(at_each signal=KILL '137 (none none|whole none|whole whole) [012] 0')" ""
+sed -i '/^\(write\|fsync\|linkat\|link\|openat\|open\) /!d' calls
+is "keygen, with each call of a file refused" "$(at_each error=ENOSPC '[1-9][0-9]* none none 0 0|0 whole whole 0 0')" ""
+printf 'unlink 1\nunlink 2\nunlinkat 1\nunlinkat 2\n' >calls
+is "keygen that cannot remove a file" "$(at_each error=EIO '0 whole whole 1 1|0 whole whole 0 0')" ""
+is "it says so" "$(strace -qq -o /dev/null -e trace=unlink,unlinkat -e inject=unlink,unlinkat:error=EIO "$program" encrypt --key v4.local --out made <in 2>&1 |
+    sed -E 's/[0-9a-f]{16}/N/')" "paseto: .paseto-N.new: this unfinished file could not be removed"
+rm -f made .paseto-*.new
 
 # -- closed and full outputs
 

@@ -16,3 +16,4 @@ pub mod Half
 pub mod Keys
 pub mod Main
 pub mod NewKey
+pub mod NewFile

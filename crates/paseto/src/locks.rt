@@ -8,9 +8,9 @@ ghost use Rattle.paseto_keys.specs.Forms.{ByLine, ByNoLine};
 ghost use Rattle.paseto.specs.Keys.{IsOtherFault, IsTextBy};
 
 use crate::fault::Fault;
-use crate::files::put;
 use crate::forms::{format_of, formed, locked};
 use crate::keys::{Held, key_file_fault, key_name, key_of, key_text, opener_line, password_of};
+use crate::new_file::{free, put_secret};
 use paseto_keys::AnyKey;
 use paseto_tasks::{ProgramError, with_line_feed};
 use paseto_words::{Seal, Under, Wrap, Written};
@@ -21,6 +21,7 @@ use std::alloc::Global;
 
 /// Prints a key wrapped under a password or a wrapping key.
 pub fn wrapped<'a>(rt: &HostRuntime, words: &Wrap<'a>) -> Result<u8, Fault<'a>> {
+    free(rt, words.out)?;
     let name = key_name(words.key);
     let text = key_text(rt, words.key)?;
     let key = Held::nothing().open(rt.alloc(), name, text.as_str())?;
@@ -86,6 +87,7 @@ fn under_password<'a>(
 /// Prints the key of a key file, decrypted if it is protected, wrapped or sealed.
 pub fn unwrapped<'a>(rt: &HostRuntime, words: &Written<'a>) -> Result<u8, Fault<'a>> {
     let format = format_of(words.format)?;
+    free(rt, words.out)?;
     let key = key_of(rt, &words.key)?;
     let made = formed(rt.alloc(), key_name(words.key.file), &key, format)?;
     written(rt, words.out, made.as_str())
@@ -93,6 +95,7 @@ pub fn unwrapped<'a>(rt: &HostRuntime, words: &Written<'a>) -> Result<u8, Fault<
 
 /// Prints a key for local tokens, sealed to a public key.
 pub fn sealed<'a>(rt: &HostRuntime, words: &Seal<'a>) -> Result<u8, Fault<'a>> {
+    free(rt, words.out)?;
     let name = key_name(words.key.file);
     let key = key_of(rt, &words.key)?;
     let to = opener_line(rt, words.to)?;
@@ -130,6 +133,7 @@ fn sealed_to<'a, G: TryRng>(
 /// Prints the key that was sealed to a public key.
 pub fn unsealed<'a>(rt: &HostRuntime, words: &Written<'a>) -> Result<u8, Fault<'a>> {
     let format = format_of(words.format)?;
+    free(rt, words.out)?;
     let name = key_name(words.key.file);
     let held = Held::of(rt, &words.key.openers)?;
     let text = key_text(rt, words.key.file)?;
@@ -144,6 +148,6 @@ pub fn unsealed<'a>(rt: &HostRuntime, words: &Written<'a>) -> Result<u8, Fault<'
 /// Writes the text of a secret key to a new file that its owner alone can read, or to standard output,
 /// and returns the status.
 fn written<'a>(rt: &HostRuntime, out: Option<&'a str>, made: &str) -> Result<u8, Fault<'a>> {
-    put(rt, out, 0o600, made.as_bytes())?;
+    put_secret(rt, out, made.as_bytes())?;
     Ok(0)
 }

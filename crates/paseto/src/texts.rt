@@ -5,8 +5,9 @@ ghost use Rattle.paseto_keys.specs.AnyKey.{parts_of};
 ghost use Rattle.paseto.specs.Texts.{DoesTask};
 
 use crate::fault::Fault;
-use crate::files::{is_standard, name_of, opened, write_new};
+use crate::files::{is_standard, name_of, opened};
 use crate::keys::{key_name, key_of};
+use crate::new_file::{SECRET, free, put_new};
 use crate::options::text_options;
 use paseto_keys::AnyKey;
 use paseto_tasks::run::run;
@@ -23,6 +24,7 @@ pub fn keyed<'a>(rt: &HostRuntime, task: Task, words: &Keyed<'a>) -> Result<u8, 
     if words.key.file == Some("-") && is_standard(words.input) {
         return Err(Fault::from(ProgramError::OneInput));
     }
+    free(rt, words.out)?;
     let key = key_of(rt, &words.key)?;
     match words.input {
         None | Some("-") => with_input(rt, task, words, &key, &mut rt.stdin()),
@@ -66,7 +68,7 @@ fn with_input<'a, R: Read>(
         errors,
     );
     if status == 0 {
-        write_new(rt, path, 0o600, &made)?;
+        put_new(rt, path, SECRET, &made)?;
     }
     Ok(status)
 }

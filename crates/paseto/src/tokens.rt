@@ -7,9 +7,10 @@ ghost use Rattle.paseto.specs.Answers.{second_of};
 use crate::commands::check::Keys;
 use crate::commands::run::{run_check, run_issue};
 use crate::fault::Fault;
-use crate::files::{is_standard, opened, write_new};
+use crate::files::{is_standard, opened};
 use crate::folder::keys_in;
 use crate::keys::{Held, key_name, key_of};
+use crate::new_file::{SECRET, free, put_new};
 use jiff::Timestamp;
 use paseto_tasks::ProgramError;
 use paseto_words::{Check, Issue, KeyFile, Keys as KeyWords};
@@ -17,6 +18,7 @@ use rand::rngs::SysRng;
 
 /// Issues a token at the current second.
 pub fn issue<'a>(rt: &HostRuntime, words: &Issue<'a>) -> Result<u8, Fault<'a>> {
+    free(rt, words.out)?;
     let key = key_of(rt, &words.key)?;
     let now = second_of(clock(rt)?)?;
     let (alloc, mut generator, mut errors) = (rt.alloc(), SysRng::new(rt), rt.stderr());
@@ -43,7 +45,7 @@ pub fn issue<'a>(rt: &HostRuntime, words: &Issue<'a>) -> Result<u8, Fault<'a>> {
         &mut errors,
     );
     if status == 0 {
-        write_new(rt, path, 0o600, &made)?;
+        put_new(rt, path, SECRET, &made)?;
     }
     Ok(status)
 }

@@ -26,7 +26,7 @@ use Rattle.paseto_tasks.specs.declared.error.TimeOption.TheVariants.{Expires, No
 use Rattle.paseto_tasks.specs.declared.token_kind.TokenKind.{TokenKind}
 use Rattle.paseto_tasks.specs.TokenKind.{NamesKind, kind_text}
 use Rattle.paseto_tasks.specs.declared.error.ProgramError.{ProgramError}
-use Rattle.paseto_tasks.specs.declared.error.ProgramError.TheVariants.{Usage, KeyWord, NoKind, NoHalf, NoFormat, LockedPem, NoKey, NoPassword, OddPassword, OneInput, Claim, TimeClaim, Time, Key, Pem, KeyFile, NotSealed, SecondLine, TooLong, Refused, OtherKind, NoAssertion, OddClaim, OtherFooter, NoFooter, NotAnObject, NoKeyId, NotJson, OddNumber, Unfit, NoFile, NoAccess, FileExists, Clock, Random, InputOrOutput, Memory}
+use Rattle.paseto_tasks.specs.declared.error.ProgramError.TheVariants.{Usage, KeyWord, NoKind, NoHalf, NoFormat, LockedPem, SameFile, NoKey, NoPassword, OddPassword, OneInput, Claim, TimeClaim, Time, Key, Pem, KeyFile, NotSealed, SecondLine, TooLong, Refused, OtherKind, NoAssertion, OddClaim, OtherFooter, NoFooter, NotAnObject, NoKeyId, NotJson, OddNumber, Unfit, NoFile, NoAccess, FileExists, Unwritten, NoLink, FileLeft, Clock, Random, InputOrOutput, Memory}
 
 -- what a text or a token that was refused is about, which is the key where the private one is none, and what is said of
 -- it: the text of the error, but where that leaves open what to do
@@ -61,6 +61,7 @@ entry_of NoKind = (2, OfKey, codes "not a kind of key: use v1.local, v2.local, v
 entry_of NoHalf = (2, OfKey, codes "keys of this kind have no public half: omit --public")
 entry_of NoFormat = (2, OfNothing, codes "--format: must be paserk or pem")
 entry_of LockedPem = (2, OfNothing, codes "a key under a password is not written in PEM: omit --format or the password")
+entry_of SameFile = (2, OfNothing, codes "--out and --public name one file: name two")
 entry_of NoKey = (2, OfNothing, codes "no key is given: use --key FILE, or put the text of the key into PASETO_KEY")
 entry_of NoPassword = (2, OfNothing, codes "no password is given: use --password-file FILE, or PASETO_PASSWORD")
 entry_of OddPassword = (1, OfKey, codes "not a password: it must have 1 to 4095 bytes")
@@ -89,6 +90,9 @@ entry_of Clock = (3, OfNothing, codes "the system clock is not within the years 
 entry_of NoFile = (3, OfKey, codes "no such file")
 entry_of NoAccess = (3, OfKey, codes "the file cannot be opened or created")
 entry_of FileExists = (3, OfKey, codes "the file already exists and is not overwritten")
+entry_of Unwritten = (3, OfKey, codes "the file could not be written: is the disk full?")
+entry_of NoLink = (3, OfKey, codes "the folder has no hard links for a new file: use standard output")
+entry_of FileLeft = (3, OfKey, codes "this unfinished file could not be removed")
 entry_of Random = (3, OfNothing, codes "the system returned no random bytes")
 entry_of InputOrOutput = (3, OfNothing, codes "a read or a write failed")
 entry_of (Memory _) = (3, OfNothing, codes "out of memory")
@@ -183,6 +187,12 @@ file_error OutOfMemory = Memory alloc_error
 file_error NotFound = NoFile
 file_error AlreadyExists = FileExists
 file_error _ = NoAccess
+
+-- why a new file could not be given its name
+abbrev pub link_error : ErrorKind → ProgramError
+link_error OutOfMemory = Memory alloc_error
+link_error AlreadyExists = FileExists
+link_error _ = NoLink
 
 -- memory was refused
 abbrev pub IsMemory : ProgramError → Type 0

@@ -7,7 +7,7 @@ ghost use Rattle.std.specs.Io.KnownBytes.{Appends};
 ghost use Rattle.std.specs.IoError.{error_kind};
 ghost use Rattle.rusty_paseto_parts.specs.declared.error.PasetoError.TheVariants.{Utf8Error as NotUtf8};
 ghost use Rattle.paseto_tasks.specs.declared.error.ProgramError.TheVariants.{InputOrOutput, Memory, Refused};
-ghost use Rattle.paseto_tasks.specs.Error.{IsTokenError, colon_behind, file_error, joined, key_error_of, key_file_error_of, line_of, name_of, pem_error_of, pem_text, program_error_of, refusal_of, status_of, stream_error_of, subject_of, text_of, time_text, use_error_of, words_error};
+ghost use Rattle.paseto_tasks.specs.Error.{IsTokenError, colon_behind, file_error, joined, key_error_of, key_file_error_of, line_of, link_error, name_of, pem_error_of, pem_text, program_error_of, refusal_of, status_of, stream_error_of, subject_of, text_of, time_text, use_error_of, words_error};
 
 use crate::output::write_whole;
 use crate::token_kind::TokenKind;
@@ -36,6 +36,8 @@ pub enum ProgramError {
     NoFormat,
     /// A key is to be written both under a password and in PEM.
     LockedPem,
+    /// A key and its public half are to be written to one file.
+    SameFile,
     /// No key is named.
     NoKey,
     /// No password is named.
@@ -92,6 +94,12 @@ pub enum ProgramError {
     NoAccess,
     /// A file to be created already exists.
     FileExists,
+    /// A new file was not written whole.
+    Unwritten,
+    /// A new file cannot be given its name, by a hard link.
+    NoLink,
+    /// An unfinished file cannot be removed.
+    FileLeft,
     /// The system returned no random bytes.
     Random,
     /// A read or a write failed, or a write accepted no bytes.
@@ -162,6 +170,7 @@ impl ProgramError {
             NoFormat => "--format: must be paserk or pem",
             LockedPem =>
                 "a key under a password is not written in PEM: omit --format or the password",
+            SameFile => "--out and --public name one file: name two",
             NoPassword => "no password is given: use --password-file FILE, or PASETO_PASSWORD",
             OddPassword => "not a password: it must have 1 to 4095 bytes",
             NoKey => "no key is given: use --key FILE, or put the text of the key into PASETO_KEY",
@@ -193,6 +202,9 @@ impl ProgramError {
             NoFile => "no such file",
             NoAccess => "the file cannot be opened or created",
             FileExists => "the file already exists and is not overwritten",
+            Unwritten => "the file could not be written: is the disk full?",
+            NoLink => "the folder has no hard links for a new file: use standard output",
+            FileLeft => "this unfinished file could not be removed",
             Random => "the system returned no random bytes",
             InputOrOutput => "a read or a write failed",
             Memory(_) => "out of memory",
@@ -210,6 +222,7 @@ impl ProgramError {
             | KeyWord
             | NoFormat
             | LockedPem
+            | SameFile
             | NoKey
             | NoPassword
             | OneInput
@@ -222,7 +235,10 @@ impl ProgramError {
             | KeyFile(KeyFileError::Random | KeyFileError::Memory(_))
             | NoFile
             | NoAccess
-            | FileExists => (3, About::Key),
+            | FileExists
+            | Unwritten
+            | NoLink
+            | FileLeft => (3, About::Key),
             Key(_)
             | Pem(_)
             | KeyFile(_)
@@ -290,6 +306,17 @@ impl ProgramError {
             io::ErrorKind::NotFound => ProgramError::NoFile,
             io::ErrorKind::AlreadyExists => ProgramError::FileExists,
             _ => ProgramError::NoAccess,
+        }
+    }
+
+    /// Why a new file could not be given its name.
+    pub fn of_link(source: &io::Error) -> ProgramError
+        ensures { result ≡ link_error (error_kind source.now) }
+    {
+        match source.kind() {
+            io::ErrorKind::OutOfMemory => ProgramError::Memory(AllocError),
+            io::ErrorKind::AlreadyExists => ProgramError::FileExists,
+            _ => ProgramError::NoLink,
         }
     }
 }
