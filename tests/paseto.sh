@@ -52,6 +52,7 @@ bad_header='not a token of a supported kind'
 bad_count='This string has an incorrect number of parts and cannot be parsed into a token'
 no_key='The text is no PASERK key'
 no_pem='not valid PEM; key pairs of version 1 are read from PEM'
+empty_key='it is empty, and holds no key'
 bad_key='The key was not in the correct format'
 too_long='too long for a key file'
 not_utf8='A Utf8 parsing error occurred'
@@ -260,7 +261,32 @@ gives "a key file without a line feed" "$(made encrypt --key v4.local)" hello de
 head -c 40 v4.local >cut
 refuses "a truncated key file" 1 hello "cut: $bad_key" encrypt --key cut
 : >empty
-refuses "an empty key file" 1 hello "empty: $no_key" encrypt --key empty
+echo >line
+while read -r words; do
+    # shellcheck disable=SC2086
+    refuses "an empty key file, $words" 1 hello "empty: $empty_key" $words
+    # shellcheck disable=SC2086
+    refuses "a key file of an empty line, $words" 1 hello "line: $empty_key" ${words/empty/line}
+done <<'END'
+encrypt --key empty
+decrypt --key empty
+sign --key empty
+verify --key empty
+issue --key empty
+check --key empty
+explain --key empty --issued empty
+id --key empty
+public --key empty
+wrap --key empty --wrapping-key v4.local
+wrap --key v4.local --wrapping-key empty
+unwrap --key empty
+unwrap --key v4.local --unlock-key empty
+seal --key empty --to v4.public
+seal --key v4.local --to empty
+unseal --key empty
+END
+is "an empty key of the environment" "$(printf hello | PASETO_KEY='' "$program" encrypt 2>&1)" "paseto: PASETO_KEY: $empty_key"
+refuses "an empty key on standard input" 1 "" "$input: $empty_key" id --key -
 cat v4.local v4.local >two
 refuses "two keys in a file" 1 hello "two: line 2: a key file has one line of PASERK, or is PEM" encrypt --key two
 refuses "a binary key file" 1 hello "binary: $no_key" encrypt --key binary
@@ -302,7 +328,6 @@ misused "inspect with a key" "error: unexpected argument '--key' found" inspect 
 is "id of a local key" "$("$program" id --key other.local)" k4.lid.bqltbNc4JLUAmc9Xtpok-fBuI0dQN5_m3CD9W_nbh559
 is "id of a private key" "$("$program" id --key v4.secret | cut -c 1-7)" k4.sid.
 is "id of a public key" "$("$program" id --key v4.public | cut -c 1-7)" k4.pid.
-refuses "id of no key" 1 "" "empty: $no_key" id --key empty
 
 # -- public
 
@@ -724,7 +749,7 @@ at_each() {
     local call number status
     while read -r call number; do
         rm -rf new && mkdir new
-        (cd new && strace -qq -o /dev/null -e trace="$call" -e inject="$call:$1:when=$number" \
+        (exec 2>/dev/null && cd new && strace -qq -o /dev/null -e trace="$call" -e inject="$call:$1:when=$number" \
             "$program" keygen v4.public --out pair --public half >/dev/null 2>../err)
         status=$?
         echo "$status $(state new/pair) $(state new/half) $(left new) $(grep -c 'unfinished file' err)" | grep -vxE "$2" | sed "s/^/$call $number: /"
@@ -752,12 +777,13 @@ printf hello >in
 "$program" sign --key v4.secret <in >ticket
 "$program" issue --key v4.local >claims
 "$program" seal --key v4.local --to v4.public >sealed
+"$program" wrap --key v4.local --wrapping-key other.local >wrapped
 commands='keygen v4.local
 keygen v3.public
 public --key v4.secret
 id --key v4.local
 wrap --key v4.local --wrapping-key other.local
-unwrap --key v4.local
+unwrap --key wrapped --unlock-key other.local
 seal --key v4.local --to v4.public
 unseal --key sealed --unlock-key v4.secret
 issue --key v4.local

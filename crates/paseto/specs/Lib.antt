@@ -17,3 +17,4 @@ pub mod Keys
 pub mod Main
 pub mod NewKey
 pub mod NewFile
+pub mod Locks

@@ -26,7 +26,7 @@ use Rattle.paseto_tasks.specs.declared.error.TimeOption.TheVariants.{Expires, No
 use Rattle.paseto_tasks.specs.declared.token_kind.TokenKind.{TokenKind}
 use Rattle.paseto_tasks.specs.TokenKind.{NamesKind, kind_text}
 use Rattle.paseto_tasks.specs.declared.error.ProgramError.{ProgramError}
-use Rattle.paseto_tasks.specs.declared.error.ProgramError.TheVariants.{Usage, KeyWord, NoKind, NoHalf, NoFormat, LockedPem, SameFile, NoKey, NoPassword, OddPassword, OneInput, Claim, TimeClaim, Time, Key, Pem, KeyFile, NotSealed, SecondLine, TooLong, Refused, OtherKind, NoAssertion, OddClaim, OtherFooter, NoFooter, NotAnObject, NoKeyId, NotJson, OddNumber, Unfit, NoFile, NoAccess, FileExists, Unwritten, NoLink, FileLeft, Clock, Random, InputOrOutput, Memory}
+use Rattle.paseto_tasks.specs.declared.error.ProgramError.TheVariants.{Usage, KeyWord, NoKind, NoHalf, NoFormat, LockedPem, SameFile, NoKey, NoPassword, OddPassword, OneInput, Claim, TimeClaim, Time, Key, Pem, KeyFile, EmptyKey, NotWrapped, NotSealed, SecondLine, TooLong, Refused, OtherKind, NoAssertion, OddClaim, OtherFooter, NoFooter, NotAnObject, NoKeyId, NotJson, OddNumber, Unfit, NoFile, NoAccess, FileExists, Unwritten, NoLink, FileLeft, Clock, Random, InputOrOutput, Memory}
 
 -- what a text or a token that was refused is about, which is the key where the private one is none, and what is said of
 -- it: the text of the error, but where that leaves open what to do
@@ -69,6 +69,8 @@ entry_of OneInput = (2, OfNothing, codes "standard input cannot be the key and t
 entry_of (Key error) = (1, OfKey, key_error_text error)
 entry_of (Pem error) = (1, OfKey, pem_text error)
 entry_of (KeyFile error) = (1, OfKey, key_file_error_text error)
+entry_of EmptyKey = (1, OfKey, codes "it is empty, and holds no key")
+entry_of NotWrapped = (1, OfKey, codes "the key is bare: it is under no password, not wrapped and not sealed")
 entry_of NotSealed = (1, OfKey, codes "the key is not sealed: use paseto unwrap")
 entry_of SecondLine = (1, OfKey, codes "line 2: a key file has one line of PASERK, or is PEM")
 entry_of TooLong = (1, OfKey, codes "too long for a key file")

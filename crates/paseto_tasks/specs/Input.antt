@@ -6,7 +6,8 @@ use Rattle.std.specs.declared.str.Utf8Error.{Utf8Error as Utf8Fault}
 use Rattle.paseto_streams.specs.Input.{IsInput}
 use Rattle.rusty_paseto_parts.specs.declared.error.PasetoError.TheVariants.{Utf8Error}
 use Rattle.paseto_tasks.specs.declared.error.ProgramError.{ProgramError}
-use Rattle.paseto_tasks.specs.declared.error.ProgramError.TheVariants.{Refused}
+use Rattle.paseto_tasks.specs.declared.error.ProgramError.TheVariants.{EmptyKey, Key, Refused, TooLong}
+use Rattle.rusty_paseto_paserk.specs.declared.error.PaserkError.TheVariants.{NoKey}
 use Rattle.paseto_tasks.specs.Error.{Blame, nothing}
 
 -- the line that an input is: without the line feed at its end, where it has one
@@ -29,9 +30,11 @@ IsNoText bytes error = (¬ IsUtf8 bytes) × ((fault : Utf8Fault) × (error ≡ R
 abbrev pub IsLong : List ℕ → Type 0
 IsLong bytes = 4096 < length bytes
 
--- the bytes are no key file: too many, or no text
-abbrev pub IsNoKeyFile : List ℕ → Type 0
-IsNoKeyFile bytes = IsLong bytes ⊎ (¬ IsUtf8 (line_of_input bytes))
+-- why bytes are no key file: they are too many, empty, or no text
+abbrev pub IsNoKeyFile : List ℕ → ProgramError → Type 0
+IsNoKeyFile bytes error =
+    (IsLong bytes × (error ≡ TooLong))
+    ⊎ (((line_of_input bytes ≡ []) × (error ≡ EmptyKey)) ⊎ ((¬ IsUtf8 (line_of_input bytes)) × (error ≡ Key NoKey)))
 
 -- the bytes are no password: too many, or none
 abbrev pub IsNoPassword : List ℕ → Type 0

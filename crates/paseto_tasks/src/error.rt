@@ -52,6 +52,10 @@ pub enum ProgramError {
     Pem(PemError),
     /// The key file was not opened, or a key was not written to one.
     KeyFile(KeyFileError),
+    /// The text of the key file is empty.
+    EmptyKey,
+    /// The key is to be unwrapped, but is bare.
+    NotWrapped,
     /// The key is to be unsealed, but is not sealed.
     NotSealed,
     /// The key file has a second line, and is not PEM.
@@ -179,6 +183,8 @@ impl ProgramError {
             Key(source) => source.text(),
             Pem(source) => pem_text(source),
             KeyFile(source) => source.text(),
+            EmptyKey => "it is empty, and holds no key",
+            NotWrapped => "the key is bare: it is under no password, not wrapped and not sealed",
             NotSealed => "the key is not sealed: use paseto unwrap",
             SecondLine => "line 2: a key file has one line of PASERK, or is PEM",
             TooLong => "too long for a key file",
@@ -242,6 +248,8 @@ impl ProgramError {
             Key(_)
             | Pem(_)
             | KeyFile(_)
+            | EmptyKey
+            | NotWrapped
             | NotSealed
             | SecondLine
             | TooLong

@@ -244,7 +244,7 @@ const WRAP: Subcommand = Subcommand {
 
 const UNWRAP: Subcommand = Subcommand {
     name: "unwrap",
-    about: "Prints the key of a key file, decrypted if it is protected, wrapped or sealed",
+    about: "Prints the key of a key file that is under a password, wrapped or sealed",
     example: "Example: paseto unwrap --key locked.key --password-file password --out office.key",
     usage: None,
     parameters: &[KEY, PASSWORD, OPENER, FORMAT, OUT],
