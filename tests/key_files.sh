@@ -84,10 +84,10 @@ while read -r name version; do
     refuses "a claim that differs, $name.pem" 1 "$input: The claim 'aud' is 'customers', and not 'all'" \
         check --key $name.public.pem --claim aud=all
     printf hello >in
-    refuses "$name.public.pem signs nothing" 1 "$name.public.pem: The key is a public one, which verifies" sign --key $name.public.pem
-    refuses "$name.pem verifies nothing" 1 "$name.pem: The key is a private one, which signs" verify --key $name.pem
-    refuses "$name.pem checks nothing" 1 "$name.pem: The key is a private one, which signs" check --key $name.pem
-    refuses "$name.public.pem issues nothing" 1 "$name.public.pem: The key is a public one, which verifies" issue --key $name.public.pem
+    refuses "$name.public.pem signs nothing" 3 "$name.public.pem: The key is a public one, which verifies" sign --key $name.public.pem
+    refuses "$name.pem verifies nothing" 3 "$name.pem: The key is a private one, which signs" verify --key $name.pem
+    refuses "$name.pem checks nothing" 3 "$name.pem: The key is a private one, which signs" check --key $name.pem
+    refuses "$name.public.pem issues nothing" 3 "$name.public.pem: The key is a public one, which verifies" issue --key $name.public.pem
     sed 's/$/\r/' $name.pem >returns.pem
     is "lines that end in CR LF, $name.pem" "$("$program" sign --key returns.pem <in | "$program" verify --key $name.public.pem)" hello
     is "PEM on standard input, $name.pem" "$("$program" sign --key - in <$name.pem | "$program" verify --key $name.public.pem)" hello
@@ -129,18 +129,18 @@ openssl genpkey -algorithm EC -pkeyopt ec_paramgen_curve:P-256 -out p256.pem
 openssl genpkey -algorithm RSA -pkeyopt rsa_keygen_bits:3072 -out rsa3072.pem 2>err
 openssl pkey -in ed.pem -aes256 -passout pass:secret -out encrypted.pem
 sed '2s/./!/' ed.pem >broken.pem
-refuses "another algorithm" 1 "x25519.pem: The key is one of another algorithm" sign --key x25519.pem
-refuses "another curve" 1 "p256.pem: The key is one of another curve" sign --key p256.pem
-refuses "another size" 1 "rsa3072.pem: The key has another size" sign --key rsa3072.pem
-refuses "an encrypted key of OpenSSL" 1 "encrypted.pem: The key is encrypted" sign --key encrypted.pem
-refuses "broken PEM" 1 "broken.pem: The text is no PEM" sign --key broken.pem
+refuses "another algorithm" 3 "x25519.pem: a key of another algorithm than RSA, P-384 and Ed25519" sign --key x25519.pem
+refuses "another curve" 3 "p256.pem: a key of another curve: version 3 takes P-384" sign --key p256.pem
+refuses "another size" 3 "rsa3072.pem: an RSA key of another size: version 1 takes 2048 bits" sign --key rsa3072.pem
+refuses "an encrypted key of OpenSSL" 3 "encrypted.pem: encrypted PEM: remove its password by openssl pkey -in FILE -out NEW" sign --key encrypted.pem
+refuses "broken PEM" 3 "broken.pem: neither PASERK nor valid PEM" sign --key broken.pem
 "$program" keygen v4.local --out v4.local --quiet
 "$program" keygen v2.public --out v2.secret --public v2.public --quiet
 for name in v4.local v2.secret; do "$program" wrap --key $name --password-file password --out locked.$name; done
-refuses "a local key in PEM" 1 "locked.v4.local: keys for local tokens have no PEM text" \
+refuses "a local key in PEM" 3 "locked.v4.local: keys for local tokens have no PEM text" \
     unwrap --key locked.v4.local --password-file password --format pem
-refuses "a new local key in PEM" 1 "v3.local: keys for local tokens have no PEM text" keygen v3.local --format pem
-refuses "a key of version 2 in PEM" 1 \
+refuses "a new local key in PEM" 3 "v3.local: keys for local tokens have no PEM text" keygen v3.local --format pem
+refuses "a key of version 2 in PEM" 3 \
     "locked.v2.secret: keys of version 2 have no PEM text of their own: it would be read as one of version 4" \
     unwrap --key locked.v2.secret --password-file password --format pem
 rm locked.v4.local locked.v2.secret
@@ -167,7 +167,7 @@ while read -r kind file; do
         is "locked.$kind signs" "$("$program" verify --key half.$kind <<<"$token")" hello
     fi
     refuses "another password, $kind" 1 "locked.$kind: $wrong_password" id --key locked.$kind --password-file password.other
-    refuses "no password, $kind" 1 "locked.$kind: $needs_password" id --key locked.$kind
+    refuses "no password, $kind" 3 "locked.$kind: $needs_password" id --key locked.$kind
     is "the password of the environment, $kind" "$(PASETO_PASSWORD='correct horse battery staple' "$program" id --key locked.$kind)" \
         "$("$program" id --key locked.$kind --password-file password)"
 done <<'LIST'
@@ -197,9 +197,9 @@ refuses "a key under a password in PEM" 2 "a key under a password is not written
     keygen v4.public --password-file password --format pem
 refuses "wrap under nothing" 2 "no password is given: use --password-file FILE, or PASETO_PASSWORD" wrap --key bare
 : >nothing
-refuses "an empty password" 1 "nothing: not a password: it must have 1 to 4095 bytes" wrap --key bare --password-file nothing
+refuses "an empty password" 3 "nothing: not a password: it must have 1 to 4095 bytes" wrap --key bare --password-file nothing
 refuses "no file of a password" 3 "nowhere: no such file" wrap --key bare --password-file nowhere
-refuses "a public key under a password" 1 "half.v4.public: the key is public: it needs no password and no wrapping key" \
+refuses "a public key under a password" 3 "half.v4.public: the key is public: it needs no password and no wrapping key" \
     wrap --key half.v4.public --password-file password
 cp password open.password
 chmod 644 open.password
@@ -208,7 +208,7 @@ is "a password that others can read" "$(cat err)" "paseto: open.password: warnin
 chmod 644 locked.v4.local
 is "a locked key that others can read" "$("$program" id --key locked.v4.local --password-file password 2>&1 >out)" ""
 printf 'k4.local-pw.AAAA' >cut
-refuses "a locked key that was cut off" 1 "cut: what follows the header is no base64url of a wrapped key, or was cut off" id --key cut --password-file password
+refuses "a locked key that was cut off" 3 "cut: what follows the header is no base64url of a wrapped key, or was cut off" id --key cut --password-file password
 
 # -- wrapping keys
 
@@ -223,7 +223,7 @@ for version in 1 2 3 4; do
     [ "$("$program" wrap --key local.$version --wrapping-key wrapping.$version)" != "$(cat wrapped.$version)" ] && pass ||
         fail "one nonce under a wrapping key twice, version $version"
     refuses "another wrapping key, version $version" 1 "wrapped.$version: $wrong_password" id --key wrapped.$version --unlock-key local.$version
-    refuses "no wrapping key, version $version" 1 "wrapped.$version: $needs_key" id --key wrapped.$version
+    refuses "no wrapping key, version $version" 3 "wrapped.$version: $needs_key" id --key wrapped.$version
 done
 for version in 2 3 4; do
     "$program" keygen v$version.public --out secret.$version --public public.$version --quiet
@@ -233,11 +233,11 @@ for version in 2 3 4; do
     rm wrapped.secret
 done
 is "the modes of wrapped keys" "$(modes wrapped.?)" "600 "
-refuses "a wrapping key of another version" 1 "wrapping.3: this key is one of version 3, and the other one is not" \
+refuses "a wrapping key of another version" 3 "wrapping.3: this key is one of version 3, and the other one is not" \
     wrap --key local.4 --wrapping-key wrapping.3
-refuses "a wrapping key of another version to unwrap" 1 "wrapping.3: this key is one of version 3, and the other one is not" \
+refuses "a wrapping key of another version to unwrap" 3 "wrapping.3: this key is one of version 3, and the other one is not" \
     id --key wrapped.4 --unlock-key wrapping.3
-refuses "a private key as a wrapping key" 1 "secret.4: this key is a private one, and another type is needed" \
+refuses "a private key as a wrapping key" 3 "secret.4: this key is a private one, and another type is needed" \
     wrap --key local.4 --wrapping-key secret.4
 "$program" wrap --key wrapping.4 --password-file password --out wrapping.locked
 is "a wrapping key under a password" "$("$program" unwrap --key wrapped.4 --unlock-key wrapping.locked --password-file password)" "$(cat local.4)"
@@ -257,18 +257,18 @@ for version in 2 3 4; do
     "$program" keygen v$version.public --out other.secret --quiet
     refuses "another private key, version $version" 1 "sealed.$version: $wrong_password" unseal --key sealed.$version --unlock-key other.secret
     rm other.secret
-    refuses "no private key, version $version" 1 "sealed.$version: $needs_key" unseal --key sealed.$version
-    refuses "a local key to unseal, version $version" 1 "local.$version: this key is one for local tokens, and another type is needed" \
+    refuses "no private key, version $version" 3 "sealed.$version: $needs_key" unseal --key sealed.$version
+    refuses "a local key to unseal, version $version" 3 "local.$version: this key is one for local tokens, and another type is needed" \
         unseal --key sealed.$version --unlock-key local.$version
-    refuses "a private key, sealed, version $version" 1 "secret.$version: The key is a private one, which signs" seal --key secret.$version --to public.$version
+    refuses "a private key, sealed, version $version" 3 "secret.$version: The key is a private one, which signs" seal --key secret.$version --to public.$version
 done
 (umask 022 && "$program" seal --key local.3 --to p384.public.pem --out sealed.pem)
 is "sealed to a key in PEM" "$("$program" unseal --key sealed.pem --unlock-key p384.pem)" "$(cat local.3)"
 (umask 022 && "$program" unseal --key sealed.pem --unlock-key p384.pem --out unsealed)
 is "the modes of keys that are sealed and unsealed" "$(modes sealed.pem unsealed)" "600 "
-refuses "a public key of another version" 1 "public.3: this key is one of version 3, and the other one is not" seal --key local.4 --to public.3
-refuses "a key of version 1, sealed" 1 "local.1: keys of version 1 are neither sealed nor unsealed here" seal --key local.1 --to rsa.public.pem
-refuses "what is not sealed" 1 "wrapped.4: the key is not sealed: use paseto unwrap" unseal --key wrapped.4 --unlock-key wrapping.4
+refuses "a public key of another version" 3 "public.3: this key is one of version 3, and the other one is not" seal --key local.4 --to public.3
+refuses "a key of version 1, sealed" 3 "local.1: keys of version 1 are neither sealed nor unsealed here" seal --key local.1 --to rsa.public.pem
+refuses "what is not sealed" 3 "wrapped.4: the key is not sealed: use paseto unwrap" unseal --key wrapped.4 --unlock-key wrapping.4
 is "unwrap opens what is sealed" "$("$program" unwrap --key sealed.4 --unlock-key secret.4)" "$(cat local.4)"
 "$program" seal --key local.4 >out 2>err
 is "sealed to nobody" "$? $(head -n 1 err)" "2 error: the following required arguments were not provided:"
@@ -278,21 +278,21 @@ is "sealed to nobody" "$? $(head -n 1 err)" "2 error: the following required arg
 bare='the key is bare: it is under no password, not wrapped and not sealed'
 no_key='The text is no PASERK key'
 for name in local.4 secret.4 public.4 ed.pem ed.public.pem sec1.pem rsa.pem rsa.public.pem; do
-    refuses "unwrap of $name" 1 "$name: $bare" unwrap --key $name
-    refuses "unseal of $name" 1 "$name: $bare" unseal --key $name
+    refuses "unwrap of $name" 3 "$name: $bare" unwrap --key $name
+    refuses "unseal of $name" 3 "$name: $bare" unseal --key $name
 done
-refuses "a bare key with a password" 1 "local.4: $bare" unwrap --key local.4 --password-file password
+refuses "a bare key with a password" 3 "local.4: $bare" unwrap --key local.4 --password-file password
 printf j1.local-wrap.pie.kJfv >other
-refuses "unwrap of another text" 1 "other: $no_key" unwrap --key other
-refuses "unseal of another text" 1 "other: $no_key" unseal --key other
-refuses "unwrap of another text into a file" 1 "other: $no_key" unwrap --key other --out taken
+refuses "unwrap of another text" 3 "other: $no_key" unwrap --key other
+refuses "unseal of another text" 3 "other: $no_key" unseal --key other
+refuses "unwrap of another text into a file" 3 "other: $no_key" unwrap --key other --out taken
 is "it is not there" "$(ls taken 2>&1 | grep -c 'No such')" 1
 # A character in the header of each kind of wrapped key is changed.
 for name in wrapped.4 locked.v4.local sealed.4; do
     length=$(sed -E 's/^(k4\.[a-z-]+\.(pie\.)?).*/\1/' $name | tr -d '\n' | wc -c)
     for place in $(seq "$length"); do
         awk -v place="$place" '{ print substr($0, 1, place - 1) "!" substr($0, place + 1) }' $name >other
-        refuses "$name with another character $place" 1 "other: $no_key" unwrap --key other --unlock-key wrapping.4 --password-file password
+        refuses "$name with another character $place" 3 "other: $no_key" unwrap --key other --unlock-key wrapping.4 --password-file password
     done
 done
 rm other
@@ -367,21 +367,21 @@ done <<'LIST'
 2|keygen v4.public --format der|--format: must be paserk or pem
 2|keygen v4.public --password-file password --format pem|a key under a password is not written in PEM: omit --format or the password
 2|wrap --key office|no password is given: use --password-file FILE, or PASETO_PASSWORD
-1|wrap --key office --password-file nothing|nothing: not a password: it must have 1 to 4095 bytes
+3|wrap --key office --password-file nothing|nothing: not a password: it must have 1 to 4095 bytes
 2|encrypt|no key is given: use --key FILE, or put the text of the key into PASETO_KEY
 2|encrypt --key -|standard input cannot be the key and the input: name a file for one of them
-1|encrypt --key letter|letter: The text is no PASERK key
-1|id --key k1|k1: not valid PEM; key pairs of version 1 are read from PEM
-1|sign --key office|office: The key is one for local tokens
-1|verify --key signer|signer: The key is a private one, which signs
-1|encrypt --key reader|reader: The key is a public one, which verifies
-1|encrypt --key short|short: The key was not in the correct format
-1|sign --key k1|k1: not valid PEM; key pairs of version 1 are read from PEM
-1|unwrap --key office|office: the key is bare: it is under no password, not wrapped and not sealed
-1|unseal --key office|office: the key is bare: it is under no password, not wrapped and not sealed
-1|unseal --key wrapped.4|wrapped.4: the key is not sealed: use paseto unwrap
-1|encrypt --key nothing|nothing: it is empty, and holds no key
-1|encrypt --key two|two: line 2: a key file has one line of PASERK, or is PEM
+3|encrypt --key letter|letter: The text is no PASERK key
+3|id --key k1|k1: key pairs of version 1 are read from PEM, and not from PASERK
+3|sign --key office|office: The key is one for local tokens
+3|verify --key signer|signer: The key is a private one, which signs
+3|encrypt --key reader|reader: The key is a public one, which verifies
+3|encrypt --key short|short: The key was not in the correct format
+3|sign --key k1|k1: key pairs of version 1 are read from PEM, and not from PASERK
+3|unwrap --key office|office: the key is bare: it is under no password, not wrapped and not sealed
+3|unseal --key office|office: the key is bare: it is under no password, not wrapped and not sealed
+3|unseal --key wrapped.4|wrapped.4: the key is not sealed: use paseto unwrap
+3|encrypt --key nothing|nothing: it is empty, and holds no key
+3|encrypt --key two|two: line 2: a key file has one line of PASERK, or is PEM
 1|encrypt --key long|long: too long for a key file
 1|encrypt --key office binary|binary: A Utf8 parsing error occurred
 1|decrypt --key local.4 --footer id letter|letter: wrong key, wrong footer or assertion, or the token was changed
@@ -389,11 +389,11 @@ done <<'LIST'
 1|decrypt --key office part|part: This string has an incorrect number of parts and cannot be parsed into a token
 1|decrypt --key office spelled|spelled: A base64 decode error occurred
 1|check --ring keys unknown|unknown: not a token of a supported kind
-1|sign --key zero|zero: not a valid private key of its kind
-1|sign --key halves|halves: the two halves of the private key do not belong together
+3|sign --key zero|zero: not a valid private key of its kind
+3|sign --key halves|halves: the two halves of the private key do not belong together
 1|decrypt --key office ticket|ticket: the token is v4.public, and the key is for v4.local
 1|decrypt --key office unknown|unknown: the token is of no known kind, and the key is for v4.local
-1|encrypt --key local.1 --assertion for|local.1: keys of versions 1 and 2 take no implicit assertion: omit --assertion
+3|encrypt --key local.1 --assertion for|local.1: keys of versions 1 and 2 take no implicit assertion: omit --assertion
 2|issue --key office --claim seats|--claim: write a claim as aud=customers, or as seats:=4 with a value of JSON
 2|issue --key office --claim exp=never|--claim: set exp and nbf by --expires and --not-before; iat is set already
 2|issue --key office --expires soon|--expires: write a time as 90s, 30m, 12h, 7d or 2026-11-22T10:00:00Z
@@ -417,31 +417,31 @@ done <<'LIST'
 1|check --ring keys.rsa claims|keys.rsa: The file 'one' of the ring is of version 1, whose key pairs have no id
 1|check --ring keys.locked claims|keys.locked: The file 'one' of the ring: the key is under a password: give it by --password-file or PASETO_PASSWORD
 3|encrypt --key nowhere|nowhere: no such file
-3|keygen v4.local --out office/key|office/key: the file cannot be opened or created
+3|keygen v4.local --out office/key|office/key: not a folder, or not in one
 3|keygen v4.local --out office|office: the file already exists and is not overwritten
-3|encrypt --key keys|a read or a write failed
-1|id --key locked.v4.local|locked.v4.local: the key is under a password: give it by --password-file or PASETO_PASSWORD
-1|id --key wrapped.4|wrapped.4: the key is wrapped or sealed: name the key that opens it by --unlock-key
+3|encrypt --key keys|keys: is a folder, and not a file
+3|id --key locked.v4.local|locked.v4.local: the key is under a password: give it by --password-file or PASETO_PASSWORD
+3|id --key wrapped.4|wrapped.4: the key is wrapped or sealed: name the key that opens it by --unlock-key
 1|id --key locked.v4.local --password-file password.other|locked.v4.local: wrong key or password, or the text was changed
-1|id --key cut --password-file password|cut: what follows the header is no base64url of a wrapped key, or was cut off
-1|wrap --key half.v4.public --password-file password|half.v4.public: the key is public: it needs no password and no wrapping key
-1|wrap --key local.4 --wrapping-key letter|letter: this is no PASERK key
-1|wrap --key local.4 --wrapping-key wrapping.1|wrapping.1: this key is one of version 1, and the other one is not
-1|wrap --key local.4 --wrapping-key wrapping.2|wrapping.2: this key is one of version 2, and the other one is not
-1|wrap --key local.4 --wrapping-key wrapping.3|wrapping.3: this key is one of version 3, and the other one is not
-1|wrap --key local.3 --wrapping-key wrapping.4|wrapping.4: this key is one of version 4, and the other one is not
-1|unseal --key sealed.4 --unlock-key local.4|local.4: this key is one for local tokens, and another type is needed
-1|wrap --key local.4 --wrapping-key secret.4|secret.4: this key is a private one, and another type is needed
-1|wrap --key local.4 --wrapping-key public.4|public.4: this key is a public one, and another type is needed
-1|wrap --key local.4 --wrapping-key short|short: this key was not in the correct format
-1|seal --key local.1 --to rsa.public.pem|local.1: keys of version 1 are neither sealed nor unsealed here
-1|unwrap --key locked.v4.local --password-file password --format pem|locked.v4.local: keys for local tokens have no PEM text
-1|unwrap --key locked.v2.public --password-file password --format pem|locked.v2.public: keys of version 2 have no PEM text of their own: it would be read as one of version 4
-1|sign --key broken.pem|broken.pem: The text is no PEM
-1|sign --key encrypted.pem|encrypted.pem: The key is encrypted
-1|sign --key x25519.pem|x25519.pem: The key is one of another algorithm
-1|sign --key p256.pem|p256.pem: The key is one of another curve
-1|sign --key rsa3072.pem|rsa3072.pem: The key has another size
+3|id --key cut --password-file password|cut: what follows the header is no base64url of a wrapped key, or was cut off
+3|wrap --key half.v4.public --password-file password|half.v4.public: the key is public: it needs no password and no wrapping key
+3|wrap --key local.4 --wrapping-key letter|letter: this is no PASERK key
+3|wrap --key local.4 --wrapping-key wrapping.1|wrapping.1: this key is one of version 1, and the other one is not
+3|wrap --key local.4 --wrapping-key wrapping.2|wrapping.2: this key is one of version 2, and the other one is not
+3|wrap --key local.4 --wrapping-key wrapping.3|wrapping.3: this key is one of version 3, and the other one is not
+3|wrap --key local.3 --wrapping-key wrapping.4|wrapping.4: this key is one of version 4, and the other one is not
+3|unseal --key sealed.4 --unlock-key local.4|local.4: this key is one for local tokens, and another type is needed
+3|wrap --key local.4 --wrapping-key secret.4|secret.4: this key is a private one, and another type is needed
+3|wrap --key local.4 --wrapping-key public.4|public.4: this key is a public one, and another type is needed
+3|wrap --key local.4 --wrapping-key short|short: this key was not in the correct format
+3|seal --key local.1 --to rsa.public.pem|local.1: keys of version 1 are neither sealed nor unsealed here
+3|unwrap --key locked.v4.local --password-file password --format pem|locked.v4.local: keys for local tokens have no PEM text
+3|unwrap --key locked.v2.public --password-file password --format pem|locked.v2.public: keys of version 2 have no PEM text of their own: it would be read as one of version 4
+3|sign --key broken.pem|broken.pem: neither PASERK nor valid PEM
+3|sign --key encrypted.pem|encrypted.pem: encrypted PEM: remove its password by openssl pkey -in FILE -out NEW
+3|sign --key x25519.pem|x25519.pem: a key of another algorithm than RSA, P-384 and Ed25519
+3|sign --key p256.pem|p256.pem: a key of another curve: version 3 takes P-384
+3|sign --key rsa3072.pem|rsa3072.pem: an RSA key of another size: version 1 takes 2048 bits
 LIST
 
 finish

@@ -16,16 +16,17 @@ use Rattle.paseto_keys.specs.AnyKey.{parts_of}
 use Rattle.paseto_keys.specs.declared.any_key.AnyKey.{AnyKey}
 use Rattle.paseto_tasks.specs.declared.arguments.Options.{Options}
 use Rattle.paseto_tasks.specs.declared.error.ProgramError.{ProgramError}
-use Rattle.paseto_tasks.specs.declared.error.ProgramError.TheVariants.{Memory, Refused}
+use Rattle.paseto_tasks.specs.declared.error.ProgramError.TheVariants.{System}
+use Rattle.paseto_tasks.specs.declared.error.system.SystemError.TheVariants.{Memory}
 use Rattle.rusty_paseto_core.specs.declared.PasetoError.TheVariants.{WrongHeader}
-use Rattle.paseto_tasks.specs.Error.{BlamesNone, Fails, IsMemory as IsMemoryOf, IsNoUsage, IsOfWords, IsOutside, IsPlain, Lacks, nothing}
-use Rattle.paseto_tasks.specs.Input.{IsNoText, OfInput, line_of_input, reading}
+use Rattle.paseto_tasks.specs.Error.{BlamesNone, Fails, IsMemory as IsMemoryOf, IsNoUsage, IsOfWords, IsOutside, IsPlain, Lacks, nothing, token_error_of}
+use Rattle.paseto_tasks.specs.Input.{IsNoText, OfInput, reading, token_of_input}
 use Rattle.paseto_tasks.specs.Output.{Makes}
 use Rattle.paseto_tasks.proofs.Blames.{blames_so, fails_so, within_all}
 use Rattle.paseto_tasks.proofs.Statuses.{fixed_no_usage, fixed_says, says_so}
 use Rattle.paseto.specs.declared.commands.check.Keys.{Keys}
 use Rattle.paseto.specs.declared.commands.check.Keys.TheVariants.{One}
-use Rattle.paseto.specs.Answers.{SaysOfCheck}
+use Rattle.paseto.specs.ClaimLine.{SaysOfCheck}
 use Rattle.paseto.specs.Check.{AreDemands, Demanded, IsDemanded, IsTheValueOf, RefusesKey, demanded_rules}
 use Rattle.paseto.specs.Checked.{ChecksBy, ChecksFor, IsCheckLine, IsJsonLine, IsTheValueBy, RefusesCheck, RefusesDemands, RefusesKeys}
 use Rattle.paseto.specs.Claims.{are_whole}
@@ -42,7 +43,7 @@ module _ (key : AnyKey) (footer : Option (List ℕ)) (assertion : Option Implici
   by_key error is = record { none = is.none; no_usage = fixed_no_usage error is.fixed; said = fixed_says (IsRingLine token) error is.fixed; blames = is.blames }
 
   -- a token of another kind
-  other_kind : (error : ProgramError) → IsPlain error → RefusesKey (parts_of key) footer assertion token (Refused WrongHeader) → RefusesKeys (One key) footer assertion token error
+  other_kind : (error : ProgramError) → IsPlain error → RefusesKey (parts_of key) footer assertion token (token_error_of WrongHeader) → RefusesKeys (One key) footer assertion token error
   other_kind error plain is = record {
     none = is.none;
     no_usage = fixed_no_usage error plain.0;
@@ -53,7 +54,7 @@ module _ (key : AnyKey) (footer : Option (List ℕ)) (assertion : Option Implici
   pub kinds_give : (answer result : Result Value ProgramError)
       → Gives (λ value. IsTheValueOf (parts_of key) footer assertion token (view value)) (RefusesKey (parts_of key) footer assertion token) (Fails nothing) answer
       → IfOk result (λ value. answer ≡ Ok value)
-      → IfErr result (λ error. IsErrAnd answer (λ source. (source ≡ error) ⊎ ((source ≡ Refused WrongHeader) × IsPlain error)))
+      → IfErr result (λ error. IsErrAnd answer (λ source. (source ≡ error) ⊎ ((source ≡ token_error_of WrongHeader) × IsPlain error)))
       → Gives (λ value. IsTheValueBy (One key) footer assertion token (view value)) (RefusesKeys (One key) footer assertion token) (Fails nothing) result
   kinds_give answer (Ok value) gives is told = record { given = rw is at gives.given; refused = tt }
   kinds_give (Ok value) (Err error) gives is told = absurd told
@@ -100,7 +101,7 @@ module _ (keys : Keys) (demands : Demanded) (token : List ℕ) where
       (answer : Result ⊤ GenericParserError) (answered : IsCheckAnswer rules value answer) where
     -- nor that of a token whose claims are others
     pub check_refuses : (error : ProgramError) → IsErrAnd answer (λ source. IsOutside error ⊎ (¬ IsMemory source)) → IsNoUsage error → BlamesNone error
-        → IsErrAnd answer (λ source. SaysOfCheck value demands.at source error) → RefusesDemands keys demands token error ⊎ Fails nothing error
+        → IsErrAnd answer (λ source. SaysOfCheck demands.claims value demands.at source error) → RefusesDemands keys demands token error ⊎ Fails nothing error
     check_refuses error refused no_usage blames said = by (outside_or_not error) (none_or answer answered refused)
       where
         none_or : (found : Result ⊤ GenericParserError) → IsCheckAnswer rules value found → IsErrAnd found (λ source. IsOutside error ⊎ (¬ IsMemory source))
@@ -126,7 +127,7 @@ module _ (keys : Keys) (demands : Demanded) (token : List ℕ) where
     pub check_makes : IsOk answer → are_whole demands.claims ≡ true → (made : Result (String Global) ProgramError) → IfOk made (λ line. IsJsonLine value (string_bytes line))
         → IfErr made IsMemoryOf → Makes (ChecksBy keys demands token) (RefusesDemands keys demands token) (Fails nothing) made
     check_makes ok whole (Ok line) json memory = record { printed = check_passes ok whole (string_bytes line) json; refused = tt }
-    check_makes ok whole (Err (Memory source)) json memory = record { printed = tt; refused = inr (tt, tt) }
+    check_makes ok whole (Err (System (Memory source))) json memory = record { printed = tt; refused = inr (tt, tt) }
     check_makes ok whole (Err error) json memory = absurd memory
 
 -- ---- words
@@ -144,22 +145,22 @@ module _ (claims : List (List ℕ)) (options : Options) (now : Timestamp) (keys 
 
   module _ (demands : Demanded) (are : AreDemands claims options now demands) where
     -- the input is no text
-    pub input_refused : (error : ProgramError) → OfInput known (λ bytes. IsNoText (line_of_input bytes) error) ⊎ Fails reading error
+    pub input_refused : (error : ProgramError) → OfInput known (λ bytes. IsNoText bytes error) ⊎ Fails reading error
         → RefusesCheck claims options now keys known error ⊎ Fails reading error
     input_refused error (inl is) = inl (inr (demands, are, (is.0, is.1, inl is.2)))
     input_refused error (inr fails) = inr fails
 
     -- the token of the input
-    module _ (text : List ℕ) (read : OfInput known (λ bytes. line_of_input bytes ≡ text)) where
+    module _ (text : List ℕ) (read : OfInput known (λ bytes. token_of_input bytes ≡ text)) where
       pub token_refused : (error : ProgramError) → RefusesDemands keys demands text error ⊎ Fails nothing error
           → RefusesCheck claims options now keys known error ⊎ Fails reading error
       token_refused error (inl is) = inl (inr (demands, are, (read.0, read.1, inr (rw (sym read.2) at is))))
       token_refused error (inr fails) = inr (fails_so (within_all reading) error fails)
 
-      pub token_checked : IsUtf8 text → (line : List ℕ) → ChecksBy keys demands text line → OfInput known (λ bytes. ChecksFor claims options now keys (line_of_input bytes) line)
+      pub token_checked : IsUtf8 text → (line : List ℕ) → ChecksBy keys demands text line → OfInput known (λ bytes. ChecksFor claims options now keys (token_of_input bytes) line)
       token_checked utf8 line checks = (read.0, read.1, record { demands = demands; are_demands = are; utf8 = rw (sym read.2) at utf8; checks = rw (sym read.2) at checks })
 
       pub token_made : IsUtf8 text → (made : Result (String Global) ProgramError) → Makes (ChecksBy keys demands text) (RefusesDemands keys demands text) (Fails nothing) made
-          → Makes (λ line. OfInput known (λ bytes. ChecksFor claims options now keys (line_of_input bytes) line)) (RefusesCheck claims options now keys known) (Fails reading) made
+          → Makes (λ line. OfInput known (λ bytes. ChecksFor claims options now keys (token_of_input bytes) line)) (RefusesCheck claims options now keys known) (Fails reading) made
       token_made utf8 (Ok line) makes = record { printed = token_checked utf8 (string_bytes line) makes.printed; refused = tt }
       token_made utf8 (Err error) makes = record { printed = tt; refused = token_refused error makes.refused }

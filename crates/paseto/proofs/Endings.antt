@@ -7,24 +7,13 @@ use Rattle.paseto_tasks.specs.declared.error.ProgramError.{ProgramError}
 use Rattle.paseto_tasks.specs.Error.{IsCauseOf, IsOutside, status_of}
 use Rattle.paseto_tasks.specs.Output.{IsTextOf, Makes}
 use Rattle.paseto_tasks.specs.Run.{IsRefusal, Leaves, Tells}
-use Rattle.paseto_tasks.proofs.Outputs.{leaves_made}
-use Rattle.paseto_tasks.proofs.Statuses.{outside_three}
+use Rattle.paseto_tasks.proofs.Outputs.{is_refusal, leaves_made}
 use Rattle.paseto.specs.Run.{Ends, EndsSo}
-
-not_three : (error : ProgramError) (status : ℕ) → status_of error ≡ status → status_of error ≡ 3 → (status ≡ 1) ⊎ (status ≡ 2) → ⊥
-not_three error status is three (inl one) = false≢true (ap (λ (n : ℕ). n == 3) (sym one ∙ sym is ∙ three))
-not_three error status is three (inr two) = false≢true (ap (λ (n : ℕ). n == 3) (sym two ∙ sym is ∙ three))
 
 module _ (Prints : List ℕ → Type 0) (Refuses Fault : ProgramError → Type 0) (outside_of : (error : ProgramError) → Fault error → IsOutside error) where
   ends_so : (made : Result (String Global) ProgramError) (error : ProgramError) → Makes Prints Refuses Fault made → IsCauseOf made error → Ends Prints Refuses Fault error
   ends_so (Ok text) error makes is = inr (is, (string_bytes text, makes.printed))
   ends_so (Err cause) error makes is = inl (subst (λ (e : ProgramError). Refuses e ⊎ Fault e) (sym is) makes.refused)
-
-  refusal : (made : Result (String Global) ProgramError) (status : ℕ) → (status ≡ 1) ⊎ (status ≡ 2) → IfErr made (λ error. Refuses error ⊎ Fault error)
-      → IsErrAnd made (λ error. status_of error ≡ status) → IsRefusal Refuses status
-  refusal (Ok text) status some refused is = absurd is
-  refusal (Err error) status some (inl refuses) is = (error, refuses, is)
-  refusal (Err error) status some (inr fault) is = absurd (not_three error status is (outside_three error (outside_of error fault)) some)
 
   known : (made : Result (String Global) ProgramError) → IfErr made (λ error. IsOutside error ⊎ ⊤)
   known (Ok text) = tt
@@ -41,7 +30,7 @@ module _ (Prints : List ℕ → Type 0) (Refuses Fault : ProgramError → Type 0
         record {
           written = all.written;
           cut = all.cut;
-          refused = λ some. let none = leaves.refused some in (none.0, refusal made status some makes.refused none.1);
+          refused = λ some. let none = leaves.refused some in (none.0, is_refusal Refuses Fault outside_of made status some makes.refused none.1);
         };
     tells = record {
       most = tells.most;

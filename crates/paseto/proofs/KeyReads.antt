@@ -29,7 +29,9 @@ use Rattle.paseto_keys.specs.declared.error.AdmitError.{AdmitError}
 use Rattle.paseto_keys.specs.declared.error.AdmitError.TheVariants.{Key as OfKey}
 use Rattle.paseto_keys.specs.declared.error.KeyError.TheVariants.{NoAssertion, OtherType}
 use Rattle.paseto_tasks.specs.declared.error.ProgramError.{ProgramError}
-use Rattle.paseto_tasks.specs.Error.{Fails, nothing}
+use Rattle.paseto_tasks.specs.Error.{Fails, nothing, token_error_of}
+use Rattle.paseto_tasks.proofs.Blames.{blames_so, within_all}
+use Rattle.paseto_tasks.proofs.Refusals.{token_plain}
 use Rattle.paseto.specs.Answers.{admitted, parser_error_of}
 use Rattle.paseto.specs.Check.{IsOtherFooter, IsTheValueOf, ParsesByKey, RefusesKey}
 use Rattle.paseto.specs.Gives.{Gives}
@@ -102,7 +104,8 @@ module _ (key : KeyParts) (wanted : Option (List ℕ)) (demanded : Option Implic
   parser_refuses : (source : GenericParserError) → (¬ IsMemory source) → ((value : Data) → ¬ ParsesByKey key wanted demanded token value)
       → IsFirstFault Read (λ key. no_rule) token source → Refuses (parser_error_of source)
   parser_refuses (NotRead FooterInvalid) some none fault = record { none = none; fixed = tt; blames = other_footer fault }
-  parser_refuses (NotRead source) some none fault = record { none = none; fixed = tt; blames = tt }
+  parser_refuses (NotRead source) some none fault =
+      record { none = none; fixed = (token_plain source).0; blames = blames_so (within_all _) (token_error_of source) (token_plain source).1 }
   parser_refuses (NoMemory source) some none fault = absurd (some tt)
   parser_refuses source some none fault = record { none = none; fixed = tt; blames = tt }
 

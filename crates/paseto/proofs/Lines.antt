@@ -16,7 +16,8 @@ use Rattle.paseto_tasks.specs.declared.error.ProgramError.{ProgramError}
 use Rattle.paseto_tasks.specs.Error.{Says}
 use Rattle.paseto_tasks.proofs.Statuses.{fixed_says, says_so}
 use Rattle.paseto.specs.declared.commands.check.Keys.{Keys}
-use Rattle.paseto.specs.Answers.{SaysOfBuilder, SaysOfCheck, claim_line, one_line, repeated_text}
+use Rattle.paseto.specs.Answers.{SaysOfBuilder, one_line, repeated_text}
+use Rattle.paseto.specs.ClaimLine.{IsLineOf, SaysOfCheck}
 use Rattle.paseto.specs.Check.{Demanded, demanded_rules}
 use Rattle.paseto.specs.Checked.{IsCheckLine, ParsesBy}
 use Rattle.paseto.specs.Issue.{IsRepeatedLine, Ordered, keys_set}
@@ -35,11 +36,11 @@ told_line text (Err e) wanted error is shown says = says_so (λ said. ⊥) (λ s
 
 pub told_check : (keys : Keys) (demands : Demanded) (token : List ℕ) (claims : Data) (rules : Rules Verdict) (answer : Result ⊤ GenericParserError) (error : ProgramError)
     → ParsesBy keys demands.footer demands.assertion token claims → rules ≡ demanded_rules demands → IsCheckAnswer rules claims answer
-    → IsErrAnd answer (λ source. SaysOfCheck claims demands.at source error) → Says (IsCheckLine keys demands token) error
+    → IsErrAnd answer (λ source. SaysOfCheck demands.claims claims demands.at source error) → Says (IsCheckLine keys demands token) error
 told_check keys demands token claims rules (Ok passed) error parses same answered said = absurd said
 told_check keys demands token claims rules (Err (ClaimError fault)) error parses same answered said =
     let is : IsCheckFault rules claims (ClaimError fault) = elim answered.fault [ inl refused ↦ absurd refused | inr is ↦ is ] in
-    says_so (λ line. line ≡ claim_line claims demands.at fault) (IsCheckLine keys demands token)
+    says_so (IsLineOf demands.claims claims demands.at fault) (IsCheckLine keys demands token)
     (λ line line_is. inr (record { claims = claims; parses = parses; fault = fault; is_fault = rw same at is; line_is = line_is })) error said
 told_check keys demands token claims rules (Err source) error parses same answered said = fixed_says (IsCheckLine keys demands token) error said
 

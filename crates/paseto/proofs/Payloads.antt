@@ -6,7 +6,7 @@ use Rattle.rusty_paseto_generic.specs.Error.{IsMemory}
 use Rattle.rusty_paseto_generic.specs.declared.error.GenericBuilderError.{GenericBuilderError}
 use Rattle.rusty_paseto.specs.PasetoBuilder.{Counting, IsRefusedRepeat, IsSame}
 use Rattle.paseto_tasks.specs.declared.error.ProgramError.{ProgramError}
-use Rattle.paseto_tasks.specs.declared.error.ProgramError.TheVariants.{Clock, InputOrOutput, Memory, Random}
+use Rattle.paseto_tasks.specs.declared.error.ProgramError.TheVariants.{System}
 use Rattle.paseto_tasks.specs.Error.{BlamesNone, BlamesOnly, Fails, IsNoUsage, IsOutside, Says, nothing}
 use Rattle.paseto_tasks.specs.Output.{Makes}
 use Rattle.paseto_tasks.proofs.Blames.{blames_so, within_all}
@@ -17,10 +17,7 @@ use Rattle.paseto.proofs.Lines.{told_built}
 
 -- an error is one from outside, or it is not
 pub outside_or_not : (error : ProgramError) → IsOutside error ⊎ (¬ IsOutside error)
-outside_or_not Clock = inl tt
-outside_or_not Random = inl tt
-outside_or_not InputOrOutput = inl tt
-outside_or_not (Memory source) = inl tt
+outside_or_not (System error) = inl tt
 outside_or_not error = inr (λ outside. outside)
 
 module _ (order : Ordered) (NoMoment : Type 0) where

@@ -11,7 +11,7 @@ use Rattle.paseto_tasks.specs.declared.arguments.Options.{Options}
 use Rattle.paseto.specs.Check.{AreDemands, Demanded, IsCheckedAt}
 use Rattle.paseto.specs.Claims.{AreClaims, IsClaimOf, IsNamed, Named, front}
 use Rattle.paseto.specs.Issue.{IsOrder, Ordered}
-use Rattle.paseto.specs.Times.{HasUnit, IsAfter, IsLeeway, IsLength, IsNumber, SaysMoment, SaysNone, SaysTime, unit_of}
+use Rattle.paseto.specs.Times.{BeginsAt, HasUnit, IsAfter, IsLeeway, IsLength, IsNumber, IsSecondBefore, SaysMoment, SaysNone, SaysTime, unit_of}
 
 -- ---- moments
 
@@ -128,7 +128,7 @@ same_demands claims options now first second a b =
     let named = same_claims claims first.claims second.claims a.are_claims b.are_claims in
     let leeway = same_leeway _ first.leeway second.leeway a.leeway b.leeway in
     let required = a.required ∙ sym b.required in
-    let footer = a.footer ∙ sym b.footer in
+    let footer = a.footer.0 ∙ sym b.footer.0 in
     let assertion = a.assertion ∙ sym b.assertion in
     λ i. record { at = at i; leeway = leeway i; claims = named i; required = required i; footer = footer i; assertion = assertion i }
 
@@ -140,13 +140,23 @@ same_time (Some word) now None two a b = absurd a
 same_time (Some word) now (Some one) None a b = absurd b
 same_time (Some word) now (Some one) (Some two) a b = ap (λ (t : Timestamp). Some t) (same_moment word now one two a b)
 
+same_before : (now : Timestamp) (one two : Option Timestamp) → IsSecondBefore now one → IsSecondBefore now two → one ≡ two
+same_before now None None a b = refl
+same_before now None (Some two) a b = absurd (a (subst IsTimestampNanos b two.in_range))
+same_before now (Some one) None a b = absurd (b (subst IsTimestampNanos a one.in_range))
+same_before now (Some one) (Some two) a b = ap (λ (t : Timestamp). Some t) (same_timestamp one two (a ∙ sym b))
+
+same_begin : (word : Option (List ℕ)) (now : Timestamp) (one two : Option Timestamp) → BeginsAt word now one → BeginsAt word now two → one ≡ two
+same_begin None now one two a b = same_before now one two a b
+same_begin (Some word) now one two a b = same_time (Some word) now one two a b
+
 pub same_order : (claims : List (List ℕ)) (options : Options) (now : Timestamp) (first second : Ordered)
     → IsOrder claims options now first → IsOrder claims options now second → first ≡ second
 same_order claims options now first second a b =
     let at = a.moment ∙ sym b.moment in
     let named = same_claims claims first.claims second.claims a.are_claims b.are_claims in
     let expiry = same_time _ now first.expires second.expires a.expires b.expires in
-    let begin = same_time _ now first.not_before second.not_before a.not_before b.not_before in
-    let footer = a.footer ∙ sym b.footer in
+    let begin = same_begin _ now first.not_before second.not_before a.not_before b.not_before in
+    let footer = a.footer.0 ∙ sym b.footer.0 in
     let assertion = a.assertion ∙ sym b.assertion in
     λ i. record { moment = at i; claims = named i; expires = expiry i; not_before = begin i; footer = footer i; assertion = assertion i }

@@ -12,12 +12,14 @@ use Rattle.paseto_keys.specs.declared.error.KeyError.{KeyError}
 use Rattle.paseto_keys.specs.declared.error.KeyError.TheVariants.{Memory, NoAssertion, OtherType, Random}
 use Rattle.paseto_tasks.specs.declared.error.ProgramError.{ProgramError}
 use Rattle.paseto_tasks.specs.declared.arguments.Options.{Options}
-use Rattle.paseto_tasks.specs.Error.{Fails, IsOfWords, IsOutside, Lacks, nothing, use_error_of}
+use Rattle.paseto_tasks.specs.Error.{Fails, IsOfWords, IsOutside, Lacks, nothing, token_error_of, use_error_of}
 use Rattle.paseto_tasks.specs.Output.{IsLineOf, Makes}
 use Rattle.paseto_tasks.proofs.Blames.{IsWithin, blames_so, within_all}
+use Rattle.paseto_tasks.proofs.Refusals.{token_inside, token_plain}
+use Rattle.paseto_tasks.proofs.Statuses.{fixed_no_usage, fixed_says}
 use Rattle.rusty_paseto.specs.Moment.{FitsDefault}
 use Rattle.jiff.specs.Types.{Timestamp}
-use Rattle.paseto.specs.Issue.{IsOrder, IsPayload, Issues, IssuesFor, MayWrite, Ordered, RefusesIssue, RefusesOrder, RefusesPayload, draws, issuing, writing}
+use Rattle.paseto.specs.Issue.{IsOrder, IsPayload, IsRepeatedLine, Issues, IssuesFor, MayWrite, Ordered, RefusesIssue, RefusesOrder, RefusesPayload, draws, issuing, writing}
 use Rattle.paseto.proofs.Payloads.{outside_or_not}
 
 -- ---- drawing
@@ -70,9 +72,9 @@ module _ (key : KeyParts) (order : Ordered) where
         error = source;
         is_declined = elim is.declined [ inl memory ↦ absurd memory | inr by_scheme ↦ by_scheme ];
       });
-      words = inl tt;
-      said = tt;
-      inside = λ outside. outside;
+      words = inl (fixed_no_usage (token_error_of source) (token_plain source).0);
+      said = fixed_says (IsRepeatedLine order) (token_error_of source) (token_plain source).0;
+      inside = token_inside source;
     })
 
     -- the key may write, or why it does not

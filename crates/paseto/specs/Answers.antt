@@ -22,8 +22,10 @@ use Rattle.paseto_keys.specs.declared.error.AdmitError.TheVariants.{Key as OfKey
 use Rattle.paseto_keys.specs.declared.ring_error.RingError.{RingError}
 use Rattle.paseto_keys.specs.declared.ring_error.RingError.TheVariants.{Memory as NoRingMemory, Parser as ByParser, Ring as ByRing}
 use Rattle.paseto_tasks.specs.declared.error.ProgramError.{ProgramError}
-use Rattle.paseto_tasks.specs.declared.error.ProgramError.TheVariants.{Memory, NotJson, OddNumber, OtherFooter, Refused}
-use Rattle.paseto_tasks.specs.Error.{IsFixed, Says, use_error_of}
+use Rattle.paseto_tasks.specs.declared.error.ProgramError.TheVariants.{System, Token}
+use Rattle.paseto_tasks.specs.declared.error.system.SystemError.TheVariants.{Memory}
+use Rattle.paseto_tasks.specs.declared.error.token.TokenError.TheVariants.{NotJson, OddNumber, OtherFooter}
+use Rattle.paseto_tasks.specs.Error.{IsFixed, Says, token_error_of, use_error_of}
 
 -- ---- lengths of time
 
@@ -57,38 +59,6 @@ shown_letter letter = if is_control letter then 63 else letter
 abbrev pub one_line : List ℕ → List ℕ
 one_line text = encode_utf8_all (map shown_letter (chars text))
 
--- the text that the claims have under a name, or the empty one
-abbrev pub text_under : List ℕ → Data → List ℕ
-text_under name claims = unwrap_or (as_str (entry name claims)) []
-
--- a token has expired at the moment that this text is
-abbrev pub expired_by : {E : Type 0} → Result ℤ E → List ℕ → Timestamp → List ℕ
-expired_by (Ok instant) text at = codes "expired " ++ (between_text instant at.nanosecond ++ (codes " ago, at " ++ text))
-expired_by (Err _) text at = codes "expired"
-
-abbrev pub expired_line : List ℕ → Timestamp → List ℕ
-expired_line text at = expired_by (parse_timestamp text) text at
-
--- a token may first be used at the moment that this text is
-abbrev pub early_by : {E : Type 0} → Result ℤ E → List ℕ → Timestamp → List ℕ
-early_by (Ok instant) text at = codes "not valid before " ++ (text ++ (codes ", in " ++ between_text at.nanosecond instant))
-early_by (Err _) text at = codes "not valid yet"
-
-abbrev pub early_line : List ℕ → Timestamp → List ℕ
-early_line text at = early_by (parse_timestamp text) text at
-
--- the claim is one text, and another is demanded
-abbrev pub mismatch_text : List ℕ → List ℕ → List ℕ → List ℕ
-mismatch_text name found wanted =
-    codes "The claim '" ++ (name ++ (codes "' is '" ++ (found ++ (codes "', and not '" ++ (wanted ++ codes "'")))))
-
--- the line on claims that are refused for a fault at a moment
-abbrev pub claim_line : Data → Timestamp → PasetoClaimError → List ℕ
-claim_line claims at Expired = expired_line (text_under (codes "exp") claims) at
-claim_line claims at (UseBeforeAvailable text) = early_line (string_bytes text) at
-claim_line claims at (Invalid name found wanted) = one_line (mismatch_text (string_bytes name) (string_bytes found) (string_bytes wanted))
-claim_line claims at fault = one_line (error_text fault)
-
 -- a claim is set twice
 abbrev pub repeated_text : List ℕ → List ℕ
 repeated_text name = codes "The claim '" ++ (name ++ codes "' appears more than once in the top level payload json")
@@ -101,21 +71,21 @@ unknown_text id = codes "The key '" ++ (id ++ codes "' is not in the ring")
 
 -- why a text is none of claims, or its claims are refused
 abbrev pub text_error_of : GenericParserError → ProgramError
-text_error_of (NoMemory source) = Memory source
-text_error_of (NotRead source) = Refused source
-text_error_of (ClaimError _) = OddNumber
-text_error_of (PayloadJsonError _) = NotJson
+text_error_of (NoMemory source) = System (Memory source)
+text_error_of (NotRead source) = token_error_of source
+text_error_of (ClaimError _) = Token OddNumber
+text_error_of (PayloadJsonError _) = Token NotJson
 
 -- why a token is none of claims
 abbrev pub parser_error_of : GenericParserError → ProgramError
-parser_error_of (NotRead FooterInvalid) = OtherFooter
+parser_error_of (NotRead FooterInvalid) = Token OtherFooter
 parser_error_of error = text_error_of error
 
 -- why a key does not read one
 abbrev pub admit_error_of : AdmitError → ProgramError
 admit_error_of (OfKey source) = use_error_of source
 admit_error_of (OfParser source) = parser_error_of source
-admit_error_of (NoAdmitMemory source) = Memory source
+admit_error_of (NoAdmitMemory source) = System (Memory source)
 
 -- the answer of a key
 abbrev pub admitted : Result Value AdmitError → Result Value ProgramError
@@ -134,10 +104,6 @@ IsNoMemoryOfRing _ = ⊤
 abbrev pub SaysOfBuilder : GenericBuilderError → ProgramError → Type 0
 SaysOfBuilder (DuplicateTopLevelPayloadClaim name) error = Says (λ line. line ≡ one_line (repeated_text (string_bytes name))) error
 SaysOfBuilder _ error = IsFixed error
-
-abbrev pub SaysOfCheck : Data → Timestamp → GenericParserError → ProgramError → Type 0
-SaysOfCheck claims at (ClaimError fault) error = Says (λ line. line ≡ claim_line claims at fault) error
-SaysOfCheck claims at _ error = IsFixed error
 
 abbrev pub SaysOfRing : RingError → ProgramError → Type 0
 SaysOfRing (ByRing (UnknownKey id)) error = Says (λ line. line ≡ one_line (unknown_text (string_bytes id))) error

@@ -11,9 +11,9 @@ use Rattle.paseto_keys.specs.AnyKey.{parts_of}
 use Rattle.rusty_paseto_claims.specs.declared.error.PasetoClaimError.{PasetoClaimError}
 use Rattle.rusty_paseto_generic.specs.Parsers.Parsing.{IsCheckFault}
 use Rattle.rusty_paseto_generic.specs.declared.error.GenericParserError.TheVariants.{ClaimError}
-use Rattle.paseto.specs.Answers.{claim_line}
+use Rattle.paseto.specs.ClaimLine.{IsLineOf}
 use Rattle.paseto_tasks.specs.Error.{BlamesOnly, IsNoUsage, IsOfWords, IsOutside, Says, nothing}
-use Rattle.paseto_tasks.specs.Input.{IsNoText, OfInput, line_of_input}
+use Rattle.paseto_tasks.specs.Input.{IsNoText, OfInput, token_of_input}
 use Rattle.paseto_tasks.specs.declared.error.ProgramError.{ProgramError}
 use Rattle.paseto.specs.Check.{AreDemands, Demanded, IsDemanded, IsOtherFooter, ParsesByKey, demanded_rules}
 use Rattle.paseto.specs.Ring.{IsRingLine, ParsesByRing}
@@ -52,7 +52,7 @@ pub record IsClaimLine (keys : Keys) (demands : Demanded) (token line : List ℕ
   pub parses : ParsesBy keys demands.footer demands.assertion token claims
   pub fault : PasetoClaimError
   pub is_fault : IsCheckFault (demanded_rules demands) claims (ClaimError fault)
-  pub line_is : line ≡ claim_line claims demands.at fault
+  pub line_is : IsLineOf demands.claims claims demands.at fault line
 
 abbrev pub IsCheckLine : Keys → Demanded → List ℕ → List ℕ → Type 0
 IsCheckLine keys demands token line = IsRingLine token line ⊎ IsClaimLine keys demands token line
@@ -84,4 +84,4 @@ abbrev pub RefusesCheck : List (List ℕ) → Options → Timestamp → Keys →
 RefusesCheck claims options now keys known error =
     (((demands : Demanded) → ¬ AreDemands claims options now demands) × IsOfWords error × ¬ IsOutside error)
     ⊎ ((demands : Demanded) × AreDemands claims options now demands
-    × OfInput known (λ bytes. IsNoText (line_of_input bytes) error ⊎ RefusesDemands keys demands (line_of_input bytes) error))
+    × OfInput known (λ bytes. IsNoText bytes error ⊎ RefusesDemands keys demands (token_of_input bytes) error))

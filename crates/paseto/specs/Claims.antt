@@ -1,5 +1,5 @@
 -- Claims by name, as words say them.
-use Rattle.std.specs.Prelude.{◌≡◌, ◌≢◌, ◌⊎◌, ⊤, ◌==◌, ◌<◌, ◌&&◌, ◌||◌, ℕ, List, [], ◌∷◌, ◌++◌, Bool, true, false, Some, codes, length, map, nat_eq, string_bytes}
+use Rattle.std.specs.Prelude.{◌≡◌, ◌≢◌, ◌⊎◌, ⊤, ◌==◌, ◌<◌, ◌&&◌, ◌||◌, ℕ, List, [], ◌∷◌, ◌++◌, Bool, true, false, if◌then◌else◌, Option, None, Some, codes, length, map, nat_eq, string_bytes}
 use Rattle.std.specs.List.{before_first, after_first, position_or_len}
 use Rattle.std.specs.Cmp.Lexicographic.{pointwise}
 use Rattle.serde_json.specs.Data.{Data, Members, string}
@@ -55,6 +55,16 @@ AreClaims _ _ = ⊥
 -- the first claim is the one that the word says, and these are behind it
 abbrev pub IsFirstOf : List ℕ → List NamedClaim → List NamedClaim → Type 0
 IsFirstOf word claims found = (claim : NamedClaim) × IsClaimOf word (named claim) × (found ≡ claim ∷ claims)
+
+-- the first value, or else the other
+abbrev pub either : Option Data → Option Data → Option Data
+either (Some value) other = Some value
+either None other = other
+
+-- the value of the last claim with a name
+abbrev pub value_under : List ℕ → List Named → Option Data
+value_under name [] = None
+value_under name (claim ∷ claims) = either (value_under name claims) (if pointwise nat_eq claim.name name then Some claim.value else None)
 
 -- the JSON of a claim: an object of its name and its value
 abbrev pub json_of : Named → Data

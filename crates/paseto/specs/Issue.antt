@@ -18,7 +18,7 @@ use Rattle.rusty_paseto.specs.Moment.{FitsDefault}
 use Rattle.paseto_tasks.specs.Error.{Blame, IsNoUsage, IsOfWords, IsOutside, Says, nothing}
 use Rattle.paseto_tasks.specs.Output.{IsLineOf}
 use Rattle.paseto_tasks.specs.declared.error.ProgramError.{ProgramError}
-use Rattle.paseto.specs.Times.{IsTimeSet, SaysTime, time_counted}
+use Rattle.paseto.specs.Times.{BeginsAt, IsTimeSet, SaysTime, time_counted}
 
 -- what is ordered: a moment, claims, when the token expires and when it may first be used, and its footer and its assertion
 -- or none
@@ -45,7 +45,7 @@ pub record IsOrder (claims : List (List ℕ)) (options : Options) (now : Timesta
   pub moment : order.moment ≡ now
   pub are_claims : AreClaims claims order.claims
   pub expires : SaysTime (option_map (λ word. word.now) options.expires) now order.expires
-  pub not_before : SaysTime (option_map (λ word. word.now) options.not_before) now order.not_before
+  pub not_before : BeginsAt (option_map (λ word. word.now) options.not_before) now order.not_before
   pub footer : IsFooter options order.footer
   pub assertion : order.assertion ≡ options.assertion
 

@@ -6,11 +6,11 @@ use Rattle.paseto_key_files.specs.Opening.{Unlocks, UnlocksNone}
 use Rattle.paseto_key_files.specs.declared.error.KeyFileError.{KeyFileError}
 use Rattle.paseto_key_files.specs.declared.error.KeyFileError.TheVariants.{OtherOpener, Paserk}
 use Rattle.paseto_keys.specs.Line.{IsLineFault}
-use Rattle.paseto_pem.specs.declared.error.PemError.TheVariants.{NotPem}
 use Rattle.rusty_paseto_paserk.specs.declared.error.PaserkError.TheVariants.{OtherVersion}
 use Rattle.rusty_paseto_paserk.specs.declared.header.PaserkVersion.TheVariants.{V1}
 use Rattle.paseto_tasks.specs.declared.error.ProgramError.{ProgramError}
-use Rattle.paseto_tasks.specs.declared.error.ProgramError.TheVariants.{Pem, SecondLine}
+use Rattle.paseto_tasks.specs.declared.error.ProgramError.TheVariants.{File}
+use Rattle.paseto_tasks.specs.declared.error.file.FileError.TheVariants.{InPaserk, SecondLine}
 use Rattle.paseto_key_files.specs.declared.openers.Openers.{Openers}
 use Rattle.paseto_tasks.specs.Error.{IsMemory, key_file_error_of}
 use Rattle.paseto_tasks.specs.Output.{IsLineOf}
@@ -52,7 +52,7 @@ OpensHeld held text answer =
 
 -- why a line is not read as a key: key pairs of version 1 are read from PEM alone
 abbrev pub line_error_of : KeyFileError → ProgramError
-line_error_of (Paserk (OtherVersion V1)) = Pem NotPem
+line_error_of (Paserk (OtherVersion V1)) = File InPaserk
 line_error_of error = key_file_error_of error
 
 -- memory was refused, or the line of the key of this name is that of none
@@ -70,7 +70,7 @@ Holds held text line =
 -- why a text of this name is not opened: what it holds has a second line, or there is nothing
 abbrev pub HoldsNone : Held → List ℕ → List ℕ → Fault → Type 0
 HoldsNone held name text fault =
-    ((fault.about.now ≡ name) × (fault.error ≡ SecondLine))
+    ((fault.about.now ≡ name) × (fault.error ≡ File SecondLine))
     ⊎ ((openers : Openers) × (rest : List ℕ) × (source : KeyFileError) × AreOpeners held openers × IsWithoutReturn text rest
     × UnlocksNone openers rest source × (fault.about.now ≡ about_of source held.key_name.now name) × (fault.error ≡ key_file_error_of source))
 

@@ -4,6 +4,7 @@ pub mod Footers
 pub mod Issue
 pub mod Check
 pub mod Answers
+pub mod ClaimLine
 pub mod Ring
 pub mod Checked
 pub mod Gives
@@ -18,3 +19,4 @@ pub mod Main
 pub mod NewKey
 pub mod NewFile
 pub mod Locks
+pub mod Warning

@@ -6,7 +6,8 @@ use Rattle.paseto_keys.specs.Line.{IsLineOf}
 use Rattle.paseto_tasks.specs.KeyLine.{BeginsAs}
 use Rattle.paseto_tasks.specs.declared.arguments.Format.{Format}
 use Rattle.paseto_tasks.specs.declared.error.ProgramError.{ProgramError}
-use Rattle.paseto_tasks.specs.declared.error.ProgramError.TheVariants.{Key, NotSealed, NotWrapped}
+use Rattle.paseto_tasks.specs.declared.error.ProgramError.TheVariants.{File}
+use Rattle.paseto_tasks.specs.declared.error.file.FileError.TheVariants.{Key, NotSealed, NotWrapped}
 use Rattle.paseto_wrapping.specs.Header.{HasHeader, HasNoHeader}
 use Rattle.paseto_wrapping.specs.declared.header.WrappedType.{WrappedType}
 use Rattle.paseto_wrapping.specs.declared.header.WrappedType.TheVariants.{Seal}
@@ -38,13 +39,13 @@ IsLockedBy OfSeal text = IsWrappedAs Seal text
 -- why a text is refused that begins as no wrapped key: it is a bare one, or none
 abbrev pub IsUnwrappedFault : List ℕ → ProgramError → Type 0
 IsUnwrappedFault text error =
-    HasNoHeader text × ((IsBare text × (error ≡ NotWrapped)) ⊎ ((¬ IsBare text) × (error ≡ Key NoKey)))
+    HasNoHeader text × ((IsBare text × (error ≡ File NotWrapped)) ⊎ ((¬ IsBare text) × (error ≡ File (Key NoKey))))
 
 -- the same, or that it is under another lock
 abbrev pub IsLockFault : Lock → List ℕ → ProgramError → Type 0
 IsLockFault Any text error = IsUnwrappedFault text error
 IsLockFault OfSeal text error =
-    IsUnwrappedFault text error ⊎ ((kind : WrappedType) × (kind ≢ Seal) × IsWrappedAs kind text × (error ≡ NotSealed))
+    IsUnwrappedFault text error ⊎ ((kind : WrappedType) × (kind ≢ Seal) × IsWrappedAs kind text × (error ≡ File NotSealed))
 
 -- what is printed is the form of the key that the text holds, opened with what is held
 abbrev pub OpensIn : Format → Held → List ℕ → List ℕ → Type 0

@@ -4,12 +4,13 @@ use Rattle.jiff.specs.Types.{Timestamp}
 use Rattle.paseto_keys.specs.AnyKey.{KeyParts}
 use Rattle.paseto_keys.specs.Drawing.{IsDraw}
 use Rattle.paseto_tasks.specs.Error.{Fails}
-use Rattle.paseto_tasks.specs.Input.{OfInput, line_of_input, reading}
+use Rattle.paseto_tasks.specs.Input.{OfInput, reading, token_of_input}
 use Rattle.paseto_tasks.specs.Run.{IsRefusal, Leaves, Tells}
 use Rattle.paseto_tasks.specs.declared.arguments.Options.{Options}
 use Rattle.paseto_tasks.specs.declared.error.Names.{Names}
 use Rattle.paseto_tasks.specs.declared.error.ProgramError.{ProgramError}
-use Rattle.paseto_tasks.specs.declared.error.ProgramError.TheVariants.{InputOrOutput}
+use Rattle.paseto_tasks.specs.declared.error.ProgramError.TheVariants.{System}
+use Rattle.paseto_tasks.specs.declared.error.system.SystemError.TheVariants.{InputOrOutput}
 use Rattle.paseto.specs.Checked.{ChecksFor, RefusesCheck}
 use Rattle.paseto.specs.Issue.{IssuesFor, RefusesIssue, draws, issuing}
 use Rattle.paseto_words.specs.Action.{text, texts_of}
@@ -23,7 +24,7 @@ use Rattle.paseto.specs.declared.commands.check.Keys.{Keys}
 -- the error that ends such a command: it refuses, or fails, or the output that it prints was not written
 abbrev pub Ends : (List ℕ → Type 0) → (Refuses Fault : ProgramError → Type 0) → ProgramError → Type 0
 Ends Prints Refuses Fault error =
-    (Refuses error ⊎ Fault error) ⊎ ((error ≡ InputOrOutput) × ((output : List ℕ) × Prints output))
+    (Refuses error ⊎ Fault error) ⊎ ((error ≡ System InputOrOutput) × ((output : List ℕ) × Prints output))
 
 -- how a command ends that prints, refuses or fails so: what it leaves in its output, and what it says on standard error
 pub record EndsSo {W E : Type 0} (Prints : List ℕ → Type 0) (Refuses Fault : ProgramError → Type 0) (contents : W → Option (List ℕ))
@@ -49,5 +50,5 @@ pub record ChecksToken {W E : Type 0} (words : Check) (name : List ℕ) (keys : 
   pub names : Names
   pub key_is : names.key.now ≡ name
   pub input_is : names.input.now ≡ input_name (text words.input)
-  pub runs : EndsSo (λ line. OfInput known (λ bytes. ChecksFor (texts_of words.claims.items) options now keys (line_of_input bytes) line))
+  pub runs : EndsSo (λ line. OfInput known (λ bytes. ChecksFor (texts_of words.claims.items) options now keys (token_of_input bytes) line))
       (RefusesCheck (texts_of words.claims.items) options now keys known) (Fails reading) contents errors names status before after said_before said_after

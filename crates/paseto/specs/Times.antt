@@ -1,8 +1,8 @@
 -- Moments and lengths of time, as words say them.
-use Rattle.std.specs.Prelude.{◌≡◌, ◌<◌, ◌*◌, ◌^◌, ◌==◌, ◌+ℤ◌, ℕ, pos, List, [], ◌∷◌, ◌++◌, if◌then◌else◌, Option, None, Some, MatchResult}
+use Rattle.std.specs.Prelude.{◌≡◌, ◌⊎◌, ◌<◌, ◌*◌, ◌^◌, ◌==◌, ◌+ℤ◌, ◌-ℤ◌, ℕ, pos, List, [], ◌∷◌, ◌++◌, if◌then◌else◌, Option, None, Some, MatchResult}
 use Rattle.std.specs.Str.Parse.{IsNumeral, digits_value, without_leading_plus}
 use Rattle.jiff.specs.Types.{Timestamp}
-use Rattle.jiff.specs.Words.{parse_timestamp}
+use Rattle.jiff.specs.Words.{IsTimestampNanos, parse_timestamp}
 use Rattle.serde_json.specs.Data.{Members, string}
 use Rattle.rusty_paseto_claims.specs.Claim.{gives, one_member}
 use Rattle.rusty_paseto_claims.specs.DateClaim.{IsDate}
@@ -12,8 +12,11 @@ use Rattle.rusty_paseto_claims.specs.declared.error.PasetoClaimError.TheVariants
 use Rattle.rusty_paseto_generic.specs.Builders.Claims.{becomes, claim_set}
 use Rattle.rusty_paseto.specs.PasetoBuilder.{Counting, counted}
 use Rattle.paseto_tasks.specs.declared.error.ProgramError.{ProgramError}
-use Rattle.paseto_tasks.specs.declared.error.TimeOption.{TimeOption}
-use Rattle.paseto_tasks.specs.declared.error.ProgramError.TheVariants.{Memory, Time}
+use Rattle.paseto_tasks.specs.declared.error.usage.TimeOption.{TimeOption}
+use Rattle.paseto_tasks.specs.declared.error.ProgramError.TheVariants.{System, Usage}
+use Rattle.paseto_tasks.specs.declared.error.system.SystemError.TheVariants.{Memory}
+use Rattle.paseto_tasks.specs.declared.error.usage.UsageError.{UsageError}
+use Rattle.paseto_tasks.specs.declared.error.usage.UsageError.TheVariants.{Negative, Time, TooLong}
 
 -- the word is this number in decimal digits, behind a plus or none, and it is one of 32 bits
 pub record IsNumber (word : List ℕ) (number : ℕ) : Type 0 where
@@ -68,6 +71,17 @@ SaysTime None now moment = moment ≡ None
 SaysTime (Some word) now None = ⊥
 SaysTime (Some word) now (Some moment) = SaysMoment word now moment
 
+-- the moment is a second before the present one, where that is one
+abbrev pub IsSecondBefore : Timestamp → Option Timestamp → Type 0
+IsSecondBefore now None = ¬ IsTimestampNanos (now.nanosecond -ℤ pos 1_000_000_000)
+IsSecondBefore now (Some moment) = moment.nanosecond ≡ now.nanosecond -ℤ pos 1_000_000_000
+
+-- when a token may first be used: as the word says, and where there is none a second before the present moment, so that it
+-- is good at once where clocks count whole seconds
+abbrev pub BeginsAt : Option (List ℕ) → Timestamp → Option Timestamp → Type 0
+BeginsAt None now moment = IsSecondBefore now moment
+BeginsAt (Some word) now moment = SaysTime (Some word) now moment
+
 -- the claims of a builder, when the claim of a moment is set, where there is one: its text is read as a moment again
 abbrev pub IsTimeSet : List ℕ → Option Timestamp → Members → Members → Type 0
 IsTimeSet key None old new = new ≡ old
@@ -83,7 +97,11 @@ abbrev pub time_counted : List ℕ → Option Timestamp → Counting → Countin
 time_counted key None old = old
 time_counted key (Some moment) old = counted key old
 
+-- an error on what an option says that is no time
+abbrev pub IsTimeError : TimeOption → UsageError → Type 0
+IsTimeError option error = (error ≡ Time option) ⊎ ((error ≡ Negative option) ⊎ (error ≡ TooLong option))
+
 -- why the text of a moment that an option says makes no claim: memory was refused, or the text is no date
 abbrev pub claim_error_of : TimeOption → PasetoClaimError → ProgramError
-claim_error_of option (NoClaimMemory source) = Memory source
-claim_error_of option _ = Time option
+claim_error_of option (NoClaimMemory source) = System (Memory source)
+claim_error_of option _ = Usage (Time option)

@@ -2,6 +2,7 @@
 
 pub mod answers;
 pub mod check;
+pub mod claim_line;
 pub mod claims;
 pub mod footer;
 pub mod issue;

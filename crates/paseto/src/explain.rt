@@ -6,14 +6,14 @@ use crate::keys::{key_name, key_of};
 use crate::options::text_options;
 use paseto_keys::AnyKey;
 use paseto_tasks::run::run_explain;
-use paseto_tasks::{Names, ProgramError, read_text};
+use paseto_tasks::{Names, ProgramError, UsageError, read_text};
 use paseto_words::Explain;
 use std::io::Read;
 
 /// Looks for a token among those that were issued, with the key that the arguments name.
 pub fn explain<'a>(rt: &HostRuntime, words: &Explain<'a>) -> Result<u8, Fault<'a>> {
     if words.key.file == Some("-") && is_standard(words.input) {
-        return Err(Fault::from(ProgramError::OneInput));
+        return Err(Fault::from(ProgramError::Usage(UsageError::OneInput)));
     }
     let key = key_of(rt, &words.key)?;
     let issued = issued_text(rt, words.issued)?;

@@ -4,7 +4,7 @@ use crate::commands::answers::{one_line_of, told};
 use crate::keys::Held;
 use paseto_key_files::KeyFileError;
 use paseto_keys::AnyKey;
-use paseto_tasks::{ProgramError, begins_as, read_key_line};
+use paseto_tasks::{ProgramError, SystemError, begins_as, read_key_line};
 use rusty_paseto_paserk::{PaserkType, PaserkVersion};
 use std::alloc::Global;
 use std::fs::{self, File};
@@ -68,7 +68,7 @@ fn key_of(alloc: Global, name: &str, line: &str) -> Result<AnyKey, ProgramError>
 /// The error for a file of the folder that is not opened.
 fn not_opened(alloc: Global, name: &str, error: KeyFileError) -> ProgramError {
     match error {
-        KeyFileError::Memory(source) => ProgramError::Memory(source),
+        KeyFileError::Memory(source) => ProgramError::from(source),
         error => told(one_line_of(
             alloc,
             format!(in alloc; "The file '{name}' of the ring: {error}"),
@@ -80,7 +80,9 @@ fn not_opened(alloc: Global, name: &str, error: KeyFileError) -> ProgramError {
 /// refused, since it would be read or written as that stream.
 pub fn opened(file: io::Result<File>) -> Result<File, ProgramError> {
     match file {
-        Ok(file) if file.as_raw_fd() <= LAST_STREAM => Err(ProgramError::InputOrOutput),
+        Ok(file) if file.as_raw_fd() <= LAST_STREAM => Err(ProgramError::System(
+            SystemError::InputOrOutput,
+        )),
         Ok(file) => Ok(file),
         Err(source) => Err(ProgramError::of_file(&source)),
     }

@@ -10,7 +10,7 @@ ghost use Rattle.paseto.specs.Keys.{IsKeyFault};
 use crate::fault::Fault;
 use paseto_key_files::KeyFileError;
 use paseto_keys::AnyKey;
-use paseto_tasks::{Format, ProgramError, with_line_feed};
+use paseto_tasks::{Format, ProgramError, UsageError, with_line_feed};
 use paseto_wrapping::PasswordCost;
 use rand_core::TryRng;
 use std::alloc::Global;
@@ -19,14 +19,14 @@ use std::alloc::Global;
 pub fn format_of(word: Option<&str>) -> Result<Format, ProgramError>
     ensures found { IfOk result (λ format.
         format_in (option_map (λ text. text.now) word.entry) ≡ Some format) }
-    ensures none { IfErr result (λ error. (error ≡ ProgramError.NoFormat)
+    ensures none { IfErr result (λ error. (error ≡ ProgramError.Usage UsageError.NoFormat)
         × (format_in (option_map (λ text. text.now) word.entry) ≡ None)) }
 {
     match word {
         None => Ok(Format::Paserk),
         Some(word) => match Format::parse(word) {
             Some(format) => Ok(format),
-            None => Err(ProgramError::NoFormat),
+            None => Err(ProgramError::Usage(UsageError::NoFormat)),
         },
     }
 }

@@ -11,8 +11,7 @@ use crate::fault::Fault;
 use crate::files::{name_of, opened};
 use paseto_key_files::{KeyFileError, Openers, unlock};
 use paseto_keys::AnyKey;
-use paseto_pem::PemError;
-use paseto_tasks::{ProgramError, begins_as, read_key_line, read_password};
+use paseto_tasks::{FileError, ProgramError, UsageError, begins_as, read_key_line, read_password};
 use paseto_words::{KeyFile, Openers as OpenerWords};
 use rusty_paseto_paserk::{PaserkError, PaserkType, PaserkVersion};
 use std::alloc::{AllocError, Global};
@@ -94,7 +93,7 @@ impl<'a> Held<'a> {
         match self.unlock(alloc, text) {
             Ok(line) if has_second_line(line.as_str()) => Err(Fault::about(
                 name,
-                ProgramError::SecondLine,
+                ProgramError::File(FileError::SecondLine),
             )),
             Ok(line) => Ok(line),
             Err(error) => Err(key_file_fault(self.key_name, name, error)),
@@ -147,7 +146,7 @@ fn line_error(error: KeyFileError) -> ProgramError
 {
     match error {
         KeyFileError::Paserk(PaserkError::OtherVersion(PaserkVersion::V1)) => {
-            ProgramError::Pem(PemError::NotPem)
+            ProgramError::File(FileError::InPaserk)
         }
         error => ProgramError::from(error),
     }
@@ -234,9 +233,12 @@ fn is_bare(text: &str) -> bool {
 fn variable(rt: &HostRuntime) -> Result<String, Fault<'static>> {
     match env::var(rt, KEY) {
         Ok(text) => Ok(text),
-        Err(VarError::NotPresent) => Err(Fault::from(ProgramError::NoKey)),
-        Err(VarError::NotUnicode) => Err(Fault::about(KEY, ProgramError::Key(PaserkError::NoKey))),
-        Err(VarError::OutOfMemory) => Err(Fault::from(ProgramError::Memory(AllocError))),
+        Err(VarError::NotPresent) => Err(Fault::from(ProgramError::Usage(UsageError::NoKey))),
+        Err(VarError::NotUnicode) => Err(Fault::about(
+            KEY,
+            ProgramError::File(FileError::Key(PaserkError::NoKey)),
+        )),
+        Err(VarError::OutOfMemory) => Err(Fault::from(ProgramError::from(AllocError))),
     }
 }
 
@@ -254,8 +256,11 @@ pub fn password_of<'a>(
         None => match env::var(rt, PASSWORD) {
             Ok(text) => (PASSWORD, read_password(rt.alloc(), &mut text.as_bytes())),
             Err(VarError::NotPresent) => return Ok(None),
-            Err(VarError::NotUnicode) => (PASSWORD, Err(ProgramError::OddPassword)),
-            Err(VarError::OutOfMemory) => (PASSWORD, Err(ProgramError::Memory(AllocError))),
+            Err(VarError::NotUnicode) => (
+                PASSWORD,
+                Err(ProgramError::File(FileError::OddPassword)),
+            ),
+            Err(VarError::OutOfMemory) => (PASSWORD, Err(ProgramError::from(AllocError))),
         },
     };
     match password {

@@ -15,7 +15,7 @@ use crate::forms::{format_of, formed, locked};
 use crate::keys::{Held, key_file_fault, key_name, key_of, key_text, opener_line, password_of};
 use crate::new_file::{free, put_secret};
 use paseto_keys::AnyKey;
-use paseto_tasks::{Format, ProgramError, begins_as, with_line_feed};
+use paseto_tasks::{FileError, Format, ProgramError, UsageError, begins_as, with_line_feed};
 use paseto_words::{Seal, Under, Wrap, Written};
 use paseto_wrapping::{WrappedType, wrapped_header_of};
 use rand::rngs::SysRng;
@@ -83,7 +83,7 @@ fn under_password<'a>(
     key: &AnyKey,
 ) -> Result<String, Fault<'a>> {
     let Some(password) = password_of(rt, file)? else {
-        return Err(Fault::from(ProgramError::NoPassword));
+        return Err(Fault::from(ProgramError::Usage(UsageError::NoPassword)));
     };
     locked(rt.alloc(), name, key, &password, &mut SysRng::new(rt))
 }
@@ -127,7 +127,7 @@ impl Lock {
     {
         match (self, lock_of(text)?) {
             (Lock::Any, _) | (Lock::Seal, WrappedType::Seal) => Ok(()),
-            _ => Err(ProgramError::NotSealed),
+            _ => Err(ProgramError::File(FileError::NotSealed)),
         }
     }
 }
@@ -139,8 +139,8 @@ fn lock_of(text: &str) -> Result<WrappedType, ProgramError>
 {
     match wrapped_header_of(text) {
         Some((_, kind, _)) => Ok(kind),
-        None if is_key(text) => Err(ProgramError::NotWrapped),
-        None => Err(ProgramError::Key(PaserkError::NoKey)),
+        None if is_key(text) => Err(ProgramError::File(FileError::NotWrapped)),
+        None => Err(ProgramError::File(FileError::Key(PaserkError::NoKey))),
     }
 }
 

@@ -19,13 +19,14 @@ mod new_key;
 mod options;
 mod texts;
 mod tokens;
+mod warning;
 
 use clap::Error;
 use fault::Fault;
 use files::{is_standard, name_of, opened};
 use keys::{key_name, key_of};
 use paseto_tasks::run::{run_id, run_inspect};
-use paseto_tasks::{Names, ProgramError, Task};
+use paseto_tasks::{Names, ProgramError, SystemError, Task, UsageError};
 use paseto_words::{Action, KeyFile, parse, status};
 use rusty_paseto_paserk::{PaserkType, header_of};
 use std::env;
@@ -51,7 +52,7 @@ fn words(rt: &HostRuntime) -> Result<Vec<String>, ProgramError> {
 /// an argument by mistake.
 fn serve(rt: &HostRuntime, words: &[String]) -> u8 {
     if words.iter().any(|word| is_secret(word.as_str())) {
-        return Fault::from(ProgramError::KeyWord).report(rt);
+        return Fault::from(ProgramError::Usage(UsageError::KeyWord)).report(rt);
     }
     match parse(rt.alloc(), words) {
         Ok(action) => match done(rt, &action) {
@@ -87,7 +88,7 @@ fn is_secret_key(text: &str) -> bool
 fn shown(rt: &HostRuntime, error: &Error) -> u8 {
     match error.print(rt) {
         Ok(()) => status(error),
-        Err(_) => Fault::from(ProgramError::InputOrOutput).report(rt),
+        Err(_) => Fault::from(ProgramError::System(SystemError::InputOrOutput)).report(rt),
     }
 }
 

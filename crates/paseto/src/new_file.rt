@@ -5,7 +5,7 @@ ghost use Rattle.paseto.specs.NewFile.{IsFolderOf};
 
 use crate::fault::Fault;
 use crate::folder;
-use paseto_tasks::{ProgramError, write_whole};
+use paseto_tasks::{FileError, ProgramError, SystemError, write_whole};
 use rand::rngs::SysRng;
 use rand_core::TryRng;
 use std::fs::{self, File};
@@ -13,7 +13,7 @@ use std::io;
 use std::os::unix::fs::OpenOptionsExt;
 
 /// The permissions of a file that holds a secret: its owner may read and write it.
-pub const SECRET: u32 = 0o600;
+const SECRET: u32 = 0o600;
 
 /// The permissions of a file that everyone may read.
 const PUBLIC: u32 = 0o644;
@@ -25,19 +25,14 @@ pub fn free<'a>(rt: &HostRuntime, path: Option<&'a str>) -> Result<(), Fault<'a>
         return Ok(());
     };
     match fs::symlink_metadata(rt, path) {
-        Ok(_) => Err(Fault::about(path, ProgramError::FileExists)),
+        Ok(_) => Err(Fault::about(path, ProgramError::File(FileError::FileExists))),
         Err(source) if source.kind() == io::ErrorKind::NotFound => Ok(()),
         Err(source) => Err(Fault::about(path, ProgramError::of_file(&source))),
     }
 }
 
 /// Writes bytes to a new file, with the permissions of the mode.
-pub fn put_new<'a>(
-    rt: &HostRuntime,
-    path: &'a str,
-    mode: u32,
-    bytes: &[u8],
-) -> Result<(), Fault<'a>> {
+fn put_new<'a>(rt: &HostRuntime, path: &'a str, mode: u32, bytes: &[u8]) -> Result<(), Fault<'a>> {
     NewFile::written(rt, path, mode, bytes)?.name(rt)
 }
 
@@ -154,7 +149,7 @@ fn fill(file: File, bytes: &[u8]) -> Result<(), ProgramError> {
     let mut file = folder::opened(Ok(file))?;
     let written = write_whole(&mut file, bytes);
     if written.is_err() || file.sync_all().is_err() {
-        return Err(ProgramError::Unwritten);
+        return Err(ProgramError::File(FileError::Unwritten));
     }
     Ok(())
 }
@@ -162,14 +157,14 @@ fn fill(file: File, bytes: &[u8]) -> Result<(), ProgramError> {
 /// Removes a file that this program made, and says on standard error if it stays.
 fn remove(rt: &HostRuntime, path: &str) {
     if fs::remove_file(rt, path).is_err() {
-        Fault::about(path, ProgramError::FileLeft).report(rt);
+        Fault::about(path, ProgramError::File(FileError::FileLeft)).report(rt);
     }
 }
 
 /// A name that no other file has, in the folder of a path. Key rings pass over such names.
 fn temporary_name(rt: &HostRuntime, path: &str) -> Result<String, ProgramError> {
     let Ok(number) = SysRng::new(rt).try_next_u64() else {
-        return Err(ProgramError::Random);
+        return Err(ProgramError::System(SystemError::Random));
     };
     let folder = folder_of(path);
     Ok(format!(in rt.alloc(); "{folder}.paseto-{number:016x}.new")?)

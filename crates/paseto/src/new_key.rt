@@ -14,7 +14,7 @@ use crate::keys::password_of;
 use crate::new_file::{free, put_pair, put_secret};
 use paseto_keys::AnyKey;
 use paseto_tasks::keygen::keygen;
-use paseto_tasks::{Format, Kind, ProgramError, write_whole};
+use paseto_tasks::{Format, Kind, ProgramError, UsageError, write_whole};
 use paseto_words::Keygen;
 use rand::rngs::SysRng;
 use rand_core::TryRng;
@@ -45,11 +45,13 @@ pub fn make<'a>(rt: &HostRuntime, words: &Keygen<'a>) -> Result<u8, Fault<'a>> {
 fn differ(out: Option<&str>, public: Option<&str>) -> Result<(), ProgramError>
     ensures differ { OnOk result ((path : List ℕ) → text out.entry ≡ Some path
         → text public.entry ≢ Some path) }
-    ensures same { IfErr result (λ error. (error ≡ ProgramError.SameFile) × (path : List ℕ)
+    ensures same { IfErr result (λ error. (error ≡ ProgramError.Usage UsageError.SameFile) × (path : List ℕ)
         × (text out.entry ≡ Some path) × (text public.entry ≡ Some path)) }
 {
     match (out, public) {
-        (Some(out), Some(public)) if out == public => Err(ProgramError::SameFile),
+        (Some(out), Some(public)) if out == public => Err(ProgramError::Usage(
+            UsageError::SameFile,
+        )),
         _ => Ok(()),
     }
 }
@@ -74,8 +76,8 @@ fn kind_of<'a>(words: &Keygen<'a>) -> Result<Kind, Fault<'a>>
 {
     match Kind::parse(words.kind) {
         Some(kind) if words.public.is_none() || kind.is_pair() => Ok(kind),
-        Some(_) => Err(Fault::about(words.kind, ProgramError::NoHalf)),
-        None => Err(Fault::about(words.kind, ProgramError::NoKind)),
+        Some(_) => Err(Fault::about(words.kind, ProgramError::Usage(UsageError::NoHalf))),
+        None => Err(Fault::about(words.kind, ProgramError::Usage(UsageError::NoKind))),
     }
 }
 
@@ -155,7 +157,7 @@ fn secret_text<'a, G: TryRng>(
         (option_map (λ bytes. bytes.now) password.entry) G.Error (parts_of key.now)) }
 {
     match (password, format) {
-        (Some(_), Format::Pem) => Err(Fault::from(ProgramError::LockedPem)),
+        (Some(_), Format::Pem) => Err(Fault::from(ProgramError::Usage(UsageError::LockedPem))),
         (Some(password), Format::Paserk) => locked(alloc, name, key, password, generator),
         (None, format) => formed(alloc, name, key, format),
     }

@@ -7,22 +7,25 @@ ghost use Rattle.paseto.specs.Texts.{DoesTask};
 use crate::fault::Fault;
 use crate::files::{is_standard, name_of, opened};
 use crate::keys::{key_name, key_of};
-use crate::new_file::{SECRET, free, put_new};
+use crate::new_file::{free, put_secret};
 use crate::options::text_options;
+use crate::warning::line_of_text;
+use jiff::Timestamp;
 use paseto_keys::AnyKey;
 use paseto_tasks::run::run;
-use paseto_tasks::{Names, ProgramError, Task};
+use paseto_tasks::{Names, ProgramError, Task, UsageError};
 use paseto_words::Keyed;
 use rand::rngs::SysRng;
 use rand_core::TryRng;
 use std::alloc::Global;
 use std::io::{Read, Write};
+use std::str;
 
 /// Does a task with the key that the arguments name: in a file, on standard input or in the
 /// environment.
 pub fn keyed<'a>(rt: &HostRuntime, task: Task, words: &Keyed<'a>) -> Result<u8, Fault<'a>> {
     if words.key.file == Some("-") && is_standard(words.input) {
-        return Err(Fault::from(ProgramError::OneInput));
+        return Err(Fault::from(ProgramError::Usage(UsageError::OneInput)));
     }
     free(rt, words.out)?;
     let key = key_of(rt, &words.key)?;
@@ -32,8 +35,7 @@ pub fn keyed<'a>(rt: &HostRuntime, task: Task, words: &Keyed<'a>) -> Result<u8, 
     }
 }
 
-/// Passes a task its output: a new file, which is created after the task is done, or standard
-/// output.
+/// Writes the output of a task to a new file or to standard output, once the task is done.
 fn with_input<'a, R: Read>(
     rt: &HostRuntime,
     task: Task,
@@ -41,36 +43,38 @@ fn with_input<'a, R: Read>(
     key: &AnyKey,
     input: &mut R,
 ) -> Result<u8, Fault<'a>> {
-    let (alloc, mut generator) = (rt.alloc(), SysRng::new(rt));
-    let errors = &mut rt.stderr();
-    let Some(path) = words.out else {
-        let output = &mut rt.stdout();
-        return Ok(done(
-            alloc,
-            task,
-            words,
-            key,
-            &mut generator,
-            input,
-            output,
-            errors,
-        ));
-    };
-    let mut made = Vec::new(alloc);
+    let mut made = Vec::new(rt.alloc());
     let status = done(
-        alloc,
+        rt.alloc(),
         task,
         words,
         key,
-        &mut generator,
+        &mut SysRng::new(rt),
         input,
         &mut made,
-        errors,
+        &mut rt.stderr(),
     );
     if status == 0 {
-        put_new(rt, path, SECRET, &made)?;
+        if matches!(task, Task::Decrypt | Task::Verify) {
+            warn_of_times(rt, name_of(words.input), &made)?;
+        }
+        put_secret(rt, words.out, &made)?;
     }
     Ok(status)
+}
+
+/// Warns if a text is an object of claims that has expired, or that may not be used yet.
+fn warn_of_times(rt: &HostRuntime, name: &str, text: &[u8]) -> Result<(), ProgramError> {
+    let (Ok(text), Ok(now)) = (str::from_utf8(text), Timestamp::now(rt)) else {
+        return Ok(());
+    };
+    if let Some(line) = line_of_text(rt.alloc(), text, now)? {
+        let line = format!(in rt.alloc();
+            "paseto: {name}: warning: {line}: only paseto check refuses that"
+        )?;
+        rt.eprintln(&line)?;
+    }
+    Ok(())
 }
 
 /// Does a task with the footer and the implicit assertion of the arguments, and returns the status.

@@ -1,18 +1,21 @@
 //! The commands `issue` and `check`.
 
-ghost use Rattle.std.specs.Prelude.{◌≡◌, ◌*ℤ◌, IfErr, IfOk, IsErr, Ok, pos};
+ghost use Rattle.std.specs.Prelude.{◌≡◌, ◌≤ℤ◌, ◌*ℤ◌, IfErr, IfOk, IsErr, IsTrue, Ok, Some, option_map, pos};
 ghost use Rattle.jiff.specs.Words.{IsTimestampNanos};
+ghost use Rattle.jiff.specs.Types.{Timestamp as Moment};
 ghost use Rattle.paseto.specs.Answers.{second_of};
+ghost use Rattle.paseto.specs.Times.{SaysTime};
 
 use crate::commands::check::Keys;
 use crate::commands::run::{run_check, run_issue};
+use crate::commands::times::moment_of;
 use crate::fault::Fault;
 use crate::files::{is_standard, opened};
 use crate::folder::keys_in;
 use crate::keys::{Held, key_name, key_of};
-use crate::new_file::{SECRET, free, put_new};
+use crate::new_file::{free, put_secret};
 use jiff::Timestamp;
-use paseto_tasks::ProgramError;
+use paseto_tasks::{ProgramError, SystemError, UsageError};
 use paseto_words::{Check, Issue, KeyFile, Keys as KeyWords};
 use rand::rngs::SysRng;
 
@@ -22,18 +25,6 @@ pub fn issue<'a>(rt: &HostRuntime, words: &Issue<'a>) -> Result<u8, Fault<'a>> {
     let key = key_of(rt, &words.key)?;
     let now = second_of(clock(rt)?)?;
     let (alloc, mut generator, mut errors) = (rt.alloc(), SysRng::new(rt), rt.stderr());
-    let Some(path) = words.out else {
-        let mut output = rt.stdout();
-        return Ok(run_issue(
-            alloc,
-            words,
-            &key,
-            now,
-            &mut generator,
-            &mut output,
-            &mut errors,
-        ));
-    };
     let mut made = Vec::new(alloc);
     let status = run_issue(
         alloc,
@@ -45,21 +36,39 @@ pub fn issue<'a>(rt: &HostRuntime, words: &Issue<'a>) -> Result<u8, Fault<'a>> {
         &mut errors,
     );
     if status == 0 {
-        put_new(rt, path, SECRET, &made)?;
+        put_secret(rt, words.out, &made)?;
+        if has_ended(words.expires, now) {
+            rt.eprintln("paseto: warning: --expires: the token has already expired")?;
+        }
     }
     Ok(status)
+}
+
+/// Whether an option says a moment that has passed.
+fn has_ended(word: Option<&str>, now: Timestamp) -> bool
+    ensures { IsTrue result → (moment : Moment)
+        × SaysTime (option_map (λ text. text.now) word.entry) now (Some moment)
+        × (moment.nanosecond ≤ℤ now.nanosecond) }
+{
+    let Some(word) = word else {
+        return false;
+    };
+    match moment_of(word, now) {
+        Some(moment) => moment.as_nanosecond() <= now.as_nanosecond(),
+        None => false,
+    }
 }
 
 /// The second that contains a moment.
 fn second_of(moment: Timestamp) -> Result<Timestamp, ProgramError>
     ensures second { IfOk result (λ second. second.nanosecond
         ≡ second_of moment.nanosecond *ℤ pos 1_000_000_000) }
-    ensures none { IfErr result (λ error. (error ≡ ProgramError.Clock)
+    ensures none { IfErr result (λ error. (error ≡ ProgramError.System SystemError.Clock)
         × ¬ IsTimestampNanos (second_of moment.nanosecond *ℤ pos 1_000_000_000)) }
 {
     match Timestamp::from_second(moment.as_second()) {
         Ok(second) => Ok(second),
-        Err(_) => Err(ProgramError::Clock),
+        Err(_) => Err(ProgramError::System(SystemError::Clock)),
     }
 }
 
@@ -71,11 +80,11 @@ fn clock(rt: &HostRuntime) -> Result<Timestamp, ProgramError> {
 /// Converts the result of reading the clock.
 fn told(read: Result<Timestamp, jiff::Error>) -> Result<Timestamp, ProgramError>
     ensures now { IfOk result (λ now. read ≡ Ok now) }
-    ensures none { IfErr result (λ error. (error ≡ ProgramError.Clock) × IsErr read) }
+    ensures none { IfErr result (λ error. (error ≡ ProgramError.System SystemError.Clock) × IsErr read) }
 {
     match read {
         Ok(now) => Ok(now),
-        Err(_) => Err(ProgramError::Clock),
+        Err(_) => Err(ProgramError::System(SystemError::Clock)),
     }
 }
 
@@ -119,7 +128,7 @@ fn keys_of<'a>(rt: &HostRuntime, words: &Check<'a>) -> Result<(&'a str, Keys), F
     let file = match words.keys {
         KeyWords::Ring(folder) => return Ok((folder, ring_of(rt, words, folder)?)),
         KeyWords::File("-") if is_standard(words.input) => {
-            return Err(Fault::from(ProgramError::OneInput));
+            return Err(Fault::from(ProgramError::Usage(UsageError::OneInput)));
         }
         KeyWords::File(path) => Some(path),
         KeyWords::Unsaid => None,

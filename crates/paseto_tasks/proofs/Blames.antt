@@ -1,7 +1,10 @@
 -- Where errors may come.
 use Rattle.std.proofs.Common.{Result, Ok, Err, IfErr}
 use Rattle.paseto_tasks.specs.declared.error.ProgramError.{ProgramError}
-use Rattle.paseto_tasks.specs.declared.error.ProgramError.TheVariants.{Clock, InputOrOutput, OtherFooter, Random, TooLong}
+use Rattle.paseto_tasks.specs.declared.error.ProgramError.TheVariants.{File, System, Token}
+use Rattle.paseto_tasks.specs.declared.error.file.FileError.TheVariants.{TooLong}
+use Rattle.paseto_tasks.specs.declared.error.system.SystemError.TheVariants.{Clock, InputOrOutput, Random}
+use Rattle.paseto_tasks.specs.declared.error.token.TokenError.TheVariants.{OtherFooter}
 use Rattle.paseto_tasks.specs.Error.{Blame, BlamesOnly, Fails, IsPlainBut, nothing}
 
 -- wherever one may, another may
@@ -14,11 +17,11 @@ pub record IsWithin (one other : Blame) : Type 0 where
 
 module _ {one other : Blame} (within : IsWithin one other) where
   pub blames_so : (error : ProgramError) → BlamesOnly one error → BlamesOnly other error
-  blames_so Random is = within.bytes is
-  blames_so Clock is = within.moment is
-  blames_so TooLong is = within.long is
-  blames_so OtherFooter is = within.footer is
-  blames_so InputOrOutput is = within.stream is
+  blames_so (System Random) is = within.bytes is
+  blames_so (System Clock) is = within.moment is
+  blames_so (File TooLong) is = within.long is
+  blames_so (Token OtherFooter) is = within.footer is
+  blames_so (System InputOrOutput) is = within.stream is
   blames_so error is = tt
 
   pub blame_so : {T : Type 0} (result : Result T ProgramError) → IfErr result (BlamesOnly one) → IfErr result (BlamesOnly other)

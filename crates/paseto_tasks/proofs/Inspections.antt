@@ -11,11 +11,14 @@ use Rattle.rusty_paseto_parts.specs.UntrustedToken.{AreKept, HasFooterText, foot
 use Rattle.rusty_paseto_parts.specs.declared.untrusted_token.UntrustedToken.{UntrustedToken}
 use Rattle.paseto_tasks.specs.declared.error.ProgramError.{ProgramError}
 use Rattle.paseto_tasks.specs.Error.{Fails, IsOutside, IsPlain, program_error_of}
-use Rattle.paseto_tasks.specs.Input.{IsNoText, OfInput, line_of_input, reading}
+use Rattle.paseto_tasks.specs.Input.{OfInput, reading, token_of_input}
 use Rattle.paseto_tasks.specs.Output.{Makes}
+use Rattle.paseto_tasks.specs.Inspect.Key.{BeginsAsNone}
+use Rattle.paseto_tasks.specs.TokenKind.{NamesKind}
+use Rattle.paseto_tasks.specs.declared.token_kind.TokenKind.TheVariants.{Other}
 use Rattle.paseto_tasks.proofs.Blames.{blames_so, within_all}
 use Rattle.paseto_tasks.proofs.Inputs.{of_more}
-use Rattle.paseto_tasks.specs.Inspect.{Inspects, InspectsNothing, IsTextLine, RefusesInspecting, SaysText, footer_line, line, signature_length}
+use Rattle.paseto_tasks.specs.Inspect.{Inspects, InspectsNoToken, InspectsNothing, InspectsToken, IsTextLine, RefusesInspecting, SaysText, footer_line, line, signature_length}
 
 in_order : (none v p f t one two three all : List ℕ) → none ≡ [] → one ≡ none ++ v → two ≡ one ++ p → three ≡ two ++ f → all ≡ three ++ t
     → all ≡ v ++ (p ++ (f ++ t))
@@ -25,7 +28,7 @@ pub inspects : (token version purpose payload : List ℕ) (footer : Option (List
     → IsUtf8 token → HasCount (sections token) → AreKept (sections token) t → version ≡ version_section t → purpose ≡ purpose_section t → slice_get (sections token) 2 ≡ Some payload
     → HasFooterText (footer_section t) footer → IsTextLine (pointwise nat_eq purpose (codes "public")) version payload added
     → none ≡ [] → one ≡ none ++ line (codes "version: ") version → two ≡ one ++ line (codes "purpose: ") purpose
-    → three ≡ two ++ footer_line footer → all ≡ three ++ added → Inspects token all
+    → three ≡ two ++ footer_line footer → all ≡ three ++ added → InspectsToken token all
 inspects token version purpose payload footer t added none one two three all utf8 count kept v p third foot text a b c d e = record {
   version = version;
   purpose = purpose;
@@ -45,13 +48,13 @@ inspects token version purpose payload footer t added none one two three all utf
 -- ---- refused
 
 -- nothing is said of a token with another number of sections
-pub no_count : (token : List ℕ) → ¬ HasCount (sections token) → InspectsNothing token
+pub no_count : (token : List ℕ) → ¬ HasCount (sections token) → InspectsNoToken token
 no_count token none lines is = none is.count
 
 -- nothing is said of a token whose footer is read as no text
 pub no_footer : (token : List ℕ) (t : UntrustedToken) (error : PasetoError) → AreKept (sections token) t
     → ((text : Option (List ℕ)) → HasFooterText (footer_section t) text → IsMemory error)
-    → IsOutside (program_error_of error) ⊎ InspectsNothing token
+    → IsOutside (program_error_of error) ⊎ InspectsNoToken token
 no_footer token t (NoMemory source) kept h = inl tt
 no_footer token t error kept h = inr (λ lines is. h is.footer (rw kept.footer at is.has_footer))
 
@@ -68,7 +71,7 @@ one_text section one two a b = ap text_of (sym a ∙ b)
 pub no_text_line : (token version purpose payload : List ℕ) (t : UntrustedToken) (error : ProgramError) → AreKept (sections token) t
     → version ≡ version_section t → purpose ≡ purpose_section t → slice_get (sections token) 2 ≡ Some payload
     → IsOutside error ⊎ ((added : List ℕ) → ¬ IsTextLine (pointwise nat_eq purpose (codes "public")) version payload added)
-    → IsOutside error ⊎ InspectsNothing token
+    → IsOutside error ⊎ InspectsNoToken token
 no_text_line token version purpose payload t error kept v p third (inl outside) = inl outside
 no_text_line token version purpose payload t error kept v p third (inr none) = inr (λ lines is.
     let same_version : is.version ≡ version = one_text _ is.version (version_section t) is.has_version kept.version ∙ sym v in
@@ -97,13 +100,21 @@ no_utf8 version section payload read none added is =
     let same = read is.payload is.bytes is.spelled in
     none (rw same (rw is.text_is at is.utf8))
 
+-- what is said of a text that begins as no key
+pub no_lines : (text : List ℕ) → BeginsAsNone text → (NamesKind Other text) ⊎ InspectsNoToken text → InspectsNothing text
+no_lines text none known lines (utf8, inl (inl key)) = none.0 key.0 key.1 key.2.0
+no_lines text none known lines (utf8, inl (inr (inl key))) = none.1 key.0 key.1 key.2.0
+no_lines text none known lines (utf8, inl (inr (inr pem))) = none.2 pem.0
+no_lines text none (inl other) lines (utf8, inr token) = token.1 other
+no_lines text none (inr nothing) lines (utf8, inr token) = nothing lines token.2
+
 -- what is said of a token
-pub inspect_makes : (known : Option (List ℕ)) (token : List ℕ) (made : Result (String Global) ProgramError) → OfInput known (λ bytes. line_of_input bytes ≡ token)
+pub inspect_makes : (known : Option (List ℕ)) (token : List ℕ) (made : Result (String Global) ProgramError) → OfInput known (λ bytes. token_of_input bytes ≡ token)
     → IfOk made (λ lines. Inspects token (string_bytes lines)) → IfErr made (λ error. IsOutside error ⊎ InspectsNothing token) → IfErr made IsPlain
-    → Makes (λ lines. OfInput known (λ bytes. Inspects (line_of_input bytes) lines)) (λ error. OfInput known (λ bytes. RefusesInspecting (line_of_input bytes) error))
+    → Makes (λ lines. OfInput known (λ bytes. Inspects (token_of_input bytes) lines)) (λ error. OfInput known (λ bytes. RefusesInspecting bytes error))
     (Fails reading) made
 inspect_makes known token (Ok lines) is printed refused plain = record {
-  printed = of_more known (λ bytes. line_of_input bytes ≡ token) (λ bytes. Inspects (line_of_input bytes) (string_bytes lines)) (λ bytes same. rw same printed) is;
+  printed = of_more known (λ bytes. token_of_input bytes ≡ token) (λ bytes. Inspects (token_of_input bytes) (string_bytes lines)) (λ bytes same. rw same printed) is;
   refused = tt;
 }
 inspect_makes known token (Err error) is printed (inl outside) plain = record {
@@ -112,9 +123,5 @@ inspect_makes known token (Err error) is printed (inl outside) plain = record {
 }
 inspect_makes known token (Err error) is printed (inr none) plain = record {
   printed = tt;
-  refused = inl (of_more known (λ bytes. line_of_input bytes ≡ token) (λ bytes. RefusesInspecting (line_of_input bytes) error) (λ bytes same. rw same (none, plain)) is);
+  refused = inl (of_more known (λ bytes. token_of_input bytes ≡ token) (λ bytes. RefusesInspecting bytes error) (λ bytes same. inr (rw same (none, plain))) is);
 }
-
--- an input that is no text
-pub no_text_inspected : (bytes : List ℕ) (error : ProgramError) → IsNoText (line_of_input bytes) error → RefusesInspecting (line_of_input bytes) error
-no_text_inspected bytes error none = ((λ lines is. none.0 is.utf8), subst IsPlain (sym none.1.1) (tt, tt))

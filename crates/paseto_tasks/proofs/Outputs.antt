@@ -3,16 +3,14 @@ use Rattle.std.proofs.Common.{◌≡◌, ◌≢◌, ◌≤◌, ◌⊎◌, ◌∙
 use Rattle.std.proofs.lemmas.Bool.{false≢true}
 use Rattle.std.specs.Io.{StartsWith}
 use Rattle.std.specs.Io.KnownBytes.{Appends}
-use Rattle.paseto_key_files.specs.declared.error.KeyFileError.TheVariants.{Random as NoBytes, Memory as NoFileMemory}
-use Rattle.paseto_pem.specs.declared.error.PemError.TheVariants.{Memory as NoPemMemory}
-use Rattle.rusty_paseto_paserk.specs.declared.error.PaserkError.TheVariants.{Memory as NoKeyMemory}
 use Rattle.paseto_tasks.specs.declared.error.Names.{Names}
 use Rattle.paseto_tasks.specs.declared.error.ProgramError.{ProgramError}
-use Rattle.paseto_tasks.specs.declared.error.ProgramError.TheVariants.{InputOrOutput, Key, KeyFile, Memory, Pem}
+use Rattle.paseto_tasks.specs.declared.error.ProgramError.TheVariants.{Usage, File, Token, System}
+use Rattle.paseto_tasks.specs.declared.error.system.SystemError.TheVariants.{InputOrOutput, Memory}
 use Rattle.paseto_tasks.specs.Error.{Blame, Fails, IsCauseOf, IsFixed, IsMemory, IsNoUsage, IsOutside, line_of, status_of}
 use Rattle.paseto_tasks.specs.Output.{IsLeftOf, IsLineOf, IsTextOf, Makes}
-use Rattle.paseto_tasks.specs.Run.{Ends, IsRefusal, Leaves, Tells}
-use Rattle.paseto_tasks.proofs.Statuses.{cause_so, fixed_no_usage, not_2, outside_fixed, outside_three}
+use Rattle.paseto_tasks.specs.Run.{Ends, IsRefusal, IsRefused, Leaves, Tells}
+use Rattle.paseto_tasks.proofs.Statuses.{cause_so, fixed_no_usage, not_2, of_file, outside_fixed, outside_four}
 
 -- what is left of what was made is left of the output that it is
 pub left_of_made : {E : Type 0} (made : Result (String Global) E) (IsOutput : List ℕ → Type 0) (left : List ℕ)
@@ -24,31 +22,37 @@ left_of_made (Err error) IsOutput left printed (inr cut) = absurd cut.1
 
 -- no error ends the program with the status of success
 pub status_of-some : (error : ProgramError) → (status_of error == 0) ≡ false
-status_of-some (Key (NoKeyMemory source)) = refl
-status_of-some (Key error) = refl
-status_of-some (Pem (NoPemMemory source)) = refl
-status_of-some (Pem error) = refl
-status_of-some (KeyFile NoBytes) = refl
-status_of-some (KeyFile (NoFileMemory source)) = refl
-status_of-some (KeyFile error) = refl
-status_of-some error = refl
+status_of-some (Usage error) = refl
+status_of-some (File error) = of_file (λ status. (status == 0) ≡ false) refl refl error
+status_of-some (Token error) = refl
+status_of-some (System error) = refl
 
--- nor with one above 3
-status_of-most : (error : ProgramError) → status_of error ≤ 3
-status_of-most error = search rules
+-- nor with one above 4
+pub status_of-most : (error : ProgramError) → status_of error ≤ 4
+status_of-most (Usage error) = search rules
+status_of-most (File error) = of_file (λ status. status ≤ 4) (search rules) (search rules) error
+status_of-most (Token error) = search rules
+status_of-most (System error) = search rules
 
 not_zero : (error : ProgramError) (status : ℕ) → status ≡ status_of error → status ≢ 0
 not_zero error status is zero = false≢true (sym (status_of-some error) ∙ ap (λ (n : ℕ). n == 0) (sym is ∙ zero))
 
-not_three : (error : ProgramError) (status : ℕ) → status ≡ status_of error → status_of error ≡ 3 → (status ≡ 1) ⊎ (status ≡ 2) → ⊥
-not_three error status is three (inl one) = false≢true (ap (λ (n : ℕ). n == 3) (sym one ∙ is ∙ three))
-not_three error status is three (inr two) = false≢true (ap (λ (n : ℕ). n == 3) (sym two ∙ is ∙ three))
+not_four : (error : ProgramError) (status : ℕ) → status ≡ status_of error → status_of error ≡ 4 → IsRefused status → ⊥
+not_four error status is four (inl one) = false≢true (ap (λ (n : ℕ). n == 4) (sym one ∙ is ∙ four))
+not_four error status is four (inr (inl two)) = false≢true (ap (λ (n : ℕ). n == 4) (sym two ∙ is ∙ four))
+not_four error status is four (inr (inr three)) = false≢true (ap (λ (n : ℕ). n == 4) (sym three ∙ is ∙ four))
+
+-- success refuses nothing
+not_refused : IsRefused 0 → ⊥
+not_refused (inl one) = false≢true (ap (λ (n : ℕ). n == 1) one)
+not_refused (inr (inl two)) = false≢true (ap (λ (n : ℕ). n == 2) two)
+not_refused (inr (inr three)) = false≢true (ap (λ (n : ℕ). n == 3) three)
 
 -- what was refused is so where the status says that something was
-refused_as : {T : Type 0} (made : Result T ProgramError) (status : ℕ) (Refused : Type 0) → (status ≡ 1) ⊎ (status ≡ 2)
+refused_as : {T : Type 0} (made : Result T ProgramError) (status : ℕ) (Refused : Type 0) → IsRefused status
     → IsErrAnd made (λ error. status_of error ≡ status) → IfErr made (λ error. IsOutside error ⊎ Refused) → Refused
 refused_as (Ok value) status Refused some is refused = absurd is
-refused_as (Err error) status Refused some is (inl outside) = absurd (not_three error status (sym is) (outside_three error outside) some)
+refused_as (Err error) status Refused some is (inl outside) = absurd (not_four error status (sym is) (outside_four error outside) some)
 refused_as (Err error) status Refused some is (inr refused) = refused
 
 -- ---- what a command leaves in its output
@@ -70,19 +74,19 @@ module _ {W : Type 0} (contents : W → Option (List ℕ)) (before after : W) wh
   leaves_whole Printed Refused whole = record {
     written = λ zero. whole;
     cut = λ some. absurd (some refl);
-    refused = λ is. elim is [ inl one ↦ absurd (false≢true (ap (λ (n : ℕ). n == 1) one)) | inr two ↦ absurd (false≢true (ap (λ (n : ℕ). n == 2) two)) ];
+    refused = λ is. absurd (not_refused is);
   }
 
   -- and where an error ends the program
   pub leaves_cut : (made : Result (String Global) ProgramError) (error : ProgramError) (status : ℕ) → status ≡ status_of error
       → (left : List ℕ) × Appends (contents before) (contents after) left × IsLeftOf (IsTextOf made) left
-      → (status_of error ≡ 3) ⊎ ((after ≡ before) × IsErrAnd made (λ cause. cause ≡ error))
+      → (status_of error ≡ 4) ⊎ ((after ≡ before) × IsErrAnd made (λ cause. cause ≡ error))
       → Leaves contents (IsTextOf made) (IsErrAnd made (λ cause. status_of cause ≡ status)) status before after
-  leaves_cut made error status is left unless_three = record {
+  leaves_cut made error status is left unless_four = record {
     written = λ zero. absurd (not_zero error status is zero);
     cut = λ some. left;
-    refused = λ some. elim unless_three [
-      | inl three ↦ absurd (not_three error status is three some)
+    refused = λ some. elim unless_four [
+      | inl four ↦ absurd (not_four error status is four some)
       | inr same ↦ (same.0, same_status made error status is same.1)
     ];
   }
@@ -114,7 +118,7 @@ module _ {E : Type 0} (contents : E → Option (List ℕ)) (names : Names) (befo
   }
 
   -- in the words of what was made
-  pub tells_made : {T : Type 0} (made : Result T ProgramError) (IsSo : ProgramError → Type 0) (status : ℕ) → IfErr made IsSo → OnOk made (IsSo InputOrOutput)
+  pub tells_made : {T : Type 0} (made : Result T ProgramError) (IsSo : ProgramError → Type 0) (status : ℕ) → IfErr made IsSo → OnOk made (IsSo (System InputOrOutput))
       → Tells contents names (IsCauseOf made) status before after → Tells contents names IsSo status before after
   tells_made made IsSo status so failed tells = record {
     most = tells.most;
@@ -128,6 +132,13 @@ module _ {E : Type 0} (contents : E → Option (List ℕ)) (names : Names) (befo
   tells_no_usage IsSo status none tells two =
       let told = tells.said (λ zero. false≢true (ap (λ (n : ℕ). n == 2) (sym zero ∙ two))) in
       not_2 told.0 status (sym told.1) (none told.0 told.2) two
+
+-- an error that refuses, where the status says so
+pub is_refusal : (Refuses Fault : ProgramError → Type 0) → ((error : ProgramError) → Fault error → IsOutside error) → (made : Result (String Global) ProgramError)
+    → (status : ℕ) → IsRefused status → IfErr made (λ error. Refuses error ⊎ Fault error) → IsErrAnd made (λ error. status_of error ≡ status) → IsRefusal Refuses status
+is_refusal Refuses Fault outside_of (Ok text) status some refused is = absurd is
+is_refusal Refuses Fault outside_of (Err error) status some (inl refuses) is = (error, refuses, is)
+is_refusal Refuses Fault outside_of (Err error) status some (inr fault) is = absurd (not_four error status (sym is) (outside_four error (outside_of error fault)) some)
 
 -- ---- how a command ends that prints or refuses
 
@@ -160,12 +171,6 @@ module _ (Prints : List ℕ → Type 0) (Refuses Fault : ProgramError → Type 0
       tells_no_usage contents names before after (Ends Prints Refuses Fault) status (λ error ends. fixed_no_usage error ends.fixed)
       (tells_end contents names before after made status makes tells)
 
-  is_refusal : (made : Result (String Global) ProgramError) (status : ℕ) → (status ≡ 1) ⊎ (status ≡ 2) → IfErr made (λ error. Refuses error ⊎ Fault error)
-      → IsErrAnd made (λ error. status_of error ≡ status) → IsRefusal Refuses status
-  is_refusal (Ok text) status some refused is = absurd is
-  is_refusal (Err error) status some (inl refuses) is = (error, refuses, is)
-  is_refusal (Err error) status some (inr fault) is = absurd (not_three error status (sym is) (outside_three error (outside_of error fault)) some)
-
   pub leaves_end : {W : Type 0} (contents : W → Option (List ℕ)) (before after : W) (made : Result (String Global) ProgramError) (status : ℕ)
       → Makes Prints Refuses Fault made
       → Leaves contents (IsTextOf made) (IsErrAnd made (λ error. status_of error ≡ status)) status before after
@@ -173,7 +178,7 @@ module _ (Prints : List ℕ → Type 0) (Refuses Fault : ProgramError → Type 0
   leaves_end contents before after made status makes leaves = record {
     written = λ zero. let whole = leaves.written zero in (whole.0, whole.1, text_printed made Prints whole.0 makes.printed whole.2);
     cut = λ some. let left = leaves.cut some in (left.0, left.1, left_of_made made Prints left.0 makes.printed left.2);
-    refused = λ some. let none = leaves.refused some in (none.0, is_refusal made status some makes.refused none.1);
+    refused = λ some. let none = leaves.refused some in (none.0, is_refusal Refuses Fault outside_of made status some makes.refused none.1);
   }
 
 -- what was printed, and what was refused
@@ -196,7 +201,7 @@ pub line_makes : (Prints : List ℕ → Type 0) (Refuses : ProgramError → Type
     → IfOk made (λ line. IsLineOf text (string_bytes line)) → IfErr made IsMemory → ((line : List ℕ) → IsLineOf text line → Prints line)
     → Makes Prints Refuses (Fails blame) made
 line_makes Prints Refuses blame text (Ok line) is memory prints = record { printed = prints (string_bytes line) is; refused = tt }
-line_makes Prints Refuses blame text (Err (Memory source)) is memory prints = record { printed = tt; refused = inr (tt, tt) }
+line_makes Prints Refuses blame text (Err (System (Memory source))) is memory prints = record { printed = tt; refused = inr (tt, tt) }
 line_makes Prints Refuses blame text (Err error) is memory prints = absurd memory
 
 -- so that what is left is so

@@ -8,7 +8,7 @@ use Rattle.paseto_tasks.specs.declared.arguments.Task.{Task}
 use Rattle.paseto_tasks.specs.declared.arguments.Task.TheVariants.{Encrypt, Decrypt, Sign, Verify}
 use Rattle.paseto_tasks.specs.declared.error.ProgramError.{ProgramError}
 use Rattle.paseto_tasks.specs.Error.{Blame, Fails, nothing}
-use Rattle.paseto_tasks.specs.Input.{OfInput, line_of_input, reading}
+use Rattle.paseto_tasks.specs.Input.{OfInput, reading, token_of_input}
 use Rattle.paseto_tasks.specs.Output.{Makes}
 use Rattle.paseto_tasks.specs.Run.{Draws, FailsOf, PrintsOf, RefusesOf}
 use Rattle.paseto_tasks.specs.Tokens.{Does, Fits, Reads, RefusesInput, RefusesText, RefusesToken, Writes, type_for}
@@ -43,7 +43,7 @@ module _ (options : Options) (IsDrawn : ℕ → List ℕ → Type 0) (key : KeyP
   within Undrawn = record { bytes = λ h. absurd h; moment = λ h. h; long = λ h. h; footer = λ h. h; stream = λ h. h }
 
   pub task_reads : (task : Task) (made : Result (String Global) ProgramError) → (task ≡ Decrypt) ⊎ (task ≡ Verify) → Fits (type_for task) options key
-      → Makes (λ text. OfInput known (λ bytes. Reads key options (line_of_input bytes) text)) (λ error. OfInput known (λ bytes. RefusesToken key options (line_of_input bytes) error))
+      → Makes (λ text. OfInput known (λ bytes. Reads key options (token_of_input bytes) text)) (λ error. OfInput known (λ bytes. RefusesToken key options bytes error))
       (Fails reading) made
       → Makes (PrintsOf task options IsDrawn key known) (RefusesOf task options IsDrawn key known) (FailsOf task options Failure key) made
   task_reads Decrypt made is fits makes = as_task Decrypt made fits (more_fails made (within _) makes)

@@ -10,7 +10,7 @@ use Rattle.paseto_tasks.specs.declared.error.ProgramError.{ProgramError}
 use Rattle.paseto_tasks.specs.declared.explain.Explanation.{Explanation}
 use Rattle.paseto_tasks.specs.declared.explain.Explanation.TheVariants.{Issued, Forged}
 use Rattle.paseto_tasks.specs.declared.spelling.Spelling.{Spelling}
-use Rattle.paseto_tasks.specs.Input.{IsNoText}
+use Rattle.paseto_tasks.specs.Input.{IsNoText, token_of_input}
 use Rattle.paseto_tasks.specs.Shown.{Shows}
 use Rattle.paseto_tasks.specs.Spelling.{IsFirst, IsNoSpelling, issued_text}
 use Rattle.paseto_tasks.specs.Tokens.{Fits, RefusesKey, RefusesReading}
@@ -54,4 +54,4 @@ RefusesShowing key options token error =
 
 -- the same of an input, which may be no text
 abbrev pub RefusesExplaining : KeyParts → Options → List ℕ → ProgramError → Type 0
-RefusesExplaining key options token error = IsNoText token error ⊎ RefusesShowing key options token error
+RefusesExplaining key options input error = IsNoText input error ⊎ RefusesShowing key options (token_of_input input) error

@@ -13,7 +13,8 @@ use Rattle.paseto_keys.specs.PublicHalf.{GivesHalf}
 use Rattle.paseto_keys.specs.WrittenLine.{WritesLine}
 use Rattle.paseto_keys.specs.declared.any_key.AnyKey.{AnyKey}
 use Rattle.paseto_tasks.specs.declared.error.ProgramError.{ProgramError}
-use Rattle.paseto_tasks.specs.declared.error.ProgramError.TheVariants.{Key}
+use Rattle.paseto_tasks.specs.declared.error.ProgramError.TheVariants.{File}
+use Rattle.paseto_tasks.specs.declared.error.file.FileError.TheVariants.{Key}
 use Rattle.paseto_tasks.specs.Output.{IsLineOf}
 
 -- the line is that of the public half of a private key
@@ -34,4 +35,4 @@ pub record HasNoHalf (key : KeyParts) (error : ProgramError) : Type 0 where
   pub source : PaserkError
   pub no_half : GivesHalf key (Err source)
   pub no_memory : ¬ IsMemory source
-  pub told : error ≡ Key (half_error key.kind key.version source)
+  pub told : error ≡ File (Key (half_error key.kind key.version source))

@@ -6,7 +6,8 @@ use Rattle.rusty_paseto_paserk.specs.declared.error.PaserkError.{PaserkError}
 use Rattle.paseto_keys.specs.AnyKey.{KeyParts}
 use Rattle.paseto_keys.specs.Id.{Identifies}
 use Rattle.paseto_tasks.specs.declared.error.ProgramError.{ProgramError}
-use Rattle.paseto_tasks.specs.declared.error.ProgramError.TheVariants.{Key}
+use Rattle.paseto_tasks.specs.declared.error.ProgramError.TheVariants.{File}
+use Rattle.paseto_tasks.specs.declared.error.file.FileError.TheVariants.{Key}
 use Rattle.paseto_tasks.specs.Output.{IsLineOf}
 
 -- the line is that of the id of the key
@@ -18,4 +19,4 @@ pub record HasNoId (key : KeyParts) (error : ProgramError) : Type 0 where
   pub source : PaserkError
   pub unidentified : Identifies key (Err source)
   pub no_memory : ¬ IsMemory source
-  pub told : error ≡ Key source
+  pub told : error ≡ File (Key source)

@@ -1,14 +1,21 @@
 -- The line of an input.
 use Rattle.std.specs.Prelude.{◌≡◌, ℕ, ◌<◌, ◌⊎◌, List, [], length, IsUtf8, Option}
 use Rattle.std.specs.Io.BufRead.{strip_last}
+use Rattle.std.specs.Str.{trim}
 use Rattle.std.specs.declared.io.Error.{Error as SystemError}
 use Rattle.std.specs.declared.str.Utf8Error.{Utf8Error as Utf8Fault}
 use Rattle.paseto_streams.specs.Input.{IsInput}
 use Rattle.rusty_paseto_parts.specs.declared.error.PasetoError.TheVariants.{Utf8Error}
 use Rattle.paseto_tasks.specs.declared.error.ProgramError.{ProgramError}
-use Rattle.paseto_tasks.specs.declared.error.ProgramError.TheVariants.{EmptyKey, Key, Refused, TooLong}
+use Rattle.paseto_tasks.specs.declared.error.ProgramError.TheVariants.{File, Token}
+use Rattle.paseto_tasks.specs.declared.error.file.FileError.TheVariants.{EmptyKey, Key, TooLong}
 use Rattle.rusty_paseto_paserk.specs.declared.error.PaserkError.TheVariants.{NoKey}
+use Rattle.paseto_tasks.specs.declared.error.token.TokenError.TheVariants.{Refused}
 use Rattle.paseto_tasks.specs.Error.{Blame, nothing}
+
+-- the token that an input is: its text without the white space around it
+abbrev pub token_of_input : List ℕ → List ℕ
+token_of_input input = trim input
 
 -- the line that an input is: without the line feed at its end, where it has one
 abbrev pub line_of_input : List ℕ → List ℕ
@@ -24,7 +31,7 @@ reading = record nothing { no_stream = SystemError }
 
 -- why bytes are refused that are no text
 abbrev pub IsNoText : List ℕ → ProgramError → Type 0
-IsNoText bytes error = (¬ IsUtf8 bytes) × ((fault : Utf8Fault) × (error ≡ Refused (Utf8Error fault)))
+IsNoText bytes error = (¬ IsUtf8 bytes) × ((fault : Utf8Fault) × (error ≡ Token (Refused (Utf8Error fault))))
 
 -- the bytes are too many for a key file
 abbrev pub IsLong : List ℕ → Type 0
@@ -33,8 +40,8 @@ IsLong bytes = 4096 < length bytes
 -- why bytes are no key file: they are too many, empty, or no text
 abbrev pub IsNoKeyFile : List ℕ → ProgramError → Type 0
 IsNoKeyFile bytes error =
-    (IsLong bytes × (error ≡ TooLong))
-    ⊎ (((line_of_input bytes ≡ []) × (error ≡ EmptyKey)) ⊎ ((¬ IsUtf8 (line_of_input bytes)) × (error ≡ Key NoKey)))
+    (IsLong bytes × (error ≡ File TooLong))
+    ⊎ (((line_of_input bytes ≡ []) × (error ≡ File EmptyKey)) ⊎ ((¬ IsUtf8 (line_of_input bytes)) × (error ≡ File (Key NoKey))))
 
 -- the bytes are no password: too many, or none
 abbrev pub IsNoPassword : List ℕ → Type 0

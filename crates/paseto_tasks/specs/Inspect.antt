@@ -1,5 +1,6 @@
 -- The command `inspect`.
-use Rattle.std.specs.Prelude.{◌≡◌, ℕ, ◌≤◌, ◌-◌, List, [], ◌∷◌, ◌++◌, Bool, true, false, if◌then◌else◌, take, length, nat_eq, Option, None, Some, codes, IsUtf8}
+pub mod Key
+use Rattle.std.specs.Prelude.{◌≡◌, ◌⊎◌, ℕ, ◌≤◌, ◌-◌, List, [], ◌∷◌, ◌++◌, Bool, true, false, if◌then◌else◌, take, length, nat_eq, Option, None, Some, codes, IsUtf8}
 use Rattle.std.specs.List.{slice_get}
 use Rattle.std.specs.Cmp.Lexicographic.{pointwise}
 use Rattle.base64.specs.GeneralPurpose.{IsBytes}
@@ -7,6 +8,10 @@ use Rattle.rusty_paseto_parts.specs.Section.{HasCount, sections, base64url}
 use Rattle.rusty_paseto_parts.specs.UntrustedToken.{HasFooterText}
 use Rattle.paseto_tasks.specs.declared.error.ProgramError.{ProgramError}
 use Rattle.paseto_tasks.specs.Error.{IsPlain}
+use Rattle.paseto_tasks.specs.Input.{IsNoText, token_of_input}
+use Rattle.paseto_tasks.specs.Inspect.Key.{BeginsAsNone, InspectsKey}
+use Rattle.paseto_tasks.specs.TokenKind.{NamesKind}
+use Rattle.paseto_tasks.specs.declared.token_kind.TokenKind.TheVariants.{Other}
 
 -- a line of a name and what stands there
 abbrev pub line : List ℕ → List ℕ → List ℕ
@@ -41,7 +46,7 @@ IsTextLine true version section lines = SaysText version section lines
 IsTextLine false version section lines = lines ≡ codes "text: encrypted\n"
 
 -- the lines that are printed of a token
-pub record Inspects (token lines : List ℕ) : Type 0 where
+pub record InspectsToken (token lines : List ℕ) : Type 0 where
   pub version : List ℕ
   pub purpose : List ℕ
   pub payload : List ℕ
@@ -57,9 +62,18 @@ pub record Inspects (token lines : List ℕ) : Type 0 where
   pub lines_are : lines ≡ line (codes "version: ") version ++ (line (codes "purpose: ") purpose ++ (footer_line footer ++ text_line))
 
 -- no lines are printed of the token
-abbrev pub InspectsNothing : List ℕ → Type 0
-InspectsNothing token = (lines : List ℕ) → ¬ Inspects token lines
+abbrev pub InspectsNoToken : List ℕ → Type 0
+InspectsNoToken token = (lines : List ℕ) → ¬ InspectsToken token lines
 
--- and why: with an error that has no text of its own, and that is not one of a stream
+-- the lines that are printed of a text: of a key, or else of a token
+abbrev pub Inspects : List ℕ → List ℕ → Type 0
+Inspects text lines = IsUtf8 text × (InspectsKey text lines ⊎ (BeginsAsNone text × (¬ NamesKind Other text) × InspectsToken text lines))
+
+-- no lines are printed of the text
+abbrev pub InspectsNothing : List ℕ → Type 0
+InspectsNothing text = (lines : List ℕ) → ¬ Inspects text lines
+
+-- why none are printed of an input: it is no text, or its text has none, with an error that has no text of its own and is
+-- not one of a stream
 abbrev pub RefusesInspecting : List ℕ → ProgramError → Type 0
-RefusesInspecting token error = InspectsNothing token × IsPlain error
+RefusesInspecting input error = IsNoText input error ⊎ (InspectsNothing (token_of_input input) × IsPlain error)

@@ -10,7 +10,8 @@ use Rattle.paseto_tasks.specs.declared.arguments.Task.{Task}
 use Rattle.paseto_tasks.specs.declared.arguments.Task.TheVariants.{Encrypt, Sign}
 use Rattle.paseto_tasks.specs.declared.error.Names.{Names}
 use Rattle.paseto_tasks.specs.declared.error.ProgramError.{ProgramError}
-use Rattle.paseto_tasks.specs.declared.error.ProgramError.TheVariants.{InputOrOutput}
+use Rattle.paseto_tasks.specs.declared.error.ProgramError.TheVariants.{System}
+use Rattle.paseto_tasks.specs.declared.error.system.SystemError.TheVariants.{InputOrOutput}
 use Rattle.paseto_tasks.specs.Error.{Fails, IsFixed, line_of, nothing, status_of}
 use Rattle.paseto_tasks.specs.Input.{OfInput}
 use Rattle.paseto_tasks.specs.Output.{IsLeftOf}
@@ -43,19 +44,23 @@ FailsOf task options Failure key error =
 
 -- ---- how a command ends with a status
 
+-- a status that refuses the token, the words or a file: neither success nor a failure of the system
+abbrev pub IsRefused : ℕ → Type 0
+IsRefused status = (status ≡ 1) ⊎ ((status ≡ 2) ⊎ (status ≡ 3))
+
 -- what it leaves in its output: where the status is 0, all of what it prints; else nothing, or that cut short; and where
--- it is 1 or 2, nothing, for a reason
+-- something is refused, nothing, for a reason
 pub record Leaves {W : Type 0} (contents : W → Option (List ℕ)) (Prints : List ℕ → Type 0) (Refused : Type 0) (status : ℕ)
     (before after : W) : Type 0 where
   pub written : status ≡ 0 → (whole : List ℕ) × Appends (contents before) (contents after) whole × Prints whole
   pub cut : status ≢ 0 → (left : List ℕ) × Appends (contents before) (contents after) left × IsLeftOf Prints left
-  pub refused : (status ≡ 1) ⊎ (status ≡ 2) → (after ≡ before) × Refused
+  pub refused : IsRefused status → (after ≡ before) × Refused
 
 -- what it says on standard error: where the status is 0, nothing; else the line of an error that is so and has this
 -- status, or a beginning of that line
 pub record Tells {E : Type 0} (contents : E → Option (List ℕ)) (names : Names) (IsSo : ProgramError → Type 0) (status : ℕ)
     (before after : E) : Type 0 where
-  pub most : status ≤ 3
+  pub most : status ≤ 4
   pub quiet : status ≡ 0 → after ≡ before
   pub said : status ≢ 0 → (error : ProgramError) × (status_of error ≡ status) × IsSo error
       × ((said : List ℕ) × StartsWith (line_of names error) said × Appends (contents before) (contents after) said)
@@ -68,7 +73,7 @@ IsRefusal Refuses status = (error : ProgramError) × Refuses error × (status_of
 -- written
 pub record Ends (Prints : List ℕ → Type 0) (Refuses Fault : ProgramError → Type 0) (error : ProgramError) : Type 0 where
   pub fixed : IsFixed error
-  pub why : (Refuses error ⊎ Fault error) ⊎ ((error ≡ InputOrOutput) × ((output : List ℕ) × Prints output))
+  pub why : (Refuses error ⊎ Fault error) ⊎ ((error ≡ System InputOrOutput) × ((output : List ℕ) × Prints output))
 
 -- the status of a forgery, from the status with which it was written: 1 where it was written whole
 abbrev pub forged_status : ℕ → ℕ

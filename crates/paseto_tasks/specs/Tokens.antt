@@ -15,10 +15,11 @@ use Rattle.paseto_tasks.specs.declared.arguments.Options.{Options}
 use Rattle.paseto_tasks.specs.declared.arguments.Task.{Task}
 use Rattle.paseto_tasks.specs.declared.arguments.Task.TheVariants.{Encrypt, Decrypt, Sign, Verify}
 use Rattle.paseto_tasks.specs.declared.error.ProgramError.{ProgramError}
-use Rattle.paseto_tasks.specs.declared.error.ProgramError.TheVariants.{Key, NoAssertion, Refused}
+use Rattle.paseto_tasks.specs.declared.error.ProgramError.TheVariants.{File}
+use Rattle.paseto_tasks.specs.declared.error.file.FileError.TheVariants.{Key, NoAssertion}
 use Rattle.paseto_tasks.specs.Arguments.{Takes}
-use Rattle.paseto_tasks.specs.Error.{IsTokenError}
-use Rattle.paseto_tasks.specs.Input.{IsNoText, line_of_input}
+use Rattle.paseto_tasks.specs.Error.{IsTokenError, token_error_of}
+use Rattle.paseto_tasks.specs.Input.{IsNoText, token_of_input}
 use Rattle.paseto_tasks.specs.Output.{IsLineOf}
 use Rattle.paseto_tasks.specs.TokenKind.{kind_read_by}
 
@@ -38,8 +39,8 @@ Fits wanted options key = (key.kind ≡ wanted) × Takes key.version options.ass
 -- why it is refused otherwise
 abbrev pub RefusesKey : PaserkType → Options → KeyParts → ProgramError → Type 0
 RefusesKey wanted options key error =
-    ((key.kind ≢ wanted) × (error ≡ Key (OtherType key.kind)))
-    ⊎ ((key.kind ≡ wanted) × (¬ Takes key.version options.assertion) × (error ≡ NoAssertion))
+    ((key.kind ≢ wanted) × (error ≡ File (Key (OtherType key.kind))))
+    ⊎ ((key.kind ≡ wanted) × (¬ Takes key.version options.assertion) × (error ≡ File NoAssertion))
 
 -- ---- writing
 
@@ -66,7 +67,7 @@ pub record DeclinesText (key : KeyParts) (options : Options) (IsDrawn : ℕ → 
   pub source : PasetoError
   pub is_drawn : IsDrawn (drawn_length key.kind key.version) drawn
   pub declined : (writing_with key options drawn).Declines (is_some options.footer) text source
-  pub told : error ≡ Refused source
+  pub told : error ≡ token_error_of source
 
 -- why there is none: the bytes are no text, or the text has no token
 abbrev pub RefusesText : KeyParts → Options → (ℕ → List ℕ → Type 0) → List ℕ → ProgramError → Type 0
@@ -90,22 +91,22 @@ pub record RefusesReading (key : KeyParts) (options : Options) (token : List ℕ
   pub unread : (text : List ℕ) → ¬ IsRead (reading_with key options) token text
   pub told : IsTokenError token (kind_read_by key.version key.kind) (RefusedToken source) error
 
--- why there is none: the bytes are no text, or the text is no token of the key
+-- why there is none of an input: it is no text, or its text is no token of the key
 abbrev pub RefusesToken : KeyParts → Options → List ℕ → ProgramError → Type 0
-RefusesToken key options token error = IsNoText token error ⊎ RefusesReading key options token error
+RefusesToken key options input error = IsNoText input error ⊎ RefusesReading key options (token_of_input input) error
 
 -- ---- tasks
 
 -- what a task makes of an input
 abbrev pub Does : Task → KeyParts → Options → (ℕ → List ℕ → Type 0) → List ℕ → List ℕ → Type 0
 Does Encrypt key options IsDrawn input = Writes key options IsDrawn input
-Does Decrypt key options IsDrawn input = Reads key options (line_of_input input)
+Does Decrypt key options IsDrawn input = Reads key options (token_of_input input)
 Does Sign key options IsDrawn input = Writes key options IsDrawn input
-Does Verify key options IsDrawn input = Reads key options (line_of_input input)
+Does Verify key options IsDrawn input = Reads key options (token_of_input input)
 
 -- why it refuses the input
 abbrev pub RefusesInput : Task → KeyParts → Options → (ℕ → List ℕ → Type 0) → List ℕ → ProgramError → Type 0
 RefusesInput Encrypt key options IsDrawn input = RefusesText key options IsDrawn input
-RefusesInput Decrypt key options IsDrawn input = RefusesToken key options (line_of_input input)
+RefusesInput Decrypt key options IsDrawn input = RefusesToken key options input
 RefusesInput Sign key options IsDrawn input = RefusesText key options IsDrawn input
-RefusesInput Verify key options IsDrawn input = RefusesToken key options (line_of_input input)
+RefusesInput Verify key options IsDrawn input = RefusesToken key options input

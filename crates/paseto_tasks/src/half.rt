@@ -20,7 +20,7 @@ pub fn public(alloc: Global, key: &AnyKey) -> Result<String, ProgramError>
     ensures { Makes (HasHalf (parts_of key.now)) (HasNoHalf (parts_of key.now)) (Fails nothing) result }
 {
     if let AnyKey::V1Public(_) = key {
-        return Err(ProgramError::Key(PaserkError::OtherVersion(PaserkVersion::V1)));
+        return Err(ProgramError::from(PaserkError::OtherVersion(PaserkVersion::V1)));
     }
     let half = key.public_half(alloc)?;
     with_line_feed(half.to_line(alloc)?)

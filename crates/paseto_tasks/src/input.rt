@@ -2,10 +2,10 @@
 
 ghost use Rattle.std.specs.Prelude.{◌≡◌, ◌≢◌, [], ◌⊎◌, IfOk, IfErr, IfSome, string_bytes, IsUtf8};
 ghost use Rattle.paseto_tasks.specs.Error.{Fails, IsNoUsage, IsOutside, IsPlainBut};
-ghost use Rattle.paseto_tasks.specs.Input.{IsLong, IsNoKeyFile, IsNoPassword, IsNoText, OfInput, line_of_input, reading};
+ghost use Rattle.paseto_tasks.specs.Input.{IsLong, IsNoKeyFile, IsNoPassword, IsNoText, OfInput, line_of_input, reading, token_of_input};
 ghost use Rattle.paseto_streams.specs.Input.{IsInput};
 
-use crate::error::ProgramError;
+use crate::error::{FileError, ProgramError};
 use paseto_streams::read_whole;
 use rusty_paseto_paserk::PaserkError;
 use std::alloc::Global;
@@ -31,18 +31,17 @@ pub fn read_text<R: Read>(alloc: Global, input: &mut R) -> Result<String, Progra
     }
 }
 
-/// Reads the line of the input: its text without the line feed at its end, if there is one. Input
-/// that is not UTF-8 is refused.
-pub fn read_line<R: Read>(alloc: Global, input: &mut R) -> Result<String, ProgramError>
-    ensures line { IfOk result (λ line. OfInput (R.remaining input.old)
-        (λ bytes. line_of_input bytes ≡ string_bytes line)) }
+/// Reads the token that the input is: its text without the white space around it. Input that is not
+/// UTF-8 is refused.
+pub fn read_token<R: Read>(alloc: Global, input: &mut R) -> Result<String, ProgramError>
+    ensures token { IfOk result (λ token. OfInput (R.remaining input.old)
+        (λ bytes. token_of_input bytes ≡ string_bytes token)) }
     ensures refused { IfErr result (λ error. OfInput (R.remaining input.old)
-        (λ bytes. IsNoText (line_of_input bytes) error) ⊎ Fails reading error) }
+        (λ bytes. IsNoText bytes error) ⊎ Fails reading error) }
     ensures plain { IfErr result (IsPlainBut reading) }
 {
-    let bytes = read_whole(alloc, input)?;
-    let line = str::from_utf8(without_line_feed(&bytes))?;
-    Ok(String::from_str(alloc, line)?)
+    let text = read_text(alloc, input)?;
+    Ok(String::from_str(alloc, text.as_str().trim())?)
 }
 
 /// Reads the line of a key file. This reads little more than the longest line of a key. A longer
@@ -59,10 +58,10 @@ pub fn read_key_line<K: Read>(alloc: Global, file: &mut K) -> Result<String, Pro
 {
     let bytes = read_short(alloc, file)?;
     if without_line_feed(&bytes).is_empty() {
-        return Err(ProgramError::EmptyKey);
+        return Err(ProgramError::File(FileError::EmptyKey));
     }
     let Ok(line) = str::from_utf8(without_line_feed(&bytes)) else {
-        return Err(ProgramError::Key(PaserkError::NoKey));
+        return Err(ProgramError::from(PaserkError::NoKey));
     };
     Ok(String::from_str(alloc, line)?)
 }
@@ -78,12 +77,14 @@ pub fn read_password<P: Read>(alloc: Global, file: &mut P) -> Result<Vec<u8>, Pr
     ensures plain { IfErr result (IsPlainBut reading) }
 {
     let bytes = match read_short(alloc, file) {
-        Err(ProgramError::TooLong) => return Err(ProgramError::OddPassword),
+        Err(ProgramError::File(FileError::TooLong)) => {
+            return Err(ProgramError::File(FileError::OddPassword));
+        }
         read => read?,
     };
     let password = without_line_feed(&bytes);
     if password.is_empty() {
-        return Err(ProgramError::OddPassword);
+        return Err(ProgramError::File(FileError::OddPassword));
     }
     Ok(Vec::from_slice(alloc, password)?)
 }
@@ -105,7 +106,7 @@ fn read_short<K: Read>(alloc: Global, file: &mut K) -> Result<Vec<u8>, ProgramEr
         }
         bytes.extend_from_slice(&space[..count])?;
         if bytes.len() > LIMIT {
-            return Err(ProgramError::TooLong);
+            return Err(ProgramError::File(FileError::TooLong));
         }
     }
 }

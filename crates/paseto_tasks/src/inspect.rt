@@ -5,17 +5,48 @@ ghost use Rattle.std.specs.List.{slice_get};
 ghost use Rattle.std.specs.Cmp.Lexicographic.{pointwise};
 ghost use Rattle.rusty_paseto_parts.specs.Section.{HasCount, sections};
 ghost use Rattle.paseto_tasks.specs.Error.{IsOutside, IsPlain};
-ghost use Rattle.paseto_tasks.specs.Inspect.{Inspects, InspectsNothing, IsTextLine, SaysText, footer_line, line, signature_length};
+ghost use Rattle.paseto_tasks.specs.Inspect.{Inspects, InspectsNoToken, InspectsNothing, InspectsToken, IsTextLine, SaysText, footer_line, line, signature_length};
 
-use crate::error::ProgramError;
+mod key;
+
+use crate::error::{ProgramError, TokenError};
+use crate::key_line::after;
+use crate::token_kind::TokenKind;
+use key::key_line;
 use rusty_paseto_core::{PasetoError, UntrustedToken, from_section, split_token};
 use std::alloc::{AllocError, Global};
 use std::str;
 
-/// Returns the lines that describe a token. Its content is not verified and must not be trusted.
-pub fn inspect(alloc: Global, token: &str) -> Result<String, ProgramError>
-    ensures printed { IfOk result (λ lines. Inspects token.now (string_bytes lines)) }
-    ensures refused { IfErr result (λ error. IsOutside error ⊎ InspectsNothing token.now) }
+/// Returns the lines that describe a token, whose content is not verified and must not be trusted, or the
+/// line of a key, which tells no more than what the key begins with.
+pub fn inspect(alloc: Global, text: &str) -> Result<String, ProgramError>
+    ensures printed { IfOk result (λ lines. Inspects text.now (string_bytes lines)) }
+    ensures refused { IfErr result (λ error. IsOutside error ⊎ InspectsNothing text.now) }
+    ensures plain { IfErr result IsPlain }
+{
+    if let Some(line) = key_line(alloc, text)? {
+        return Ok(line);
+    }
+    if TokenKind::of(text) == TokenKind::Other {
+        return Err(ProgramError::Token(no_token(text)));
+    }
+    token_lines(alloc, text)
+}
+
+/// Why a text is neither a token nor a key. What begins like a JSON object in base64url is a JWT.
+fn no_token(text: &str) -> TokenError
+    ensures { IsPlain (ProgramError.Token result) }
+{
+    match after(text, "eyJ") {
+        Some(_) => TokenError::Jwt,
+        None => TokenError::NoToken,
+    }
+}
+
+/// The lines that describe a token.
+fn token_lines(alloc: Global, token: &str) -> Result<String, ProgramError>
+    ensures printed { IfOk result (λ lines. InspectsToken token.now (string_bytes lines)) }
+    ensures refused { IfErr result (λ error. IsOutside error ⊎ InspectsNoToken token.now) }
     ensures plain { IfErr result IsPlain }
 {
     let untrusted = UntrustedToken::try_parse(token)?;
@@ -103,7 +134,7 @@ fn push_text(
     let payload = from_section(alloc, section)?;
     let length = signature_length(version);
     if payload.len() < length {
-        return Err(ProgramError::Refused(PasetoError::IncorrectSize));
+        return Err(ProgramError::from(PasetoError::IncorrectSize));
     }
     let text = str::from_utf8(&payload[..payload.len() - length])?;
     push_line(lines, "text, not verified: ", text)?;

@@ -12,7 +12,7 @@ use std::alloc::Global;
 /// Generates a new key of a kind: for local tokens, or the private half of a pair.
 ///
 /// If an allocation fails, this returns `Memory`; if the generator fails, `Random`. For a pair of
-/// version 3, bytes that are not a private key of P-384 are refused as `Refused(KeyRejected)`; a
+/// version 3, bytes that are not a private key of P-384 are refused as `NotPrivate`; a
 /// good generator returns such bytes less than once in 2^189 times.
 pub fn keygen<G: TryRng>(
     alloc: Global,

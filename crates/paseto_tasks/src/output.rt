@@ -6,7 +6,7 @@ ghost use Rattle.paseto_tasks.specs.Error.{IsMemory, IsOutside, IsPlain};
 ghost use Rattle.paseto_tasks.specs.Output.{IsLineOf};
 ghost use Rattle.paseto_streams.specs.Output.{IsCutShort};
 
-use crate::error::ProgramError;
+use crate::error::{ProgramError, SystemError};
 use std::io::Write;
 
 /// Writes all the bytes. If a write fails or accepts no bytes, this returns `InputOrOutput`, and
@@ -16,11 +16,11 @@ pub fn write_whole<W: Write>(output: &mut W, bytes: &[u8]) -> Result<(), Program
         (W.contents output.new) bytes.now) }
     ensures beginning { OnErr result ((written : List ℕ) × IsCutShort bytes.now written
         × Appends (W.contents output.old) (W.contents output.new) written) }
-    ensures failed { IfErr result (λ error. error ≡ ProgramError.InputOrOutput) }
+    ensures failed { IfErr result (λ error. error ≡ ProgramError.System SystemError.InputOrOutput) }
 {
     match paseto_streams::write_whole(output, bytes) {
         Ok(()) => Ok(()),
-        Err(_) => Err(ProgramError::InputOrOutput),
+        Err(_) => Err(ProgramError::System(SystemError::InputOrOutput)),
     }
 }
 

@@ -7,7 +7,7 @@ ghost use Rattle.paseto_tasks.specs.Error.{Fails, IsCauseOf, nothing, status_of}
 ghost use Rattle.paseto_tasks.specs.Explain.{Explains, RefusesExplaining, TellsForged, TellsIssued};
 ghost use Rattle.paseto_tasks.specs.Half.{HasHalf, HasNoHalf};
 ghost use Rattle.paseto_tasks.specs.Id.{HasId, HasNoId};
-ghost use Rattle.paseto_tasks.specs.Input.{IsNoText, OfInput, line_of_input, reading};
+ghost use Rattle.paseto_tasks.specs.Input.{IsNoText, OfInput, reading, token_of_input};
 ghost use Rattle.paseto_tasks.specs.Inspect.{Inspects, RefusesInspecting};
 ghost use Rattle.paseto_tasks.specs.Output.{IsLeftOf, IsTextOf, Makes};
 ghost use Rattle.paseto_tasks.specs.Run.{Ends, FailsOf, IsRefusal, Leaves, PrintsOf, RefusesOf, Tells, Told, forged_status};
@@ -18,7 +18,7 @@ use crate::error::{Names, ProgramError};
 use crate::explain::{Explanation, explain};
 use crate::half::public;
 use crate::id::id;
-use crate::input::read_line;
+use crate::input::read_token;
 use crate::inspect::inspect;
 use crate::output::write_whole;
 use crate::tokens::{fits, read, write};
@@ -30,9 +30,8 @@ use std::io::{Read, Write};
 
 /// Does a task with a key, and returns the status.
 ///
-/// The status is 0 if the whole output was written, 1 if the key, the text or the token was
-/// refused, and 3 if an allocation failed, the generator failed, or a read or a write failed. If it
-/// is not 0, the error's text and a line feed are written to `errors`; if a write fails there, a
+/// The status is 0 if the whole output was written, 1 if the text or the token was refused, 3 if the key
+/// was, and 4 if an allocation failed, the generator failed, or a read or a write failed. If it is not 0, the error's text and a line feed are written to `errors`; if a write fails there, a
 /// prefix of them is, and the status stays the same. The text contains nothing of the key or the
 /// input. A refusal writes nothing to `output`, and a write that fails leaves a prefix of the
 /// output there. A key that is refused is refused before the input is read.
@@ -104,13 +103,13 @@ pub fn run_inspect<R: Read, W: Write, E: Write>(
 ) -> u8
     ensures no_usage { result ≢ 2 }
     ensures output { Leaves W.contents
-        (λ lines. OfInput (R.remaining input.old) (λ bytes. Inspects (line_of_input bytes) lines))
+        (λ lines. OfInput (R.remaining input.old) (λ bytes. Inspects (token_of_input bytes) lines))
         (IsRefusal (λ error. OfInput (R.remaining input.old)
-        (λ bytes. RefusesInspecting (line_of_input bytes) error)) result)
+        (λ bytes. RefusesInspecting bytes error)) result)
         result output.old output.new }
     ensures errors { Tells E.contents names.now (Ends
-        (λ lines. OfInput (R.remaining input.old) (λ bytes. Inspects (line_of_input bytes) lines))
-        (λ error. OfInput (R.remaining input.old) (λ bytes. RefusesInspecting (line_of_input bytes) error))
+        (λ lines. OfInput (R.remaining input.old) (λ bytes. Inspects (token_of_input bytes) lines))
+        (λ error. OfInput (R.remaining input.old) (λ bytes. RefusesInspecting bytes error))
         (Fails reading)) result errors.old errors.new }
 {
     finish(inspected(alloc, input), names, output, errors)
@@ -119,11 +118,11 @@ pub fn run_inspect<R: Read, W: Write, E: Write>(
 /// What the token in the input says about itself.
 fn inspected<R: Read>(alloc: Global, input: &mut R) -> Result<String, ProgramError>
     ensures { Makes
-        (λ lines. OfInput (R.remaining input.old) (λ bytes. Inspects (line_of_input bytes) lines))
-        (λ error. OfInput (R.remaining input.old) (λ bytes. RefusesInspecting (line_of_input bytes) error))
+        (λ lines. OfInput (R.remaining input.old) (λ bytes. Inspects (token_of_input bytes) lines))
+        (λ error. OfInput (R.remaining input.old) (λ bytes. RefusesInspecting bytes error))
         (Fails reading) result }
 {
-    let token = read_line(alloc, input)?;
+    let token = read_token(alloc, input)?;
     inspect(alloc, token.as_str())
 }
 
@@ -142,11 +141,11 @@ pub fn run_explain<R: Read, W: Write, E: Write>(
     ensures no_usage { result ≢ 2 }
     ensures told { Told W.contents E.contents names.now
         (λ lines. OfInput (R.remaining input.old) (λ bytes.
-        TellsIssued (parts_of key.now) options.now issued.now (line_of_input bytes) lines))
+        TellsIssued (parts_of key.now) options.now issued.now (token_of_input bytes) lines))
         (λ lines. OfInput (R.remaining input.old) (λ bytes.
-        TellsForged (parts_of key.now) options.now issued.now (line_of_input bytes) lines))
+        TellsForged (parts_of key.now) options.now issued.now (token_of_input bytes) lines))
         (λ error. OfInput (R.remaining input.old) (λ bytes.
-        RefusesExplaining (parts_of key.now) options.now (line_of_input bytes) error))
+        RefusesExplaining (parts_of key.now) options.now bytes error))
         (Fails reading) result output.old output.new errors.old errors.new }
 {
     match explained(alloc, key, options, issued, input) {
@@ -175,12 +174,12 @@ fn explained<R: Read>(
     input: &mut R,
 ) -> Result<Explanation, ProgramError>
     ensures told { IfOk result (λ told. OfInput (R.remaining input.old)
-        (λ bytes. Explains (parts_of key.now) options.now issued.now (line_of_input bytes) told)) }
+        (λ bytes. Explains (parts_of key.now) options.now issued.now (token_of_input bytes) told)) }
     ensures refused { IfErr result (λ error. OfInput (R.remaining input.old)
-        (λ bytes. RefusesExplaining (parts_of key.now) options.now (line_of_input bytes) error)
+        (λ bytes. RefusesExplaining (parts_of key.now) options.now bytes error)
         ⊎ Fails reading error) }
 {
-    let token = read_line(alloc, input)?;
+    let token = read_token(alloc, input)?;
     explain(alloc, key, options, issued, token.as_str())
 }
 
@@ -247,7 +246,7 @@ fn written<W: Write>(made: Result<String, ProgramError>, output: &mut W) -> Resu
     ensures cut { OnErr result ((left : List ℕ)
         × Appends (W.contents output.old) (W.contents output.new) left
         × IsLeftOf (IsTextOf made) left) }
-    ensures refused { IfErr result (λ error. (status_of error ≡ 3)
+    ensures refused { IfErr result (λ error. (status_of error ≡ 4)
         ⊎ ((output.new ≡ output.old) × IsErrAnd made (λ cause. cause ≡ error))) }
     ensures cause { IfErr result (λ error. IsCauseOf made error) }
 {

@@ -1,24 +1,24 @@
 //! The commands `encrypt`, `decrypt`, `sign` and `verify`, with a key of any version.
 
-ghost use Rattle.std.specs.Prelude.{◌≡◌, ◌≢◌, None, OnOk, IfErr, false, true};
+ghost use Rattle.std.specs.Prelude.{◌≡◌, ◌≢◌, None, IfOk, IsErrAnd, Ok, OnOk, IfErr, false, true};
 ghost use Rattle.rusty_paseto_core.specs.Context.{assertion_of};
 ghost use Rattle.rusty_paseto_core.specs.Reading.{IsRead};
 ghost use Rattle.paseto_keys.specs.AnyKey.{parts_of, reads_tokens, takes_assertion, writes_tokens};
 ghost use Rattle.paseto_keys.specs.Writing.{drawn_length};
 ghost use Rattle.paseto_tasks.specs.Arguments.{Takes};
-ghost use Rattle.paseto_tasks.specs.Error.{Fails, nothing};
-ghost use Rattle.paseto_tasks.specs.Input.{OfInput, line_of_input, reading};
+ghost use Rattle.paseto_tasks.specs.Error.{Fails, IsTokenError, nothing};
+ghost use Rattle.paseto_tasks.specs.Input.{OfInput, reading, token_of_input};
 ghost use Rattle.paseto_tasks.specs.Output.{Makes};
 ghost use Rattle.paseto_tasks.specs.Tokens.{Fits, Reads, RefusesKey, RefusesReading, RefusesText, RefusesToken, Writes, drawn_by, reading_with};
 
 use crate::arguments::Options;
-use crate::error::{ProgramError, answered};
-use crate::input::{read_line, read_text};
+use crate::error::{FileError, ProgramError, TokenError};
+use crate::input::{read_text, read_token};
 use crate::output::with_line_feed;
 use crate::token_kind::TokenKind;
-use paseto_keys::{AnyKey, TokenKey, TokenReader, TokenWriter};
+use paseto_keys::{AnyKey, KeyError, TokenKey, TokenReader, TokenWriter};
 use rand_core::TryRng;
-use rusty_paseto_core::ImplicitAssertion;
+use rusty_paseto_core::{ImplicitAssertion, PasetoError};
 use rusty_paseto_paserk::{PaserkError, PaserkType, PaserkVersion};
 use std::alloc::Global;
 use std::io::Read;
@@ -30,7 +30,7 @@ pub fn fits(key: &AnyKey, wanted: PaserkType, options: &Options<'_>) -> Result<(
 {
     let kind = key.kind();
     if kind != wanted {
-        return Err(ProgramError::Key(PaserkError::OtherType(kind)));
+        return Err(ProgramError::from(PaserkError::OtherType(kind)));
     }
     takes(key.version(), options.assertion)
 }
@@ -41,12 +41,12 @@ pub fn takes(
     assertion: Option<ImplicitAssertion<'_>>,
 ) -> Result<(), ProgramError>
     ensures taken { OnOk result (Takes version assertion.entry) }
-    ensures refused { IfErr result (λ error. (error ≡ ProgramError.NoAssertion)
+    ensures refused { IfErr result (λ error. (error ≡ ProgramError.File FileError.NoAssertion)
         × ¬ Takes version assertion.entry) }
 {
     match (version, assertion) {
         (PaserkVersion::V1 | PaserkVersion::V2, Some(assertion))
-            if !assertion.as_str().is_empty() => Err(ProgramError::NoAssertion),
+            if !assertion.as_str().is_empty() => { Err(ProgramError::File(FileError::NoAssertion)) }
         _ => Ok(()),
     }
 }
@@ -102,17 +102,17 @@ pub fn read<R: Read>(
     requires taken { Takes (parts_of key.now).version options.now.assertion }
     ensures { Makes
         (λ text. OfInput (R.remaining input.old) (λ bytes.
-        Reads (parts_of key.now) options.now (line_of_input bytes) text))
+        Reads (parts_of key.now) options.now (token_of_input bytes) text))
         (λ error. OfInput (R.remaining input.old) (λ bytes.
-        RefusesToken (parts_of key.now) options.now (line_of_input bytes) error))
+        RefusesToken (parts_of key.now) options.now bytes error))
         (Fails reading) result }
 {
-    let token = read_line(alloc, input)?;
-    read_token(alloc, key, options, token.as_str())
+    let token = read_token(alloc, input)?;
+    text_of(alloc, key, options, token.as_str())
 }
 
 /// The text of a token. If the token is of another kind than the key is for, the error names both.
-pub fn read_token(
+fn text_of(
     alloc: Global,
     key: &AnyKey,
     options: &Options<'_>,
@@ -126,4 +126,23 @@ pub fn read_token(
     let assertion = bound(key, options.assertion);
     let answer = key.read(alloc, token, options.footer, assertion);
     answered(answer, token, TokenKind::read_by(key.version(), key.kind()))
+}
+
+/// Converts the result of reading a token with a key for tokens of a kind.
+fn answered(
+    answer: Result<String, KeyError>,
+    token: &str,
+    key: TokenKind,
+) -> Result<String, ProgramError>
+    ensures read { IfOk result (λ text. answer ≡ Ok text) }
+    ensures refused { IfErr result (λ error. IsErrAnd answer
+        (λ source. IsTokenError token.now key source error)) }
+{
+    match answer {
+        Ok(text) => Ok(text),
+        Err(KeyError::Refused(PasetoError::WrongHeader)) => Err(ProgramError::Token(
+            TokenError::OtherKind(TokenKind::of(token), key),
+        )),
+        Err(source) => Err(ProgramError::from(source)),
+    }
 }

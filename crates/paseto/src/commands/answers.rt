@@ -5,13 +5,16 @@ ghost use Rattle.serde_json.specs.View.{view};
 ghost use Rattle.rusty_paseto_generic.specs.Error.{IsMemory as IsMemoryOfBuilder};
 ghost use Rattle.rusty_paseto_generic.specs.Error.Parser.{IsMemory};
 ghost use Rattle.paseto_tasks.specs.Error.{BlamesNone, Fails, IsNoUsage, IsOutside, IsPlain, Says, nothing};
-ghost use Rattle.paseto.specs.Answers.{IsNoMemoryOfRing, SaysOfBuilder, SaysOfCheck, SaysOfRing, admitted, claim_line, early_line, expired_line, mismatch_text, one_line, parser_error_of, repeated_text, shown_letter, text_error_of, text_under, unknown_text};
+ghost use Rattle.paseto.specs.Answers.{IsNoMemoryOfRing, SaysOfBuilder, SaysOfRing, admitted, one_line, parser_error_of, repeated_text, shown_letter, text_error_of, unknown_text};
+ghost use Rattle.paseto.specs.ClaimLine.{SaysOfCheck};
+ghost use Rattle.paseto.specs.Claims.{all_named};
 ghost use Rattle.paseto.specs.Times.{claim_error_of};
 
-use crate::commands::times::between;
+use crate::commands::claim_line::by_claim;
+use crate::commands::claims::NamedClaim;
 use jiff::Timestamp;
 use paseto_keys::{AdmitError, RingError};
-use paseto_tasks::{ProgramError, TimeOption};
+use paseto_tasks::{FileError, ProgramError, TimeOption, TokenError, UsageError};
 use rusty_paseto::prelude::{
     GenericBuilderError, GenericParserError, KeyRingError, PasetoClaimError, PasetoError,
 };
@@ -32,12 +35,12 @@ pub fn built<T: Drop>(
 {
     match answer {
         Ok(value) => Ok(value),
-        Err(GenericBuilderError::Memory(source)) => Err(ProgramError::Memory(source)),
+        Err(GenericBuilderError::Memory(source)) => Err(ProgramError::from(source)),
         Err(GenericBuilderError::DuplicateTopLevelPayloadClaim(key)) => Err(repeated(
             alloc,
             key.as_str(),
         )),
-        Err(_) => Err(ProgramError::OddClaim),
+        Err(_) => Err(ProgramError::Token(TokenError::OddClaim)),
     }
 }
 
@@ -58,8 +61,8 @@ pub fn dated(option: TimeOption, source: PasetoClaimError) -> ProgramError
     ensures { result ≡ claim_error_of option source }
 {
     match source {
-        PasetoClaimError::Memory(source) => ProgramError::Memory(source),
-        _ => ProgramError::Time(option),
+        PasetoClaimError::Memory(source) => ProgramError::from(source),
+        _ => ProgramError::Usage(UsageError::Time(option)),
     }
 }
 
@@ -72,8 +75,8 @@ pub fn demanded<T: Drop>(answer: Result<T, GenericParserError>) -> Result<T, Pro
 {
     match answer {
         Ok(value) => Ok(value),
-        Err(GenericParserError::Memory(source)) => Err(ProgramError::Memory(source)),
-        Err(_) => Err(ProgramError::OddClaim),
+        Err(GenericParserError::Memory(source)) => Err(ProgramError::from(source)),
+        Err(_) => Err(ProgramError::Token(TokenError::OddClaim)),
     }
 }
 
@@ -85,13 +88,15 @@ pub fn admitted(answer: Result<Value, AdmitError>) -> Result<Value, ProgramError
         Ok(value) => Ok(value),
         Err(AdmitError::Key(source)) => Err(ProgramError::from(source)),
         Err(AdmitError::Parser(source)) => Err(by_parser(source)),
-        Err(AdmitError::Memory(source)) => Err(ProgramError::Memory(source)),
+        Err(AdmitError::Memory(source)) => Err(ProgramError::from(source)),
     }
 }
 
-/// Converts the result of checking these claims, which a token has, at a moment.
+/// Converts the result of checking these claims, which a token has, at a moment, of which some values
+/// are required.
 pub fn checked(
     alloc: Global,
+    demands: &[NamedClaim],
     claims: &Value,
     at: Timestamp,
     answer: Result<(), GenericParserError>,
@@ -102,11 +107,13 @@ pub fn checked(
     ensures no_usage { IfErr result IsNoUsage }
     ensures blames { IfErr result BlamesNone }
     ensures said { IfErr result (λ error. IsErrAnd answer
-        (λ source. SaysOfCheck (view claims.now) at source error)) }
+        (λ source. SaysOfCheck (all_named demands.now) (view claims.now) at source error)) }
 {
     match answer {
         Ok(()) => Ok(()),
-        Err(GenericParserError::ClaimError { source }) => Err(by_claim(alloc, claims, at, source)),
+        Err(GenericParserError::ClaimError { source }) => Err(by_claim(
+            alloc, demands, claims, at, source,
+        )),
         Err(source) => Err(by_text(source)),
     }
 }
@@ -126,8 +133,8 @@ pub fn found(
 {
     match answer {
         Ok((_id, value)) => Ok(value),
-        Err(RingError::NoAssertion) => Err(ProgramError::NoAssertion),
-        Err(RingError::Memory(source)) => Err(ProgramError::Memory(source)),
+        Err(RingError::NoAssertion) => Err(ProgramError::File(FileError::NoAssertion)),
+        Err(RingError::Memory(source)) => Err(ProgramError::from(source)),
         Err(RingError::Parser(source)) => Err(by_text(source)),
         Err(RingError::Ring(source)) => Err(by_ring(alloc, source)),
     }
@@ -140,7 +147,7 @@ fn by_parser(source: GenericParserError) -> ProgramError
     match source {
         GenericParserError::CipherError {
             source: PasetoError::FooterInvalid,
-        } => ProgramError::OtherFooter,
+        } => ProgramError::Token(TokenError::OtherFooter),
         source => by_text(source),
     }
 }
@@ -150,10 +157,10 @@ fn by_text(source: GenericParserError) -> ProgramError
     ensures { result ≡ text_error_of source }
 {
     match source {
-        GenericParserError::Memory(source) => ProgramError::Memory(source),
-        GenericParserError::CipherError { source } => ProgramError::Refused(source),
-        GenericParserError::ClaimError { .. } => ProgramError::OddNumber,
-        GenericParserError::PayloadJsonError { .. } => ProgramError::NotJson,
+        GenericParserError::Memory(source) => ProgramError::from(source),
+        GenericParserError::CipherError { source } => ProgramError::of_token(source),
+        GenericParserError::ClaimError { .. } => ProgramError::Token(TokenError::OddNumber),
+        GenericParserError::PayloadJsonError { .. } => ProgramError::Token(TokenError::NotJson),
     }
 }
 
@@ -164,13 +171,13 @@ fn by_ring(alloc: Global, source: KeyRingError) -> ProgramError
     ensures said { SaysOfRing (RingError.Ring source) result }
 {
     match source {
-        KeyRingError::Memory(source) => ProgramError::Memory(source),
+        KeyRingError::Memory(source) => ProgramError::from(source),
         KeyRingError::Untrusted(source) | KeyRingError::Token(source) => {
-            ProgramError::Refused(source)
+            ProgramError::of_token(source)
         }
-        KeyRingError::NoFooter => ProgramError::NoFooter,
-        KeyRingError::NotAnObject => ProgramError::NotAnObject,
-        KeyRingError::NoKeyId => ProgramError::NoKeyId,
+        KeyRingError::NoFooter => ProgramError::Token(TokenError::NoFooter),
+        KeyRingError::NotAnObject => ProgramError::Token(TokenError::NotAnObject),
+        KeyRingError::NoKeyId => ProgramError::Token(TokenError::NoKeyId),
         KeyRingError::UnknownKey(id) => unknown(alloc, id.as_str()),
     }
 }
@@ -187,36 +194,6 @@ fn unknown(alloc: Global, id: &str) -> ProgramError
     ))
 }
 
-fn by_claim(alloc: Global, claims: &Value, at: Timestamp, source: PasetoClaimError) -> ProgramError
-    ensures no_usage { IsNoUsage result }
-    ensures blames { BlamesNone result }
-    ensures said { Says (λ line. line ≡ claim_line (view claims.now) at source) result }
-{
-    match source {
-        PasetoClaimError::Expired => told(expired(alloc, expiry_of(claims), at)),
-        PasetoClaimError::UseBeforeAvailable(text) => told(early(alloc, text.as_str(), at)),
-        PasetoClaimError::Invalid(key, found, wanted) => mismatch(
-            alloc,
-            key.as_str(),
-            found.as_str(),
-            wanted.as_str(),
-        ),
-        source => told(one_line_of(alloc, format!(in alloc; "{source}"))),
-    }
-}
-
-/// The error for a claim whose text is not the required one.
-fn mismatch(alloc: Global, key: &str, found: &str, wanted: &str) -> ProgramError
-    ensures no_usage { IsNoUsage result }
-    ensures blames { BlamesNone result }
-    ensures said { Says (λ line. line ≡ one_line (mismatch_text key.now found.now wanted.now)) result }
-{
-    told(one_line_of(
-        alloc,
-        format!(in alloc; "The claim '{key}' is '{found}', and not '{wanted}'"),
-    ))
-}
-
 /// A refusal with a message of this program.
 pub fn told(line: Result<String, AllocError>) -> ProgramError
     ensures no_usage { IsNoUsage result }
@@ -224,8 +201,8 @@ pub fn told(line: Result<String, AllocError>) -> ProgramError
     ensures said { Says (λ text. IsOkAnd line (λ line. text ≡ string_bytes line)) result }
 {
     match line {
-        Ok(line) => ProgramError::Unfit(line),
-        Err(source) => ProgramError::Memory(source),
+        Ok(line) => ProgramError::Token(TokenError::Unfit(line)),
+        Err(source) => ProgramError::from(source),
     }
 }
 
@@ -257,40 +234,4 @@ fn push_shown(line: &mut String, letter: char) -> Result<(), AllocError>
         ++ encode_utf8_all (map shown_letter (letter ∷ []))) }
 {
     line.push(if letter.is_control() { '?' } else { letter })
-}
-
-/// The text of `exp`, or an empty text if there is none.
-fn expiry_of(claims: &Value) -> &str
-    ensures { result.now ≡ text_under (codes "exp") (view claims.now) }
-{
-    match claims.get("exp") {
-        Some(value) => value.as_str().unwrap_or(""),
-        None => "",
-    }
-}
-
-/// Why a token that has expired is refused: `expired 3 minutes ago, at 2026-11-22T10:00:00Z`.
-pub fn expired(alloc: Global, text: &str, at: Timestamp) -> Result<String, AllocError>
-    ensures { IfOk result (λ line. string_bytes line ≡ expired_line text.now at) }
-{
-    match text.parse::<Timestamp>() {
-        Ok(moment) => {
-            let ago = between(alloc, moment, at)?;
-            format!(in alloc; "expired {ago} ago, at {text}")
-        }
-        Err(_) => String::from_str(alloc, "expired"),
-    }
-}
-
-/// Why a token that may not be used yet is refused: `not valid before 2026-11-22T10:00:00Z, in 3 minutes`.
-pub fn early(alloc: Global, text: &str, at: Timestamp) -> Result<String, AllocError>
-    ensures { IfOk result (λ line. string_bytes line ≡ early_line text.now at) }
-{
-    match text.parse::<Timestamp>() {
-        Ok(moment) => {
-            let wait = between(alloc, at, moment)?;
-            format!(in alloc; "not valid before {text}, in {wait}")
-        }
-        Err(_) => String::from_str(alloc, "not valid yet"),
-    }
 }

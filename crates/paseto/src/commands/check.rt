@@ -8,7 +8,7 @@ ghost use Rattle.rusty_paseto_generic.specs.Parsers.Rules.{AreSame, no_rule};
 ghost use Rattle.rusty_paseto_generic.specs.Parsers.Times.{times_at};
 ghost use Rattle.paseto_keys.specs.AnyKey.{parts_of};
 ghost use Rattle.paseto_tasks.specs.Arguments.{texts};
-ghost use Rattle.paseto_tasks.specs.Error.{Fails, IsMemory, IsOfWords, IsOutside, IsPlain, Lacks, nothing};
+ghost use Rattle.paseto_tasks.specs.Error.{Fails, IsMemory, IsOfWords, IsOutside, IsPlain, Lacks, nothing, token_error_of};
 ghost use Rattle.paseto_tasks.specs.Output.{Makes};
 ghost use Rattle.paseto.specs.Check.{AreDemands, IsCheckedAt, IsTheValueOf, RefusesKey, demanded, demanded_rules};
 ghost use Rattle.paseto.specs.Checked.{ChecksBy, IsJsonLine, IsTheValueBy, RefusesDemands, RefusesKeys};
@@ -19,10 +19,10 @@ use crate::commands::answers::{admitted, checked, demanded as taken};
 use crate::commands::claims::{NamedClaim, claims_of};
 use crate::commands::footer::{footer_of, lent};
 use crate::commands::ring::claims_by_ring;
-use crate::commands::times::{leeway_of, moment_of};
+use crate::commands::times::{leeway_of, moment_of, time_error};
 use jiff::Timestamp;
 use paseto_keys::{AnyKey, ClaimsParser, admit};
-use paseto_tasks::{Options, ProgramError, TimeOption, TokenKind};
+use paseto_tasks::{Options, ProgramError, TimeOption, TokenError, TokenKind};
 use rusty_paseto::DefaultParser;
 use rusty_paseto::prelude::{
     CheckSetter, ImplicitAssertion, Local, PasetoError, PasetoParser, PurposeTrait, V4,
@@ -142,7 +142,7 @@ fn checked_at(word: Option<&str>, now: Timestamp) -> Result<Timestamp, ProgramEr
     };
     match moment_of(word, now) {
         Some(moment) => Ok(moment),
-        None => Err(ProgramError::Time(TimeOption::At)),
+        None => Err(ProgramError::Usage(time_error(TimeOption::At, word))),
     }
 }
 
@@ -205,7 +205,13 @@ pub fn check(
 {
     let checker = demands.checker(alloc)?;
     let claims = claims_by(alloc, keys, demands, token)?;
-    checked(alloc, &claims, demands.at, checker.check(&claims))?;
+    checked(
+        alloc,
+        &demands.claims,
+        &claims,
+        demands.at,
+        checker.check(&claims),
+    )?;
     json_line(alloc, &claims)
 }
 
@@ -246,13 +252,15 @@ fn with_kinds(
 ) -> Result<Value, ProgramError>
     ensures value { IfOk result (λ value. answer ≡ Ok value) }
     ensures refused { IfErr result (λ error. IsErrAnd answer (λ source. (source ≡ error)
-        ⊎ ((source ≡ ProgramError.Refused PasetoError.WrongHeader) × IsPlain error))) }
+        ⊎ ((source ≡ token_error_of PasetoError.WrongHeader) × IsPlain error))) }
 {
     match answer {
-        Err(ProgramError::Refused(PasetoError::WrongHeader)) => Err(ProgramError::OtherKind(
-            TokenKind::of(token),
-            TokenKind::read_by(key.version(), key.kind()),
-        )),
+        Err(ProgramError::Token(TokenError::Refused(PasetoError::WrongHeader))) => Err(
+            ProgramError::Token(TokenError::OtherKind(
+                TokenKind::of(token),
+                TokenKind::read_by(key.version(), key.kind()),
+            )),
+        ),
         answer => answer,
     }
 }

@@ -9,7 +9,7 @@ ghost use Rattle.paseto_tasks.specs.Arguments.{texts};
 ghost use Rattle.paseto.specs.Claims.{AreClaims, IsClaimOf, IsFirstOf, all_named, is_time, named};
 ghost use Rattle.paseto_tasks.specs.Error.{IsOfWords, IsOutside, Lacks};
 
-use paseto_tasks::ProgramError;
+use paseto_tasks::{ProgramError, UsageError};
 use rusty_paseto::prelude::{PasetoClaim, PasetoClaimError};
 use serde_json::{Map, Value};
 use std::alloc::{AllocError, Global};
@@ -46,7 +46,7 @@ impl NamedClaim {
         ensures of_words { IfErr result IsOfWords }
     {
         let Some((front, text)) = word.split_once('=') else {
-            return Err(ProgramError::Claim);
+            return Err(ProgramError::Usage(UsageError::Claim));
         };
         match without_colon(front) {
             Some(name) => NamedClaim::of(alloc, name, json_of(alloc, text)?),
@@ -63,10 +63,10 @@ impl NamedClaim {
         ensures of_words { IfErr result IsOfWords }
     {
         if name.is_empty() {
-            return Err(ProgramError::Claim);
+            return Err(ProgramError::Usage(UsageError::Claim));
         }
         if is_time(name) {
-            return Err(ProgramError::TimeClaim);
+            return Err(ProgramError::Usage(UsageError::TimeClaim));
         }
         let name = String::from_str(alloc, name)?;
         Ok(NamedClaim { name, value })
@@ -89,8 +89,8 @@ fn json_of(alloc: Global, text: &str) -> Result<Value, ProgramError>
 {
     match Value::from_str(alloc, text) {
         Ok(value) => Ok(value),
-        Err(source) if source.is_memory() => Err(ProgramError::Memory(AllocError)),
-        Err(_) => Err(ProgramError::Claim),
+        Err(source) if source.is_memory() => Err(ProgramError::from(AllocError)),
+        Err(_) => Err(ProgramError::Usage(UsageError::Claim)),
     }
 }
 
@@ -99,6 +99,20 @@ fn is_time(name: &str) -> bool
     ensures { result ≡ is_time name.now }
 {
     matches!(name, "exp" | "nbf" | "iat")
+}
+
+/// The value of the last claim with a name.
+pub fn value_under<'c>(claims: &'c [NamedClaim], name: &str) -> Option<&'c Value>
+    ensures { option_map (λ value. view value.now) result ≡ value_under name.now (all_named claims.now) }
+{
+    let [claim, rest @ ..] = claims else {
+        return None;
+    };
+    match value_under(rest, name) {
+        Some(value) => Some(value),
+        None if claim.name.as_str() == name => Some(&claim.value),
+        None => None,
+    }
 }
 
 /// Parses the claims of the arguments, in order.

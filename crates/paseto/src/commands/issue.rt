@@ -12,15 +12,15 @@ ghost use Rattle.paseto.specs.Claims.{AreNeverSet, AreSet, all_counted, all_name
 ghost use Rattle.paseto_tasks.specs.Error.{BlamesNone, BlamesOnly, Fails, IsNoUsage, IsOfWords, IsOutside, Lacks, Says, nothing};
 ghost use Rattle.paseto_tasks.specs.Output.{Makes};
 ghost use Rattle.paseto.specs.Issue.{AreNever, AreOrdered, IsOrder, IsPayload, Issues, RefusesOrder, RefusesPayload, draws, issuing, keys_set, ordered};
-ghost use Rattle.paseto.specs.Times.{IsNeverSet, IsTimeSet, SaysTime, time_counted};
+ghost use Rattle.paseto.specs.Times.{BeginsAt, IsNeverSet, IsTimeSet, SaysTime, time_counted};
 
 use crate::commands::answers::{built, dated};
 use crate::commands::claims::{NamedClaim, claims_of};
 use crate::commands::footer::{footer_of, lent};
-use crate::commands::times::moment_of;
+use crate::commands::times::{moment_of, second_before, time_error};
 use jiff::Timestamp;
 use paseto_keys::{AnyKey, TokenWriter};
-use paseto_tasks::{Options, ProgramError, TimeOption, with_line_feed};
+use paseto_tasks::{Options, ProgramError, SystemError, TimeOption, with_line_feed};
 use rand_core::TryRng;
 use rusty_paseto::prelude::{
     CountingSetter, ExpirationClaim, ImplicitAssertion, Local, NotBeforeClaim, PasetoBuilder,
@@ -58,7 +58,7 @@ impl<'w> Order<'w> {
             moment: now,
             claims: claims_of(alloc, words)?,
             expires: time_of(TimeOption::Expires, options.expires, now)?,
-            not_before: time_of(TimeOption::NotBefore, options.not_before, now)?,
+            not_before: begin_of(options.not_before, now)?,
             footer: footer_of(alloc, options)?,
             assertion: options.assertion,
         })
@@ -82,7 +82,22 @@ fn time_of(
     };
     match moment_of(word, now) {
         Some(moment) => Ok(Some(moment)),
-        None => Err(ProgramError::Time(option)),
+        None => Err(ProgramError::Usage(time_error(option, word))),
+    }
+}
+
+/// When the token may first be used: as the option says, or a second before now, so that it is good at
+/// once for a reader whose clock counts whole seconds.
+fn begin_of(word: Option<&str>, now: Timestamp) -> Result<Option<Timestamp>, ProgramError>
+    ensures found { IfOk result (λ moment. BeginsAt
+        (option_map (λ text. text.now) word.entry) now moment) }
+    ensures none { IfErr result (Lacks (λ moment. BeginsAt
+        (option_map (λ text. text.now) word.entry) now moment)) }
+    ensures of_words { IfErr result IsOfWords }
+{
+    match word {
+        Some(_) => time_of(TimeOption::NotBefore, word, now),
+        None => Ok(second_before(now)),
     }
 }
 
@@ -130,7 +145,7 @@ fn builder_of(
         (record nothing { no_moment = ¬ FitsDefault order.now.moment })) }
 {
     if !fits_default(order.moment) {
-        return Err(ProgramError::Clock);
+        return Err(ProgramError::System(SystemError::Clock));
     }
     let mut builder = built(alloc, PasetoBuilder::default(alloc, order.moment))?;
     set_claims(alloc, &mut builder, &order.claims)?;

@@ -5,7 +5,7 @@ ghost use Rattle.paseto_keys.specs.AnyKey.{parts_of};
 ghost use Rattle.paseto_keys.specs.Drawing.{IsDraw};
 ghost use Rattle.paseto_tasks.specs.Arguments.{texts};
 ghost use Rattle.paseto_tasks.specs.Error.{Fails};
-ghost use Rattle.paseto_tasks.specs.Input.{OfInput, line_of_input, reading};
+ghost use Rattle.paseto_tasks.specs.Input.{OfInput, reading, token_of_input};
 ghost use Rattle.paseto_tasks.specs.Output.{Makes};
 ghost use Rattle.paseto.specs.Checked.{ChecksFor, RefusesCheck};
 ghost use Rattle.paseto.specs.Issue.{IssuesFor, RefusesIssue, draws, issuing};
@@ -19,7 +19,7 @@ use crate::options::{check_options, issue_options};
 use jiff::Timestamp;
 use paseto_keys::AnyKey;
 use paseto_tasks::run::finish;
-use paseto_tasks::{Names, Options, ProgramError, read_line};
+use paseto_tasks::{Names, Options, ProgramError, read_token};
 use paseto_words::{Check, Issue};
 use rand_core::TryRng;
 use std::alloc::Global;
@@ -114,11 +114,11 @@ fn claims_line<R: Read>(
     input: &mut R,
 ) -> Result<String, ProgramError>
     ensures { Makes (λ line. OfInput (R.remaining input.old) (λ bytes. ChecksFor (texts claims.now)
-        options.now now keys.now (line_of_input bytes) line))
+        options.now now keys.now (token_of_input bytes) line))
         (RefusesCheck (texts claims.now) options.now now keys.now (R.remaining input.old))
         (Fails reading) result }
 {
     let demands = Demands::parse(alloc, claims, options, now)?;
-    let token = read_line(alloc, input)?;
+    let token = read_token(alloc, input)?;
     check(alloc, keys, &demands, token.as_str())
 }

@@ -3,11 +3,11 @@
 ghost use Rattle.std.specs.Prelude.{◌≡◌, ◌≢◌, ◌≤◌, ◌*◌, ◌++◌, ◌+ℤ◌, ◌-ℤ◌, ℕ, List, pos, IfErr, IfOk, IfSome, MatchOption, option_map, string_bytes, unsigned_abs};
 ghost use Rattle.jiff.specs.Words.{IsTimestampNanos};
 ghost use Rattle.paseto.specs.Answers.{between_text, count_text, length_text, second_of};
-ghost use Rattle.paseto.specs.Times.{HasUnit, IsLeeway, IsLength, IsNumber, SaysMoment, SaysNone};
+ghost use Rattle.paseto.specs.Times.{HasUnit, IsLeeway, IsLength, IsNumber, IsSecondBefore, IsTimeError, SaysMoment, SaysNone};
 ghost use Rattle.paseto_tasks.specs.Error.{IsOfWords, Lacks};
 
 use jiff::Timestamp;
-use paseto_tasks::{ProgramError, TimeOption};
+use paseto_tasks::{ProgramError, TimeOption, UsageError};
 use std::alloc::{AllocError, Global};
 
 /// The nanoseconds of a second.
@@ -40,12 +40,31 @@ pub fn leeway_of(word: Option<&str>) -> Result<u32, ProgramError>
         return Ok(0);
     };
     let Some(seconds) = seconds_of(word) else {
-        return Err(ProgramError::Time(TimeOption::Leeway));
+        return Err(ProgramError::Usage(time_error(TimeOption::Leeway, word)));
     };
     if seconds > u32::MAX as u64 {
-        return Err(ProgramError::Time(TimeOption::Leeway));
+        return Err(ProgramError::Usage(time_error(TimeOption::Leeway, word)));
     }
     Ok(seconds as u32)
+}
+
+/// Why an argument is neither a moment nor a length of time: it is a negative length, one that is too
+/// large, or nothing like one.
+pub fn time_error(option: TimeOption, word: &str) -> UsageError
+    ensures { IsTimeError option result }
+{
+    if word.starts_with('-') {
+        return UsageError::Negative(option);
+    }
+    match unit_of(word) {
+        Some((front, _)) if is_number(front) => UsageError::TooLong(option),
+        _ => UsageError::Time(option),
+    }
+}
+
+/// Whether a text has digits alone.
+fn is_number(text: &str) -> bool {
+    !text.is_empty() && text.bytes().all(|byte| byte.is_ascii_digit())
 }
 
 /// The moment that many seconds later.
@@ -55,6 +74,16 @@ fn moment_after(seconds: u64, now: Timestamp) -> Option<Timestamp>
         (λ moment. moment.nanosecond ≡ now.nanosecond +ℤ pos (seconds * 1_000_000_000)) }
 {
     match Timestamp::from_nanosecond(now.as_nanosecond() + seconds as i128 * SECOND) {
+        Ok(moment) => Some(moment),
+        Err(_) => None,
+    }
+}
+
+/// The moment a second earlier.
+pub fn second_before(now: Timestamp) -> Option<Timestamp>
+    ensures { IsSecondBefore now result }
+{
+    match Timestamp::from_nanosecond(now.as_nanosecond() - SECOND) {
         Ok(moment) => Some(moment),
         Err(_) => None,
     }

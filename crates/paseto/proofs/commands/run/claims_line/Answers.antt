@@ -25,4 +25,4 @@ returns-in_err-token g c =
 pub returns : goal.returns
 returns g c =
     token_made (texts c.args.claims.now) c.args.options.now c.args.now c.args.keys.now (g.R.Read.remaining c.args.input.now) (demanded c.in_ok-demands.demands)
-    c.in_ok-demands.ensures.found c.as_str.result.now (rw (← c.as_str.ensures.value) at c.in_ok-token.ensures.line) c.as_str.utf8 c.check.result c.check.ensures
+    c.in_ok-demands.ensures.found c.as_str.result.now (rw (← c.as_str.ensures.value) at c.in_ok-token.ensures.token) c.as_str.utf8 c.check.result c.check.ensures

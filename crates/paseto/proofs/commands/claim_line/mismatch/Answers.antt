@@ -1,6 +1,6 @@
-use Rattle.paseto.specs.Answers.{mismatch_text}
+use Rattle.paseto.specs.ClaimLine.{mismatch_text}
 use Rattle.paseto.proofs.Lines.{told_line}
-use Rattle.paseto.proofs.commands.answers.mismatch.Goals as goal
+use Rattle.paseto.proofs.commands.claim_line.mismatch.Goals as goal
 
 pub returns-clause-said : goal.returns-clause-said
 returns-clause-said c =

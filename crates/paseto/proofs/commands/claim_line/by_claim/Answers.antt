@@ -1,4 +1,4 @@
-use Rattle.paseto.proofs.commands.answers.by_claim.Goals as goal
+use Rattle.paseto.proofs.commands.claim_line.by_claim.Goals as goal
 
 pub returns-in-Invalid-clause-said : goal.returns-in-Invalid-clause-said
 returns-in-Invalid-clause-said c =

@@ -1,6 +1,6 @@
 use Rattle.paseto_keys.specs.AnyKey.{parts_of}
 use Rattle.paseto_tasks.proofs.Uses.{not_given, read_makes}
-use Rattle.paseto_tasks.proofs.tokens.read_token.Goals as goal
+use Rattle.paseto_tasks.proofs.tokens.text_of.Goals as goal
 
 pub returns : goal.returns
 returns c =
