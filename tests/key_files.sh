@@ -106,12 +106,14 @@ spelling: the same"
 is "a token of RSA that was not issued" "$("$program" explain --key rsa.public.pem --issued in token | cut -d : -f 1 | paste -sd ' ')" \
     "forged message signature"
 for name in ed p384; do
-    "$program" unwrap --key $name.pem --out $name.line
-    "$program" unwrap --key $name.line --format pem --out $name.again
+    "$program" wrap --key $name.pem --password-file password --out $name.locked
+    "$program" unwrap --key $name.locked --password-file password --out $name.line
+    "$program" unwrap --key $name.locked --password-file password --format pem --out $name.again
     same "a private key in PEM, written again, $name" $name.again $name.pem
     "$program" public --key $name.line --format pem --out $name.half
     same "the public half in PEM, $name" $name.half $name.public.pem
-    is "the public half of PEM, $name" "$("$program" public --key $name.pem)" "$("$program" unwrap --key $name.public.pem)"
+    is "the public half of PEM, $name" "$("$program" public --key $name.pem)" "$("$program" public --key $name.line)"
+    is "the id of a public key in PEM, $name" "$("$program" public --key $name.line | "$program" id --key -)" "$("$program" id --key $name.public.pem)"
     is "the id of PEM, $name" "$("$program" id --key $name.pem)" "$("$program" id --key $name.line)"
 done
 for kind in v3.public v4.public; do
@@ -134,10 +136,14 @@ refuses "an encrypted key of OpenSSL" 3 "encrypted.pem: encrypted PEM: remove it
 refuses "broken PEM" 3 "broken.pem: neither PASERK nor valid PEM" sign --key broken.pem
 "$program" keygen v4.local --out v4.local --quiet
 "$program" keygen v2.public --out v2.secret --public v2.public --quiet
-refuses "a local key in PEM" 3 "v4.local: keys for local tokens have no PEM text" unwrap --key v4.local --format pem
+for name in v4.local v2.secret; do "$program" wrap --key $name --password-file password --out locked.$name; done
+refuses "a local key in PEM" 3 "locked.v4.local: keys for local tokens have no PEM text" \
+    unwrap --key locked.v4.local --password-file password --format pem
 refuses "a new local key in PEM" 3 "v3.local: keys for local tokens have no PEM text" keygen v3.local --format pem
 refuses "a key of version 2 in PEM" 3 \
-    "v2.secret: keys of version 2 have no PEM text of their own: it would be read as one of version 4" unwrap --key v2.secret --format pem
+    "locked.v2.secret: keys of version 2 have no PEM text of their own: it would be read as one of version 4" \
+    unwrap --key locked.v2.secret --password-file password --format pem
+rm locked.v4.local locked.v2.secret
 refuses "no format" 2 "--format: must be paserk or pem" keygen v4.public --format der
 
 printf '%s\r\n' "$(cat v4.local)" >returns.local
@@ -262,9 +268,34 @@ is "sealed to a key in PEM" "$("$program" unseal --key sealed.pem --unlock-key p
 is "the modes of keys that are sealed and unsealed" "$(modes sealed.pem unsealed)" "600 "
 refuses "a public key of another version" 3 "public.3: this key is one of version 3, and the other one is not" seal --key local.4 --to public.3
 refuses "a key of version 1, sealed" 3 "local.1: keys of version 1 are neither sealed nor unsealed here" seal --key local.1 --to rsa.public.pem
-refuses "what is not sealed" 3 "local.4: the key is not sealed: use paseto unwrap" unseal --key local.4
+refuses "what is not sealed" 3 "wrapped.4: the key is not sealed: use paseto unwrap" unseal --key wrapped.4 --unlock-key wrapping.4
+is "unwrap opens what is sealed" "$("$program" unwrap --key sealed.4 --unlock-key secret.4)" "$(cat local.4)"
 "$program" seal --key local.4 >out 2>err
 is "sealed to nobody" "$? $(head -n 1 err)" "2 error: the following required arguments were not provided:"
+
+# -- what is not wrapped
+
+bare='the key is bare: it is under no password, not wrapped and not sealed'
+no_key='The text is no PASERK key'
+for name in local.4 secret.4 public.4 ed.pem ed.public.pem sec1.pem rsa.pem rsa.public.pem; do
+    refuses "unwrap of $name" 3 "$name: $bare" unwrap --key $name
+    refuses "unseal of $name" 3 "$name: $bare" unseal --key $name
+done
+refuses "a bare key with a password" 3 "local.4: $bare" unwrap --key local.4 --password-file password
+printf j1.local-wrap.pie.kJfv >other
+refuses "unwrap of another text" 3 "other: $no_key" unwrap --key other
+refuses "unseal of another text" 3 "other: $no_key" unseal --key other
+refuses "unwrap of another text into a file" 3 "other: $no_key" unwrap --key other --out taken
+is "it is not there" "$(ls taken 2>&1 | grep -c 'No such')" 1
+# A character in the header of each kind of wrapped key is changed.
+for name in wrapped.4 locked.v4.local sealed.4; do
+    length=$(sed -E 's/^(k4\.[a-z-]+\.(pie\.)?).*/\1/' $name | tr -d '\n' | wc -c)
+    for place in $(seq "$length"); do
+        awk -v place="$place" '{ print substr($0, 1, place - 1) "!" substr($0, place + 1) }' $name >other
+        refuses "$name with another character $place" 3 "other: $no_key" unwrap --key other --unlock-key wrapping.4 --password-file password
+    done
+done
+rm other
 
 # -- 1,000 key pairs of version 3, whose public halves OpenSSL makes too
 
@@ -339,14 +370,17 @@ done <<'LIST'
 3|wrap --key office --password-file nothing|nothing: not a password: it must have 1 to 4095 bytes
 2|encrypt|no key is given: use --key FILE, or put the text of the key into PASETO_KEY
 2|encrypt --key -|standard input cannot be the key and the input: name a file for one of them
-3|encrypt --key nothing|nothing: The text is no PASERK key
+3|encrypt --key letter|letter: The text is no PASERK key
 3|id --key k1|k1: key pairs of version 1 are read from PEM, and not from PASERK
 3|sign --key office|office: The key is one for local tokens
 3|verify --key signer|signer: The key is a private one, which signs
 3|encrypt --key reader|reader: The key is a public one, which verifies
 3|encrypt --key short|short: The key was not in the correct format
 3|sign --key k1|k1: key pairs of version 1 are read from PEM, and not from PASERK
-3|unseal --key office|office: the key is not sealed: use paseto unwrap
+3|unwrap --key office|office: the key is bare: it is under no password, not wrapped and not sealed
+3|unseal --key office|office: the key is bare: it is under no password, not wrapped and not sealed
+3|unseal --key wrapped.4|wrapped.4: the key is not sealed: use paseto unwrap
+3|encrypt --key nothing|nothing: it is empty, and holds no key
 3|encrypt --key two|two: line 2: a key file has one line of PASERK, or is PEM
 1|encrypt --key long|long: too long for a key file
 1|encrypt --key office binary|binary: A Utf8 parsing error occurred
@@ -391,7 +425,7 @@ done <<'LIST'
 1|id --key locked.v4.local --password-file password.other|locked.v4.local: wrong key or password, or the text was changed
 3|id --key cut --password-file password|cut: what follows the header is no base64url of a wrapped key, or was cut off
 3|wrap --key half.v4.public --password-file password|half.v4.public: the key is public: it needs no password and no wrapping key
-3|wrap --key local.4 --wrapping-key nothing|nothing: this is no PASERK key
+3|wrap --key local.4 --wrapping-key letter|letter: this is no PASERK key
 3|wrap --key local.4 --wrapping-key wrapping.1|wrapping.1: this key is one of version 1, and the other one is not
 3|wrap --key local.4 --wrapping-key wrapping.2|wrapping.2: this key is one of version 2, and the other one is not
 3|wrap --key local.4 --wrapping-key wrapping.3|wrapping.3: this key is one of version 3, and the other one is not
@@ -401,8 +435,8 @@ done <<'LIST'
 3|wrap --key local.4 --wrapping-key public.4|public.4: this key is a public one, and another type is needed
 3|wrap --key local.4 --wrapping-key short|short: this key was not in the correct format
 3|seal --key local.1 --to rsa.public.pem|local.1: keys of version 1 are neither sealed nor unsealed here
-3|unwrap --key office --format pem|office: keys for local tokens have no PEM text
-3|unwrap --key v2.secret --format pem|v2.secret: keys of version 2 have no PEM text of their own: it would be read as one of version 4
+3|unwrap --key locked.v4.local --password-file password --format pem|locked.v4.local: keys for local tokens have no PEM text
+3|unwrap --key locked.v2.public --password-file password --format pem|locked.v2.public: keys of version 2 have no PEM text of their own: it would be read as one of version 4
 3|sign --key broken.pem|broken.pem: neither PASERK nor valid PEM
 3|sign --key encrypted.pem|encrypted.pem: encrypted PEM: remove its password by openssl pkey -in FILE -out NEW
 3|sign --key x25519.pem|x25519.pem: a key of another algorithm than RSA, P-384 and Ed25519

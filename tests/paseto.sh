@@ -31,6 +31,7 @@ cd "$work" || exit 1
 umask 077
 # shellcheck source=tests/counts.sh
 source "$root/tests/counts.sh"
+needs strace strace
 
 # Keys that Python's base64 wrote: the bytes 70, 71 and on, and what OpenSSL's Ed25519 (through Python's
 # `cryptography`) and RFC 8032 make of the seed of test 1 there.
@@ -50,6 +51,7 @@ bad_footer='The provided footer is invalid'
 bad_header='not a token of a supported kind'
 bad_count='This string has an incorrect number of parts and cannot be parsed into a token'
 no_key='The text is no PASERK key'
+empty_key='it is empty, and holds no key'
 no_pem='key pairs of version 1 are read from PEM, and not from PASERK'
 bad_key='The key was not in the correct format'
 too_long='too long for a key file'
@@ -57,6 +59,7 @@ not_utf8='A Utf8 parsing error occurred'
 no_file='no such file'
 exists='the file already exists and is not overwritten'
 bad_stream='a read or a write failed'
+unwritten='the file could not be written: is the disk full?'
 bad_claim='--claim: write a claim as aud=customers, or as seats:=4 with a value of JSON'
 a_time='write a time as 90s, 30m, 12h, 7d or 2026-11-22T10:00:00Z'
 bad_leeway='--leeway: write a length of time as 5s, 30m, 12h or 7d'
@@ -263,7 +266,32 @@ gives "a key file without a line feed" "$(made encrypt --key v4.local)" hello de
 head -c 40 v4.local >cut
 refuses "a truncated key file" 3 hello "cut: $bad_key" encrypt --key cut
 : >empty
-refuses "an empty key file" 3 hello "empty: $no_key" encrypt --key empty
+echo >line
+while read -r words; do
+    # shellcheck disable=SC2086
+    refuses "an empty key file, $words" 3 hello "empty: $empty_key" $words
+    # shellcheck disable=SC2086
+    refuses "a key file of an empty line, $words" 3 hello "line: $empty_key" ${words/empty/line}
+done <<'END'
+encrypt --key empty
+decrypt --key empty
+sign --key empty
+verify --key empty
+issue --key empty
+check --key empty
+explain --key empty --issued empty
+id --key empty
+public --key empty
+wrap --key empty --wrapping-key v4.local
+wrap --key v4.local --wrapping-key empty
+unwrap --key empty
+unwrap --key v4.local --unlock-key empty
+seal --key empty --to v4.public
+seal --key v4.local --to empty
+unseal --key empty
+END
+is "an empty key of the environment" "$(printf hello | PASETO_KEY='' "$program" encrypt 2>&1)" "paseto: PASETO_KEY: $empty_key"
+refuses "an empty key on standard input" 3 "" "$input: $empty_key" id --key -
 cat v4.local v4.local >two
 refuses "two keys in a file" 3 hello "two: line 2: a key file has one line of PASERK, or is PEM" encrypt --key two
 refuses "a binary key file" 3 hello "binary: $no_key" encrypt --key binary
@@ -323,7 +351,6 @@ misused "inspect with a key" "error: unexpected argument '--key' found" inspect 
 is "id of a local key" "$("$program" id --key other.local)" k4.lid.bqltbNc4JLUAmc9Xtpok-fBuI0dQN5_m3CD9W_nbh559
 is "id of a private key" "$("$program" id --key v4.secret | cut -c 1-7)" k4.sid.
 is "id of a public key" "$("$program" id --key v4.public | cut -c 1-7)" k4.pid.
-refuses "id of no key" 3 "" "empty: $no_key" id --key empty
 
 # -- public
 
@@ -715,6 +742,71 @@ refuses "a key that 300 others are not" 1 "$("$program" issue --key v4.local --f
 echo nothing >many/151
 refuses "a ring of 299 keys and a file that is none" 1 "$(cat token)" "many: The file '151' of the ring is no key file" check --ring many
 
+# -- new files, whole or not at all
+
+# left FOLDER: the files in it that the program has not named yet.
+left() {
+    find "$1" -name '.paseto-*.new' | wc -l
+}
+
+# state FILE: none, or whole where it is one line of a key, or else part.
+state() {
+    if [ ! -e "$1" ]; then echo none; elif grep -qE '^k4\.(secret|public)\.[A-Za-z0-9_-]+$' "$1"; then echo whole; else echo part; fi
+}
+
+refuses "one name for both halves" 2 "" "--out and --public name one file: name two" keygen v4.public --out pair --public pair
+is "it is not there" "$(state pair)" none
+echo k4.public.AAAA >there
+refuses "a public key over a file" 3 "" "there: $exists" keygen v4.public --out pair --public there
+refuses "a private key over a file" 3 "" "there: $exists" keygen v4.public --out there --public pair
+refuses "one file by two names" 3 "" "./pair: $exists" keygen v4.public --out pair --public ./pair
+refuses "a public key in no folder" 3 "" "nowhere/half: $no_file" keygen v4.public --out pair --public nowhere/half
+refuses "a private key in no folder" 3 "" "nowhere/pair: $no_file" keygen v4.public --out nowhere/pair --public half
+is "no half is there" "$(state pair) $(state half) $(left .)" "none none 0"
+ln -s nowhere dangling
+refuses "a new file over a dangling link" 3 "" "dangling: $exists" keygen v4.local --out dangling
+for stream in 0 1 2; do
+    case $stream in
+        0) "$program" keygen v4.public --out pair --public half <&- >out 2>err ;;
+        1) "$program" keygen v4.public --out pair --public half </dev/null >&- 2>err ;;
+        2) "$program" keygen v4.public --out pair --public half </dev/null >out 2>&- ;;
+    esac
+    is "keygen, the closed stream $stream" "$? $(state pair) $(state half) $(left .)" "4 none none 0"
+done
+"$program" keygen v4.public --public half >/dev/full 2>err
+is "a full output and a public key" "$? $(state half) $(left .)" "4 none 0"
+"$program" keygen v4.public --out pair --public half 2>/dev/full
+is "what keygen says to a full standard error" "$? $(state pair) $(state half)" "0 whole whole"
+rm pair half
+(trap '' XFSZ && ulimit -f 8 && exec "$program" encrypt --key v4.local --out made <long 2>err)
+is "a file system that is full" "$? $(cat err) $(ls made 2>&1 | grep -c 'No such') $(left .)" "4 paseto: made: $unwritten 1 0"
+
+# at_each FAULT RESULT: makes a key pair in the folder new once for each system call, with this fault at that call, and says
+# each result that is not among these: the status, the private file, the public one, and how many files are left.
+at_each() {
+    local call number status
+    while read -r call number; do
+        rm -rf new && mkdir new
+        (exec 2>/dev/null && cd new && strace -qq -o /dev/null -e trace="$call" -e inject="$call:$1:when=$number" \
+            "$program" keygen v4.public --out pair --public half >/dev/null 2>../err)
+        status=$?
+        echo "$status $(state new/pair) $(state new/half) $(left new) $(grep -c 'unfinished file' err)" | grep -vxE "$2" | sed "s/^/$call $number: /"
+    done <calls
+}
+
+mkdir new
+(cd new && strace -qq -o ../trace "$program" keygen v4.public --out pair --public half 2>../err)
+grep -oE '^[a-z_0-9]+\(' trace | tr -d '(' | grep -v '^execve$\|^exit' | awk '{ print $1, ++count[$1] }' >calls
+is "the calls of two new files" "$(grep -cE '^(fsync|link|linkat|unlink|unlinkat) [12]$' calls)" 6
+is "keygen, killed at each system call" "$(at_each signal=KILL '137 (none none|whole none|whole whole) [012] 0')" ""
+sed -i '/^\(write\|fsync\|linkat\|link\|openat\|open\) /!d' calls
+is "keygen, with each call of a file refused" "$(at_each error=ENOSPC '[1-9][0-9]* none none 0 0|0 whole whole 0 0')" ""
+printf 'unlink 1\nunlink 2\nunlinkat 1\nunlinkat 2\n' >calls
+is "keygen that cannot remove a file" "$(at_each error=EIO '0 whole whole 1 1|0 whole whole 0 0')" ""
+is "it says so" "$(strace -qq -o /dev/null -e trace=unlink,unlinkat -e inject=unlink,unlinkat:error=EIO "$program" encrypt --key v4.local --out made <in 2>&1 |
+    sed -E 's/[0-9a-f]{16}/N/')" "paseto: .paseto-N.new: this unfinished file could not be removed"
+rm -f made .paseto-*.new
+
 # -- closed and full outputs
 
 # Each command that writes, with words that are right.
@@ -723,12 +815,13 @@ printf hello >in
 "$program" sign --key v4.secret <in >ticket
 "$program" issue --key v4.local >claims
 "$program" seal --key v4.local --to v4.public >sealed
+"$program" wrap --key v4.local --wrapping-key other.local >wrapped
 commands='keygen v4.local
 keygen v3.public
 public --key v4.secret
 id --key v4.local
 wrap --key v4.local --wrapping-key other.local
-unwrap --key v4.local
+unwrap --key wrapped --unlock-key other.local
 seal --key v4.local --to v4.public
 unseal --key sealed --unlock-key v4.secret
 issue --key v4.local

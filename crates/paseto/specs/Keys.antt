@@ -10,7 +10,7 @@ use Rattle.rusty_paseto_paserk.specs.declared.error.PaserkError.TheVariants.{Oth
 use Rattle.rusty_paseto_paserk.specs.declared.header.PaserkVersion.TheVariants.{V1}
 use Rattle.paseto_tasks.specs.declared.error.ProgramError.{ProgramError}
 use Rattle.paseto_tasks.specs.declared.error.ProgramError.TheVariants.{File}
-use Rattle.paseto_tasks.specs.declared.error.file.FileError.TheVariants.{InPaserk}
+use Rattle.paseto_tasks.specs.declared.error.file.FileError.TheVariants.{InPaserk, SecondLine}
 use Rattle.paseto_key_files.specs.declared.openers.Openers.{Openers}
 use Rattle.paseto_tasks.specs.Error.{IsMemory, key_file_error_of}
 use Rattle.paseto_tasks.specs.Output.{IsLineOf}
@@ -48,16 +48,6 @@ OpensHeld held text answer =
     (openers : Openers) × (rest : List ℕ) × AreOpeners held openers × IsWithoutReturn text rest
     × GivesLine (Unlocks openers rest) (UnlocksNone openers rest) answer
 
--- the text is one that is so, with a line feed behind it
-abbrev pub IsTextBy : (List ℕ → Type 0) → List ℕ → Type 0
-IsTextBy Is text = (made : List ℕ) × Is made × IsLineOf made text
-
--- memory was refused, or the key of this name or the other one is at fault, as this says
-abbrev pub IsOtherFault : List ℕ → List ℕ → (KeyFileError → Type 0) → Fault → Type 0
-IsOtherFault name other Is fault =
-    IsMemory fault.error
-    ⊎ ((source : KeyFileError) × Is source × (fault.about.now ≡ about_of source other name) × (fault.error ≡ key_file_error_of source))
-
 -- ---- lines
 
 -- why a line is not read as a key: key pairs of version 1 are read from PEM alone
@@ -69,3 +59,32 @@ line_error_of error = key_file_error_of error
 abbrev pub IsNoKeyLine : List ℕ → List ℕ → Fault → Type 0
 IsNoKeyLine name line fault =
     IsMemory fault.error ⊎ ((fault.about.now ≡ name) × ((source : KeyFileError) × IsLineFault line source × (fault.error ≡ line_error_of source)))
+
+-- ---- texts
+
+-- the line is the one that a text holds, opened with what is held
+abbrev pub Holds : Held → List ℕ → List ℕ → Type 0
+Holds held text line =
+    (openers : Openers) × (rest : List ℕ) × AreOpeners held openers × IsWithoutReturn text rest × Unlocks openers rest line
+
+-- why a text of this name is not opened: what it holds has a second line, or there is nothing
+abbrev pub HoldsNone : Held → List ℕ → List ℕ → Fault → Type 0
+HoldsNone held name text fault =
+    ((fault.about.now ≡ name) × (fault.error ≡ File SecondLine))
+    ⊎ ((openers : Openers) × (rest : List ℕ) × (source : KeyFileError) × AreOpeners held openers × IsWithoutReturn text rest
+    × UnlocksNone openers rest source × (fault.about.now ≡ about_of source held.key_name.now name) × (fault.error ≡ key_file_error_of source))
+
+-- why a text of this name holds no key: it is not opened, or its line is that of none
+abbrev pub HoldsNoKey : Held → List ℕ → List ℕ → Fault → Type 0
+HoldsNoKey held name text fault =
+    HoldsNone held name text fault ⊎ ((line : List ℕ) × Holds held text line × IsNoKeyLine name line fault)
+
+-- the text is one that is so, with a line feed behind it
+abbrev pub IsTextBy : (List ℕ → Type 0) → List ℕ → Type 0
+IsTextBy Is text = (made : List ℕ) × Is made × IsLineOf made text
+
+-- memory was refused, or the key of this name or the other one is at fault, as this says
+abbrev pub IsOtherFault : List ℕ → List ℕ → (KeyFileError → Type 0) → Fault → Type 0
+IsOtherFault name other Is fault =
+    IsMemory fault.error
+    ⊎ ((source : KeyFileError) × Is source × (fault.about.now ≡ about_of source other name) × (fault.error ≡ key_file_error_of source))

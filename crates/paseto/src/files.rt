@@ -5,9 +5,8 @@ ghost use Rattle.paseto.specs.Files.{input_name, is_standard};
 
 use crate::fault::Fault;
 use crate::folder;
-use paseto_tasks::{FileError, ProgramError, TokenKind, UsageError, write_whole};
+use paseto_tasks::{FileError, ProgramError, TokenKind, UsageError};
 use std::fs::File;
-use std::os::unix::fs::OpenOptionsExt;
 
 /// The name of standard input in lines on standard error.
 const STANDARD_INPUT: &str = "standard input";
@@ -48,39 +47,4 @@ fn no_folder(file: Result<File, ProgramError>) -> Result<File, ProgramError> {
         return Err(ProgramError::File(FileError::IsFolder));
     }
     Ok(file)
-}
-
-/// Writes bytes to a new file, with the permissions of the mode.
-pub fn write_new<'a>(
-    rt: &HostRuntime,
-    path: &'a str,
-    mode: u32,
-    bytes: &[u8],
-) -> Result<(), Fault<'a>> {
-    match new_file(rt, path, mode) {
-        Ok(mut file) => Ok(write_whole(&mut file, bytes)?),
-        Err(error) => Err(Fault::about(path, error)),
-    }
-}
-
-fn new_file(rt: &HostRuntime, path: &str, mode: u32) -> Result<File, ProgramError> {
-    let file = File::options()
-        .write(true)
-        .create_new(true)
-        .mode(mode)
-        .open(rt, path);
-    folder::opened(file)
-}
-
-/// Writes the result to a new file, with the permissions of the mode, or to standard output.
-pub fn put<'a>(
-    rt: &HostRuntime,
-    out: Option<&'a str>,
-    mode: u32,
-    made: &[u8],
-) -> Result<(), Fault<'a>> {
-    match out {
-        Some(path) => write_new(rt, path, mode, made),
-        None => Ok(write_whole(&mut rt.stdout(), made)?),
-    }
 }

@@ -5,9 +5,9 @@ ghost use Rattle.paseto_keys.specs.AnyKey.{parts_of};
 ghost use Rattle.paseto.specs.Half.{IsHalfFault, IsHalfIn};
 
 use crate::fault::Fault;
-use crate::files::put;
 use crate::forms::{format_of, formed};
 use crate::keys::{key_name, key_of};
+use crate::new_file::{free, put_public};
 use paseto_keys::AnyKey;
 use paseto_tasks::{Format, ProgramError};
 use paseto_words::Written;
@@ -17,9 +17,10 @@ use std::alloc::Global;
 /// read.
 pub fn tell<'a>(rt: &HostRuntime, words: &Written<'a>) -> Result<u8, Fault<'a>> {
     let format = format_of(words.format)?;
+    free(rt, words.out)?;
     let key = key_of(rt, &words.key)?;
     let half = half_of(rt.alloc(), key_name(words.key.file), &key, format)?;
-    put(rt, words.out, 0o644, half.as_str().as_bytes())?;
+    put_public(rt, words.out, half.as_str().as_bytes())?;
     Ok(0)
 }
 

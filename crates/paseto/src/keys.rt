@@ -1,11 +1,11 @@
 //! The keys that the arguments name: in a file, on standard input or in the environment, opened if
 //! they are locked.
 
-ghost use Rattle.std.specs.Prelude.{◌≡◌, [], None, IfErr, IfOk, option_map};
+ghost use Rattle.std.specs.Prelude.{◌≡◌, ℕ, List, [], None, IfErr, IfOk, option_map, string_bytes};
 ghost use Rattle.paseto_keys.specs.AnyKey.{parts_of};
 ghost use Rattle.paseto_keys.specs.Line.{IsLineOf};
 ghost use Rattle.paseto_tasks.specs.Error.{key_file_error_of};
-ghost use Rattle.paseto.specs.Keys.{AreOpeners, IsNoKeyLine, IsWithoutReturn, OpensHeld, about_of, key_name, line_error_of};
+ghost use Rattle.paseto.specs.Keys.{AreOpeners, Holds, HoldsNoKey, HoldsNone, IsNoKeyLine, IsWithoutReturn, OpensHeld, about_of, key_name, line_error_of};
 
 use crate::fault::Fault;
 use crate::files::{name_of, opened};
@@ -76,13 +76,20 @@ impl<'a> Held<'a> {
     }
 
     /// The key in the text of a key file of this name.
-    pub fn open(&self, alloc: Global, name: &'a str, text: &str) -> Result<AnyKey, Fault<'a>> {
+    pub fn open(&self, alloc: Global, name: &'a str, text: &str) -> Result<AnyKey, Fault<'a>>
+        ensures found { IfOk result (λ key. (line : List ℕ) × Holds self.now text.now line
+            × IsLineOf line (parts_of key)) }
+        ensures refused { IfErr result (HoldsNoKey self.now name.now text.now) }
+    {
         let line = self.line(alloc, name, text)?;
         key_of_line(alloc, name, line.as_str())
     }
 
     /// The line of the key in the text of a key file of this name.
-    fn line(&self, alloc: Global, name: &'a str, text: &str) -> Result<String, Fault<'a>> {
+    fn line(&self, alloc: Global, name: &'a str, text: &str) -> Result<String, Fault<'a>>
+        ensures held { IfOk result (λ line. Holds self.now text.now (string_bytes line)) }
+        ensures refused { IfErr result (HoldsNone self.now name.now text.now) }
+    {
         match self.unlock(alloc, text) {
             Ok(line) if has_second_line(line.as_str()) => Err(Fault::about(
                 name,

@@ -1,26 +1,31 @@
 //! The commands `wrap`, `unwrap`, `seal` and `unseal`.
 
-ghost use Rattle.std.specs.Prelude.{IfErr, IfOk, string_bytes};
+ghost use Rattle.std.specs.Prelude.{◌≡◌, ◌⊎◌, ℕ, List, IfErr, IfOk, IsErrAnd, MatchBool, OnOk, string_bytes};
 ghost use Rattle.paseto_key_files.specs.Sealing.{SealsLine, SealsNone};
 ghost use Rattle.paseto_key_files.specs.Wrapping.{WrapsLine, WrapsNone};
-ghost use Rattle.paseto_keys.specs.AnyKey.{parts_of};
+ghost use Rattle.paseto_keys.specs.AnyKey.{KeyParts, parts_of};
 ghost use Rattle.paseto_keys.specs.Forms.{ByLine, ByNoLine};
-ghost use Rattle.paseto.specs.Keys.{IsOtherFault, IsTextBy};
+ghost use Rattle.paseto_keys.specs.Line.{IsLineOf};
+ghost use Rattle.paseto.specs.Forms.{HasNoForm};
+ghost use Rattle.paseto.specs.Keys.{Holds, HoldsNoKey, IsKeyFault, IsOtherFault, IsTextBy};
+ghost use Rattle.paseto.specs.Locks.{IsBare, IsLockFault, IsLockedBy, IsUnwrappedFault, IsWrappedAs, OpensIn};
 
 use crate::fault::Fault;
-use crate::files::put;
 use crate::forms::{format_of, formed, locked};
 use crate::keys::{Held, key_file_fault, key_name, key_of, key_text, opener_line, password_of};
+use crate::new_file::{free, put_secret};
 use paseto_keys::AnyKey;
-use paseto_tasks::{FileError, ProgramError, UsageError, with_line_feed};
+use paseto_tasks::{FileError, Format, ProgramError, UsageError, begins_as, with_line_feed};
 use paseto_words::{Seal, Under, Wrap, Written};
 use paseto_wrapping::{WrappedType, wrapped_header_of};
 use rand::rngs::SysRng;
 use rand_core::TryRng;
+use rusty_paseto_paserk::PaserkError;
 use std::alloc::Global;
 
 /// Prints a key wrapped under a password or a wrapping key.
 pub fn wrapped<'a>(rt: &HostRuntime, words: &Wrap<'a>) -> Result<u8, Fault<'a>> {
+    free(rt, words.out)?;
     let name = key_name(words.key);
     let text = key_text(rt, words.key)?;
     let key = Held::nothing().open(rt.alloc(), name, text.as_str())?;
@@ -83,16 +88,96 @@ fn under_password<'a>(
     locked(rt.alloc(), name, key, &password, &mut SysRng::new(rt))
 }
 
-/// Prints the key of a key file, decrypted if it is protected, wrapped or sealed.
+/// Prints the key of a key file that is under a password, wrapped or sealed.
 pub fn unwrapped<'a>(rt: &HostRuntime, words: &Written<'a>) -> Result<u8, Fault<'a>> {
+    opened(rt, words, Lock::Any)
+}
+
+/// Prints the key that was sealed to a public key.
+pub fn unsealed<'a>(rt: &HostRuntime, words: &Written<'a>) -> Result<u8, Fault<'a>> {
+    opened(rt, words, Lock::Seal)
+}
+
+/// Prints the key of a key file that is locked.
+fn opened<'a>(rt: &HostRuntime, words: &Written<'a>, lock: Lock) -> Result<u8, Fault<'a>> {
     let format = format_of(words.format)?;
-    let key = key_of(rt, &words.key)?;
-    let made = formed(rt.alloc(), key_name(words.key.file), &key, format)?;
+    free(rt, words.out)?;
+    let held = Held::of(rt, &words.key.openers)?;
+    let text = key_text(rt, words.key.file)?;
+    let name = key_name(words.key.file);
+    let made = opened_in(rt.alloc(), &held, name, text.as_str(), lock, format)?;
     written(rt, words.out, made.as_str())
+}
+
+/// What a command opens.
+#[derive(Clone, Copy)]
+enum Lock {
+    /// Whatever is under a password, wrapped or sealed.
+    Any,
+    /// What is sealed.
+    Seal,
+}
+
+impl Lock {
+    /// Refuses the text of a key file that does not begin like a key under such a lock.
+    fn admit(self, text: &str) -> Result<(), ProgramError>
+        ensures locked { OnOk result (IsLockedBy self text.now) }
+        ensures refused { IfErr result (λ error. (¬ IsLockedBy self text.now)
+            × IsLockFault self text.now error) }
+    {
+        match (self, lock_of(text)?) {
+            (Lock::Any, _) | (Lock::Seal, WrappedType::Seal) => Ok(()),
+            _ => Err(ProgramError::File(FileError::NotSealed)),
+        }
+    }
+}
+
+/// The type of the locked key that a text begins like. A bare key is refused by another name than what is no key.
+fn lock_of(text: &str) -> Result<WrappedType, ProgramError>
+    ensures found { IfOk result (λ kind. IsWrappedAs kind text.now) }
+    ensures refused { IfErr result (IsUnwrappedFault text.now) }
+{
+    match wrapped_header_of(text) {
+        Some((_, kind, _)) => Ok(kind),
+        None if is_key(text) => Err(ProgramError::File(FileError::NotWrapped)),
+        None => Err(ProgramError::File(FileError::Key(PaserkError::NoKey))),
+    }
+}
+
+/// Whether a text begins like a bare key, in PASERK or in PEM.
+fn is_key(text: &str) -> bool
+    ensures { MatchBool result (IsBare text.now) (¬ IsBare text.now) }
+{
+    text.starts_with("-----BEGIN ") || begins_as(text).is_some()
+}
+
+/// The text of the key in the text of a key file of this name, which is locked.
+fn opened_in<'a>(
+    alloc: Global,
+    held: &Held<'a>,
+    name: &'a str,
+    text: &str,
+    lock: Lock,
+    format: Format,
+) -> Result<String, Fault<'a>>
+    ensures locked { OnOk result (IsLockedBy lock text.now) }
+    ensures opened { IfOk result (λ made. OpensIn format held.now text.now (string_bytes made)) }
+    ensures refused { (¬ IsLockedBy lock text.now) → IsErrAnd result (λ fault.
+        (fault.about.now ≡ name.now) × IsLockFault lock text.now fault.error) }
+    ensures unopened { IsLockedBy lock text.now → IfErr result (λ fault.
+        HoldsNoKey held.now name.now text.now fault
+        ⊎ ((line : List ℕ) × (key : KeyParts) × Holds held.now text.now line × IsLineOf line key
+        × IsKeyFault name.now (HasNoForm format key) fault)) }
+{
+    match lock.admit(text) {
+        Ok(()) => formed(alloc, name, &held.open(alloc, name, text)?, format),
+        Err(error) => Err(Fault::about(name, error)),
+    }
 }
 
 /// Prints a key for local tokens, sealed to a public key.
 pub fn sealed<'a>(rt: &HostRuntime, words: &Seal<'a>) -> Result<u8, Fault<'a>> {
+    free(rt, words.out)?;
     let name = key_name(words.key.file);
     let key = key_of(rt, &words.key)?;
     let to = opener_line(rt, words.to)?;
@@ -127,23 +212,9 @@ fn sealed_to<'a, G: TryRng>(
     }
 }
 
-/// Prints the key that was sealed to a public key.
-pub fn unsealed<'a>(rt: &HostRuntime, words: &Written<'a>) -> Result<u8, Fault<'a>> {
-    let format = format_of(words.format)?;
-    let name = key_name(words.key.file);
-    let held = Held::of(rt, &words.key.openers)?;
-    let text = key_text(rt, words.key.file)?;
-    let Some((_, WrappedType::Seal, _)) = wrapped_header_of(text.as_str()) else {
-        return Err(Fault::about(name, ProgramError::File(FileError::NotSealed)));
-    };
-    let key = held.open(rt.alloc(), name, text.as_str())?;
-    let made = formed(rt.alloc(), name, &key, format)?;
-    written(rt, words.out, made.as_str())
-}
-
 /// Writes the text of a secret key to a new file that its owner alone can read, or to standard output,
 /// and returns the status.
 fn written<'a>(rt: &HostRuntime, out: Option<&'a str>, made: &str) -> Result<u8, Fault<'a>> {
-    put(rt, out, 0o600, made.as_bytes())?;
+    put_secret(rt, out, made.as_bytes())?;
     Ok(0)
 }

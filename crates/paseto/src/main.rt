@@ -14,6 +14,7 @@ mod forms;
 mod half;
 mod keys;
 mod locks;
+mod new_file;
 mod new_key;
 mod options;
 mod texts;

@@ -1,30 +1,33 @@
 //! The command `keygen`.
 
-ghost use Rattle.std.specs.Prelude.{◌≡◌, ◌⊎◌, Bool, Err, IfErr, IfOk, Ok, option_map, string_bytes};
+ghost use Rattle.std.specs.Prelude.{◌≡◌, ◌≢◌, ◌⊎◌, ℕ, List, Bool, Err, IfErr, IfOk, Ok, OnOk, Some, option_map, string_bytes};
 ghost use Rattle.paseto_keys.specs.AnyKey.{parts_of};
 ghost use Rattle.paseto_keys.specs.declared.any_key.AnyKey.{AnyKey as Generated};
 ghost use Rattle.paseto_tasks.specs.Keygen.{IsGenerated};
+ghost use Rattle.paseto_words.specs.Action.{text};
 ghost use Rattle.paseto.specs.NewKey.{IsHalfText, IsKindFault, IsKindFor, IsNoHalfText, IsNotSecret, IsSecretText};
 
 use crate::fault::Fault;
-use crate::files::{put, write_new};
 use crate::forms::{format_of, formed, locked};
 use crate::half::half_of;
 use crate::keys::password_of;
+use crate::new_file::{free, put_pair, put_secret};
 use paseto_keys::AnyKey;
 use paseto_tasks::keygen::keygen;
-use paseto_tasks::{Format, Kind, ProgramError, UsageError};
+use paseto_tasks::{Format, Kind, ProgramError, UsageError, write_whole};
 use paseto_words::Keygen;
 use rand::rngs::SysRng;
 use rand_core::TryRng;
 use std::alloc::Global;
 
 /// Writes a new key, under a password if one is named, to standard output or to a new file, and its
-/// public half to another new file. No file is overwritten, and nothing is printed if a file cannot
-/// be created.
+/// public half to another new file. No file is overwritten; if this fails, neither file is there.
 pub fn make<'a>(rt: &HostRuntime, words: &Keygen<'a>) -> Result<u8, Fault<'a>> {
     let kind = kind_of(words)?;
     let format = format_of(words.format)?;
+    differ(words.out, words.public)?;
+    free(rt, words.out)?;
+    free(rt, words.public)?;
     let password = password_of(rt, words.password)?;
     let password = password.as_deref();
     let (alloc, generator) = (rt.alloc(), &mut SysRng::new(rt));
@@ -32,14 +35,34 @@ pub fn make<'a>(rt: &HostRuntime, words: &Keygen<'a>) -> Result<u8, Fault<'a>> {
     let made = new_texts(
         alloc, words.kind, kind, format, password, asks_half, generator,
     )?;
-    if let (Some(path), Some(half)) = (words.public, &made.public) {
-        write_new(rt, path, 0o644, half.as_str().as_bytes())?;
-    }
-    put(rt, words.out, 0o600, made.secret.as_str().as_bytes())?;
-    if !words.quiet {
-        tell(rt, words, kind, password.is_some())?;
-    }
+    let report = report_of(alloc, words, kind, password.is_some())?;
+    write(rt, words, &made)?;
+    tell(rt, words, report.as_str());
     Ok(0)
+}
+
+/// Refuses two names that are one.
+fn differ(out: Option<&str>, public: Option<&str>) -> Result<(), ProgramError>
+    ensures differ { OnOk result ((path : List ℕ) → text out.entry ≡ Some path
+        → text public.entry ≢ Some path) }
+    ensures same { IfErr result (λ error. (error ≡ ProgramError.Usage UsageError.SameFile) × (path : List ℕ)
+        × (text out.entry ≡ Some path) × (text public.entry ≡ Some path)) }
+{
+    match (out, public) {
+        (Some(out), Some(public)) if out == public => Err(ProgramError::Usage(
+            UsageError::SameFile,
+        )),
+        _ => Ok(()),
+    }
+}
+
+/// Writes the texts to the files that are named, and what has none to standard output.
+fn write<'a>(rt: &HostRuntime, words: &Keygen<'a>, made: &NewTexts) -> Result<(), Fault<'a>> {
+    let secret = made.secret.as_str().as_bytes();
+    match (words.public, &made.public) {
+        (Some(path), Some(half)) => put_pair(rt, words.out, secret, path, half.as_str().as_bytes()),
+        _ => put_secret(rt, words.out, secret),
+    }
 }
 
 /// The kind that the arguments name. If a file for the public half is named, keys of that kind must
@@ -140,13 +163,14 @@ fn secret_text<'a, G: TryRng>(
     }
 }
 
-/// Reports on standard error the files of what was made.
-fn tell(
-    rt: &HostRuntime,
+/// The lines on the files of what is made.
+fn report_of(
+    alloc: Global,
     words: &Keygen<'_>,
     kind: Kind,
     is_locked: bool,
-) -> Result<(), ProgramError> {
+) -> Result<String, ProgramError> {
+    let mut report = String::new(alloc);
     if let Some(path) = words.out {
         let what = if kind.is_pair() {
             "private half of a new key"
@@ -155,10 +179,19 @@ fn tell(
         };
         let how = if is_locked { ", under a password" } else { "" };
         let kind = words.kind;
-        rt.eprintln(&format!(in rt.alloc(); "paseto: {path}: the {what} of kind {kind}{how}")?)?;
+        let line = format!(in alloc; "paseto: {path}: the {what} of kind {kind}{how}\n")?;
+        report.push_str(line.as_str())?;
     }
     if let Some(path) = words.public {
-        rt.eprintln(&format!(in rt.alloc(); "paseto: {path}: its public half")?)?;
+        let line = format!(in alloc; "paseto: {path}: its public half\n")?;
+        report.push_str(line.as_str())?;
     }
-    Ok(())
+    Ok(report)
+}
+
+/// Reports on standard error which files were made. What is made stays made if this fails.
+fn tell(rt: &HostRuntime, words: &Keygen<'_>, report: &str) {
+    if !words.quiet {
+        drop(write_whole(&mut rt.stderr(), report.as_bytes()));
+    }
 }

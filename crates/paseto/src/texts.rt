@@ -5,8 +5,9 @@ ghost use Rattle.paseto_keys.specs.AnyKey.{parts_of};
 ghost use Rattle.paseto.specs.Texts.{DoesTask};
 
 use crate::fault::Fault;
-use crate::files::{is_standard, name_of, opened, put};
+use crate::files::{is_standard, name_of, opened};
 use crate::keys::{key_name, key_of};
+use crate::new_file::{free, put_secret};
 use crate::options::text_options;
 use crate::warning::line_of_text;
 use jiff::Timestamp;
@@ -26,6 +27,7 @@ pub fn keyed<'a>(rt: &HostRuntime, task: Task, words: &Keyed<'a>) -> Result<u8, 
     if words.key.file == Some("-") && is_standard(words.input) {
         return Err(Fault::from(ProgramError::Usage(UsageError::OneInput)));
     }
+    free(rt, words.out)?;
     let key = key_of(rt, &words.key)?;
     match words.input {
         None | Some("-") => with_input(rt, task, words, &key, &mut rt.stdin()),
@@ -56,7 +58,7 @@ fn with_input<'a, R: Read>(
         if matches!(task, Task::Decrypt | Task::Verify) {
             warn_of_times(rt, name_of(words.input), &made)?;
         }
-        put(rt, words.out, 0o600, &made)?;
+        put_secret(rt, words.out, &made)?;
     }
     Ok(status)
 }

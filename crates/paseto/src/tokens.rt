@@ -10,9 +10,10 @@ use crate::commands::check::Keys;
 use crate::commands::run::{run_check, run_issue};
 use crate::commands::times::moment_of;
 use crate::fault::Fault;
-use crate::files::{is_standard, opened, put};
+use crate::files::{is_standard, opened};
 use crate::folder::keys_in;
 use crate::keys::{Held, key_name, key_of};
+use crate::new_file::{free, put_secret};
 use jiff::Timestamp;
 use paseto_tasks::{ProgramError, SystemError, UsageError};
 use paseto_words::{Check, Issue, KeyFile, Keys as KeyWords};
@@ -20,6 +21,7 @@ use rand::rngs::SysRng;
 
 /// Issues a token at the current second.
 pub fn issue<'a>(rt: &HostRuntime, words: &Issue<'a>) -> Result<u8, Fault<'a>> {
+    free(rt, words.out)?;
     let key = key_of(rt, &words.key)?;
     let now = second_of(clock(rt)?)?;
     let (alloc, mut generator, mut errors) = (rt.alloc(), SysRng::new(rt), rt.stderr());
@@ -34,7 +36,7 @@ pub fn issue<'a>(rt: &HostRuntime, words: &Issue<'a>) -> Result<u8, Fault<'a>> {
         &mut errors,
     );
     if status == 0 {
-        put(rt, words.out, 0o600, &made)?;
+        put_secret(rt, words.out, &made)?;
         warn_of_end(rt, words.expires, now)?;
     }
     Ok(status)

@@ -20,7 +20,7 @@ use Rattle.paseto_streams.specs.declared.error.StreamError.TheVariants.{InputOrO
 use Rattle.paseto_tasks.specs.declared.error.About.{About}
 use Rattle.paseto_tasks.specs.declared.error.About.TheVariants.{Key as OfKey, Input as OfInput, Nothing as OfNothing}
 use Rattle.paseto_tasks.specs.declared.error.Names.{Names}
-use Rattle.paseto_tasks.specs.declared.error.file.FileError.TheVariants.{Key, KeyFile, TooLong, OtherHalves, NotPrivate, NoAssertion, NoFile, NoPermission, IsFolder, NotFolder, NoAccess, FileExists}
+use Rattle.paseto_tasks.specs.declared.error.file.FileError.TheVariants.{Key, KeyFile, TooLong, OtherHalves, NotPrivate, NoAssertion, NoFile, NoPermission, IsFolder, NotFolder, NoAccess, FileExists, NoLink}
 use Rattle.paseto_tasks.specs.declared.error.system.SystemError.TheVariants.{Clock, Random, InputOrOutput, Memory}
 use Rattle.paseto_tasks.specs.declared.error.token.TokenError.TheVariants.{Refused, OtherKind, OddClaim, OtherFooter, Unfit, Wrapped}
 use Rattle.paseto_tasks.specs.declared.error.usage.UsageError.TheVariants.{NotText, NoKind, NoHalf}
@@ -141,6 +141,12 @@ file_error PermissionDenied = File NoPermission
 file_error IsADirectory = File IsFolder
 file_error NotADirectory = File NotFolder
 file_error _ = File NoAccess
+
+-- why a new file could not be given its name
+abbrev pub link_error : ErrorKind → ProgramError
+link_error OutOfMemory = System (Memory alloc_error)
+link_error AlreadyExists = File FileExists
+link_error _ = File NoLink
 
 -- memory was refused
 abbrev pub IsMemory : ProgramError → Type 0

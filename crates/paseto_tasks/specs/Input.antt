@@ -7,7 +7,9 @@ use Rattle.std.specs.declared.str.Utf8Error.{Utf8Error as Utf8Fault}
 use Rattle.paseto_streams.specs.Input.{IsInput}
 use Rattle.rusty_paseto_parts.specs.declared.error.PasetoError.TheVariants.{Utf8Error}
 use Rattle.paseto_tasks.specs.declared.error.ProgramError.{ProgramError}
-use Rattle.paseto_tasks.specs.declared.error.ProgramError.TheVariants.{Token}
+use Rattle.paseto_tasks.specs.declared.error.ProgramError.TheVariants.{File, Token}
+use Rattle.paseto_tasks.specs.declared.error.file.FileError.TheVariants.{EmptyKey, Key, TooLong}
+use Rattle.rusty_paseto_paserk.specs.declared.error.PaserkError.TheVariants.{NoKey}
 use Rattle.paseto_tasks.specs.declared.error.token.TokenError.TheVariants.{Refused}
 use Rattle.paseto_tasks.specs.Error.{Blame, nothing}
 
@@ -35,9 +37,11 @@ IsNoText bytes error = (¬ IsUtf8 bytes) × ((fault : Utf8Fault) × (error ≡ T
 abbrev pub IsLong : List ℕ → Type 0
 IsLong bytes = 4096 < length bytes
 
--- the bytes are no key file: too many, or no text
-abbrev pub IsNoKeyFile : List ℕ → Type 0
-IsNoKeyFile bytes = IsLong bytes ⊎ (¬ IsUtf8 (line_of_input bytes))
+-- why bytes are no key file: they are too many, empty, or no text
+abbrev pub IsNoKeyFile : List ℕ → ProgramError → Type 0
+IsNoKeyFile bytes error =
+    (IsLong bytes × (error ≡ File TooLong))
+    ⊎ (((line_of_input bytes ≡ []) × (error ≡ File EmptyKey)) ⊎ ((¬ IsUtf8 (line_of_input bytes)) × (error ≡ File (Key NoKey))))
 
 -- the bytes are no password: too many, or none
 abbrev pub IsNoPassword : List ℕ → Type 0

@@ -9,7 +9,7 @@ ghost use Rattle.rusty_paseto_parts.specs.declared.error.PasetoError.TheVariants
 ghost use Rattle.paseto_tasks.specs.declared.error.ProgramError.TheVariants.{System, Token};
 ghost use Rattle.paseto_tasks.specs.declared.error.system.SystemError.TheVariants.{InputOrOutput, Memory};
 ghost use Rattle.paseto_tasks.specs.declared.error.token.TokenError.TheVariants.{Refused};
-ghost use Rattle.paseto_tasks.specs.Error.{colon_behind, file_error, joined, key_error_of, key_file_error_of, line_of, name_of, program_error_of, status_of, stream_error_of, subject_of, text_of, token_error_of, use_error_of, words_error};
+ghost use Rattle.paseto_tasks.specs.Error.{colon_behind, file_error, joined, key_error_of, key_file_error_of, line_of, link_error, name_of, program_error_of, status_of, stream_error_of, subject_of, text_of, token_error_of, use_error_of, words_error};
 
 mod file;
 mod system;
@@ -158,6 +158,17 @@ impl ProgramError {
             io::ErrorKind::IsADirectory => ProgramError::File(FileError::IsFolder),
             io::ErrorKind::NotADirectory => ProgramError::File(FileError::NotFolder),
             _ => ProgramError::File(FileError::NoAccess),
+        }
+    }
+
+    /// Why a new file could not be given its name.
+    pub fn of_link(source: &io::Error) -> ProgramError
+        ensures { result ≡ link_error (error_kind source.now) }
+    {
+        match source.kind() {
+            io::ErrorKind::OutOfMemory => ProgramError::from(AllocError),
+            io::ErrorKind::AlreadyExists => ProgramError::File(FileError::FileExists),
+            _ => ProgramError::File(FileError::NoLink),
         }
     }
 

@@ -45,17 +45,21 @@ pub fn read_token<R: Read>(alloc: Global, input: &mut R) -> Result<String, Progr
 }
 
 /// Reads the line of a key file. This reads little more than the longest line of a key. A longer
-/// file is refused as `TooLong`, and bytes that are not text as `Key(NoKey)`.
+/// file is refused as `TooLong`, an empty line as `EmptyKey`, and bytes that are not text as `Key(NoKey)`.
 pub fn read_key_line<K: Read>(alloc: Global, file: &mut K) -> Result<String, ProgramError>
     ensures line { IfOk result (λ line. IfSome (K.remaining file.old)
         (λ bytes. line_of_input bytes ≡ string_bytes line)) }
+    ensures some { IfOk result (λ line. string_bytes line ≢ []) }
     ensures refused { IfErr result (λ error. IfSome (K.remaining file.old)
-        (λ bytes. IsOutside error ⊎ IsNoKeyFile bytes)) }
+        (λ bytes. IsOutside error ⊎ IsNoKeyFile bytes error)) }
     ensures no_usage { IfErr result IsNoUsage }
     ensures plain { IfErr result (IsPlainBut (record reading
         { too_long = IfSome (K.remaining file.old) IsLong })) }
 {
     let bytes = read_short(alloc, file)?;
+    if without_line_feed(&bytes).is_empty() {
+        return Err(ProgramError::File(FileError::EmptyKey));
+    }
     let Ok(line) = str::from_utf8(without_line_feed(&bytes)) else {
         return Err(ProgramError::from(PaserkError::NoKey));
     };

@@ -50,6 +50,7 @@ pub record SealWords : Type 0 where
 
 pub record IssueWords : Type 0 where
   pub key : KeyFileWords
+  pub ring : Option Text
   pub claims : List Text
   pub expires : Option Text
   pub not_before : Option Text
@@ -68,12 +69,16 @@ pub record CheckWords : Type 0 where
   pub leeway : Option Text
   pub foot : Option Text × Option Text
   pub assertion : Option Text
+  pub longest : Option Text
   pub input : Option Text
 
 pub record KeyedWords : Type 0 where
   pub key : KeyFileWords
+  -- a folder of key files
+  pub ring : Option Text
   pub footer : Option Text
   pub assertion : Option Text
+  pub longest : Option Text
   pub input : Option Text
   pub out : Option Text
 
@@ -83,6 +88,11 @@ pub record ExplainWords : Type 0 where
   pub issued : Text
   pub footer : Option Text
   pub assertion : Option Text
+  pub longest : Option Text
+  pub input : Option Text
+
+pub record InspectWords : Type 0 where
+  pub longest : Option Text
   pub input : Option Text
 
 -- what words ask for
@@ -101,8 +111,7 @@ pub data Asked : Type 0 where
   to_sign : KeyedWords → Asked
   to_verify : KeyedWords → Asked
   to_explain : ExplainWords → Asked
-  -- an input
-  to_inspect : Option Text → Asked
+  to_inspect : InspectWords → Asked
 
 -- ---- an action, as texts
 
@@ -139,8 +148,10 @@ written_words a = record { key = key_file_words a.key; format = text a.format; o
 abbrev pub keyed_words : Keyed → KeyedWords
 keyed_words a = record {
   key = key_file_words a.key;
+  ring = text a.ring;
   footer = text a.footer;
   assertion = text a.assertion;
+  longest = text a.longest;
   input = text a.input;
   out = text a.out;
 }
@@ -162,6 +173,7 @@ plain (action.Seal a) = Asked.to_seal (record { key = key_file_words a.key; to =
 plain (action.Unseal a) = Asked.to_unseal (written_words a)
 plain (action.Issue a) = Asked.to_issue (record {
   key = key_file_words a.key;
+  ring = text a.ring;
   claims = texts_of a.claims.items;
   expires = text a.expires;
   not_before = text a.not_before;
@@ -178,6 +190,7 @@ plain (action.Check a) = Asked.to_check (record {
   leeway = text a.leeway;
   foot = footing a.foot;
   assertion = text a.assertion;
+  longest = text a.longest;
   input = text a.input;
 })
 plain (action.Encrypt a) = Asked.to_encrypt (keyed_words a)
@@ -189,6 +202,7 @@ plain (action.Explain a) = Asked.to_explain (record {
   issued = a.issued.now;
   footer = text a.footer;
   assertion = text a.assertion;
+  longest = text a.longest;
   input = text a.input;
 })
-plain (action.Inspect input) = Asked.to_inspect (text input)
+plain (action.Inspect a) = Asked.to_inspect (record { longest = text a.longest; input = text a.input })

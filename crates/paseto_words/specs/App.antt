@@ -66,7 +66,7 @@ abbrev pub seal_app : App
 seal_app = command (codes "seal") (key_rules ++ needed (option_rule (codes "to")) ∷ option_rule (codes "out") ∷ [])
 
 abbrev pub issue_app : App
-issue_app = command (codes "issue") (key_rules ++ many_rule (codes "claim") ∷ option_rule (codes "expires")
+issue_app = command (codes "issue") (key_rules ++ option_rule (codes "ring") ∷ many_rule (codes "claim") ∷ option_rule (codes "expires")
     ∷ option_rule (codes "not-before") ∷ option_rule (codes "footer") ∷ option_rule (codes "footer-kid")
     ∷ option_rule (codes "assertion") ∷ option_rule (codes "out") ∷ [])
 
@@ -74,25 +74,26 @@ abbrev pub check_app : App
 check_app = command (codes "check") (key_rules ++ option_rule (codes "ring") ∷ many_rule (codes "claim")
     ∷ many_rule (codes "require") ∷ option_rule (codes "at") ∷ option_rule (codes "leeway")
     ∷ option_rule (codes "footer") ∷ option_rule (codes "footer-kid") ∷ option_rule (codes "assertion")
-    ∷ place_rule (codes "input") ∷ [])
+    ∷ option_rule (codes "longest") ∷ place_rule (codes "input") ∷ [])
 
--- what a command takes that takes a token
-abbrev pub opening_rules : List Rule
-opening_rules = key_rules ++ option_rule (codes "footer") ∷ option_rule (codes "assertion") ∷ place_rule (codes "input") ∷ []
+-- what a command takes, beside its key, that takes a text or a token
+abbrev pub input_rules : List Rule
+input_rules = option_rule (codes "footer") ∷ option_rule (codes "assertion") ∷ option_rule (codes "longest")
+    ∷ place_rule (codes "input") ∷ []
 
+-- a command that takes a token
 abbrev pub opening_app : Text → App
-opening_app name = command name opening_rules
+opening_app name = command name (key_rules ++ option_rule (codes "ring") ∷ input_rules)
 
 -- a command that takes a text and makes a token
 abbrev pub sealing_app : Text → App
-sealing_app name = command name (opening_rules ++ option_rule (codes "out") ∷ [])
+sealing_app name = command name (key_rules ++ input_rules ++ option_rule (codes "out") ∷ [])
 
 abbrev pub explain_app : App
-explain_app = command (codes "explain") (key_rules ++ needed (option_rule (codes "issued"))
-    ∷ option_rule (codes "footer") ∷ option_rule (codes "assertion") ∷ place_rule (codes "input") ∷ [])
+explain_app = command (codes "explain") (key_rules ++ needed (option_rule (codes "issued")) ∷ input_rules)
 
 abbrev pub inspect_app : App
-inspect_app = command (codes "inspect") (place_rule (codes "input") ∷ [])
+inspect_app = command (codes "inspect") (option_rule (codes "longest") ∷ place_rule (codes "input") ∷ [])
 
 abbrev pub top_app : App
 top_app = on_top (λ s. record s { has_version = true; subcommand_required = true; arg_required_else_help = true })

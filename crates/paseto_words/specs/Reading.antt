@@ -63,15 +63,16 @@ seal_in rows = option_map (λ to. Asked.to_seal (record {
 })) (first_of (codes "to") rows)
 
 abbrev pub issue_in : List Row → Option Asked
-issue_in rows = option_map (λ foot. Asked.to_issue (record {
+issue_in rows = option_and_then (λ keys. option_map (λ foot. Asked.to_issue (record {
   key = key_file_in rows;
+  ring = keys.1;
   claims = all_in (codes "claim") rows;
   expires = first_of (codes "expires") rows;
   not_before = first_of (codes "not-before") rows;
   foot = foot;
   assertion = first_of (codes "assertion") rows;
   out = first_of (codes "out") rows;
-})) (foot_in rows)
+})) (foot_in rows)) (keys_in rows)
 
 abbrev pub check_in : List Row → Option Asked
 check_in rows = option_and_then (λ keys. option_map (λ foot. Asked.to_check (record {
@@ -83,17 +84,20 @@ check_in rows = option_and_then (λ keys. option_map (λ foot. Asked.to_check (r
   leeway = first_of (codes "leeway") rows;
   foot = foot;
   assertion = first_of (codes "assertion") rows;
+  longest = first_of (codes "longest") rows;
   input = first_of (codes "input") rows;
 })) (foot_in rows)) (keys_in rows)
 
-abbrev pub keyed_in : List Row → KeyedWords
-keyed_in rows = record {
+abbrev pub keyed_in : List Row → Option KeyedWords
+keyed_in rows = option_map (λ keys. record {
   key = key_file_in rows;
+  ring = keys.1;
   footer = first_of (codes "footer") rows;
   assertion = first_of (codes "assertion") rows;
+  longest = first_of (codes "longest") rows;
   input = first_of (codes "input") rows;
   out = first_of (codes "out") rows;
-}
+}) (keys_in rows)
 
 abbrev pub explain_in : List Row → Option Asked
 explain_in rows = option_map (λ issued. Asked.to_explain (record {
@@ -101,8 +105,12 @@ explain_in rows = option_map (λ issued. Asked.to_explain (record {
   issued = issued;
   footer = first_of (codes "footer") rows;
   assertion = first_of (codes "assertion") rows;
+  longest = first_of (codes "longest") rows;
   input = first_of (codes "input") rows;
 })) (first_of (codes "issued") rows)
+
+abbrev pub inspect_in : List Row → Asked
+inspect_in rows = Asked.to_inspect (record { longest = first_of (codes "longest") rows; input = first_of (codes "input") rows })
 
 -- what a command's matches ask for
 abbrev pub asked_in : Text → List Row → Option Asked
@@ -116,12 +124,12 @@ asked_in name rows =
     else if is name (codes "unseal") then Some (Asked.to_unseal (written_in rows))
     else if is name (codes "issue") then issue_in rows
     else if is name (codes "check") then check_in rows
-    else if is name (codes "encrypt") then Some (Asked.to_encrypt (keyed_in rows))
-    else if is name (codes "decrypt") then Some (Asked.to_decrypt (keyed_in rows))
-    else if is name (codes "sign") then Some (Asked.to_sign (keyed_in rows))
-    else if is name (codes "verify") then Some (Asked.to_verify (keyed_in rows))
+    else if is name (codes "encrypt") then option_map Asked.to_encrypt (keyed_in rows)
+    else if is name (codes "decrypt") then option_map Asked.to_decrypt (keyed_in rows)
+    else if is name (codes "sign") then option_map Asked.to_sign (keyed_in rows)
+    else if is name (codes "verify") then option_map Asked.to_verify (keyed_in rows)
     else if is name (codes "explain") then explain_in rows
-    else if is name (codes "inspect") then Some (Asked.to_inspect (first_of (codes "input") rows))
+    else if is name (codes "inspect") then Some (inspect_in rows)
     else None
 
 -- what the program's matches ask for, by the command that clap finds in the words

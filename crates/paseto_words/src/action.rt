@@ -101,12 +101,14 @@ pub struct Seal<'a> {
     pub out: Option<&'a str>,
 }
 
-/// `issue [--key FILE] [--password-file FILE] [--unlock-key FILE] [--claim CLAIM].. [--expires TIME] [--not-before TIME]
+/// `issue [--key FILE | --ring FOLDER] [--password-file FILE] [--unlock-key FILE] [--claim CLAIM].. [--expires TIME] [--not-before TIME]
 /// [--footer TEXT | --footer-kid ID] [--assertion TEXT] [--out FILE]`
 #[derive(Drop)]
 pub struct Issue<'a> {
     /// The key file.
     pub key: KeyFile<'a>,
+    /// The folder of key files, in place of a key file.
+    pub ring: Option<&'a str>,
     /// The claims, in order.
     pub claims: Vec<&'a str>,
     /// When the token expires.
@@ -122,7 +124,7 @@ pub struct Issue<'a> {
 }
 
 /// `check [--key FILE | --ring FOLDER] [--password-file FILE] [--unlock-key FILE] [--claim CLAIM].. [--require NAME]..
-/// [--at TIME] [--leeway TIME] [--footer TEXT | --footer-kid ID] [--assertion TEXT] [INPUT]`
+/// [--at TIME] [--leeway TIME] [--footer TEXT | --footer-kid ID] [--assertion TEXT] [--longest BYTES] [INPUT]`
 #[derive(Drop)]
 pub struct Check<'a> {
     /// The key file, or the folder of key files.
@@ -141,20 +143,27 @@ pub struct Check<'a> {
     pub foot: Foot<'a>,
     /// Its implicit assertion.
     pub assertion: Option<&'a str>,
+    /// The number of bytes that the token may have. It may be invalid.
+    pub longest: Option<&'a str>,
     /// The file of the token.
     pub input: Option<&'a str>,
 }
 
 /// `encrypt`, `decrypt`, `sign` or `verify [--key FILE] [--password-file FILE] [--unlock-key FILE]
-/// [--footer TEXT] [--assertion TEXT] [INPUT]`; `encrypt` and `sign` also take `--out FILE`
+/// [--footer TEXT] [--assertion TEXT] [--longest BYTES] [INPUT]`; `encrypt` and `sign` also take `--out FILE`, and
+/// `decrypt` and `verify` `--ring FOLDER` in place of `--key FILE`
 #[derive(Clone, Copy)]
 pub struct Keyed<'a> {
     /// The key file.
     pub key: KeyFile<'a>,
+    /// The folder of key files, in place of a key file.
+    pub ring: Option<&'a str>,
     /// The token's footer.
     pub footer: Option<&'a str>,
     /// Its implicit assertion.
     pub assertion: Option<&'a str>,
+    /// The number of bytes that the text or the token may have. It may be invalid.
+    pub longest: Option<&'a str>,
     /// The file of the text or the token.
     pub input: Option<&'a str>,
     /// The file of the token that is made.
@@ -162,7 +171,7 @@ pub struct Keyed<'a> {
 }
 
 /// `explain [--key FILE] [--password-file FILE] [--unlock-key FILE] --issued FILE [--footer TEXT] [--assertion TEXT]
-/// [INPUT]`
+/// [--longest BYTES] [INPUT]`
 #[derive(Clone, Copy)]
 pub struct Explain<'a> {
     /// The key file.
@@ -173,6 +182,17 @@ pub struct Explain<'a> {
     pub footer: Option<&'a str>,
     /// The implicit assertion of the token.
     pub assertion: Option<&'a str>,
+    /// The number of bytes that the token and the file of issued ones may have. It may be invalid.
+    pub longest: Option<&'a str>,
+    /// The file of the token.
+    pub input: Option<&'a str>,
+}
+
+/// `inspect [--longest BYTES] [INPUT]`
+#[derive(Clone, Copy)]
+pub struct Inspect<'a> {
+    /// The number of bytes that the token may have. It may be invalid.
+    pub longest: Option<&'a str>,
     /// The file of the token.
     pub input: Option<&'a str>,
 }
@@ -208,6 +228,6 @@ pub enum Action<'a> {
     Verify(Keyed<'a>),
     /// `explain`
     Explain(Explain<'a>),
-    /// `inspect [INPUT]`
-    Inspect(Option<&'a str>),
+    /// `inspect`
+    Inspect(Inspect<'a>),
 }

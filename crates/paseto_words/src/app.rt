@@ -189,6 +189,21 @@ const RING: Parameter = Parameter {
     is_required: false,
 };
 
+/// The folder of the keys that sign.
+const SIGNING_RING: Parameter = Parameter {
+    id: "ring",
+    form: Form::Option("FOLDER"),
+    help: "A folder of key files; the last private one by name signs, and the footer names it",
+    is_required: false,
+};
+
+const LONGEST: Parameter = Parameter {
+    id: "longest",
+    form: Form::Option("BYTES"),
+    help: "The most bytes that the input may have, instead of 64000000",
+    is_required: false,
+};
+
 const REQUIRE: Parameter = Parameter {
     id: "require",
     form: Form::Many("NAME"),
@@ -244,7 +259,7 @@ const WRAP: Subcommand = Subcommand {
 
 const UNWRAP: Subcommand = Subcommand {
     name: "unwrap",
-    about: "Prints the key of a key file, decrypted if it is protected, wrapped or sealed",
+    about: "Prints the key of a key file that is under a password, wrapped or sealed",
     example: "Example: paseto unwrap --key locked.key --password-file password --out office.key",
     usage: None,
     parameters: &[KEY, PASSWORD, OPENER, FORMAT, OUT],
@@ -272,7 +287,17 @@ const ISSUE: Subcommand = Subcommand {
     example: "Example: paseto issue --key office.key --claim seats:=4 --claim aud=customers --expires 1h",
     usage: None,
     parameters: &[
-        KEY, PASSWORD, OPENER, CLAIM, EXPIRES, NOT_BEFORE, FOOTER, KID, ASSERTION, OUT,
+        KEY,
+        PASSWORD,
+        OPENER,
+        SIGNING_RING,
+        CLAIM,
+        EXPIRES,
+        NOT_BEFORE,
+        FOOTER,
+        KID,
+        ASSERTION,
+        OUT,
     ],
 };
 
@@ -282,7 +307,8 @@ const CHECK: Subcommand = Subcommand {
     example: "Example: paseto check --key office.key --claim aud=customers token",
     usage: Some("paseto check [--key <FILE> | --ring <FOLDER>] [OPTIONS] [INPUT]"),
     parameters: &[
-        KEY, PASSWORD, OPENER, RING, CLAIM, REQUIRE, AT, LEEWAY, FOOTER, KID, ASSERTION, INPUT,
+        KEY, PASSWORD, OPENER, RING, CLAIM, REQUIRE, AT, LEEWAY, FOOTER, KID, ASSERTION, LONGEST,
+        INPUT,
     ],
 };
 
@@ -291,7 +317,9 @@ const ENCRYPT: Subcommand = Subcommand {
     about: "Encrypts a text and prints the token",
     example: "Example: echo hello | paseto encrypt --key office.key",
     usage: None,
-    parameters: &[KEY, PASSWORD, OPENER, FOOTER, ASSERTION, INPUT, OUT],
+    parameters: &[
+        KEY, PASSWORD, OPENER, FOOTER, ASSERTION, LONGEST, INPUT, OUT,
+    ],
 };
 
 const DECRYPT: Subcommand = Subcommand {
@@ -299,7 +327,9 @@ const DECRYPT: Subcommand = Subcommand {
     about: "Decrypts a token and prints its text, without a check of its times",
     example: "Example: paseto decrypt --key office.key token",
     usage: None,
-    parameters: &[KEY, PASSWORD, OPENER, FOOTER, ASSERTION, INPUT],
+    parameters: &[
+        KEY, PASSWORD, OPENER, RING, FOOTER, ASSERTION, LONGEST, INPUT,
+    ],
 };
 
 const SIGN: Subcommand = Subcommand {
@@ -307,7 +337,9 @@ const SIGN: Subcommand = Subcommand {
     about: "Signs a text and prints the token, which everyone can read",
     example: "Example: echo hello | paseto sign --key signing.key",
     usage: None,
-    parameters: &[KEY, PASSWORD, OPENER, FOOTER, ASSERTION, INPUT, OUT],
+    parameters: &[
+        KEY, PASSWORD, OPENER, FOOTER, ASSERTION, LONGEST, INPUT, OUT,
+    ],
 };
 
 const VERIFY: Subcommand = Subcommand {
@@ -315,7 +347,9 @@ const VERIFY: Subcommand = Subcommand {
     about: "Verifies a signed token and prints its text, without a check of its times",
     example: "Example: paseto verify --key verifying.key token",
     usage: None,
-    parameters: &[KEY, PASSWORD, OPENER, FOOTER, ASSERTION, INPUT],
+    parameters: &[
+        KEY, PASSWORD, OPENER, RING, FOOTER, ASSERTION, LONGEST, INPUT,
+    ],
 };
 
 const EXPLAIN: Subcommand = Subcommand {
@@ -323,7 +357,9 @@ const EXPLAIN: Subcommand = Subcommand {
     about: "Says which issued token a token is (status 0), or that it is a forgery (status 1)",
     example: "Example: paseto explain --key office.key --issued tokens.log token",
     usage: None,
-    parameters: &[KEY, PASSWORD, OPENER, ISSUED, FOOTER, ASSERTION, INPUT],
+    parameters: &[
+        KEY, PASSWORD, OPENER, ISSUED, FOOTER, ASSERTION, LONGEST, INPUT,
+    ],
 };
 
 const INSPECT: Subcommand = Subcommand {
@@ -331,7 +367,7 @@ const INSPECT: Subcommand = Subcommand {
     about: "Shows what a token contains, without verifying it, or which key a text is",
     example: "Example: paseto inspect token",
     usage: None,
-    parameters: &[INPUT],
+    parameters: &[LONGEST, INPUT],
 };
 
 /// The commands for keys.
@@ -459,11 +495,34 @@ pub struct Conflict {
     text: &'static str,
 }
 
+const KEY_AND_RING: &str = "the argument '--key <FILE>' cannot be used with '--ring <FOLDER>'";
+
 /// `--key` and `--ring` of `check`.
 pub const TWO_KEYS: Conflict = Conflict {
     subcommand: &CHECK,
     full_name: "paseto check",
-    text: "the argument '--key <FILE>' cannot be used with '--ring <FOLDER>'",
+    text: KEY_AND_RING,
+};
+
+/// `--key` and `--ring` of `issue`.
+pub const TWO_KEYS_TO_ISSUE: Conflict = Conflict {
+    subcommand: &ISSUE,
+    full_name: "paseto issue",
+    text: KEY_AND_RING,
+};
+
+/// `--key` and `--ring` of `decrypt`.
+pub const TWO_KEYS_TO_DECRYPT: Conflict = Conflict {
+    subcommand: &DECRYPT,
+    full_name: "paseto decrypt",
+    text: KEY_AND_RING,
+};
+
+/// `--key` and `--ring` of `verify`.
+pub const TWO_KEYS_TO_VERIFY: Conflict = Conflict {
+    subcommand: &VERIFY,
+    full_name: "paseto verify",
+    text: KEY_AND_RING,
 };
 
 /// `--footer` and `--footer-kid` of `check`.

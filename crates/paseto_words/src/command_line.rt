@@ -9,7 +9,8 @@ ghost use Rattle.paseto_words.specs.Reading.{found_in};
 
 use crate::action::Action;
 use crate::app::{
-    Conflict, TWO_FOOTERS_TO_CHECK, TWO_FOOTERS_TO_ISSUE, TWO_KEYS, TWO_LOCKS, paseto,
+    Conflict, TWO_FOOTERS_TO_CHECK, TWO_FOOTERS_TO_ISSUE, TWO_KEYS, TWO_KEYS_TO_DECRYPT,
+    TWO_KEYS_TO_ISSUE, TWO_KEYS_TO_VERIFY, TWO_LOCKS, paseto,
 };
 use crate::reading::{found, has};
 use clap::error::ErrorKind;
@@ -65,6 +66,9 @@ fn conflict_in(matches: &ArgMatches<'_>) -> Conflict {
     match matches.subcommand() {
         Some(("check", inner)) if has(inner, "key") && has(inner, "ring") => TWO_KEYS,
         Some(("check", _)) => TWO_FOOTERS_TO_CHECK,
+        Some(("issue", inner)) if has(inner, "key") && has(inner, "ring") => TWO_KEYS_TO_ISSUE,
+        Some(("decrypt", _)) => TWO_KEYS_TO_DECRYPT,
+        Some(("verify", _)) => TWO_KEYS_TO_VERIFY,
         Some(("wrap", _)) => TWO_LOCKS,
         _ => TWO_FOOTERS_TO_ISSUE,
     }

@@ -8,8 +8,8 @@ mod command_line;
 mod reading;
 
 pub use action::{
-    Action, Check, Explain, Foot, Issue, KeyFile, Keyed, Keygen, Keys, Openers, Seal, Under, Wrap,
-    Written,
+    Action, Check, Explain, Foot, Inspect, Issue, KeyFile, Keyed, Keygen, Keys, Openers, Seal,
+    Under, Wrap, Written,
 };
 pub use app::paseto;
 pub use command_line::{parse, status};

@@ -3,12 +3,12 @@
 ghost use Rattle.std.specs.Prelude.{◌≡◌, IfOk, [], is_some, option_map, unwrap_or};
 ghost use Rattle.clap.specs.Words.{all_of, first_of, subcommand_rows_of};
 ghost use Rattle.clap.specs.Walk.{texts};
-ghost use Rattle.paseto_words.specs.Action.{footing, key_file_words, keyed_words, keying, openers_words, plain, underlying, written_words};
-ghost use Rattle.paseto_words.specs.Reading.{asked_in, check_in, explain_in, foot_in, found_in, issue_in, key_file_in, keyed_in, keygen_in, keys_in, openers_in, rows_in, says, seal_in, under_in, wrap_in, written_in};
+ghost use Rattle.paseto_words.specs.Action.{footing, key_file_words, keyed_words, keying, text as plain_text, openers_words, plain, underlying, written_words};
+ghost use Rattle.paseto_words.specs.Reading.{asked_in, check_in, explain_in, foot_in, found_in, inspect_in, issue_in, key_file_in, keyed_in, keygen_in, keys_in, openers_in, rows_in, says, seal_in, under_in, wrap_in, written_in};
 
 use crate::action::{
-    Action, Check, Explain, Foot, Issue, KeyFile, Keyed, Keygen, Keys, Openers, Seal, Under, Wrap,
-    Written,
+    Action, Check, Explain, Foot, Inspect, Issue, KeyFile, Keyed, Keygen, Keys, Openers, Seal,
+    Under, Wrap, Written,
 };
 use clap::ArgMatches;
 use std::alloc::{AllocError, Global};
@@ -76,12 +76,12 @@ fn action_of<'a>(
         "unseal" => Ok(Some(Action::Unseal(written_of(matches)))),
         "issue" => issue_of(alloc, matches),
         "check" => check_of(alloc, matches),
-        "encrypt" => Ok(Some(Action::Encrypt(keyed_of(matches)))),
-        "decrypt" => Ok(Some(Action::Decrypt(keyed_of(matches)))),
-        "sign" => Ok(Some(Action::Sign(keyed_of(matches)))),
-        "verify" => Ok(Some(Action::Verify(keyed_of(matches)))),
+        "encrypt" => Ok(keyed_of(matches).map(Action::Encrypt)),
+        "decrypt" => Ok(keyed_of(matches).map(Action::Decrypt)),
+        "sign" => Ok(keyed_of(matches).map(Action::Sign)),
+        "verify" => Ok(keyed_of(matches).map(Action::Verify)),
         "explain" => Ok(explain_of(matches)),
-        "inspect" => Ok(Some(Action::Inspect(text(matches, "input")))),
+        "inspect" => Ok(Some(inspect_of(matches))),
         _ => Ok(None),
     }
 }
@@ -162,21 +162,33 @@ fn seal_of<'a>(matches: &ArgMatches<'a>) -> Option<Action<'a>>
     Some(Action::Seal(Seal { key, to, out }))
 }
 
-fn keyed_of<'a>(matches: &ArgMatches<'a>) -> Keyed<'a>
-    ensures { keyed_words result ≡ keyed_in (rows_in matches.now) }
+fn keyed_of<'a>(matches: &ArgMatches<'a>) -> Option<Keyed<'a>>
+    ensures { option_map keyed_words result ≡ keyed_in (rows_in matches.now) }
 {
+    let ring = ring_of(matches)?;
     let key = key_file_of(matches);
     let footer = text(matches, "footer");
     let assertion = text(matches, "assertion");
+    let longest = text(matches, "longest");
     let input = text(matches, "input");
     let out = text(matches, "out");
-    Keyed {
+    Some(Keyed {
         key,
+        ring,
         footer,
         assertion,
+        longest,
         input,
         out,
-    }
+    })
+}
+
+fn inspect_of<'a>(matches: &ArgMatches<'a>) -> Action<'a>
+    ensures { plain result ≡ inspect_in (rows_in matches.now) }
+{
+    let longest = text(matches, "longest");
+    let input = text(matches, "input");
+    Action::Inspect(Inspect { longest, input })
 }
 
 fn explain_of<'a>(matches: &ArgMatches<'a>) -> Option<Action<'a>>
@@ -186,12 +198,14 @@ fn explain_of<'a>(matches: &ArgMatches<'a>) -> Option<Action<'a>>
     let key = key_file_of(matches);
     let footer = text(matches, "footer");
     let assertion = text(matches, "assertion");
+    let longest = text(matches, "longest");
     let input = text(matches, "input");
     Some(Action::Explain(Explain {
         key,
         issued,
         footer,
         assertion,
+        longest,
         input,
     }))
 }
@@ -210,7 +224,7 @@ fn foot_of<'a>(matches: &ArgMatches<'a>) -> Option<Foot<'a>>
 fn issue_of<'a>(alloc: Global, matches: &ArgMatches<'a>) -> Result<Option<Action<'a>>, AllocError>
     ensures { IfOk result (λ action. option_map plain action ≡ issue_in (rows_in matches.now)) }
 {
-    let Some(foot) = foot_of(matches) else {
+    let (Some(ring), Some(foot)) = (ring_of(matches), foot_of(matches)) else {
         return Ok(None);
     };
     let key = key_file_of(matches);
@@ -221,6 +235,7 @@ fn issue_of<'a>(alloc: Global, matches: &ArgMatches<'a>) -> Result<Option<Action
     let out = text(matches, "out");
     Ok(Some(Action::Issue(Issue {
         key,
+        ring,
         claims,
         expires,
         not_before,
@@ -228,6 +243,16 @@ fn issue_of<'a>(alloc: Global, matches: &ArgMatches<'a>) -> Result<Option<Action
         assertion,
         out,
     })))
+}
+
+/// The folder of key files, unless a key file is also named.
+fn ring_of<'a>(matches: &ArgMatches<'a>) -> Option<Option<&'a str>>
+    ensures { option_map plain_text result ≡ option_map (λ keys. keys.1) (keys_in (rows_in matches.now)) }
+{
+    match (text(matches, "key"), text(matches, "ring")) {
+        (Some(_), Some(_)) => None,
+        (_, ring) => Some(ring),
+    }
 }
 
 fn keys_of<'a>(matches: &ArgMatches<'a>) -> Option<Keys<'a>>
@@ -253,6 +278,7 @@ fn check_of<'a>(alloc: Global, matches: &ArgMatches<'a>) -> Result<Option<Action
     let at = text(matches, "at");
     let leeway = text(matches, "leeway");
     let assertion = text(matches, "assertion");
+    let longest = text(matches, "longest");
     let input = text(matches, "input");
     Ok(Some(Action::Check(Check {
         keys,
@@ -263,6 +289,7 @@ fn check_of<'a>(alloc: Global, matches: &ArgMatches<'a>) -> Result<Option<Action
         leeway,
         foot,
         assertion,
+        longest,
         input,
     })))
 }

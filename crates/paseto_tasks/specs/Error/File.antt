@@ -9,7 +9,7 @@ use Rattle.paseto_pem.specs.declared.label.Label.TheVariants.{EncryptedPrivateKe
 use Rattle.rusty_paseto_paserk.specs.Error.{error_text as key_error_text}
 use Rattle.rusty_paseto_paserk.specs.declared.error.PaserkError.TheVariants.{Memory as NoKeyMemory}
 use Rattle.paseto_tasks.specs.declared.error.file.FileError.{FileError}
-use Rattle.paseto_tasks.specs.declared.error.file.FileError.TheVariants.{Key, KeyFile, InPaserk, NotSealed, SecondLine, TooLong, OtherHalves, NotPrivate, NoAssertion, OddPassword, NoFile, NoPermission, IsFolder, NotFolder, NoAccess, FileExists}
+use Rattle.paseto_tasks.specs.declared.error.file.FileError.TheVariants.{Key, KeyFile, InPaserk, EmptyKey, NotWrapped, NotSealed, SecondLine, TooLong, OtherHalves, NotPrivate, NoAssertion, OddPassword, NoFile, NoPermission, IsFolder, NotFolder, NoAccess, FileExists, Unwritten, NoLink, FileLeft}
 
 -- what is said of a key that was refused as PEM: the text of the error, but where that leaves open what to do
 abbrev pub pem_text : PemError → List ℕ
@@ -27,6 +27,8 @@ file_text (Key error) = key_error_text error
 file_text (KeyFile (Pem error)) = pem_text error
 file_text (KeyFile error) = key_file_error_text error
 file_text InPaserk = codes "key pairs of version 1 are read from PEM, and not from PASERK"
+file_text EmptyKey = codes "it is empty, and holds no key"
+file_text NotWrapped = codes "the key is bare: it is under no password, not wrapped and not sealed"
 file_text NotSealed = codes "the key is not sealed: use paseto unwrap"
 file_text SecondLine = codes "line 2: a key file has one line of PASERK, or is PEM"
 file_text TooLong = codes "too long for a key file"
@@ -40,10 +42,14 @@ file_text IsFolder = codes "is a folder, and not a file"
 file_text NotFolder = codes "not a folder, or not in one"
 file_text NoAccess = codes "the file cannot be opened or created"
 file_text FileExists = codes "the file already exists and is not overwritten"
+file_text Unwritten = codes "the file could not be written: is the disk full?"
+file_text NoLink = codes "the folder has no hard links for a new file: use standard output"
+file_text FileLeft = codes "this unfinished file could not be removed"
 
--- the status, which is that of the system where memory or random bytes failed behind the error
+-- the status, which is that of the system where memory, random bytes or a write failed behind the error
 abbrev pub file_status : FileError → ℕ
 file_status (Key (NoKeyMemory _)) = 4
 file_status (KeyFile NoBytes) = 4
 file_status (KeyFile (NoFileMemory _)) = 4
+file_status Unwritten = 4
 file_status _ = 3

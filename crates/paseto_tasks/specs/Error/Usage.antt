@@ -3,7 +3,7 @@ use Rattle.std.specs.Prelude.{ℕ, List, codes}
 use Rattle.paseto_tasks.specs.declared.error.usage.TimeOption.{TimeOption}
 use Rattle.paseto_tasks.specs.declared.error.usage.TimeOption.TheVariants.{Expires, NotBefore, At, Leeway}
 use Rattle.paseto_tasks.specs.declared.error.usage.UsageError.{UsageError}
-use Rattle.paseto_tasks.specs.declared.error.usage.UsageError.TheVariants.{NotText, KeyWord, NoKind, NoHalf, NoFormat, LockedPem, NoKey, NoPassword, OneInput, Claim, TimeClaim, Time, Negative, TooLong, PrivateId, TokenWord}
+use Rattle.paseto_tasks.specs.declared.error.usage.UsageError.TheVariants.{NotText, KeyWord, NoKind, NoHalf, NoFormat, LockedPem, SameFile, NoKey, NoPassword, OneInput, Claim, TimeClaim, Time, Negative, TooLong, PrivateId, TokenWord}
 
 -- what is said where an option says no time
 abbrev pub time_text : TimeOption → List ℕ
@@ -32,6 +32,7 @@ usage_text NoKind = codes "not a kind of key: use v1.local, v2.local, v2.public,
 usage_text NoHalf = codes "keys of this kind have no public half: omit --public"
 usage_text NoFormat = codes "--format: must be paserk or pem"
 usage_text LockedPem = codes "a key under a password is not written in PEM: omit --format or the password"
+usage_text SameFile = codes "--out and --public name one file: name two"
 usage_text NoKey = codes "no key is given: use --key FILE, or put the text of the key into PASETO_KEY"
 usage_text NoPassword = codes "no password is given: use --password-file FILE, or PASETO_PASSWORD"
 usage_text OneInput = codes "standard input cannot be the key and the input: name a file for one of them"

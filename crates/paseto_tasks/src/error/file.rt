@@ -16,6 +16,10 @@ pub enum FileError {
     KeyFile(KeyFileError),
     /// The key pair of version 1 is in PASERK, and is read from PEM alone.
     InPaserk,
+    /// The text of the key file is empty.
+    EmptyKey,
+    /// The key is to be unwrapped, but is bare.
+    NotWrapped,
     /// The key is to be unsealed, but is not sealed.
     NotSealed,
     /// The key file has a second line, and is not PEM.
@@ -42,6 +46,12 @@ pub enum FileError {
     NoAccess,
     /// A file to be created already exists.
     FileExists,
+    /// A new file was not written whole.
+    Unwritten,
+    /// A new file cannot be given its name, by a hard link.
+    NoLink,
+    /// An unfinished file cannot be removed.
+    FileLeft,
 }
 
 impl FileError {
@@ -55,6 +65,8 @@ impl FileError {
             KeyFile(KeyFileError::Pem(source)) => pem_text(source),
             KeyFile(source) => source.text(),
             InPaserk => "key pairs of version 1 are read from PEM, and not from PASERK",
+            EmptyKey => "it is empty, and holds no key",
+            NotWrapped => "the key is bare: it is under no password, not wrapped and not sealed",
             NotSealed => "the key is not sealed: use paseto unwrap",
             SecondLine => "line 2: a key file has one line of PASERK, or is PEM",
             TooLong => "too long for a key file",
@@ -68,16 +80,20 @@ impl FileError {
             NotFolder => "not a folder, or not in one",
             NoAccess => "the file cannot be opened or created",
             FileExists => "the file already exists and is not overwritten",
+            Unwritten => "the file could not be written: is the disk full?",
+            NoLink => "the folder has no hard links for a new file: use standard output",
+            FileLeft => "this unfinished file could not be removed",
         }
     }
 
-    /// The exit status: that of the system if memory or random bytes failed behind the error.
+    /// The exit status: that of the system if memory, random bytes or a write failed behind the error.
     pub(crate) fn status(&self) -> u8
         ensures { result ≡ file_status self.now }
     {
         match self {
             FileError::Key(PaserkError::Memory(_))
-            | FileError::KeyFile(KeyFileError::Random | KeyFileError::Memory(_)) => 4,
+            | FileError::KeyFile(KeyFileError::Random | KeyFileError::Memory(_))
+            | FileError::Unwritten => 4,
             _ => 3,
         }
     }

@@ -18,6 +18,8 @@ pub enum UsageError {
     NoFormat,
     /// A key is to be written both under a password and in PEM.
     LockedPem,
+    /// A key and its public half are to be written to one file.
+    SameFile,
     /// No key is named.
     NoKey,
     /// No password is named.
@@ -69,6 +71,7 @@ impl UsageError {
             NoFormat => "--format: must be paserk or pem",
             LockedPem =>
                 "a key under a password is not written in PEM: omit --format or the password",
+            SameFile => "--out and --public name one file: name two",
             NoPassword => "no password is given: use --password-file FILE, or PASETO_PASSWORD",
             NoKey => "no key is given: use --key FILE, or put the text of the key into PASETO_KEY",
             OneInput =>

@@ -1,0 +1,53 @@
+-- What `unwrap` and `unseal` take, and what they make of it.
+use Rattle.std.specs.Prelude.{◌≡◌, ◌≢◌, ◌⊎◌, ◌++◌, ℕ, List, codes}
+use Rattle.paseto_key_files.specs.Line.{BeginsPem}
+use Rattle.paseto_keys.specs.AnyKey.{KeyParts, parts_of}
+use Rattle.paseto_keys.specs.Line.{IsLineOf}
+use Rattle.paseto_tasks.specs.KeyLine.{BeginsAs}
+use Rattle.paseto_tasks.specs.declared.arguments.Format.{Format}
+use Rattle.paseto_tasks.specs.declared.error.ProgramError.{ProgramError}
+use Rattle.paseto_tasks.specs.declared.error.ProgramError.TheVariants.{File}
+use Rattle.paseto_tasks.specs.declared.error.file.FileError.TheVariants.{Key, NotSealed, NotWrapped}
+use Rattle.paseto_wrapping.specs.Header.{HasHeader, HasNoHeader}
+use Rattle.paseto_wrapping.specs.declared.header.WrappedType.{WrappedType}
+use Rattle.paseto_wrapping.specs.declared.header.WrappedType.TheVariants.{Seal}
+use Rattle.rusty_paseto_paserk.specs.declared.error.PaserkError.TheVariants.{NoKey}
+use Rattle.rusty_paseto_paserk.specs.declared.header.PaserkType.{PaserkType}
+use Rattle.rusty_paseto_paserk.specs.declared.header.PaserkVersion.{PaserkVersion}
+use Rattle.paseto.specs.Forms.{IsFormed}
+use Rattle.paseto.specs.Keys.{Holds}
+use Rattle.paseto.specs.declared.keys.Held.{Held}
+use Rattle.paseto.specs.declared.locks.Lock.{Lock}
+use Rattle.paseto.specs.declared.locks.Lock.TheVariants.{Any, Seal as OfSeal}
+
+-- the text begins as a key of this type does under a password or another key
+abbrev pub IsWrappedAs : WrappedType → List ℕ → Type 0
+IsWrappedAs kind text = (version : PaserkVersion) × HasHeader version kind text
+
+abbrev pub IsWrapped : List ℕ → Type 0
+IsWrapped text = (kind : WrappedType) × IsWrappedAs kind text
+
+-- the text begins as a bare key: in PASERK or in PEM
+abbrev pub IsBare : List ℕ → Type 0
+IsBare text = BeginsPem text ⊎ ((version : PaserkVersion) × (kind : PaserkType) × BeginsAs version kind text)
+
+-- the text begins as a key under such a lock
+abbrev pub IsLockedBy : Lock → List ℕ → Type 0
+IsLockedBy Any text = IsWrapped text
+IsLockedBy OfSeal text = IsWrappedAs Seal text
+
+-- why a text is refused that begins as no wrapped key: it is a bare one, or none
+abbrev pub IsUnwrappedFault : List ℕ → ProgramError → Type 0
+IsUnwrappedFault text error =
+    HasNoHeader text × ((IsBare text × (error ≡ File NotWrapped)) ⊎ ((¬ IsBare text) × (error ≡ File (Key NoKey))))
+
+-- the same, or that it is under another lock
+abbrev pub IsLockFault : Lock → List ℕ → ProgramError → Type 0
+IsLockFault Any text error = IsUnwrappedFault text error
+IsLockFault OfSeal text error =
+    IsUnwrappedFault text error ⊎ ((kind : WrappedType) × (kind ≢ Seal) × IsWrappedAs kind text × (error ≡ File NotSealed))
+
+-- what is printed is the form of the key that the text holds, opened with what is held
+abbrev pub OpensIn : Format → Held → List ℕ → List ℕ → Type 0
+OpensIn format held text made =
+    (line : List ℕ) × (key : KeyParts) × Holds held text line × IsLineOf line key × IsFormed format key made
