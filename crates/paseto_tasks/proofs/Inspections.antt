@@ -102,11 +102,17 @@ no_utf8 version section payload read none added is =
 
 -- what is said of a text that begins as no key
 pub no_lines : (text : List ℕ) → BeginsAsNone text → (NamesKind Other text) ⊎ InspectsNoToken text → InspectsNothing text
-no_lines text none known lines (utf8, inl (inl key)) = none.0 key.0 key.1 key.2.0
-no_lines text none known lines (utf8, inl (inr (inl key))) = none.1 key.0 key.1 key.2.0
+no_lines text none known lines (utf8, inl (inl key)) = none.0 key.0 key.1 key.2
+no_lines text none known lines (utf8, inl (inr (inl key))) = none.1 key.0 key.1 key.2
 no_lines text none known lines (utf8, inl (inr (inr pem))) = none.2 pem.0
 no_lines text none (inl other) lines (utf8, inr token) = token.1 other
 no_lines text none (inr nothing) lines (utf8, inr token) = nothing lines token.2
+
+pub or_no_lines : (text : List ℕ) (made : Result (String Global) ProgramError) → BeginsAsNone text → IfErr made (λ error. IsOutside error ⊎ InspectsNoToken text)
+    → IfErr made (λ error. IsOutside error ⊎ InspectsNothing text)
+or_no_lines text (Ok lines) none refused = tt
+or_no_lines text (Err error) none (inl outside) = inl outside
+or_no_lines text (Err error) none (inr nothing) = inr (no_lines text none (inr nothing))
 
 -- what is said of a token
 pub inspect_makes : (known : Option (List ℕ)) (token : List ℕ) (made : Result (String Global) ProgramError) → OfInput known (λ bytes. token_of_input bytes ≡ token)

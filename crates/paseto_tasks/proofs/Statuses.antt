@@ -7,7 +7,7 @@ use Rattle.rusty_paseto_paserk.specs.declared.error.PaserkError.TheVariants.{Mem
 use Rattle.paseto_tasks.specs.declared.error.ProgramError.{ProgramError}
 use Rattle.paseto_tasks.specs.declared.error.ProgramError.TheVariants.{Usage, File, Token, System}
 use Rattle.paseto_tasks.specs.declared.error.file.FileError.{FileError}
-use Rattle.paseto_tasks.specs.declared.error.file.FileError.TheVariants.{Key, KeyFile}
+use Rattle.paseto_tasks.specs.declared.error.file.FileError.TheVariants.{Key, KeyFile, Unwritten}
 use Rattle.paseto_tasks.specs.declared.error.system.SystemError.TheVariants.{InputOrOutput}
 use Rattle.paseto_tasks.specs.declared.error.token.TokenError.TheVariants.{Unfit}
 use Rattle.paseto_tasks.specs.Error.{IsCauseOf, IsFixed, IsNoRefusal, IsNoUsage, IsOutside, Says, status_of}
@@ -20,6 +20,7 @@ pub of_file : (P : ℕ → Type 0) → P 3 → P 4 → (error : FileError) → P
 of_file P three four (Key (NoKeyMemory source)) = four
 of_file P three four (KeyFile NoBytes) = four
 of_file P three four (KeyFile (NoFileMemory source)) = four
+of_file P three four Unwritten = four
 of_file P three four (Key error) = three
 of_file P three four (KeyFile error) = three
 of_file P three four error = three

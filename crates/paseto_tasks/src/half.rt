@@ -5,7 +5,7 @@ ghost use Rattle.paseto_tasks.specs.Error.{Fails, nothing};
 ghost use Rattle.paseto_tasks.specs.Half.{HasHalf, HasNoHalf};
 ghost use Rattle.paseto_tasks.specs.Output.{Makes};
 
-use crate::error::ProgramError;
+use crate::error::{FileError, ProgramError};
 use crate::output::with_line_feed;
 use paseto_keys::AnyKey;
 use rusty_paseto_paserk::{PaserkError, PaserkVersion};
@@ -20,7 +20,9 @@ pub fn public(alloc: Global, key: &AnyKey) -> Result<String, ProgramError>
     ensures { Makes (HasHalf (parts_of key.now)) (HasNoHalf (parts_of key.now)) (Fails nothing) result }
 {
     if let AnyKey::V1Public(_) = key {
-        return Err(ProgramError::from(PaserkError::OtherVersion(PaserkVersion::V1)));
+        return Err(ProgramError::File(FileError::Key(PaserkError::OtherVersion(
+            PaserkVersion::V1,
+        ))));
     }
     let half = key.public_half(alloc)?;
     with_line_feed(half.to_line(alloc)?)
