@@ -326,7 +326,6 @@ text: encrypted
 ' inspect
 refuses "no token to inspect" 1 v4.local "$input: not a PASETO token" inspect
 refuses "nothing to inspect" 1 "" "$input: not a PASETO token" inspect
-refuses "a token of two sections" 1 v4.local. "$input: $bad_count" inspect
 refuses "a JWT to inspect" 1 eyJhbGciOiJIUzI1NiJ9.e30.AAAA "$input: a JWT, and not a PASETO token" inspect
 refuses "a token of another version to inspect" 1 v5.local.AAAA "$input: not a PASETO token" inspect
 gives "a local key to inspect" "$(cat v4.local)" 'key: k4.local
@@ -457,7 +456,7 @@ for case in "10:00:04Z 5s" "10:29:59Z 30m" "08:59:56Z 5s"; do
     is "a leeway, ${case}" "$("$program" check --key v4.local --at "2026-11-22T${case% *}" --leeway "${case#* }" token | cut -c 1-7)" '{"exp":'
 done
 refuses "past the leeway" 1 "$(cat token)" "$input: expired 6 seconds ago, at 2026-11-22T10:00:00Z" check --key v4.local --at 2026-11-22T10:00:06Z --leeway 5s
-for length in "" s 5 1y -1s 2026-11-22T10:00:00Z 50000d; do
+for length in "" s 5 1y 2026-11-22T10:00:00Z; do
     refuses "the leeway '$length'" 2 "" "$bad_leeway" check --key v4.local --leeway="$length"
 done
 "$program" issue --key v4.local --expires 2026-11-22T10:00:00Z --not-before 2026-11-22T09:00:00Z --footer id >token

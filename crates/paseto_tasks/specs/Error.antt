@@ -27,7 +27,7 @@ use Rattle.paseto_tasks.specs.declared.error.usage.UsageError.TheVariants.{NotTe
 use Rattle.paseto_tasks.specs.declared.token_kind.TokenKind.{TokenKind}
 use Rattle.paseto_tasks.specs.TokenKind.{NamesKind, kind_text}
 use Rattle.paseto_tasks.specs.declared.error.ProgramError.{ProgramError}
-use Rattle.paseto_tasks.specs.declared.error.ProgramError.TheVariants.{Usage, File, Token, System}
+use Rattle.paseto_tasks.specs.declared.error.ProgramError.TheVariants.{Usage as OfUsage, File as OfFile, Token as OfToken, System as OfSystem}
 use Rattle.paseto_tasks.specs.Error.Usage.{usage_text}
 use Rattle.paseto_tasks.specs.Error.File.{file_status, file_text}
 use Rattle.paseto_tasks.specs.Error.Token.{token_text}
@@ -36,28 +36,28 @@ use Rattle.paseto_tasks.specs.Error.System.{system_text}
 -- the status with which an error ends the program: 1 where a token or a wrapped key is refused, 2 where the words ask for
 -- nothing, 3 where a file cannot be used, and 4 where the system fails
 abbrev pub status_of : ProgramError → ℕ
-status_of (Token _) = 1
-status_of (Usage _) = 2
-status_of (File error) = file_status error
-status_of (System _) = 4
+status_of (OfToken _) = 1
+status_of (OfUsage _) = 2
+status_of (OfFile error) = file_status error
+status_of (OfSystem _) = 4
 
 -- what is said of it
 abbrev pub text_of : ProgramError → List ℕ
-text_of (Usage error) = usage_text error
-text_of (File error) = file_text error
-text_of (Token error) = token_text error
-text_of (System error) = system_text error
+text_of (OfUsage error) = usage_text error
+text_of (OfFile error) = file_text error
+text_of (OfToken error) = token_text error
+text_of (OfSystem error) = system_text error
 
 -- what it is about
 abbrev pub subject_of : ProgramError → About
-subject_of (Usage NoKind) = OfKey
-subject_of (Usage NoHalf) = OfKey
-subject_of (Usage _) = OfNothing
-subject_of (File _) = OfKey
-subject_of (Token Wrapped) = OfKey
-subject_of (Token OddClaim) = OfNothing
-subject_of (Token _) = OfInput
-subject_of (System _) = OfNothing
+subject_of (OfUsage NoKind) = OfKey
+subject_of (OfUsage NoHalf) = OfKey
+subject_of (OfUsage _) = OfNothing
+subject_of (OfFile _) = OfKey
+subject_of (OfToken Wrapped) = OfKey
+subject_of (OfToken OddClaim) = OfNothing
+subject_of (OfToken _) = OfInput
+subject_of (OfSystem _) = OfNothing
 
 -- the name of what an error is about, which is empty where it is about no file and no word
 abbrev pub name_of : Names → About → List ℕ
@@ -80,93 +80,93 @@ joined (text ∷ texts) = text ++ joined texts
 
 -- the line on standard error, which ends in a line feed: that on two kinds tells both
 abbrev pub line_of : Names → ProgramError → List ℕ
-line_of names (Token (OtherKind token key)) = joined (codes "paseto: " ∷ names.input.now ∷ colon_behind names.input.now ∷ codes "the token is "
+line_of names (OfToken (OtherKind token key)) = joined (codes "paseto: " ∷ names.input.now ∷ colon_behind names.input.now ∷ codes "the token is "
     ∷ kind_text token ∷ codes ", and the key is for " ∷ kind_text key ∷ (10 ∷ []) ∷ [])
 line_of names error = joined (codes "paseto: " ∷ about_of names error ∷ colon_behind (about_of names error) ∷ text_of error ∷ (10 ∷ []) ∷ [])
 
 -- a private key that is none is an error of its file, and all else one of the text or the token
 abbrev pub token_error_of : PasetoError → ProgramError
-token_error_of Signature = File OtherHalves
-token_error_of KeyRejected = File NotPrivate
-token_error_of error = Token (Refused error)
+token_error_of Signature = OfFile OtherHalves
+token_error_of KeyRejected = OfFile NotPrivate
+token_error_of error = OfToken (Refused error)
 
 -- a failed allocation and a want of random bytes are errors of the system, wherever they came
 abbrev pub program_error_of : PasetoError → ProgramError
-program_error_of (NoMemory source) = System (Memory source)
-program_error_of Cipher = System Random
+program_error_of (NoMemory source) = OfSystem (Memory source)
+program_error_of Cipher = OfSystem Random
 program_error_of error = token_error_of error
 
 -- the same of why a key did not read or write a token
 abbrev pub use_error_of : KeyError → ProgramError
-use_error_of (OtherType kind) = File (Key (OtherKeyType kind))
-use_error_of (OtherVersion version) = File (Key (OtherKeyVersion version))
-use_error_of NoBinding = File NoAssertion
-use_error_of (OtherLength _) = System Random
+use_error_of (OtherType kind) = OfFile (Key (OtherKeyType kind))
+use_error_of (OtherVersion version) = OfFile (Key (OtherKeyVersion version))
+use_error_of NoBinding = OfFile NoAssertion
+use_error_of (OtherLength _) = OfSystem Random
 use_error_of (RefusedToken source) = token_error_of source
-use_error_of NoDraw = System Random
-use_error_of (NoUseMemory source) = System (Memory source)
+use_error_of NoDraw = OfSystem Random
+use_error_of (NoUseMemory source) = OfSystem (Memory source)
 
 -- why a token was refused that is to be read by a key for tokens of a kind: where it is of another, both are named
 abbrev pub IsTokenError : List ℕ → TokenKind → KeyError → ProgramError → Type 0
-IsTokenError token key (RefusedToken WrongHeader) error = (named : TokenKind) × NamesKind named token × (error ≡ Token (OtherKind named key))
+IsTokenError token key (RefusedToken WrongHeader) error = (named : TokenKind) × NamesKind named token × (error ≡ OfToken (OtherKind named key))
 IsTokenError token key source error = error ≡ use_error_of source
 
 abbrev pub key_error_of : PaserkError → ProgramError
-key_error_of (NoKeyMemory source) = System (Memory source)
-key_error_of error = File (Key error)
+key_error_of (NoKeyMemory source) = OfSystem (Memory source)
+key_error_of error = OfFile (Key error)
 
 abbrev pub stream_error_of : StreamError → ProgramError
-stream_error_of NoStream = System InputOrOutput
-stream_error_of (NoStreamMemory source) = System (Memory source)
+stream_error_of NoStream = OfSystem InputOrOutput
+stream_error_of (NoStreamMemory source) = OfSystem (Memory source)
 
 abbrev pub key_file_error_of : KeyFileError → ProgramError
-key_file_error_of (NoFileMemory source) = System (Memory source)
-key_file_error_of NoBytes = System Random
-key_file_error_of (Wrap WrongKey) = Token Wrapped
-key_file_error_of error = File (KeyFile error)
+key_file_error_of (NoFileMemory source) = OfSystem (Memory source)
+key_file_error_of NoBytes = OfSystem Random
+key_file_error_of (Wrap WrongKey) = OfToken Wrapped
+key_file_error_of error = OfFile (KeyFile error)
 
 -- why the words could not be read, by the kind of the system's error: memory was refused, a word is no text, or else
 -- the system failed
 abbrev pub words_error : ErrorKind → ProgramError
-words_error OutOfMemory = System (Memory alloc_error)
-words_error InvalidData = Usage NotText
-words_error _ = System InputOrOutput
+words_error OutOfMemory = OfSystem (Memory alloc_error)
+words_error InvalidData = OfUsage NotText
+words_error _ = OfSystem InputOrOutput
 
 -- why a file could not be opened or made
 abbrev pub file_error : ErrorKind → ProgramError
-file_error OutOfMemory = System (Memory alloc_error)
-file_error NotFound = File NoFile
-file_error AlreadyExists = File FileExists
-file_error PermissionDenied = File NoPermission
-file_error IsADirectory = File IsFolder
-file_error NotADirectory = File NotFolder
-file_error _ = File NoAccess
+file_error OutOfMemory = OfSystem (Memory alloc_error)
+file_error NotFound = OfFile NoFile
+file_error AlreadyExists = OfFile FileExists
+file_error PermissionDenied = OfFile NoPermission
+file_error IsADirectory = OfFile IsFolder
+file_error NotADirectory = OfFile NotFolder
+file_error _ = OfFile NoAccess
 
 -- why a new file could not be given its name
 abbrev pub link_error : ErrorKind → ProgramError
-link_error OutOfMemory = System (Memory alloc_error)
-link_error AlreadyExists = File FileExists
-link_error _ = File NoLink
+link_error OutOfMemory = OfSystem (Memory alloc_error)
+link_error AlreadyExists = OfFile FileExists
+link_error _ = OfFile NoLink
 
 -- memory was refused
 abbrev pub IsMemory : ProgramError → Type 0
-IsMemory (System (Memory _)) = ⊤
+IsMemory (OfSystem (Memory _)) = ⊤
 IsMemory _ = ⊥
 
 -- an error that says nothing of the words, of the key or of the input
 abbrev pub IsOutside : ProgramError → Type 0
-IsOutside (System _) = ⊤
+IsOutside (OfSystem _) = ⊤
 IsOutside _ = ⊥
 
 -- an error that says nothing of the words, so that the program does not end with status 2
 abbrev pub IsNoUsage : ProgramError → Type 0
-IsNoUsage (Usage _) = ⊥
+IsNoUsage (OfUsage _) = ⊥
 IsNoUsage _ = ⊤
 
 -- an error that refuses a key, a text or a token and has no text of its own, or that says nothing of them: what is said of
 -- it is in this table, and holds nothing of the key or of the input
 abbrev pub IsFixed : ProgramError → Type 0
-IsFixed (Token (Unfit _)) = ⊥
+IsFixed (OfToken (Unfit _)) = ⊥
 IsFixed error = IsNoUsage error
 
 -- where some errors may come: that random bytes are at fault, the clock, the length of a key file, a footer, a read or a write
@@ -183,11 +183,11 @@ nothing = record { no_bytes = ⊥; no_moment = ⊥; too_long = ⊥; other_footer
 
 -- the error may come there
 abbrev pub BlamesOnly : Blame → ProgramError → Type 0
-BlamesOnly blame (System Random) = blame.no_bytes
-BlamesOnly blame (System Clock) = blame.no_moment
-BlamesOnly blame (File TooLong) = blame.too_long
-BlamesOnly blame (Token OtherFooter) = blame.other_footer
-BlamesOnly blame (System InputOrOutput) = blame.no_stream
+BlamesOnly blame (OfSystem Random) = blame.no_bytes
+BlamesOnly blame (OfSystem Clock) = blame.no_moment
+BlamesOnly blame (OfFile TooLong) = blame.too_long
+BlamesOnly blame (OfToken OtherFooter) = blame.other_footer
+BlamesOnly blame (OfSystem InputOrOutput) = blame.no_stream
 BlamesOnly blame _ = ⊤
 
 -- an error that says none of this
@@ -207,18 +207,18 @@ Fails blame error = IsOutside error × BlamesOnly blame error
 
 -- what is said of the error stands in this table, or is a line that is so
 abbrev pub Says : (List ℕ → Type 0) → ProgramError → Type 0
-Says IsLine (Token (Unfit line)) = IsLine (string_bytes line)
+Says IsLine (OfToken (Unfit line)) = IsLine (string_bytes line)
 Says IsLine error = ⊤
 
 -- the error that ends the program: why nothing was made, or else a write that failed
 abbrev pub IsCauseOf : {T : Type 0} → Result T ProgramError → ProgramError → Type 0
-IsCauseOf (Ok value) error = error ≡ System InputOrOutput
+IsCauseOf (Ok value) error = error ≡ OfSystem InputOrOutput
 IsCauseOf (Err cause) error = error ≡ cause
 
 -- an error of the words or from outside, which refuses no key, text or token, so that the program does not end with status 1
 abbrev pub IsNoRefusal : ProgramError → Type 0
-IsNoRefusal (Usage _) = ⊤
-IsNoRefusal (System _) = ⊤
+IsNoRefusal (OfUsage _) = ⊤
+IsNoRefusal (OfSystem _) = ⊤
 IsNoRefusal _ = ⊥
 
 -- one of the words, or memory was refused, or a read or a write failed
