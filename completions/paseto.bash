@@ -10,7 +10,7 @@ _paseto() {
         --key | --out | --public | --password-file | --unlock-key | --wrapping-key | --to | --issued) mapfile -t COMPREPLY < <(compgen -f -- "$word"); return ;;
         --format) mapfile -t COMPREPLY < <(compgen -W 'paserk pem' -- "$word"); return ;;
         --ring) mapfile -t COMPREPLY < <(compgen -d -- "$word"); return ;;
-        --claim | --require | --expires | --not-before | --at | --leeway | --footer | --footer-kid | --assertion) return ;;
+        --claim | --require | --expires | --not-before | --at | --leeway | --footer | --footer-kid | --assertion | --longest) return ;;
     esac
     local options='' opening='--key --password-file --unlock-key'
     case "$command" in
@@ -19,12 +19,12 @@ _paseto() {
         id) options=$opening ;;
         wrap) options='--key --wrapping-key --password-file --out' ;;
         seal) options="$opening --to --out" ;;
-        issue) options="$opening --claim --expires --not-before --footer --footer-kid --assertion --out" ;;
-        check) options="$opening --ring --claim --require --at --leeway --footer --footer-kid --assertion" ;;
-        encrypt | sign) options="$opening --footer --assertion --out" ;;
-        decrypt | verify) options="$opening --footer --assertion" ;;
-        explain) options="$opening --issued --footer --assertion" ;;
-        inspect) options='' ;;
+        issue) options="$opening --ring --claim --expires --not-before --footer --footer-kid --assertion --out" ;;
+        check) options="$opening --ring --claim --require --at --leeway --footer --footer-kid --assertion --longest" ;;
+        encrypt | sign) options="$opening --footer --assertion --longest --out" ;;
+        decrypt | verify) options="$opening --ring --footer --assertion --longest" ;;
+        explain) options="$opening --issued --footer --assertion --longest" ;;
+        inspect) options=--longest ;;
     esac
     if [[ $word == -* ]]; then
         mapfile -t COMPREPLY < <(compgen -W "$options --help" -- "$word")

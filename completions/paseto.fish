@@ -32,7 +32,7 @@ complete -c paseto -n '__paseto_in keygen' -l quiet -d 'Say nothing of what was 
 complete -c paseto -n '__paseto_in issue check' -l claim -x -d 'A claim, NAME=TEXT or NAME:=JSON'
 complete -c paseto -n '__paseto_in issue' -l expires -x -d 'When it expires'
 complete -c paseto -n '__paseto_in issue' -l not-before -x -d 'When it may first be used'
-complete -c paseto -n '__paseto_in check' -l ring -x -a '(__fish_complete_directories)' -d 'A folder of key files'
+complete -c paseto -n '__paseto_in issue check decrypt verify' -l ring -x -a '(__fish_complete_directories)' -d 'A folder of key files'
 complete -c paseto -n '__paseto_in check' -l require -x -d 'A claim that has to be there'
 complete -c paseto -n '__paseto_in check' -l at -x -d 'The moment of checking'
 complete -c paseto -n '__paseto_in check' -l leeway -x -d 'How far clocks may differ'
@@ -40,4 +40,5 @@ complete -c paseto -n '__paseto_in explain' -l issued -rF -d 'The file of the is
 complete -c paseto -n '__paseto_in issue check encrypt decrypt sign verify explain' -l footer -x -d 'The footer of the token'
 complete -c paseto -n '__paseto_in issue check' -l footer-kid -x -d 'The id of a key for the footer'
 complete -c paseto -n '__paseto_in issue check encrypt decrypt sign verify explain' -l assertion -x -d 'The implicit assertion'
+complete -c paseto -n '__paseto_in check encrypt decrypt sign verify explain inspect' -l longest -x -d 'How many bytes the input may have'
 complete -c paseto -n '__paseto_in check encrypt decrypt sign verify explain inspect' -F

@@ -58,7 +58,14 @@ printf other >password.other
 input='standard input'
 wrong='wrong key, wrong footer or assertion, or the token was changed'
 wrong_password='wrong key or password, or the text was changed'
-needs_password='the key is under a password: give it by --password-file or PASETO_PASSWORD'
+needs_password='the key is under a password: use --password-file FILE, or
+  read -rs PASETO_PASSWORD
+  export PASETO_PASSWORD'
+no_password='no password is given: use --password-file FILE, or
+  read -rs password
+  printf %s "$password" | paseto wrap --password-file - --key FILE'
+odd_password='not a password: it must have 1 to 4095 bytes'
+one_input='standard input is named twice: name files for the key, the password or the input'
 needs_key='the key is wrapped or sealed: name the key that opens it by --unlock-key'
 
 # -- PEM
@@ -181,7 +188,7 @@ v4.public secret
 LIST
 is "what keygen says" "$("$program" keygen v4.local --password-file password --out told.local 2>&1)" \
     "paseto: told.local: the new key of kind v4.local, under a password"
-is "keygen by the environment" "$(PASETO_PASSWORD=secret "$program" keygen v4.local | cut -d . -f 2)" local-pw
+is "the environment locks no new key" "$(PASETO_PASSWORD=secret "$program" keygen v4.local | cut -d . -f 1,2)" k4.local
 (umask 022 && "$program" unwrap --key locked.v4.local --password-file password --out bare)
 is "unwrap" "$(cut -d . -f 1,2 bare)" k4.local
 (umask 022 && "$program" wrap --key bare --password-file password.other --out relocked)
@@ -195,9 +202,46 @@ is "a key of RSA under a password" "$(cut -d . -f 1,2 locked.rsa)" k1.secret-pw
 is "it signs" "$("$program" sign --key locked.rsa --password-file password <in | "$program" verify --key rsa.public.pem)" hello
 refuses "a key under a password in PEM" 2 "a key under a password is not written in PEM: omit --format or the password" \
     keygen v4.public --password-file password --format pem
-refuses "wrap under nothing" 2 "no password is given: use --password-file FILE, or PASETO_PASSWORD" wrap --key bare
+refuses "wrap under nothing" 2 "$no_password" wrap --key bare
+PASETO_PASSWORD=secret refuses "wrap by the environment" 2 "$no_password" wrap --key bare
+# The lines that the errors show, without the part that asks a terminal.
+printf 'correct horse battery staple\n' >typed
+is "the lines for a password that opens" "$("$program" id --key locked.v4.local 2>&1 | sed -n '2,$p' | sed 's/^ *read.*/& <typed/' >ask
+    PATH=.:$PATH bash -c "source ./ask && '$program' id --key locked.v4.local")" "$("$program" id --key locked.v4.local --password-file password)"
+ln -s "$program" paseto
+"$program" wrap --key bare 2>&1 | sed -n '2,$p' | sed 's/^ *read.*/& <typed/; s/FILE/bare/' >ask
+is "the lines for a password that locks" "$(PATH=.:$PATH bash ask | "$program" unwrap --key - --password-file password)" "$(cat bare)"
+rm paseto ask typed
+is "a password on standard input" "$("$program" id --key locked.v4.local --password-file - <password)" "$("$program" id --key locked.v4.local --password-file password)"
+is "a new key under it" "$("$program" keygen v4.local --password-file - <password | "$program" unwrap --key - --password-file password | cut -d . -f 1,2)" k4.local
+for words in "id --key - --password-file -" "unwrap --key - --unlock-key -" "unseal --password-file - --unlock-key -" "decrypt --key bare --password-file -" \
+    "encrypt --key bare --unlock-key -" "check --ring . --password-file -" "verify --ring . --unlock-key - -" "explain --key bare --issued - -" \
+    "wrap --key - --password-file -" "wrap --key - --wrapping-key -" "seal --key - --to -" "issue --key - --password-file -"; do
+    # shellcheck disable=SC2086
+    refuses "standard input twice, $words" 2 "$one_input" $words
+done
+"$program" encrypt --key bare in >letter
+"$program" wrap --key bare --password-file password --out locked.bare
+is "a password on standard input beside an input" "$("$program" decrypt --key locked.bare --password-file - letter <password)" hello
 : >nothing
-refuses "an empty password" 3 "nothing: not a password: it must have 1 to 4095 bytes" wrap --key bare --password-file nothing
+refuses "an empty password" 3 "nothing: $odd_password" wrap --key bare --password-file nothing
+echo >nothing
+refuses "a password of a newline" 3 "nothing: $odd_password" wrap --key bare --password-file nothing
+: >nothing
+# The whole file but one final newline: of 4,095 bytes at most.
+head -c 4095 /dev/zero | tr '\0' a >most
+(cat most && echo) >ended
+(cat most && printf a) >more
+(cat more && echo) >more.ended
+is "the longest password" "$("$program" wrap --key bare --password-file most | "$program" unwrap --key - --password-file ended)" "$(cat bare)"
+refuses "a longer password" 3 "more: $odd_password" wrap --key bare --password-file more
+refuses "a longer password and a newline" 3 "more.ended: $odd_password" wrap --key bare --password-file more.ended
+printf 'a\nb\n' >lines
+printf 'a\nb' >lines.unended
+printf 'a\n' >lines.first
+"$program" wrap --key bare --password-file lines --out locked.lines
+is "a password of two lines" "$("$program" unwrap --key locked.lines --password-file lines.unended)" "$(cat bare)"
+refuses "its first line" 1 "locked.lines: $wrong_password" unwrap --key locked.lines --password-file lines.first
 refuses "no file of a password" 3 "nowhere: no such file" wrap --key bare --password-file nowhere
 refuses "a public key under a password" 3 "half.v4.public: the key is public: it needs no password and no wrapping key" \
     wrap --key half.v4.public --password-file password
@@ -319,11 +363,12 @@ is "a ring of a locked key" "$("$program" check --ring ring --password-file pass
 kid=$("$program" id --key ed.public.pem)
 token=$("$program" issue --key ed.pem --footer-kid "$kid" --expires 2099-01-01T00:00:00Z)
 is "a ring of a key in PEM" "$("$program" check --ring ring --password-file password <<<"$token" | grep -o '"exp"')" '"exp"'
-printf %s "$token" >in
-refuses "a ring that is not opened" 1 "ring: The file 'one' of the ring: $needs_password" check --ring ring
+is "a ring with another key that is not opened" "$("$program" check --ring ring <<<"$token" | grep -o '"exp"')" '"exp"'
+"$program" issue --key locked.v4.local --password-file password --footer-kid "$("$program" id --key locked.v4.local --password-file password)" >in
+refuses "a ring that is not opened" 3 "ring/one: $needs_password" check --ring ring
 rm ring/one
 cp rsa.public.pem ring/three
-refuses "a ring of a key of RSA" 1 "ring: The file 'three' of the ring is of version 1, whose key pairs have no id" check --ring ring
+refuses "a ring of a key of RSA" 3 "ring/three: a key pair of version 1, which has no id by which a ring finds it" check --ring ring
 
 # -- the lines
 
@@ -348,11 +393,10 @@ printf '{"a":1.5}' | "$program" encrypt --key office >odd
 echo v4.local >part
 echo v9.local.AAAA >unknown
 echo 'v4.local.!' >spelled
-mkdir keys keys.rsa keys.none keys.locked
+mkdir keys keys.rsa keys.none
 cp office keys
 cp rsa.public.pem keys.rsa/one
 cp nothing keys.none/one
-cp locked.v4.local keys.locked/one
 
 # STATUS|WORDS|LINE: the lines that the program has, word for word, and arguments for which it says each. Some are not here:
 # that memory, random bytes or a moment of the clock was not found, and the rarer ones of wrapped keys and of PEM.
@@ -366,10 +410,11 @@ done <<'LIST'
 2|keygen v4.local --public half|v4.local: keys of this kind have no public half: omit --public
 2|keygen v4.public --format der|--format: must be paserk or pem
 2|keygen v4.public --password-file password --format pem|a key under a password is not written in PEM: omit --format or the password
-2|wrap --key office|no password is given: use --password-file FILE, or PASETO_PASSWORD
 3|wrap --key office --password-file nothing|nothing: not a password: it must have 1 to 4095 bytes
 2|encrypt|no key is given: use --key FILE, or put the text of the key into PASETO_KEY
-2|encrypt --key -|standard input cannot be the key and the input: name a file for one of them
+2|encrypt --key -|standard input is named twice: name files for the key, the password or the input
+2|encrypt --key office --longest soon|--longest: write a number of bytes, such as 100000000
+1|encrypt --key office --longest 4 in|in: longer than it may be: 64000000 bytes, or as many as --longest says
 3|encrypt --key letter|letter: The text is no PASERK key
 3|id --key k1|k1: key pairs of version 1 are read from PEM, and not from PASERK
 3|sign --key office|office: The key is one for local tokens
@@ -413,14 +458,15 @@ done <<'LIST'
 1|check --key office --at 2026-11-22T09:30:00Z --claim aud=staff claims|claims: The claim 'aud' is 'customers', and not 'staff'
 1|check --key office --at 2026-11-22T09:30:00Z --require jti claims|claims: The expected claim 'jti' was not found in the payload
 1|issue --key office --claim a=1 --claim a=2|The claim 'a' appears more than once in the top level payload json
-1|check --ring keys.none claims|keys.none: The file 'one' of the ring is no key file
-1|check --ring keys.rsa claims|keys.rsa: The file 'one' of the ring is of version 1, whose key pairs have no id
-1|check --ring keys.locked claims|keys.locked: The file 'one' of the ring: the key is under a password: give it by --password-file or PASETO_PASSWORD
+3|check --ring keys.none stranger|keys.none/one: it is empty, and holds no key
+3|check --ring keys.rsa stranger|keys.rsa/one: a key pair of version 1, which has no id by which a ring finds it
+3|issue --ring keys|keys: no private key is in this folder
+2|issue --ring keys --footer id|--ring names its key in the footer: omit --footer and --footer-kid
+2|keygen v4.public --out new --public new|--out and --public name one file: name two
 3|encrypt --key nowhere|nowhere: no such file
 3|keygen v4.local --out office/key|office/key: not a folder, or not in one
 3|keygen v4.local --out office|office: the file already exists and is not overwritten
 3|encrypt --key keys|keys: is a folder, and not a file
-3|id --key locked.v4.local|locked.v4.local: the key is under a password: give it by --password-file or PASETO_PASSWORD
 3|id --key wrapped.4|wrapped.4: the key is wrapped or sealed: name the key that opens it by --unlock-key
 1|id --key locked.v4.local --password-file password.other|locked.v4.local: wrong key or password, or the text was changed
 3|id --key cut --password-file password|cut: what follows the header is no base64url of a wrapped key, or was cut off

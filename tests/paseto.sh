@@ -69,7 +69,8 @@ other_footer='the token has another footer: give it by --footer or --footer-kid;
 no_kind='not a kind of key: use v1.local, v2.local, v2.public, v3.local, v3.public, v4.local or v4.public'
 no_half='keys of this kind have no public half: omit --public'
 unnamed='no key is given: use --key FILE, or put the text of the key into PASETO_KEY'
-one_input='standard input cannot be the key and the input: name a file for one of them'
+one_input='standard input is named twice: name files for the key, the password or the input'
+longer='longer than it may be: 64000000 bytes, or as many as --longest says'
 input='standard input'
 unset PASETO_KEY PASETO_PASSWORD
 
@@ -408,8 +409,8 @@ done
 mkdir ring
 for kind in 1.local 2.local 3.local 4.local 2 3 4; do
     case $kind in
-        *.local) "$program" keygen v$kind --out its && cp its ring/$kind && mv -f its $kind.opens && cp $kind.opens $kind.issues ;;
-        *) cp half$kind.secret $kind.issues && cp half$kind.public $kind.opens && cp half$kind.public ring/$kind ;;
+        *.local) "$program" keygen v$kind --out its && cp its ring/$kind.key && mv -f its $kind.opens && cp $kind.opens $kind.issues ;;
+        *) cp half$kind.secret $kind.issues && cp half$kind.public $kind.opens && cp half$kind.public ring/$kind.key ;;
     esac
     "$program" issue --key $kind.issues --claim seats:=4 --claim aud=customers --expires 1h >token 2>err
     is "issue $kind, status" "$? $(cat err)" "0 "
@@ -492,12 +493,75 @@ refuses "a footer that names no key" 1 "$("$program" issue --key 4.issues --foot
 refuses "a footer with no id of a key" 1 "$("$program" issue --key 4.issues --footer '{"kid":4}')" "$input: the footer of the token names no key: it has no string under kid" check --ring ring
 refuses "a key that is not in the ring" 1 "$("$program" issue --key 4.issues --footer-kid "$(printf 'a\nb')")" "$input: The key 'a?b' is not in the ring" check --ring ring
 refuses "no ring" 3 "$(cat token)" "nowhere: $no_file" check --ring nowhere
-cp -r ring rings && echo nothing >rings/notes && cp ring/4 rings/.hidden && echo nothing >rings/.notes
-refuses "a ring with a file that is no key" 1 "$(cat token)" "rings: The file 'notes' of the ring is no key file" check --ring rings
-rm rings/notes
-is "files that begin with a dot" "$("$program" issue --key 4.issues --footer-kid "$id" | "$program" check --ring rings | grep -c iat)" 1
-truncate -s 1G rings/huge
-refuses "a ring with a file of 1 GB" 3 "$(cat token)" "rings: $too_long" check --ring rings
+
+# A token of the ring, and one whose footer names no key of it.
+known=$("$program" issue --key 4.issues --footer-kid "$id")
+unknown=$("$program" issue --key 4.issues --footer-kid k4.pid.none)
+cp -r ring rings && cp ring/4.key rings/.hidden && echo nothing >rings/.notes
+printf %s "$known" | "$program" check --ring rings >out 2>err
+is "files that begin with a dot" "$? $(grep -c iat out) $(cat err)" "0 1 "
+echo nothing >rings/README.md && mkdir rings/old rings/folder.key && mkfifo rings/pipe.pem rings/pipe
+printf %s "$known" | timeout 10 "$program" check --ring rings >out 2>err
+is "what is no key file" "$? $(grep -c iat out) $(cat err)" \
+    "0 1 paseto: rings: warning: README.md and 4 more passed over: key files are named *.key, *.pem or without a dot"
+rm -r rings/old rings/folder.key rings/pipe.pem rings/pipe
+printf %s "$known" | "$program" check --ring rings >out 2>err
+is "one other file" "$? $(cat err)" "0 paseto: rings: warning: README.md passed over: key files are named *.key, *.pem or without a dot"
+rm rings/README.md
+printf %s "$(head -c 40 v4.local)" >rings/cut.key
+# FILE|LINE: a key file that cannot be used, and what is said of it.
+while IFS='|' read -r file line; do
+    case $file in
+        notes | other.pem) echo nothing >rings/"$file" ;;
+        long) truncate -s 1G rings/long ;;
+        empty.key) : >rings/empty.key ;;
+        two) cat v4.local v4.local >rings/two ;;
+        dangling) ln -s nowhere rings/dangling ;;
+    esac
+    for words in check verify; do
+        refuses "a ring with the file $file, $words" 3 "$unknown" "rings/$file: $line" $words --ring rings
+    done
+    is "another key of that ring, $file" "$(printf %s "$known" | "$program" check --ring rings 2>&1 | grep -c iat)" 1
+    is "verify by that ring, $file" "$(printf %s "$known" | "$program" verify --ring rings 2>&1 | grep -c iat)" 1
+    refuses "no footer for that ring, $file" 1 "$("$program" issue --key 4.issues)" "$input: the token has no footer, which names its key in a ring" check --ring rings
+    rm rings/"$file"
+done <<END
+cut.key|$bad_key
+notes|$no_key
+other.pem|$no_key
+long|$too_long
+empty.key|$empty_key
+two|line 2: a key file has one line of PASERK, or is PEM
+dangling|$no_file
+END
+echo nothing >rings/b && echo nothing >rings/a
+refuses "a ring with two broken keys" 3 "$unknown" "rings/a: $no_key" check --ring rings
+refuses "a key that is not in the ring to verify" 1 "$unknown" "$input: The key 'k4.pid.none' is not in the ring" verify --ring ring
+for kind in 1.local 2.local 3.local 4.local 2 3 4; do
+    id=$("$program" id --key $kind.opens)
+    case $kind in *.local) words='encrypt decrypt' ;; *) words='sign verify' ;; esac
+    token=$(made "${words% *}" --key $kind.issues --footer "{\"kid\":\"$id\"}")
+    gives "${words#* } by a ring, $kind" "$token" hello "${words#* }" --ring ring
+    gives "${words#* } by a ring and a footer, $kind" "$token" hello "${words#* }" --ring ring --footer "{\"kid\":\"$id\"}"
+    refuses "${words#* } by a ring and another footer, $kind" 1 "$token" "$input: $bad_footer" "${words#* }" --ring ring --footer id
+    refuses "${words#* } by a ring, a changed token, $kind" 1 "${token:0:40}AAAA${token:44}" "$input: $wrong" "${words#* }" --ring ring
+done
+refuses "decrypt by a public key of a ring" 3 "$token" "ring: The key is a public one, which verifies" decrypt --ring ring
+refuses "verify by a ring without a footer" 1 "$(made sign --key half4.secret)" "$input: the token has no footer, which names its key in a ring" verify --ring ring
+refuses "verify by no ring" 3 "$token" "nowhere: $no_file" verify --ring nowhere
+refuses "verify by a file as a ring" 3 "$token" "v4.public: not a folder, or not in one" verify --ring v4.public
+mkdir signers verifiers
+for name in 2026-11 2026-12 2026-10; do
+    "$program" keygen v4.public --out signers/$name.key --public verifiers/$name.key --quiet
+done
+cp v4.local signers/zero && cp v4.public signers/zero.key
+"$program" issue --ring signers --claim sub=me >token
+is "the newest private key of a ring" "$("$program" inspect token | grep '^footer')" "footer: {\"kid\":\"$("$program" id --key verifiers/2026-12.key)\"}"
+is "its token" "$("$program" check --ring verifiers token | grep -c '"sub":"me"')" 1
+refuses "a footer beside a ring" 2 "" "--ring names its key in the footer: omit --footer and --footer-kid" issue --ring signers --footer id
+refuses "a ring without a private key" 3 "" "verifiers: no private key is in this folder" issue --ring verifiers
+echo nothing >signers/2026-09.key
+refuses "a ring with a broken key to issue" 3 "" "signers/2026-09.key: $no_key" issue --ring signers
 for claim in seats =4 :=4 seats:= seats:=4x; do
     refuses "the claim $claim" 2 "" "$bad_claim" issue --key v4.local --claim "$claim"
 done
@@ -638,6 +702,28 @@ forges "a twin" "$twin" explain --key half3.public --issued issued
 is "the message of a twin" "$(shows message)" "$message"
 [ "$(shows signature)" != "$signature" ] && pass || fail "a twin has the same signature"
 
+# -- long inputs
+
+for words in "encrypt --key v4.local" "decrypt --key v4.local" "sign --key v4.secret" "verify --key v4.public" "decrypt --ring ring" "check --key v4.local" \
+    "check --ring ring" "explain --key v4.local --issued none" inspect; do
+    # shellcheck disable=SC2086
+    refuses "an endless input, $words" 1 "" "/dev/zero: $longer" $words /dev/zero
+    # shellcheck disable=SC2086
+    refuses "six bytes where five are allowed, $words" 1 "hello!" "$input: $longer" $words --longest 5
+    for longest in "" soon -1 5.0 18446744073709551616; do
+        # shellcheck disable=SC2086
+        refuses "$words --longest=$longest" 2 "" "--longest: write a number of bytes, such as 100000000" $words --longest="$longest"
+    done
+done
+refuses "an endless file of issued tokens" 1 "$(made encrypt --key v4.local)" "/dev/zero: $longer" explain --key v4.local --issued /dev/zero
+is "five bytes where five are allowed" "$(printf hello | "$program" encrypt --key v4.local --longest 5 | "$program" decrypt --key v4.local)" hello
+head -c 64000000 /dev/zero | tr '\0' a >long.most
+is "64,000,000 bytes" "$("$program" encrypt --key v4.local long.most | wc -c)" 85333429
+printf a >>long.most
+refuses "a byte more" 1 "" "long.most: $longer" encrypt --key v4.local long.most
+is "a byte more that is allowed" "$("$program" encrypt --key v4.local --longest 64000001 long.most | "$program" decrypt --key v4.local --longest 100000000 | cmp - long.most && echo same)" same
+rm long.most
+
 # -- words
 
 # WORDS|LINE: words that are refused, and the first line of what is said of them.
@@ -660,6 +746,10 @@ issue --key v4.local --at 1h|error: unexpected argument '--at' found
 issue --footer one --footer-kid two|error: the argument '--footer <TEXT>' cannot be used with '--footer-kid <ID>'
 check --footer one --footer-kid two|error: the argument '--footer <TEXT>' cannot be used with '--footer-kid <ID>'
 check --key v4.local --ring ring|error: the argument '--key <FILE>' cannot be used with '--ring <FOLDER>'
+issue --key v4.local --ring ring|error: the argument '--key <FILE>' cannot be used with '--ring <FOLDER>'
+decrypt --key v4.local --ring ring|error: the argument '--key <FILE>' cannot be used with '--ring <FOLDER>'
+verify --key v4.local --ring ring|error: the argument '--key <FILE>' cannot be used with '--ring <FOLDER>'
+encrypt --ring ring|error: unexpected argument '--ring' found
 check --key v4.local --expires 1h|error: unexpected argument '--expires' found
 id --key v4.local more|error: unexpected argument 'more' found
 decrypt --key v4.local --claim a=1|error: unexpected argument '--claim' found
@@ -722,7 +812,7 @@ for words in "encrypt --key v4.local" "decrypt --key v4.local" "sign --key v4.se
     refuses "a binary input, $words" 1 "" "binary: $not_utf8" $words binary
 done
 mkdir binaries && cp binary binaries
-refuses "a ring with a binary file" 3 "" "binaries: $no_key" check --ring binaries
+refuses "a ring with a binary file" 3 "$unknown" "binaries/binary: $no_key" check --ring binaries
 PASETO_KEY=$(cat binary) refuses "a binary key in the environment" 3 hello "PASETO_KEY: $no_key" encrypt
 PASETO_PASSWORD=$(cat binary) refuses "a binary password in the environment" 3 "" "PASETO_PASSWORD: not a password: it must have 1 to 4095 bytes" id --key v4.local
 refuses "a binary word" 2 "" "an argument is not valid UTF-8: see paseto --help" encrypt --key v4.local --footer "$(cat binary)"
@@ -739,7 +829,8 @@ done
 refuses "a key that 300 others are not" 1 "$("$program" issue --key v4.local --footer-kid k4.lid.none)" \
     "$input: The key 'k4.lid.none' is not in the ring" check --ring many
 echo nothing >many/151
-refuses "a ring of 299 keys and a file that is none" 1 "$(cat token)" "many: The file '151' of the ring is no key file" check --ring many
+refuses "a ring of 299 keys and a file that is none" 3 "$unknown" "many/151: $no_key" check --ring many
+is "one of the 299 keys" "$("$program" check --ring many token | grep -c '"number":300')" 1
 
 # -- new files, whole or not at all
 

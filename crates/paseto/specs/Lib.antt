@@ -20,3 +20,5 @@ pub mod NewKey
 pub mod NewFile
 pub mod Locks
 pub mod Warning
+pub mod Folder
+pub mod Named

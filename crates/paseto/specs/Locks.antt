@@ -1,5 +1,5 @@
 -- What `unwrap` and `unseal` take, and what they make of it.
-use Rattle.std.specs.Prelude.{◌≡◌, ◌≢◌, ◌⊎◌, ◌++◌, ℕ, List, codes}
+use Rattle.std.specs.Prelude.{◌≡◌, ◌≢◌, ◌⊎◌, ◌++◌, ℕ, List, Option, None, Some, codes}
 use Rattle.paseto_key_files.specs.Line.{BeginsPem}
 use Rattle.paseto_keys.specs.AnyKey.{KeyParts, parts_of}
 use Rattle.paseto_keys.specs.Line.{IsLineOf}
@@ -17,6 +17,8 @@ use Rattle.rusty_paseto_paserk.specs.declared.header.PaserkVersion.{PaserkVersio
 use Rattle.paseto.specs.Forms.{IsFormed}
 use Rattle.paseto.specs.Keys.{Holds}
 use Rattle.paseto.specs.declared.keys.Held.{Held}
+use Rattle.paseto_words.specs.declared.action.Under.{Under}
+use Rattle.paseto_words.specs.declared.action.Under.TheVariants.{Unsaid, Key as UnderKey, Password}
 use Rattle.paseto.specs.declared.locks.Lock.{Lock}
 use Rattle.paseto.specs.declared.locks.Lock.TheVariants.{Any, Seal as OfSeal}
 
@@ -51,3 +53,9 @@ IsLockFault OfSeal text error =
 abbrev pub OpensIn : Format → Held → List ℕ → List ℕ → Type 0
 OpensIn format held text made =
     (line : List ℕ) × (key : KeyParts) × Holds held text line × IsLineOf line key × IsFormed format key made
+
+-- the file that wraps a key: of the wrapping key, or of the password
+abbrev pub file_under : Under → Option (List ℕ)
+file_under Unsaid = None
+file_under (UnderKey path) = Some path.now
+file_under (Password path) = Some path.now

@@ -1,5 +1,6 @@
 -- The options for a token, of words.
-use Rattle.std.specs.Prelude.{ℕ, List, [], Option, None, Some, option_map}
+use Rattle.std.specs.Prelude.{◌≡◌, ◌<◌, ◌^◌, ℕ, List, [], Option, None, Some, option_map}
+use Rattle.std.specs.Str.Parse.{IsNumeral, digits_value, without_leading_plus}
 use Rattle.rusty_paseto_parts.specs.Footer.{footer_text}
 use Rattle.rusty_paseto_parts.specs.ImplicitAssertion.{assertion_text}
 use Rattle.paseto_tasks.specs.Arguments.{texts}
@@ -74,3 +75,10 @@ check_options words = record {
   leeway = text words.leeway;
   required = texts_of words.required.items;
 }
+
+-- the number of bytes that an input may have: that of the word, in decimal digits behind a plus or none, which fits 64
+-- bits, or else 64,000,000
+abbrev pub IsLongest : Option (List ℕ) → ℕ → Type 0
+IsLongest None longest = longest ≡ 64000000
+IsLongest (Some word) longest =
+    IsNumeral 10 (without_leading_plus word) × (longest ≡ digits_value 10 (without_leading_plus word)) × (longest < 2 ^ 64)

@@ -1,44 +1,51 @@
 //! The command `explain`.
 
 use crate::fault::Fault;
-use crate::files::{is_standard, name_of, opened};
+use crate::files::{input_file, input_of, name_of, once};
 use crate::keys::{key_name, key_of};
-use crate::options::text_options;
+use crate::options::{longest_of, text_options};
 use paseto_keys::AnyKey;
 use paseto_tasks::run::run_explain;
-use paseto_tasks::{Names, ProgramError, UsageError, read_text};
+use paseto_tasks::{Names, ProgramError};
 use paseto_words::Explain;
-use std::io::Read;
 
 /// Looks for a token among those that were issued, with the key that the arguments name.
 pub fn explain<'a>(rt: &HostRuntime, words: &Explain<'a>) -> Result<u8, Fault<'a>> {
-    if words.key.file == Some("-") && is_standard(words.input) {
-        return Err(Fault::from(ProgramError::Usage(UsageError::OneInput)));
-    }
+    let openers = words.key.openers;
+    once(&[
+        words.key.file,
+        openers.password,
+        openers.key,
+        Some(words.issued),
+        input_file(words.input),
+    ])?;
+    let longest = longest_of(words.longest)?;
     let key = key_of(rt, &words.key)?;
-    let issued = issued_text(rt, words.issued)?;
-    let issued = issued.as_str();
-    Ok(match words.input {
-        None | Some("-") => explained(rt, words, &key, issued, &mut rt.stdin()),
-        Some(path) => explained(rt, words, &key, issued, &mut opened(rt, path)?),
-    })
+    let issued = issued_text(rt, words.issued, longest)?;
+    let input = input_of(rt, words.input, longest)?;
+    Ok(explained(rt, words, &key, issued.as_str(), &input))
 }
 
 /// The text of the file of the tokens that were issued.
-fn issued_text<'a>(rt: &HostRuntime, path: &'a str) -> Result<String, Fault<'a>> {
-    match read_text(rt.alloc(), &mut opened(rt, path)?) {
+fn issued_text<'a>(rt: &HostRuntime, path: &'a str, longest: usize) -> Result<String, Fault<'a>> {
+    let bytes = input_of(rt, Some(path), longest)?;
+    match String::from_utf8(bytes) {
         Ok(text) => Ok(text),
-        Err(error) => Err(Fault::about(path, error)),
+        Err(error) => Err(Fault::about(
+            name_of(Some(path)),
+            ProgramError::from(error.utf8_error()),
+        )),
     }
 }
 
-fn explained<R: Read>(
+fn explained(
     rt: &HostRuntime,
     words: &Explain<'_>,
     key: &AnyKey,
     issued: &str,
-    input: &mut R,
+    input: &[u8],
 ) -> u8 {
+    let mut input = input;
     let names = Names {
         key: key_name(words.key.file),
         input: name_of(words.input),
@@ -51,7 +58,7 @@ fn explained<R: Read>(
         key,
         &options,
         issued,
-        input,
+        &mut input,
         output,
         errors,
     )

@@ -20,6 +20,13 @@ impl<'a> Fault<'a> {
         Fault { about, error }
     }
 
+    /// The error, whatever it is about.
+    pub fn into_error(self) -> ProgramError
+        ensures { result ≡ self.error }
+    {
+        self.error
+    }
+
     /// Reports the error on standard error, and returns the status.
     pub fn report(&self, rt: &HostRuntime) -> u8 {
         let names = Names {

@@ -1,89 +1,219 @@
-//! The key files of a folder, and files that are opened.
+//! Key rings: the key files of a folder.
 
-use crate::commands::answers::{one_line_of, told};
+ghost use Rattle.std.specs.Prelude.{◌≡◌, ◌⊎◌, ℕ, List, IfErr, IfOk, MatchBool, MatchOption};
+ghost use Rattle.paseto_keys.specs.AnyKey.{parts_of};
+ghost use Rattle.paseto.specs.Folder.{AreNotPrivate, IsKeyName, IsLastPrivate, IsNoRingKey, IsRingKey, entry_of};
+
+use crate::commands::answers::one_line_of;
+use crate::fault::Fault;
+use crate::files::on_disk;
 use crate::keys::Held;
-use paseto_key_files::KeyFileError;
 use paseto_keys::AnyKey;
-use paseto_tasks::{ProgramError, SystemError, begins_as, read_key_line};
-use rusty_paseto_paserk::{PaserkType, PaserkVersion};
-use std::alloc::Global;
+use paseto_tasks::{FileError, Names, ProgramError, SystemError, read_key_line};
+use rusty_paseto_paserk::PaserkType;
+use std::alloc::{AllocError, Global};
 use std::fs::{self, File};
 use std::io;
-use std::os::fd::AsRawFd;
 
-/// The number of standard error, the last of the standard streams.
-const LAST_STREAM: i32 = 2;
+/// The key files of a folder.
+#[derive(Drop)]
+pub struct Folder {
+    /// The keys of those that can be used, in the order of the files' names.
+    pub keys: Vec<AnyKey>,
+    /// The first by name that cannot be used.
+    pub broken: Option<Broken>,
+}
 
-/// The keys of the key files of a folder, opened if they are locked. Files whose names begin with a
-/// dot are left out.
-pub fn keys_in(
+/// A key file of a folder that cannot be used.
+#[derive(Drop)]
+pub struct Broken {
+    path: String,
+    error: ProgramError,
+}
+
+impl Broken {
+    /// Why it cannot be used, for the line on standard error.
+    pub fn report(&self, rt: &HostRuntime) -> u8 {
+        let path = self.path.as_str();
+        let names = Names {
+            key: path,
+            input: path,
+        };
+        self.error.say(&names, &mut rt.stderr());
+        self.error.status()
+    }
+}
+
+/// What a file of a folder is to a ring.
+#[derive(Drop)]
+enum Entry {
+    /// A key.
+    Key(AnyKey),
+    /// A key file that cannot be used.
+    Broken(ProgramError),
+    /// None of the ring's.
+    Other,
+}
+
+/// Reads the key files of a folder, opened if they are locked. Names that begin with a dot are left
+/// out; other names than those of key files, and what is no file, are passed over with one warning.
+pub fn folder_of<'a>(
     rt: &HostRuntime,
-    folder: &str,
-    held: &Held<'_>,
-) -> Result<Vec<AnyKey>, ProgramError> {
-    let mut keys = Vec::new(rt.alloc());
-    for entry in fs::read_dir(rt, folder).map_err(|source| ProgramError::of_file(&source))? {
-        let entry = entry?;
-        if !entry.file_name().starts_with('.') {
-            let mut file = opened(File::open(rt, entry.path()))?;
-            let text = read_key_line(rt.alloc(), &mut file)?;
-            keys.push(key_in(rt.alloc(), held, entry.file_name(), text.as_str())?)?;
+    path: &'a str,
+    held: &Held<'a>,
+) -> Result<Folder, Fault<'a>> {
+    match read(rt, path, held) {
+        Ok(folder) => Ok(folder),
+        Err(error) => Err(Fault::about(path, error)),
+    }
+}
+
+fn read(rt: &HostRuntime, folder: &str, held: &Held<'_>) -> Result<Folder, ProgramError> {
+    let alloc = rt.alloc();
+    let names = names_in(rt, folder)?;
+    let (mut keys, mut broken, mut passed) = (Vec::new(alloc), None, Passed::none());
+    for name in &names {
+        let path = format!(in alloc; "{folder}/{name}")?;
+        match entry_in(rt, name.as_str(), path.as_str(), held)? {
+            Entry::Key(key) => keys.push(key)?,
+            Entry::Broken(error) if broken.is_none() => broken = Some(Broken { path, error }),
+            Entry::Broken(_) => {}
+            Entry::Other => passed.add(name.as_str()),
         }
     }
-    Ok(keys)
+    passed.warn(rt, folder)?;
+    Ok(Folder { keys, broken })
 }
 
-/// The key in a file of the folder. A key pair of version 1 has no id by which a key ring could find
-/// it.
-fn key_in(alloc: Global, held: &Held<'_>, name: &str, text: &str) -> Result<AnyKey, ProgramError> {
-    let line = match held.unlock(alloc, text) {
-        Ok(line) => line,
-        Err(error) => return Err(not_opened(alloc, name, error)),
+/// The names of the entries of a folder, in order, without those that begin with a dot and those that
+/// are no text.
+fn names_in(rt: &HostRuntime, folder: &str) -> Result<Vec<String>, ProgramError> {
+    let mut names = Vec::new(rt.alloc());
+    let entries = match fs::read_dir(rt, folder) {
+        Ok(entries) => entries,
+        Err(source) => return Err(ProgramError::of_file(&source)),
     };
-    match begins_as(line.as_str()) {
-        None => Err(told(one_line_of(
-            alloc,
-            format!(in alloc; "The file '{name}' of the ring is no key file"),
-        ))),
-        Some((PaserkVersion::V1, PaserkType::Secret | PaserkType::Public)) => Err(told(
-            one_line_of(
-                alloc,
-                format!(in alloc;
-                    "The file '{name}' of the ring is of version 1, whose key pairs have no id"
-                ),
-            ),
-        )),
-        Some(_) => key_of(alloc, name, line.as_str()),
+    for entry in entries {
+        match entry {
+            Ok(entry) if entry.file_name().starts_with('.') => {}
+            Ok(entry) => names.push(String::from_str(rt.alloc(), entry.file_name())?)?,
+            Err(source) if source.kind() == io::ErrorKind::InvalidFilename => {}
+            Err(source) => return Err(ProgramError::from(source)),
+        }
+    }
+    names.sort()?;
+    Ok(names)
+}
+
+/// What the file of a name is to a ring.
+fn entry_in(
+    rt: &HostRuntime,
+    name: &str,
+    path: &str,
+    held: &Held<'_>,
+) -> Result<Entry, AllocError> {
+    if !is_key_name(name) {
+        return Ok(Entry::Other);
+    }
+    match fs::metadata(rt, path) {
+        Ok(metadata) if !metadata.is_file() => Ok(Entry::Other),
+        Ok(_) => sorted(key_of_file(rt, path, held)),
+        Err(source) => sorted(Err(ProgramError::of_file(&source))),
     }
 }
 
-/// The key of a line that begins like one.
-fn key_of(alloc: Global, name: &str, line: &str) -> Result<AnyKey, ProgramError> {
-    match AnyKey::from_line(alloc, line) {
+/// Whether a file of this name is a key file: it has no extension, or one of `.key` and `.pem`.
+fn is_key_name(name: &str) -> bool
+    ensures { MatchBool result (IsKeyName name.now) (¬ IsKeyName name.now) }
+{
+    name.ends_with(".key") || name.ends_with(".pem") || !name.contains('.')
+}
+
+/// What a key file is to a ring, by the result of reading it. A failed allocation is one of reading it.
+fn sorted(read: Result<AnyKey, ProgramError>) -> Result<Entry, AllocError>
+    ensures { result ≡ entry_of read }
+{
+    match read {
+        Ok(key) => Ok(Entry::Key(key)),
+        Err(ProgramError::System(SystemError::Memory(source))) => Err(source),
+        Err(error) => Ok(Entry::Broken(error)),
+    }
+}
+
+/// The key of a key file.
+fn key_of_file(rt: &HostRuntime, path: &str, held: &Held<'_>) -> Result<AnyKey, ProgramError> {
+    let mut file = on_disk(File::open(rt, path))?;
+    let text = read_key_line(rt.alloc(), &mut file)?;
+    key_of_text(rt.alloc(), held, text.as_str())
+}
+
+/// The key in the text of a key file, opened if it is locked. A key pair of version 1 has no id by
+/// which a ring could find it. A failed allocation is one of opening the text or of reading its line.
+fn key_of_text(alloc: Global, held: &Held<'_>, text: &str) -> Result<AnyKey, ProgramError>
+    ensures found { IfOk result (λ key. IsRingKey held.now text.now (parts_of key)) }
+    ensures refused { IfErr result (IsNoRingKey held.now text.now) }
+{
+    match held.open(alloc, "", text) {
+        Ok(AnyKey::V1Secret(_) | AnyKey::V1Public(_)) => Err(ProgramError::File(FileError::NoId)),
         Ok(key) => Ok(key),
-        Err(error) => Err(not_opened(alloc, name, error)),
+        Err(fault) => Err(fault.into_error()),
     }
 }
 
-/// The error for a file of the folder that is not opened.
-fn not_opened(alloc: Global, name: &str, error: KeyFileError) -> ProgramError {
-    match error {
-        KeyFileError::Memory(source) => ProgramError::from(source),
-        error => told(one_line_of(
+/// The last private key of these.
+pub fn last_private(keys: &[AnyKey]) -> Option<&AnyKey>
+    ensures { MatchOption result (AreNotPrivate keys.now) (λ key. IsLastPrivate keys.now key.now) }
+{
+    let [rest @ .., key] = keys else {
+        return None;
+    };
+    if key.kind() == PaserkType::Secret {
+        Some(key)
+    } else {
+        last_private(rest)
+    }
+}
+
+/// What a ring passes over: the first name, and how many more.
+#[derive(Drop)]
+struct Passed<'n> {
+    first: Option<&'n str>,
+    more: usize,
+}
+
+impl<'n> Passed<'n> {
+    fn none() -> Passed<'n> {
+        Passed {
+            first: None,
+            more: 0,
+        }
+    }
+
+    fn add(&mut self, name: &'n str) {
+        if self.first.is_none() {
+            self.first = Some(name);
+        } else {
+            self.more = self.more.saturating_add(1);
+        }
+    }
+
+    /// Warns of it, if there is any.
+    fn warn(&self, rt: &HostRuntime, folder: &str) -> Result<(), ProgramError> {
+        let Some(first) = self.first else {
+            return Ok(());
+        };
+        let alloc = rt.alloc();
+        let more = match self.more {
+            0 => String::new(alloc),
+            more => format!(in alloc; " and {more} more")?,
+        };
+        let line = one_line_of(
             alloc,
-            format!(in alloc; "The file '{name}' of the ring: {error}"),
-        )),
-    }
-}
-
-/// The opened file, or the error. A file that was given the number of a closed standard stream is
-/// refused, since it would be read or written as that stream.
-pub fn opened(file: io::Result<File>) -> Result<File, ProgramError> {
-    match file {
-        Ok(file) if file.as_raw_fd() <= LAST_STREAM => Err(ProgramError::System(
-            SystemError::InputOrOutput,
-        )),
-        Ok(file) => Ok(file),
-        Err(source) => Err(ProgramError::of_file(&source)),
+            format!(in alloc;
+                "paseto: {folder}: warning: {first}{more} passed over: key files are named *.key, *.pem or without a dot"
+            ),
+        )?;
+        rt.eprintln(&line)?;
+        Ok(())
     }
 }

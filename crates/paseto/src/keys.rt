@@ -8,7 +8,7 @@ ghost use Rattle.paseto_tasks.specs.Error.{key_file_error_of};
 ghost use Rattle.paseto.specs.Keys.{AreOpeners, Holds, HoldsNoKey, HoldsNone, IsNoKeyLine, IsWithoutReturn, OpensHeld, about_of, key_name, line_error_of};
 
 use crate::fault::Fault;
-use crate::files::{name_of, opened};
+use crate::files::{name_of, once, opened};
 use paseto_key_files::{KeyFileError, Openers, unlock};
 use paseto_keys::AnyKey;
 use paseto_tasks::{FileError, ProgramError, UsageError, begins_as, read_key_line, read_password};
@@ -23,7 +23,7 @@ use std::os::unix::fs::PermissionsExt;
 /// The environment variable for the key if none is named.
 const KEY: &str = "PASETO_KEY";
 
-/// The environment variable for the password if no password file is named.
+/// The environment variable for the password that opens keys if no password file is named.
 const PASSWORD: &str = "PASETO_PASSWORD";
 
 /// No file of what opens a key.
@@ -55,7 +55,7 @@ impl<'a> Held<'a> {
     /// What the arguments and the environment give. The key that opens files may itself be under the
     /// password.
     pub fn of(rt: &HostRuntime, words: &OpenerWords<'a>) -> Result<Held<'a>, Fault<'a>> {
-        let password = password_of(rt, words.password)?;
+        let password = opening_password(rt, words.password)?;
         let Some(path) = words.key else {
             return Ok(Held {
                 password,
@@ -102,7 +102,7 @@ impl<'a> Held<'a> {
 
     /// The line of the key in the text of a key file. The line feed at its end was removed when the
     /// file was read.
-    pub fn unlock(&self, alloc: Global, text: &str) -> Result<String, KeyFileError>
+    fn unlock(&self, alloc: Global, text: &str) -> Result<String, KeyFileError>
         ensures { OpensHeld self.now text.now result }
     {
         unlock(alloc, &self.openers(), without_return(text))
@@ -182,6 +182,7 @@ pub fn key_name(key: Option<&str>) -> &str
 
 /// The named key, opened if it is locked.
 pub fn key_of<'a>(rt: &HostRuntime, key: &KeyFile<'a>) -> Result<AnyKey, Fault<'a>> {
+    once(&[key.file, key.openers.password, key.openers.key])?;
     let held = Held::of(rt, &key.openers)?;
     let text = key_text(rt, key.file)?;
     held.open(rt.alloc(), key_name(key.file), text.as_str())
@@ -242,30 +243,43 @@ fn variable(rt: &HostRuntime) -> Result<String, Fault<'static>> {
     }
 }
 
-/// The named password: from a file, with a warning if others can read it, or from the environment.
-pub fn password_of<'a>(
+/// The password that opens locked keys: that of the named file, or else of the environment.
+fn opening_password<'a>(
     rt: &HostRuntime,
     file: Option<&'a str>,
 ) -> Result<Option<Vec<u8>>, Fault<'a>> {
-    let (name, password) = match file {
-        Some(path) => {
-            let mut file = opened(rt, path)?;
-            warn_of(rt, path, "password file", &file)?;
-            (path, read_password(rt.alloc(), &mut file))
-        }
-        None => match env::var(rt, PASSWORD) {
-            Ok(text) => (PASSWORD, read_password(rt.alloc(), &mut text.as_bytes())),
-            Err(VarError::NotPresent) => return Ok(None),
-            Err(VarError::NotUnicode) => (
-                PASSWORD,
-                Err(ProgramError::File(FileError::OddPassword)),
-            ),
-            Err(VarError::OutOfMemory) => (PASSWORD, Err(ProgramError::from(AllocError))),
-        },
+    match file {
+        Some(path) => Ok(Some(password_of(rt, path)?)),
+        None => password_variable(rt),
+    }
+}
+
+/// The password of the named file, with a warning if others can read it, or of standard input.
+pub fn password_of<'a>(rt: &HostRuntime, path: &'a str) -> Result<Vec<u8>, Fault<'a>> {
+    let password = if path == "-" {
+        read_password(rt.alloc(), &mut rt.stdin())
+    } else {
+        let mut file = opened(rt, path)?;
+        warn_of(rt, path, "password file", &file)?;
+        read_password(rt.alloc(), &mut file)
+    };
+    match password {
+        Ok(password) => Ok(password),
+        Err(error) => Err(Fault::about(name_of(Some(path)), error)),
+    }
+}
+
+/// The password of the environment.
+fn password_variable(rt: &HostRuntime) -> Result<Option<Vec<u8>>, Fault<'static>> {
+    let password = match env::var(rt, PASSWORD) {
+        Ok(text) => read_password(rt.alloc(), &mut text.as_bytes()),
+        Err(VarError::NotPresent) => return Ok(None),
+        Err(VarError::NotUnicode) => Err(ProgramError::File(FileError::OddPassword)),
+        Err(VarError::OutOfMemory) => Err(ProgramError::from(AllocError)),
     };
     match password {
         Ok(password) => Ok(Some(password)),
-        Err(error) => Err(Fault::about(name, error)),
+        Err(error) => Err(Fault::about(PASSWORD, error)),
     }
 }
 

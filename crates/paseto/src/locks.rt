@@ -6,11 +6,13 @@ ghost use Rattle.paseto_key_files.specs.Wrapping.{WrapsLine, WrapsNone};
 ghost use Rattle.paseto_keys.specs.AnyKey.{KeyParts, parts_of};
 ghost use Rattle.paseto_keys.specs.Forms.{ByLine, ByNoLine};
 ghost use Rattle.paseto_keys.specs.Line.{IsLineOf};
+ghost use Rattle.paseto_words.specs.Action.{text};
 ghost use Rattle.paseto.specs.Forms.{HasNoForm};
 ghost use Rattle.paseto.specs.Keys.{Holds, HoldsNoKey, IsKeyFault, IsOtherFault, IsTextBy};
-ghost use Rattle.paseto.specs.Locks.{IsBare, IsLockFault, IsLockedBy, IsUnwrappedFault, IsWrappedAs, OpensIn};
+ghost use Rattle.paseto.specs.Locks.{file_under, IsBare, IsLockFault, IsLockedBy, IsUnwrappedFault, IsWrappedAs, OpensIn};
 
 use crate::fault::Fault;
+use crate::files::once;
 use crate::forms::{format_of, formed, locked};
 use crate::keys::{Held, key_file_fault, key_name, key_of, key_text, opener_line, password_of};
 use crate::new_file::{free, put_secret};
@@ -26,15 +28,26 @@ use std::alloc::Global;
 /// Prints a key wrapped under a password or a wrapping key.
 pub fn wrapped<'a>(rt: &HostRuntime, words: &Wrap<'a>) -> Result<u8, Fault<'a>> {
     free(rt, words.out)?;
+    once(&[words.key, under_file(words.under)])?;
     let name = key_name(words.key);
     let text = key_text(rt, words.key)?;
     let key = Held::nothing().open(rt.alloc(), name, text.as_str())?;
     let made = match words.under {
         Under::Key(path) => under_key(rt, name, path, &key)?,
-        Under::Password(path) => under_password(rt, name, Some(path), &key)?,
-        Under::Unsaid => under_password(rt, name, None, &key)?,
+        Under::Password(path) => under_password(rt, name, path, &key)?,
+        Under::Unsaid => return Err(Fault::from(ProgramError::Usage(UsageError::NoPassword))),
     };
     written(rt, words.out, made.as_str())
+}
+
+/// The file that wraps a key.
+fn under_file(under: Under<'_>) -> Option<&str>
+    ensures { text result ≡ file_under under.entry }
+{
+    match under {
+        Under::Unsaid => None,
+        Under::Key(path) | Under::Password(path) => Some(path),
+    }
 }
 
 /// A key wrapped under the wrapping key of a file.
@@ -75,16 +88,14 @@ fn under_line<'a, G: TryRng>(
     }
 }
 
-/// A key wrapped under the password of a file, or of the environment.
+/// A key wrapped under the password of a file.
 fn under_password<'a>(
     rt: &HostRuntime,
     name: &'a str,
-    file: Option<&'a str>,
+    path: &'a str,
     key: &AnyKey,
 ) -> Result<String, Fault<'a>> {
-    let Some(password) = password_of(rt, file)? else {
-        return Err(Fault::from(ProgramError::Usage(UsageError::NoPassword)));
-    };
+    let password = password_of(rt, path)?;
     locked(rt.alloc(), name, key, &password, &mut SysRng::new(rt))
 }
 
@@ -102,6 +113,8 @@ pub fn unsealed<'a>(rt: &HostRuntime, words: &Written<'a>) -> Result<u8, Fault<'
 fn opened<'a>(rt: &HostRuntime, words: &Written<'a>, lock: Lock) -> Result<u8, Fault<'a>> {
     let format = format_of(words.format)?;
     free(rt, words.out)?;
+    let openers = words.key.openers;
+    once(&[words.key.file, openers.password, openers.key])?;
     let held = Held::of(rt, &words.key.openers)?;
     let text = key_text(rt, words.key.file)?;
     let name = key_name(words.key.file);
@@ -178,6 +191,13 @@ fn opened_in<'a>(
 /// Prints a key for local tokens, sealed to a public key.
 pub fn sealed<'a>(rt: &HostRuntime, words: &Seal<'a>) -> Result<u8, Fault<'a>> {
     free(rt, words.out)?;
+    let openers = words.key.openers;
+    once(&[
+        words.key.file,
+        openers.password,
+        openers.key,
+        Some(words.to),
+    ])?;
     let name = key_name(words.key.file);
     let key = key_of(rt, &words.key)?;
     let to = opener_line(rt, words.to)?;

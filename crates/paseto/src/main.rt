@@ -14,6 +14,7 @@ mod forms;
 mod half;
 mod keys;
 mod locks;
+mod named;
 mod new_file;
 mod new_key;
 mod options;
@@ -23,11 +24,12 @@ mod warning;
 
 use clap::Error;
 use fault::Fault;
-use files::{is_standard, name_of, opened};
+use files::{input_of, name_of};
 use keys::{key_name, key_of};
+use options::longest_of;
 use paseto_tasks::run::{run_id, run_inspect};
 use paseto_tasks::{Names, ProgramError, SystemError, Task, UsageError};
-use paseto_words::{Action, KeyFile, parse, status};
+use paseto_words::{Action, Inspect, KeyFile, parse, status};
 use rusty_paseto_paserk::{PaserkType, header_of};
 use std::env;
 use std::process::ExitCode;
@@ -105,7 +107,7 @@ fn done<'a>(rt: &HostRuntime, action: &Action<'a>) -> Result<u8, Fault<'a>> {
         Action::Issue(words) => tokens::issue(rt, words),
         Action::Check(words) => tokens::check(rt, words),
         Action::Explain(words) => explain::explain(rt, words),
-        Action::Inspect(input) => inspect(rt, *input),
+        Action::Inspect(words) => inspect(rt, words),
         Action::Encrypt(words)
         | Action::Decrypt(words)
         | Action::Sign(words)
@@ -137,26 +139,19 @@ fn tell_id<'a>(rt: &HostRuntime, words: &KeyFile<'a>) -> Result<u8, Fault<'a>> {
 }
 
 /// Prints what a token says about itself.
-fn inspect<'a>(rt: &HostRuntime, input: Option<&'a str>) -> Result<u8, Fault<'a>> {
+fn inspect<'a>(rt: &HostRuntime, words: &Inspect<'a>) -> Result<u8, Fault<'a>> {
+    let bytes = input_of(rt, words.input, longest_of(words.longest)?)?;
+    let name = name_of(words.input);
     let names = Names {
-        key: name_of(input),
-        input: name_of(input),
+        key: name,
+        input: name,
     };
-    let (mut output, mut errors) = (rt.stdout(), rt.stderr());
-    Ok(match input {
-        Some(path) if !is_standard(input) => run_inspect(
-            rt.alloc(),
-            &names,
-            &mut opened(rt, path)?,
-            &mut output,
-            &mut errors,
-        ),
-        _ => run_inspect(
-            rt.alloc(),
-            &names,
-            &mut rt.stdin(),
-            &mut output,
-            &mut errors,
-        ),
-    })
+    let mut input = bytes.as_slice();
+    Ok(run_inspect(
+        rt.alloc(),
+        &names,
+        &mut input,
+        &mut rt.stdout(),
+        &mut rt.stderr(),
+    ))
 }

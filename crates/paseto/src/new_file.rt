@@ -4,7 +4,7 @@ ghost use Rattle.std.specs.Prelude.{◌≡◌};
 ghost use Rattle.paseto.specs.NewFile.{IsFolderOf};
 
 use crate::fault::Fault;
-use crate::folder;
+use crate::files::on_disk;
 use paseto_tasks::{FileError, ProgramError, SystemError, write_whole};
 use rand::rngs::SysRng;
 use rand_core::TryRng;
@@ -146,7 +146,7 @@ impl<'a> NewFile<'a> {
 
 /// Writes a whole file and flushes it to the disk.
 fn fill(file: File, bytes: &[u8]) -> Result<(), ProgramError> {
-    let mut file = folder::opened(Ok(file))?;
+    let mut file = on_disk(Ok(file))?;
     let written = write_whole(&mut file, bytes);
     if written.is_err() || file.sync_all().is_err() {
         return Err(ProgramError::File(FileError::Unwritten));

@@ -28,7 +28,10 @@ pub fn make<'a>(rt: &HostRuntime, words: &Keygen<'a>) -> Result<u8, Fault<'a>> {
     differ(words.out, words.public)?;
     free(rt, words.out)?;
     free(rt, words.public)?;
-    let password = password_of(rt, words.password)?;
+    let password = match words.password {
+        Some(path) => Some(password_of(rt, path)?),
+        None => None,
+    };
     let password = password.as_deref();
     let (alloc, generator) = (rt.alloc(), &mut SysRng::new(rt));
     let asks_half = words.public.is_some();

@@ -1,12 +1,12 @@
 //! The options for a token, of the arguments.
 
-ghost use Rattle.std.specs.Prelude.{◌≡◌, option_map};
+ghost use Rattle.std.specs.Prelude.{◌≡◌, ℕ, IfErr, IfOk, option_map};
 ghost use Rattle.rusty_paseto_parts.specs.Footer.{footer_text};
 ghost use Rattle.rusty_paseto_parts.specs.ImplicitAssertion.{assertion_text};
 ghost use Rattle.paseto_words.specs.Action.{footing, text};
-ghost use Rattle.paseto.specs.Options.{check_options, issue_options, not_empty, option_texts, text_options};
+ghost use Rattle.paseto.specs.Options.{IsLongest, check_options, issue_options, not_empty, option_texts, text_options};
 
-use paseto_tasks::Options;
+use paseto_tasks::{Options, ProgramError, UsageError};
 use paseto_words::{Check, Foot, Issue};
 use rusty_paseto_core::{Footer, ImplicitAssertion};
 
@@ -21,6 +21,24 @@ const NONE: Options<'static> = Options {
     leeway: None,
     required: &[],
 };
+
+/// The number of bytes that an input may have, if the arguments do not say it.
+const LONGEST: usize = 64_000_000;
+
+/// The number of bytes that an input may have.
+pub fn longest_of(word: Option<&str>) -> Result<usize, ProgramError>
+    ensures found { IfOk result (λ longest. IsLongest (text word.entry) longest) }
+    ensures none { IfErr result (λ error. (error ≡ ProgramError.Usage UsageError.Longest)
+        × ((longest : ℕ) → ¬ IsLongest (text word.entry) longest)) }
+{
+    let Some(word) = word else {
+        return Ok(LONGEST);
+    };
+    match word.parse::<usize>() {
+        Ok(longest) => Ok(longest),
+        Err(_) => Err(ProgramError::Usage(UsageError::Longest)),
+    }
+}
 
 /// The options for the token of a text: its footer and its implicit assertion.
 pub fn text_options<'a>(footer: Option<&'a str>, assertion: Option<&'a str>) -> Options<'a>

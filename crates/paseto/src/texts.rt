@@ -4,19 +4,23 @@ ghost use Rattle.std.specs.Prelude.{◌≡◌};
 ghost use Rattle.paseto_keys.specs.AnyKey.{parts_of};
 ghost use Rattle.paseto.specs.Texts.{DoesTask};
 
+use crate::commands::answers::ring_error;
 use crate::fault::Fault;
-use crate::files::{is_standard, name_of, opened};
-use crate::keys::{key_name, key_of};
+use crate::files::{input_file, input_of, name_of, once};
+use crate::folder::{Folder, folder_of};
+use crate::keys::{Held, key_name, key_of};
+use crate::named::named_in;
 use crate::new_file::{free, put_secret};
-use crate::options::text_options;
+use crate::options::{longest_of, text_options};
 use crate::warning::line_of_text;
 use jiff::Timestamp;
 use paseto_keys::AnyKey;
-use paseto_tasks::run::run;
-use paseto_tasks::{Names, ProgramError, Task, UsageError};
-use paseto_words::Keyed;
+use paseto_tasks::run::{run, suits};
+use paseto_tasks::{Names, ProgramError, Task, read_token};
+use paseto_words::{KeyFile, Keyed};
 use rand::rngs::SysRng;
 use rand_core::TryRng;
+use rusty_paseto::KeyRingError;
 use std::alloc::Global;
 use std::io::{Read, Write};
 use std::str;
@@ -24,41 +28,98 @@ use std::str;
 /// Does a task with the key that the arguments name: in a file, on standard input or in the
 /// environment.
 pub fn keyed<'a>(rt: &HostRuntime, task: Task, words: &Keyed<'a>) -> Result<u8, Fault<'a>> {
-    if words.key.file == Some("-") && is_standard(words.input) {
-        return Err(Fault::from(ProgramError::Usage(UsageError::OneInput)));
-    }
+    let openers = words.key.openers;
+    once(&[
+        words.key.file,
+        openers.password,
+        openers.key,
+        input_file(words.input),
+    ])?;
+    let longest = longest_of(words.longest)?;
     free(rt, words.out)?;
-    let key = key_of(rt, &words.key)?;
-    match words.input {
-        None | Some("-") => with_input(rt, task, words, &key, &mut rt.stdin()),
-        Some(path) => with_input(rt, task, words, &key, &mut opened(rt, path)?),
+    if let Some(folder) = words.ring {
+        return by_ring(rt, task, words, folder, longest);
     }
+    let key = key_of(rt, &words.key)?;
+    if let Err(error) = suits(&key, task, &text_options(words.footer, words.assertion)) {
+        return Err(Fault::about(key_name(words.key.file), error));
+    }
+    let input = input_of(rt, words.input, longest)?;
+    let mut made = Vec::new(rt.alloc());
+    let status = make(rt, task, words, &key, &input, &mut made);
+    put(rt, task, words, status, &made)
 }
 
-/// Writes the output of a task to a new file or to standard output, once the task is done.
-fn with_input<'a, R: Read>(
+/// Does a task with the key of a folder that the footer of the token names, and under that footer if
+/// none is given. If it names none of them, a key file that cannot be used is at fault.
+fn by_ring<'a>(
     rt: &HostRuntime,
     task: Task,
     words: &Keyed<'a>,
-    key: &AnyKey,
-    input: &mut R,
+    path: &'a str,
+    longest: usize,
 ) -> Result<u8, Fault<'a>> {
+    let Folder { keys, broken } = folder_of(rt, path, &Held::of(rt, &words.key.openers)?)?;
+    let input = input_of(rt, words.input, longest)?;
+    let token = match read_token(rt.alloc(), &mut input.as_slice()) {
+        Ok(token) => token,
+        Err(error) => return Err(Fault::about(name_of(words.input), error)),
+    };
+    let (footer, key) = match (named_in(rt.alloc(), &keys, token.as_str()), &broken) {
+        (Ok(found), _) => found,
+        (Err(KeyRingError::UnknownKey(_)), Some(broken)) => return Ok(broken.report(rt)),
+        (Err(source), _) => {
+            let error = ring_error(rt.alloc(), source);
+            return Err(Fault::about(name_of(words.input), error));
+        }
+    };
+    let named = Keyed {
+        key: KeyFile {
+            file: Some(path),
+            openers: words.key.openers,
+        },
+        footer: Some(words.footer.unwrap_or(footer.as_str())),
+        ..*words
+    };
     let mut made = Vec::new(rt.alloc());
-    let status = done(
+    let status = make(rt, task, &named, key, &input, &mut made);
+    put(rt, task, words, status, &made)
+}
+
+fn make(
+    rt: &HostRuntime,
+    task: Task,
+    words: &Keyed<'_>,
+    key: &AnyKey,
+    input: &[u8],
+    made: &mut Vec<u8>,
+) -> u8 {
+    let mut input = input;
+    done(
         rt.alloc(),
         task,
         words,
         key,
         &mut SysRng::new(rt),
-        input,
-        &mut made,
+        &mut input,
+        made,
         &mut rt.stderr(),
-    );
+    )
+}
+
+/// Writes what was made to a new file or to standard output, if the status is 0, and returns the status.
+fn put<'a>(
+    rt: &HostRuntime,
+    task: Task,
+    words: &Keyed<'a>,
+    status: u8,
+    made: &[u8],
+) -> Result<u8, Fault<'a>> {
     if status == 0 {
         if matches!(task, Task::Decrypt | Task::Verify) {
-            warn_of_times(rt, name_of(words.input), &made)?;
+            warn_of_times(rt, name_of(words.input), made)?;
         }
-        put_secret(rt, words.out, &made)?;
+        put_secret(rt, words.out, made)?;
     }
     Ok(status)
 }

@@ -10,36 +10,103 @@ use crate::commands::check::Keys;
 use crate::commands::run::{run_check, run_issue};
 use crate::commands::times::moment_of;
 use crate::fault::Fault;
-use crate::files::{is_standard, opened};
-use crate::folder::keys_in;
+use crate::files::{input_file, input_of, once};
+use crate::folder::{Folder, folder_of, last_private};
 use crate::keys::{Held, key_name, key_of};
+use crate::named::{is_unknown, public_id};
 use crate::new_file::{free, put_secret};
+use crate::options::longest_of;
 use jiff::Timestamp;
-use paseto_tasks::{ProgramError, SystemError, UsageError};
-use paseto_words::{Check, Issue, KeyFile, Keys as KeyWords};
+use paseto_keys::AnyKey;
+use paseto_tasks::{FileError, ProgramError, SystemError, UsageError};
+use paseto_words::{Check, Foot, Issue, KeyFile, Keys as KeyWords};
 use rand::rngs::SysRng;
+use std::alloc::Global;
 
 /// Issues a token at the current second.
 pub fn issue<'a>(rt: &HostRuntime, words: &Issue<'a>) -> Result<u8, Fault<'a>> {
     free(rt, words.out)?;
-    let key = key_of(rt, &words.key)?;
+    let mut made = Vec::new(rt.alloc());
     let now = second_of(clock(rt)?)?;
-    let (alloc, mut generator, mut errors) = (rt.alloc(), SysRng::new(rt), rt.stderr());
-    let mut made = Vec::new(alloc);
-    let status = run_issue(
-        alloc,
-        words,
-        &key,
-        now,
-        &mut generator,
-        &mut made,
-        &mut errors,
-    );
+    let status = match words.ring {
+        Some(folder) => issue_by_ring(rt, words, folder, now, &mut made)?,
+        None => {
+            let key = key_of(rt, &words.key)?;
+            issue_by(rt, words, &key, now, &mut made)
+        }
+    };
     if status == 0 {
         put_secret(rt, words.out, &made)?;
         warn_of_end(rt, words.expires, now)?;
     }
     Ok(status)
+}
+
+fn issue_by(
+    rt: &HostRuntime,
+    words: &Issue<'_>,
+    key: &AnyKey,
+    now: Timestamp,
+    made: &mut Vec<u8>,
+) -> u8 {
+    let (mut generator, mut errors) = (SysRng::new(rt), rt.stderr());
+    run_issue(
+        rt.alloc(),
+        words,
+        key,
+        now,
+        &mut generator,
+        made,
+        &mut errors,
+    )
+}
+
+/// Issues a token with the last private key of a folder, whose public id is in the footer.
+fn issue_by_ring<'a>(
+    rt: &HostRuntime,
+    words: &Issue<'a>,
+    path: &'a str,
+    now: Timestamp,
+    made: &mut Vec<u8>,
+) -> Result<u8, Fault<'a>> {
+    let Foot::Unsaid = words.foot else {
+        return Err(Fault::from(ProgramError::Usage(UsageError::RingFooter)));
+    };
+    let folder = folder_of(rt, path, &Held::of(rt, &words.key.openers)?)?;
+    if let Some(broken) = &folder.broken {
+        return Ok(broken.report(rt));
+    }
+    let Some(key) = last_private(&folder.keys) else {
+        return Err(Fault::about(path, ProgramError::File(FileError::NoSigner)));
+    };
+    let id = match public_id(rt.alloc(), key) {
+        Ok(id) => id,
+        Err(error) => return Err(Fault::about(path, ProgramError::from(error))),
+    };
+    let words = signed_by(rt.alloc(), words, path, id.as_str())?;
+    Ok(issue_by(rt, &words, key, now, made))
+}
+
+/// The arguments with a folder in place of the key file, and the id of a key in the footer.
+fn signed_by<'w>(
+    alloc: Global,
+    words: &Issue<'w>,
+    path: &'w str,
+    id: &'w str,
+) -> Result<Issue<'w>, ProgramError> {
+    Ok(Issue {
+        key: KeyFile {
+            file: Some(path),
+            openers: words.key.openers,
+        },
+        ring: None,
+        claims: Vec::from_slice(alloc, &words.claims)?,
+        expires: words.expires,
+        not_before: words.not_before,
+        foot: Foot::Kid(id),
+        assertion: words.assertion,
+        out: words.out,
+    })
 }
 
 /// Warns of a token that has expired when it is issued.
@@ -96,58 +163,62 @@ fn told(read: Result<Timestamp, jiff::Error>) -> Result<Timestamp, ProgramError>
 
 /// Checks a token at the current moment.
 pub fn check<'a>(rt: &HostRuntime, words: &Check<'a>) -> Result<u8, Fault<'a>> {
-    let (name, keys) = keys_of(rt, words)?;
-    let (alloc, mut output, mut errors) = (rt.alloc(), rt.stdout(), rt.stderr());
-    Ok(match words.input {
-        None | Some("-") => {
-            let (now, mut input) = (clock(rt)?, rt.stdin());
-            run_check(
-                alloc,
-                words,
-                name,
-                &keys,
-                now,
-                &mut input,
-                &mut output,
-                &mut errors,
-            )
-        }
-        Some(path) => {
-            let (mut input, now) = (opened(rt, path)?, clock(rt)?);
-            run_check(
-                alloc,
-                words,
-                name,
-                &keys,
-                now,
-                &mut input,
-                &mut output,
-                &mut errors,
-            )
-        }
-    })
-}
-
-/// The keys that the arguments name, opened if they are locked, with the name of their file or folder.
-fn keys_of<'a>(rt: &HostRuntime, words: &Check<'a>) -> Result<(&'a str, Keys), Fault<'a>> {
     let openers = words.openers;
-    let file = match words.keys {
-        KeyWords::Ring(folder) => return Ok((folder, ring_of(rt, words, folder)?)),
-        KeyWords::File("-") if is_standard(words.input) => {
-            return Err(Fault::from(ProgramError::Usage(UsageError::OneInput)));
-        }
+    let path = match words.keys {
         KeyWords::File(path) => Some(path),
-        KeyWords::Unsaid => None,
+        KeyWords::Unsaid | KeyWords::Ring(_) => None,
     };
-    let key = key_of(rt, &KeyFile { file, openers })?;
-    Ok((key_name(file), Keys::One(key)))
+    once(&[path, openers.password, openers.key, input_file(words.input)])?;
+    let longest = longest_of(words.longest)?;
+    if let KeyWords::Ring(folder) = words.keys {
+        return check_by_ring(rt, words, folder, longest);
+    }
+    let key = key_of(
+        rt,
+        &KeyFile {
+            file: path,
+            openers,
+        },
+    )?;
+    let input = input_of(rt, words.input, longest)?;
+    check_token(rt, words, key_name(path), &Keys::One(key), &input)
 }
 
-/// The keys of a folder.
-fn ring_of<'a>(rt: &HostRuntime, words: &Check<'a>, folder: &'a str) -> Result<Keys, Fault<'a>> {
-    let held = Held::of(rt, &words.openers)?;
-    match keys_in(rt, folder, &held) {
-        Ok(keys) => Ok(Keys::Ring(keys)),
-        Err(error) => Err(Fault::about(folder, error)),
+/// Checks a token with the key of a folder that its footer names. If it names none of them, a key file
+/// that cannot be used is at fault.
+fn check_by_ring<'a>(
+    rt: &HostRuntime,
+    words: &Check<'a>,
+    path: &'a str,
+    longest: usize,
+) -> Result<u8, Fault<'a>> {
+    let Folder { keys, broken } = folder_of(rt, path, &Held::of(rt, &words.openers)?)?;
+    let input = input_of(rt, words.input, longest)?;
+    if let Some(broken) = broken {
+        if is_unknown(rt.alloc(), &keys, &input) {
+            return Ok(broken.report(rt));
+        }
     }
+    check_token(rt, words, path, &Keys::Ring(keys), &input)
+}
+
+fn check_token<'a>(
+    rt: &HostRuntime,
+    words: &Check<'a>,
+    name: &str,
+    keys: &Keys,
+    input: &[u8],
+) -> Result<u8, Fault<'a>> {
+    let (mut input, now) = (input, clock(rt)?);
+    let (mut output, mut errors) = (rt.stdout(), rt.stderr());
+    Ok(run_check(
+        rt.alloc(),
+        words,
+        name,
+        keys,
+        now,
+        &mut input,
+        &mut output,
+        &mut errors,
+    ))
 }

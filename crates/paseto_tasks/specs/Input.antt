@@ -1,5 +1,5 @@
 -- The line of an input.
-use Rattle.std.specs.Prelude.{◌≡◌, ℕ, ◌<◌, ◌⊎◌, List, [], length, IsUtf8, Option}
+use Rattle.std.specs.Prelude.{◌≡◌, ℕ, ◌<◌, ◌≤◌, ◌⊎◌, List, [], length, IsUtf8, Option}
 use Rattle.std.specs.Io.BufRead.{strip_last}
 use Rattle.std.specs.Str.{trim}
 use Rattle.std.specs.declared.io.Error.{Error as SystemError}
@@ -43,6 +43,6 @@ IsNoKeyFile bytes error =
     (IsLong bytes × (error ≡ File TooLong))
     ⊎ (((line_of_input bytes ≡ []) × (error ≡ File EmptyKey)) ⊎ ((¬ IsUtf8 (line_of_input bytes)) × (error ≡ File (Key NoKey))))
 
--- the bytes are no password: too many, or none
+-- the bytes are no password: none, or too many
 abbrev pub IsNoPassword : List ℕ → Type 0
-IsNoPassword bytes = IsLong bytes ⊎ (line_of_input bytes ≡ [])
+IsNoPassword bytes = (line_of_input bytes ≡ []) ⊎ (4096 ≤ length (line_of_input bytes))

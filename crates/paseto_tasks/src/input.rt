@@ -1,11 +1,11 @@
 //! The text of the input, and that of a key file.
 
-ghost use Rattle.std.specs.Prelude.{◌≡◌, ◌≢◌, [], ◌⊎◌, IfOk, IfErr, IfSome, string_bytes, IsUtf8};
+ghost use Rattle.std.specs.Prelude.{◌≡◌, ◌≢◌, ◌<◌, ◌≤◌, [], ◌⊎◌, length, IfOk, IfErr, IfSome, string_bytes, IsUtf8};
 ghost use Rattle.paseto_tasks.specs.Error.{Fails, IsNoUsage, IsOutside, IsPlainBut};
 ghost use Rattle.paseto_tasks.specs.Input.{IsLong, IsNoKeyFile, IsNoPassword, IsNoText, OfInput, line_of_input, reading, token_of_input};
 ghost use Rattle.paseto_streams.specs.Input.{IsInput};
 
-use crate::error::{FileError, ProgramError};
+use crate::error::{FileError, ProgramError, TokenError};
 use paseto_streams::read_whole;
 use rusty_paseto_paserk::PaserkError;
 use std::alloc::Global;
@@ -15,6 +15,35 @@ use std::str;
 /// The maximum number of bytes in a key file. The PEM of an RSA key has fewer than 2,000 bytes, and
 /// a wrapped key has no more.
 const LIMIT: usize = 4096;
+
+/// The number of bytes that a read of the input requests.
+const SPACE: usize = 65536;
+
+/// Reads the bytes of the input, and little more of it than so many. A longer input is refused as `TooLong`.
+pub fn read_input<R: Read>(
+    alloc: Global,
+    input: &mut R,
+    longest: usize,
+) -> Result<Vec<u8>, ProgramError>
+    ensures whole { IfOk result (λ bytes. IsInput (R.remaining input.old) bytes.items
+        × (length bytes.items ≤ longest)) }
+    ensures refused { IfErr result (λ error. OfInput (R.remaining input.old) (λ bytes.
+        (error ≡ ProgramError.Token TokenError.TooLong) × (longest < length bytes))
+        ⊎ Fails reading error) }
+{
+    let mut bytes = Vec::new(alloc);
+    let mut space = [0u8; SPACE];
+    'reads: loop {
+        let count = input.read(&mut space)?;
+        if count == 0 {
+            return Ok(bytes);
+        }
+        bytes.extend_from_slice(&space[..count])?;
+        if bytes.len() > longest {
+            return Err(ProgramError::Token(TokenError::TooLong));
+        }
+    }
+}
 
 /// Reads the text of the input. Input that is not UTF-8 is refused.
 pub fn read_text<R: Read>(alloc: Global, input: &mut R) -> Result<String, ProgramError>
@@ -67,11 +96,11 @@ pub fn read_key_line<K: Read>(alloc: Global, file: &mut K) -> Result<String, Pro
 }
 
 /// Reads the password of a file: its bytes without the line feed at their end. An empty password is
-/// refused, and so is a file with more bytes than a key file may have.
+/// refused, and so is one of 4096 bytes or more.
 pub fn read_password<P: Read>(alloc: Global, file: &mut P) -> Result<Vec<u8>, ProgramError>
     ensures password { IfOk result (λ password. IfSome (P.remaining file.old)
         (λ bytes. line_of_input bytes ≡ password.items)) }
-    ensures some { IfOk result (λ password. password.items ≢ []) }
+    ensures some { IfOk result (λ password. (password.items ≢ []) × (length password.items < 4096)) }
     ensures refused { IfErr result (λ error. IfSome (P.remaining file.old)
         (λ bytes. IsOutside error ⊎ IsNoPassword bytes)) }
     ensures plain { IfErr result (IsPlainBut reading) }
@@ -83,7 +112,7 @@ pub fn read_password<P: Read>(alloc: Global, file: &mut P) -> Result<Vec<u8>, Pr
         read => read?,
     };
     let password = without_line_feed(&bytes);
-    if password.is_empty() {
+    if password.is_empty() || password.len() >= LIMIT {
         return Err(ProgramError::File(FileError::OddPassword));
     }
     Ok(Vec::from_slice(alloc, password)?)

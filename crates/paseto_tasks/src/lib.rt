@@ -21,7 +21,7 @@ mod tokens;
 
 pub use arguments::{Format, Kind, Options, Task};
 pub use error::{FileError, Names, ProgramError, SystemError, TimeOption, TokenError, UsageError};
-pub use input::{read_key_line, read_password, read_text, read_token};
+pub use input::{read_input, read_key_line, read_password, read_text, read_token};
 pub use key_line::begins_as;
 pub use output::{with_line_feed, write_whole};
 pub use token_kind::TokenKind;

@@ -11,7 +11,7 @@ ghost use Rattle.paseto_tasks.specs.Input.{IsNoText, OfInput, reading, token_of_
 ghost use Rattle.paseto_tasks.specs.Inspect.{Inspects, RefusesInspecting};
 ghost use Rattle.paseto_tasks.specs.Output.{IsLeftOf, IsTextOf, Makes};
 ghost use Rattle.paseto_tasks.specs.Run.{Ends, FailsOf, IsRefusal, Leaves, PrintsOf, RefusesOf, Tells, Told, forged_status};
-ghost use Rattle.paseto_tasks.specs.Tokens.{drawn_by, type_for};
+ghost use Rattle.paseto_tasks.specs.Tokens.{Fits, RefusesKey, drawn_by, type_for};
 
 use crate::arguments::{Options, Task};
 use crate::error::{Names, ProgramError};
@@ -75,11 +75,20 @@ fn make<G: TryRng, R: Read>(
         (RefusesOf task options.now IsDrawn (parts_of key.now) (R.remaining input.old))
         (FailsOf task options.now G.Error (parts_of key.now)) result }
 {
-    fits(key, type_for(task), options)?;
+    suits(key, task, options)?;
     match task {
         Task::Encrypt | Task::Sign => write(alloc, key, options, generator, input),
         Task::Decrypt | Task::Verify => read(alloc, key, options, input),
     }
+}
+
+/// Refuses a key that does not fit a task: one of another type, and one whose version does not take the
+/// assertion.
+pub fn suits(key: &AnyKey, task: Task, options: &Options<'_>) -> Result<(), ProgramError>
+    ensures fits { OnOk result (Fits (type_for task) options.now (parts_of key.now)) }
+    ensures refused { IfErr result (RefusesKey (type_for task) options.now (parts_of key.now)) }
+{
+    fits(key, type_for(task), options)
 }
 
 /// The type of the keys that a task takes.

@@ -1,6 +1,6 @@
 -- What clap's answers say of what words ask for.
-use Rattle.std.proofs.Common.{◌≡◌, ◌∙◌, ◌&&◌, Bool, List, [], ◌∷◌, false, true, Option, None, Result, Ok, Err, IfOk, IfErr, if◌then◌else◌, ap, sym, refl, inl, inr}
-use Rattle.clap.specs.Words.{App, Row, Text, FailsBy, HasKind, IsAmong, Kinds, fault_of, is_simple, is_simple_and_free, kind_of, subcommand_of, subcommand_rows_of}
+use Rattle.std.proofs.Common.{◌≡◌, ◌∙◌, ◌&&◌, Bool, List, [], ◌∷◌, false, true, option_map, Option, None, Some, Result, Ok, Err, IfOk, IfErr, if◌then◌else◌, ap, sym, refl, inl, inr}
+use Rattle.clap.specs.Words.{App, Row, Text, FailsBy, HasKind, IsAmong, Kinds, fault_of, is_simple, is_simple_and_free, kind_of, subcommand_name_of, subcommand_of, subcommand_rows_of}
 use Rattle.clap.specs.Faults.{is_free_app}
 use Rattle.clap.specs.Kinds.{or_else}
 use Rattle.clap.specs.Simple.{built}
@@ -12,7 +12,7 @@ use Rattle.clap.proofs.OnLiterals.{clap_on_literals}
 use Rattle.paseto_words.specs.Action.{Asked}
 use Rattle.paseto_words.specs.App.{paseto_app}
 use Rattle.paseto_words.specs.CommandLine.{IsFoundIn, asked_by, faults_by, own_faults}
-use Rattle.paseto_words.specs.Reading.{found_in}
+use Rattle.paseto_words.specs.Reading.{asked_in, found_in}
 
 pub is_free_paseto : is_simple_and_free paseto_app ≡ true
 unfolding clap_on_literals
@@ -57,3 +57,18 @@ pub own_is : (a : App) (words : List Text) (found : Option (Text × List Row)) �
     → own_faults found ≡ faults_by a words
 own_is a words found no_fault is =
     ap own_faults is ∙ ap (λ (f : Kinds). or_else f (own_faults (subcommand_of a words))) (sym no_fault)
+
+module _ {A B C : Type 0} (f : A → B) (g : B → C) where
+  fused : (o : Option A) → option_map g (option_map f o) ≡ option_map (λ a. g (f a)) o
+  fused None = refl
+  fused (Some a) = refl
+
+-- the command that clap finds is the one of this name and these rows
+named_found : (found : Option (Text × List Row)) (name : Text) (rows : List Row)
+    → option_map (λ p. p.0) found ≡ Some name → option_map (λ p. p.1) found ≡ Some rows → found_in found ≡ asked_in name rows
+named_found None name rows is has = absurd (cc)
+named_found (Some (n, r)) name rows is has = let named : n ≡ name = cc in let taken : r ≡ rows = cc in λ i. asked_in (named i) (taken i)
+
+pub asked_of : (m : ArgMatches) (name : Text) (rows : List Row) → subcommand_name_of m ≡ Some name
+    → option_map (λ p. p.1) (subcommand_rows_of m) ≡ Some rows → found_in (subcommand_rows_of m) ≡ asked_in name rows
+asked_of m name rows is has = named_found (subcommand_rows_of m) name rows (fused _ (λ p. p.0) _ ∙ is) has

@@ -51,7 +51,7 @@ const KEY: Parameter = Parameter {
 const PASSWORD: Parameter = Parameter {
     id: "password-file",
     form: Form::Option("FILE"),
-    help: "A file whose first line is the password of the key; without it, PASETO_PASSWORD holds it",
+    help: "The file of the password (all of it but one final newline), or - for standard input; without it, PASETO_PASSWORD holds it",
     is_required: false,
 };
 
@@ -66,7 +66,7 @@ const OPENER: Parameter = Parameter {
 const NEW_PASSWORD: Parameter = Parameter {
     id: "password-file",
     form: Form::Option("FILE"),
-    help: "A file whose first line is the password for the key; without it, PASETO_PASSWORD holds it",
+    help: "The file of the password for the key (all of it but one final newline), or - for standard input",
     is_required: false,
 };
 

@@ -136,7 +136,7 @@ pub fn found(
         Err(RingError::NoAssertion) => Err(ProgramError::File(FileError::NoAssertion)),
         Err(RingError::Memory(source)) => Err(ProgramError::from(source)),
         Err(RingError::Parser(source)) => Err(by_text(source)),
-        Err(RingError::Ring(source)) => Err(by_ring(alloc, source)),
+        Err(RingError::Ring(source)) => Err(ring_error(alloc, source)),
     }
 }
 
@@ -164,7 +164,8 @@ fn by_text(source: GenericParserError) -> ProgramError
     }
 }
 
-fn by_ring(alloc: Global, source: KeyRingError) -> ProgramError
+/// The error for a key that is not found in a ring, or that does not read a token.
+pub fn ring_error(alloc: Global, source: KeyRingError) -> ProgramError
     ensures memory { IsOutside result ⊎ IsNoMemoryOfRing (RingError.Ring source) }
     ensures no_usage { IsNoUsage result }
     ensures blames { BlamesNone result }

@@ -1,7 +1,7 @@
 -- What is said of keys, passwords and other files that cannot be used.
 use Rattle.std.specs.Prelude.{ℕ, List, codes}
 use Rattle.paseto_key_files.specs.Error.{error_text as key_file_error_text}
-use Rattle.paseto_key_files.specs.declared.error.KeyFileError.TheVariants.{Pem, Random as NoBytes, Memory as NoFileMemory}
+use Rattle.paseto_key_files.specs.declared.error.KeyFileError.TheVariants.{NeedsPassword, Pem, Random as NoBytes, Memory as NoFileMemory}
 use Rattle.paseto_pem.specs.Error.{error_text as pem_error_text}
 use Rattle.paseto_pem.specs.declared.error.PemError.{PemError}
 use Rattle.paseto_pem.specs.declared.error.PemError.TheVariants.{NotPem, Encrypted, OtherLabel, OtherAlgorithm, OtherCurve, OtherSize}
@@ -9,7 +9,7 @@ use Rattle.paseto_pem.specs.declared.label.Label.TheVariants.{EncryptedPrivateKe
 use Rattle.rusty_paseto_paserk.specs.Error.{error_text as key_error_text}
 use Rattle.rusty_paseto_paserk.specs.declared.error.PaserkError.TheVariants.{Memory as NoKeyMemory}
 use Rattle.paseto_tasks.specs.declared.error.file.FileError.{FileError}
-use Rattle.paseto_tasks.specs.declared.error.file.FileError.TheVariants.{Key, KeyFile, InPaserk, EmptyKey, NotWrapped, NotSealed, SecondLine, TooLong, OtherHalves, NotPrivate, NoAssertion, OddPassword, NoFile, NoPermission, IsFolder, NotFolder, NoAccess, FileExists, Unwritten, NoLink, FileLeft}
+use Rattle.paseto_tasks.specs.declared.error.file.FileError.TheVariants.{Key, KeyFile, InPaserk, EmptyKey, NotWrapped, NotSealed, NoId, NoSigner, SecondLine, TooLong, OtherHalves, NotPrivate, NoAssertion, OddPassword, NoFile, NoPermission, IsFolder, NotFolder, NoAccess, FileExists, Unwritten, NoLink, FileLeft}
 
 -- what is said of a key that was refused as PEM: the text of the error, but where that leaves open what to do
 abbrev pub pem_text : PemError → List ℕ
@@ -25,11 +25,14 @@ pem_text error = pem_error_text error
 abbrev pub file_text : FileError → List ℕ
 file_text (Key error) = key_error_text error
 file_text (KeyFile (Pem error)) = pem_text error
+file_text (KeyFile NeedsPassword) = codes "the key is under a password: use --password-file FILE, or\n  read -rs PASETO_PASSWORD\n  export PASETO_PASSWORD"
 file_text (KeyFile error) = key_file_error_text error
 file_text InPaserk = codes "key pairs of version 1 are read from PEM, and not from PASERK"
 file_text EmptyKey = codes "it is empty, and holds no key"
 file_text NotWrapped = codes "the key is bare: it is under no password, not wrapped and not sealed"
 file_text NotSealed = codes "the key is not sealed: use paseto unwrap"
+file_text NoId = codes "a key pair of version 1, which has no id by which a ring finds it"
+file_text NoSigner = codes "no private key is in this folder"
 file_text SecondLine = codes "line 2: a key file has one line of PASERK, or is PEM"
 file_text TooLong = codes "too long for a key file"
 file_text OtherHalves = codes "the two halves of the private key do not belong together"

@@ -4,7 +4,7 @@ use Rattle.rusty_paseto_parts.specs.Error.{error_text}
 use Rattle.rusty_paseto_parts.specs.declared.error.PasetoError.{PasetoError}
 use Rattle.rusty_paseto_parts.specs.declared.error.PasetoError.TheVariants.{ChaChaCipherError, Cryption, InvalidSignature, WrongHeader}
 use Rattle.paseto_tasks.specs.declared.error.token.TokenError.{TokenError}
-use Rattle.paseto_tasks.specs.declared.error.token.TokenError.TheVariants.{Refused, OtherKind, OddClaim, OtherFooter, NoFooter, NotAnObject, NoKeyId, NotJson, OddNumber, Jwt, NoToken, Unfit, Wrapped}
+use Rattle.paseto_tasks.specs.declared.error.token.TokenError.TheVariants.{Refused, OtherKind, OddClaim, OtherFooter, NoFooter, NotAnObject, NoKeyId, NotJson, OddNumber, Jwt, NoToken, TooLong, Unfit, Wrapped}
 
 -- what is said of a text or a token that was refused: the text of the error, but where that leaves open what to do
 abbrev pub refusal_text : PasetoError → List ℕ
@@ -27,5 +27,6 @@ token_text NotJson = codes "the text of the token is not valid JSON"
 token_text OddNumber = codes "a claim of the token has a number that is not a whole number of 64 bits"
 token_text Jwt = codes "a JWT, and not a PASETO token"
 token_text NoToken = codes "not a PASETO token"
+token_text TooLong = codes "longer than it may be: 64000000 bytes, or as many as --longest says"
 token_text (Unfit line) = string_bytes line
 token_text Wrapped = codes "wrong key or password, or the text was changed"

@@ -3,7 +3,7 @@ use Rattle.std.specs.Prelude.{ℕ, List, codes}
 use Rattle.paseto_tasks.specs.declared.error.usage.TimeOption.{TimeOption}
 use Rattle.paseto_tasks.specs.declared.error.usage.TimeOption.TheVariants.{Expires, NotBefore, At, Leeway}
 use Rattle.paseto_tasks.specs.declared.error.usage.UsageError.{UsageError}
-use Rattle.paseto_tasks.specs.declared.error.usage.UsageError.TheVariants.{NotText, KeyWord, NoKind, NoHalf, NoFormat, LockedPem, SameFile, NoKey, NoPassword, OneInput, Claim, TimeClaim, Time, Negative, TooLong, PrivateId, TokenWord}
+use Rattle.paseto_tasks.specs.declared.error.usage.UsageError.TheVariants.{NotText, KeyWord, NoKind, NoHalf, NoFormat, LockedPem, SameFile, NoKey, NoPassword, OneInput, RingFooter, Longest, Claim, TimeClaim, Time, Negative, TooLong, PrivateId, TokenWord}
 
 -- what is said where an option says no time
 abbrev pub time_text : TimeOption → List ℕ
@@ -34,8 +34,10 @@ usage_text NoFormat = codes "--format: must be paserk or pem"
 usage_text LockedPem = codes "a key under a password is not written in PEM: omit --format or the password"
 usage_text SameFile = codes "--out and --public name one file: name two"
 usage_text NoKey = codes "no key is given: use --key FILE, or put the text of the key into PASETO_KEY"
-usage_text NoPassword = codes "no password is given: use --password-file FILE, or PASETO_PASSWORD"
-usage_text OneInput = codes "standard input cannot be the key and the input: name a file for one of them"
+usage_text NoPassword = codes "no password is given: use --password-file FILE, or\n  read -rs password\n  printf %s \"$password\" | paseto wrap --password-file - --key FILE"
+usage_text OneInput = codes "standard input is named twice: name files for the key, the password or the input"
+usage_text RingFooter = codes "--ring names its key in the footer: omit --footer and --footer-kid"
+usage_text Longest = codes "--longest: write a number of bytes, such as 100000000"
 usage_text Claim = codes "--claim: write a claim as aud=customers, or as seats:=4 with a value of JSON"
 usage_text TimeClaim = codes "--claim: set exp and nbf by --expires and --not-before; iat is set already"
 usage_text (Time option) = time_text option

@@ -22,6 +22,10 @@ pub enum FileError {
     NotWrapped,
     /// The key is to be unsealed, but is not sealed.
     NotSealed,
+    /// The key is one of version 1, whose key pairs have no id.
+    NoId,
+    /// A folder has no private key.
+    NoSigner,
     /// The key file has a second line, and is not PEM.
     SecondLine,
     /// The key file is longer than the program's limit.
@@ -63,11 +67,15 @@ impl FileError {
         match self {
             Key(source) => source.text(),
             KeyFile(KeyFileError::Pem(source)) => pem_text(source),
+            KeyFile(KeyFileError::NeedsPassword) =>
+                "the key is under a password: use --password-file FILE, or\n  read -rs PASETO_PASSWORD\n  export PASETO_PASSWORD",
             KeyFile(source) => source.text(),
             InPaserk => "key pairs of version 1 are read from PEM, and not from PASERK",
             EmptyKey => "it is empty, and holds no key",
             NotWrapped => "the key is bare: it is under no password, not wrapped and not sealed",
             NotSealed => "the key is not sealed: use paseto unwrap",
+            NoId => "a key pair of version 1, which has no id by which a ring finds it",
+            NoSigner => "no private key is in this folder",
             SecondLine => "line 2: a key file has one line of PASERK, or is PEM",
             TooLong => "too long for a key file",
             OtherHalves => "the two halves of the private key do not belong together",

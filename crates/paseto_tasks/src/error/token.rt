@@ -31,6 +31,8 @@ pub enum TokenError {
     Jwt,
     /// The text is neither a token nor a key.
     NoToken,
+    /// The input is longer than it may be.
+    TooLong,
     /// A token, or the content of a new one, was refused, as this line says.
     Unfit(String),
     /// The tag of a wrapped key is wrong under the password or the key that is to open it.
@@ -56,6 +58,7 @@ impl TokenError {
             OddNumber => "a claim of the token has a number that is not a whole number of 64 bits",
             Jwt => "a JWT, and not a PASETO token",
             NoToken => "not a PASETO token",
+            TooLong => "longer than it may be: 64000000 bytes, or as many as --longest says",
             Unfit(text) => text.as_str(),
             Wrapped => "wrong key or password, or the text was changed",
         }

@@ -24,8 +24,12 @@ pub enum UsageError {
     NoKey,
     /// No password is named.
     NoPassword,
-    /// Standard input is to be both the key and the input.
+    /// Standard input is to be two of the keys, the password and the input.
     OneInput,
+    /// The footer is given, and a ring from which the key is taken that it names.
+    RingFooter,
+    /// The value of `--longest` is not a number of bytes.
+    Longest,
     /// A claim in the arguments is not a claim.
     Claim,
     /// A claim in the arguments is one of the three that are times.
@@ -72,10 +76,13 @@ impl UsageError {
             LockedPem =>
                 "a key under a password is not written in PEM: omit --format or the password",
             SameFile => "--out and --public name one file: name two",
-            NoPassword => "no password is given: use --password-file FILE, or PASETO_PASSWORD",
+            NoPassword =>
+                "no password is given: use --password-file FILE, or\n  read -rs password\n  printf %s \"$password\" | paseto wrap --password-file - --key FILE",
             NoKey => "no key is given: use --key FILE, or put the text of the key into PASETO_KEY",
             OneInput =>
-                "standard input cannot be the key and the input: name a file for one of them",
+                "standard input is named twice: name files for the key, the password or the input",
+            RingFooter => "--ring names its key in the footer: omit --footer and --footer-kid",
+            Longest => "--longest: write a number of bytes, such as 100000000",
             Claim => "--claim: write a claim as aud=customers, or as seats:=4 with a value of JSON",
             TimeClaim =>
                 "--claim: set exp and nbf by --expires and --not-before; iat is set already",
