@@ -5,7 +5,7 @@ use Rattle.paseto_key_files.specs.declared.error.KeyFileError.{KeyFileError}
 use Rattle.paseto_key_files.specs.declared.error.KeyFileError.TheVariants.{Memory as NoFileMemory}
 use Rattle.paseto_tasks.specs.Error.{IsMemory, key_file_error_of}
 use Rattle.paseto.specs.declared.fault.Fault.{Fault}
-use Rattle.paseto.specs.Keys.{IsKeyFault, IsOtherFault, about_of}
+use Rattle.paseto.specs.Keys.{IsKeyFault, IsOtherFault}
 
 module _ (Is : KeyFileError → Type 0) (fault : Fault) where
   -- about the key
@@ -15,8 +15,8 @@ module _ (Is : KeyFileError → Type 0) (fault : Fault) where
   key_fault name error about same (inr is) = inr (about, (error, is, same))
 
   -- about the key or the other one
-  pub other_fault : (name other : List ℕ) (error : KeyFileError) → fault.about.now ≡ about_of error other name → fault.error ≡ key_file_error_of error
-      → IsFileMemory error ⊎ Is error → IsOtherFault name other Is fault
-  other_fault name other (NoFileMemory source) about same known = inl (subst IsMemory (sym same) tt)
-  other_fault name other error about same (inl memory) = absurd memory
-  other_fault name other error about same (inr is) = inr (error, is, about, same)
+  pub other_fault : (named : KeyFileError → List ℕ) (error : KeyFileError) → fault.about.now ≡ named error → fault.error ≡ key_file_error_of error
+      → IsFileMemory error ⊎ Is error → IsOtherFault named Is fault
+  other_fault named (NoFileMemory source) about same known = inl (subst IsMemory (sym same) tt)
+  other_fault named error about same (inl memory) = absurd memory
+  other_fault named error about same (inr is) = inr (error, is, about, same)

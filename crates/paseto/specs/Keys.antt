@@ -4,7 +4,8 @@ use Rattle.std.specs.Global.{Global}
 use Rattle.paseto_key_files.specs.Held.{GivesLine}
 use Rattle.paseto_key_files.specs.Opening.{Unlocks, UnlocksNone}
 use Rattle.paseto_key_files.specs.declared.error.KeyFileError.{KeyFileError}
-use Rattle.paseto_key_files.specs.declared.error.KeyFileError.TheVariants.{OtherOpener, Paserk}
+use Rattle.paseto_key_files.specs.declared.error.KeyFileError.TheVariants.{OtherOpener, Paserk, Wrap}
+use Rattle.paseto_wrapping.specs.declared.error.WrapError.TheVariants.{InvalidPoint, InvalidPrivateKey, SmallOrder}
 use Rattle.paseto_keys.specs.Line.{IsLineFault}
 use Rattle.rusty_paseto_paserk.specs.declared.error.PaserkError.TheVariants.{OtherVersion}
 use Rattle.rusty_paseto_paserk.specs.declared.header.PaserkVersion.TheVariants.{V1}
@@ -26,7 +27,14 @@ key_name (Some path) = input_name (Some path)
 -- what an error is about: the key that opens the key file if that key was refused, and otherwise the key file
 abbrev pub about_of : KeyFileError → List ℕ → List ℕ → List ℕ
 about_of (OtherOpener source) opener name = opener
+about_of (Wrap InvalidPrivateKey) opener name = opener
 about_of error opener name = name
+
+-- which of the two is at fault where a key is not sealed: the key of the recipient, where it is no point or one of small order
+abbrev pub seal_about_of : KeyFileError → List ℕ → List ℕ → List ℕ
+seal_about_of (Wrap InvalidPoint) recipient name = recipient
+seal_about_of (Wrap SmallOrder) recipient name = recipient
+seal_about_of error recipient name = about_of error recipient name
 
 -- memory was refused, or the key of this name is at fault, as this says
 abbrev pub IsKeyFault : List ℕ → (KeyFileError → Type 0) → Fault → Type 0
@@ -83,8 +91,8 @@ HoldsNoKey held name text fault =
 abbrev pub IsTextBy : (List ℕ → Type 0) → List ℕ → Type 0
 IsTextBy Is text = (made : List ℕ) × Is made × IsLineOf made text
 
--- memory was refused, or the key of this name or the other one is at fault, as this says
-abbrev pub IsOtherFault : List ℕ → List ℕ → (KeyFileError → Type 0) → Fault → Type 0
-IsOtherFault name other Is fault =
+-- memory was refused, or what is named so is at fault, as this says
+abbrev pub IsOtherFault : (KeyFileError → List ℕ) → (KeyFileError → Type 0) → Fault → Type 0
+IsOtherFault about Is fault =
     IsMemory fault.error
-    ⊎ ((source : KeyFileError) × Is source × (fault.about.now ≡ about_of source other name) × (fault.error ≡ key_file_error_of source))
+    ⊎ ((source : KeyFileError) × Is source × (fault.about.now ≡ about source) × (fault.error ≡ key_file_error_of source))

@@ -13,6 +13,7 @@ use paseto_key_files::{KeyFileError, Openers, unlock};
 use paseto_keys::AnyKey;
 use paseto_tasks::{FileError, ProgramError, UsageError, begins_as, read_key_line, read_password};
 use paseto_words::{KeyFile, Openers as OpenerWords};
+use paseto_wrapping::WrapError;
 use rusty_paseto_paserk::{PaserkError, PaserkType, PaserkVersion};
 use std::alloc::{AllocError, Global};
 use std::env::{self, VarError};
@@ -159,7 +160,7 @@ pub fn key_file_fault<'a>(opener: &'a str, name: &'a str, error: KeyFileError) -
     ensures error { result.error ≡ key_file_error_of error }
 {
     let about = match &error {
-        KeyFileError::OtherOpener(_) => opener,
+        KeyFileError::OtherOpener(_) | KeyFileError::Wrap(WrapError::InvalidPrivateKey) => opener,
         _ => name,
     };
     Fault::about(about, ProgramError::from(error))

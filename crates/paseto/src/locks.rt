@@ -8,7 +8,8 @@ ghost use Rattle.paseto_keys.specs.Forms.{ByLine, ByNoLine};
 ghost use Rattle.paseto_keys.specs.Line.{IsLineOf};
 ghost use Rattle.paseto_words.specs.Action.{text};
 ghost use Rattle.paseto.specs.Forms.{HasNoForm};
-ghost use Rattle.paseto.specs.Keys.{Holds, HoldsNoKey, IsKeyFault, IsOtherFault, IsTextBy};
+ghost use Rattle.paseto_tasks.specs.Error.{key_file_error_of};
+ghost use Rattle.paseto.specs.Keys.{Holds, HoldsNoKey, IsKeyFault, IsOtherFault, IsTextBy, about_of, seal_about_of};
 ghost use Rattle.paseto.specs.Locks.{file_under, IsBare, IsLockFault, IsLockedBy, IsUnwrappedFault, IsWrappedAs, OpensIn};
 
 use crate::fault::Fault;
@@ -16,10 +17,11 @@ use crate::files::once;
 use crate::forms::{format_of, formed, locked};
 use crate::keys::{Held, key_file_fault, key_name, key_of, key_text, opener_line, password_of};
 use crate::new_file::{free, put_secret};
+use paseto_key_files::KeyFileError;
 use paseto_keys::AnyKey;
 use paseto_tasks::{FileError, Format, ProgramError, UsageError, begins_as, with_line_feed};
 use paseto_words::{Seal, Under, Wrap, Written};
-use paseto_wrapping::{WrappedType, wrapped_header_of};
+use paseto_wrapping::{WrapError, WrappedType, wrapped_header_of};
 use rand::rngs::SysRng;
 use rand_core::TryRng;
 use rusty_paseto_paserk::PaserkError;
@@ -79,8 +81,8 @@ fn under_line<'a, G: TryRng>(
 ) -> Result<String, Fault<'a>>
     ensures wrapped { IfOk result (λ text. IsTextBy (ByLine (parts_of key.now) (WrapsLine
         wrapping.now (λ drawn. G.may_fill generator.old drawn generator.new))) (string_bytes text)) }
-    ensures refused { IfErr result (IsOtherFault name.now other.now (ByNoLine (parts_of key.now)
-        (WrapsNone wrapping.now G.Error))) }
+    ensures refused { IfErr result (IsOtherFault (λ error. about_of error other.now name.now)
+        (ByNoLine (parts_of key.now) (WrapsNone wrapping.now G.Error))) }
 {
     match key.wrap(alloc, wrapping, generator) {
         Ok(text) => Ok(with_line_feed(text)?),
@@ -223,12 +225,26 @@ fn sealed_to<'a, G: TryRng>(
 ) -> Result<String, Fault<'a>>
     ensures sealed { IfOk result (λ text. IsTextBy (ByLine (parts_of key.now) (SealsLine public.now
         (λ drawn. G.may_fill generator.old drawn generator.new))) (string_bytes text)) }
-    ensures refused { IfErr result (IsOtherFault name.now other.now (ByNoLine (parts_of key.now)
-        (SealsNone public.now (λ drawn. G.may_fill generator.old drawn generator.new) G.Error))) }
+    ensures refused { IfErr result (IsOtherFault (λ error. seal_about_of error other.now name.now)
+        (ByNoLine (parts_of key.now) (SealsNone public.now
+        (λ drawn. G.may_fill generator.old drawn generator.new) G.Error))) }
 {
     match key.seal(alloc, public, generator) {
         Ok(text) => Ok(with_line_feed(text)?),
-        Err(error) => Err(key_file_fault(other, name, error)),
+        Err(error) => Err(seal_fault(other, name, error)),
+    }
+}
+
+/// Why a key is not sealed. The error is about the recipient's key if no secret can be shared with it.
+fn seal_fault<'a>(recipient: &'a str, name: &'a str, error: KeyFileError) -> Fault<'a>
+    ensures about { result.about.now ≡ seal_about_of error recipient.now name.now }
+    ensures error { result.error ≡ key_file_error_of error }
+{
+    match &error {
+        KeyFileError::Wrap(WrapError::InvalidPoint | WrapError::SmallOrder) => {
+            Fault::about(recipient, ProgramError::from(error))
+        }
+        _ => key_file_fault(recipient, name, error),
     }
 }
 
