@@ -444,14 +444,25 @@ func TestVersion(t *testing.T) {
 	is(t, "the version of the library", version(), 10000)
 }
 
-func BenchmarkAdmit(b *testing.B) {
-	local := key(b, Local, 4)
-	token := got[string](b)(local.Issue(person{Sub: "ada", Aud: "customers"}))
+// admits reads a token side by side, by as many goroutines as -cpu says.
+func admits(b *testing.B, issuing, reading Key) {
+	token := got[string](b)(issuing.Issue(person{Sub: "ada", Aud: "customers"}))
+	b.ResetTimer()
 	b.RunParallel(func(loop *testing.PB) {
 		for loop.Next() {
-			if err := local.Admit(token, nil, Audience("customers")); err != nil {
+			if err := reading.Admit(token, nil, Audience("customers")); err != nil {
 				b.Fatal(err)
 			}
 		}
 	})
+}
+
+func BenchmarkLocal(b *testing.B) {
+	local := key(b, Local, 4)
+	admits(b, local, local)
+}
+
+func BenchmarkPublic(b *testing.B) {
+	private := key(b, Private, 4)
+	admits(b, private, got[Key](b)(private.Public()))
 }

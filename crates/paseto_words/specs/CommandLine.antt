@@ -34,7 +34,7 @@ abbrev pub words_of : List (String Global) → List Text
 words_of words = map (λ word. string_bytes word) words
 
 abbrev pub status_of : ErrorKind → ℕ
-status_of kind.OutOfMemory = 3
+status_of kind.OutOfMemory = 4
 status_of kind.DisplayHelp = 0
 status_of kind.DisplayVersion = 0
 status_of _ = 2

@@ -74,13 +74,13 @@ fn conflict_in(matches: &ArgMatches<'_>) -> Conflict {
     }
 }
 
-/// The status of a program that performs no action: 3 if an allocation failed, 0 if help or the
+/// The status of a program that performs no action: 4 if an allocation failed, 0 if help or the
 /// version was requested, and 2 if the arguments were refused.
 pub fn status(error: &Error) -> u8
     ensures { result ≡ status_of (kind_of error.now) }
 {
     match error.kind() {
-        ErrorKind::OutOfMemory => 3,
+        ErrorKind::OutOfMemory => 4,
         ErrorKind::DisplayHelp | ErrorKind::DisplayVersion => 0,
         _ => 2,
     }
