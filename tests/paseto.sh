@@ -164,6 +164,14 @@ refuses "keygen of an unknown kind" 2 "" "v5.local: $no_kind" keygen v5.local
 misused "keygen with no kind" "error: the following required arguments were not provided:" keygen
 refuses "keygen of version 1's pairs" 2 "" "v1.public: $no_kind" keygen v1.public
 is "the words of keygen in another order" "$("$program" keygen --quiet --out ordered.local v4.local 2>&1 && cut -c 1-9 ordered.local)" k4.local.
+"$program" keygen v4.public --out shown.secret 2>err
+is "the public half that keygen shows" "$(cat err)" "paseto: shown.secret: the private half of a new key of kind v4.public
+paseto: the public half:
+$("$program" public --key shown.secret)"
+"$program" keygen v3.public --format pem >shown.pem 2>err
+is "the public half in PEM that keygen shows" "$(cat err)" "paseto: the public half:
+$("$program" public --key shown.pem --format pem)"
+is "keygen of a pair, quiet" "$("$program" keygen v4.public --quiet 2>&1 >/dev/null)" ""
 is "what keygen says" "$("$program" keygen v4.public --out told.secret --public told.public 2>&1)" \
     "paseto: told.secret: the private half of a new key of kind v4.public
 paseto: told.public: its public half"

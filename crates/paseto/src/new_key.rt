@@ -34,11 +34,12 @@ pub fn make<'a>(rt: &HostRuntime, words: &Keygen<'a>) -> Result<u8, Fault<'a>> {
     };
     let password = password.as_deref();
     let (alloc, generator) = (rt.alloc(), &mut SysRng::new(rt));
-    let asks_half = words.public.is_some();
+    // Without a file for it, the public half is shown with the report.
+    let asks_half = words.public.is_some() || (kind.is_pair() && !words.quiet);
     let made = new_texts(
         alloc, words.kind, kind, format, password, asks_half, generator,
     )?;
-    let report = report_of(alloc, words, kind, password.is_some())?;
+    let report = report_of(alloc, words, kind, password.is_some(), &made.public)?;
     write(rt, words, &made)?;
     tell(rt, words, report.as_str());
     Ok(0)
@@ -166,12 +167,13 @@ fn secret_text<'a, G: TryRng>(
     }
 }
 
-/// The lines on the files of what is made.
+/// The lines on the files of what is made, and the public half if it has no file.
 fn report_of(
     alloc: Global,
     words: &Keygen<'_>,
     kind: Kind,
     is_locked: bool,
+    half: &Option<String>,
 ) -> Result<String, ProgramError> {
     let mut report = String::new(alloc);
     if let Some(path) = words.out {
@@ -188,6 +190,9 @@ fn report_of(
     if let Some(path) = words.public {
         let line = format!(in alloc; "paseto: {path}: its public half\n")?;
         report.push_str(line.as_str())?;
+    } else if let Some(half) = half {
+        report.push_str("paseto: the public half:\n")?;
+        report.push_str(half.as_str())?;
     }
     Ok(report)
 }
