@@ -1,5 +1,7 @@
 -- What is said of the bytes that were read.
-use Rattle.std.proofs.Common.{◌⊎◌, inl, inr, ℕ, List, [], Option, None, Some, IfSome, refl, subst}
+use Rattle.std.proofs.Common.{◌≡◌, ◌⊎◌, ◌<◌, inl, inr, ℕ, List, [], length, length-append, Option, None, Some, IfSome, refl, subst, arith}
+use Rattle.std.specs.Io.KnownBytes.{Consumes}
+use Rattle.paseto_tasks.specs.declared.error.ProgramError.{ProgramError}
 use Rattle.paseto_tasks.specs.Input.{OfInput}
 
 -- what is so of some bytes is so of the known input
@@ -20,3 +22,10 @@ some_input (Some bytes) P all = (bytes, refl, all bytes)
 pub refused_more : (known : Option (List ℕ)) (P Q : List ℕ → Type 0) {F : Type 0} → ((bytes : List ℕ) → P bytes → Q bytes) → OfInput known P ⊎ F → OfInput known Q ⊎ F
 refused_more known P Q more (inl is) = inl (of_more known P Q more is)
 refused_more known P Q more (inr fails) = inr fails
+
+-- an input of which more was read than this is longer
+pub long_input : (error : ProgramError) (known new : Option (List ℕ)) (read : List ℕ) (longest : ℕ) → Consumes known new read → longest < length read
+    → OfInput known (λ bytes. (error ≡ error) × (longest < length bytes))
+long_input error None new read longest is long = (read, tt, (refl, long))
+long_input error (Some all) None read longest is long = absurd is
+long_input error (Some all) (Some rest) read longest is long = (all, refl, (refl, rw is (omega (arith, long, length-append read rest))))

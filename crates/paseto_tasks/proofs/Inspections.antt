@@ -1,5 +1,5 @@
 -- The lines of a token, from what was appended to them, and why there are none.
-use Rattle.std.proofs.Common.{◌≡◌, ◌⊎◌, ℕ, ◌<◌, ◌≤◌, ◌-◌, List, [], ◌++◌, length, take, Option, None, Some, codes, nat_eq, append_assoc, IsUtf8, Result, Ok, Err, IfOk, IfErr, String, Global, string_bytes, inl, inr, sym, ap, subst, ◌∙◌, arith}
+use Rattle.std.proofs.Common.{◌≡◌, ◌⊎◌, ℕ, ◌<◌, ◌≤◌, ◌-◌, List, [], ◌++◌, length, take, Option, None, Some, codes, nat_eq, append_assoc, IsUtf8, Result, Ok, Err, IfOk, IfErr, String, Global, string_bytes, inl, inr, sym, ap, ◌∙◌, arith}
 use Rattle.std.specs.List.{slice_get}
 use Rattle.std.specs.Cmp.Lexicographic.{pointwise}
 use Rattle.base64.specs.GeneralPurpose.{IsBytes}

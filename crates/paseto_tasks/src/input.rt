@@ -34,14 +34,14 @@ pub fn read_input<R: Read>(
     let mut bytes = Vec::new(alloc);
     let mut space = [0u8; SPACE];
     'reads: loop {
+        if bytes.len() > longest {
+            return Err(ProgramError::Token(TokenError::TooLong));
+        }
         let count = input.read(&mut space)?;
         if count == 0 {
             return Ok(bytes);
         }
         bytes.extend_from_slice(&space[..count])?;
-        if bytes.len() > longest {
-            return Err(ProgramError::Token(TokenError::TooLong));
-        }
     }
 }
 
@@ -121,8 +121,8 @@ pub fn read_password<P: Read>(alloc: Global, file: &mut P) -> Result<Vec<u8>, Pr
 /// Reads the bytes of a file that is not longer than a key file.
 fn read_short<K: Read>(alloc: Global, file: &mut K) -> Result<Vec<u8>, ProgramError>
     ensures whole { IfOk result (λ bytes. IsInput (K.remaining file.old) bytes.items) }
-    ensures failed { IfErr result (λ error. IfSome (K.remaining file.old)
-        (λ bytes. IsOutside error ⊎ IsLong bytes)) }
+    ensures failed { IfErr result (λ error. IfSome (K.remaining file.old) (λ bytes.
+        IsOutside error ⊎ (IsLong bytes × (error ≡ ProgramError.File FileError.TooLong)))) }
     ensures plain { IfErr result (IsPlainBut (record reading
         { too_long = IfSome (K.remaining file.old) IsLong })) }
 {

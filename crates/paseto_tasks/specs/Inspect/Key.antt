@@ -1,5 +1,5 @@
 -- What `inspect` prints of a key: what it begins with, and nothing behind that.
-use Rattle.std.specs.Prelude.{◌≡◌, ◌≢◌, ◌⊎◌, ℕ, List, ◌++◌, codes}
+use Rattle.std.specs.Prelude.{◌≡◌, ◌⊎◌, ℕ, List, ◌++◌, codes}
 use Rattle.paseto_wrapping.specs.Header.{HasHeader as HasWrappedHeader, HasNoHeader as HasNoWrappedHeader}
 use Rattle.paseto_wrapping.specs.declared.header.WrappedType.{WrappedType}
 use Rattle.paseto_wrapping.specs.declared.header.WrappedType.TheVariants.{LocalWrap, SecretWrap, LocalPassword, SecretPassword, Seal}
