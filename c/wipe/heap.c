@@ -43,3 +43,15 @@ struct tried rattle_realloc(uint8_t *p, size_t kept, size_t n, size_t a) {
     free(p);
     return (struct tried){1, q};
 }
+
+/* Where a program binds lazily, the loader works on the stack of the first call of each function of the C library, and lays the
+   vector registers there. So each is called once before there is a secret. */
+__attribute__((constructor(101))) static void bind(void) {
+    uint8_t bytes[8] = {0};
+    uint8_t *p = malloc(sizeof bytes);
+    if (p == NULL) return;
+    memcpy(p, bytes, sizeof bytes);
+    memmove(p, bytes, sizeof bytes);
+    wipe(p, malloc_usable_size(p));
+    free(p);
+}

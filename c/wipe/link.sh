@@ -8,7 +8,6 @@
 set -euo pipefail
 here=$(cd "$(dirname "$0")" && pwd)
 archive=$1 out=$2 half=${3-}
-header=$(realpath "$here/../paseto.h")
 kit=$(dirname "$(rt doc)")
 work=$(mktemp -d)
 trap 'rm -rf "$work"' EXIT
@@ -18,13 +17,13 @@ export PYTHONDONTWRITEBYTECODE=1
 heap=$kit/c/liblibc_c.a
 if [ "$half" != stack ]; then
     heap=$work/heap.o
-    cc "${flags[@]}" -c "$here/heap.c" -o "$heap"
+    cc "${flags[@]}" -fno-builtin -c "$here/heap.c" -o "$heap"
 fi
 # One object holds the crate and what it stands on, and shows the exports alone.
 ld -r --whole-archive "$archive" --no-whole-archive "$heap" "$kit/c/libos_c.a" -o "$work/all.o"
 objects=("$work/all.o")
 if [ "$half" != heap ]; then
-    python3 "$here/wrap.py" "$work/all.o" "$header" "$work/wrappers.c"
+    python3 "$here/wrap.py" "$work/all.o" "$work/wrappers.c" "$here"/../*.h
     cc "${flags[@]}" -c "$work/wrappers.c" -o "$work/wrappers.o"
     cc -c "$here/wipe.S" -o "$work/wipe.o"
     objects+=("$work/wrappers.o" "$work/wipe.o")

@@ -4,16 +4,15 @@
     stack_depth.py OBJECT.o [-v]
 
 A function's frame is what it pushes and what it takes off rsp. An export's depth is the sum of the frames along the longest way of
-the call graph, a call through a register leading to each function whose address is taken. Functions that recur, and those between
-them, are told apart: how deep they go is known only when they have run (wipe.S). A frame of a length that the code does not show
-is an error.
+the call graph, a call through a register leading to each function whose address is taken. How deep recursion goes is known only when
+it has run (wipe.S). A frame of a length that the code does not show is an error.
 """
 import re
 import subprocess
 import sys
 
-# What a function outside of the object may use, as malloc and memcpy of the C library.
-OUTSIDE = 1024
+# What a function outside of the object may use: malloc and memcpy of the C library take some hundred bytes.
+OUTSIDE = 2048
 
 
 class Function:
@@ -155,42 +154,30 @@ class Code:
 
 
 class Depths:
-    """Of each function the longest way that does not recur, and of the library how what recurs is found again.
+    """Of each function the longest way without what recurs, and how deep recursion went can be told from the stack.
 
-    recursive: the functions that recur, and those that are called by such and call such. window: more than the longest of their
-    frames. after: how deep what they call goes. plain[F]: how deep F goes without them. before[F]: how deep F goes until it
-    calls one of them; F has no entry if it never does.
+    plain[F]: how deep F goes as long as nothing recurs. recurs: the functions that reach one that does. deep: those that one that
+    recurs reaches. What is below the plain depth of an export is theirs, or of the C library, which they called. So among each
+    `window` bytes of it is a return address into the code of one of them (a frame's last call left one at its lower end).
     """
 
     def __init__(self, obj):
         self.code = Code(obj)
+        # Each component stands behind those that it calls.
         components = self.code.components()
         called = {it: self.code.called(it) for it in self.code.functions}
-        recurs = {it for them in components for it in them if len(them) > 1 or it in called[it]}
-        # Each component stands after those that it calls.
-        reaches, reached = set(), set()
-        for them in components:
-            for name in them:
-                if name in recurs or called[name] & reaches:
-                    reaches.update(them)
-        for them in reversed(components):
-            for name in them:
-                if name in recurs or name in reached:
-                    reached.update(called[name] | set(them))
-        self.recursive = sorted(reaches & reached)
-        inner = set(self.recursive)
-        self.plain, self.before = {}, {}
-        for name in (it for them in components for it in them if it not in inner):
-            frame = self.code.functions[name].frame
-            self.plain[name] = frame + max((8 + self.plain.get(it, OUTSIDE) for it in called[name] - inner), default=0)
-            ways = [8 + (0 if it in inner else self.before[it]) for it in called[name] if it in inner or it in self.before]
-            if ways:
-                self.before[name] = frame + max(ways)
-        frames = [self.code.functions[it].frame for it in inner]
-        self.window = max(frames, default=0) + 64
-        self.after = max([self.window, *(8 + self.plain.get(it, OUTSIDE) for name in inner for it in called[name] - inner)])
-        for name in inner:
-            self.plain[name], self.before[name] = 0, 0
+        again = {it for them in components for it in them if len(them) > 1 or it in called[it]}
+        self.recurs, deep, self.plain = set(), set(again), {}
+        for name in (it for them in components for it in them):
+            if name in again or called[name] & self.recurs:
+                self.recurs.add(name)
+            ways = [8 + self.plain.get(it, OUTSIDE) for it in called[name] if it not in again]
+            self.plain[name] = 0 if name in again else self.code.functions[name].frame + max(ways, default=0)
+        for name in (it for them in reversed(components) for it in them):
+            if name in deep:
+                deep.update(called[name] & self.code.functions.keys())
+        self.deep = sorted(deep)
+        self.window = max((self.code.functions[it].frame for it in deep), default=0) + OUTSIDE + 64
 
 
 def exports(depths):
@@ -201,8 +188,8 @@ if __name__ == "__main__":
     sys.setrecursionlimit(100000)
     of = Depths(sys.argv[1])
     for export in exports(of):
-        print(export, of.plain[export], *([f"{of.before[export]} before recursion"] if export in of.before else []))
-    print(f"{len(of.recursive)} functions recur, window {of.window}, after {of.after}; "
-          f"{len(of.code.taken)} addresses are taken, {sum(it.is_indirect for it in of.code.functions.values())} functions call one")
+        print(export, of.plain[export], *["and what recurs"] * (export in of.recurs))
+    print(f"window {of.window}; {len(of.code.taken)} addresses are taken, and called by "
+          f"{sum(it.is_indirect for it in of.code.functions.values())} functions")
     if "-v" in sys.argv:
-        print(*of.recursive, "taken:", *sorted(of.code.taken), sep="\n")
+        print(*of.deep, "taken:", *sorted(of.code.taken), sep="\n")

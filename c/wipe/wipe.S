@@ -4,9 +4,9 @@
    vector registers, masks, and rcx, rdx, rsi, rdi, r8 to r11. Returns status. depth, window and after are multiples of 8, and
    depth is 64 or more.
 
-   Where length is not 0, the call may have recurred, and gone deeper. Each of its frames from depth on is shorter than window,
-   and has a return address among the length bytes of code from low on. So as long as the window below has such an address it
-   is wiped, too; and then after bytes more, for what the last of these frames called.
+   Where length is not 0, the call may have recurred, and gone deeper. As deep as it went there is a return address among the
+   length bytes of code from low on in each window bytes. So as long as the window below has one it is wiped, too; and then
+   after bytes more.
 
    rsp is moved below what is wiped, so that no signal handler's frame is there. */
         .text

@@ -7,7 +7,7 @@ CALLS is the program of calls.c, which has wiped its own copies. All its writabl
 right after the call, for any 8 bytes in a row of a key, of what is derived from it, and of the text: as they are, in reverse order,
 in words of 8 bytes in reverse order, and with each word of 4 bytes twice, as vectors of ChaCha hold a key. The stack below the call
 has to be zeros as deep as it was used. With WORD only the calls whose names hold it are asked; without it each export of the
-header has to be asked. A line tells what was found of a call, and the last line is 'N passed, M failed'.
+headers has to be asked. A line tells what was found of a call, and the last line is 'N passed, M failed'.
 """
 import os
 import pathlib
@@ -23,8 +23,10 @@ sys.path[:0] = [str(HERE), str(ROOT / "c/wipe")]
 from cases import cases  # noqa: E402
 from wrap import prototypes  # noqa: E402
 
-HEADER = prototypes(ROOT / "c/paseto.h")
+HEADER = prototypes(sorted((ROOT / "c").glob("*.h")))
 WORDS = 32
+# What a struct takes at most.
+STRUCT = 2048
 # How much of the stack calls.c paints before the call, and with what.
 PAINTED, PAINT = 262144, 0xA5
 # Right below the caller are the return address and registers of the caller that a wrapper saved.
@@ -56,10 +58,11 @@ class Block:
         name = name.lstrip("*")
         if pointed and kind == "size_t":
             self.put(name, bytes(8))
+        elif pointed and kind.split()[-1] in ("void", "uint8_t"):
+            given = self.given.pop(name, b"" if kind.startswith("const") else 4096)
+            self.put(name, bytes(given) if isinstance(given, int) else given)
         elif pointed:
-            of_text = kind.endswith("uint8_t")
-            given = self.given.pop(name, b"" if kind.startswith("const") or not of_text else 4096)
-            self.put(name, bytes(given) if isinstance(given, int) else given + bytes(0 if of_text else 64))
+            self.put(name, self.given.pop(name, b"").ljust(STRUCT, b"\0"))
         elif name.endswith("_length") and name[:-7] in self.places:
             self.words.append((0, self.places[name[:-7]][1]))
         else:
