@@ -1,6 +1,6 @@
 #!/usr/bin/env bash
 # Builds the library for C and installs it: PREFIX/lib/libpaseto.a and libpaseto.so.1, to which the link libpaseto.so leads,
-# PREFIX/include/paseto.h and PREFIX/lib/pkgconfig/paseto.pc.
+# PREFIX/include/paseto.h, PREFIX/lib/pkgconfig/paseto.pc, and a manual page for each call in PREFIX/share/man/man3.
 #
 #   c/build.sh PREFIX [--cpu NAME | --built]
 #
@@ -39,11 +39,13 @@ bash "$here/wipe/link.sh" "$crate/out/libpaseto_c.a" "$work"
 number=$(sed -nE 's/^#define PASETO_VERSION ([0-9]+)$/\1/p' "$here/paseto.h")
 version=$((number / 10000)).$((number / 100 % 100)).$((number % 100))
 
-install -d "$prefix/lib/pkgconfig" "$prefix/include"
+install -d "$prefix/lib/pkgconfig" "$prefix/include" "$prefix/share/man/man3"
 install -m 644 "$work/libpaseto.a" "$prefix/lib/libpaseto.a"
 install -m 755 "$work/libpaseto.so.1" "$prefix/lib/libpaseto.so.1"
 ln -sf libpaseto.so.1 "$prefix/lib/libpaseto.so"
 install -m 644 "$here/paseto.h" "$prefix/include/paseto.h"
+python3 "$here/../tools/pages.py" "$work/pages"
+install -m 644 "$work"/pages/*.3 "$here/../man/libpaseto.3" "$prefix/share/man/man3"
 cat >"$prefix/lib/pkgconfig/paseto.pc" <<END
 prefix=\${pcfiledir}/../..
 libdir=\${prefix}/lib
