@@ -29,7 +29,7 @@ use Rattle.paseto_keys.specs.declared.error.AdmitError.{AdmitError}
 use Rattle.paseto_keys.specs.declared.error.AdmitError.TheVariants.{Key as OfKey}
 use Rattle.paseto_keys.specs.declared.error.KeyError.TheVariants.{NoAssertion, OtherType}
 use Rattle.paseto_tasks.specs.declared.error.ProgramError.{ProgramError}
-use Rattle.paseto_tasks.specs.Error.{Fails, nothing, token_error_of}
+use Rattle.paseto_tasks.specs.Error.{Blame, Fails, nothing, token_error_of}
 use Rattle.paseto_tasks.proofs.Blames.{blames_so, within_all}
 use Rattle.paseto_tasks.proofs.Refusals.{token_plain}
 use Rattle.paseto.specs.Answers.{admitted, parser_error_of}
@@ -100,12 +100,15 @@ module _ (key : KeyParts) (wanted : Option (List ℕ)) (demanded : Option Implic
   other_footer (inl framing) = rw (footer_is key.kind key.version (record { key = key.bytes; footer = unwrap_or wanted []; assertion = assertion_of demanded })) at framing
   other_footer (inr of_payload) = absurd (no_footer key.kind key.version _ of_payload.0 of_payload.2)
 
+  abbrev may_differ : Blame
+  may_differ = record nothing { other_footer = IsOtherFooter wanted token }
+
   -- why a token is refused under a key that reads it
   parser_refuses : (source : GenericParserError) → (¬ IsMemory source) → ((value : Data) → ¬ ParsesByKey key wanted demanded token value)
       → IsFirstFault Read (λ key. no_rule) token source → Refuses (parser_error_of source)
   parser_refuses (NotRead FooterInvalid) some none fault = record { none = none; fixed = tt; blames = other_footer fault }
   parser_refuses (NotRead source) some none fault =
-      record { none = none; fixed = (token_plain source).0; blames = blames_so (within_all _) (token_error_of source) (token_plain source).1 }
+      record { none = none; fixed = (token_plain source).0; blames = blames_so (within_all may_differ) (token_error_of source) (token_plain source).1 }
   parser_refuses (NoMemory source) some none fault = absurd (some tt)
   parser_refuses source some none fault = record { none = none; fixed = tt; blames = tt }
 

@@ -2,7 +2,11 @@
 use Rattle.std.proofs.Common.{◌≡◌, ◌⊎◌, ℕ, List, Option, None, Some, IsSome, Result, Ok, Err, IfErr, IfOk, IsErrAnd, IsOkAnd, String, Global, string_bytes, inl, inr, refl, sym, ◌∙◌}
 use Rattle.std.specs.Bool.{⊤}
 use Rattle.std.specs.declared.alloc.AllocError.{AllocError}
+use Rattle.jiff.specs.Types.{Timestamp}
 use Rattle.serde_json.specs.Data.{Data}
+use Rattle.rusty_paseto_claims.specs.Error.{error_text}
+use Rattle.rusty_paseto_claims.specs.declared.error.PasetoClaimError.TheVariants.{Unexpected}
+use Rattle.rusty_paseto_generic.specs.Parsers.Verdicts.{entry}
 use Rattle.rusty_paseto_generic.specs.Error.{IsMemory}
 use Rattle.rusty_paseto_generic.specs.Parsers.Parsing.{IsCheckAnswer, IsCheckFault}
 use Rattle.rusty_paseto_generic.specs.Parsers.Rules.{Rules}
@@ -17,9 +21,10 @@ use Rattle.paseto_tasks.specs.Error.{Says}
 use Rattle.paseto_tasks.proofs.Statuses.{fixed_says, says_so}
 use Rattle.paseto.specs.declared.commands.check.Keys.{Keys}
 use Rattle.paseto.specs.Answers.{SaysOfBuilder, one_line, repeated_text}
-use Rattle.paseto.specs.ClaimLine.{IsLineOf, SaysOfCheck}
+use Rattle.paseto.specs.ClaimLine.{IsJson, IsLineOf, IsUnlikeLine, SaysOfCheck, unlike_text}
 use Rattle.paseto.specs.Check.{Demanded, demanded_rules}
 use Rattle.paseto.specs.Checked.{IsCheckLine, ParsesBy}
+use Rattle.paseto.specs.Claims.{Named, value_under}
 use Rattle.paseto.specs.Issue.{IsRepeatedLine, Ordered, keys_set}
 
 -- ---- of a text that is put on one line
@@ -43,6 +48,30 @@ told_check keys demands token claims rules (Err (ClaimError fault)) error parses
     says_so (IsLineOf demands.claims claims demands.at fault) (IsCheckLine keys demands token)
     (λ line line_is. inr (record { claims = claims; parses = parses; fault = fault; is_fault = rw same at is; line_is = line_is })) error said
 told_check keys demands token claims rules (Err source) error parses same answered said = fixed_says (IsCheckLine keys demands token) error said
+
+-- a line that tells both values of a claim
+pub unlike_told : (name : List ℕ) (found wanted : Data) (one other : List ℕ) (text line : Result (String Global) AllocError) → IsJson found one → IsJson wanted other
+    → IfOk text (λ t. string_bytes t ≡ unlike_text name one other)
+    → IfOk line (λ l. IsOkAnd text (λ t. string_bytes l ≡ one_line (string_bytes t))) → IfOk line (λ l. IsUnlikeLine name found wanted (string_bytes l))
+unlike_told name found wanted one other (Ok t) (Ok l) j k is shown = (one, other, j, k, rw is at shown)
+unlike_told name found wanted one other (Err e) (Ok l) j k is shown = absurd shown
+unlike_told name found wanted one other text (Err e) j k is shown = tt
+
+pub unexpected_told : (demands : List Named) (claims wanted : Data) (at : Timestamp) (key : String Global) (line : Result (String Global) AllocError) (error : ProgramError)
+    → value_under (string_bytes key) demands ≡ Some wanted
+    → IfOk line (λ l. IsUnlikeLine (string_bytes key) (entry (string_bytes key) claims) wanted (string_bytes l))
+    → Says (λ said. IsOkAnd line (λ l. said ≡ string_bytes l)) error → Says (IsLineOf demands claims at (Unexpected key)) error
+unexpected_told demands claims wanted at key (Ok l) error under is says =
+    says_so (λ said. said ≡ string_bytes l) (IsLineOf demands claims at (Unexpected key)) (λ said so. rw (under, so) is) error says
+unexpected_told demands claims wanted at key (Err e) error under is says =
+    says_so (λ said. ⊥) (IsLineOf demands claims at (Unexpected key)) (λ said none. absurd none) error says
+
+-- a line on a claim of which no value is demanded
+pub untyped_told : (demands : List Named) (claims : Data) (at : Timestamp) (key : String Global) (error : ProgramError)
+    → value_under (string_bytes key) demands ≡ None → Says (λ said. said ≡ one_line (error_text (Unexpected key))) error
+    → Says (IsLineOf demands claims at (Unexpected key)) error
+untyped_told demands claims at key error under says =
+    says_so (λ said. said ≡ one_line (error_text (Unexpected key))) (IsLineOf demands claims at (Unexpected key)) (λ said so. rw under so) error says
 
 -- ---- of a builder
 

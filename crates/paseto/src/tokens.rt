@@ -1,6 +1,6 @@
 //! The commands `issue` and `check`.
 
-ghost use Rattle.std.specs.Prelude.{◌≡◌, ◌≤ℤ◌, ◌*ℤ◌, IfErr, IfOk, IsErr, IsTrue, Ok, Some, option_map, pos};
+ghost use Rattle.std.specs.Prelude.{◌≡◌, ◌*ℤ◌, IfErr, IfOk, IsErr, IsTrue, Ok, Some, int_le, option_map, pos, true};
 ghost use Rattle.jiff.specs.Words.{IsTimestampNanos};
 ghost use Rattle.jiff.specs.Types.{Timestamp as Moment};
 ghost use Rattle.paseto.specs.Answers.{second_of};
@@ -16,6 +16,7 @@ use crate::keys::{Held, key_name, key_of};
 use crate::named::{is_unknown, public_id};
 use crate::new_file::{free, put_secret};
 use crate::options::longest_of;
+use crate::warning::is_over;
 use jiff::Timestamp;
 use paseto_keys::AnyKey;
 use paseto_tasks::{FileError, ProgramError, SystemError, UsageError};
@@ -121,13 +122,13 @@ fn warn_of_end(rt: &HostRuntime, word: Option<&str>, now: Timestamp) -> Result<(
 fn has_ended(word: Option<&str>, now: Timestamp) -> bool
     ensures { IsTrue result → (moment : Moment)
         × SaysTime (option_map (λ text. text.now) word.entry) now (Some moment)
-        × (moment.nanosecond ≤ℤ now.nanosecond) }
+        × (int_le moment.nanosecond now.nanosecond ≡ true) }
 {
     let Some(word) = word else {
         return false;
     };
     match moment_of(word, now) {
-        Some(moment) => moment.as_nanosecond() <= now.as_nanosecond(),
+        Some(moment) => is_over(moment, now),
         None => false,
     }
 }

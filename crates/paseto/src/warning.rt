@@ -1,6 +1,6 @@
 //! What is said of a text whose times are not checked.
 
-ghost use Rattle.std.specs.Prelude.{◌≡◌, IfOk, option_map, string_bytes};
+ghost use Rattle.std.specs.Prelude.{◌≡◌, IfOk, int_le, option_map, string_bytes};
 ghost use Rattle.serde_json.specs.View.{view};
 ghost use Rattle.paseto.specs.Warning.{has_passed, is_to_come, line_of_claims, line_of_text};
 
@@ -45,9 +45,16 @@ fn has_passed(text: &str, at: Timestamp) -> bool
     ensures { result ≡ has_passed text.now at }
 {
     match text.parse::<Timestamp>() {
-        Ok(moment) => moment.as_nanosecond() <= at.as_nanosecond(),
+        Ok(moment) => is_over(moment, at),
         Err(_) => false,
     }
+}
+
+/// Whether a moment is not later than another.
+pub fn is_over(moment: Timestamp, at: Timestamp) -> bool
+    ensures { result ≡ int_le moment.nanosecond at.nanosecond }
+{
+    moment.as_nanosecond() <= at.as_nanosecond()
 }
 
 /// Whether a text is a moment that has not come.
@@ -55,7 +62,7 @@ fn is_to_come(text: &str, at: Timestamp) -> bool
     ensures { result ≡ is_to_come text.now at }
 {
     match text.parse::<Timestamp>() {
-        Ok(moment) => at.as_nanosecond() <= moment.as_nanosecond(),
+        Ok(moment) => is_over(at, moment),
         Err(_) => false,
     }
 }

@@ -1,9 +1,9 @@
 //! The program's messages for claims that are refused.
 
 ghost use Rattle.std.specs.Prelude.{◌≡◌, IfOk, codes, string_bytes};
-ghost use Rattle.std.specs.Option.{option_map_or};
 ghost use Rattle.serde_json.specs.Data.{null};
 ghost use Rattle.serde_json.specs.View.{view};
+ghost use Rattle.rusty_paseto_generic.specs.Parsers.Verdicts.{entry};
 ghost use Rattle.paseto_tasks.specs.Error.{BlamesNone, IsNoUsage, Says};
 ghost use Rattle.paseto.specs.Answers.{one_line};
 ghost use Rattle.paseto.specs.ClaimLine.{IsLineOf, IsUnlikeLine, early_line, expired_line, mismatch_text, text_under};
@@ -57,8 +57,14 @@ fn unexpected(
     ensures said { Says (IsLineOf (all_named demands.now) (view claims.now) at
         (PasetoClaimError.Unexpected key)) result }
 {
+    let null = Value::Null;
     match value_under(demands, key.as_str()) {
-        Some(wanted) => told(unlike_line(alloc, key.as_str(), claims.get(key.as_str()), wanted)),
+        Some(wanted) => told(unlike_line(
+            alloc,
+            key.as_str(),
+            entry_or(claims, key.as_str(), &null),
+            wanted,
+        )),
         None => {
             let source = PasetoClaimError::Unexpected(key);
             told(one_line_of(alloc, format!(in alloc; "{source}")))
@@ -66,19 +72,28 @@ fn unexpected(
     }
 }
 
+/// The claim with a name, or what stands for one if there is none.
+fn entry_or<'v>(claims: &'v Value, name: &str, absent: &'v Value) -> &'v Value
+    requires { view absent.now ≡ null }
+    ensures { view result.now ≡ entry name.now (view claims.now) }
+{
+    match claims.get(name) {
+        Some(found) => found,
+        None => absent,
+    }
+}
+
 /// Why a claim is refused whose value is not the required one: `The claim 'seats' is 4, and not 5`.
 fn unlike_line(
     alloc: Global,
     name: &str,
-    found: Option<&Value>,
+    found: &Value,
     wanted: &Value,
 ) -> Result<String, AllocError>
-    ensures { IfOk result (λ line. IsUnlikeLine name.now
-        (option_map_or (λ value. view value.now) found.entry null) (view wanted.now)
+    ensures { IfOk result (λ line. IsUnlikeLine name.now (view found.now) (view wanted.now)
         (string_bytes line)) }
 {
-    let found = found.unwrap_or(&Value::Null).to_string(alloc)?;
-    let wanted = wanted.to_string(alloc)?;
+    let (found, wanted) = (found.to_string(alloc)?, wanted.to_string(alloc)?);
     one_line_of(
         alloc,
         format!(in alloc; "The claim '{name}' is {found}, and not {wanted}"),

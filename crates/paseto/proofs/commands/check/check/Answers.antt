@@ -19,7 +19,7 @@ returns-in_err-checked c =
     rw (p.1, p.2) (record {
       printed = tt;
       refused = check_refuses c.args.keys.now (demanded c.args.demands.now) c.args.token.now (view c.in_ok-claims.claims) c.in_ok-claims.ensures.given _
-          c.in_ok-checker.ensures.rules c.check.result c.check.ensures c.in_err-checked.field-0.0 told.refused told.no_usage told.blames told.said;
+          c.in_ok-checker.ensures.rules c.check.result c.check.ensures c.in_err-checked.field-0.0 told.refused told.no_usage told.blames (rw c.deref.ensures.value at told.said);
     })
 
 pub returns : goal.returns
