@@ -1,6 +1,6 @@
 //! The key of a ring that the footer of a token names.
 
-ghost use Rattle.std.specs.Prelude.{◌≡◌, ◌×◌, ℕ, List, IfErr, IfOk, Ok, Some, string_bytes};
+ghost use Rattle.std.specs.Prelude.{◌≡◌, ℕ, List, IfErr, IfOk, Ok, Some, string_bytes};
 ghost use Rattle.rusty_paseto.specs.KeyRing.{HasFooter, Names};
 ghost use Rattle.paseto_keys.specs.AnyKey.{parts_of};
 ghost use Rattle.paseto_keys.specs.PublicHalf.{GivesHalf};
