@@ -64,16 +64,16 @@ for program in paseto paseto_tool; do
     install -m 755 "$here/crates/$program/out/$program" "$prefix/bin/$program"
 done
 
-install -d "$prefix/share/man/man1" "$prefix/share/man/man3" "$prefix/share/bash-completion/completions" \
+install -d "$prefix/share/man/man1" "$prefix/share/bash-completion/completions" \
     "$prefix/share/zsh/site-functions" "$prefix/share/fish/vendor_completions.d"
 install -m 644 "$here"/man/*.1 "$prefix/share/man/man1"
-install -m 644 "$here"/man/*.3 "$prefix/share/man/man3"
 install -m 644 "$here/completions/paseto.bash" "$prefix/share/bash-completion/completions/paseto"
 install -m 644 "$here/completions/_paseto" "$prefix/share/zsh/site-functions/_paseto"
 install -m 644 "$here/completions/paseto.fish" "$prefix/share/fish/vendor_completions.d/paseto.fish"
 
 echo "proved, built and installed under $prefix:"
-(cd "$prefix" && find bin/paseto bin/paseto_tool include lib share -type f | sort | sed 's/^/  /')
+(cd "$prefix" && find bin/paseto bin/paseto_tool include lib share -type f ! -name 'paseto_*.3' | sort | sed 's/^/  /')
+echo "  $(find "$prefix/share/man/man3" -name 'paseto_*.3' | wc -l) manual pages of calls, share/man/man3/paseto_*.3"
 
 work=$(mktemp -d)
 trap 'rm -rf "$work"' EXIT

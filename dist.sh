@@ -84,12 +84,15 @@ mkdir -p "$work/libpaseto1/DEBIAN"
 echo "libpaseto 1 libpaseto1 (>= $version)" >"$work/libpaseto1/DEBIAN/shlibs"
 echo 'activate-noawait ldconfig' >"$work/libpaseto1/DEBIAN/triggers"
 package libpaseto1 'libc6 (>= 2.14)' 'library for PASETO tokens'
-laid libpaseto-dev lib/libpaseto.a include/paseto.h
+mapfile -t headers < <(cd "$prefix" && ls include/paseto*.h)
+laid libpaseto-dev lib/libpaseto.a "${headers[@]}"
 ln -s libpaseto.so.1 "$work/libpaseto-dev/usr/lib/x86_64-linux-gnu/libpaseto.so"
 mkdir -p "$work/libpaseto-dev/usr/lib/x86_64-linux-gnu/pkgconfig" "$work/libpaseto-dev/usr/share/man/man3"
 sed -e 's|^prefix=.*|prefix=/usr|; s|^libdir=.*|libdir=/usr/lib/x86_64-linux-gnu|' "$prefix/lib/pkgconfig/paseto.pc" \
     >"$work/libpaseto-dev/usr/lib/x86_64-linux-gnu/pkgconfig/paseto.pc"
-gzip -9nc "$prefix/share/man/man3/libpaseto.3" >"$work/libpaseto-dev/usr/share/man/man3/libpaseto.3.gz"
+for page in "$prefix"/share/man/man3/*.3; do
+    gzip -9nc "$page" >"$work/libpaseto-dev/usr/share/man/man3/${page##*/}.gz"
+done
 package libpaseto-dev "libpaseto1 (= $version)" 'header and static library for PASETO tokens'
 
 # The module for nginx, where nginx and its sources are: the package says for which nginx it is.
@@ -112,8 +115,6 @@ fi
 archive=paseto-$version-x86_64-linux
 mkdir "$work/$archive"
 cp -a "$prefix/bin" "$prefix/lib" "$prefix/include" "$prefix/share" "$here/LICENSE" "$work/$archive"
-# Wherever the archive is unpacked, its header and libraries are beside paseto.pc.
-sed -i 's|^prefix=.*|prefix=${pcfiledir}/../..|' "$work/$archive/lib/pkgconfig/paseto.pc"
 find "$work/$archive/bin" -type f ! -name paseto ! -name paseto_tool -delete
 bash "$here/docs/site.sh" "$work/$archive/share/doc/paseto/html" >/dev/null
 tar -C "$work" --sort=name --mtime="@$SOURCE_DATE_EPOCH" --owner=0 --group=0 --numeric-owner -cf - "$archive" |

@@ -1,6 +1,6 @@
 #!/usr/bin/env bash
 # Builds the library for C and installs it: PREFIX/lib/libpaseto.a and libpaseto.so.1, to which the link libpaseto.so leads,
-# PREFIX/include/paseto.h and PREFIX/lib/pkgconfig/paseto.pc.
+# PREFIX/include/paseto.h, PREFIX/lib/pkgconfig/paseto.pc, and a manual page for each call in PREFIX/share/man/man3.
 #
 #   c/build.sh PREFIX [--cpu NAME | --built]
 #
@@ -20,9 +20,9 @@ prefix=$(cd "$1" && pwd)
 here=$(cd "$(dirname "$0")" && pwd)
 crate=$here/../crates/paseto_c
 
-for tool in cc ld ar objcopy; do
+for tool in cc ld ar nm objcopy objdump python3; do
     if ! command -v "$tool" >/dev/null; then
-        echo "There is no $tool. On Debian: apt-get install gcc libc6-dev binutils" >&2
+        echo "There is no $tool. On Debian: apt-get install gcc libc6-dev binutils python3" >&2
         exit 1
     fi
 done
@@ -33,27 +33,21 @@ if [ "${2-}" != --built ]; then
     python3 "$here/../tools/prove.py" "${@:2}" paseto_c
 fi
 
-# One object holds the crate and what it stands on, and shows the exports alone.
-kit=$(dirname "$(rt doc)")
-ld -r --whole-archive "$crate/out/libpaseto_c.a" --no-whole-archive "$kit/c/liblibc_c.a" "$kit/c/libos_c.a" \
-    -o "$work/all.o"
-objcopy --wildcard --keep-global-symbol='paseto_*' "$work/all.o" "$work/paseto.o"
-ar rcs "$work/libpaseto.a" "$work/paseto.o"
-printf '{ global: paseto_*; local: *; };\n' >"$work/exports"
-cc -shared -Wl,--gc-sections -Wl,--version-script="$work/exports" -Wl,-soname,libpaseto.so.1 \
-    -Wl,-z,relro,-z,now -o "$work/libpaseto.so.1" "$work/paseto.o"
+bash "$here/wipe/link.sh" "$crate/out/libpaseto_c.a" "$work"
 
 # The version of the header, as text.
 number=$(sed -nE 's/^#define PASETO_VERSION ([0-9]+)$/\1/p' "$here/paseto.h")
 version=$((number / 10000)).$((number / 100 % 100)).$((number % 100))
 
-install -d "$prefix/lib/pkgconfig" "$prefix/include"
+install -d "$prefix/lib/pkgconfig" "$prefix/include" "$prefix/share/man/man3"
 install -m 644 "$work/libpaseto.a" "$prefix/lib/libpaseto.a"
 install -m 755 "$work/libpaseto.so.1" "$prefix/lib/libpaseto.so.1"
 ln -sf libpaseto.so.1 "$prefix/lib/libpaseto.so"
-install -m 644 "$here/paseto.h" "$prefix/include/paseto.h"
+install -m 644 "$here"/*.h "$prefix/include"
+python3 "$here/../tools/pages.py" "$work/pages" "$here"/*.h
+install -m 644 "$work"/pages/*.3 "$here/../man/libpaseto.3" "$prefix/share/man/man3"
 cat >"$prefix/lib/pkgconfig/paseto.pc" <<END
-prefix=$prefix
+prefix=\${pcfiledir}/../..
 libdir=\${prefix}/lib
 includedir=\${prefix}/include
 

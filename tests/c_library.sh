@@ -88,6 +88,9 @@ fi
 for file in lib/libpaseto.a lib/libpaseto.so lib/libpaseto.so.1 lib/pkgconfig/paseto.pc include/paseto.h; do
     if [ -s "$prefix/$file" ]; then pass; else fail "c/build.sh installs no $file"; fi
 done
+while read -r name; do
+    if [ -s "$prefix/share/man/man3/$name.3" ]; then pass; else fail "c/build.sh installs no page $name.3"; fi
+done <"$work/exports"
 if [ "$(readlink "$prefix/lib/libpaseto.so")" = libpaseto.so.1 ]; then pass; else fail 'libpaseto.so is no link to libpaseto.so.1'; fi
 soname=$(readelf -d "$prefix/lib/libpaseto.so" | sed -nE 's/.*\(SONAME\).*\[(.*)\]$/\1/p')
 if [ "$soname" = libpaseto.so.1 ]; then pass; else fail "the soname is $soname"; fi
@@ -97,7 +100,7 @@ nm -g --defined-only --format=posix "$prefix/lib/libpaseto.a" | grep -v ':$' | c
 check 'libpaseto.a shows the exports alone' diff "$work/exports" "$work/static"
 nm -D --undefined-only --format=posix "$prefix/lib/libpaseto.so" | sed -E 's/[@ ].*//' | grep -vE '^(_ITM|__gmon|__cxa_fin)' \
     | sort >"$work/needed"
-check 'libpaseto.so needs memory alone' diff "$work/needed" <(printf '%s\n' free malloc memcpy memmove memset realloc)
+check 'libpaseto.so needs memory alone' diff "$work/needed" <(printf '%s\n' free malloc malloc_usable_size memcpy memmove memset)
 
 # ---- the header
 
@@ -123,12 +126,17 @@ check 'client.c is built over libpaseto.so' cc -std=c99 "${strict[@]}" -o "$work
 counted 'a program in C over libpaseto.so' "$work/client"
 needed=$(readelf -d "$work/client" | sed -nE 's/.*\(NEEDED\).*\[(libpaseto.*)\]$/\1/p')
 if [ "$needed" = libpaseto.so.1 ]; then pass; else fail "a program over libpaseto.so needs $needed"; fi
-# The program of README.md, and the lines that build and run it, as they stand there.
-mkdir "$work/readme"
+# The program of README.md, and the lines that build and run it, as they stand there, over what was installed and over what was
+# moved elsewhere.
+mkdir "$work/readme" "$work/moved"
+cp -a "$prefix/lib" "$prefix/include" "$work/moved"
 python3 "$root/tests/readme.py" c >"$work/readme/first.c"
 python3 "$root/tests/readme.py" sh first.c >"$work/readme/block"
-found=$(cd "$work/readme" && PKG_CONFIG_PATH=$prefix/lib/pkgconfig bash -e block 2>"$work/log")
-is 'the program of README.md' "$(sed -E 's/"(exp|iat|nbf)":"[^"]*"/"\1":"T"/g' <<<"$found")" '{"exp":"T","iat":"T","nbf":"T","sub":"ada"}'
+for folder in "$prefix" "$work/moved"; do
+    found=$(cd "$work/readme" && PKG_CONFIG_PATH=$folder/lib/pkgconfig bash -e block 2>"$work/log")
+    is "the program of README.md over $folder" "$(sed -E 's/"(exp|iat|nbf)":"[^"]*"/"\1":"T"/g' <<<"$found")" '{"exp":"T","iat":"T","nbf":"T","sub":"ada"}'
+    is "the library that it loads" "$(realpath "$(ldd "$work/readme/first" | sed -nE 's/.*libpaseto\.so\.1 => (.*) \(.*/\1/p')")" "$(realpath "$folder/lib/libpaseto.so.1")"
+done
 # The version that paseto.pc tells is the one that the library tells.
 cat >"$work/version.c" <<'END'
 #include <inttypes.h>

@@ -85,6 +85,12 @@ END
 lib=$fresh/usr/lib/x86_64-linux-gnu
 if cc -I "$fresh/usr/include" -o client client.c -L "$lib" -lpaseto 2>"$work/log" && LD_LIBRARY_PATH=$lib ./client; then pass; else fail "a program in C over the packages: $(tail -n 3 "$work/log")"; fi
 if cc -I "$fresh/usr/include" -o client client.c "$lib/libpaseto.a" 2>"$work/log" && ./client; then pass; else fail "a program in C over libpaseto.a: $(tail -n 3 "$work/log")"; fi
+# The program of README.md by the line that stands there, in which only the root is another.
+mkdir readme && python3 "$root/tests/readme.py" c >readme/first.c && python3 "$root/tests/readme.py" sh first.c >readme/block
+found=$(cd readme && PKG_CONFIG_LIBDIR=$lib/pkgconfig PKG_CONFIG_SYSROOT_DIR=$fresh LD_LIBRARY_PATH=$lib bash -e block 2>"$work/log")
+is 'the program of README.md over the packages' "$(sed -E 's/"(exp|iat|nbf)":"[^"]*"/"\1":"T"/g' <<<"$found")" '{"exp":"T","iat":"T","nbf":"T","sub":"ada"}'
+pages=$(find "$fresh/usr/share/man/man3" -name 'paseto_*.3.gz' | wc -l)
+is 'the pages of the calls' "$pages" "$(find "$prefix/share/man/man3" -name 'paseto_*.3' | wc -l)"
 packages=(paseto libpaseto1 libpaseto-dev)
 [ "$files" = 7 ] || packages+=(libnginx-mod-http-paseto)
 if in_root --purge "${packages[@]}"; then pass; else fail "dpkg --purge: $(tail -n 3 "$work/log")"; fi

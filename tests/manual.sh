@@ -1,6 +1,7 @@
 #!/usr/bin/env bash
 # Compares the manual pages and the completions with the programs, each command and each of its options, and the version of
-# all with the file VERSION. The last line is 'N passed, M failed'.
+# all with the file VERSION, and sees to it that each call of the library for C has a page. The last line is
+# 'N passed, M failed'.
 #
 #   tests/manual.sh PROGRAM
 #
@@ -51,13 +52,22 @@ echo $((10000 * first + 100 * second + third)) >"$work/wanted"
 sed -nE 's/^#define PASETO_VERSION ([0-9]+)$/\1/p' "$root/c/paseto.h" >"$work/found"
 same 'the version of paseto.h'
 
+# Each call of the library for C has a page, with its prototype and a description.
+python3 "$root/tools/pages.py" "$work/pages" "$root"/c/*.h
+grep -ohE '^(static inline )?\w+ paseto_\w+\(' "$root"/c/*.h | sed -E 's/.* (\w+)\($/\1/' | sort -u >"$work/wanted"
+ls "$work/pages" | sed 's/\.3$//' >"$work/found"
+same 'the pages of the calls'
+for name in $(cat "$work/wanted"); do
+    if grep -q "^\\\\fB.* $name(" "$work/pages/$name.3" && grep -q '^\.SH DESCRIPTION' "$work/pages/$name.3"; then pass; else fail "the page of $name"; fi
+done
+
 # Each option has a text of its own, and the pages have no fault.
 sed -nE '/^\.SH OPTIONS/,/^\.SH EXIT/p' "$work/manual" | grep -oE -- '^--[a-z-]+|, --[a-z-]+' | grep -oE -- '--[a-z-]+' | sort -u >"$work/found"
 while read -r command; do "$program" "$command" --help; done <"$work/commands" | grep -oE '^ +(-[a-z], )?--[a-z-]+' | grep -oE -- '--[a-z-]+' |
     { cat; echo --version; } | sort -u >"$work/wanted"
 same 'the options of paseto(1)'
 if command -v groff >/dev/null; then
-    for page in "$root"/man/*; do
+    for page in "$root"/man/* "$work"/pages/*; do
         faults=$(groff -man -ww -Tascii "$page" 2>&1 >/dev/null)
         if [ -z "$faults" ]; then pass; else fail "$page: $faults"; fi
     done

@@ -22,7 +22,7 @@ impl<'a> Fault<'a> {
 
     /// The error, whatever it is about.
     pub fn into_error(self) -> ProgramError
-        ensures { result ≡ self.error }
+        ensures { result ≡ self.entry.error }
     {
         self.error
     }

@@ -74,7 +74,7 @@ fn unlike_line(
     wanted: &Value,
 ) -> Result<String, AllocError>
     ensures { IfOk result (λ line. IsUnlikeLine name.now
-        (option_map_or null (λ value. view value.now) found.entry) (view wanted.now)
+        (option_map_or (λ value. view value.now) found.entry null) (view wanted.now)
         (string_bytes line)) }
 {
     let found = found.unwrap_or(&Value::Null).to_string(alloc)?;

@@ -1,12 +1,12 @@
 //! Claims by name, as the arguments give them.
 
-ghost use Rattle.std.specs.Prelude.{◌≡◌, ◌≢◌, ◌⊎◌, ◌++◌, ◌<◌, ◌∷◌, ◌||◌, [], ℕ, List, IfErr, IfOk, IfSome, MatchOption, None, OnOk, Some, codes, false, length, not, string_bytes, true};
+ghost use Rattle.std.specs.Prelude.{◌≡◌, ◌≢◌, ◌⊎◌, ◌++◌, ◌<◌, ◌∷◌, ◌||◌, [], ℕ, List, IfErr, IfOk, IfSome, MatchOption, None, OnOk, Some, codes, false, length, not, option_map, string_bytes, true};
 ghost use Rattle.std.specs.Option.{option_map_or};
 ghost use Rattle.serde_json.specs.View.{view};
 ghost use Rattle.serde_json.specs.Read.{read};
 ghost use Rattle.rusty_paseto_claims.specs.Claim.{gives, one_member};
 ghost use Rattle.paseto_tasks.specs.Arguments.{texts};
-ghost use Rattle.paseto.specs.Claims.{AreClaims, IsClaimOf, IsFirstOf, all_named, is_time, named};
+ghost use Rattle.paseto.specs.Claims.{AreClaims, IsClaimOf, IsFirstOf, all_named, is_time, named, value_under};
 ghost use Rattle.paseto_tasks.specs.Error.{IsOfWords, IsOutside, Lacks};
 
 use paseto_tasks::{ProgramError, UsageError};
