@@ -9,3 +9,4 @@ pub mod RingReads
 pub mod Endings
 pub mod Checks
 pub mod Faults
+pub mod NamedKeys

@@ -1,5 +1,6 @@
 -- The key files of a folder.
-use Rattle.std.specs.Prelude.{◌≡◌, ◌≢◌, ◌⊎◌, ◌∷◌, ◌++◌, ⊤, ℕ, [], List, All, Result, Ok, Err, codes}
+use Rattle.std.specs.Prelude.{◌≡◌, ◌≢◌, ◌==◌, ◌⊎◌, ◌∷◌, ◌++◌, ⊤, ℕ, [], List, All, Result, Ok, Err, codes, length}
+use Rattle.std.specs.List.{position_or_len}
 use Rattle.std.specs.declared.alloc.AllocError.{AllocError}
 use Rattle.rusty_paseto_paserk.specs.declared.header.PaserkType.TheVariants.{Local, Secret, Public}
 use Rattle.rusty_paseto_paserk.specs.declared.header.PaserkType.{PaserkType}
@@ -17,11 +18,13 @@ use Rattle.paseto.specs.declared.folder.Entry.{Entry}
 use Rattle.paseto.specs.declared.folder.Entry.TheVariants as entry
 use Rattle.paseto.specs.declared.keys.Held.{Held}
 
+-- the name has an ending
+abbrev pub EndsIn : List ℕ → List ℕ → Type 0
+EndsIn ending name = (front : List ℕ) × (name ≡ front ++ ending)
+
 -- the name is that of a key file: `*.key`, `*.pem`, or one without a dot
 abbrev pub IsKeyName : List ℕ → Type 0
-IsKeyName name =
-    ((front : List ℕ) × (name ≡ front ++ codes ".key"))
-    ⊎ (((front : List ℕ) × (name ≡ front ++ codes ".pem")) ⊎ All (λ letter. letter ≢ 46) name)
+IsKeyName name = EndsIn (codes ".key") name ⊎ (EndsIn (codes ".pem") name ⊎ (position_or_len (λ letter. letter == 46) name ≡ length name))
 
 -- what a key file is to a ring: a key, or a file that cannot be used. Memory is refused only where it was in reading the file
 abbrev pub entry_of : Result AnyKey ProgramError → Result Entry AllocError

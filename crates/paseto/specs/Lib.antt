@@ -17,7 +17,6 @@ pub mod Half
 pub mod Keys
 pub mod Main
 pub mod NewKey
-pub mod NewFile
 pub mod Locks
 pub mod Warning
 pub mod Folder

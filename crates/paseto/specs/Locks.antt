@@ -14,8 +14,9 @@ use Rattle.paseto_wrapping.specs.declared.header.WrappedType.TheVariants.{Seal}
 use Rattle.rusty_paseto_paserk.specs.declared.error.PaserkError.TheVariants.{NoKey}
 use Rattle.rusty_paseto_paserk.specs.declared.header.PaserkType.{PaserkType}
 use Rattle.rusty_paseto_paserk.specs.declared.header.PaserkVersion.{PaserkVersion}
-use Rattle.paseto.specs.Forms.{IsFormed}
-use Rattle.paseto.specs.Keys.{Holds}
+use Rattle.paseto.specs.Forms.{HasNoForm, IsFormed}
+use Rattle.paseto.specs.Keys.{Holds, HoldsNoKey, IsKeyFault}
+use Rattle.paseto.specs.declared.fault.Fault.{Fault}
 use Rattle.paseto.specs.declared.keys.Held.{Held}
 use Rattle.paseto_words.specs.declared.action.Under.{Under}
 use Rattle.paseto_words.specs.declared.action.Under.TheVariants.{Unsaid, Key as UnderKey, Password}
@@ -38,10 +39,12 @@ abbrev pub IsLockedBy : Lock → List ℕ → Type 0
 IsLockedBy Any text = IsWrapped text
 IsLockedBy OfSeal text = IsWrappedAs Seal text
 
--- why a text is refused that begins as no wrapped key: it is a bare one, or none
+-- what is said of a text that begins as no wrapped key: it is a bare one, or none
+abbrev pub IsBareFault : List ℕ → ProgramError → Type 0
+IsBareFault text error = (IsBare text × (error ≡ File NotWrapped)) ⊎ ((¬ IsBare text) × (error ≡ File (Key NoKey)))
+
 abbrev pub IsUnwrappedFault : List ℕ → ProgramError → Type 0
-IsUnwrappedFault text error =
-    HasNoHeader text × ((IsBare text × (error ≡ File NotWrapped)) ⊎ ((¬ IsBare text) × (error ≡ File (Key NoKey))))
+IsUnwrappedFault text error = HasNoHeader text × IsBareFault text error
 
 -- the same, or that it is under another lock
 abbrev pub IsLockFault : Lock → List ℕ → ProgramError → Type 0
@@ -53,6 +56,12 @@ IsLockFault OfSeal text error =
 abbrev pub OpensIn : Format → Held → List ℕ → List ℕ → Type 0
 OpensIn format held text made =
     (line : List ℕ) × (key : KeyParts) × Holds held text line × IsLineOf line key × IsFormed format key made
+
+-- why there is none: the text is not opened, or the key has no such form
+abbrev pub OpensNone : Format → Held → List ℕ → List ℕ → Fault → Type 0
+OpensNone format held name text fault =
+    HoldsNoKey held name text fault
+    ⊎ ((line : List ℕ) × (key : KeyParts) × Holds held text line × IsLineOf line key × IsKeyFault name (HasNoForm format key) fault)
 
 -- the file that wraps a key: of the wrapping key, or of the password
 abbrev pub file_under : Under → Option (List ℕ)

@@ -2,8 +2,7 @@
 use Rattle.std.specs.Prelude.{◌≡◌, ℕ, List, Ok, Some, String, string_bytes}
 use Rattle.std.specs.Borrow.{Bor}
 use Rattle.std.specs.Global.{Global}
-use Rattle.rusty_paseto.specs.Held.{keys_of}
-use Rattle.rusty_paseto.specs.declared.key_ring.Ring.{Ring}
+use Rattle.rusty_paseto.specs.KeyRing.{Keys}
 use Rattle.paseto_keys.specs.AnyKey.{KeyParts, parts_of}
 use Rattle.paseto_keys.specs.Id.{Identifies}
 use Rattle.paseto_keys.specs.PublicHalf.{GivesHalf}
@@ -18,5 +17,5 @@ abbrev pub IsIdOfHalf : KeyParts → List ℕ → Type 0
 IsIdOfHalf key id = (half : AnyKey) × GivesHalf key (Ok half) × IsIdOf (parts_of half) id
 
 -- each key stands under its id
-abbrev pub AreUnderIds : Ring (Bor AnyKey) → Type 0
-AreUnderIds ring = (id : List ℕ) (key : Bor AnyKey) → keys_of ring id ≡ Some key → IsIdOf (parts_of key.now) id
+abbrev pub AreUnderIds : Keys (Bor AnyKey) → Type 0
+AreUnderIds keys = (id : List ℕ) (key : Bor AnyKey) → keys id ≡ Some key → IsIdOf (parts_of key.now) id

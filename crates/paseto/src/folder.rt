@@ -2,7 +2,7 @@
 
 ghost use Rattle.std.specs.Prelude.{◌≡◌, ◌⊎◌, ℕ, List, IfErr, IfOk, MatchBool, MatchOption};
 ghost use Rattle.paseto_keys.specs.AnyKey.{parts_of};
-ghost use Rattle.paseto.specs.Folder.{AreNotPrivate, IsKeyName, IsLastPrivate, IsNoRingKey, IsRingKey, entry_of};
+ghost use Rattle.paseto.specs.Folder.{AreNotPrivate, EndsIn, IsKeyName, IsLastPrivate, IsNoRingKey, IsRingKey, entry_of};
 
 use crate::commands::answers::one_line_of;
 use crate::fault::Fault;
@@ -126,7 +126,26 @@ fn entry_in(
 fn is_key_name(name: &str) -> bool
     ensures { MatchBool result (IsKeyName name.now) (¬ IsKeyName name.now) }
 {
-    name.ends_with(".key") || name.ends_with(".pem") || !name.contains('.')
+    if ends_in(name, ".key") {
+        return true;
+    }
+    if ends_in(name, ".pem") {
+        return true;
+    }
+    match name.split_once('.') {
+        Some(_) => false,
+        None => true,
+    }
+}
+
+/// Whether a name has an ending.
+fn ends_in(name: &str, ending: &str) -> bool
+    ensures { MatchBool result (EndsIn ending.now name.now) (¬ EndsIn ending.now name.now) }
+{
+    match name.strip_suffix(ending) {
+        Some(_) => true,
+        None => false,
+    }
 }
 
 /// What a key file is to a ring, by the result of reading it. A failed allocation is one of reading it.

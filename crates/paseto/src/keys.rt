@@ -82,8 +82,10 @@ impl<'a> Held<'a> {
             × IsLineOf line (parts_of key)) }
         ensures refused { IfErr result (HoldsNoKey self.now name.now text.now) }
     {
-        let line = self.line(alloc, name, text)?;
-        key_of_line(alloc, name, line.as_str())
+        match self.line(alloc, name, text) {
+            Ok(line) => key_of_line(alloc, name, line.as_str()),
+            Err(fault) => Err(fault),
+        }
     }
 
     /// The line of the key in the text of a key file of this name.

