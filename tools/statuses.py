@@ -88,7 +88,7 @@ def go():
              for number, name, _, _, text in found]
     refused = "".join(f"\n\t\tErr{row[1]}," for row in found if row[3] in ("Refused", "Forbidden"))
     return "\n".join(["const (", *lines, ")", "", "// isOfToken tells whether the fault lies in the token.",
-                      "func (r Reason) isOfToken() bool {", "\tswitch r {", f"\tcase{refused}", "\t\tErrUnknownKey,", "\t\tErrRevoked:",
+                      "func (r Reason) isOfToken() bool {", "\tswitch r {", f"\tcase{refused}", "\t\tErrRevoked:",
                       "\t\treturn true", "\t}", "\treturn false", "}", ""]).replace("\tcase\n\t\t", "\tcase ")
 
 

@@ -5,11 +5,11 @@
 #include <ngx_config.h>
 #include <ngx_core.h>
 
-#include "any_key.h"
+#include <paseto.h>
 
 typedef struct {
     ngx_str_t id; /* the PASERK id; empty for a key of version 1 that has none */
-    any_key key;
+    struct paseto_key *key;
 } paseto_key_t;
 
 typedef struct {
