@@ -25,8 +25,8 @@ from wrap import prototypes  # noqa: E402
 
 HEADER = prototypes(sorted((ROOT / "c").glob("*.h")))
 WORDS = 32
-# What a struct takes at most.
-STRUCT = 2048
+# What a struct takes at most, and struct paseto_key.
+STRUCT, KEY = 2048, 1248
 # How much of the stack calls.c paints before the call, and with what.
 PAINTED, PAINT = 262144, 0xA5
 # Right below the caller are the return address and registers of the caller that a wrapper saved.
@@ -36,8 +36,9 @@ SAVED = 64
 class Block:
     """The arguments of a call, in the order of the header's parameters.
 
-    A slice is given under the name of its pointer, as bytes, and is empty where it is not. A buffer for a result has 4096 bytes, or as
-    many as are given under its name. A number is given under its name.
+    A slice, or a struct, is given under the name of its pointer, as bytes, and is empty, or zeros, where it is not. A buffer for a
+    result has 4096 bytes, or as many as are given under its name. A number is given under its name; that of keys is told by their
+    bytes.
     """
 
     def __init__(self, name, given):
@@ -45,8 +46,8 @@ class Block:
         self.given = dict(given)
         for parameter in HEADER[name][1].split(", "):
             self.add(*parameter.rsplit(None, 1))
-        if self.given:
-            sys.exit(f"{name} does not take {' '.join(self.given)}")
+        if unknown := [it for it in self.given if it not in self.places and it[:-7] not in self.places]:
+            sys.exit(f"{name} does not take {' '.join(unknown)}")
 
     def put(self, name, data):
         self.places[name] = (len(self.bytes), len(data))
@@ -62,8 +63,10 @@ class Block:
             given = self.given.pop(name, b"" if kind.startswith("const") else 4096)
             self.put(name, bytes(given) if isinstance(given, int) else given)
         elif pointed:
-            self.put(name, self.given.pop(name, b"").ljust(STRUCT, b"\0"))
-        elif name.endswith("_length") and name[:-7] in self.places:
+            given = self.given.pop(name, b"")
+            self.put(name, given.ljust(STRUCT, b"\0"))
+            self.given[f"{name}_length"] = len(given) // KEY
+        elif name.endswith("_length") and f"{name}" not in self.given:
             self.words.append((0, self.places[name[:-7]][1]))
         else:
             self.words.append((0, self.given.pop(name, 0) % 2**64))
@@ -78,9 +81,10 @@ class Block:
         found = {}
         for name, (at, n) in self.places.items():
             found[name] = bytes(after[at:at + n])
-        for name, of in (("written", "room"), ("message_written", "message")):
-            if name in found and of in found:
-                found[of] = found[of][:struct.unpack("<Q", found[name][:8])[0]]
+        if "written" in found:
+            found["room"] = found["room"][:struct.unpack("<Q", found["written"])[0]]
+        if "key" in found:
+            found["key"] = found["key"][:KEY]
         return found
 
 
@@ -165,7 +169,7 @@ def main():
             continue
         depth, left = left_below(memory, at)
         found = found_in(memory, secrets)
-        faults = [f"status {got} in place of {status}"] * (got != status) + found + [f"{left} bytes of its stack"] * (left > 0)
+        faults = [f"status {got} in place of {status}"] * (status is not None and got != status) + found + [f"{left} bytes of its stack"] * (left > 0)
         passed, failed = passed + (not faults), failed + bool(faults)
         print(f"FAILED: {name} left {', '.join(faults)}" if faults else f"{name}: nothing left of {depth} bytes of stack")
     never = [it for it in sorted(HEADER) if it not in asked and HEADER[it][1] != "void"]
