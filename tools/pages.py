@@ -1,7 +1,7 @@
 #!/usr/bin/env python3
-"""Writes a manual page for each call of the library for C, from c/paseto.h.
+"""Writes a manual page for each call of the library for C, from its header.
 
-    python3 tools/pages.py FOLDER [HEADER]
+    python3 tools/pages.py FOLDER HEADER..
 
 FOLDER gets NAME.3 for each function that the header declares or defines. A page has the prototype and the structs that it takes, the
 comment that stands above it, with its example, what the heading of its topic says, and the statuses that are named there, each with
@@ -13,7 +13,8 @@ import re
 import sys
 import textwrap
 
-ROOT = os.path.dirname(os.path.dirname(os.path.abspath(__file__)))
+with open(os.path.join(os.path.dirname(os.path.abspath(__file__)), "../VERSION"), encoding="utf-8") as file:
+    VERSION = file.read().strip()
 # A comment at the left margin; a function, declared or inline; a struct.
 PARTS = re.compile(r"^/\*(?P<comment>.*?)\*/|"
                    r"^(?:static inline )?(?P<result>\w+(?: \w+)*) (?P<name>paseto_\w+)\((?P<parameters>[^()]*)\)(?:;| \{)|"
@@ -117,11 +118,11 @@ def synopsis(prototype):
     return [it.rstrip() for it in lines]
 
 
-def page(call, calls, structs, statuses, version):
+def page(call, calls, structs, statuses, include):
     names = {it.name for it in calls}
-    lines = [f".TH {call.name.upper()} 3 \"\" \"paseto {version}\" \"Library Functions Manual\"",
+    lines = [f".TH {call.name.upper()} 3 \"\" \"paseto {VERSION}\" \"Library Functions Manual\"",
              ".SH NAME", f"{call.name} \\- {escaped(first_sentence(call))}",
-             ".SH SYNOPSIS", ".nf", ".B #include <paseto.h>", ".PP"]
+             ".SH SYNOPSIS", ".nf", f".B #include <{include}>", ".PP"]
     lines += [f"\\fB{escaped(it)}\\fR" for it in synopsis(call.prototype)] + [".fi"]
     for tag in dict.fromkeys(re.findall(r"struct (\w+)", call.prototype)):
         lines += [".PP", ".nf", *(escaped(it) for it in structs[tag].split("\n")), ".fi"]
@@ -141,19 +142,17 @@ def page(call, calls, structs, statuses, version):
 
 
 def main():
-    if len(sys.argv) not in (2, 3):
+    if len(sys.argv) < 3:
         sys.exit(__doc__)
-    folder, source = [*sys.argv[1:], f"{ROOT}/c/paseto.h"][:2]
-    with open(source, encoding="utf-8") as file:
-        header = file.read()
-    with open(f"{ROOT}/VERSION", encoding="utf-8") as file:
-        version = file.read().strip()
-    calls, structs = read(header)
-    statuses = STATUS.findall(header)
+    folder, *headers = sys.argv[1:]
     os.makedirs(folder, exist_ok=True)
-    for call in calls:
-        with open(os.path.join(folder, f"{call.name}.3"), "w", encoding="utf-8") as file:
-            file.write(page(call, calls, structs, statuses, version))
+    for source in headers:
+        with open(source, encoding="utf-8") as file:
+            header = file.read()
+        calls, structs = read(header)
+        for call in calls:
+            with open(os.path.join(folder, f"{call.name}.3"), "w", encoding="utf-8") as file:
+                file.write(page(call, calls, structs, STATUS.findall(header), os.path.basename(source)))
 
 
 if __name__ == "__main__":
