@@ -4,7 +4,7 @@
 #include <ngx_http.h>
 
 #include "paseto_json.h"
-#include "paseto_keys.h"
+#include "paseto_key_files.h"
 
 #define OFF 0
 #define ON 1

@@ -1,11 +1,11 @@
 /* Keys of files, read when nginx reads its configuration. */
-#ifndef PASETO_KEYS_H
-#define PASETO_KEYS_H
+#ifndef PASETO_KEY_FILES_H
+#define PASETO_KEY_FILES_H
 
 #include <ngx_config.h>
 #include <ngx_core.h>
 
-#include <paseto.h>
+#include <paseto_keys.h>
 
 typedef struct {
     ngx_str_t id; /* the PASERK id; empty for a key of version 1 that has none */

@@ -1,4 +1,4 @@
-#include "paseto_keys.h"
+#include "paseto_key_files.h"
 
 /* No key file is longer. */
 #define LONGEST_FILE 16384
