@@ -1,5 +1,5 @@
 #!/usr/bin/env python3
-"""Looks for secrets in the memory of a process after one call of the library, for each call of cases.py.
+"""Looks for secrets in the memory of a process after one call of the library, for each call of the files cases_*.py.
 
     scan.py CALLS LIBRARY [WORD]
 
@@ -9,6 +9,7 @@ in words of 8 bytes in reverse order, and with each word of 4 bytes twice, as ve
 has to be zeros as deep as it was used. With WORD only the calls whose names hold it are asked; without it each export of the
 headers has to be asked. A line tells what was found of a call, and the last line is 'N passed, M failed'.
 """
+import importlib
 import os
 import pathlib
 import struct
@@ -20,7 +21,6 @@ ROOT = HERE.parent.parent
 sys.dont_write_bytecode = True
 sys.path[:0] = [str(HERE), str(ROOT / "c/wipe")]
 
-from cases import cases  # noqa: E402
 from wrap import prototypes  # noqa: E402
 
 HEADER = prototypes(sorted((ROOT / "c").glob("*.h")))
@@ -82,7 +82,7 @@ class Block:
         for name, (at, n) in self.places.items():
             found[name] = bytes(after[at:at + n])
         if "written" in found:
-            found["room"] = found["room"][:struct.unpack("<Q", found["written"])[0]]
+            found["room"] = found["room"][:struct.unpack("<Q", found["written"][:8])[0]]
         if "key" in found:
             found["key"] = found["key"][:KEY]
         return found
@@ -154,16 +154,28 @@ def left_below(memory, at):
     return len(used) + SAVED, sum(it not in (0, PAINT) for it in used)
 
 
+class Stream:
+    """The calls of all files, which are sent what the last one left in its buffers."""
+
+    def __init__(self):
+        self.files = [importlib.import_module(it.stem).cases() for it in sorted(HERE.glob("cases_*.py"))]
+        self.sent = None
+
+    def __iter__(self):
+        for calls in self.files:
+            self.sent = None
+            try:
+                while True:
+                    yield calls.send(self.sent)
+            except StopIteration:
+                continue
+
+
 def main():
     program, library, word = (*sys.argv[1:], "")[:3]
-    passed, failed, asked, sent = 0, 0, set(), None
-    stream = cases()
-    while True:
-        try:
-            name, export, given, secrets, status = stream.send(sent)
-        except StopIteration:
-            break
-        got, sent, at, memory = ask(program, library, Block(export, given))
+    passed, failed, asked = 0, 0, set()
+    for name, export, given, secrets, status in (stream := Stream()):
+        got, stream.sent, at, memory = ask(program, library, Block(export, given))
         asked.add(export)
         if word not in name:
             continue

@@ -1,4 +1,4 @@
-"""The calls that scan.py makes, each with the secrets of which nothing may be left.
+"""The calls by keys that scan.py makes, each with the secrets of which nothing may be left.
 
 `cases` yields (name, export, what is given by the names of the header's parameters, secrets by name, status), and is sent what
 the call left in its buffers.
