@@ -46,6 +46,12 @@ def taken_from_stack(op, words):
     sys.exit(f"a frame of no fixed length: {op} {words}")
 
 
+def is_call(op, words):
+    """Whether it calls a function whose address it has. A jump by a register leads into a table of the function itself; one by
+    memory that no index selects ends in a call."""
+    return op.startswith("call") or ("(" in words and "," not in words)
+
+
 class Code:
     """The functions of an object by name, and those whose address is taken."""
 
@@ -83,8 +89,7 @@ class Code:
         if not op.startswith(("call", "j")):
             return
         if "*" in words:
-            # A jump through a register is one into a table of the function itself.
-            self.functions[name].is_indirect |= op.startswith("call")
+            self.functions[name].is_indirect |= is_call(op, words)
         elif m := re.match(r"([0-9a-f]+)\b", words):
             self.targets.append((name, (self.functions[name].section, int(m[1], 16))))
 
@@ -96,7 +101,7 @@ class Code:
         if op.startswith(("call", "j")) and ("*" not in words or "GOTPC" in kind):
             self.targets.append((name, target))
         elif op.startswith(("call", "j")):
-            self.functions[name].is_indirect |= op.startswith("call")
+            self.functions[name].is_indirect |= is_call(op, words)
         else:
             self.take(target)
 
