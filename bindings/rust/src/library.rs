@@ -267,8 +267,29 @@ struct Rooms {
     told: usize,
 }
 
+// Why a call failed. The line becomes a text where somebody reads it: where memory is out, there is none for that.
+struct Failed {
+    fault: Fault,
+    line: Vec<u8>,
+}
+
+impl From<Failed> for Fault {
+    fn from(failed: Failed) -> Fault {
+        failed.fault
+    }
+}
+
+impl From<Failed> for Refusal {
+    fn from(failed: Failed) -> Refusal {
+        Refusal {
+            fault: failed.fault,
+            line: String::from_utf8_lossy(&failed.line).into_owned(),
+        }
+    }
+}
+
 // What a call writes, or why it writes nothing. Both rooms grow where they are too short.
-fn telling(first_length: usize, call: impl Fn(&mut Rooms) -> Status) -> Result<Vec<u8>, Refusal> {
+fn telling(first_length: usize, call: impl Fn(&mut Rooms) -> Status) -> Result<Vec<u8>, Failed> {
     let mut rooms = Rooms {
         answer: vec![0; first_length],
         written: 0,
@@ -284,10 +305,11 @@ fn telling(first_length: usize, call: impl Fn(&mut Rooms) -> Status) -> Result<V
             ROOM => rooms.answer.resize(rooms.written, 0),
             _ if rooms.told > rooms.line.len() => rooms.line.resize(rooms.told, 0),
             status => {
-                return Err(Refusal {
+                rooms.line.truncate(rooms.told);
+                return Err(Failed {
                     fault: fault_of(status),
-                    line: String::from_utf8_lossy(&rooms.line[..rooms.told]).into_owned(),
-                })
+                    line: rooms.line,
+                });
             }
         }
     }
@@ -322,13 +344,12 @@ macro_rules! ask {
                 &mut rooms.told,
             )
         });
-        asked.map(|_| made.into_inner()).map_err(|refusal| refusal.fault)
+        asked.map(|_| made.into_inner()).map_err(Fault::from)
     }};
 }
 
-fn string(bytes: Result<Vec<u8>, Refusal>) -> Result<String, Fault> {
-    let bytes = bytes.map_err(|refusal| refusal.fault)?;
-    String::from_utf8(bytes).map_err(|_| Fault::Utf8Error)
+fn string(bytes: Result<Vec<u8>, Failed>) -> Result<String, Fault> {
+    String::from_utf8(bytes?).map_err(|_| Fault::Utf8Error)
 }
 
 // How long a token may be: base64url has four characters for three bytes.
