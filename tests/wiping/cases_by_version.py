@@ -103,10 +103,10 @@ def key_pair_cases():
 
 
 def rsa_cases():
-    made = ["openssl", "genpkey", "-algorithm", "RSA", "-pkeyopt", "rsa_keygen_bits:2048", "-outform", "DER"]
-    private = subprocess.run(made, capture_output=True, check=True).stdout
-    public = subprocess.run(["openssl", "rsa", "-inform", "DER", "-RSAPublicKey_out", "-outform", "DER"], input=private,
-                            capture_output=True, check=True).stdout
+    openssl = lambda text, *words: subprocess.run(["openssl", *words], input=text, capture_output=True, check=True).stdout
+    pem = openssl(b"", "genpkey", "-algorithm", "RSA", "-pkeyopt", "rsa_keygen_bits:2048")
+    private = openssl(pem, "pkcs8", "-topk8", "-nocrypt", "-outform", "DER")
+    public = openssl(pem, "rsa", "-RSAPublicKey_out", "-outform", "DER")
     yield from signing_cases(1, private, public, draw(48), lambda _: of_rsa(private))
     yield from pair_cases(1, private, public, of_rsa(private))
 

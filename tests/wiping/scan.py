@@ -37,7 +37,7 @@ class Block:
     """The arguments of a call, in the order of the header's parameters.
 
     A slice, or a struct, is given under the name of its pointer, as bytes, and is empty, or zeros, where it is not. A buffer for a
-    result has 4096 bytes, or as many as are given under its name. A number is given under its name; that of keys is told by their
+    result has 8192 bytes, or as many as are given under its name. A number is given under its name; that of keys is told by their
     bytes.
     """
 
@@ -60,7 +60,7 @@ class Block:
         if pointed and kind == "size_t":
             self.put(name, bytes(8))
         elif pointed and kind.split()[-1] in ("void", "uint8_t"):
-            given = self.given.pop(name, b"" if kind.startswith("const") else 4096)
+            given = self.given.pop(name, b"" if kind.startswith("const") else 8192)
             self.put(name, bytes(given) if isinstance(given, int) else given)
         elif pointed:
             given = self.given.pop(name, b"")
