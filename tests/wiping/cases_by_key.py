@@ -164,10 +164,10 @@ def pair_cases(version):
 
 
 def rsa_cases():
-    made = ["openssl", "genpkey", "-algorithm", "RSA", "-pkeyopt", "rsa_keygen_bits:2048", "-outform", "DER"]
-    private = subprocess.run(made, capture_output=True, check=True).stdout
-    public = subprocess.run(["openssl", "rsa", "-inform", "DER", "-RSAPublicKey_out", "-outform", "DER"], input=private,
-                            capture_output=True, check=True).stdout
+    openssl = lambda text, *words: subprocess.run(["openssl", *words], input=text, capture_output=True, check=True).stdout
+    pem = openssl(b"", "genpkey", "-algorithm", "RSA", "-pkeyopt", "rsa_keygen_bits:2048")
+    private = openssl(pem, "pkcs8", "-topk8", "-nocrypt", "-outform", "DER")
+    public = openssl(pem, "rsa", "-RSAPublicKey_out", "-outform", "DER")
     halves = held(1, PRIVATE, private), held(1, PUBLIC, public)
     yield from signing_cases(1, *halves, lambda _: of_rsa(private))
     yield from text_cases("v1 private key", halves[0], of_rsa(private), ("text", "pem"))
