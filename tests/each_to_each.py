@@ -41,6 +41,7 @@ def make_keys(prefix, work):
         else:
             run(prefix / "bin/paseto", "keygen", kind, "--quiet", "--out", making)
             shutil.copy(making, reading)
+            reading.chmod(0o600)
 
 
 class Program:
