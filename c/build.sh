@@ -1,6 +1,6 @@
 #!/usr/bin/env bash
 # Builds the library for C and installs it: PREFIX/lib/libpaseto.a and libpaseto.so.1, to which the link libpaseto.so leads,
-# PREFIX/include/paseto.h and PREFIX/lib/pkgconfig/paseto.pc.
+# PREFIX/include/paseto.h, paseto_keys.h and PREFIX/lib/pkgconfig/paseto.pc.
 #
 #   c/build.sh PREFIX [--cpu NAME | --built]
 #
@@ -51,7 +51,7 @@ install -d "$prefix/lib/pkgconfig" "$prefix/include"
 install -m 644 "$work/libpaseto.a" "$prefix/lib/libpaseto.a"
 install -m 755 "$work/libpaseto.so.1" "$prefix/lib/libpaseto.so.1"
 ln -sf libpaseto.so.1 "$prefix/lib/libpaseto.so"
-install -m 644 "$here/paseto.h" "$prefix/include/paseto.h"
+install -m 644 "$here/paseto.h" "$here/paseto_keys.h" "$prefix/include/"
 cat >"$prefix/lib/pkgconfig/paseto.pc" <<END
 prefix=$prefix
 libdir=\${prefix}/lib
