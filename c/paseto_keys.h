@@ -15,7 +15,6 @@
    0. The line holds no byte of a key, but names and texts of claims as they are, newlines included. */
 #ifndef PASETO_H
 #define PASETO_H
-
 #include <errno.h>
 #include <stddef.h>
 #include <stdint.h>
@@ -23,7 +22,6 @@
 #if defined(__linux__)
 #include <sys/random.h>
 #endif
-
 #ifdef __cplusplus
 extern "C" {
 #endif
@@ -33,7 +31,6 @@ extern "C" {
    of the library that the program runs with. */
 #define PASETO_VERSION 10000
 uint32_t paseto_version(void);
-
 typedef uint8_t paseto_status;
 
 /* The statuses, from c/statuses.txt: */
@@ -330,5 +327,4 @@ static inline paseto_status paseto_issue(const struct paseto_key *key, const voi
 #ifdef __cplusplus
 }
 #endif
-
 #endif

@@ -13,3 +13,4 @@ pub mod TokenExits
 pub mod AdmitExits
 pub mod IssueExits
 pub mod KeyExits
+pub mod AdmitByExits

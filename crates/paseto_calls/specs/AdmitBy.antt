@@ -4,7 +4,7 @@ use Rattle.std.specs.Global.{Global}
 use Rattle.jiff.specs.Types.{Timestamp}
 use Rattle.serde_json.specs.Data.{Items, Members}
 use Rattle.serde_json.specs.View.{view}
-use Rattle.serde_json.specs.Written.{compact_text}
+use Rattle.serde_json.specs.Written.{compact_text, has_float}
 use Rattle.serde_json.specs.declared.value.Value.{Value}
 use Rattle.rusty_paseto_parts.specs.Limit.{has_long_footer}
 use Rattle.rusty_paseto_parts.specs.Section.{sections}
@@ -87,7 +87,7 @@ pub record IsAsked (expected : List ℕ) (now : ℤ) (demands : Demands) (footer
   pub assertion_is : assertion_of wanted.assertion ≡ assertion
   pub has_assertion : is_some wanted.assertion ≡ has_bytes assertion
 
--- the text is the compact JSON of a value that the ring admits
+-- the text is the compact JSON of a value that the ring admits: no such value has a number that is not a whole one
 pub record IsAdmittedBy (keys : List AnyKey) (token expected : List ℕ) (now : ℤ) (demands : Demands) (footer assertion text : List ℕ) : Type 0 where
   pub wanted : Wanted
   pub asked : IsAsked expected now demands footer assertion wanted
@@ -95,7 +95,7 @@ pub record IsAdmittedBy (keys : List AnyKey) (token expected : List ℕ) (now : 
   pub id : String Global
   pub value : Value
   pub admitted : IsAdmittedByRing keys wanted token (Ok (id, value))
-  pub is_text : text ≡ compact_text (view value)
+  pub is_text : has_float (view value) ≡ false → text ≡ compact_text (view value)
 
 -- the footer is too long, or else the ring admits no value, and this is the refusal for its error, and the line
 pub record IsRefusedBy (keys : List AnyKey) (token expected : List ℕ) (now : ℤ) (demands : Demands) (footer assertion : List ℕ)

@@ -8,7 +8,7 @@ ghost use Rattle.rusty_paseto_generic.specs.Builders.Claims.{becomes};
 ghost use Rattle.rusty_paseto_generic.specs.Builders.Held.{held};
 ghost use Rattle.paseto_calls.specs.Build.{IsClaimFault};
 ghost use Rattle.paseto_calls.specs.Claims.{all_set};
-ghost use Rattle.paseto_calls.specs.Issue.{AreClaims, AreMomentClaims, AreMoments, AreTimes, IsMembersFault, issuing};
+ghost use Rattle.paseto_calls.specs.Issue.{AreClaims, AreMomentClaims, AreMoments, AreTimes, IsMembersFault, hour_after, issuing, second_before};
 ghost use Rattle.paseto_calls.specs.Request.{IsMade};
 
 use crate::arguments::Texts;
@@ -95,21 +95,48 @@ fn times_at(alloc: Global, now: i64) -> Result<Map<String, Value>, Refusal>
         (λ refusal. (refusal ≡ Refusal.Memory)
         ⊎ ((refusal ≡ Refusal.InvalidMoment) × ¬ AreMoments now)) }
 {
-    let now = now as i128;
-    let end = moment_at(now + HOUR)?;
     let issue = moment_at(now)?;
-    let begin = moment_at(now - SECOND)?;
+    let end = hour_after(issue)?;
+    let begin = second_before(issue)?;
     Ok(times_of(alloc, end, issue, begin)?)
 }
 
 // The moment of so many nanoseconds since 1970, or `InvalidMoment`.
-fn moment_at(nanoseconds: i128) -> Result<Timestamp, Refusal>
+fn moment_at(now: i64) -> Result<Timestamp, Refusal>
     ensures { MatchResult result
-        (λ moment. (moment.nanosecond ≡ nanoseconds) × IsTimestampNanos nanoseconds)
-        (λ refusal. (refusal ≡ Refusal.InvalidMoment) × ¬ IsTimestampNanos nanoseconds) }
+        (λ moment. (moment.nanosecond ≡ now) × IsTimestampNanos now)
+        (λ refusal. (refusal ≡ Refusal.InvalidMoment) × ¬ IsTimestampNanos now) }
 {
-    match Timestamp::from_nanosecond(nanoseconds) {
+    match Timestamp::from_nanosecond(now as i128) {
         Ok(moment) => Ok(moment),
+        Err(_) => Err(Refusal::InvalidMoment),
+    }
+}
+
+// The moment an hour later, or `InvalidMoment`.
+fn hour_after(moment: Timestamp) -> Result<Timestamp, Refusal>
+    ensures { MatchResult result
+        (λ later. (later.nanosecond ≡ hour_after moment.nanosecond)
+        × IsTimestampNanos (hour_after moment.nanosecond))
+        (λ refusal. (refusal ≡ Refusal.InvalidMoment)
+        × ¬ IsTimestampNanos (hour_after moment.nanosecond)) }
+{
+    match Timestamp::from_nanosecond(moment.as_nanosecond() + HOUR) {
+        Ok(later) => Ok(later),
+        Err(_) => Err(Refusal::InvalidMoment),
+    }
+}
+
+// The moment a second before it, or `InvalidMoment`.
+fn second_before(moment: Timestamp) -> Result<Timestamp, Refusal>
+    ensures { MatchResult result
+        (λ earlier. (earlier.nanosecond ≡ second_before moment.nanosecond)
+        × IsTimestampNanos (second_before moment.nanosecond))
+        (λ refusal. (refusal ≡ Refusal.InvalidMoment)
+        × ¬ IsTimestampNanos (second_before moment.nanosecond)) }
+{
+    match Timestamp::from_nanosecond(moment.as_nanosecond() - SECOND) {
+        Ok(earlier) => Ok(earlier),
         Err(_) => Err(Refusal::InvalidMoment),
     }
 }
