@@ -4,8 +4,9 @@
     wrap.py OBJECT.o WRAPPERS.c HEADER..
 
 Each export X of the object becomes proved_X, and WRAPPERS.c has a function with its name and the header's prototype, but for what
-pointers point to. How deep to wipe is read from the machine code. The functions that recursion reaches become proved_deep_N: return addresses into their code are
-on the stack as deep as recursion went. An export that takes nothing has no secret, and stays as it is.
+pointers point to. How deep to wipe is read from the machine code. The functions that recursion reaches become proved_deep_N:
+return addresses into their code are on the stack as deep as recursion went. An export that takes nothing has no secret, and stays
+as it is.
 """
 import re
 import subprocess

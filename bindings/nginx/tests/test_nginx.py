@@ -244,7 +244,7 @@ class Requests(unittest.TestCase):
         self.assertEqual(self.admitted("/off", "no token"), "user=|seats=|roles=|admin=|kid=|status=")
         self.assertEqual(self.admitted("/optional", None), "user=|seats=|roles=|admin=|kid=|status=no_token")
         self.assertTrue(self.admitted("/optional", issue()).startswith("user=ada|"))
-        self.refused("/optional", "v4.local.AA", 401, "invalid_token: the footer of the token names no key of the ring")
+        self.refused("/optional", "v4.local.AA", 401, "invalid_token: No key has the id that the footer names")
 
     def test_statuses(self) -> None:
         """Of each refusal the answer, and its name."""
