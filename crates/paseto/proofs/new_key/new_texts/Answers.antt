@@ -1,6 +1,11 @@
-use Rattle.std.proofs.Common.{inr}
+use Rattle.std.proofs.Common.{inl, inr}
 use Rattle.std.proofs.lemmas.Result.{err_from_is_err_and}
 use Rattle.paseto.proofs.new_key.new_texts.Goals as goal
+
+pub returns-in_err-key-clause-refused : goal.returns-in_err-key-clause-refused
+returns-in_err-key-clause-refused g c =
+    let p = err_from_is_err_and c.from_residual.result c.from_residual.ensures.1 in
+    rw (p.1, p.2.1) (inl (_, c.in_err-key.ensures))
 
 pub returns-in_err-public-clause-refused : goal.returns-in_err-public-clause-refused
 returns-in_err-public-clause-refused g c =

@@ -1,0 +1,5 @@
+use Rattle.std.proofs.Common.{inl, inr, refl}
+use Rattle.paseto.proofs.locks.is_key.Goals as goal
+
+pub returns-in-None : goal.returns-in-None
+returns-in-None c = λ bare. elim bare [ inl pem ↦ c.if-begins_pem.ensures pem | inr known ↦ c.in-None.ensures.none refl known.0 known.1 known.2 ]
