@@ -193,7 +193,7 @@ counted 'locked keys, by key' "$work/by_key" locked "$work/locked.txt"
 counted 'keys in PEM, by key' "$work/by_key" pem "$work/pem.txt"
 counted 'each status, by key' "$work/by_key" faults
 build by_key -O1 -g
-counted 'each status, by key, under valgrind' valgrind -q --error-exitcode=9 --leak-check=full --errors-for-leak-kinds=all "$work/by_key" faults
+counted 'each status, by key, under valgrind' valgrind -q --error-exitcode=9 --leak-check=full --errors-for-leak-kinds=all "$work/by_key" faults quick
 build memory -O1 -g -Wl,--wrap=malloc,--wrap=realloc,--wrap=free
 counted 'each request for memory refused' "$work/memory"
 cp "$work/log" "$work/requests"

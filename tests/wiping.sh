@@ -1,8 +1,8 @@
 #!/usr/bin/env bash
 # Looks for what the library for C leaves in memory: for each call it searches the caller's memory and registers for pieces of
 # keys, of what is derived from them, and of texts (tests/wiping/scan.py), in the shared library, and in the static one, which
-# a program binds lazily. It also sees to it that the search finds something in a library that wipes its heap alone, and in one
-# that wipes its stack alone.
+# a program binds lazily. It also sees to it that wiping stops at the guard page of a stack that is too short, and that the search
+# finds something in a library that wipes its heap alone, and in one that wipes its stack alone.
 #
 #   tests/wiping.sh PREFIX
 #
@@ -48,6 +48,14 @@ scanned 'the shared library' "$work/calls" "$prefix/lib/libpaseto.so.1"
 mkdir "$work/static"
 build -rdynamic -Wl,-z,lazy -Wl,--whole-archive "$prefix/lib/libpaseto.a" -Wl,--no-whole-archive -o "$work/static/calls"
 scanned 'the static library' "$work/static/calls" -
+
+# On a stack that is too short for it.
+if cc -std=gnu11 -O2 -Wall -Wextra -Werror -pthread -I "$prefix/include" "$here/short_stack.c" "$prefix/lib/libpaseto.a" -o "$work/short_stack" >"$work/log" 2>&1 &&
+    "$work/short_stack" >"$work/log" 2>&1; then
+    passed=$((passed + $(sed -nE 's/^([0-9]+) passed, 0 failed$/\1/p' "$work/log")))
+else
+    fail "on short stacks: $(tail -n 5 "$work/log")"
+fi
 
 # Half of wiping is not enough, and is found out.
 for half in heap stack; do

@@ -8,7 +8,8 @@
    length bytes of code from low on in each window bytes. So as long as the window below has one it is wiped, too; and then
    after bytes more.
 
-   rsp is moved below what is wiped, so that no signal handler's frame is there. */
+   rsp is moved below what is wiped, so that no signal handler's frame is there. Each page on the way is touched, the upper ones
+   first: where a stack is too short, its guard page is met before anything below it is written. */
         .text
         .globl  proved_wipe
         .type   proved_wipe, @function
@@ -17,6 +18,14 @@ proved_wipe:
         endbr64
         movq    %rdi, %r11              /* status */
         movq    %rsp, %r10              /* where to return to */
+.Lpage:
+        cmpq    $4096, %rsi
+        jb      .Lrest
+        subq    $4096, %rsp
+        orq     $0, (%rsp)
+        subq    $4096, %rsi
+        jmp     .Lpage
+.Lrest:
         subq    %rsi, %rsp
         movq    %rdx, %rsi              /* low */
         testq   %rcx, %rcx

@@ -4,7 +4,7 @@
      by_key paserk FILE      rows VERSION TYPE KEY TEXT ID, keys as PASERK text
      by_key locked FILE      rows password|key VERSION TYPE KEY OPENER DRAWN TEXT, keys under a password or a wrapping key
      by_key pem FILE         the rows of pem_rows.py
-     by_key faults           each status by its name, and what needs no file
+     by_key faults [quick]   each status by its name, and what needs no file; quick leaves texts under passwords out
      by_key memory           each request for memory refused, where it is built with -DREFUSING; a line for each call has its name and
                              how many requests it makes
 
@@ -26,6 +26,8 @@
 enum { MOST = 8192, FIELDS = 8, BEYOND = 16 };
 
 static unsigned passed, failed;
+/* Texts under a password are left out: they cost seconds under valgrind. */
+static bool is_quick;
 
 static void check(bool holds, const char *what, const char *which) {
     if (holds) {
@@ -476,13 +478,13 @@ static void in_order(void) {
     REFUSES(issue_with, PASETO_UNEXPECTED);
     set(&claims, "{}");
     options.longest = 12;
-    check(is_refused_with(admit, PASETO_TOO_LONG, "A cipher error occurred: The token or its footer is longer than allowed"), "admit", "PASETO_TOO_LONG");
+    check(is_refused_with(admit, PASETO_TOO_LONG, "A paseto cipher error occurred: The token or its footer is longer than allowed"), "admit", "PASETO_TOO_LONG");
     options.longest = 13;
-    check(is_refused_with(admit, PASETO_FOOTER_INVALID, "A cipher error occurred: The provided footer is invalid"), "admit", "PASETO_FOOTER_INVALID");
+    check(is_refused_with(admit, PASETO_FOOTER_INVALID, "A paseto cipher error occurred: The provided footer is invalid"), "admit", "PASETO_FOOTER_INVALID");
     set(&text, "v4.local.AAAA.AAAA");
     options.longest = 0;
     options.longest_footer = 2;
-    check(is_refused_with(admit, PASETO_TOO_LONG, "A cipher error occurred: The token or its footer is longer than allowed"), "admit", "a long footer");
+    check(is_refused_with(admit, PASETO_TOO_LONG, "A paseto cipher error occurred: The token or its footer is longer than allowed"), "admit", "a long footer");
     set(&text, "v4.local");
     REFUSES(decrypt, PASETO_INCORRECT_SIZE);
     REFUSES(token_footer, PASETO_INCORRECT_SIZE);
@@ -524,7 +526,7 @@ static void tokens(void) {
         set(&claims, "{}");
         check(gives(admit, GIVEN(wanted)), "what was issued is admitted", "");
         set(&claims, "{\"aud\":\"others\"}");
-        check(is_refused_with(admit, PASETO_INVALID, "The claim 'aud' failed validation.  Expected 'others' but received 'customers'"), "admit", "PASETO_INVALID");
+        check(is_refused_with(admit, PASETO_INVALID, "The claim 'aud' failed validation.  Expected 'customers' but received 'others'"), "admit", "PASETO_INVALID");
         set(&claims, "{\"jti\":\"1\"}");
         check(is_refused_with(admit, PASETO_MISSING, "The expected claim 'jti' was not found in the payload"), "admit", "PASETO_MISSING");
         set(&claims, "{\"aud\":1}");
@@ -632,7 +634,7 @@ static void rings(void) {
             options.longest_footer = named.length;
             check(gives(admit_by, wanted, strlen(wanted)), "a ring admits", "a footer of the limit");
             options.longest_footer--;
-            check(is_refused_with(admit_by, PASETO_TOO_LONG, "A cipher error occurred: The token or its footer is longer than allowed"), "admit_by", "a long footer");
+            check(is_refused_with(admit_by, PASETO_TOO_LONG, "A paseto cipher error occurred: The token or its footer is longer than allowed"), "admit_by", "a long footer");
             options.longest_footer = 0;
             options.longest = text.length - 1;
             REFUSES(admit_by, PASETO_TOO_LONG);
@@ -643,7 +645,7 @@ static void rings(void) {
                 assertion.length = 0;
             }
             set(&claims, "{\"sub\":\"Eve\"}");
-            check(is_refused_with(admit_by, PASETO_INVALID, "The claim 'sub' failed validation.  Expected 'Eve' but received 'Ada'"), "admit_by", "PASETO_INVALID");
+            check(is_refused_with(admit_by, PASETO_INVALID, "The claim 'sub' failed validation.  Expected 'Ada' but received 'Eve'"), "admit_by", "PASETO_INVALID");
             set(&claims, "{}");
             ring[2].bytes[1] ^= 1;
             ring[1].bytes[1] ^= 1;
@@ -758,6 +760,7 @@ static void new_keys(void) {
             REFUSES(sign_with, PASETO_KEY_REJECTED);
         }
         /* Under a password, a private key. */
+        if (is_quick) continue;
         reset();
         key = halved;
         keep(key_protect_with);
@@ -818,7 +821,7 @@ static void key_faults(void) {
     REFUSES(key_text, PASETO_INVALID_KEY);
     REFUSES(key_pem, PASETO_INVALID_KEY);
     key.bytes[0] ^= 1;
-    key.bytes[320] ^= 1;
+    key.bytes[key.length - 1] ^= 1;
     REFUSES(sign_with, PASETO_RSA_CIPHER);
     (void)token;
     reset();
@@ -848,8 +851,10 @@ static void drawing(void) {
     key = half;
     check(gives(verify, GIVEN(plain)), "what an inline call signed", "");
     reset();
-    check(paseto_key_protect(&pair, "secret", 6, given.at, MOST, &given.length, PASETO_NO_REASON) == PASETO_OK, "an inline call protects", "");
-    check(makes(key_unlock, &pair), "what an inline call protected", "");
+    if (!is_quick) {
+        check(paseto_key_protect(&pair, "secret", 6, given.at, MOST, &given.length, PASETO_NO_REASON) == PASETO_OK, "an inline call protects", "");
+        check(makes(key_unlock, &pair), "what an inline call protected", "");
+    }
     check(paseto_key_wrap(&pair, &other, given.at, MOST, &given.length, PASETO_NO_REASON) == PASETO_OK, "an inline call wraps", "");
     check(makes(key_unwrap, &pair), "what an inline call wrapped", "");
     check(paseto_key_seal(&key, &half, given.at, MOST, &given.length, PASETO_NO_REASON) == PASETO_OK, "an inline call seals", "");
@@ -968,7 +973,8 @@ static void memory(void) {
 
 int main(int count, char **words) {
     static char row[8 * MOST];
-    if (count == 2 && strcmp(words[1], "faults") == 0) {
+    is_quick = count == 3 && strcmp(words[2], "quick") == 0;
+    if ((count == 2 || is_quick) && strcmp(words[1], "faults") == 0) {
         faults();
         printf("%u passed, %u failed\n", passed, failed);
         return failed > 0;
