@@ -915,7 +915,7 @@ printf hello >in
 "$program" seal --key v4.local --to v4.public >sealed
 "$program" wrap --key v4.local --wrapping-key other.local >wrapped
 commands='keygen v4.local
-keygen v3.public
+keygen v3.public --quiet
 public --key v4.secret
 id --key v4.local
 wrap --key v4.local --wrapping-key other.local
