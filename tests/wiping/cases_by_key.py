@@ -11,6 +11,8 @@ import subprocess
 
 from derived import of_ed25519, of_local, of_p384, of_password, of_rsa, of_sealing, of_wrapping, pae
 
+# Which declares the calls.
+HEADER = "paseto_keys.h"
 RANDOM = random.Random(7)
 NOW = 1_700_000_000 * 10**9
 OK, CRYPTION, CHACHA, EXPIRED, INVALID, WRONG_KEY = 0, 12, 13, 20, 25, 43

@@ -10,6 +10,8 @@ import subprocess
 
 from derived import of_ed25519, of_local, of_p384, of_rsa, pae
 
+# Which declares the calls.
+HEADER = "paseto.h"
 RANDOM = random.Random(7)
 NOW = 1_700_000_000
 OK, CRYPTION, CHACHA, EXPIRED, INVALID = 0, 12, 13, 20, 25

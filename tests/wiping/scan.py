@@ -1,5 +1,6 @@
 #!/usr/bin/env python3
-"""Looks for secrets in the memory of a process after one call of the library, for each call of the files cases_*.py.
+"""Looks for secrets in the memory of a process after one call of the library, for each call of the files cases_*.py whose header
+is there.
 
     scan.py CALLS LIBRARY [WORD]
 
@@ -158,7 +159,8 @@ class Stream:
     """The calls of all files, which are sent what the last one left in its buffers."""
 
     def __init__(self):
-        self.files = [importlib.import_module(it.stem).cases() for it in sorted(HERE.glob("cases_*.py"))]
+        files = [importlib.import_module(it.stem) for it in sorted(HERE.glob("cases_*.py"))]
+        self.files = [it.cases() for it in files if (ROOT / "c" / it.HEADER).exists()]
         self.sent = None
 
     def __iter__(self):
