@@ -427,7 +427,7 @@ done <<'LIST'
 3|unseal --key wrapped.4|wrapped.4: the key is not sealed: use paseto unwrap
 3|encrypt --key nothing|nothing: it is empty, and holds no key
 3|encrypt --key two|two: line 2: a key file has one line of PASERK, or is PEM
-1|encrypt --key long|long: too long for a key file
+3|encrypt --key long|long: too long for a key file
 1|encrypt --key office binary|binary: A Utf8 parsing error occurred
 1|decrypt --key local.4 --footer id letter|letter: wrong key, wrong footer or assertion, or the token was changed
 1|decrypt --key office letter|letter: The provided footer is invalid
