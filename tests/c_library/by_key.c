@@ -269,10 +269,12 @@ static void locked(char **fields) {
     bool by_password = strcmp(fields[0], "password") == 0;
     unsigned version = (unsigned)atoi(fields[1]);
     struct paseto_key wanted = key_of(version, type_of(fields[2]), fields[3]);
+    /* What is locked in the rows of private keys of version 1 is no key of RSA. */
+    bool is_key = version != 1 || wanted.type != PASETO_KEY_PRIVATE;
     set(&given, fields[6]);
     if (by_password) {
         set_hex(&password, fields[4]);
-        check(makes(key_unlock, &wanted), "a key under a password", fields[6]);
+        check(is_key ? makes(key_unlock, &wanted) : makes_none(key_unlock, PASETO_INVALID_KEY), "a key under a password", fields[6]);
         check(makes_none(key_read, PASETO_NEEDS_PASSWORD), "no password", fields[6]);
         password.at[password.length++] = 'x';
         check(makes_none(key_unlock, PASETO_WRONG_KEY), "a wrong password", fields[6]);
@@ -281,11 +283,11 @@ static void locked(char **fields) {
         check(makes_none(key_unwrap, PASETO_NEEDS_PASSWORD), "a key in place of a password", fields[6]);
     } else {
         other = key_of(version, PASETO_KEY_LOCAL, fields[4]);
-        check(makes(key_unwrap, &wanted), "a key under a wrapping key", fields[6]);
+        check(is_key ? makes(key_unwrap, &wanted) : makes_none(key_unwrap, PASETO_INVALID_KEY), "a key under a wrapping key", fields[6]);
         check(makes_none(key_read, PASETO_NEEDS_KEY), "no wrapping key", fields[6]);
         set_hex(&drawn, fields[5]);
         key = wanted;
-        check(gives(key_wrap_with, GIVEN(given)), "a key is wrapped", fields[6]);
+        check(is_key ? gives(key_wrap_with, GIVEN(given)) : is_refused(key_wrap_with, PASETO_INVALID_KEY), "a key is wrapped", fields[6]);
         drawn.length = 31;
         check(is_refused(key_wrap_with, PASETO_INVALID_NONCE), "too few random bytes", fields[6]);
         other.bytes[0] ^= 1;
@@ -311,7 +313,8 @@ static void pem(char **fields) {
     memcpy(given.at, content, length);
     given.length = length;
     unsigned version = (unsigned)atoi(fields[no_key ? 2 : 1]), type = (unsigned)atoi(fields[no_key ? 3 : 2]);
-    if (version == 2 || (no_key && version == 0)) return;
+    /* Keys of version 2 are read as those of version 4, and texts in PASERK are no PEM. */
+    if (version == 2 || (no_key && version == 0) || memcmp(content, "-----", 5) != 0) return;
     if (no_key) {
         struct paseto_key made;
         paseto_status status = paseto_key_read(GIVEN(given), &made, PASETO_NO_REASON);
