@@ -313,7 +313,7 @@ class Requests(unittest.TestCase):
         # A token is admitted at once, with a leeway and without.
         for _ in range(3):
             time.sleep(1.05 - time.time() % 1)
-            fresh = paseto.issue(LOCAL, {"nbf": datetime.now(timezone.utc)}, footer=paseto.key_footer(KID))
+            fresh = paseto.issue(LOCAL, {"nbf": datetime.now(timezone.utc).replace(microsecond=0)}, footer=paseto.key_footer(KID))
             self.admitted("/on", fresh)
             self.admitted("/strict", fresh)
         # A clock that is five seconds ahead: the leeway of a minute covers it, and none does not.
