@@ -52,9 +52,8 @@ enum {
     PASETO_INVALID_SIGNATURE = 14,     /* an invalid signature */
     PASETO_UTF8_ERROR = 15,            /* the decrypted text, or the token's footer, is not UTF-8 */
     PASETO_FROM_UTF8_ERROR = 16,       /* the signed text is not UTF-8 */
-    /* rejected private keys */
-    PASETO_KEY_REJECTED = 17, /* not a valid private key */
-    PASETO_SIGNATURE = 18,    /* its two halves do not belong together */
+    PASETO_KEY_REJECTED = 17,          /* not a valid private key */
+    PASETO_SIGNATURE = 18,             /* its two halves do not belong together */
     /* rejected claims */
     PASETO_PAYLOAD_JSON_ERROR = 19,   /* the payload is not JSON */
     PASETO_EXPIRED = 20,              /* exp has been reached */
@@ -65,21 +64,31 @@ enum {
     PASETO_INVALID = 25,              /* an expected claim has another text */
     PASETO_DUPLICATE = 26,            /* a claim was set twice; the members of one JSON object never are */
     PASETO_OTHER = 27,                /* no call returns it */
-    /* added later */
-    PASETO_RSA_CIPHER = 28, /* the numbers of a version 1 private key are inconsistent */
-    PASETO_TOO_LONG = 29,   /* the token is longer than the limit */
-    PASETO_NOT_NAMES = 30,  /* the required names are not a JSON array of strings */
-    /* rejected keys as text */
-    PASETO_NO_PASERK = 31,     /* the text does not begin as a PASERK key */
-    PASETO_OTHER_VERSION = 32, /* a key of another version */
-    PASETO_OTHER_TYPE = 33,    /* a key of another type (local, private or public) */
-    /* rejected keys in PEM */
+    PASETO_RSA_CIPHER = 28,           /* the numbers of a version 1 private key are inconsistent */
+    PASETO_TOO_LONG = 29,             /* the token is longer than the limit */
+    PASETO_NOT_NAMES = 30,            /* the required names are not a JSON array of strings */
+    /* rejected texts of keys */
+    PASETO_NO_PASERK = 31,       /* the text does not begin as a PASERK key */
+    PASETO_OTHER_VERSION = 32,   /* a key of another version */
+    PASETO_OTHER_TYPE = 33,      /* a key of another type (local, private or public) */
     PASETO_NOT_PEM = 34,         /* not PEM in the strict form of RFC 7468, or not with the label of a key */
     PASETO_ENCRYPTED_KEY = 35,   /* the key is encrypted */
     PASETO_OTHER_LABEL = 36,     /* PEM with another label, for example a public key in place of a private one */
     PASETO_OTHER_ALGORITHM = 37, /* a key of another algorithm */
     PASETO_OTHER_CURVE = 38,     /* a key of another curve */
-    PASETO_OTHER_SIZE = 39       /* an RSA key of another size */
+    PASETO_OTHER_SIZE = 39,      /* an RSA key of another size */
+    /* of keys, options and footers */
+    PASETO_NO_ASSERTION = 40,      /* an implicit assertion, which versions 1 and 2 do not have */
+    PASETO_NEEDS_PASSWORD = 41,    /* the key is under a password */
+    PASETO_NEEDS_KEY = 42,         /* the key is wrapped or sealed */
+    PASETO_WRONG_KEY = 43,         /* a wrong password or key, or a modified text */
+    PASETO_TOO_COSTLY = 44,        /* the password asks for more work than is allowed */
+    PASETO_INVALID_OPTIONS = 45,   /* the options have another size */
+    PASETO_NO_FOOTER = 46,         /* the token has no footer */
+    PASETO_FOOTER_NOT_OBJECT = 47, /* the footer is not a JSON object */
+    PASETO_NO_KEY_ID = 48,         /* the footer has no string under kid */
+    PASETO_UNKNOWN_KEY = 49,       /* no key has the id that the footer names */
+    PASETO_RANDOM = 50             /* the system has no random bytes: of the inline calls alone */
 };
 
 /* Draws secret random bytes for nonces, seeds and salts, by getrandom(2), which blocks only until the system has

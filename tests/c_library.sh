@@ -71,8 +71,8 @@ if python3 "$here/exports.py" "$root/crates/paseto_c/src" >"$work/exports" 2>"$w
 else
     fail "exports: $(cat "$work/log")"
 fi
-grep -oE '^(paseto_status|uint32_t) paseto_\w+' "$root/c/paseto.h" | cut -d' ' -f2 | sort >"$work/declared"
-check 'paseto.h declares the exports' diff "$work/exports" "$work/declared"
+grep -ohE '^(paseto_status|uint32_t|void) paseto_\w+' "$root/c/paseto.h" "$root/c/paseto_keys.h" | cut -d' ' -f2 | sort -u >"$work/declared"
+check 'the headers declare the exports' diff "$work/exports" "$work/declared"
 
 # ---- the library
 
@@ -85,7 +85,7 @@ else
         finish
     fi
 fi
-for file in lib/libpaseto.a lib/libpaseto.so lib/libpaseto.so.1 lib/pkgconfig/paseto.pc include/paseto.h; do
+for file in lib/libpaseto.a lib/libpaseto.so lib/libpaseto.so.1 lib/pkgconfig/paseto.pc include/paseto.h include/paseto_keys.h; do
     if [ -s "$prefix/$file" ]; then pass; else fail "c/build.sh installs no $file"; fi
 done
 while read -r name; do
@@ -105,10 +105,12 @@ check 'libpaseto.so needs memory alone' diff "$work/needed" <(printf '%s\n' free
 # ---- the header
 
 strict=(-Wall -Wextra -Werror -Wpedantic -I "$prefix/include")
-printf '#include <paseto.h>\nint main(void) { return PASETO_OK; }\n' >"$work/header.c"
-check 'paseto.h is C99' cc -std=c99 "${strict[@]}" -o "$work/header" "$work/header.c"
-check 'paseto.h is C11' cc -std=c11 "${strict[@]}" -o "$work/header" "$work/header.c"
-check 'paseto.h is C++' c++ -std=c++11 -x c++ "${strict[@]}" -o "$work/header" "$work/header.c"
+for header in paseto paseto_keys; do
+    printf '#include <%s.h>\nint main(void) { return PASETO_OK; }\n' "$header" >"$work/header.c"
+    check "$header.h is C99" cc -std=c99 "${strict[@]}" -o "$work/header" "$work/header.c"
+    check "$header.h is C11" cc -std=c11 "${strict[@]}" -o "$work/header" "$work/header.c"
+    check "$header.h is C++" c++ -std=c++11 -x c++ "${strict[@]}" -o "$work/header" "$work/header.c"
+done
 
 # build NAME OPTION..: a driver over the static library.
 build() {
@@ -171,10 +173,35 @@ build pem -O1 -g -fsanitize=address,undefined -fno-sanitize-recover=all
 mkdir "$work/texts"
 if python3 "$here/pem_rows.py" "$work/texts" >"$work/pem.txt" 2>"$work/log"; then pass; else fail "pem_rows.py: $(tail -n 3 "$work/log")"; fi
 counted 'keys in PEM that OpenSSL made' "$work/pem" "$work/pem.txt"
+# The calls by keys that know their version and type.
+build by_key -O1 -g -fsanitize=address,undefined -fno-sanitize-recover=all
+counted 'published tokens, by key' "$work/by_key" published "$root/crates/test_rows/data/published.txt"
+counted 'keys as text, by key' "$work/by_key" paserk "$work/keys.txt"
+python3 - "$root/crates/test_vectors/src/wrapping/rows.rt" >"$work/locked.txt" <<'END'
+import re, sys
+text = open(sys.argv[1]).read()
+row = r'\(\s*(\d),\s*"(\w+)",\s*"([^"]+)",\s*"([^"]*)",\s*(?:\([^)]*\),\s*)?"([^"]+)",\s*(?:"([^"]+)",\s*)?"(k\d\.[^"]+)",\s*\)'
+for version, kind, key, opener, drawn, nonce, locked in re.findall(row, text):
+    print("password" if nonce else "key", version, kind, key, opener or "-", drawn + nonce, locked)
+END
+if [ "$(wc -l <"$work/locked.txt")" -eq "$(grep -cE '"k[1-4]\.(local|secret)-(pw|wrap)\.' "$root/crates/test_vectors/src/wrapping/rows.rt")" ]; then
+    pass
+else
+    fail 'not all rows of locked keys are read'
+fi
+counted 'locked keys, by key' "$work/by_key" locked "$work/locked.txt"
+counted 'keys in PEM, by key' "$work/by_key" pem "$work/pem.txt"
+counted 'each status, by key' "$work/by_key" faults
+build by_key -O1 -g
+counted 'each status, by key, under valgrind' valgrind -q --error-exitcode=9 --leak-check=full --errors-for-leak-kinds=all "$work/by_key" faults quick
 build memory -O1 -g -Wl,--wrap=malloc,--wrap=realloc,--wrap=free
 counted 'each request for memory refused' "$work/memory"
-sed -nE 's/^(paseto_\w+) [0-9]+$/\1/p' "$work/log" | sort >"$work/asked"
-check 'memory.c asks each export' diff "$work/exports" "$work/asked"
+cp "$work/log" "$work/requests"
+build by_key -O1 -g -DREFUSING -Wl,--wrap=malloc,--wrap=realloc,--wrap=free
+counted 'each request for memory refused, by key' "$work/by_key" memory
+cat "$work/log" >>"$work/requests"
+sed -nE 's/^(paseto_\w+) [0-9]+$/\1/p' "$work/requests" | sort >"$work/asked"
+check 'memory.c and by_key.c ask each export' diff "$work/exports" "$work/asked"
 build threads -O2 -pthread
 check 'four threads at once' "$work/threads" "${THREAD_SECONDS:-60}" 4
 echo "four threads at once: $(tail -n 1 "$work/log")"

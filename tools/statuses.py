@@ -4,8 +4,8 @@
     python3 tools/statuses.py
     python3 tools/statuses.py --check
 
-It writes the statuses of c/paseto.h, the exceptions of bindings/python/src/paseto/_errors.py and the reasons of
-bindings/go/reasons.go between the lines that mark them. --check writes nothing: it compares them with the table, and the numbers of the table with those that the crate
+It writes the statuses of c/paseto.h, the exceptions of bindings/python/src/paseto/_errors.py, the reasons of
+bindings/go/reasons.go and the faults of bindings/rust/src/library.rs between the lines that mark them. --check writes nothing: it compares them with the table, and the numbers of the table with those that the crate
 paseto_calls is proved to answer. The last line is then 'N passed, M failed'.
 """
 import os
@@ -16,8 +16,10 @@ import textwrap
 ROOT = os.path.dirname(os.path.dirname(os.path.abspath(__file__)))
 TABLE = f"{ROOT}/c/statuses.txt"
 HEADER = f"{ROOT}/c/paseto.h"
+KEYS_HEADER = f"{ROOT}/c/paseto_keys.h"
 PYTHON = f"{ROOT}/bindings/python/src/paseto/_errors.py"
 GO = f"{ROOT}/bindings/go/reasons.go"
+RUST = f"{ROOT}/bindings/rust/src/library.rs"
 SOURCE = f"{ROOT}/crates/paseto_calls/src/refusal.rt"
 DEFINITION = f"{ROOT}/crates/paseto_calls/specs/Refusal.antt"
 # What Python calls those whose names it has for other things.
@@ -87,8 +89,14 @@ def go():
              for number, name, _, _, text in found]
     refused = "".join(f"\n\t\tErr{row[1]}," for row in found if row[3] in ("Refused", "Forbidden"))
     return "\n".join(["const (", *lines, ")", "", "// isOfToken tells whether the fault lies in the token.",
-                      "func (r Reason) isOfToken() bool {", "\tswitch r {", f"\tcase{refused}", "\t\tErrUnknownKey,", "\t\tErrRevoked:",
+                      "func (r Reason) isOfToken() bool {", "\tswitch r {", f"\tcase{refused}", "\t\tErrRevoked:",
                       "\t\treturn true", "\t}", "\treturn false", "}", ""]).replace("\tcase\n\t\t", "\tcase ")
+
+
+def rust():
+    """The faults of the crate for Rust; the last status and the one that no call returns have other names there."""
+    found = [row for row in rows() if isinstance(row, tuple) and row[3] and row[1] not in ("Other", "Random")]
+    return "\n".join(["faults! {", *(f"    {number} = {name}," for number, name, *_ in found), "}"])
 
 
 def between(path, first, last):
@@ -101,7 +109,9 @@ def between(path, first, last):
 
 PLACES = [
     (HEADER, "/* The statuses, from c/statuses.txt: */\n", "\n\n/* Draws secret random bytes", header),
+    (KEYS_HEADER, "/* The statuses, from c/statuses.txt: */\n", "\n\n/* The moment by the system's clock", header),
     (GO, "// The reasons of the library, from c/statuses.txt:\n", "\n// Beside the reasons of the library", go),
+    (RUST, "// The statuses, from c/statuses.txt:\n", "\n\n/// Why a token was refused", rust),
     (PYTHON, "# ---- the statuses, from c/statuses.txt\n\n\n", "\n\n# ---- other faults\n", python),
 ]
 

@@ -30,10 +30,7 @@ func (e *Error) Is(target error) bool {
 
 // Error is the text of a reason, which holds nothing of a token.
 func (r Reason) Error() string {
-	switch r {
-	case ErrUnknownKey:
-		return "the footer of the token names no key of the ring"
-	case ErrRevoked:
+	if r == ErrRevoked {
 		return "the token was revoked"
 	}
 	return statusText(uint8(r))

@@ -1,11 +1,6 @@
 package paseto
 
-import (
-	"bytes"
-	"crypto/rand"
-	"crypto/subtle"
-	"fmt"
-)
+import "fmt"
 
 // KeyType is what a key does.
 type KeyType uint8
@@ -40,20 +35,25 @@ func hiddenOr(held *material, err error) (Key, error) {
 	return hidden(held), nil
 }
 
-// material is what a key is made of.
-type material struct {
-	version uint8
-	kind    KeyType
-	bytes   []byte
+// ParseKey reads a key from PASERK text, as in the files of `paseto keygen`, which may end in one newline, or from PEM, as
+// openssl writes it: an Ed25519 key is read as version 4, a P-384 key as version 3, and an RSA key as version 1. A key that is
+// locked is refused with ErrNeedsPassword or ErrNeedsKey.
+func ParseKey(text []byte) (Key, error) {
+	return hiddenOr(keyOf(text))
 }
 
-// ParseKey reads a key from PASERK text, as in the files of `paseto keygen`, which may end in one newline, or from PEM, as
-// openssl writes it: an Ed25519 key is read as version 4, a P-384 key as version 3, and an RSA key as version 1.
-func ParseKey(text []byte) (Key, error) {
-	if !bytes.HasPrefix(text, []byte("-----BEGIN")) {
-		text = bytes.TrimSuffix(text, []byte("\n"))
+// UnlockKey reads a key that is under a password, k4.local-pw.. or k4.secret-pw..; with a wrong one it is ErrWrongKey.
+func UnlockKey(text, password []byte) (Key, error) {
+	return hiddenOr(unlocked(text, password))
+}
+
+// UnwrapKey reads a key that another one opens: k4.local-wrap.. or k4.secret-wrap.. with the local key that wrapped it, or
+// k4.seal.. with the private key of the public one that it was sealed to. With another key it is ErrWrongKey.
+func UnwrapKey(text []byte, opener Key) (Key, error) {
+	if opener.held == nil {
+		return Key{}, wrong("there is no key")
 	}
-	return hiddenOr(keyOf(text))
+	return hiddenOr(unwrapped(text, opener.held()))
 }
 
 // GenerateKey draws a new local or private key. Those that sign in version 1 are made by openssl.
@@ -64,14 +64,7 @@ func GenerateKey(kind KeyType, version int) (Key, error) {
 	if kind == Private && version == 1 {
 		return Key{}, wrong("a private key of version 1 is made by openssl genpkey")
 	}
-	if kind == Private {
-		return hiddenOr(generate(uint8(version)))
-	}
-	drawn := make([]byte, 32)
-	if _, err := rand.Read(drawn); err != nil {
-		return Key{}, &Error{Reason: ErrNoRandom}
-	}
-	return hidden(&material{uint8(version), Local, drawn}), nil
+	return hiddenOr(generate(version, kind))
 }
 
 // Version is the version of tokens that the key is for, or 0 for the zero Key.
@@ -79,7 +72,7 @@ func (k Key) Version() int {
 	if k.held == nil {
 		return 0
 	}
-	return int(k.held().version)
+	return k.held().version()
 }
 
 // Type is what the key does, or 0 for the zero Key.
@@ -87,7 +80,7 @@ func (k Key) Type() KeyType {
 	if k.held == nil {
 		return 0
 	}
-	return k.held().kind
+	return k.held().kind()
 }
 
 // Format shows the type and the version of a key, for every verb.
@@ -100,9 +93,7 @@ func (k Key) Equal(other Key) bool {
 	if k.held == nil || other.held == nil {
 		return k.held == nil && other.held == nil
 	}
-	one, two := k.held(), other.held()
-	isSame := subtle.ConstantTimeCompare(one.bytes, two.bytes) == 1
-	return isSame && one.version == two.version && one.kind == two.kind
+	return k.held().isSame(other.held())
 }
 
 // PASERK is the key as text, k4.local.., to store it. A key pair of version 1 has none.

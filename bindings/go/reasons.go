@@ -40,6 +40,17 @@ const (
 	ErrOtherAlgorithm                Reason = 37 // the key in PEM is of another algorithm
 	ErrOtherCurve                    Reason = 38 // the key in PEM is of another curve
 	ErrOtherSize                     Reason = 39 // the key in PEM is an RSA key of another size than 2048 bits
+	ErrNoAssertion                   Reason = 40 // tokens of versions 1 and 2 have no implicit assertion
+	ErrNeedsPassword                 Reason = 41 // the key is under a password
+	ErrNeedsKey                      Reason = 42 // the key is wrapped or sealed
+	ErrWrongKey                      Reason = 43 // the password or the key is a wrong one, or the text was modified
+	ErrTooCostly                     Reason = 44 // the password of the key asks for more work than is allowed
+	ErrInvalidOptions                Reason = 45 // the library is of another version than the package
+	ErrNoFooter                      Reason = 46 // the token has no footer
+	ErrFooterNotObject               Reason = 47 // the footer of the token is not a JSON object
+	ErrNoKeyId                       Reason = 48 // the footer of the token has no string under kid
+	ErrUnknownKey                    Reason = 49 // the footer of the token names no key, or a key that is not in the ring
+	ErrRandom                        Reason = 50 // the system has no random bytes
 )
 
 // isOfToken tells whether the fault lies in the token.
@@ -64,6 +75,9 @@ func (r Reason) isOfToken() bool {
 		ErrUnexpected,
 		ErrInvalid,
 		ErrTooLong,
+		ErrNoFooter,
+		ErrFooterNotObject,
+		ErrNoKeyId,
 		ErrUnknownKey,
 		ErrRevoked:
 		return true
@@ -71,9 +85,8 @@ func (r Reason) isOfToken() bool {
 	return false
 }
 
-// Beside the reasons of the library: a ring without the key, a token that was revoked, and no random bytes.
+// Beside the reasons of the library: a token that was revoked. No random bytes have two names.
 const (
-	ErrUnknownKey Reason = 200
-	ErrRevoked    Reason = 201
-	ErrNoRandom   Reason = statusNoRandom
+	ErrRevoked  Reason = 201
+	ErrNoRandom Reason = ErrRandom
 )

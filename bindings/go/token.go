@@ -43,7 +43,7 @@ func (k Key) Issue(claims any, options ...Option) (string, error) {
 	}
 	var token []byte
 	if _, expires := members["exp"]; expires {
-		token, err = build(k.held(), text, made.now.Unix(), to)
+		token, err = build(k.held(), text, made.now, to)
 	} else {
 		// The library would add an exp.
 		token, err = write(k.held(), text, to)
@@ -92,7 +92,7 @@ func (made *settings) admitted(key Key, token string) (json.RawMessage, error) {
 			return nil, err
 		}
 	}
-	claims, err := parse(key.held(), []byte(token), made.now.Unix(), to, asked)
+	claims, err := parse(key.held(), []byte(token), made.now, to, asked)
 	return claims, of(err, made.expected)
 }
 

@@ -4,16 +4,14 @@
 #include <ngx_http.h>
 
 #include "paseto_json.h"
-#include "paseto_keys.h"
+#include "paseto_key_files.h"
 
 #define OFF 0
 #define ON 1
 #define OPTIONAL 2
 
-/* Beside the statuses of the library: no token, and a footer that names no key of the ring. */
+/* Beside the statuses of the library: no token. */
 #define NO_TOKEN 240
-#define UNKNOWN_KEY 241
-#define UNKNOWN_KEY_TEXT "the footer of the token names no key of the ring"
 
 /* Room for what the library says of a refusal. */
 #define LINE 512
@@ -34,7 +32,7 @@ typedef struct {
 
 typedef struct {
     location_t *location; /* whose directives were applied */
-    ngx_uint_t status;    /* a paseto_status, NO_TOKEN or UNKNOWN_KEY */
+    ngx_uint_t status;    /* a paseto_status or NO_TOKEN */
     ngx_str_t claims;
     ngx_str_t kid;
 } outcome_t;
@@ -42,11 +40,6 @@ typedef struct {
 extern ngx_module_t ngx_http_paseto_module;
 
 /* ---- a token */
-
-static any_bytes lent(ngx_str_t *text) {
-    any_bytes bytes = { text->data, text->len };
-    return bytes;
-}
 
 /* A line for the log: what a token holds may have newlines. A text that has none is not written to. */
 static void one_line(ngx_str_t *text) {
@@ -86,7 +79,7 @@ static ngx_str_t name_of(ngx_uint_t status) {
         { PASETO_INVALID, ngx_string("invalid") },
         { PASETO_TOO_LONG, ngx_string("too_long") },
         { NO_TOKEN, ngx_string("no_token") },
-        { UNKNOWN_KEY, ngx_string("unknown_key") },
+        { PASETO_UNKNOWN_KEY, ngx_string("unknown_key") },
     };
     static const ngx_str_t other = ngx_string("error");
     ngx_uint_t i;
@@ -104,7 +97,7 @@ static ngx_int_t answer_of(ngx_uint_t status) {
     static const u_char refused[] = { PASETO_NOT_UTF8, PASETO_NOT_OBJECT, PASETO_INCORRECT_SIZE, PASETO_FOOTER_INVALID, PASETO_WRONG_HEADER,
         PASETO_PAYLOAD_BASE64_DECODE, PASETO_CRYPTION, PASETO_CHACHA_CIPHER_ERROR, PASETO_INVALID_SIGNATURE, PASETO_UTF8_ERROR,
         PASETO_FROM_UTF8_ERROR, PASETO_PAYLOAD_JSON_ERROR, PASETO_EXPIRED, PASETO_USE_BEFORE_AVAILABLE, PASETO_RFC3339_DATE,
-        PASETO_MISSING, PASETO_UNEXPECTED, PASETO_TOO_LONG, NO_TOKEN, UNKNOWN_KEY };
+        PASETO_MISSING, PASETO_UNEXPECTED, PASETO_TOO_LONG, NO_TOKEN, PASETO_UNKNOWN_KEY };
 
     if (status == PASETO_OK) {
         return NGX_OK;
@@ -140,7 +133,6 @@ static ngx_int_t token_of(ngx_http_request_t *r, location_t *location, ngx_str_t
 /* The footer of a token, and the key that reads it: the only one, or the one that the footer names. */
 static ngx_uint_t key_of(ngx_http_request_t *r, location_t *location, ngx_str_t *token, ngx_str_t *footer, paseto_key_t **key) {
     static ngx_str_t kid = ngx_string("kid");
-    any_room room;
     ngx_str_t value, id;
     paseto_status status;
 
@@ -153,10 +145,7 @@ static ngx_uint_t key_of(ngx_http_request_t *r, location_t *location, ngx_str_t 
     if (footer->data == NULL) {
         return PASETO_MEMORY;
     }
-    room.at = footer->data;
-    room.length = token->len;
-    room.written = &footer->len;
-    status = paseto_footer(token->data, token->len, ROOM(room));
+    status = paseto_token_footer(token->data, token->len, footer->data, token->len, &footer->len, PASETO_NO_REASON);
     if (status != PASETO_OK || !location->keys->is_ring) {
         return status;
     }
@@ -166,27 +155,26 @@ static ngx_uint_t key_of(ngx_http_request_t *r, location_t *location, ngx_str_t 
     case NGX_OK:
         if (paseto_json_text(r->pool, &value, &id) == NGX_OK) {
             *key = paseto_keys_find(location->keys, &id);
-            return *key == NULL ? UNKNOWN_KEY : PASETO_OK;
+            return *key == NULL ? PASETO_UNKNOWN_KEY : PASETO_OK;
         }
     }
-    return UNKNOWN_KEY;
+    return PASETO_UNKNOWN_KEY;
 }
 
 /* The jti of a token that is authentic, and whose claims were refused; empty where it has none. */
-static ngx_str_t jti_of(ngx_http_request_t *r, any_key key, ngx_str_t *token, any_bytes footer, any_bytes assertion) {
+static ngx_str_t jti_of(ngx_http_request_t *r, struct paseto_key *key, ngx_str_t *token, ngx_str_t *footer, ngx_str_t *assertion) {
     static ngx_str_t name = ngx_string("jti");
     ngx_str_t text, value, jti, none = ngx_string("none");
-    any_room room;
+    paseto_status status;
 
     text.data = ngx_pnalloc(r->pool, token->len);
     if (text.data == NULL) {
         return none;
     }
-    room.at = text.data;
-    room.length = token->len;
-    room.written = &text.len;
-    if (any_key_read(key, lent(token), footer, assertion, room) != PASETO_OK
-        || paseto_json_member(r->pool, &text, &name, 0, &value) != NGX_OK || paseto_json_text(r->pool, &value, &jti) != NGX_OK)
+    status = (key->type == PASETO_KEY_LOCAL ? paseto_decrypt : paseto_verify)(key, token->data, token->len, footer->data, footer->len,
+                                                                              assertion->data, assertion->len, text.data, token->len,
+                                                                              &text.len, PASETO_NO_REASON);
+    if (status != PASETO_OK || paseto_json_member(r->pool, &text, &name, 0, &value) != NGX_OK || paseto_json_text(r->pool, &value, &jti) != NGX_OK)
     {
         return none;
     }
@@ -224,9 +212,12 @@ static ngx_uint_t admit(ngx_http_request_t *r, location_t *location, ngx_str_t *
     size_t told = 0;
     paseto_key_t *key;
     ngx_str_t footer, assertion = ngx_null_string, line = { 0, said }, jti = ngx_string("unknown");
-    any_room room, message = { said, sizeof said, &told };
     ngx_uint_t status;
-    struct paseto_options options = { (uint32_t) location->leeway, location->longest, location->required_names.data, location->required_names.len };
+    ngx_time_t *now = ngx_timeofday();
+    struct paseto_options options = {
+        .size = sizeof options, .leeway = (uint32_t) location->leeway, .longest = location->longest,
+        .required = location->required_names.data, .required_length = location->required_names.len,
+    };
 
     if (token->len > location->longest) {
         status = PASETO_TOO_LONG;
@@ -237,24 +228,23 @@ static ngx_uint_t admit(ngx_http_request_t *r, location_t *location, ngx_str_t *
         status = PASETO_MEMORY;
     }
     if (status == PASETO_OK) {
-        room.at = outcome->claims.data = ngx_pnalloc(r->pool, token->len);
-        room.length = token->len;
-        room.written = &outcome->claims.len;
-        status = room.at == NULL ? PASETO_MEMORY : any_key_parse(key->key, lent(token), lent(&location->expected), ngx_time(), lent(&footer),
-                                                              lent(&assertion), &options, room, message);
+        outcome->claims.data = ngx_pnalloc(r->pool, token->len);
+        status = outcome->claims.data == NULL
+                     ? PASETO_MEMORY
+                     : paseto_admit(key->key, token->data, token->len, location->expected.data, location->expected.len,
+                                    (int64_t) now->sec * 1000000000 + (int64_t) now->msec * 1000000, footer.data, footer.len, assertion.data,
+                                    assertion.len, &options, outcome->claims.data, token->len, &outcome->claims.len, said, sizeof said, &told);
         outcome->kid = key->id;
         if (status == PASETO_UNEXPECTED && is_expected(location, said, ngx_min(told, sizeof said))) {
             status = PASETO_INVALID;
         }
         if (status >= PASETO_PAYLOAD_JSON_ERROR && status <= PASETO_INVALID) {
-            jti = jti_of(r, key->key, token, lent(&footer), lent(&assertion));
+            jti = jti_of(r, key->key, token, &footer, &assertion);
         }
     }
     if (status != PASETO_OK) {
         if (told > 0) {
             line.len = ngx_min(told, sizeof said);
-        } else if (status == UNKNOWN_KEY) {
-            ngx_str_set(&line, UNKNOWN_KEY_TEXT);
         } else {
             line = paseto_text_of((paseto_status) status, said);
         }
@@ -319,7 +309,7 @@ static outcome_t *decided(ngx_http_request_t *r, location_t *location) {
 static ngx_int_t challenge(ngx_http_request_t *r, ngx_uint_t status) {
     static const char format[] = "Bearer error=\"%s\", error_description=\"%V\"";
     u_char said[100], *at;
-    ngx_str_t text = name_of(status), plain = ngx_string("Bearer");
+    ngx_str_t text, plain = ngx_string("Bearer");
     ngx_table_elt_t *header;
 
     header = ngx_list_push(&r->headers_out.headers);
@@ -333,13 +323,9 @@ static ngx_int_t challenge(ngx_http_request_t *r, ngx_uint_t status) {
     if (status == NO_TOKEN) {
         return NGX_OK;
     }
-    if (status == UNKNOWN_KEY) {
-        ngx_str_set(&text, UNKNOWN_KEY_TEXT);
-    } else {
-        text = paseto_text_of((paseto_status) status, said);
-        for (at = text.data; at < text.data + text.len; at++) {
-            *at = *at < ' ' || *at > '~' || *at == '"' || *at == '\\' ? '\'' : *at;
-        }
+    text = paseto_text_of((paseto_status) status, said);
+    for (at = text.data; at < text.data + text.len; at++) {
+        *at = *at < ' ' || *at > '~' || *at == '"' || *at == '\\' ? '\'' : *at;
     }
     header->value.data = ngx_pnalloc(r->pool, sizeof format + sizeof said + sizeof "insufficient_scope");
     if (header->value.data == NULL) {
@@ -672,8 +658,8 @@ static char *conflict(ngx_conf_t *cf, location_t *location) {
     }
     key = location->keys->keys.elts;
     for (i = 0; location->assertion != NULL && i < location->keys->keys.nelts; i++) {
-        if (key[i].key.version < 3) {
-            ngx_conf_log_error(NGX_LOG_EMERG, cf, 0, "\"paseto_assertion\": tokens of version %d have no implicit assertion", (int) key[i].key.version);
+        if (key[i].key->version < 3) {
+            ngx_conf_log_error(NGX_LOG_EMERG, cf, 0, "\"paseto_assertion\": tokens of version %d have no implicit assertion", (int) key[i].key->version);
             return NGX_CONF_ERROR;
         }
     }

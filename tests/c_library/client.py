@@ -140,7 +140,7 @@ def ask_keys() -> None:
 def ask_faults() -> None:
     """One class a fault, with the library's text."""
     made = {fault.code: fault for _, fault in inspect.getmembers(paseto, inspect.isclass) if getattr(fault, "code", 0)}
-    check(sorted(made) == list(range(2, 40)), f"codes with a class: {sorted(made)}")
+    check(sorted(made) == list(range(2, 51)), f"codes with a class: {sorted(made)}")
     same = (paseto.NotUtf8, paseto.Utf8Error, paseto.FromUtf8Error, paseto.RsaCipher)
     texts = [str(fault()) for fault in made.values() if fault not in same]
     check(len(set(texts)) == len(texts), "the texts tell the faults apart, but those of UTF-8 and of ciphers")

@@ -5,7 +5,7 @@
 
 The sources of the folder are read: an export is a function `pub extern "C" fn`. No proof can hold a caller in C to a
 `requires`, so that an export may have none, and each parameter is one that C can hand over whatever its value: a slice of
-bytes, a number, a place for a number, a struct of slices and numbers, or the allocator, for which C hands over nothing. Each must be a symbol of its own
+bytes or of structs, a number, a place for a number or for a struct, a struct of slices and numbers, or the allocator, for which C hands over nothing. Each must be a symbol of its own
 name (`#[unsafe(no_mangle)]`). Standard output has the names, one a line.
 """
 
@@ -13,7 +13,8 @@ import pathlib
 import re
 import sys
 
-FREE = {"Global", "&[u8]", "&mut [u8]", "&mut usize", "&mut u8", "i64", "u8", "&Options<'_>"}
+FREE = {"Global", "&[u8]", "&mut [u8]", "&mut usize", "&mut u8", "i64", "u8", "&Options<'_>",
+        "&HeldKey", "&mut HeldKey", "&[HeldKey]", "&AdmitOptions<'_>"}
 HEAD = re.compile(r'(?P<before>(?:^#\[[^\n]*\]\n)*)^pub extern "C" fn (?P<name>\w+)\((?P<words>[^)]*)\)(?P<clauses>.*?)^\{', re.M | re.S)
 
 

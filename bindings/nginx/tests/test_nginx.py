@@ -23,7 +23,7 @@ import threading
 import time
 import unittest
 from collections.abc import Iterator
-from datetime import datetime, timezone
+from datetime import datetime, timedelta, timezone
 from pathlib import Path
 from typing import Any
 
@@ -244,7 +244,7 @@ class Requests(unittest.TestCase):
         self.assertEqual(self.admitted("/off", "no token"), "user=|seats=|roles=|admin=|kid=|status=")
         self.assertEqual(self.admitted("/optional", None), "user=|seats=|roles=|admin=|kid=|status=no_token")
         self.assertTrue(self.admitted("/optional", issue()).startswith("user=ada|"))
-        self.refused("/optional", "v4.local.AA", 401, "invalid_token: the footer of the token names no key of the ring")
+        self.refused("/optional", "v4.local.AA", 401, "invalid_token: No key has the id that the footer names")
 
     def test_statuses(self) -> None:
         """Of each refusal the answer, and its name."""
@@ -310,12 +310,16 @@ class Requests(unittest.TestCase):
         late = paseto.issue(LOCAL, {}, now=now - 120, expires_in=60, footer=paseto.key_footer(KID))
         self.admitted("/leeway", late)
         self.refused("/on", late, 401, "invalid_token: This token is expired")
-        # A token is admitted in the second in which it was issued, unless the leeway is 0.
+        # A token is admitted at once, with a leeway and without.
         for _ in range(3):
             time.sleep(1.05 - time.time() % 1)
             fresh = paseto.issue(LOCAL, {"nbf": datetime.now(timezone.utc).replace(microsecond=0)}, footer=paseto.key_footer(KID))
             self.admitted("/on", fresh)
-        self.assertEqual(self.gateway.get("/strict", fresh)[0], 401)
+            self.admitted("/strict", fresh)
+        # A clock that is five seconds ahead: the leeway of a minute covers it, and none does not.
+        ahead = paseto.issue(LOCAL, {"nbf": datetime.now(timezone.utc) + timedelta(seconds=5)}, footer=paseto.key_footer(KID))
+        self.admitted("/leeway", ahead)
+        self.assertEqual(self.gateway.get("/strict", ahead)[0], 401)
 
     def test_one_key(self) -> None:
         for footer in ("", "office-1", paseto.key_footer("x")):

@@ -6,18 +6,18 @@ use std::sync::atomic::{compiler_fence, Ordering};
 /// A version of PASETO.
 #[derive(Clone, Copy, Debug, PartialEq, Eq)]
 pub(crate) enum Version {
-    V1,
-    V2,
-    V3,
-    V4,
+    V1 = 1,
+    V2 = 2,
+    V3 = 3,
+    V4 = 4,
 }
 
-/// What a key is for.
+/// What a key is for, by the numbers of the library.
 #[derive(Clone, Copy, Debug, PartialEq, Eq)]
 pub(crate) enum KeyType {
-    Local,
-    Private,
-    Public,
+    Local = 1,
+    Private = 2,
+    Public = 3,
 }
 
 macro_rules! faults {
@@ -50,6 +50,7 @@ macro_rules! faults {
     };
 }
 
+// The statuses, from c/statuses.txt:
 faults! {
     2 = Memory,
     3 = InvalidKey,
@@ -88,6 +89,16 @@ faults! {
     37 = OtherAlgorithm,
     38 = OtherCurve,
     39 = OtherSize,
+    40 = NoAssertion,
+    41 = NeedsPassword,
+    42 = NeedsKey,
+    43 = WrongKey,
+    44 = TooCostly,
+    45 = InvalidOptions,
+    46 = NoFooter,
+    47 = FooterNotObject,
+    48 = NoKeyId,
+    49 = UnknownKey,
 }
 
 /// Why a token was refused, and the library's message about it, which names the claim.
@@ -122,44 +133,223 @@ const MORE: usize = 256;
 // How many characters a signature of version 1 has, which is longer than all that.
 const RSA_SIGNATURE: usize = 344;
 
-// The room for a key's PASERK text, and for the largest key of it.
-const PASERK: usize = 128;
+// The room for the text of a key.
+const TEXT: usize = 2048;
 
-// The room for a key in PEM, and for the largest key of it.
-const PEM: usize = 2048;
-
-// The room for a message about a token.
+// The room for the line of a refusal.
 const LINE: usize = 512;
 
+// How many random bytes are enough for each call that takes some.
+const DRAWN: usize = 48;
+
+// How many nanoseconds a second has.
+const SECOND: i64 = 1_000_000_000;
+
+// `struct paseto_key`.
+#[repr(C)]
+struct Key {
+    version: u8,
+    kind: u8,
+    length: u16,
+    bytes: [u8; 1244],
+}
+
+impl Key {
+    fn none() -> Self {
+        Key {
+            version: 0,
+            kind: 0,
+            length: 0,
+            bytes: [0; 1244],
+        }
+    }
+
+    // Of bytes that are too long for a key it fails with what the library says of a key that is none.
+    fn of(version: Version, kind: KeyType, bytes: &[u8]) -> Result<Self, Fault> {
+        let mut key = Key::none();
+        match key.bytes.get_mut(..bytes.len()) {
+            Some(room) => room.copy_from_slice(bytes),
+            None => {
+                return Err(match (version, kind) {
+                    (Version::V1, KeyType::Private) => Fault::KeyRejected,
+                    (Version::V1, KeyType::Public) => Fault::InvalidSignature,
+                    _ => Fault::InvalidKey,
+                })
+            }
+        }
+        key.version = version as u8;
+        key.kind = kind as u8;
+        key.length = bytes.len() as u16;
+        Ok(key)
+    }
+
+    fn to_vec(&self) -> Vec<u8> {
+        self.bytes[..usize::from(self.length)].to_vec()
+    }
+}
+
+impl Drop for Key {
+    fn drop(&mut self) {
+        wipe(&mut self.bytes);
+    }
+}
+
+// `struct paseto_options`.
 #[repr(C)]
 struct Options {
+    size: usize,
     leeway: u32,
     longest: usize,
+    longest_footer: usize,
     required: *const u8,
     required_length: usize,
 }
 
-// What a call writes into a room, which grows where it is too short.
-fn answer(
-    first_length: usize,
-    call: impl Fn(*mut u8, usize, *mut usize) -> Status,
-) -> Result<Vec<u8>, Fault> {
-    let mut room = vec![0u8; first_length];
-    loop {
-        let mut written = 0;
-        match call(room.as_mut_ptr(), room.len(), &mut written) {
-            OK => {
-                room.truncate(written);
-                return Ok(room);
-            }
-            ROOM => room.resize(written, 0),
-            status => return Err(fault_of(status)),
+// A slice as C takes it.
+type Bytes = *const u8;
+
+#[rustfmt::skip]
+extern "C" {
+    fn paseto_encrypt_with(
+        key: *const Key, drawn: Bytes, _: usize, text: Bytes, _: usize, footer: Bytes, _: usize, assertion: Bytes, _: usize,
+        room: *mut u8, _: usize, written: *mut usize, line: *mut u8, _: usize, told: *mut usize,
+    ) -> Status;
+    fn paseto_sign_with(
+        key: *const Key, drawn: Bytes, _: usize, text: Bytes, _: usize, footer: Bytes, _: usize, assertion: Bytes, _: usize,
+        room: *mut u8, _: usize, written: *mut usize, line: *mut u8, _: usize, told: *mut usize,
+    ) -> Status;
+    fn paseto_issue_with(
+        key: *const Key, drawn: Bytes, _: usize, claims: Bytes, _: usize, now: i64, footer: Bytes, _: usize, assertion: Bytes,
+        _: usize, room: *mut u8, _: usize, written: *mut usize, line: *mut u8, _: usize, told: *mut usize,
+    ) -> Status;
+    fn paseto_decrypt(
+        key: *const Key, token: Bytes, _: usize, footer: Bytes, _: usize, assertion: Bytes, _: usize,
+        room: *mut u8, _: usize, written: *mut usize, line: *mut u8, _: usize, told: *mut usize,
+    ) -> Status;
+    fn paseto_verify(
+        key: *const Key, token: Bytes, _: usize, footer: Bytes, _: usize, assertion: Bytes, _: usize,
+        room: *mut u8, _: usize, written: *mut usize, line: *mut u8, _: usize, told: *mut usize,
+    ) -> Status;
+    fn paseto_admit(
+        key: *const Key, token: Bytes, _: usize, expected: Bytes, _: usize, now: i64, footer: Bytes, _: usize,
+        assertion: Bytes, _: usize, options: *const Options,
+        room: *mut u8, _: usize, written: *mut usize, line: *mut u8, _: usize, told: *mut usize,
+    ) -> Status;
+    fn paseto_key_text(
+        key: *const Key, room: *mut u8, _: usize, written: *mut usize, line: *mut u8, _: usize, told: *mut usize,
+    ) -> Status;
+    fn paseto_key_pem(
+        key: *const Key, room: *mut u8, _: usize, written: *mut usize, line: *mut u8, _: usize, told: *mut usize,
+    ) -> Status;
+    fn paseto_key_id(
+        key: *const Key, room: *mut u8, _: usize, written: *mut usize, line: *mut u8, _: usize, told: *mut usize,
+    ) -> Status;
+    fn paseto_key_read(text: Bytes, _: usize, made: *mut Key, line: *mut u8, _: usize, told: *mut usize) -> Status;
+    fn paseto_key_unlock(
+        text: Bytes, _: usize, password: Bytes, _: usize, made: *mut Key, line: *mut u8, _: usize, told: *mut usize,
+    ) -> Status;
+    fn paseto_key_unwrap(
+        text: Bytes, _: usize, opener: *const Key, made: *mut Key, line: *mut u8, _: usize, told: *mut usize,
+    ) -> Status;
+    fn paseto_key_public(key: *const Key, made: *mut Key, line: *mut u8, _: usize, told: *mut usize) -> Status;
+    fn paseto_key_generate_with(
+        version: u8, kind: u8, drawn: Bytes, _: usize, made: *mut Key, line: *mut u8, _: usize, told: *mut usize,
+    ) -> Status;
+    fn paseto_error_text(status: Status, room: *mut u8, _: usize, written: *mut usize) -> Status;
+    fn getrandom(bytes: *mut u8, length: usize, flags: u32) -> isize;
+}
+
+// The rooms that are lent to a call: for its answer, and for the line of its refusal.
+struct Rooms {
+    answer: Vec<u8>,
+    written: usize,
+    line: Vec<u8>,
+    told: usize,
+}
+
+// Why a call failed. The line becomes a text where somebody reads it: where memory is out, there is none for that.
+struct Failed {
+    fault: Fault,
+    line: Vec<u8>,
+}
+
+impl From<Failed> for Fault {
+    fn from(failed: Failed) -> Fault {
+        failed.fault
+    }
+}
+
+impl From<Failed> for Refusal {
+    fn from(failed: Failed) -> Refusal {
+        Refusal {
+            fault: failed.fault,
+            line: String::from_utf8_lossy(&failed.line).into_owned(),
         }
     }
 }
 
-fn string(bytes: Vec<u8>) -> Result<String, Fault> {
-    String::from_utf8(bytes).map_err(|_| Fault::Utf8Error)
+// What a call writes, or why it writes nothing. Both rooms grow where they are too short.
+fn telling(first_length: usize, call: impl Fn(&mut Rooms) -> Status) -> Result<Vec<u8>, Failed> {
+    let mut rooms = Rooms {
+        answer: vec![0; first_length],
+        written: 0,
+        line: vec![0; LINE],
+        told: 0,
+    };
+    loop {
+        match call(&mut rooms) {
+            OK => {
+                rooms.answer.truncate(rooms.written);
+                return Ok(rooms.answer);
+            }
+            ROOM => rooms.answer.resize(rooms.written, 0),
+            _ if rooms.told > rooms.line.len() => rooms.line.resize(rooms.told, 0),
+            status => {
+                rooms.line.truncate(rooms.told);
+                return Err(Failed {
+                    fault: fault_of(status),
+                    line: rooms.line,
+                });
+            }
+        }
+    }
+}
+
+// A call with these words, and behind them the room for an answer, if there is one, and that for a line.
+//
+// Safety: each pointer is valid for the length that is passed beside it, a key and options are valid, the library keeps no
+// pointer, and it writes within the rooms, to the key that it makes, and to the lengths alone.
+macro_rules! ask {
+    ($length:expr; $call:ident($($word:expr),*)) => {
+        telling($length, |rooms| unsafe {
+            $call(
+                $($word,)*
+                rooms.answer.as_mut_ptr(),
+                rooms.answer.len(),
+                &mut rooms.written,
+                rooms.line.as_mut_ptr(),
+                rooms.line.len(),
+                &mut rooms.told,
+            )
+        })
+    };
+    ($call:ident($($word:expr),*)) => {{
+        let made = std::cell::RefCell::new(Key::none());
+        let asked = telling(0, |rooms| unsafe {
+            $call(
+                $($word,)*
+                &mut *made.borrow_mut(),
+                rooms.line.as_mut_ptr(),
+                rooms.line.len(),
+                &mut rooms.told,
+            )
+        });
+        asked.map(|_| made.into_inner()).map_err(Fault::from)
+    }};
+}
+
+fn string(bytes: Result<Vec<u8>, Failed>) -> Result<String, Fault> {
+    String::from_utf8(bytes?).map_err(|_| Fault::Utf8Error)
 }
 
 // How long a token may be: base64url has four characters for three bytes.
@@ -167,347 +357,17 @@ fn token_length(parts: &[&[u8]]) -> usize {
     parts.iter().map(|part| part.len()).sum::<usize>() / 3 * 4 + MORE + RSA_SIGNATURE
 }
 
-// Calls that take slices and write one answer.
-macro_rules! answers {
-    ($($call:ident($($slice:ident),*);)*) => {
-        mod answers {
-            use super::Status;
-
-            extern "C" {
-                $(pub(super) fn $call(
-                    $($slice: *const u8, _: usize,)*
-                    room: *mut u8,
-                    room_length: usize,
-                    written: *mut usize,
-                ) -> Status;)*
-            }
-        }
-
-        $(fn $call(length: usize, $($slice: &[u8]),*) -> Result<Vec<u8>, Fault> {
-            answer(length, |room, room_length, written| {
-                // Safety: each slice and the room are valid for the length that is passed beside them, the library keeps
-                // no pointer, and it writes within the room and to `written` alone.
-                unsafe { answers::$call($($slice.as_ptr(), $slice.len(),)* room, room_length, written) }
-            })
-        })*
-    };
-}
-
-answers! {
-    paseto_v1_local_encrypt(key, nonce, text, footer);
-    paseto_v2_local_encrypt(key, nonce, text, footer);
-    paseto_v3_local_encrypt(key, nonce, text, footer, assertion);
-    paseto_v4_local_encrypt(key, nonce, text, footer, assertion);
-    paseto_v1_local_decrypt(key, token, footer);
-    paseto_v2_local_decrypt(key, token, footer);
-    paseto_v3_local_decrypt(key, token, footer, assertion);
-    paseto_v4_local_decrypt(key, token, footer, assertion);
-    paseto_v1_public_sign(key, salt, text, footer);
-    paseto_v2_public_sign(key, text, footer);
-    paseto_v3_public_sign(key, text, footer, assertion);
-    paseto_v4_public_sign(key, text, footer, assertion);
-    paseto_v1_public_verify(key, token, footer);
-    paseto_v2_public_verify(key, token, footer);
-    paseto_v3_public_verify(key, token, footer, assertion);
-    paseto_v4_public_verify(key, token, footer, assertion);
-    paseto_v1_local_key_to_paserk(key);
-    paseto_v1_local_key_from_paserk(text);
-    paseto_v1_local_key_id(key);
-    paseto_v2_local_key_to_paserk(key);
-    paseto_v2_local_key_from_paserk(text);
-    paseto_v2_local_key_id(key);
-    paseto_v3_local_key_to_paserk(key);
-    paseto_v3_local_key_from_paserk(text);
-    paseto_v3_local_key_id(key);
-    paseto_v4_local_key_to_paserk(key);
-    paseto_v4_local_key_from_paserk(text);
-    paseto_v4_local_key_id(key);
-    paseto_v2_private_key_to_paserk(key);
-    paseto_v2_private_key_from_paserk(text);
-    paseto_v2_private_key_id(key);
-    paseto_v2_public_key_to_paserk(key);
-    paseto_v2_public_key_from_paserk(text);
-    paseto_v2_public_key_id(key);
-    paseto_v3_private_key_to_paserk(key);
-    paseto_v3_private_key_from_paserk(text);
-    paseto_v3_private_key_id(key);
-    paseto_v3_public_key_to_paserk(key);
-    paseto_v3_public_key_from_paserk(text);
-    paseto_v3_public_key_id(key);
-    paseto_v4_private_key_to_paserk(key);
-    paseto_v4_private_key_from_paserk(text);
-    paseto_v4_private_key_id(key);
-    paseto_v4_public_key_to_paserk(key);
-    paseto_v4_public_key_from_paserk(text);
-    paseto_v4_public_key_id(key);
-    paseto_v1_private_key_to_pem(key);
-    paseto_v1_private_key_from_pem(text);
-    paseto_v1_public_key_to_pem(key);
-    paseto_v1_public_key_from_pem(text);
-    paseto_v2_private_key_to_pem(key);
-    paseto_v2_private_key_from_pem(text);
-    paseto_v2_public_key_to_pem(key);
-    paseto_v2_public_key_from_pem(text);
-    paseto_v3_private_key_to_pem(key);
-    paseto_v3_private_key_from_pem(text);
-    paseto_v3_public_key_to_pem(key);
-    paseto_v3_public_key_from_pem(text);
-    paseto_v4_private_key_to_pem(key);
-    paseto_v4_private_key_from_pem(text);
-    paseto_v4_public_key_to_pem(key);
-    paseto_v4_public_key_from_pem(text);
-}
-
-// Calls that make a token of claims. What is drawn for it comes behind the key.
-macro_rules! builds {
-    ($($call:ident($($drawn:ident)?; $($assertion:ident)?);)*) => {
-        mod builds {
-            use super::Status;
-
-            extern "C" {
-                $(pub(super) fn $call(
-                    key: *const u8,
-                    key_length: usize,
-                    $($drawn: *const u8, _: usize,)?
-                    claims: *const u8,
-                    claims_length: usize,
-                    now: i64,
-                    footer: *const u8,
-                    footer_length: usize,
-                    $($assertion: *const u8, _: usize,)?
-                    room: *mut u8,
-                    room_length: usize,
-                    written: *mut usize,
-                ) -> Status;)*
-            }
-        }
-
-        $(fn $call(
-            length: usize,
-            key: &[u8],
-            $($drawn: &[u8],)?
-            claims: &[u8],
-            now: i64,
-            footer: &[u8],
-            $($assertion: &[u8],)?
-        ) -> Result<Vec<u8>, Fault> {
-            answer(length, |room, room_length, written| {
-                // Safety: as above.
-                unsafe {
-                    builds::$call(
-                        key.as_ptr(),
-                        key.len(),
-                        $($drawn.as_ptr(), $drawn.len(),)?
-                        claims.as_ptr(),
-                        claims.len(),
-                        now,
-                        footer.as_ptr(),
-                        footer.len(),
-                        $($assertion.as_ptr(), $assertion.len(),)?
-                        room,
-                        room_length,
-                        written,
-                    )
-                }
-            })
-        })*
-    };
-}
-
-builds! {
-    paseto_v1_local_build(seed;);
-    paseto_v2_local_build(seed;);
-    paseto_v3_local_build(seed; assertion);
-    paseto_v4_local_build(seed; assertion);
-    paseto_v1_public_build(salt;);
-    paseto_v2_public_build(;);
-    paseto_v3_public_build(; assertion);
-    paseto_v4_public_build(; assertion);
-}
-
-// Calls that check a token with claims.
-macro_rules! parses {
-    ($($call:ident($($assertion:ident)?);)*) => {
-        mod parses {
-            use super::{Options, Status};
-
-            extern "C" {
-                $(pub(super) fn $call(
-                    key: *const u8,
-                    key_length: usize,
-                    token: *const u8,
-                    token_length: usize,
-                    expected: *const u8,
-                    expected_length: usize,
-                    now: i64,
-                    footer: *const u8,
-                    footer_length: usize,
-                    $($assertion: *const u8, _: usize,)?
-                    options: *const Options,
-                    room: *mut u8,
-                    room_length: usize,
-                    written: *mut usize,
-                    line: *mut u8,
-                    line_length: usize,
-                    told: *mut usize,
-                ) -> Status;)*
-            }
-        }
-
-        $(fn $call(
-            key: &[u8],
-            token: &[u8],
-            checks: &Checks<'_>,
-            footer: &[u8],
-            $($assertion: &[u8],)?
-        ) -> Result<Vec<u8>, Refusal> {
-            let options = options_of(checks);
-            telling(token.len(), |room, room_length, written, line, line_length, told| {
-                // Safety: as above; the options are valid, as are the names in them, and the room of the line is valid
-                // for its length.
-                unsafe {
-                    parses::$call(
-                        key.as_ptr(),
-                        key.len(),
-                        token.as_ptr(),
-                        token.len(),
-                        checks.expected.as_ptr(),
-                        checks.expected.len(),
-                        checks.now,
-                        footer.as_ptr(),
-                        footer.len(),
-                        $($assertion.as_ptr(), $assertion.len(),)?
-                        &options,
-                        room,
-                        room_length,
-                        written,
-                        line,
-                        line_length,
-                        told,
-                    )
-                }
-            })
-        })*
-    };
-}
-
-parses! {
-    paseto_v1_local_parse_with();
-    paseto_v2_local_parse_with();
-    paseto_v3_local_parse_with(assertion);
-    paseto_v4_local_parse_with(assertion);
-    paseto_v1_public_parse_with();
-    paseto_v2_public_parse_with();
-    paseto_v3_public_parse_with(assertion);
-    paseto_v4_public_parse_with(assertion);
-}
-
-fn options_of(checks: &Checks<'_>) -> Options {
-    Options {
-        leeway: checks.leeway,
-        longest: checks.longest,
-        required: checks.required.as_ptr(),
-        required_length: checks.required.len(),
-    }
-}
-
-// What a call writes into a room, or its message about the token. Both rooms grow where they are too short.
-fn telling(
-    first_length: usize,
-    call: impl Fn(*mut u8, usize, *mut usize, *mut u8, usize, *mut usize) -> Status,
-) -> Result<Vec<u8>, Refusal> {
-    let (mut room, mut line) = (vec![0u8; first_length], vec![0u8; LINE]);
-    loop {
-        let (mut written, mut told) = (0, 0);
-        let status = call(
-            room.as_mut_ptr(),
-            room.len(),
-            &mut written,
-            line.as_mut_ptr(),
-            line.len(),
-            &mut told,
-        );
-        match status {
-            OK => {
-                room.truncate(written);
-                return Ok(room);
-            }
-            ROOM => room.resize(written, 0),
-            _ if told > line.len() => line.resize(told, 0),
-            _ => return Err(refusal(status, &line[..told])),
-        }
-    }
-}
-
-fn refusal(status: Status, line: &[u8]) -> Refusal {
-    Refusal {
-        fault: fault_of(status),
-        line: String::from_utf8_lossy(line).into_owned(),
-    }
-}
-
-// Calls that derive a key pair.
-macro_rules! pairs {
-    ($($call:ident = $private:literal and $public:literal;)*) => {
-        mod pairs {
-            use super::Status;
-
-            extern "C" {
-                $(pub(super) fn $call(
-                    seed: *const u8,
-                    seed_length: usize,
-                    private_room: *mut u8,
-                    private_room_length: usize,
-                    public_room: *mut u8,
-                    public_room_length: usize,
-                ) -> Status;)*
-            }
-        }
-
-        $(fn $call(seed: &[u8]) -> Result<(Vec<u8>, Vec<u8>), Fault> {
-            let (mut private, mut public) = (vec![0u8; $private], vec![0u8; $public]);
-            // Safety: the seed and both rooms are valid for the lengths that are passed beside them, and the rooms have
-            // the lengths of the keys.
-            let status = unsafe {
-                pairs::$call(
-                    seed.as_ptr(),
-                    seed.len(),
-                    private.as_mut_ptr(),
-                    private.len(),
-                    public.as_mut_ptr(),
-                    public.len(),
-                )
-            };
-            match status {
-                OK => Ok((private, public)),
-                status => Err(fault_of(status)),
-            }
-        })*
-    };
-}
-
-pairs! {
-    paseto_v2_public_keypair = 64 and 32;
-    paseto_v3_public_keypair = 48 and 49;
-    paseto_v4_public_keypair = 64 and 32;
-}
-
-extern "C" {
-    fn paseto_error_text(
-        status: Status,
-        room: *mut u8,
-        room_length: usize,
-        written: *mut usize,
-    ) -> Status;
-    fn getrandom(bytes: *mut u8, length: usize, flags: u32) -> isize;
-}
-
 fn error_text(status: Status) -> String {
-    let text = answer(MORE, |room, room_length, written| {
+    let text = telling(MORE, |rooms| unsafe {
         // Safety: the room is valid for its length, and the library writes within it and to `written` alone.
-        unsafe { paseto_error_text(status, room, room_length, written) }
+        paseto_error_text(
+            status,
+            rooms.answer.as_mut_ptr(),
+            rooms.answer.len(),
+            &mut rooms.written,
+        )
     });
-    text.and_then(string).unwrap_or_default()
+    string(text).unwrap_or_default()
 }
 
 /// Encrypts a text under a key of 32 bytes and a nonce. The assertion must be empty in versions 1 and 2.
@@ -519,14 +379,11 @@ pub(crate) fn encrypt(
     footer: &[u8],
     assertion: &[u8],
 ) -> Result<String, Fault> {
-    let length = token_length(&[text, footer]);
-    let token = match version {
-        Version::V1 => paseto_v1_local_encrypt(length, key, nonce, text, footer),
-        Version::V2 => paseto_v2_local_encrypt(length, key, nonce, text, footer),
-        Version::V3 => paseto_v3_local_encrypt(length, key, nonce, text, footer, assertion),
-        Version::V4 => paseto_v4_local_encrypt(length, key, nonce, text, footer, assertion),
-    };
-    string(token?)
+    let key = Key::of(version, KeyType::Local, key)?;
+    string(ask!(token_length(&[text, footer]); paseto_encrypt_with(
+        &key, nonce.as_ptr(), nonce.len(), text.as_ptr(), text.len(), footer.as_ptr(), footer.len(), assertion.as_ptr(),
+        assertion.len()
+    )))
 }
 
 /// The text of a local token.
@@ -537,14 +394,10 @@ pub(crate) fn decrypt(
     footer: &[u8],
     assertion: &[u8],
 ) -> Result<String, Fault> {
-    let length = token.len();
-    let text = match version {
-        Version::V1 => paseto_v1_local_decrypt(length, key, token, footer),
-        Version::V2 => paseto_v2_local_decrypt(length, key, token, footer),
-        Version::V3 => paseto_v3_local_decrypt(length, key, token, footer, assertion),
-        Version::V4 => paseto_v4_local_decrypt(length, key, token, footer, assertion),
-    };
-    string(text?)
+    let key = Key::of(version, KeyType::Local, key)?;
+    string(ask!(token.len(); paseto_decrypt(
+        &key, token.as_ptr(), token.len(), footer.as_ptr(), footer.len(), assertion.as_ptr(), assertion.len()
+    )))
 }
 
 /// Signs a text with a private key. In version 1 it draws a salt.
@@ -555,14 +408,11 @@ pub(crate) fn sign(
     footer: &[u8],
     assertion: &[u8],
 ) -> Result<String, Fault> {
-    let length = token_length(&[text, footer]);
-    let token = match version {
-        Version::V1 => paseto_v1_public_sign(length, key, &drawn::<48>()?, text, footer),
-        Version::V2 => paseto_v2_public_sign(length, key, text, footer),
-        Version::V3 => paseto_v3_public_sign(length, key, text, footer, assertion),
-        Version::V4 => paseto_v4_public_sign(length, key, text, footer, assertion),
-    };
-    string(token?)
+    let (key, salt) = (Key::of(version, KeyType::Private, key)?, salt_of(version)?);
+    string(ask!(token_length(&[text, footer]); paseto_sign_with(
+        &key, salt.as_ptr(), salt.len(), text.as_ptr(), text.len(), footer.as_ptr(), footer.len(), assertion.as_ptr(),
+        assertion.len()
+    )))
 }
 
 /// The text of a public token.
@@ -573,14 +423,10 @@ pub(crate) fn verify(
     footer: &[u8],
     assertion: &[u8],
 ) -> Result<String, Fault> {
-    let length = token.len();
-    let text = match version {
-        Version::V1 => paseto_v1_public_verify(length, key, token, footer),
-        Version::V2 => paseto_v2_public_verify(length, key, token, footer),
-        Version::V3 => paseto_v3_public_verify(length, key, token, footer, assertion),
-        Version::V4 => paseto_v4_public_verify(length, key, token, footer, assertion),
-    };
-    string(text?)
+    let key = Key::of(version, KeyType::Public, key)?;
+    string(ask!(token.len(); paseto_verify(
+        &key, token.as_ptr(), token.len(), footer.as_ptr(), footer.len(), assertion.as_ptr(), assertion.len()
+    )))
 }
 
 /// What a token of claims is made of.
@@ -600,17 +446,11 @@ pub(crate) fn build_local(
     key: &[u8],
     parts: &Parts<'_>,
 ) -> Result<String, Fault> {
-    let (claims, now) = (parts.claims.as_bytes(), parts.now);
-    let (footer, assertion) = (parts.footer, parts.assertion);
-    let length = token_length(&[claims, footer]);
-    let seed = drawn::<32>()?;
-    let token = match version {
-        Version::V1 => paseto_v1_local_build(length, key, &seed, claims, now, footer),
-        Version::V2 => paseto_v2_local_build(length, key, &seed[..24], claims, now, footer),
-        Version::V3 => paseto_v3_local_build(length, key, &seed, claims, now, footer, assertion),
-        Version::V4 => paseto_v4_local_build(length, key, &seed, claims, now, footer, assertion),
-    };
-    string(token?)
+    issue(
+        &Key::of(version, KeyType::Local, key)?,
+        &drawn::<DRAWN>()?,
+        parts,
+    )
 }
 
 /// A public token with claims, and the default times where they set none. In version 1 it draws a salt.
@@ -619,16 +459,20 @@ pub(crate) fn build_public(
     key: &[u8],
     parts: &Parts<'_>,
 ) -> Result<String, Fault> {
-    let (claims, now) = (parts.claims.as_bytes(), parts.now);
-    let (footer, assertion) = (parts.footer, parts.assertion);
-    let length = token_length(&[claims, footer]);
-    let token = match version {
-        Version::V1 => paseto_v1_public_build(length, key, &drawn::<48>()?, claims, now, footer),
-        Version::V2 => paseto_v2_public_build(length, key, claims, now, footer),
-        Version::V3 => paseto_v3_public_build(length, key, claims, now, footer, assertion),
-        Version::V4 => paseto_v4_public_build(length, key, claims, now, footer, assertion),
-    };
-    string(token?)
+    issue(
+        &Key::of(version, KeyType::Private, key)?,
+        &salt_of(version)?,
+        parts,
+    )
+}
+
+fn issue(key: &Key, drawn: &[u8], parts: &Parts<'_>) -> Result<String, Fault> {
+    let (claims, footer, assertion) = (parts.claims.as_bytes(), parts.footer, parts.assertion);
+    let now = parts.now.checked_mul(SECOND).ok_or(Fault::InvalidMoment)?;
+    string(ask!(token_length(&[claims, footer]); paseto_issue_with(
+        key, drawn.as_ptr(), drawn.len(), claims.as_ptr(), claims.len(), now, footer.as_ptr(), footer.len(),
+        assertion.as_ptr(), assertion.len()
+    )))
 }
 
 /// The claims of a local token, as JSON.
@@ -640,13 +484,13 @@ pub(crate) fn parse_local(
     footer: &[u8],
     assertion: &[u8],
 ) -> Result<String, Refusal> {
-    let claims = match version {
-        Version::V1 => paseto_v1_local_parse_with(key, token, checks, footer),
-        Version::V2 => paseto_v2_local_parse_with(key, token, checks, footer),
-        Version::V3 => paseto_v3_local_parse_with(key, token, checks, footer, assertion),
-        Version::V4 => paseto_v4_local_parse_with(key, token, checks, footer, assertion),
-    };
-    text_of_claims(claims?)
+    admit(
+        Key::of(version, KeyType::Local, key),
+        token,
+        checks,
+        footer,
+        assertion,
+    )
 }
 
 /// The claims of a public token, as JSON.
@@ -658,114 +502,207 @@ pub(crate) fn parse_public(
     footer: &[u8],
     assertion: &[u8],
 ) -> Result<String, Refusal> {
-    let claims = match version {
-        Version::V1 => paseto_v1_public_parse_with(key, token, checks, footer),
-        Version::V2 => paseto_v2_public_parse_with(key, token, checks, footer),
-        Version::V3 => paseto_v3_public_parse_with(key, token, checks, footer, assertion),
-        Version::V4 => paseto_v4_public_parse_with(key, token, checks, footer, assertion),
-    };
-    text_of_claims(claims?)
+    admit(
+        Key::of(version, KeyType::Public, key),
+        token,
+        checks,
+        footer,
+        assertion,
+    )
 }
 
-fn text_of_claims(bytes: Vec<u8>) -> Result<String, Refusal> {
-    string(bytes).map_err(|fault| Refusal {
+fn admit(
+    key: Result<Key, Fault>,
+    token: &[u8],
+    checks: &Checks<'_>,
+    footer: &[u8],
+    assertion: &[u8],
+) -> Result<String, Refusal> {
+    let (key, expected) = (key.map_err(refusal)?, checks.expected.as_bytes());
+    let now = checks.now.checked_mul(SECOND);
+    let now = now.ok_or_else(|| refusal(Fault::InvalidMoment))?;
+    let options = Options {
+        size: std::mem::size_of::<Options>(),
+        leeway: checks.leeway,
+        longest: checks.longest,
+        longest_footer: 0,
+        required: checks.required.as_ptr(),
+        required_length: checks.required.len(),
+    };
+    let claims = ask!(token.len(); paseto_admit(
+        &key, token.as_ptr(), token.len(), expected.as_ptr(), expected.len(), now, footer.as_ptr(), footer.len(),
+        assertion.as_ptr(), assertion.len(), &options
+    ))?;
+    String::from_utf8(claims).map_err(|_| refusal(Fault::Utf8Error))
+}
+
+// A refusal with the library's text.
+fn refusal(fault: Fault) -> Refusal {
+    Refusal {
         fault,
         line: text_of(fault),
-    })
+    }
 }
 
 /// The private and the public key of a seed: 32 bytes, or 48 in version 3, where it is the private key. Version 1 has
 /// no such call: `InvalidKey`.
 pub(crate) fn key_pair(version: Version, seed: &[u8]) -> Result<(Vec<u8>, Vec<u8>), Fault> {
-    match version {
-        Version::V1 => Err(Fault::InvalidKey),
-        Version::V2 => paseto_v2_public_keypair(seed),
-        Version::V3 => paseto_v3_public_keypair(seed),
-        Version::V4 => paseto_v4_public_keypair(seed),
+    if version == Version::V1 {
+        return Err(Fault::InvalidKey);
     }
+    let private = ask!(paseto_key_generate_with(
+        version as u8,
+        KeyType::Private as u8,
+        seed.as_ptr(),
+        seed.len()
+    ))?;
+    let public = ask!(paseto_key_public(&private))?;
+    Ok((private.to_vec(), public.to_vec()))
 }
 
 /// A key's PASERK text. A key pair of version 1 has none: `NoPaserk`.
 pub(crate) fn to_paserk(version: Version, kind: KeyType, key: &[u8]) -> Result<String, Fault> {
-    let text = match (version, kind) {
-        (Version::V1, KeyType::Local) => paseto_v1_local_key_to_paserk(PASERK, key),
-        (Version::V2, KeyType::Local) => paseto_v2_local_key_to_paserk(PASERK, key),
-        (Version::V3, KeyType::Local) => paseto_v3_local_key_to_paserk(PASERK, key),
-        (Version::V4, KeyType::Local) => paseto_v4_local_key_to_paserk(PASERK, key),
-        (Version::V2, KeyType::Private) => paseto_v2_private_key_to_paserk(PASERK, key),
-        (Version::V3, KeyType::Private) => paseto_v3_private_key_to_paserk(PASERK, key),
-        (Version::V4, KeyType::Private) => paseto_v4_private_key_to_paserk(PASERK, key),
-        (Version::V2, KeyType::Public) => paseto_v2_public_key_to_paserk(PASERK, key),
-        (Version::V3, KeyType::Public) => paseto_v3_public_key_to_paserk(PASERK, key),
-        (Version::V4, KeyType::Public) => paseto_v4_public_key_to_paserk(PASERK, key),
-        (Version::V1, KeyType::Private | KeyType::Public) => Err(Fault::NoPaserk),
-    };
-    string(text?)
+    has_paserk(version, kind)?;
+    let key = Key::of(version, kind, key)?;
+    string(ask!(TEXT; paseto_key_text(&key)))
 }
 
 /// The key of a PASERK text. A key pair of version 1 has none: `NoPaserk`.
 pub(crate) fn from_paserk(version: Version, kind: KeyType, text: &[u8]) -> Result<Vec<u8>, Fault> {
-    match (version, kind) {
-        (Version::V1, KeyType::Local) => paseto_v1_local_key_from_paserk(PASERK, text),
-        (Version::V2, KeyType::Local) => paseto_v2_local_key_from_paserk(PASERK, text),
-        (Version::V3, KeyType::Local) => paseto_v3_local_key_from_paserk(PASERK, text),
-        (Version::V4, KeyType::Local) => paseto_v4_local_key_from_paserk(PASERK, text),
-        (Version::V2, KeyType::Private) => paseto_v2_private_key_from_paserk(PASERK, text),
-        (Version::V3, KeyType::Private) => paseto_v3_private_key_from_paserk(PASERK, text),
-        (Version::V4, KeyType::Private) => paseto_v4_private_key_from_paserk(PASERK, text),
-        (Version::V2, KeyType::Public) => paseto_v2_public_key_from_paserk(PASERK, text),
-        (Version::V3, KeyType::Public) => paseto_v3_public_key_from_paserk(PASERK, text),
-        (Version::V4, KeyType::Public) => paseto_v4_public_key_from_paserk(PASERK, text),
-        (Version::V1, KeyType::Private | KeyType::Public) => Err(Fault::NoPaserk),
+    has_paserk(version, kind)?;
+    match kind_of(text) {
+        Some((found, _)) if found != version => return Err(Fault::OtherVersion),
+        Some((_, found)) if found != kind => return Err(Fault::OtherType),
+        _ => {}
     }
+    Ok(ask!(paseto_key_read(text.as_ptr(), text.len()))?.to_vec())
+}
+
+/// The key of a text that is under a password.
+pub(crate) fn unlocked(
+    version: Version,
+    kind: KeyType,
+    text: &[u8],
+    password: &[u8],
+) -> Result<Vec<u8>, Fault> {
+    let key = ask!(paseto_key_unlock(
+        text.as_ptr(),
+        text.len(),
+        password.as_ptr(),
+        password.len()
+    ))?;
+    bytes_of(&key, version, kind)
+}
+
+/// The key of a text that another key of the version opens, one for local tokens or a private one.
+pub(crate) fn unwrapped(
+    version: Version,
+    kind: KeyType,
+    text: &[u8],
+    opener: (KeyType, &[u8]),
+) -> Result<Vec<u8>, Fault> {
+    let opener = Key::of(version, opener.0, opener.1)?;
+    let key = ask!(paseto_key_unwrap(text.as_ptr(), text.len(), &opener))?;
+    bytes_of(&key, version, kind)
+}
+
+// The bytes of a key that must be of a version and of a type.
+fn bytes_of(key: &Key, version: Version, kind: KeyType) -> Result<Vec<u8>, Fault> {
+    if key.version != version as u8 {
+        Err(Fault::OtherVersion)
+    } else if key.kind != kind as u8 {
+        Err(Fault::OtherType)
+    } else {
+        Ok(key.to_vec())
+    }
+}
+
+fn has_paserk(version: Version, kind: KeyType) -> Result<(), Fault> {
+    match (version, kind) {
+        (Version::V1, KeyType::Private | KeyType::Public) => Err(Fault::NoPaserk),
+        _ => Ok(()),
+    }
+}
+
+// Which key a text begins as: k4.local. and so on.
+fn kind_of(text: &[u8]) -> Option<(Version, KeyType)> {
+    let version = match text.get(..2)? {
+        b"k1" => Version::V1,
+        b"k2" => Version::V2,
+        b"k3" => Version::V3,
+        b"k4" => Version::V4,
+        _ => return None,
+    };
+    let kinds = [
+        (&b".local."[..], KeyType::Local),
+        (b".secret.", KeyType::Private),
+        (b".public.", KeyType::Public),
+    ];
+    let found = kinds.iter().find(|(name, _)| text[2..].starts_with(name));
+    found.map(|(_, kind)| (version, *kind))
 }
 
 /// A key's PASERK id. A key pair of version 1 has none: `NoPaserk`.
 pub(crate) fn key_id(version: Version, kind: KeyType, key: &[u8]) -> Result<String, Fault> {
-    let id = match (version, kind) {
-        (Version::V1, KeyType::Local) => paseto_v1_local_key_id(PASERK, key),
-        (Version::V2, KeyType::Local) => paseto_v2_local_key_id(PASERK, key),
-        (Version::V3, KeyType::Local) => paseto_v3_local_key_id(PASERK, key),
-        (Version::V4, KeyType::Local) => paseto_v4_local_key_id(PASERK, key),
-        (Version::V2, KeyType::Private) => paseto_v2_private_key_id(PASERK, key),
-        (Version::V3, KeyType::Private) => paseto_v3_private_key_id(PASERK, key),
-        (Version::V4, KeyType::Private) => paseto_v4_private_key_id(PASERK, key),
-        (Version::V2, KeyType::Public) => paseto_v2_public_key_id(PASERK, key),
-        (Version::V3, KeyType::Public) => paseto_v3_public_key_id(PASERK, key),
-        (Version::V4, KeyType::Public) => paseto_v4_public_key_id(PASERK, key),
-        (Version::V1, KeyType::Private | KeyType::Public) => Err(Fault::NoPaserk),
-    };
-    string(id?)
+    has_paserk(version, kind)?;
+    let key = Key::of(version, kind, key)?;
+    string(ask!(TEXT; paseto_key_id(&key)))
+}
+
+// In PEM the keys of version 2 are those of version 4.
+fn pem_version(version: Version) -> Version {
+    match version {
+        Version::V2 => Version::V4,
+        version => version,
+    }
 }
 
 /// A key in PEM. A key for local tokens has none: `NotPem`.
 pub(crate) fn to_pem(version: Version, kind: KeyType, key: &[u8]) -> Result<String, Fault> {
-    let text = match (version, kind) {
-        (Version::V1, KeyType::Private) => paseto_v1_private_key_to_pem(PEM, key),
-        (Version::V2, KeyType::Private) => paseto_v2_private_key_to_pem(PEM, key),
-        (Version::V3, KeyType::Private) => paseto_v3_private_key_to_pem(PEM, key),
-        (Version::V4, KeyType::Private) => paseto_v4_private_key_to_pem(PEM, key),
-        (Version::V1, KeyType::Public) => paseto_v1_public_key_to_pem(PEM, key),
-        (Version::V2, KeyType::Public) => paseto_v2_public_key_to_pem(PEM, key),
-        (Version::V3, KeyType::Public) => paseto_v3_public_key_to_pem(PEM, key),
-        (Version::V4, KeyType::Public) => paseto_v4_public_key_to_pem(PEM, key),
-        (_, KeyType::Local) => Err(Fault::NotPem),
-    };
-    string(text?)
+    if kind == KeyType::Local {
+        return Err(Fault::NotPem);
+    }
+    let key = Key::of(pem_version(version), kind, key).map_err(|_| Fault::InvalidKey)?;
+    string(ask!(TEXT; paseto_key_pem(&key)))
 }
 
 /// The key of a text in PEM. A key for local tokens has none: `NotPem`.
 pub(crate) fn from_pem(version: Version, kind: KeyType, text: &[u8]) -> Result<Vec<u8>, Fault> {
-    match (version, kind) {
-        (Version::V1, KeyType::Private) => paseto_v1_private_key_from_pem(PEM, text),
-        (Version::V2, KeyType::Private) => paseto_v2_private_key_from_pem(PEM, text),
-        (Version::V3, KeyType::Private) => paseto_v3_private_key_from_pem(PEM, text),
-        (Version::V4, KeyType::Private) => paseto_v4_private_key_from_pem(PEM, text),
-        (Version::V1, KeyType::Public) => paseto_v1_public_key_from_pem(PEM, text),
-        (Version::V2, KeyType::Public) => paseto_v2_public_key_from_pem(PEM, text),
-        (Version::V3, KeyType::Public) => paseto_v3_public_key_from_pem(PEM, text),
-        (Version::V4, KeyType::Public) => paseto_v4_public_key_from_pem(PEM, text),
-        (_, KeyType::Local) => Err(Fault::NotPem),
+    if kind == KeyType::Local {
+        return Err(Fault::NotPem);
+    }
+    let read = ask!(paseto_key_read(text.as_ptr(), text.len()));
+    match read {
+        Err(
+            fault @ (Fault::Memory
+            | Fault::NotUtf8
+            | Fault::NotPem
+            | Fault::EncryptedKey
+            | Fault::OtherLabel),
+        ) => Err(fault),
+        _ if !has_label(version, kind, text) => Err(Fault::OtherLabel),
+        Ok(key) if key.version != pem_version(version) as u8 => Err(Fault::OtherAlgorithm),
+        Ok(key) => Ok(key.to_vec()),
+        Err(Fault::OtherCurve) if version != Version::V3 => Err(Fault::OtherAlgorithm),
+        Err(Fault::OtherSize) if version != Version::V1 => Err(Fault::OtherAlgorithm),
+        Err(fault) => Err(fault),
+    }
+}
+
+// Whether a text in PEM has a label for keys of this version and type.
+fn has_label(version: Version, kind: KeyType, text: &[u8]) -> bool {
+    let is = |label: &str| text.starts_with(format!("-----BEGIN {label}-----").as_bytes());
+    match kind {
+        KeyType::Private => is("PRIVATE KEY") || version == Version::V3 && is("EC PRIVATE KEY"),
+        _ => is("PUBLIC KEY") || version == Version::V1 && is("RSA PUBLIC KEY"),
+    }
+}
+
+// What signing takes beside a key: a random salt in version 1.
+fn salt_of(version: Version) -> Result<Vec<u8>, Fault> {
+    match version {
+        Version::V1 => Ok(drawn::<DRAWN>()?.to_vec()),
+        _ => Ok(Vec::new()),
     }
 }
 

@@ -1,6 +1,6 @@
 //! The clock, in whole seconds as the library counts them.
 
-use std::time::{Duration, SystemTime, UNIX_EPOCH};
+use std::time::{SystemTime, UNIX_EPOCH};
 
 /// The second that has begun at a time, counted from 1970.
 pub(crate) fn second_of(time: SystemTime) -> i64 {
@@ -17,13 +17,4 @@ pub(crate) fn second_of(time: SystemTime) -> i64 {
 /// The second that has begun.
 pub(crate) fn this_second() -> i64 {
     second_of(SystemTime::now())
-}
-
-// By how much a clock of this machine may be behind another: that of time(2) on Linux is, by up to a tick.
-const TICK: Duration = Duration::from_millis(100);
-
-/// The last second that is over by every clock of this machine.
-pub(crate) fn last_second() -> i64 {
-    let now = SystemTime::now();
-    second_of(now.checked_sub(TICK).unwrap_or(now)).saturating_sub(1)
 }

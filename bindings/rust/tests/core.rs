@@ -5,6 +5,7 @@ use paseto_proved::core::{
     PasetoAsymmetricPublicKey, PasetoError, PasetoNonce, PasetoSymmetricKey, Payload, Public,
     UntrustedToken, V1, V2, V3, V4,
 };
+use paseto_proved::keys::KeyTextError;
 use std::error::Error;
 
 type Outcome = Result<(), Box<dyn Error>>;
@@ -213,4 +214,52 @@ fn refusals_of_untrusted_tokens() {
     for (token, error) in cases {
         assert_eq!(Footer::try_from_token(token), Err(error), "{token}");
     }
+}
+
+// Keys that are wrapped and sealed, which the PASERK specification publishes, and one under a password.
+const WRAPPED: &str = "k4.local-wrap.pie.y-PC8Zh6P1DoOBUdhRr7W8GWSgHtRKvE8PWWYA-qXy3fxJDmaRsxcZVQzuvXHZuBg5MqCgh_y5K0WbukJCrDX73Wdf631VBnE1DNHafbjnGNzFNWP59ba9ifsOAgE7Bw";
+const SEALED: &str = "k4.seal.OPFn-AEUsKUWtAUZrutVvd9YaZ4CmV4_lk6ii8N72l5gTnl8RlL_zRFqWTZZV9gSnPzARQ_QklrZ2Qs6cJGKOENNOnsDXL5haXcr-QbTXgoLVBvT4ruJ8MdjWXGRTVc9";
+const OPENER: &str = "k4.secret.QHeW9LxLgYTp_gxUszaCLTSCMJKthz2HuhTD77nbjB23cVvWYUWNkoZU0-gy9T_1yUgFQuDj1MmwMsdox85gIw";
+const LOCKED: &str = "k4.local-pw.mmKAB81ygMwXuk4p-914pgAAAAAAAQAAAAAAAgAAAANPwsCsIPKoF2n5RpLAqNM7AXDtS5Vs6HHzespPD0zsJ2lKRmx41IaxDmqz4fyhPTkxfOUp5_-b5fQ-LKWeH5OZsLmj5NgxhPdR7KjxdtX6I8h7yYZArlMg";
+const INSIDE: &str = "k4.local.RUqrYrrUhVn4zTstGCJFLESLm0W7L0IdTCGiACjvYdU";
+
+#[test]
+fn locked_keys_are_read() -> Outcome {
+    type Symmetric = PasetoSymmetricKey<V4, Local>;
+    type Private = PasetoAsymmetricPrivateKey<'static, V4, Public>;
+    let private: Private = OPENER.parse()?;
+    assert_eq!(Symmetric::try_unwrap(WRAPPED, &key()?)?.as_ref(), [0; 32]);
+    assert_eq!(Symmetric::try_unseal(SEALED, &private)?.as_ref(), [0; 32]);
+    let opened = Symmetric::try_unlock(LOCKED, "paßwort".as_bytes())?;
+    assert_eq!(opened.to_paserk()?, INSIDE);
+
+    let other = Symmetric::try_new_random()?;
+    let refusals = [
+        (
+            Symmetric::try_unlock(LOCKED, b"passwort").err(),
+            KeyTextError::WrongKey,
+        ),
+        (
+            Symmetric::try_unwrap(WRAPPED, &other).err(),
+            KeyTextError::WrongKey,
+        ),
+        (WRAPPED.parse::<Symmetric>().err(), KeyTextError::NeedsKey),
+        (SEALED.parse::<Symmetric>().err(), KeyTextError::NeedsKey),
+        (
+            LOCKED.parse::<Symmetric>().err(),
+            KeyTextError::NeedsPassword,
+        ),
+        (
+            Private::try_unlock(LOCKED, "paßwort".as_bytes()).err(),
+            KeyTextError::OtherType,
+        ),
+        (
+            Private::try_unwrap(WRAPPED, &key()?).err(),
+            KeyTextError::OtherType,
+        ),
+    ];
+    for (found, wanted) in refusals {
+        assert_eq!(found, Some(wanted));
+    }
+    Ok(())
 }

@@ -7,3 +7,10 @@ pub mod Told
 pub mod ParseExits
 pub mod KeyLemmas
 pub mod PemLemmas
+pub mod Replies
+pub mod Taken
+pub mod TokenExits
+pub mod AdmitExits
+pub mod IssueExits
+pub mod KeyExits
+pub mod AdmitByExits

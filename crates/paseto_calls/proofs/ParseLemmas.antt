@@ -257,6 +257,13 @@ module _ (r s : Rules Verdict) (same : AreSame r s) (back : AreSame s r) (readin
     fault = elim answer.fault [ inl memory ↦ inl memory | inr fault ↦ inr (fault_same r s same reading token error fault) ];
   }
 
+-- what such a parser checks
+pub expected_verdicts : {B : Type 0} (verdict : B → Verdict) (checks : Checks B) (moment : Timestamp) (leeway within : ℕ) (found : Members) (names : Items)
+    → leeway ≡ within → AreSame (rules_of checks) (all_required names (all_expected found (with_times (λ key. no_rule))))
+    → AreSame (verdicts_of verdict (times_at moment leeway) checks) (expected_rules found names moment within)
+expected_verdicts {B} verdict checks moment leeway within found names equal same =
+    rw (← equal) (λ key. ap (checked verdict (times_at moment leeway)) (same key) ∙ expected_checked verdict moment leeway found names key)
+
 -- what a parser answers that expects the members and the names, and checks at the moment with the leeway
 pub expected_answer : {B : Type 0} (verdict : B → Verdict) (checks : Checks B) (moment : Timestamp) (leeway : ℕ) (found : Members) (names : Items)
     (longest : Option ℕ) (reading : Reading) (token : List ℕ) (result : Result Value GenericParserError)

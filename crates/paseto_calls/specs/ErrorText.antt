@@ -65,13 +65,30 @@ later_text status =
     if status == 39 then pem_text OtherSize else
     codes "An unknown error occurred"
 
+-- of a status of keys, options and footers
+abbrev pub key_text : ℕ → List ℕ
+key_text status =
+    if status == 40 then codes "Keys of versions 1 and 2 take no implicit assertion" else
+    if status == 41 then codes "The key is under a password" else
+    if status == 42 then codes "The key is wrapped or sealed" else
+    if status == 43 then codes "The password or the key is a wrong one, or the text was modified" else
+    if status == 44 then codes "The password asks for more work than is allowed" else
+    if status == 45 then codes "The options have another size" else
+    if status == 46 then codes "The token has no footer" else
+    if status == 47 then codes "The footer is not a JSON object" else
+    if status == 48 then codes "The footer names no key" else
+    if status == 49 then codes "No key has the id that the footer names" else
+    if status == 50 then codes "The system returned no random bytes" else
+    codes "An unknown error occurred"
+
 -- of any status
 abbrev pub status_text : ℕ → List ℕ
 status_text status =
     if nat_lt status 8 then argument_text status else
     if nat_lt status 19 then token_text status else
     if nat_lt status 28 then claim_text status else
-    later_text status
+    if nat_lt status 40 then later_text status else
+    key_text status
 
 -- each error of the core that has a status of its own is said by that status
 abbrev pub SayTheErrors : Type 0

@@ -15,3 +15,10 @@ pub mod Options
 pub mod Fault
 pub mod KeyText
 pub mod KeyPem
+pub mod HeldKey
+pub mod Request
+pub mod Tokens
+pub mod Issue
+pub mod Admit
+pub mod KeyCalls
+pub mod AdmitBy

@@ -13,8 +13,16 @@ use Rattle.rusty_paseto_paserk.specs.declared.error.PaserkError.{PaserkError}
 use Rattle.rusty_paseto_paserk.specs.declared.error.PaserkError.TheVariants as Paserk
 use Rattle.paseto_pem.specs.declared.error.PemError.{PemError}
 use Rattle.paseto_pem.specs.declared.error.PemError.TheVariants as Pem
+use Rattle.rusty_paseto.specs.declared.error.KeyRingError.{KeyRingError}
+use Rattle.rusty_paseto.specs.declared.error.KeyRingError.TheVariants as Ring
+use Rattle.paseto_wrapping.specs.declared.error.WrapError.{WrapError}
+use Rattle.paseto_wrapping.specs.declared.error.WrapError.TheVariants as Wrapped
+use Rattle.paseto_key_files.specs.declared.error.KeyFileError.{KeyFileError}
+use Rattle.paseto_key_files.specs.declared.error.KeyFileError.TheVariants as File
+use Rattle.paseto_keys.specs.declared.error.KeyError.{KeyError}
+use Rattle.paseto_keys.specs.declared.error.KeyError.TheVariants as Key
 use Rattle.paseto_calls.specs.declared.refusal.Refusal.{Refusal}
-use Rattle.paseto_calls.specs.declared.refusal.Refusal.TheVariants.{Memory, InvalidKey, InvalidNonce, NotUtf8, NotObject, InvalidMoment, IncorrectSize, FooterInvalid, WrongHeader, PayloadBase64Decode, Cryption, ChaChaCipherError, InvalidSignature, Utf8Error, FromUtf8Error, KeyRejected, Signature, PayloadJsonError, Expired, UseBeforeAvailable, Rfc3339Date, Missing, Unexpected, Invalid, DuplicateTopLevelPayloadClaim, Other, RsaCipher, TooLong, NotNames, NoPaserk, OtherVersion, OtherType, NotPem, EncryptedKey, OtherLabel, OtherAlgorithm, OtherCurve, OtherSize}
+use Rattle.paseto_calls.specs.declared.refusal.Refusal.TheVariants.{Memory, InvalidKey, InvalidNonce, NotUtf8, NotObject, InvalidMoment, IncorrectSize, FooterInvalid, WrongHeader, PayloadBase64Decode, Cryption, ChaChaCipherError, InvalidSignature, Utf8Error, FromUtf8Error, KeyRejected, Signature, PayloadJsonError, Expired, UseBeforeAvailable, Rfc3339Date, Missing, Unexpected, Invalid, DuplicateTopLevelPayloadClaim, Other, RsaCipher, TooLong, NotNames, NoPaserk, OtherVersion, OtherType, NotPem, EncryptedKey, OtherLabel, OtherAlgorithm, OtherCurve, OtherSize, NoAssertion, NeedsPassword, NeedsKey, WrongKey, TooCostly, InvalidOptions, NoFooter, FooterNotObject, NoKeyId, UnknownKey, Random}
 
 -- the status of each, as in paseto.h; 0 is that of a text, and 1 that of room too short for it
 abbrev pub status_of : Refusal → ℕ
@@ -56,6 +64,17 @@ status_of OtherLabel = 36
 status_of OtherAlgorithm = 37
 status_of OtherCurve = 38
 status_of OtherSize = 39
+status_of NoAssertion = 40
+status_of NeedsPassword = 41
+status_of NeedsKey = 42
+status_of WrongKey = 43
+status_of TooCostly = 44
+status_of InvalidOptions = 45
+status_of NoFooter = 46
+status_of FooterNotObject = 47
+status_of NoKeyId = 48
+status_of UnknownKey = 49
+status_of Random = 50
 
 -- the refusal for an error of the core
 abbrev pub token_refusal : PasetoError → Refusal
@@ -125,3 +144,57 @@ pem_refusal Pem.OtherCurve = OtherCurve
 pem_refusal Pem.OtherSize = OtherSize
 pem_refusal Pem.InvalidKey = InvalidKey
 pem_refusal (Pem.Memory _) = Memory
+
+-- the refusal for an error of a key that reads or writes tokens, or is generated
+abbrev pub key_refusal : KeyError → Refusal
+key_refusal (Key.OtherType _) = OtherType
+key_refusal Key.NoAssertion = NoAssertion
+key_refusal (Key.OtherVersion _) = OtherVersion
+key_refusal (Key.OtherLength _) = InvalidNonce
+key_refusal (Key.Refused source) = token_refusal source
+key_refusal Key.Random = InvalidNonce
+key_refusal (Key.Memory _) = Memory
+
+-- the refusal for an error of the key that opens, wraps or seals another: one whose text does not begin as PASERK is of
+-- version 1, and the other key is not
+abbrev pub opener_refusal : PaserkError → Refusal
+opener_refusal Paserk.NoKey = OtherVersion
+opener_refusal error = paserk_refusal error
+
+-- the refusal for an error of a wrapped key
+abbrev pub wrap_refusal : WrapError → Refusal
+wrap_refusal Wrapped.NoWrappedKey = NoPaserk
+wrap_refusal (Wrapped.OtherVersion _) = OtherVersion
+wrap_refusal (Wrapped.OtherType _) = OtherType
+wrap_refusal Wrapped.InvalidNonce = InvalidNonce
+wrap_refusal Wrapped.LongPassword = TooLong
+wrap_refusal Wrapped.TooCostly = TooCostly
+wrap_refusal Wrapped.InvalidPrivateKey = KeyRejected
+wrap_refusal Wrapped.WrongKey = WrongKey
+wrap_refusal (Wrapped.Memory _) = Memory
+wrap_refusal _ = InvalidKey
+
+-- the refusal for an error of a key's text in any form
+abbrev pub file_refusal : KeyFileError → Refusal
+file_refusal File.NeedsPassword = NeedsPassword
+file_refusal File.NeedsKey = NeedsKey
+file_refusal (File.OtherOpener source) = opener_refusal source
+file_refusal File.PublicKey = OtherType
+file_refusal File.LocalInPem = OtherType
+file_refusal File.NoSealing = OtherVersion
+file_refusal File.SecondInPem = OtherVersion
+file_refusal (File.Pem source) = pem_refusal source
+file_refusal (File.Wrap source) = wrap_refusal source
+file_refusal (File.Paserk source) = paserk_refusal source
+file_refusal File.Random = InvalidNonce
+file_refusal (File.Memory _) = Memory
+
+-- the refusal for an error of a ring of keys
+abbrev pub ring_refusal : KeyRingError → Refusal
+ring_refusal (Ring.Untrusted source) = token_refusal source
+ring_refusal (Ring.Token source) = token_refusal source
+ring_refusal Ring.NoFooter = NoFooter
+ring_refusal Ring.NotAnObject = FooterNotObject
+ring_refusal Ring.NoKeyId = NoKeyId
+ring_refusal (Ring.UnknownKey _) = UnknownKey
+ring_refusal (Ring.Memory _) = Memory

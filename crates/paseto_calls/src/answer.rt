@@ -4,11 +4,13 @@ ghost use Rattle.std.specs.Prelude.{◌≡◌, ◌≤◌, ◌++◌, drop, length
 ghost use Rattle.paseto_calls.specs.Answer.{IsCut, IsGiven, IsHanded};
 ghost use Rattle.paseto_calls.specs.ErrorText.{status_text};
 ghost use Rattle.paseto_calls.specs.Fault.{IsHandedTelling, IsTold};
-ghost use Rattle.paseto_calls.specs.KeyText.{IsKeyHanded};
+ghost use Rattle.paseto_calls.specs.KeyText.{IsKeyHanded as IsKeyBytesHanded};
 ghost use Rattle.paseto_calls.specs.Refusal.{status_of};
+ghost use Rattle.paseto_calls.specs.Request.{IsKeyHanded};
 
 use crate::error_text::text_of;
 use crate::fault::{Fault, line_of};
+use crate::held_key::HeldKey;
 use crate::refusal::Refusal;
 use std::alloc::Global;
 
@@ -33,7 +35,7 @@ pub fn hand_over(made: Result<String, Refusal>, room: &mut [u8], written: &mut u
 
 /// Returns a key, as `hand_over` does a text.
 pub fn hand_over_key(made: Result<Vec<u8>, Refusal>, room: &mut [u8], written: &mut usize) -> u8
-    ensures { IsKeyHanded made room.old room.new written.new result }
+    ensures { IsKeyBytesHanded made room.old room.new written.new result }
 {
     match made {
         Ok(key) => give(&key, room, written),
@@ -65,6 +67,25 @@ pub fn hand_over_telling(
             *written = 0;
             tell(alloc, &fault, line, told)
         }
+    }
+}
+
+/// Writes a key into C's struct, and returns the status; why there is none goes into a buffer.
+pub fn hand_over_held(
+    made: Result<HeldKey, Refusal>,
+    key: &mut HeldKey,
+    line: &mut [u8],
+    told: &mut usize,
+) -> u8
+    ensures { IsKeyHanded made key.old key.new result line.old line.new told.new }
+{
+    match made {
+        Ok(held) => {
+            *key = held;
+            *told = 0;
+            OK
+        }
+        Err(refusal) => tell_status(refusal, line, told),
     }
 }
 

@@ -1,7 +1,7 @@
 //! The texts of the statuses.
 
 ghost use Rattle.std.specs.Prelude.{◌≡◌};
-ghost use Rattle.paseto_calls.specs.ErrorText.{argument_text, claim_text, later_text, status_text, token_text};
+ghost use Rattle.paseto_calls.specs.ErrorText.{argument_text, claim_text, key_text, later_text, status_text, token_text};
 
 /// The text of a status.
 pub fn text_of(status: u8) -> &'static str
@@ -16,7 +16,10 @@ pub fn text_of(status: u8) -> &'static str
     if status < 28 {
         return claim_text(status);
     }
-    later_text(status)
+    if status < 40 {
+        return later_text(status);
+    }
+    key_text(status)
 }
 
 /// The text of a status that says nothing of a token.
@@ -87,6 +90,26 @@ fn later_text(status: u8) -> &'static str
         37 => "The key is one of another algorithm",
         38 => "The key is one of another curve",
         39 => "The key has another size",
+        _ => "An unknown error occurred",
+    }
+}
+
+/// The text of a status of keys, options and footers.
+fn key_text(status: u8) -> &'static str
+    ensures { result.now ≡ key_text status }
+{
+    match status {
+        40 => "Keys of versions 1 and 2 take no implicit assertion",
+        41 => "The key is under a password",
+        42 => "The key is wrapped or sealed",
+        43 => "The password or the key is a wrong one, or the text was modified",
+        44 => "The password asks for more work than is allowed",
+        45 => "The options have another size",
+        46 => "The token has no footer",
+        47 => "The footer is not a JSON object",
+        48 => "The footer names no key",
+        49 => "No key has the id that the footer names",
+        50 => "The system returned no random bytes",
         _ => "An unknown error occurred",
     }
 }

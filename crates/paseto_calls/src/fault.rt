@@ -3,11 +3,16 @@
 ghost use Rattle.std.specs.Prelude.{◌≡◌, MatchResult, Ok, Err, IfOk, string_bytes};
 ghost use Rattle.paseto_calls.specs.Fault.{refusal_of};
 ghost use Rattle.paseto_calls.specs.Parse.{line_of};
+ghost use Rattle.paseto_calls.specs.Refusal.{file_refusal, key_refusal, paserk_refusal, token_refusal};
 ghost use Rattle.paseto_calls.specs.declared.fault.Fault.TheVariants.{Refused};
 ghost use Rattle.paseto_calls.specs.declared.refusal.Refusal.TheVariants.{Memory};
 
 use crate::refusal::Refusal;
+use paseto_key_files::KeyFileError;
+use paseto_keys::KeyError;
+use rusty_paseto_core::PasetoError;
 use rusty_paseto_generic::GenericParserError;
+use rusty_paseto_paserk::PaserkError;
 use std::alloc::{AllocError, Global};
 
 /// Why a call that parses a token returns no text.
@@ -44,6 +49,38 @@ impl From<AllocError> for Fault {
 
     fn from(_error: AllocError) -> Fault {
         Fault::Refused(Refusal::Memory)
+    }
+}
+
+impl From<KeyError> for Fault {
+    ghost from_gives = { λ error fault. fault ≡ Refused (key_refusal error) };
+
+    fn from(error: KeyError) -> Fault {
+        Fault::Refused(Refusal::of_key(&error))
+    }
+}
+
+impl From<KeyFileError> for Fault {
+    ghost from_gives = { λ error fault. fault ≡ Refused (file_refusal error) };
+
+    fn from(error: KeyFileError) -> Fault {
+        Fault::Refused(Refusal::of_file(&error))
+    }
+}
+
+impl From<PaserkError> for Fault {
+    ghost from_gives = { λ error fault. fault ≡ Refused (paserk_refusal error) };
+
+    fn from(error: PaserkError) -> Fault {
+        Fault::Refused(Refusal::of_paserk(&error))
+    }
+}
+
+impl From<PasetoError> for Fault {
+    ghost from_gives = { λ error fault. fault ≡ Refused (token_refusal error) };
+
+    fn from(error: PasetoError) -> Fault {
+        Fault::Refused(Refusal::of_token(&error))
     }
 }
 

@@ -83,7 +83,7 @@ fn expect_members<'a, V: VersionTrait, P: PurposeTrait, B: Drop>(
 }
 
 /// The names in a text, the items of a JSON array, or `NotNames`. An empty text has no names.
-fn names_of(alloc: Global, text: &str) -> Result<Vec<Value>, Refusal>
+pub(crate) fn names_of(alloc: Global, text: &str) -> Result<Vec<Value>, Refusal>
     ensures { MatchResult result (λ names. read_names text.now ≡ Some (array (items_view names.items)))
         (λ refusal. (refusal ≡ Refusal.Memory)
         ⊎ ((refusal ≡ Refusal.NotNames) × IsNoArray text.now)) }

@@ -2,9 +2,13 @@
 
 ghost use Rattle.std.specs.Prelude.{◌≡◌};
 ghost use Rattle.paseto_calls.specs.declared.refusal.Refusal.TheVariants.{Memory};
-ghost use Rattle.paseto_calls.specs.Refusal.{builder_refusal, claim_refusal, parser_refusal, paserk_refusal, pem_refusal, status_of, token_refusal};
+ghost use Rattle.paseto_calls.specs.Refusal.{builder_refusal, claim_refusal, file_refusal, key_refusal, opener_refusal, parser_refusal, paserk_refusal, pem_refusal, ring_refusal, status_of, token_refusal, wrap_refusal};
 
+use paseto_key_files::KeyFileError;
+use paseto_keys::KeyError;
 use paseto_pem::PemError;
+use paseto_wrapping::WrapError;
+use rusty_paseto::KeyRingError;
 use rusty_paseto_claims::PasetoClaimError;
 use rusty_paseto_core::PasetoError;
 use rusty_paseto_generic::{GenericBuilderError, GenericParserError};
@@ -90,6 +94,28 @@ pub enum Refusal {
     OtherCurve,
     /// A key in PEM is of the right algorithm, but of another size.
     OtherSize,
+    /// An implicit assertion is given, and the key's version has none.
+    NoAssertion,
+    /// A key is under a password, and none is given.
+    NeedsPassword,
+    /// A key is wrapped or sealed, and no key that opens it is given.
+    NeedsKey,
+    /// A key does not open with the password or the key that is given.
+    WrongKey,
+    /// A key's password asks for more work than is allowed.
+    TooCostly,
+    /// The options have another size than those of this version.
+    InvalidOptions,
+    /// A token has no footer that could name its key.
+    NoFooter,
+    /// The footer of a token is not a JSON object.
+    FooterNotObject,
+    /// The footer of a token names no key.
+    NoKeyId,
+    /// No key has the id that the footer of a token names.
+    UnknownKey,
+    /// The system has no random bytes: no call of this library returns it, but those of the header.
+    Random,
 }
 
 impl Refusal {
@@ -136,6 +162,17 @@ impl Refusal {
             Refusal::OtherAlgorithm => 37,
             Refusal::OtherCurve => 38,
             Refusal::OtherSize => 39,
+            Refusal::NoAssertion => 40,
+            Refusal::NeedsPassword => 41,
+            Refusal::NeedsKey => 42,
+            Refusal::WrongKey => 43,
+            Refusal::TooCostly => 44,
+            Refusal::InvalidOptions => 45,
+            Refusal::NoFooter => 46,
+            Refusal::FooterNotObject => 47,
+            Refusal::NoKeyId => 48,
+            Refusal::UnknownKey => 49,
+            Refusal::Random => 50,
         }
     }
 
@@ -240,6 +277,89 @@ impl Refusal {
     }
 }
 
+impl Refusal {
+    /// The refusal for an error of a key that reads or writes tokens, or is generated.
+    pub(crate) fn of_key(error: &KeyError) -> Refusal
+        ensures { result ≡ key_refusal error.now }
+    {
+        match error {
+            KeyError::OtherType(_) => Refusal::OtherType,
+            KeyError::NoAssertion => Refusal::NoAssertion,
+            KeyError::OtherVersion(_) => Refusal::OtherVersion,
+            KeyError::OtherLength(_) | KeyError::Random => Refusal::InvalidNonce,
+            KeyError::Refused(source) => Refusal::of_token(source),
+            KeyError::Memory(_) => Refusal::Memory,
+        }
+    }
+
+    /// The refusal for an error of a key's text in any form.
+    pub(crate) fn of_file(error: &KeyFileError) -> Refusal
+        ensures { result ≡ file_refusal error.now }
+    {
+        match error {
+            KeyFileError::NeedsPassword => Refusal::NeedsPassword,
+            KeyFileError::NeedsKey => Refusal::NeedsKey,
+            KeyFileError::OtherOpener(source) => Refusal::of_opener(source),
+            KeyFileError::PublicKey | KeyFileError::LocalInPem => Refusal::OtherType,
+            KeyFileError::NoSealing | KeyFileError::SecondInPem => Refusal::OtherVersion,
+            KeyFileError::Pem(source) => Refusal::of_pem(source),
+            KeyFileError::Wrap(source) => Refusal::of_wrap(source),
+            KeyFileError::Paserk(source) => Refusal::of_paserk(source),
+            KeyFileError::Random => Refusal::InvalidNonce,
+            KeyFileError::Memory(_) => Refusal::Memory,
+        }
+    }
+
+    /// The refusal for an error of the key that opens, wraps or seals another. One whose text does not begin as PASERK
+    /// is of version 1, and the other key is not.
+    fn of_opener(error: &PaserkError) -> Refusal
+        ensures { result ≡ opener_refusal error.now }
+    {
+        match error {
+            PaserkError::NoKey => Refusal::OtherVersion,
+            other => Refusal::of_paserk(other),
+        }
+    }
+
+    /// The refusal for an error of a wrapped key.
+    fn of_wrap(error: &WrapError) -> Refusal
+        ensures { result ≡ wrap_refusal error.now }
+    {
+        match error {
+            WrapError::NoWrappedKey => Refusal::NoPaserk,
+            WrapError::OtherVersion(_) => Refusal::OtherVersion,
+            WrapError::OtherType(_) => Refusal::OtherType,
+            WrapError::InvalidNonce => Refusal::InvalidNonce,
+            WrapError::LongPassword => Refusal::TooLong,
+            WrapError::TooCostly => Refusal::TooCostly,
+            WrapError::InvalidPrivateKey => Refusal::KeyRejected,
+            WrapError::WrongKey => Refusal::WrongKey,
+            WrapError::InvalidText
+            | WrapError::InvalidCost
+            | WrapError::InvalidPoint
+            | WrapError::SmallOrder
+            | WrapError::InvalidKey => Refusal::InvalidKey,
+            WrapError::Memory(_) => Refusal::Memory,
+        }
+    }
+
+    /// The refusal for an error of a ring of keys.
+    pub(crate) fn of_ring(error: &KeyRingError) -> Refusal
+        ensures { result ≡ ring_refusal error.now }
+    {
+        match error {
+            KeyRingError::Untrusted(source) | KeyRingError::Token(source) => Refusal::of_token(
+                source,
+            ),
+            KeyRingError::NoFooter => Refusal::NoFooter,
+            KeyRingError::NotAnObject => Refusal::FooterNotObject,
+            KeyRingError::NoKeyId => Refusal::NoKeyId,
+            KeyRingError::UnknownKey(_) => Refusal::UnknownKey,
+            KeyRingError::Memory(_) => Refusal::Memory,
+        }
+    }
+}
+
 impl From<GenericBuilderError> for Refusal {
     ghost from_gives = { λ error refusal. refusal ≡ builder_refusal error };
 
@@ -253,6 +373,30 @@ impl From<GenericParserError> for Refusal {
 
     fn from(error: GenericParserError) -> Refusal {
         Refusal::of_parser(&error)
+    }
+}
+
+impl From<KeyError> for Refusal {
+    ghost from_gives = { λ error refusal. refusal ≡ key_refusal error };
+
+    fn from(error: KeyError) -> Refusal {
+        Refusal::of_key(&error)
+    }
+}
+
+impl From<KeyFileError> for Refusal {
+    ghost from_gives = { λ error refusal. refusal ≡ file_refusal error };
+
+    fn from(error: KeyFileError) -> Refusal {
+        Refusal::of_file(&error)
+    }
+}
+
+impl From<PaserkError> for Refusal {
+    ghost from_gives = { λ error refusal. refusal ≡ paserk_refusal error };
+
+    fn from(error: PaserkError) -> Refusal {
+        Refusal::of_paserk(&error)
     }
 }
 

@@ -273,15 +273,73 @@ class OtherSize(InvalidKey):
     code = 39
 
 
-# ---- other faults
+class NoAssertion(PasetoError, ValueError):
+    """Tokens of versions 1 and 2 have no implicit assertion."""
+
+    code = 40
+
+
+class NeedsPassword(InvalidKey):
+    """The key is under a password."""
+
+    code = 41
+
+
+class NeedsKey(InvalidKey):
+    """The key is wrapped or sealed."""
+
+    code = 42
+
+
+class WrongKey(InvalidKey):
+    """The password or the key is a wrong one, or the text was modified."""
+
+    code = 43
+
+
+class TooCostly(InvalidKey):
+    """The password of the key asks for more work than is allowed."""
+
+    code = 44
+
+
+class InvalidOptions(PasetoError):
+    """The library is of another version than the package."""
+
+    code = 45
+
+
+class NoFooter(Refused):
+    """The token has no footer."""
+
+    code = 46
+
+
+class FooterNotObject(Refused):
+    """The footer of the token is not a JSON object."""
+
+    code = 47
+
+
+class NoKeyId(Refused):
+    """The footer of the token has no string under ``kid``."""
+
+    code = 48
 
 
 class UnknownKey(Refused):
     """The footer of the token names no key, or a key that is not in the ring."""
 
-    @classmethod
-    def text(cls) -> str:
-        return "the footer of the token names no key of the ring"
+    code = 49
+
+
+class Random(PasetoError):
+    """The system has no random bytes."""
+
+    code = 50
+
+
+# ---- other faults
 
 
 class Revoked(Refused):

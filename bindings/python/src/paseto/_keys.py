@@ -7,8 +7,9 @@ import hmac
 import os
 from typing import ClassVar, NoReturn
 
+from . import _library
 from ._errors import InvalidKey, KeyRejected
-from ._library import key_of, key_text, pair, public_half
+from ._library import Held
 from ._values import Text, text_of
 
 # Keys are hashed under it, so that a hash tells nothing of a key.
@@ -64,7 +65,7 @@ class Key:
 
         Not available for key pairs of version 1.
         """
-        return self._told("to_paserk")
+        return self._told("text")
 
     def to_pem(self) -> str:
         """A private or a public key in PEM, byte for byte as ``openssl pkey`` writes it. A key for local tokens has no PEM
@@ -75,7 +76,7 @@ class Key:
         """
         if isinstance(self, LocalKey):
             raise InvalidKey("a key for local tokens has no PEM text")
-        return key_text(self._version, self._type, "to_pem", self._bytes)
+        return _library.key_text(self._held(), "pem")
 
     @property
     def id(self) -> str:
@@ -86,7 +87,11 @@ class Key:
         """The text that the library makes from the key."""
         if self._version == 1 and not isinstance(self, LocalKey):
             raise InvalidKey("a key pair of version 1 has no PASERK text here")
-        return key_text(self._version, self._type, form, self._bytes)
+        return _library.key_text(self._held(), form)
+
+    def _held(self) -> Held:
+        """The key as the library takes it."""
+        return Held(self._version, self._type, self._bytes)
 
     @staticmethod
     def from_text(text: Text) -> LocalKey | PrivateKey | PublicKey:
@@ -102,13 +107,20 @@ class Key:
         >>> Key.from_text(pair.to_pem()) == pair
         True
         """
-        read = text_of(text, "the text of a key")
-        if not read.startswith(b"-----BEGIN"):
-            read = read.removesuffix(b"\n")
-        version, key_type, value = key_of(read)
-        kinds: dict[str, type[LocalKey] | type[PrivateKey] | type[PublicKey]]
-        kinds = {"local": LocalKey, "private": PrivateKey, "public": PublicKey}
-        return kinds[key_type](value, version)
+        return _key_of(_library.key_of(text_of(text, "the text of a key")))
+
+    @staticmethod
+    def unlock(text: Text, password: Text) -> LocalKey | PrivateKey | PublicKey:
+        """Reads a key that is under a password, ``k4.local-pw..`` or ``k4.secret-pw..``. Raises ``WrongKey`` for a wrong one."""
+        return _key_of(_library.unlocked(text_of(text, "the text of a key"), text_of(password, "a password")))
+
+    @staticmethod
+    def unwrap(text: Text, opener: LocalKey | PrivateKey) -> LocalKey | PrivateKey | PublicKey:
+        """Reads a key that another one opens: ``k4.local-wrap..`` or ``k4.secret-wrap..`` with the key that wrapped it, or
+        ``k4.seal..`` with the private key of the public one that it was sealed to. Raises ``WrongKey`` for another key."""
+        if not isinstance(opener, (LocalKey, PrivateKey)):
+            raise TypeError("a key is opened by a LocalKey or a PrivateKey")
+        return _key_of(_library.unwrapped(text_of(text, "the text of a key"), opener._held()))
 
 
 class LocalKey(Key):
@@ -155,7 +167,7 @@ class PrivateKey(Key):
             raise ValueError("a version is 1, 2, 3 or 4")
         while True:
             try:
-                return cls(pair(version)[0], version)
+                return cls(_library.generate(version, cls._type).bytes, version)
             except KeyRejected:
                 continue
 
@@ -164,5 +176,11 @@ class PrivateKey(Key):
         """The public key of this private key. Not available in version 1: keep the public key with the private one."""
         if self._version == 1:
             raise InvalidKey("the public key of version 1 is made elsewhere, as by openssl")
-        seed = self._bytes if self._version == 3 else self._bytes[:32]
-        return PublicKey(public_half(self._version, seed)[1], self._version)
+        return PublicKey(_library.public_half(self._held()).bytes, self._version)
+
+
+def _key_of(held: Held) -> LocalKey | PrivateKey | PublicKey:
+    """The key that the library has read."""
+    kinds: dict[str, type[LocalKey] | type[PrivateKey] | type[PublicKey]]
+    kinds = {"local": LocalKey, "private": PrivateKey, "public": PublicKey}
+    return kinds[held.type](held.bytes, held.version)

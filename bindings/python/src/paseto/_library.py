@@ -8,21 +8,17 @@ from collections.abc import Callable
 from pathlib import Path
 from typing import Any, NamedTuple
 
-from ._errors import FAULTS, NoPaserk
+from ._errors import FAULTS, InvalidKey, OtherVersion
 
 # The versions whose tokens are bound to an implicit assertion.
 ASSERTING = (3, 4)
 _OK = 0
 _ROOM = 1
-# Which key a number of the library names.
-_TYPES = {1: "local", 2: "private", 3: "public"}
-
-
-class Kind(NamedTuple):
-    """A kind of token: its version, and its purpose, ``local`` or ``public``."""
-
-    version: int
-    purpose: str
+# How many random bytes are enough for each call that takes some.
+_DRAWN = 48
+# What the library calls a type of key.
+_NUMBERS = {"local": 1, "private": 2, "public": 3}
+_TYPES = {number: name for name, number in _NUMBERS.items()}
 
 
 class Bound(NamedTuple):
@@ -42,14 +38,35 @@ class Checks(NamedTuple):
     longest: int
 
 
+class Held(NamedTuple):
+    """A key: its version, its type, ``local``, ``private`` or ``public``, and its bytes."""
+
+    version: int
+    type: str
+    bytes: bytes
+
+
 class _Options(ctypes.Structure):
     """``struct paseto_options``."""
 
     _fields_ = [
+        ("size", ctypes.c_size_t),
         ("leeway", ctypes.c_uint32),
         ("longest", ctypes.c_size_t),
+        ("longest_footer", ctypes.c_size_t),
         ("required", ctypes.c_char_p),
         ("required_length", ctypes.c_size_t),
+    ]
+
+
+class _Key(ctypes.Structure):
+    """``struct paseto_key``."""
+
+    _fields_ = [
+        ("version", ctypes.c_uint8),
+        ("type", ctypes.c_uint8),
+        ("length", ctypes.c_uint16),
+        ("bytes", ctypes.c_uint8 * 1244),
     ]
 
 
@@ -62,47 +79,32 @@ def _found() -> str:
 # What ctypes makes of pointers has types of its own.
 _LENT: list[Any] = [ctypes.c_char_p, ctypes.c_size_t]
 _ANSWER: list[Any] = [*_LENT, ctypes.POINTER(ctypes.c_size_t)]
-_MOMENT: list[Any] = [ctypes.c_int64]
-_NUMBERS: list[Any] = [ctypes.POINTER(ctypes.c_uint8), ctypes.POINTER(ctypes.c_uint8)]
-
-
-def _kinds() -> dict[str, list[Any]]:
-    """The argument types of each call, by its name."""
-    kinds: dict[str, list[Any]] = {
-        "paseto_footer": [*_LENT, *_ANSWER],
-        "paseto_error_text": [ctypes.c_uint8, *_ANSWER],
-        "paseto_key_kind": [*_LENT, *_NUMBERS],
-        "paseto_pem_kind": [*_LENT, *_NUMBERS],
-    }
-    for version in range(1, 5):
-        # Behind the rest stand the footer, and the implicit assertion where the version binds one.
-        tail = [*_LENT, *(_LENT if version in ASSERTING else [])]
-        # A signature of version 1 takes a salt.
-        key = [*_LENT, *(_LENT if version == 1 else [])]
-        local, public = f"paseto_v{version}_local", f"paseto_v{version}_public"
-        kinds[f"{local}_encrypt"] = [*_LENT, *_LENT, *_LENT, *tail, *_ANSWER]
-        kinds[f"{local}_decrypt"] = [*_LENT, *_LENT, *tail, *_ANSWER]
-        kinds[f"{local}_build"] = [*_LENT, *_LENT, *_LENT, *_MOMENT, *tail, *_ANSWER]
-        kinds[f"{public}_sign"] = [*key, *_LENT, *tail, *_ANSWER]
-        kinds[f"{public}_verify"] = [*_LENT, *_LENT, *tail, *_ANSWER]
-        kinds[f"{public}_build"] = [*key, *_LENT, *_MOMENT, *tail, *_ANSWER]
-        for kind in (local, public):
-            options = [ctypes.POINTER(_Options)]
-            kinds[f"{kind}_parse_with"] = [*_LENT, *_LENT, *_LENT, *_MOMENT, *tail, *options, *_ANSWER, *_ANSWER]
-        if version != 1:
-            kinds[f"{public}_keypair"] = [*_LENT, *_LENT, *_LENT]
-        for key_type in ("local", "private", "public") if version != 1 else ("local",):
-            for form in ("to_paserk", "from_paserk", "id"):
-                kinds[f"paseto_v{version}_{key_type}_key_{form}"] = [*_LENT, *_ANSWER]
-        for key_type in ("private", "public"):
-            for form in ("to_pem", "from_pem"):
-                kinds[f"paseto_v{version}_{key_type}_key_{form}"] = [*_LENT, *_ANSWER]
-    return kinds
-
+_BOUND: list[Any] = [*_LENT, *_LENT]
+_HELD: Any = ctypes.POINTER(_Key)
+_CLAIMS: list[Any] = [*_LENT, ctypes.c_int64, *_BOUND]
+# The argument types of each call before the buffers for the result and for the reason of a refusal; a call that makes a key has only
+# the latter.
+_TOLD: dict[str, list[Any]] = {
+    "paseto_encrypt_with": [_HELD, *_LENT, *_LENT, *_BOUND, *_ANSWER],
+    "paseto_sign_with": [_HELD, *_LENT, *_LENT, *_BOUND, *_ANSWER],
+    "paseto_issue_with": [_HELD, *_LENT, *_CLAIMS, *_ANSWER],
+    "paseto_decrypt": [_HELD, *_LENT, *_BOUND, *_ANSWER],
+    "paseto_verify": [_HELD, *_LENT, *_BOUND, *_ANSWER],
+    "paseto_admit": [_HELD, *_LENT, *_CLAIMS, ctypes.POINTER(_Options), *_ANSWER],
+    "paseto_token_footer": [*_LENT, *_ANSWER],
+    "paseto_key_text": [_HELD, *_ANSWER],
+    "paseto_key_pem": [_HELD, *_ANSWER],
+    "paseto_key_id": [_HELD, *_ANSWER],
+    "paseto_key_read": [*_LENT, _HELD],
+    "paseto_key_unlock": [*_LENT, *_LENT, _HELD],
+    "paseto_key_unwrap": [*_LENT, _HELD, _HELD],
+    "paseto_key_public": [_HELD, _HELD],
+    "paseto_key_generate_with": [ctypes.c_uint8, ctypes.c_uint8, *_LENT, _HELD],
+}
 
 _library = ctypes.CDLL(_found())
 _CALLS: dict[str, Callable[..., int]] = {}
-for _name, _types in _kinds().items():
+for _name, _types in [*((it, [*types, *_ANSWER]) for it, types in _TOLD.items()), ("paseto_error_text", [ctypes.c_uint8, *_ANSWER])]:
     _call = getattr(_library, _name)
     _call.argtypes, _call.restype = _types, ctypes.c_uint8
     _CALLS[_name] = _call
@@ -111,68 +113,70 @@ for _name, _types in _kinds().items():
 # ---- tokens
 
 
-def write(kind: Kind, key: bytes, text: bytes, bound: Bound) -> bytes:
+def write(key: Held, text: bytes, bound: Bound) -> bytes:
     """The token that holds a text, encrypted or signed."""
-    words = (*_drawn(kind, key, 32), *_lent(text), *_tail(kind, bound))
-    return _ask(_named(kind, "encrypt" if kind.purpose == "local" else "sign"), words, 1024 + 2 * len(text))
+    call = "paseto_encrypt_with" if key.type == "local" else "paseto_sign_with"
+    return _ask(call, (_held(key), *_drawn(), *_lent(text), *_tail(bound)), 1024 + 2 * len(text))
 
 
-def build(kind: Kind, key: bytes, claims: bytes, moment: int, bound: Bound) -> bytes:
-    """The token that holds claims, with ``exp``, ``iat`` and ``nbf`` where they have none."""
-    words = (*_drawn(kind, key, 24 if kind.version == 2 else 32), *_lent(claims), moment, *_tail(kind, bound))
-    return _ask(_named(kind, "build"), words, 1024 + 2 * len(claims))
+def build(key: Held, claims: bytes, moment: int, bound: Bound) -> bytes:
+    """The token that holds claims, with ``exp``, ``iat`` and ``nbf`` where they have none. A moment is in nanoseconds."""
+    return _ask("paseto_issue_with", (_held(key), *_drawn(), *_lent(claims), moment, *_tail(bound)), 1024 + 2 * len(claims))
 
 
-def read(kind: Kind, key: bytes, token: bytes, bound: Bound) -> bytes:
+def read(key: Held, token: bytes, bound: Bound) -> bytes:
     """The text of a token, decrypted or verified."""
-    call = _named(kind, "decrypt" if kind.purpose == "local" else "verify")
-    return _ask(call, (*_lent(key), *_lent(token), *_tail(kind, bound)), len(token))
+    call = "paseto_decrypt" if key.type == "local" else "paseto_verify"
+    return _ask(call, (_held(key), *_lent(token), *_tail(bound)), len(token))
 
 
-def parse(kind: Kind, key: bytes, token: bytes, moment: int, bound: Bound, checks: Checks) -> bytes:
-    """The claims of a token that passes the checks. The text of an exception is the library's message."""
-    options = _Options(checks.leeway, checks.longest, *_lent(checks.required))
-    words = (*_lent(key), *_lent(token), *_lent(checks.expected), moment, *_tail(kind, bound), ctypes.byref(options))
-    return _ask_with_message(_named(kind, "parse_with"), words, len(token))
+def parse(key: Held, token: bytes, moment: int, bound: Bound, checks: Checks) -> bytes:
+    """The claims of a token that passes the checks."""
+    options = _Options(ctypes.sizeof(_Options), checks.leeway, checks.longest, 0, *_lent(checks.required))
+    words = (_held(key), *_lent(token), *_lent(checks.expected), moment, *_tail(bound), ctypes.byref(options))
+    return _ask("paseto_admit", words, len(token))
 
 
 def footer(token: bytes) -> bytes:
     """The footer of a token."""
-    return _ask("paseto_footer", _lent(token), len(token))
+    return _ask("paseto_token_footer", _lent(token), len(token))
 
 
 # ---- keys
 
 
-def pair(version: int) -> tuple[bytes, bytes]:
-    """The bytes of the private and the public key of a new random seed."""
-    return public_half(version, os.urandom(48 if version == 3 else 32))
+def generate(version: int, key_type: str) -> Held:
+    """A new key from random bytes."""
+    return _made("paseto_key_generate_with", (version, _NUMBERS[key_type], *_drawn()))
 
 
-def public_half(version: int, seed: bytes) -> tuple[bytes, bytes]:
-    """The bytes of the private and the public key of a seed."""
-    private, public = (48, 49) if version == 3 else (64, 32)
-    rooms = ctypes.create_string_buffer(private), ctypes.create_string_buffer(public)
-    _raise_for(_CALLS[f"paseto_v{version}_public_keypair"](*_lent(seed), rooms[0], private, rooms[1], public))
-    return rooms[0].raw, rooms[1].raw
+def public_half(key: Held) -> Held:
+    """The public key of a private one."""
+    return _made("paseto_key_public", (_held(key),))
 
 
-def key_text(version: int, key_type: str, form: str, key: bytes) -> str:
-    """What a key is in a form: ``to_paserk``, ``id`` or ``to_pem``."""
-    return _ask(f"paseto_v{version}_{key_type}_key_{form}", _lent(key), 2048).decode()
+def key_text(key: Held, form: str) -> str:
+    """What a key is in a form: ``text``, ``id`` or ``pem``."""
+    if form == "text" and key.version == 1 and key.type != "local":
+        raise OtherVersion
+    # In PEM the keys of version 2 are those of version 4.
+    told = key._replace(version=4) if form == "pem" and key.version == 2 else key
+    return _ask(f"paseto_key_{form}", (_held(told),), 2048).decode()
 
 
-def key_of(text: bytes) -> tuple[int, str, bytes]:
-    """The version, the type and the bytes of a key as PASERK, without a newline, or as PEM."""
-    is_pem = text.startswith(b"-----BEGIN")
-    version, number = ctypes.c_uint8(), ctypes.c_uint8()
-    call = _CALLS["paseto_pem_kind" if is_pem else "paseto_key_kind"]
-    _raise_for(call(*_lent(text), ctypes.byref(version), ctypes.byref(number)))
-    key_type = _TYPES[number.value]
-    reading = f"paseto_v{version.value}_{key_type}_key_{'from_pem' if is_pem else 'from_paserk'}"
-    if reading not in _CALLS:
-        raise NoPaserk("a key pair of version 1 has no PASERK text here")
-    return version.value, key_type, _ask(reading, _lent(text), 2048)
+def key_of(text: bytes) -> Held:
+    """The key of a text, PASERK or PEM."""
+    return _made("paseto_key_read", _lent(text))
+
+
+def unlocked(text: bytes, password: bytes) -> Held:
+    """The key of a text that is under a password."""
+    return _made("paseto_key_unlock", (*_lent(text), *_lent(password)))
+
+
+def unwrapped(text: bytes, opener: Held) -> Held:
+    """The key of a text that another key opens."""
+    return _made("paseto_key_unwrap", (*_lent(text), _held(opener)))
 
 
 # ---- arguments and results
@@ -185,51 +189,46 @@ def status_text(code: int) -> str:
     return room.raw[: written.value].decode()
 
 
-def _named(kind: Kind, call: str) -> str:
-    return f"paseto_v{kind.version}_{kind.purpose}_{call}"
-
-
 def _lent(value: bytes) -> tuple[bytes, int]:
     """Bytes as a pointer and a length, as C takes them."""
     return value, len(value)
 
 
-def _drawn(kind: Kind, key: bytes, length: int) -> tuple[Any, ...]:
-    """The key, and the random nonce of a local token or salt of a signature of version 1 behind it."""
-    if kind.purpose == "local":
-        return (*_lent(key), *_lent(os.urandom(length)))
-    return (*_lent(key), *(_lent(os.urandom(48)) if kind.version == 1 else ()))
+def _held(key: Held) -> _Key:
+    """A key as C has it."""
+    held = _Key(key.version, _NUMBERS[key.type], len(key.bytes))
+    if len(key.bytes) > len(held.bytes):
+        raise InvalidKey
+    ctypes.memmove(held.bytes, key.bytes, len(key.bytes))
+    return held
 
 
-def _tail(kind: Kind, bound: Bound) -> tuple[Any, ...]:
-    """The footer, and the implicit assertion in the versions that have one."""
-    return (*_lent(bound.footer), *(_lent(bound.assertion) if kind.version in ASSERTING else ()))
+def _drawn() -> tuple[bytes, int]:
+    """Random bytes, as many as a call may take."""
+    return _lent(os.urandom(_DRAWN))
 
 
-def _raise_for(code: int) -> None:
-    """Raises the exception of a status, unless it is OK."""
-    if code != _OK:
-        raise FAULTS[code]
+def _tail(bound: Bound) -> tuple[Any, ...]:
+    """The footer, and the implicit assertion."""
+    return (*_lent(bound.footer), *_lent(bound.assertion))
 
 
-def _ask(call: str, words: tuple[Any, ...], length: int) -> bytes:
-    """The result of a call, first with a buffer of this length, then with one of the length that is needed."""
-    while True:
-        room, written = ctypes.create_string_buffer(max(length, 1)), ctypes.c_size_t()
-        code = _CALLS[call](*words, room, length, ctypes.byref(written))
-        if code != _ROOM:
-            _raise_for(code)
-            return room.raw[: written.value]
-        length = written.value
+def _made(call: str, words: tuple[Any, ...]) -> Held:
+    """The key that a call makes."""
+    held = _Key()
+    _ask(call, (*words, held), None)
+    return Held(held.version, _TYPES[held.type], bytes(held.bytes[: held.length]))
 
 
-def _ask_with_message(call: str, words: tuple[Any, ...], length: int) -> bytes:
-    """The same for a call that writes an error message, which becomes the text of the exception."""
+def _ask(call: str, words: tuple[Any, ...], length: int | None) -> bytes:
+    """The result of a call, first with a buffer of this length, then with one of the length that is needed. With no length the
+    call has no buffer for a result. The text of an exception is the line in which the library says why."""
     line_length = 200
     while True:
-        room, line = ctypes.create_string_buffer(max(length, 1)), ctypes.create_string_buffer(line_length)
+        room, line = ctypes.create_string_buffer(max(length or 0, 1)), ctypes.create_string_buffer(line_length)
         written, told = ctypes.c_size_t(), ctypes.c_size_t()
-        code = _CALLS[call](*words, room, length, ctypes.byref(written), line, line_length, ctypes.byref(told))
+        answer = () if length is None else (room, length, ctypes.byref(written))
+        code = _CALLS[call](*words, *answer, line, line_length, ctypes.byref(told))
         if code == _OK:
             return room.raw[: written.value]
         if code == _ROOM:

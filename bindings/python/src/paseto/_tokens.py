@@ -9,8 +9,8 @@ from typing import Any
 from . import _library
 from ._errors import Forbidden, NotObject, Refused, Unexpected
 from ._keys import Key, LocalKey, PrivateKey, PublicKey
-from ._library import ASSERTING, Bound, Checks, Kind
-from ._values import Footer, Moment, Seconds, Text, date_of, json_of, moment_of, names_of, seconds_of, text_of, token_of
+from ._library import ASSERTING, Bound, Checks
+from ._values import SECOND, Footer, Moment, Seconds, Text, date_of, json_of, moment_of, names_of, seconds_of, text_of, token_of
 from ._values import footer_of as _footer_of
 
 
@@ -31,16 +31,17 @@ def issue(
     current time by default. Everybody can read the footer, which often holds the id of the key; a mapping becomes compact JSON.
     The implicit assertion is not in the token: ``admit`` needs the same one.
     """
-    kind, bound = _kind(_writer(key)), _bound(key, footer, assertion)
+    held, bound = _writer(key)._held(), _bound(key, footer, assertion)
     moment = moment_of(now)
-    dated = {"nbf": date_of(moment - 1), **claims}
+    second = moment // SECOND
+    dated = {"nbf": date_of(second - 1), **claims}
     if expires_in is None:
         # The library would add an `exp`.
-        text = json_of({"iat": date_of(moment), **dated}, "a claim")
-        return _library.write(kind, key.to_bytes(), text, bound).decode()
-    given = json_of({"exp": date_of(moment + seconds_of(expires_in, "expires_in")), **dated}, "a claim")
+        text = json_of({"iat": date_of(second), **dated}, "a claim")
+        return _library.write(held, text, bound).decode()
+    given = json_of({"exp": date_of(second + seconds_of(expires_in, "expires_in")), **dated}, "a claim")
     try:
-        return _library.build(kind, key.to_bytes(), given, moment, bound).decode()
+        return _library.build(held, given, moment, bound).decode()
     except Refused as fault:
         raise ValueError(f"the claims are no claims: {fault}") from fault
 
@@ -85,7 +86,7 @@ def checks_of(aud: str | None, expected: Mapping[str, Any] | None, require: Iter
 def claims_of(token: bytes, key: Key, bound: Bound, moment: int, checks: Checks, names: Iterable[str]) -> dict[str, Any]:
     """The claims of a token that passes the checks, which expect claims of these names."""
     try:
-        text = _library.parse(_kind(key), key.to_bytes(), token, moment, bound, checks)
+        text = _library.parse(key._held(), token, moment, bound, checks)
     except Unexpected as fault:
         # An expected number or list that is another one: the token is for another audience, as with a text.
         if any(f"'{name}'" in str(fault) for name in names):
@@ -106,14 +107,14 @@ def encrypt(key: LocalKey, text: Text, *, footer: Footer = "", assertion: Text =
     """
     if not isinstance(key, LocalKey):
         raise TypeError("a text is encrypted under a LocalKey")
-    return _library.write(_kind(key), key.to_bytes(), text_of(text, "a text"), _bound(key, footer, assertion)).decode()
+    return _library.write(key._held(), text_of(text, "a text"), _bound(key, footer, assertion)).decode()
 
 
 def decrypt(token: Text, key: LocalKey, *, footer: Footer = "", assertion: Text = "") -> str:
     """Decrypts a local token with this key, footer and implicit assertion, and returns its text. It checks no times."""
     if not isinstance(key, LocalKey):
         raise TypeError("a token is decrypted under a LocalKey")
-    return _library.read(_kind(key), key.to_bytes(), token_of(token), _bound(key, footer, assertion)).decode()
+    return _library.read(key._held(), token_of(token), _bound(key, footer, assertion)).decode()
 
 
 def sign(key: PrivateKey, text: Text, *, footer: Footer = "", assertion: Text = "") -> str:
@@ -125,14 +126,14 @@ def sign(key: PrivateKey, text: Text, *, footer: Footer = "", assertion: Text = 
     """
     if not isinstance(key, PrivateKey):
         raise TypeError("a text is signed under a PrivateKey")
-    return _library.write(_kind(key), key.to_bytes(), text_of(text, "a text"), _bound(key, footer, assertion)).decode()
+    return _library.write(key._held(), text_of(text, "a text"), _bound(key, footer, assertion)).decode()
 
 
 def verify(token: Text, key: PublicKey, *, footer: Footer = "", assertion: Text = "") -> str:
     """Verifies a public token with this key, footer and implicit assertion, and returns its text. It checks no times."""
     if not isinstance(key, PublicKey):
         raise TypeError("a token is verified under a PublicKey")
-    return _library.read(_kind(key), key.to_bytes(), token_of(token), _bound(key, footer, assertion)).decode()
+    return _library.read(key._held(), token_of(token), _bound(key, footer, assertion)).decode()
 
 
 def footer_of(token: Text) -> str:
@@ -141,11 +142,6 @@ def footer_of(token: Text) -> str:
     Do not trust it before the token has been admitted with it.
     """
     return _library.footer(token_of(token)).decode()
-
-
-def _kind(key: Key) -> Kind:
-    """The kind of the tokens under a key."""
-    return Kind(key.version, "local" if isinstance(key, LocalKey) else "public")
 
 
 def _writer(key: LocalKey | PrivateKey) -> LocalKey | PrivateKey:

@@ -15,6 +15,8 @@ Text = Union[str, bytes]
 Footer = Union[str, bytes, Mapping[str, Any]]
 Seconds = Union[int, timedelta]
 Moment = Union[int, datetime, None]
+# How many nanoseconds a second has.
+SECOND = 10**9
 # How deeply the library reads lists and objects within each other.
 _DEEPEST = 127
 
@@ -92,19 +94,20 @@ def seconds_of(value: Seconds, what: str) -> int:
 
 
 def moment_of(now: Moment) -> int:
-    """The given time, or the current time, in seconds after 1970."""
+    """The given time, or the current time, in nanoseconds after 1970."""
     if isinstance(now, datetime):
         if now.tzinfo is None:
             raise TypeError("a datetime names its time zone")
-        now = int(now.timestamp())
-    moment = int(time.time()) if now is None else seconds_of(now, "now")
+        moment = (now - datetime(1970, 1, 1, tzinfo=timezone.utc)) // timedelta(microseconds=1) * 1000
+    else:
+        moment = time.time_ns() if now is None else seconds_of(now, "now") * SECOND
     if not -(2**63) <= moment < 2**63:
         raise InvalidMoment
     return moment
 
 
 def date_of(moment: int) -> str:
-    """The RFC 3339 text of a time."""
+    """The RFC 3339 text of a time, in seconds after 1970."""
     try:
         return (datetime(1970, 1, 1, tzinfo=timezone.utc) + timedelta(seconds=moment)).isoformat()
     except OverflowError:

@@ -36,6 +36,14 @@ pub enum KeyTextError {
     OtherCurve,
     /// The key in PEM is an RSA key of another size than 2048 bits.
     OtherSize,
+    /// The key is under a password: `try_unlock` reads it.
+    NeedsPassword,
+    /// The key is wrapped or sealed: `try_unwrap` or `try_unseal` reads it.
+    NeedsKey,
+    /// The password or the key is a wrong one, or the text was modified.
+    WrongKey,
+    /// The password of the key asks for more work than the library does.
+    TooCostly,
     /// Out of memory.
     Memory,
 }
@@ -53,6 +61,10 @@ impl fmt::Display for KeyTextError {
             KeyTextError::OtherAlgorithm => Fault::OtherAlgorithm,
             KeyTextError::OtherCurve => Fault::OtherCurve,
             KeyTextError::OtherSize => Fault::OtherSize,
+            KeyTextError::NeedsPassword => Fault::NeedsPassword,
+            KeyTextError::NeedsKey => Fault::NeedsKey,
+            KeyTextError::WrongKey => Fault::WrongKey,
+            KeyTextError::TooCostly => Fault::TooCostly,
             KeyTextError::Memory => Fault::Memory,
         }))
     }
@@ -73,6 +85,10 @@ impl From<Fault> for KeyTextError {
             Fault::OtherAlgorithm => KeyTextError::OtherAlgorithm,
             Fault::OtherCurve => KeyTextError::OtherCurve,
             Fault::OtherSize => KeyTextError::OtherSize,
+            Fault::NeedsPassword => KeyTextError::NeedsPassword,
+            Fault::NeedsKey => KeyTextError::NeedsKey,
+            Fault::WrongKey => KeyTextError::WrongKey,
+            Fault::TooCostly => KeyTextError::TooCostly,
             _ => KeyTextError::InvalidKey,
         }
     }

@@ -15,6 +15,17 @@ fn bytes_of(version: Version, kind: KeyType, text: &str) -> Result<Vec<u8>, Faul
     library::from_paserk(version, kind, line.as_bytes())
 }
 
+// The key of bytes that are a secret, and are wiped.
+fn symmetric<Version>(
+    mut bytes: Vec<u8>,
+) -> Result<PasetoSymmetricKey<Version, Local>, KeyTextError> {
+    let key = <&[u8; 32]>::try_from(bytes.as_slice()).map(Key::from);
+    library::wipe(&mut bytes);
+    Ok(PasetoSymmetricKey::from(
+        key.map_err(|_| KeyTextError::InvalidKey)?,
+    ))
+}
+
 macro_rules! local {
     ($feature:tt $version:ident) => {
         #[cfg(feature = $feature)]
@@ -34,6 +45,21 @@ macro_rules! local {
                 let id = library::key_id(Version::$version, KeyType::Local, self.as_ref())?;
                 Ok(KeyId::new(id))
             }
+
+            /// The key of a text that is under a password, `k4.local-pw..`. Fails with `WrongKey` for a wrong one,
+            /// `TooCostly`, and as `from_str` does.
+            pub fn try_unlock(text: &str, password: &[u8]) -> Result<Self, KeyTextError> {
+                let (version, text) = (Version::$version, text.as_bytes());
+                symmetric(library::unlocked(version, KeyType::Local, text, password)?)
+            }
+
+            /// The key of a text that is wrapped under another one, `k4.local-wrap..`. Fails with `WrongKey` for another
+            /// wrapping key, and as `from_str` does.
+            pub fn try_unwrap(text: &str, wrapping: &Self) -> Result<Self, KeyTextError> {
+                let (version, text) = (Version::$version, text.as_bytes());
+                let opener = (KeyType::Local, wrapping.as_ref());
+                symmetric(library::unwrapped(version, KeyType::Local, text, opener)?)
+            }
         }
 
         #[cfg(feature = $feature)]
@@ -43,12 +69,7 @@ macro_rules! local {
             /// The key of PASERK text, behind which one newline may follow. Fails with `NoPaserk`, `OtherVersion`,
             /// `OtherType` or `InvalidKey`, with `NotPem` for a text in PEM, and with `Memory`.
             fn from_str(text: &str) -> Result<Self, KeyTextError> {
-                let mut bytes = bytes_of(Version::$version, KeyType::Local, text)?;
-                let key = <&[u8; 32]>::try_from(bytes.as_slice()).map(Key::from);
-                library::wipe(&mut bytes);
-                Ok(PasetoSymmetricKey::from(
-                    key.map_err(|_| KeyTextError::InvalidKey)?,
-                ))
+                symmetric(bytes_of(Version::$version, KeyType::Local, text)?)
             }
         }
     };
@@ -135,3 +156,51 @@ paserk!("v4_public" V4 PasetoAsymmetricPrivateKey Private);
 paserk!("v2_public" V2 PasetoAsymmetricPublicKey Public);
 paserk!("v3_public" V3 PasetoAsymmetricPublicKey Public);
 paserk!("v4_public" V4 PasetoAsymmetricPublicKey Public);
+
+macro_rules! locked {
+    ($feature:tt $local:tt $version:ident) => {
+        #[cfg(feature = $feature)]
+        impl PasetoAsymmetricPrivateKey<'static, $version, Public> {
+            /// The key of a text that is under a password, `k4.secret-pw..`. Fails with `WrongKey` for a wrong one,
+            /// `TooCostly`, and as `from_str` does.
+            pub fn try_unlock(text: &str, password: &[u8]) -> Result<Self, KeyTextError> {
+                let (version, text) = (Version::$version, text.as_bytes());
+                let bytes = library::unlocked(version, KeyType::Private, text, password)?;
+                Ok(PasetoAsymmetricPrivateKey::owning(bytes))
+            }
+        }
+
+        #[cfg(all(feature = $feature, feature = $local))]
+        impl PasetoAsymmetricPrivateKey<'static, $version, Public> {
+            /// The key of a text that is wrapped under a key for local tokens, `k4.secret-wrap..`. Fails with `WrongKey`
+            /// for another wrapping key, and as `from_str` does.
+            pub fn try_unwrap(
+                text: &str,
+                wrapping: &PasetoSymmetricKey<$version, Local>,
+            ) -> Result<Self, KeyTextError> {
+                let (version, text) = (Version::$version, text.as_bytes());
+                let opener = (KeyType::Local, wrapping.as_ref());
+                let bytes = library::unwrapped(version, KeyType::Private, text, opener)?;
+                Ok(PasetoAsymmetricPrivateKey::owning(bytes))
+            }
+        }
+
+        #[cfg(all(feature = $feature, feature = $local))]
+        impl PasetoSymmetricKey<$version, Local> {
+            /// The key of a text that is sealed to the public key of a private one, `k4.seal..`. Fails with `WrongKey`
+            /// for another private key, and as `from_str` does.
+            pub fn try_unseal(
+                text: &str,
+                private: &PasetoAsymmetricPrivateKey<'_, $version, Public>,
+            ) -> Result<Self, KeyTextError> {
+                let (version, text) = (Version::$version, text.as_bytes());
+                let opener = (KeyType::Private, private.as_ref());
+                symmetric(library::unwrapped(version, KeyType::Local, text, opener)?)
+            }
+        }
+    };
+}
+
+locked!("v2_public" "v2_local" V2);
+locked!("v3_public" "v3_local" V3);
+locked!("v4_public" "v4_local" V4);

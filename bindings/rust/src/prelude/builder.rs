@@ -9,14 +9,14 @@ use crate::generic::{
     PasetoClaimError,
 };
 use crate::library::{self, Fault, Parts, Version};
-use crate::moment::last_second;
+use crate::moment::this_second;
 use std::collections::HashSet;
 use std::marker::PhantomData;
 use time::format_description::well_known::Rfc3339;
 use time::OffsetDateTime;
 
-/// The claims of a token, with `exp`, `iat` and `nbf` where they are not set: the token is issued at the last second that
-/// is over, may be used from now on, and expires an hour later. A footer, and in versions 3 and 4 an implicit assertion,
+/// The claims of a token, with `exp`, `iat` and `nbf` where they are not set: the token is issued in the second that has
+/// begun, may be used at once, and expires an hour later. A footer, and in versions 3 and 4 an implicit assertion,
 /// are optional.
 ///
 /// The library sets the times, and makes the token. `build` keeps the claims, so that a second token has them too.
@@ -26,8 +26,8 @@ pub struct PasetoBuilder<'a, Version, Purpose> {
     keys: HashSet<String>,
     twice: Option<String>,
     never_expires: bool,
-    // The last second that was over when the builder was made. Readers count whole seconds, and take a token from the
-    // second after its nbf: so they take this one at once.
+    // The second in which the builder was made. The library sets nbf a second before it, so that readers take the token at
+    // once.
     moment: i64,
 }
 
@@ -90,14 +90,16 @@ impl<'a, Version, Purpose> PasetoBuilder<'a, Version, Purpose> {
     fn without_expiration(
         &self,
     ) -> Result<GenericBuilder<'a, 'a, Version, Purpose>, GenericBuilderError> {
-        let date = date_of(self.moment).ok_or_else(|| no_date(self.moment))?;
+        let date = |moment| date_of(moment).ok_or_else(|| no_date(moment));
         let mut builder = self.builder.clone();
         builder.remove_claim("exp");
         if builder.members().get("iat").is_none() {
-            builder.set_claim(IssuedAtClaim::try_from(date.clone())?);
+            builder.set_claim(IssuedAtClaim::try_from(date(self.moment)?)?);
         }
         if builder.members().get("nbf").is_none() {
-            builder.set_claim(NotBeforeClaim::try_from(date)?);
+            builder.set_claim(NotBeforeClaim::try_from(date(
+                self.moment.saturating_sub(1),
+            )?)?);
         }
         Ok(builder)
     }
@@ -145,7 +147,7 @@ impl<Version, Purpose> Default for PasetoBuilder<'_, Version, Purpose> {
             keys: HashSet::new(),
             twice: None,
             never_expires: false,
-            moment: last_second(),
+            moment: this_second(),
         }
     }
 }

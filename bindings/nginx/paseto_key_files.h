@@ -1,15 +1,15 @@
 /* Keys of files, read when nginx reads its configuration. */
-#ifndef PASETO_KEYS_H
-#define PASETO_KEYS_H
+#ifndef PASETO_KEY_FILES_H
+#define PASETO_KEY_FILES_H
 
 #include <ngx_config.h>
 #include <ngx_core.h>
 
-#include "any_key.h"
+#include <paseto_keys.h>
 
 typedef struct {
     ngx_str_t id; /* the PASERK id; empty for a key of version 1 that has none */
-    any_key key;
+    struct paseto_key *key;
 } paseto_key_t;
 
 typedef struct {

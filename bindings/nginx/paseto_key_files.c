@@ -1,4 +1,4 @@
-#include "paseto_keys.h"
+#include "paseto_key_files.h"
 
 /* No key file is longer. */
 #define LONGEST_FILE 16384
@@ -19,7 +19,7 @@ static void wipe(void *data) {
     ngx_uint_t i;
 
     for (i = 0; i < keys->nelts; i++) {
-        ngx_explicit_memzero((void *) key[i].key.bytes.at, key[i].key.bytes.length);
+        paseto_key_wipe(key[i].key);
     }
 }
 
@@ -53,24 +53,13 @@ static ngx_int_t read_file(ngx_conf_t *cf, ngx_str_t *path, u_char *room, size_t
 }
 
 /* The key of a text, with its id. */
-static paseto_status key_of(ngx_conf_t *cf, any_bytes text, paseto_key_t *key) {
-    u_char id[ANY_KEY_ROOM], *bytes;
-    size_t length, id_length;
-    any_room room, id_room = { id, sizeof id, &id_length };
+static paseto_status key_of(ngx_conf_t *cf, u_char *text, size_t length, paseto_key_t *key) {
+    u_char id[128];
+    size_t id_length;
     paseto_status status;
 
-    bytes = ngx_pcalloc(cf->pool, ANY_KEY_ROOM);
-    if (bytes == NULL) {
-        return PASETO_MEMORY;
-    }
-    room.at = bytes;
-    room.length = ANY_KEY_ROOM;
-    room.written = &length;
-    status = any_key_of_text(text, &key->key.version, &key->key.type, room);
-    key->key.bytes.at = bytes;
-    key->key.bytes.length = length;
-    ngx_str_null(&key->id);
-    if (status != PASETO_OK || any_key_id(key->key, id_room) != PASETO_OK) {
+    status = paseto_key_read(text, length, key->key, PASETO_NO_REASON);
+    if (status != PASETO_OK || paseto_key_id(key->key, id, sizeof id, &id_length, PASETO_NO_REASON) != PASETO_OK) {
         return status;
     }
     key->id.data = ngx_pnalloc(cf->pool, id_length);
@@ -85,31 +74,30 @@ static paseto_status key_of(ngx_conf_t *cf, any_bytes text, paseto_key_t *key) {
 /* Adds the key of a file. */
 static ngx_int_t add_file(ngx_conf_t *cf, ngx_str_t *path, paseto_keys_t *keys) {
     u_char room[LONGEST_FILE], told[100];
+    size_t length;
+    struct paseto_key *made;
     paseto_key_t *key;
     paseto_status status;
-    any_bytes text = { room, 0 };
     ngx_str_t said;
 
-    if (read_file(cf, path, room, &text.length) != NGX_OK) {
+    if (read_file(cf, path, room, &length) != NGX_OK) {
         return NGX_ERROR;
     }
-    /* The newline at the end of a line of PASERK. */
-    if (text.length > 0 && room[0] == 'k' && room[text.length - 1] == '\n') {
-        text.length--;
-    }
-    key = ngx_array_push(&keys->keys);
+    made = ngx_pcalloc(cf->pool, sizeof(struct paseto_key));
+    key = made == NULL ? NULL : ngx_array_push(&keys->keys);
     if (key == NULL) {
         return NGX_ERROR;
     }
-    ngx_memzero(key, sizeof(paseto_key_t));
-    status = key_of(cf, text, key);
+    ngx_str_null(&key->id);
+    key->key = made;
+    status = key_of(cf, room, length, key);
     ngx_explicit_memzero(room, sizeof room);
     if (status != PASETO_OK) {
         said = paseto_text_of(status, told);
         ngx_conf_log_error(NGX_LOG_EMERG, cf, 0, "\"paseto_keys\": %V is no key: %V", path, &said);
         return NGX_ERROR;
     }
-    if (key->key.type == PASETO_KEY_PRIVATE) {
+    if (key->key->type == PASETO_KEY_PRIVATE) {
         ngx_conf_log_error(NGX_LOG_EMERG, cf, 0, "\"paseto_keys\": %V is a private key: the gateway needs its public key alone", path);
         return NGX_ERROR;
     }

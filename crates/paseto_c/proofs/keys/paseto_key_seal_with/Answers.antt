@@ -1,0 +1,5 @@
+use Rattle.paseto_calls.proofs.Replies.{replied}
+use Rattle.paseto_c.proofs.keys.paseto_key_seal_with.Goals as goal
+
+pub returns : goal.returns
+returns c = replied _ _ _ _ _ _ _ _ c.seal.result c.seal.ensures c.hand_over_telling.ensures

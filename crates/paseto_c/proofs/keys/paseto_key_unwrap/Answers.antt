@@ -1,0 +1,5 @@
+use Rattle.paseto_calls.proofs.Replies.{key_replied}
+use Rattle.paseto_c.proofs.keys.paseto_key_unwrap.Goals as goal
+
+pub returns : goal.returns
+returns c = key_replied _ _ _ _ _ _ _ c.unwrap.result c.unwrap.ensures c.hand_over_held.ensures

@@ -1,0 +1,8 @@
+use Rattle.paseto_calls.proofs.Replies.{replied, whole_reply}
+use Rattle.paseto_c.proofs.tokens.paseto_token_footer.Goals as goal
+
+pub returns-clause-answer : goal.returns-clause-answer
+returns-clause-answer c = replied _ _ _ _ _ _ _ _ c.footer.result c.footer.ensures.made c.hand_over_telling.ensures
+
+pub returns-clause-whole : goal.returns-clause-whole
+returns-clause-whole c = whole_reply _ _ _ _ _ _ _ _ c.footer.result c.footer.ensures.whole c.hand_over_telling.ensures

@@ -1,0 +1,16 @@
+use Rattle.std.proofs.lemmas.Result.{err_from_is_err_and}
+use Rattle.paseto_calls.proofs.KeyExits.{form_makes, form_refuses}
+use Rattle.paseto_calls.proofs.Taken.{exit_made, fault_refuses}
+use Rattle.paseto_calls.proofs.key_calls.pem.Goals as goal
+
+pub returns-in_err-key : goal.returns-in_err-key
+returns-in_err-key c =
+    exit_made _ _ _ (err_from_is_err_and c.from_residual.result c.from_residual.ensures.1) (fault_refuses _ _ c.in_err-key.ensures)
+
+pub returns-in_err-to_pem : goal.returns-in_err-to_pem
+returns-in_err-to_pem c =
+    exit_made _ _ _ (err_from_is_err_and c.from_residual-in_err-to_pem.result c.from_residual-in_err-to_pem.ensures.1)
+    (form_refuses _ _ _ c.in_ok-key.ensures.1 _ (rw c.in_ok-key.ensures.0 at c.in_err-to_pem.ensures.refused))
+
+pub returns : goal.returns
+returns c = form_makes _ _ _ c.in_ok-key.ensures.1 _ (rw c.in_ok-key.ensures.0 at c.in_ok-to_pem.ensures.ok)
