@@ -141,12 +141,12 @@ func TestLockedKeys(t *testing.T) {
 	wrapping, private := got[Key](t)(ParseKey([]byte(publishedKey))), got[Key](t)(ParseKey([]byte(opener)))
 	is(t, "a wrapped key", got[string](t)(got[Key](t)(UnwrapKey([]byte(wrapped+"\n"), wrapping)).PASERK()), zeros)
 	is(t, "a sealed key", got[string](t)(got[Key](t)(UnwrapKey([]byte(sealed), private)).PASERK()), zeros)
-	is(t, "a key under a password", got[string](t)(got[Key](t)(UnlockKey([]byte(locked), []byte(password))).PASERK()), inside)
+	is(t, "a key under a password", got[string](t)(got[Key](t)(UnlockKey(context.Background(), []byte(locked), []byte(password))).PASERK()), inside)
 	for text, reason := range map[string]Reason{wrapped: ErrNeedsKey, sealed: ErrNeedsKey, locked: ErrNeedsPassword} {
 		_, err := ParseKey([]byte(text))
 		fails(t, text, err, reason)
 	}
-	_, err := UnlockKey([]byte(locked), []byte("passwort"))
+	_, err := UnlockKey(context.Background(), []byte(locked), []byte("passwort"))
 	fails(t, "a wrong password", err, ErrWrongKey)
 	_, err = UnwrapKey([]byte(wrapped), key(t, Local, 4))
 	fails(t, "another wrapping key", err, ErrWrongKey)
@@ -154,6 +154,28 @@ func TestLockedKeys(t *testing.T) {
 	fails(t, "another private key", err, ErrWrongKey)
 	_, err = UnwrapKey([]byte(sealed), Key{})
 	fails(t, "no key", err, ErrArgument)
+}
+
+func TestUnlockingWithinATime(t *testing.T) {
+	// It asks for 64 MiB and two passes, as `paseto keygen` does.
+	costly := []byte("k4.local-pw.9VvzoqE_i23NOqsP9xoijQAAAAAEAAAAAAAAAgAAAAG_uxDZC-NsYyOW8OUOqISJqgHN8xIfAXiPfmFTfB4GPidUzm4aKzMGJmZtRPeyZCV11MxEJS3VMIRHXxYsfUQsmWLALpFwqUhxZdk_ymFcK2Nk0-N7CVp-")
+	long, cancel := context.WithTimeout(context.Background(), time.Minute)
+	is(t, "in time", got[string](t)(got[Key](t)(UnlockKey(long, []byte(locked), []byte(password))).PASERK()), inside)
+	begin := time.Now()
+	_, err := UnlockKey(long, costly, []byte("passwort"))
+	whole := time.Since(begin)
+	fails(t, "a wrong password", err, ErrWrongKey)
+	cancel()
+	_, err = UnlockKey(long, costly, []byte(password))
+	fails(t, "a context that has ended", err, context.Canceled)
+	short, cancel := context.WithTimeout(context.Background(), time.Millisecond)
+	defer cancel()
+	begin = time.Now()
+	_, err = UnlockKey(short, costly, []byte("passwort"))
+	fails(t, "a context that ends", err, context.DeadlineExceeded)
+	if took := time.Since(begin); took > whole/2 {
+		t.Errorf("it returned after %v, where the whole call takes %v", took, whole)
+	}
 }
 
 func TestKeysDoNotShow(t *testing.T) {

@@ -102,12 +102,26 @@ _TOLD: dict[str, list[Any]] = {
     "paseto_key_generate_with": [ctypes.c_uint8, ctypes.c_uint8, *_LENT, _HELD],
 }
 
+
+_Calls = dict[str, Callable[..., int]]
+
+
+def _calls_of(library: ctypes.CDLL) -> _Calls:
+    """The calls of a library, with their types."""
+    calls: _Calls = {}
+    for name, types in [*((it, [*types, *_ANSWER]) for it, types in _TOLD.items()), ("paseto_error_text", [ctypes.c_uint8, *_ANSWER])]:
+        call = getattr(library, name)
+        call.argtypes, call.restype = types, ctypes.c_uint8
+        calls[name] = call
+    return calls
+
+
 _library = ctypes.CDLL(_found())
-_CALLS: dict[str, Callable[..., int]] = {}
-for _name, _types in [*((it, [*types, *_ANSWER]) for it, types in _TOLD.items()), ("paseto_error_text", [ctypes.c_uint8, *_ANSWER])]:
-    _call = getattr(_library, _name)
-    _call.argtypes, _call.restype = _types, ctypes.c_uint8
-    _CALLS[_name] = _call
+_CALLS = _calls_of(_library)
+# The same, with the interpreter's lock held. A local token of this many bytes takes some microseconds, and threads that give up
+# the lock for so short a time admit a fifth fewer tokens.
+_SHORT_CALLS = _calls_of(ctypes.PyDLL(_found()))
+_SHORT = 8192
 
 
 # ---- tokens
@@ -116,25 +130,26 @@ for _name, _types in [*((it, [*types, *_ANSWER]) for it, types in _TOLD.items())
 def write(key: Held, text: bytes, bound: Bound) -> bytes:
     """The token that holds a text, encrypted or signed."""
     call = "paseto_encrypt_with" if key.type == "local" else "paseto_sign_with"
-    return _ask(call, (_held(key), *_drawn(), *_lent(text), *_tail(bound)), 1024 + 2 * len(text))
+    return _ask(call, (_held(key), *_drawn(), *_lent(text), *_tail(bound)), 1024 + 2 * len(text), _calls(key, text))
 
 
 def build(key: Held, claims: bytes, moment: int, bound: Bound) -> bytes:
     """The token that holds claims, with ``exp``, ``iat`` and ``nbf`` where they have none. A moment is in nanoseconds."""
-    return _ask("paseto_issue_with", (_held(key), *_drawn(), *_lent(claims), moment, *_tail(bound)), 1024 + 2 * len(claims))
+    words = (_held(key), *_drawn(), *_lent(claims), moment, *_tail(bound))
+    return _ask("paseto_issue_with", words, 1024 + 2 * len(claims), _calls(key, claims))
 
 
 def read(key: Held, token: bytes, bound: Bound) -> bytes:
     """The text of a token, decrypted or verified."""
     call = "paseto_decrypt" if key.type == "local" else "paseto_verify"
-    return _ask(call, (_held(key), *_lent(token), *_tail(bound)), len(token))
+    return _ask(call, (_held(key), *_lent(token), *_tail(bound)), len(token), _calls(key, token))
 
 
 def parse(key: Held, token: bytes, moment: int, bound: Bound, checks: Checks) -> bytes:
     """The claims of a token that passes the checks."""
     options = _Options(ctypes.sizeof(_Options), checks.leeway, checks.longest, 0, *_lent(checks.required))
     words = (_held(key), *_lent(token), *_lent(checks.expected), moment, *_tail(bound), ctypes.byref(options))
-    return _ask("paseto_admit", words, len(token))
+    return _ask("paseto_admit", words, len(token), _calls(key, token))
 
 
 def footer(token: bytes) -> bytes:
@@ -220,7 +235,12 @@ def _made(call: str, words: tuple[Any, ...]) -> Held:
     return Held(held.version, _TYPES[held.type], bytes(held.bytes[: held.length]))
 
 
-def _ask(call: str, words: tuple[Any, ...], length: int | None) -> bytes:
+def _calls(key: Held, text: bytes) -> _Calls:
+    """The calls to ask of a key and a text or token."""
+    return _SHORT_CALLS if key.type == "local" and len(text) <= _SHORT else _CALLS
+
+
+def _ask(call: str, words: tuple[Any, ...], length: int | None, calls: _Calls = _CALLS) -> bytes:
     """The result of a call, first with a buffer of this length, then with one of the length that is needed. With no length the
     call has no buffer for a result. The text of an exception is the line in which the library says why."""
     line_length = 200
@@ -228,7 +248,7 @@ def _ask(call: str, words: tuple[Any, ...], length: int | None) -> bytes:
         room, line = ctypes.create_string_buffer(max(length or 0, 1)), ctypes.create_string_buffer(line_length)
         written, told = ctypes.c_size_t(), ctypes.c_size_t()
         answer = () if length is None else (room, length, ctypes.byref(written))
-        code = _CALLS[call](*words, *answer, line, line_length, ctypes.byref(told))
+        code = calls[call](*words, *answer, line, line_length, ctypes.byref(told))
         if code == _OK:
             return room.raw[: written.value]
         if code == _ROOM:
