@@ -1,4 +1,4 @@
-//! The clock, in whole seconds as the library counts them.
+//! The clock, in whole seconds.
 
 use std::time::{SystemTime, UNIX_EPOCH};
 

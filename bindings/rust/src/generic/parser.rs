@@ -236,7 +236,7 @@ impl<'a, 'b, Version, Purpose> GenericParser<'a, 'b, Version, Purpose> {
 }
 
 // Reads a token at the second that has begun, which is that of its nbf where another program has just made it. Then the
-// second counts as over, for the library takes a token from the second after its nbf.
+// second counts as over, since the nbf may lie within it.
 fn at_this_second(
     checks: Checks<'_>,
     call: impl Fn(&Checks<'_>) -> Result<String, Refusal>,
