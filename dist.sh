@@ -84,8 +84,7 @@ mkdir -p "$work/libpaseto1/DEBIAN"
 echo "libpaseto 1 libpaseto1 (>= $version)" >"$work/libpaseto1/DEBIAN/shlibs"
 echo 'activate-noawait ldconfig' >"$work/libpaseto1/DEBIAN/triggers"
 package libpaseto1 'libc6 (>= 2.14)' 'library for PASETO tokens'
-mapfile -t headers < <(cd "$prefix" && ls include/paseto*.h)
-laid libpaseto-dev lib/libpaseto.a "${headers[@]}"
+laid libpaseto-dev lib/libpaseto.a include/paseto.h
 ln -s libpaseto.so.1 "$work/libpaseto-dev/usr/lib/x86_64-linux-gnu/libpaseto.so"
 mkdir -p "$work/libpaseto-dev/usr/lib/x86_64-linux-gnu/pkgconfig" "$work/libpaseto-dev/usr/share/man/man3"
 sed -e 's|^prefix=.*|prefix=/usr|; s|^libdir=.*|libdir=/usr/lib/x86_64-linux-gnu|' "$prefix/lib/pkgconfig/paseto.pc" \

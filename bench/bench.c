@@ -671,6 +671,26 @@ static struct peer_bytes v4_unsealed(void)
     return peer_v4_unseal_key(private_key, token, token_length);
 }
 
+static struct peer_bytes v4_written(void)
+{
+    return peer_v4_write_key(private_key);
+}
+
+static struct peer_bytes v4_read(void)
+{
+    return peer_v4_read_key(token, token_length);
+}
+
+static uint64_t ours_write(uint32_t version, uint8_t *out, uint32_t reps)
+{
+    return paseto_bench_write_secret(version, private_key, 64, out, token_length, reps);
+}
+
+static uint64_t ours_read(uint32_t version, uint8_t *out, uint32_t reps)
+{
+    return paseto_bench_read_secret(version, token, token_length, out, 64, reps);
+}
+
 static uint64_t ours_wrap(uint32_t version, uint8_t *out, uint32_t reps)
 {
     return paseto_bench_wrap_local(version, long_key, 32, key, 32, nonce, 32, out, token_length, reps);
@@ -713,6 +733,8 @@ static uint64_t ours_unseal_key(uint32_t version, uint8_t *out, uint32_t reps)
         return peer_makes(made, length, out, reps);                                                \
     }
 
+KEY_ROW(4, ours_write, v4_written, token_length)
+KEY_ROW(4, ours_read, v4_read, 64)
 KEY_ROW(3, ours_wrap, v3_wrapped, token_length)
 KEY_ROW(4, ours_wrap, v4_wrapped, token_length)
 KEY_ROW(3, ours_unwrap, v3_unwrapped, 32)
@@ -732,6 +754,7 @@ KEY_ROW(4, ours_unseal_key, v4_unsealed, 32)
         return made();                                                                             \
     }
 
+PREPARED(v4_written)
 PREPARED(v3_wrapped)
 PREPARED(v4_wrapped)
 PREPARED(v3_protected)
@@ -864,7 +887,13 @@ static const char claims_expected[] = "{\"aud\":\"customers\"}";
 
 #define BUILT_AT 1764115200
 #define PARSED_AT (BUILT_AT + 60)
+/* A second in the nanoseconds of the library for C. */
+#define SECOND INT64_C(1000000000)
 #define CLAIMS_ROOM 1024
+
+/* The key as the library for C takes it, which asks nothing beside the claims. */
+static struct paseto_key held_key = {.version = 4, .type = PASETO_KEY_LOCAL, .length = 32};
+static const struct paseto_options options = {.size = sizeof options};
 
 /* The token of these claims, and their JSON. */
 static uint8_t claims_token[CLAIMS_ROOM], claims_json[CLAIMS_ROOM];
@@ -889,8 +918,8 @@ static uint64_t ours_build(const struct subject *subject, uint8_t *out, uint32_t
     for (uint32_t repetition = 1; repetition <= reps; repetition++) {
         write_number(numbered, repetition);
         size_t written;
-        if (paseto_v4_local_build(key, 32, repetition == reps ? nonce : numbered, 32, (const uint8_t *)claims_given,
-                                  sizeof claims_given - 1, BUILT_AT, NULL, 0, NULL, 0, out, CLAIMS_ROOM, &written)
+        if (paseto_issue_with(&held_key, repetition == reps ? nonce : numbered, 32, claims_given, sizeof claims_given - 1,
+                              BUILT_AT * SECOND, NULL, 0, NULL, 0, out, CLAIMS_ROOM, &written, PASETO_NO_REASON)
             != PASETO_OK) {
             return FAILED;
         }
@@ -936,8 +965,8 @@ static uint64_t ours_parse(const struct subject *subject, uint8_t *out, uint32_t
     uint64_t sum = 0;
     for (uint32_t repetition = 0; repetition < reps; repetition++) {
         size_t written;
-        if (paseto_v4_local_parse(key, 32, claims_token, claims_token_length, (const uint8_t *)claims_expected,
-                                  sizeof claims_expected - 1, PARSED_AT, NULL, 0, NULL, 0, out, CLAIMS_ROOM, &written)
+        if (paseto_admit(&held_key, claims_token, claims_token_length, claims_expected, sizeof claims_expected - 1,
+                         PARSED_AT * SECOND, NULL, 0, NULL, 0, &options, out, CLAIMS_ROOM, &written, PASETO_NO_REASON)
             != PASETO_OK) {
             return FAILED;
         }
@@ -1030,7 +1059,7 @@ static struct peer_bytes claims_prepared(const struct subject *subject)
     {.name = title, .has_one_row = true, .ours = ours_##made, .peer = peer_##made,                 \
      .out_length = length, .prepared = prepared_##text}
 
-#define SUBJECTS 47
+#define SUBJECTS 49
 static const struct subject subjects[SUBJECTS] = {
     TOKENS(4),
     TOKENS(3),
@@ -1067,6 +1096,8 @@ static const struct subject subjects[SUBJECTS] = {
     {.name = "RSA sign", .ours = ours_rsa_sign, .peer = peer_rsa_signs, .out_length = nothing},
     {.name = "RSA verify", .ours = ours_rsa_verify, .peer = peer_rsa_verifies, .out_length = nothing},
     {.name = "RSA read", .ours = ours_rsa_read_verify, .peer = peer_rsa_read_verifies, .out_length = nothing},
+    KEYS("write v4", v4_written, v4_written, token_size),
+    KEYS("read v4", v4_read, v4_written, signature_size),
     KEYS("wrap v4", v4_wrapped, v4_wrapped, token_size),
     KEYS("unwrap v4", v4_unwrapped, v4_wrapped, digest_size),
     KEYS("wrap v3", v3_wrapped, v3_wrapped, token_size),
@@ -1231,6 +1262,7 @@ int main(int count, char **words)
         key[i] = (uint8_t)(7 * i + 1);
         nonce[i] = (uint8_t)(5 * i + 3);
     }
+    memcpy(held_key.bytes, key, sizeof key);
     for (size_t i = 0; i < sizeof long_key; i++) {
         long_key[i] = (uint8_t)(3 * i + 5);
     }

@@ -73,6 +73,10 @@ bool peer_rsa_verify(const uint8_t *message, size_t length, const uint8_t signat
 bool peer_rsa_read_verify(const uint8_t *public, size_t public_length, const uint8_t *message, size_t length,
                           const uint8_t signature[256]);
 
+/* The text of a private key of version 4, and the key of such a text. */
+struct peer_bytes peer_v4_write_key(const uint8_t private_key[64]);
+struct peer_bytes peer_v4_read_key(const uint8_t *text, size_t length);
+
 /* The text of a key of local tokens under a wrapping key, and the key of such a text. */
 typedef struct peer_bytes peer_wrap(const uint8_t wrapping_key[32], const uint8_t nonce[32], const uint8_t key[32]);
 typedef struct peer_bytes peer_unwrap(const uint8_t wrapping_key[32], const uint8_t *text, size_t length);

@@ -111,13 +111,14 @@ static bool put_jansson(json_t *object, const char *name, const char *text)
 struct peer_bytes peer_jansson_build(const uint8_t key[32], const uint8_t nonce[32], const struct claims *claims,
                                      int64_t now)
 {
-    char expiration[TIME_LENGTH + 1], issued[TIME_LENGTH + 1];
+    char expiration[TIME_LENGTH + 1], issued[TIME_LENGTH + 1], not_before[TIME_LENGTH + 1];
     write_time(expiration, now + 3600);
     write_time(issued, now);
+    write_time(not_before, now - 1);
     json_t *object = json_object();
     bool is_made = put_jansson(object, "aud", claims->audience) && put_jansson(object, "exp", expiration)
         && put_jansson(object, "iat", issued) && put_jansson(object, "iss", claims->issuer)
-        && put_jansson(object, "jti", claims->identifier) && put_jansson(object, "nbf", issued)
+        && put_jansson(object, "jti", claims->identifier) && put_jansson(object, "nbf", not_before)
         && put_jansson(object, "sub", claims->subject);
     char *text = is_made ? json_dumps(object, JSON_COMPACT) : NULL;
     json_decref(object);
@@ -127,15 +128,16 @@ struct peer_bytes peer_jansson_build(const uint8_t key[32], const uint8_t nonce[
 struct peer_bytes peer_cjson_build(const uint8_t key[32], const uint8_t nonce[32], const struct claims *claims,
                                    int64_t now)
 {
-    char expiration[TIME_LENGTH + 1], issued[TIME_LENGTH + 1];
+    char expiration[TIME_LENGTH + 1], issued[TIME_LENGTH + 1], not_before[TIME_LENGTH + 1];
     write_time(expiration, now + 3600);
     write_time(issued, now);
+    write_time(not_before, now - 1);
     cJSON *object = cJSON_CreateObject();
     bool is_made = cJSON_AddStringToObject(object, "aud", claims->audience)
         && cJSON_AddStringToObject(object, "exp", expiration) && cJSON_AddStringToObject(object, "iat", issued)
         && cJSON_AddStringToObject(object, "iss", claims->issuer)
         && cJSON_AddStringToObject(object, "jti", claims->identifier)
-        && cJSON_AddStringToObject(object, "nbf", issued) && cJSON_AddStringToObject(object, "sub", claims->subject);
+        && cJSON_AddStringToObject(object, "nbf", not_before) && cJSON_AddStringToObject(object, "sub", claims->subject);
     char *text = is_made ? cJSON_PrintUnformatted(object) : NULL;
     cJSON_Delete(object);
     return sealed(key, nonce, text);

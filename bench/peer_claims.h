@@ -10,7 +10,7 @@ struct claims {
     const char *issuer, *subject, *audience, *identifier;
 };
 
-/* A token of the claims, which is issued at a moment in seconds after 1970, is usable after it, and expires an hour
+/* A token of the claims, which is issued at a moment in seconds after 1970, is usable from it on, and expires an hour
    later. */
 typedef struct peer_bytes peer_build(const uint8_t key[32], const uint8_t nonce[32], const struct claims *claims,
                                      int64_t now);

@@ -1,5 +1,6 @@
-/* Keys of local tokens as PASERK wraps them, as a user of libsodium (version 4) and of OpenSSL (version 3) writes it: under
-   a wrapping key, under a password by the cost of the specification's vectors, and sealed to a public key. */
+/* Keys as PASERK text, and keys of local tokens as PASERK wraps them, as a user of libsodium (version 4) and of OpenSSL
+   (version 3) writes it: under a wrapping key, under a password by the cost of the specification's vectors, and sealed to
+   a public key. */
 #define OPENSSL_API_COMPAT 0x10100000L
 #include <openssl/evp.h>
 #include <openssl/sha.h>
@@ -83,6 +84,37 @@ static struct peer_bytes copy4(const uint8_t *bytes, const uint8_t *nonce, const
         crypto_stream_xchacha20_xor(copy, bytes, KEY, nonce, encryption_key);
     }
     return (struct peer_bytes){copy, copy == NULL ? 0 : KEY};
+}
+
+static const char SECRET4[] = "k4.secret.";
+#define SECRET 64
+#define SECRET_TEXT 86
+
+/* libsodium's base64 indexes no table by a secret. */
+struct peer_bytes peer_v4_write_key(const uint8_t private_key[64])
+{
+    size_t header = strlen(SECRET4);
+    char *text = malloc(header + SECRET_TEXT + 1);
+    if (text == NULL) {
+        return (struct peer_bytes){0};
+    }
+    memcpy(text, SECRET4, header);
+    sodium_bin2base64(text + header, SECRET_TEXT + 1, private_key, SECRET, sodium_base64_VARIANT_URLSAFE_NO_PADDING);
+    return (struct peer_bytes){(uint8_t *)text, header + SECRET_TEXT};
+}
+
+struct peer_bytes peer_v4_read_key(const uint8_t *text, size_t length)
+{
+    size_t header = strlen(SECRET4), read = 0;
+    uint8_t *key = malloc(SECRET);
+    if (key == NULL || length <= header || memcmp(text, SECRET4, header) != 0
+        || sodium_base642bin(key, SECRET, (const char *)text + header, length - header, NULL, &read, NULL,
+                             sodium_base64_VARIANT_URLSAFE_NO_PADDING) != 0
+        || read != SECRET) {
+        free(key);
+        return (struct peer_bytes){0};
+    }
+    return (struct peer_bytes){key, SECRET};
 }
 
 static const char WRAP4[] = "k4.local-wrap.pie.";

@@ -18,8 +18,10 @@ LOAD = re.compile(r"load before the run: ([\d.]+)")
 SIZES = ["0 B", "100 B", "1 KB", "10 KB", "1 MB"]
 PANELS = ["v1", "v2", "v3", "v4"]
 KINDS = {"seal": "#0072b2", "open": "#56b4e9", "sign": "#d55e00", "verify": "#e69f00"}
+# What the legend calls them: the calls for tokens.
+CALLS = {"seal": "encrypt", "open": "decrypt", "sign": "sign", "verify": "verify"}
 # The axis is a logarithm, on which twice and half the peer's time are as far from the line of the peer.
-LEAST, MOST = 0.5, 8
+LEAST, MOST = 0.125, 4
 WIDTH, HEIGHT, LEFT, TOP, GAP = 430, 190, 50, 74, 74
 
 
@@ -82,7 +84,7 @@ def panel(version, ratios, left, top):
             if size in ratios[f"{version} {kind}"]:
                 width = group * 0.86 / len(kinds)
                 x = left + group * (place + 0.07) + width * turn
-                label = f"version {version[1:]}, {kind}, {size}"
+                label = f"version {version[1:]}, {CALLS[kind]}, {size}"
                 yield from bar(x, width - 1, foot, ratios[f"{version} {kind}"][size], kind, label)
 
 
@@ -96,7 +98,7 @@ def draw(ratios, lines):
     yield text(LEFT, 22, "Time beside the peer's: below 1 is faster than the peer", 14, "start")
     for place, (kind, colour) in enumerate(KINDS.items()):
         yield f'<rect x="{LEFT + 80 * place}" y="32" width="11" height="11" fill="{colour}"/>'
-        yield text(LEFT + 80 * place + 16, 42, kind, 11, "start")
+        yield text(LEFT + 80 * place + 16, 42, CALLS[kind], 11, "start")
     for place, version in enumerate(shown):
         yield from panel(version, ratios, LEFT + (place % 2) * (WIDTH + LEFT), TOP + (place // 2) * (HEIGHT + GAP))
     for place, line in enumerate(lines):

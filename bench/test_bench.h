@@ -81,6 +81,12 @@ uint64_t paseto_bench_x25519(const uint8_t *scalar, size_t scalar_length, const 
                              uint8_t *shared, size_t shared_length, uint32_t reps);
 
 /* A version is named by its number. */
+typedef uint64_t paseto_bench_write_key(uint32_t version, const uint8_t *key, size_t key_length, uint8_t *text,
+                                        size_t text_length, uint32_t reps);
+typedef uint64_t paseto_bench_read_key(uint32_t version, const uint8_t *text, size_t text_length, uint8_t *key,
+                                       size_t key_length, uint32_t reps);
+paseto_bench_write_key paseto_bench_write_local, paseto_bench_write_secret;
+paseto_bench_read_key paseto_bench_read_local, paseto_bench_read_secret;
 uint64_t paseto_bench_wrap_local(uint32_t version, const uint8_t *wrapping_key, size_t wrapping_key_length,
                                  const uint8_t *nonce, size_t nonce_length, const uint8_t *key, size_t key_length,
                                  uint8_t *text, size_t text_length, uint32_t reps);

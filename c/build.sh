@@ -43,8 +43,8 @@ install -d "$prefix/lib/pkgconfig" "$prefix/include" "$prefix/share/man/man3"
 install -m 644 "$work/libpaseto.a" "$prefix/lib/libpaseto.a"
 install -m 755 "$work/libpaseto.so.1" "$prefix/lib/libpaseto.so.1"
 ln -sf libpaseto.so.1 "$prefix/lib/libpaseto.so"
-install -m 644 "$here"/*.h "$prefix/include"
-python3 "$here/../tools/pages.py" "$work/pages" "$here"/*.h
+install -m 644 "$here/paseto.h" "$prefix/include"
+python3 "$here/../tools/pages.py" "$work/pages" "$here/paseto.h"
 install -m 644 "$work"/pages/*.3 "$here/../man/libpaseto.3" "$prefix/share/man/man3"
 cat >"$prefix/lib/pkgconfig/paseto.pc" <<END
 prefix=\${pcfiledir}/../..

@@ -20,7 +20,7 @@ _paseto() {
         wrap) options='--key --wrapping-key --password-file --out' ;;
         seal) options="$opening --to --out" ;;
         issue) options="$opening --ring --claim --expires --not-before --footer --footer-kid --assertion --out" ;;
-        check) options="$opening --ring --claim --require --at --leeway --footer --footer-kid --assertion --longest" ;;
+        check) options="$opening --ring --claim --require --at --leeway --footer --footer-kid --assertion --each --longest" ;;
         encrypt | sign) options="$opening --footer --assertion --longest --out" ;;
         decrypt | verify) options="$opening --ring --footer --assertion --longest" ;;
         explain) options="$opening --issued --footer --assertion --longest" ;;

@@ -40,5 +40,6 @@ complete -c paseto -n '__paseto_in explain' -l issued -rF -d 'The file of the is
 complete -c paseto -n '__paseto_in issue check encrypt decrypt sign verify explain' -l footer -x -d 'The footer of the token'
 complete -c paseto -n '__paseto_in issue check' -l footer-kid -x -d 'The id of a key for the footer'
 complete -c paseto -n '__paseto_in issue check encrypt decrypt sign verify explain' -l assertion -x -d 'The implicit assertion'
+complete -c paseto -n '__paseto_in check' -l each -d 'Check the token on each line'
 complete -c paseto -n '__paseto_in check encrypt decrypt sign verify explain inspect' -l longest -x -d 'How many bytes the input may have'
 complete -c paseto -n '__paseto_in check encrypt decrypt sign verify explain inspect' -F

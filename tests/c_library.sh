@@ -1,8 +1,8 @@
 #!/usr/bin/env bash
 # Builds the library for C, and asks it from outside, as its users do: a program in C under valgrind, and the same with the
-# sanitizers, the published tokens, keys as text, each call with each of its requests for memory refused, random calls with
-# rooms of every length around the right one, four threads at once, a program in Python, and a session service that is asked by
-# curl. It also sees to it that no export asks something of C that C cannot meet.
+# sanitizers, the published tokens, keys as text, each status by its name, each call with each of its requests for memory refused,
+# rooms of every length and random calls with lengths around the right one, four threads at once, a program in Python, and a session
+# service that is asked by curl. It also sees to it that no export asks something of C that C cannot meet.
 #
 #   tests/c_library.sh [PREFIX]
 #
@@ -71,8 +71,8 @@ if python3 "$here/exports.py" "$root/crates/paseto_c/src" >"$work/exports" 2>"$w
 else
     fail "exports: $(cat "$work/log")"
 fi
-grep -ohE '^(paseto_status|uint32_t|void) paseto_\w+' "$root/c/paseto.h" "$root/c/paseto_keys.h" | cut -d' ' -f2 | sort -u >"$work/declared"
-check 'the headers declare the exports' diff "$work/exports" "$work/declared"
+grep -oE '^(paseto_status|uint32_t|void) paseto_\w+' "$root/c/paseto.h" | cut -d' ' -f2 | sort >"$work/declared"
+check 'the header declares the exports' diff "$work/exports" "$work/declared"
 
 # ---- the library
 
@@ -85,7 +85,7 @@ else
         finish
     fi
 fi
-for file in lib/libpaseto.a lib/libpaseto.so lib/libpaseto.so.1 lib/pkgconfig/paseto.pc include/paseto.h include/paseto_keys.h; do
+for file in lib/libpaseto.a lib/libpaseto.so lib/libpaseto.so.1 lib/pkgconfig/paseto.pc include/paseto.h; do
     if [ -s "$prefix/$file" ]; then pass; else fail "c/build.sh installs no $file"; fi
 done
 while read -r name; do
@@ -105,12 +105,10 @@ check 'libpaseto.so needs memory alone' diff "$work/needed" <(printf '%s\n' free
 # ---- the header
 
 strict=(-Wall -Wextra -Werror -Wpedantic -I "$prefix/include")
-for header in paseto paseto_keys; do
-    printf '#include <%s.h>\nint main(void) { return PASETO_OK; }\n' "$header" >"$work/header.c"
-    check "$header.h is C99" cc -std=c99 "${strict[@]}" -o "$work/header" "$work/header.c"
-    check "$header.h is C11" cc -std=c11 "${strict[@]}" -o "$work/header" "$work/header.c"
-    check "$header.h is C++" c++ -std=c++11 -x c++ "${strict[@]}" -o "$work/header" "$work/header.c"
-done
+printf '#include <paseto.h>\nint main(void) { return PASETO_OK; }\n' >"$work/header.c"
+check 'paseto.h is C99' cc -std=c99 "${strict[@]}" -o "$work/header" "$work/header.c"
+check 'paseto.h is C11' cc -std=c11 "${strict[@]}" -o "$work/header" "$work/header.c"
+check 'paseto.h is C++' c++ -std=c++11 -x c++ "${strict[@]}" -o "$work/header" "$work/header.c"
 
 # build NAME OPTION..: a driver over the static library.
 build() {
@@ -153,10 +151,11 @@ END
 check 'version.c is built' cc -std=c99 "${strict[@]}" -o "$work/version" "$work/version.c" "$prefix/lib/libpaseto.a"
 check 'the version of the library is that of paseto.h' "$work/version"
 check 'the version of paseto.pc' diff <(sed -nE 's/^Version: //p' "$prefix/lib/pkgconfig/paseto.pc") <("$work/version")
-build published -O1
+sanitized=(-O1 -g -fsanitize=address,undefined -fno-sanitize-recover=all)
+build published "${sanitized[@]}"
 counted 'published tokens' "$work/published" "$root/crates/test_rows/data/published.txt"
-grep -qx '27 passed, 0 failed' "$work/log" && pass || fail 'the published tokens are not 27'
-build keys -O1 -g -fsanitize=address,undefined -fno-sanitize-recover=all
+grep -qx '27 rows' "$work/log" && pass || fail 'the published tokens are not 27'
+build keys "${sanitized[@]}"
 python3 - "$root/crates/test_vectors/src/paserk/rows.rt" >"$work/keys.txt" <<'END'
 import re, sys
 text = open(sys.argv[1]).read()
@@ -168,15 +167,7 @@ if [ "$(wc -l <"$work/keys.txt")" -eq "$(grep -c '"k[1-4]\.[lsp]id\.' "$root/cra
 else
     fail 'not all rows of keys are read'
 fi
-counted 'keys as text' "$work/keys" "$work/keys.txt"
-build pem -O1 -g -fsanitize=address,undefined -fno-sanitize-recover=all
-mkdir "$work/texts"
-if python3 "$here/pem_rows.py" "$work/texts" >"$work/pem.txt" 2>"$work/log"; then pass; else fail "pem_rows.py: $(tail -n 3 "$work/log")"; fi
-counted 'keys in PEM that OpenSSL made' "$work/pem" "$work/pem.txt"
-# The calls by keys that know their version and type.
-build by_key -O1 -g -fsanitize=address,undefined -fno-sanitize-recover=all
-counted 'published tokens, by key' "$work/by_key" published "$root/crates/test_rows/data/published.txt"
-counted 'keys as text, by key' "$work/by_key" paserk "$work/keys.txt"
+counted 'keys as text' "$work/keys" paserk "$work/keys.txt"
 python3 - "$root/crates/test_vectors/src/wrapping/rows.rt" >"$work/locked.txt" <<'END'
 import re, sys
 text = open(sys.argv[1]).read()
@@ -189,19 +180,19 @@ if [ "$(wc -l <"$work/locked.txt")" -eq "$(grep -cE '"k[1-4]\.(local|secret)-(pw
 else
     fail 'not all rows of locked keys are read'
 fi
-counted 'locked keys, by key' "$work/by_key" locked "$work/locked.txt"
-counted 'keys in PEM, by key' "$work/by_key" pem "$work/pem.txt"
-counted 'each status, by key' "$work/by_key" faults
-build by_key -O1 -g
-counted 'each status, by key, under valgrind' valgrind -q --error-exitcode=9 --leak-check=full --errors-for-leak-kinds=all "$work/by_key" faults quick
+counted 'locked keys' "$work/keys" locked "$work/locked.txt"
+build pem "${sanitized[@]}"
+mkdir "$work/texts"
+if python3 "$here/pem_rows.py" "$work/texts" >"$work/pem.txt" 2>"$work/log"; then pass; else fail "pem_rows.py: $(tail -n 3 "$work/log")"; fi
+counted 'keys in PEM that OpenSSL made' "$work/pem" "$work/pem.txt"
+build faults "${sanitized[@]}"
+counted 'each status' "$work/faults"
+build faults -O1 -g
+counted 'each status under valgrind' valgrind -q --error-exitcode=9 --leak-check=full --errors-for-leak-kinds=all "$work/faults" quick
 build memory -O1 -g -Wl,--wrap=malloc,--wrap=realloc,--wrap=free
 counted 'each request for memory refused' "$work/memory"
-cp "$work/log" "$work/requests"
-build by_key -O1 -g -DREFUSING -Wl,--wrap=malloc,--wrap=realloc,--wrap=free
-counted 'each request for memory refused, by key' "$work/by_key" memory
-cat "$work/log" >>"$work/requests"
-sed -nE 's/^(paseto_\w+) [0-9]+$/\1/p' "$work/requests" | sort >"$work/asked"
-check 'memory.c and by_key.c ask each export' diff "$work/exports" "$work/asked"
+sed -nE 's/^(paseto_\w+) [0-9]+$/\1/p' "$work/log" | sort >"$work/asked"
+check 'memory.c asks each export' diff "$work/exports" "$work/asked"
 build threads -O2 -pthread
 check 'four threads at once' "$work/threads" "${THREAD_SECONDS:-60}" 4
 echo "four threads at once: $(tail -n 1 "$work/log")"
@@ -227,8 +218,8 @@ if valgrind -q --tool=helgrind --error-exitcode=9 "$work/race" >/dev/null 2>&1; 
 check 'four threads under helgrind' valgrind -q --tool=helgrind --error-exitcode=9 "$work/threads" 1 4
 build rooms -O2 -fsanitize=undefined -fno-sanitize-recover=all -Wl,--wrap=malloc,--wrap=realloc,--wrap=free
 seed=${SEED:-$(date +%s)}
-check "random calls, SEED=$seed" "$work/rooms" 100000 "$seed"
-echo "random calls, SEED=$seed: $(tail -n 1 "$work/log")"
+check "rooms of every length, and random calls, SEED=$seed" "$work/rooms" 100000 "$seed"
+echo "rooms of every length, and random calls, SEED=$seed: $(tail -n 1 "$work/log")"
 
 # ---- Python
 

@@ -74,11 +74,14 @@ cat >client.c <<'END'
 #include <string.h>
 
 int main(void) {
-    uint8_t key[32] = {1}, nonce[32] = {2}, token[512], text[512];
+    struct paseto_key key;
+    uint8_t token[512], text[512];
     size_t n, m;
     if (paseto_version() != PASETO_VERSION) return 1;
-    if (paseto_v4_local_encrypt(key, 32, nonce, 32, (const uint8_t *)"hello", 5, NULL, 0, NULL, 0, token, sizeof token, &n)) return 2;
-    if (paseto_v4_local_decrypt(key, 32, token, n, NULL, 0, NULL, 0, text, sizeof text, &m)) return 3;
+    if (paseto_key_generate(4, PASETO_KEY_LOCAL, &key, PASETO_NO_REASON)) return 2;
+    if (paseto_encrypt(&key, "hello", 5, NULL, 0, NULL, 0, token, sizeof token, &n, PASETO_NO_REASON)) return 3;
+    if (paseto_decrypt(&key, token, n, NULL, 0, NULL, 0, text, sizeof text, &m, PASETO_NO_REASON)) return 4;
+    paseto_key_wipe(&key);
     return m != 5 || memcmp(text, "hello", 5) != 0;
 }
 END

@@ -26,7 +26,7 @@ RUN = [
     ("sh", "keygen", "tests/paseto.sh"),
     ("python", "import paseto", "tests/python.sh"),
     ("rust", "fn main", "tests/rust.sh"),
-    ("c", "#include <paseto_keys.h>", "tests/c_library.sh"),
+    ("c", "#include <paseto.h>", "tests/c_library.sh"),
     ("sh", "first.c", "tests/c_library.sh"),
     ("sh", "bash .ci/run", None),
 ]

@@ -131,13 +131,44 @@ for kind in v3.public v4.public; do
     same "the private key of keygen in PEM, $kind" new.pem openssl.pem
     rm new.pem new.public.pem
 done
+# -- PEM of other tools: keys_of_others/make.sh says how each was made
+
+others=$root/tests/keys_of_others
+for file in "$others"/*.pem; do
+    name=$(basename "$file" .pem)
+    case $name in
+        refused_*) continue ;;
+        *ed25519*) version=4 ;;
+        *p384*) version=3 ;;
+        *rsa*) version=1 ;;
+    esac
+    openssl pkey -in "$file" -pubout -out half.pem 2>err
+    token=$("$program" sign --key "$file" <in)
+    is "a token by $name" "${token:0:10}" "v$version.public."
+    is "the text of a token by $name" "$("$program" verify --key half.pem <<<"$token")" hello
+    is "the public half of $name" "$("$program" public --key "$file" --format pem)" "$(cat half.pem)"
+done
+is "how many keys of other tools" "$(find "$others" -name '[!r]*.pem' | wc -l)" 22
+while IFS='|' read -r name line; do
+    cp "$others/refused_$name.pem" .
+    refuses "a key of another tool, $name" 3 "refused_$name.pem: $line" sign --key "refused_$name.pem"
+done <<'END'
+openssl_ed448|a key of another algorithm than RSA, P-384 and Ed25519
+openssl_encrypted|encrypted PEM: remove its password by openssl pkey -in FILE -out NEW
+openssl_explicit_curve|a curve without a name: name it by openssl ec -param_enc named_curve -in FILE -out NEW
+openssl_p256|a key of P-256: version 3 takes P-384
+openssl_rsa_3072|an RSA key of another size: version 1 takes 2048 bits
+openssl_two_keys|more than one key: a key file has one
+python_openssh|a key of OpenSSH: make another by paseto keygen or openssl genpkey
+END
+
 openssl genpkey -algorithm X25519 -out x25519.pem
 openssl genpkey -algorithm EC -pkeyopt ec_paramgen_curve:P-256 -out p256.pem
 openssl genpkey -algorithm RSA -pkeyopt rsa_keygen_bits:3072 -out rsa3072.pem 2>err
 openssl pkey -in ed.pem -aes256 -passout pass:secret -out encrypted.pem
 sed '2s/./!/' ed.pem >broken.pem
 refuses "another algorithm" 3 "x25519.pem: a key of another algorithm than RSA, P-384 and Ed25519" sign --key x25519.pem
-refuses "another curve" 3 "p256.pem: a key of another curve: version 3 takes P-384" sign --key p256.pem
+refuses "another curve" 3 "p256.pem: a key of P-256: version 3 takes P-384" sign --key p256.pem
 refuses "another size" 3 "rsa3072.pem: an RSA key of another size: version 1 takes 2048 bits" sign --key rsa3072.pem
 refuses "an encrypted key of OpenSSL" 3 "encrypted.pem: encrypted PEM: remove its password by openssl pkey -in FILE -out NEW" sign --key encrypted.pem
 refuses "broken PEM" 3 "broken.pem: neither PASERK nor valid PEM" sign --key broken.pem
@@ -376,7 +407,7 @@ refuses "a ring of a key of RSA" 3 "ring/three: a key pair of version 1, which h
 printf '\377' >binary
 head -c 40 local.4 >short
 printf '%s\n%s\n' "$(cat local.4)" "$(cat local.3)" >two
-truncate -s 5000 long
+truncate -s 16385 long
 echo "k1.secret.$(printf '%040d' 0)" >k1
 echo "k3.secret.AAAAAAAAAAAAAAAAAAAAAAAAAAAAAAAAAAAAAAAAAAAAAAAAAAAAAAAAAAAAAAAA" >zero
 # The private half of a seed of zeros, with the public half of another seed.
@@ -486,7 +517,7 @@ done <<'LIST'
 3|sign --key broken.pem|broken.pem: neither PASERK nor valid PEM
 3|sign --key encrypted.pem|encrypted.pem: encrypted PEM: remove its password by openssl pkey -in FILE -out NEW
 3|sign --key x25519.pem|x25519.pem: a key of another algorithm than RSA, P-384 and Ed25519
-3|sign --key p256.pem|p256.pem: a key of another curve: version 3 takes P-384
+3|sign --key p256.pem|p256.pem: a key of P-256: version 3 takes P-384
 3|sign --key rsa3072.pem|rsa3072.pem: an RSA key of another size: version 1 takes 2048 bits
 LIST
 

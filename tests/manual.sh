@@ -53,8 +53,8 @@ sed -nE 's/^#define PASETO_VERSION ([0-9]+)$/\1/p' "$root/c/paseto.h" >"$work/fo
 same 'the version of paseto.h'
 
 # Each call of the library for C has a page, with its prototype and a description.
-python3 "$root/tools/pages.py" "$work/pages" "$root"/c/*.h
-grep -ohE '^(static inline )?\w+ paseto_\w+\(' "$root"/c/*.h | sed -E 's/.* (\w+)\($/\1/' | sort -u >"$work/wanted"
+python3 "$root/tools/pages.py" "$work/pages" "$root/c/paseto.h"
+grep -oE '^(static inline )?\w+ paseto_\w+\(' "$root/c/paseto.h" | sed -E 's/.* (\w+)\($/\1/' | sort -u >"$work/wanted"
 ls "$work/pages" | sed 's/\.3$//' >"$work/found"
 same 'the pages of the calls'
 for name in $(cat "$work/wanted"); do

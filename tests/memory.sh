@@ -49,8 +49,9 @@ asks_by_known_names() {
 asks_by_known_names "$program"
 asks_by_known_names "$tool"
 
-# Calls that answer what is right though a request was refused, and why that does no harm. There are none.
-declare -A unharmed=()
+# Calls that answer what is right though a request was refused, and why that does no harm.
+lines='the lines of the text are collected: where room for all of them is refused, the list grows as they come'
+declare -A unharmed=([private_key_from_pem]=$lines [public_key_from_pem]=$lines)
 
 # ---- the cases
 

@@ -840,6 +840,128 @@ echo nothing >many/151
 refuses "a ring of 299 keys and a file that is none" 3 "$unknown" "many/151: $no_key" check --ring many
 is "one of the 299 keys" "$("$program" check --ring many token | grep -c '"number":300')" 1
 
+# -- comments in key files, and files that may not be read
+
+{ printf '# the key of the office\n#\n' && cat v4.local; } >commented
+gives "a key behind comments" "$(made encrypt --key v4.local)" hello decrypt --key commented
+{ echo '# from openssl' && cat shown.pem; } >commented.pem
+gives "a key in PEM behind a comment" "$(made sign --key commented.pem)" hello verify --key <("$program" public --key shown.pem)
+gives "a ring with a key behind comments" "" "$("$program" id --key v4.local)
+" id --key commented
+echo '# no key' >commented
+refuses "comments alone" 3 "" "commented: $empty_key" id --key commented
+printf '# no key' >commented
+refuses "a comment without an end" 3 "" "commented: $empty_key" id --key commented
+gives "a key behind comments to inspect" "$(printf '# the key of the office\n#\n' && cat v4.local)" 'key: k4.local
+' inspect
+gives "a token behind a comment to inspect" "# a token
+$(made encrypt --key v4.local)" "version: v4
+purpose: local
+no footer
+text: encrypted
+" inspect
+refuses "comments alone to inspect" 1 "# no key" "$input: not a PASETO token" inspect
+# Of 16,384 bytes, and of one more.
+length=$(stat -c %s v4.local)
+{ printf "#%0$((16382 - length))d\n" 0 && cat v4.local; } >commented
+gives "the longest key file" "" "$("$program" id --key v4.local)
+" id --key commented
+echo >>commented
+refuses "a key file with a byte more" 3 "" "commented: $too_long" id --key commented
+{ cat v4.local && echo '# behind'; } >commented
+refuses "a comment behind the key" 3 "" "commented: line 2: a key file has one line of PASERK, or is PEM" id --key commented
+
+# denied WORD..: a run without the rights of root to pass over permissions.
+denied() {
+    if [ "$(id -u)" -eq 0 ]; then
+        setpriv --bounding-set=-dac_override,-dac_read_search --inh-caps=-dac_override,-dac_read_search "$program" "$@"
+    else
+        "$program" "$@"
+    fi
+}
+mkdir closed && cp v4.local unreadable && chmod 000 unreadable && chmod 555 closed
+is "a key file that may not be read" "$(denied id --key unreadable 2>&1; echo $?)" "paseto: unreadable: permission denied
+3"
+is "a token that may not be read" "$(denied inspect unreadable 2>&1; echo $?)" "paseto: unreadable: permission denied
+3"
+is "a folder that may not be written" "$(denied keygen v4.local --out closed/key 2>&1; echo $?)" "paseto: closed/key: permission denied
+3"
+is "a new file in a folder that may not be read" "$(mkdir -m 300 drop && denied keygen v4.local --quiet --out drop/key 2>&1; echo $?; grep -c '^k4.local.' drop/key)" "0
+1"
+rm -rf unreadable closed drop
+
+# -- check --each: a token on each line
+
+"$program" issue --key v4.local --claim sub=mira >first
+"$program" issue --key v4.local --claim sub=otto --claim seats:=4 >second
+"$program" issue --key other.local >foreign
+"$program" issue --key v4.secret >signed
+"$program" issue --key v4.local --expires 2026-11-22T10:00:00Z >ended 2>err
+
+# admitted FILE, refusal MESSAGE: the row of a token that is admitted, and of one that is refused.
+admitted() {
+    echo "{\"claims\":$("$program" check --key v4.local "$1")}"
+}
+refusal() {
+    echo "{\"error\":\"$1\"}"
+}
+
+# each STATUS ROWS LINE WORD..: this status, these rows, and this on standard error.
+each() {
+    local status=$1 rows=$2 line=$3
+    shift 3
+    timeout 10 "$program" check --each "$@" >out 2>err
+    is "check --each $*, status" $? "$status"
+    is "check --each $*, rows" "$(cat out)" "$rows"
+    is "check --each $*, standard error" "$(cat err)" "$line"
+    keeps "check --each $*" check
+}
+
+{ cat first second && printf ' %s\r\n' "$(cat first)"; } >good
+three="$(admitted first)
+$(admitted second)
+$(admitted first)"
+each 0 "$three" "" --key v4.local good
+each 0 "$three" "" --key v4.local <good
+each 0 "$three" "" --key v4.local - <good
+is "the rows of a pipe that gives a byte at a time" \
+    "$(perl -e '$| = 1; while (read STDIN, $byte, 1) { print $byte }' <good | "$program" check --each --key v4.local)" "$three"
+is "a row for each line at once" "$({ cat first && sleep 2 && echo; } | timeout 1.5 "$program" check --each --key v4.local)" "$(admitted first)"
+each 0 "" "" --key v4.local /dev/null
+{ cat first foreign && echo && printf '\377\n' && cat signed ended && printf 'a.jwt.text\n%s' "$(cat second)"; } >mixed
+seven="$(admitted first)
+$(refusal "$bad_tag")
+$(refusal "$bad_count")
+$(refusal "$not_utf8")
+$(refusal 'the token is v4.public, and the key is for v4.local')
+N
+$(refusal 'the token is of no known kind, and the key is for v4.local')
+$(admitted second)"
+"$program" check --each --key v4.local mixed >out 2>err
+is "lines of all sorts, status" $? 1
+is "lines of all sorts, rows" "$(sed '6s/.*/N/' out)" "$seven"
+is "lines of all sorts, one that has ended" "$(sed -n '6s/expired .*, at/expired, at/p' out)" "$(refusal 'expired, at 2026-11-22T10:00:00Z')"
+is "lines of all sorts, standard error" "$(cat err)" ""
+each 1 "$(admitted first)
+$(refusal "The claim 'sub' is 'otto', and not 'mira'")" "" --key v4.local --claim sub=mira <<<"$(cat first second)"
+each 3 "" "paseto: v4.secret: $("$program" check --key v4.secret first 2>&1 | sed 's/^paseto: v4.secret: //')" --key v4.secret good
+each 3 "" "paseto: v1.local: $no_assertion" --key v1.local --assertion for good
+each 3 "" "paseto: nowhere: $no_file" --key v4.local nowhere
+each 3 "" "paseto: .: is a folder, and not a file" --key v4.local .
+each 2 "" "paseto: $bad_leeway" --key v4.local --leeway long good
+each 1 "$(admitted first)" "paseto: $input: $longer" --key v4.local --longest "$(($(wc -c <first) - 1))" <<<"$(cat first second)"
+each 1 "" "paseto: /dev/zero: $longer" --key v4.local --longest 100000 /dev/zero
+mkdir eachring && cp v4.local eachring/one.key && cp other.local eachring/two.key
+for name in v4.local other.local; do
+    "$program" issue --key $name --footer-kid "$("$program" id --key $name)" --claim sub=$name
+done >ofring
+"$program" check --each --ring eachring ofring >out 2>err
+is "check --each with a ring" "$? $(grep -c '^{"claims":{.*"sub":"v4.local"' out)$(grep -c '"sub":"other.local"' out) $(cat err)" "0 11 "
+echo nothing >eachring/odd
+each 3 "" "paseto: eachring/odd: $no_key" --ring eachring ofring
+"$program" check --each --key v4.local good >/dev/full 2>err
+is "check --each, a full output" "$? $(cat err)" "4 paseto: $bad_stream"
+
 # -- new files, whole or not at all
 
 # left FOLDER: the files in it that the program has not named yet.
@@ -895,7 +1017,7 @@ at_each() {
 mkdir new
 (cd new && strace -qq -o ../trace "$program" keygen v4.public --out pair --public half 2>../err)
 grep -oE '^[a-z_0-9]+\(' trace | tr -d '(' | grep -v '^execve$\|^exit' | awk '{ print $1, ++count[$1] }' >calls
-is "the calls of two new files" "$(grep -cE '^(fsync|link|linkat|unlink|unlinkat) [12]$' calls)" 6
+is "the calls of two new files" "$(grep -cE '^(fsync [1-4]|(link|linkat|unlink|unlinkat) [12])$' calls)" 8
 is "keygen, killed at each system call" "$(at_each signal=KILL '137 (none none|whole none|whole whole) [012] 0')" ""
 sed -i '/^\(write\|fsync\|linkat\|link\|openat\|open\) /!d' calls
 is "keygen, with each call of a file refused" "$(at_each error=ENOSPC '[1-9][0-9]* none none 0 0|0 whole whole 0 0')" ""

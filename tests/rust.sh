@@ -51,6 +51,11 @@ tested 'cargo test' 14 cargo test --no-fail-fast
 examples=$(grep -cE '^test example_[0-9]{2}_.* ok$' "$work/log")
 echo "$examples of 15 examples of the README of rusty_paseto"
 is 'the examples of the README of rusty_paseto' "$examples" 15
+uncalled=''
+for call in $(sed -n 's/^ *pub fn \([a-z_]*\).*/\1/p' src/generic/builder.rs src/generic/parser.rs src/prelude/builder.rs src/prelude/parser.rs | sort -u); do
+    grep -qw "$call" tests/every_kind.rs || uncalled+=" $call"
+done
+is 'the calls that tests/every_kind.rs does not make' "$uncalled" ''
 RUSTDOCFLAGS='-D warnings' asked 'cargo doc' cargo doc --no-deps
 if cargo clippy --version >/dev/null 2>&1; then
     asked 'cargo clippy' cargo clippy --all-targets -- -D warnings
@@ -60,6 +65,11 @@ fi
 for features in core v1_local,v3_public generic,v4_local batteries_included,v2_public; do
     asked "the features $features" cargo check --lib --no-default-features --features "$features"
 done
+
+# The calls and structs that the crate declares are those of the header.
+header=$(basename "$(grep -l '^struct paseto_options ' "$prefix"/include/paseto*.h)")
+python3 "$root/tests/rust_calls.py" "$header" >"$work/calls.c" || fail 'the calls of library.rs'
+asked "the calls of $header" cc -std=c11 -Wall -Wextra -Werror -fsyntax-only -I "$prefix/include" "$work/calls.c"
 
 # Tokens both ways.
 cc -std=c99 -Wall -Wextra -I "$prefix/include" -o "$work/both_ways" tests/both_ways.c "$prefix/lib/libpaseto.a" || fail 'both_ways.c'
@@ -90,7 +100,7 @@ is 'a page without a token' "$(curl -s -w ' %{http_code}' "$address/page")" \
 is 'a modified token' "$(curl -s -H "Authorization: Bearer ${token/v4.local./v4.local.AAAA}" "$address/page")" \
     'Cryption: An unspecified cryption error occured'
 is 'a long token' "$(curl -s -H "Authorization: Bearer $token$(printf '%05000d' 0)" "$address/page")" \
-    'TooLong: The token is longer than the limit'
+    'TooLong: The token or its footer is longer than allowed'
 kill "$service"
 wait "$service" 2>/dev/null
 
@@ -127,6 +137,10 @@ if [ -s "$work/user/$crate/lib/libpaseto.a" ]; then pass; else fail 'the package
 # The program of README.md, as it stands there.
 python3 "$root/tests/readme.py" rust 'fn main' >"$work/user/program/src/main.rs"
 is 'a program over the packaged crate' \
+    "$(cd "$work/user/program" && env -u PASETO_LIB_DIR "$none" cargo run --quiet 2>"$work/log" || tail -n 5 "$work/log")" '"ada"'
+# And that of the crate's README.
+sed -n '/^```rust$/,/^```$/p' README.md | sed '1d;$d' >"$work/user/program/src/main.rs"
+is 'the program of the README of the crate' \
     "$(cd "$work/user/program" && env -u PASETO_LIB_DIR "$none" cargo run --quiet 2>"$work/log" || tail -n 5 "$work/log")" '"ada"'
 
 # The oldest rustc that Cargo.toml names, where Debian's is that one.

@@ -12,6 +12,9 @@
      secrets p384 key           private keys are undefined, and their public keys are made
      secrets p384 sign          private keys are undefined, and texts of each length are signed
      secrets p384 agree         private keys are undefined, and what each shares with a public key is made
+     secrets VERSION text_write the key of local tokens and the private key are undefined, and are written as PASERK text
+     secrets VERSION text_read  the characters of these texts behind the header are undefined, and they are read; and
+                                text_refused, where one of them is no base64url
      secrets VERSION wrap       the wrapping key and the keys are undefined, and a key of local tokens and a private key are
                                 wrapped
      secrets VERSION unwrap     the wrapping key is undefined, and a key of local tokens is unwrapped; so for
@@ -21,7 +24,7 @@
      secrets VERSION seal_key   the ephemeral secret key and the key are undefined, and the key is sealed to a public key
      secrets VERSION unseal_key the private key is undefined, and what was sealed for it is unsealed; and unseal_refused
      secrets VERSION pem_write  the private key is undefined, and is written in PEM
-     secrets VERSION pem_read   the characters of its text are undefined, and it is read
+     secrets VERSION pem_read   the characters of its secret numbers are undefined, and it is read
      secrets VERSION pem_contents  the secret numbers in its contents are undefined, and these are read
      secrets rsa sign           private keys are read from standard input, a line of hexadecimal digits each; the numbers
                                 that only a private key has are undefined, and texts of each length are signed

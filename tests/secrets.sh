@@ -3,24 +3,27 @@
 # static library of `test_bench`, with the bytes of the key (and, in a second run, of the text) marked as
 # undefined, and reports each conditional jump and each address that depends on them.
 #
-#   tests/secrets.sh [--cpu NAME | --built]
+#   tests/secrets.sh [--cpu NAME | --backend rattle | --built]
 #
-# The library is proved first, over what build.sh left. --cpu builds it for another processor, as x86-64-v3; --built takes
-# it as it stands in the crate's out/. What
-# may be reported, and why that tells nothing, is in `secrets.txt`. The compiler may do otherwise on another processor or
-# at another version, so this is a test of a build, and no promise. The last line is 'N passed, M failed', and the status is 0 where none failed.
+# The library is proved first, over what build.sh left. --cpu builds it for another processor, as x86-64-v3; --backend rattle
+# builds it by Rattle's own compiler in place of LLVM, and asks the texts of keys alone; --built takes it as it stands in the
+# crate's out/. What may be reported, and why that tells nothing, is in `secrets.txt`. The compiler may do otherwise on
+# another processor or at another version, so this is a test of a build, and no promise. The last line is 'N passed, M
+# failed', and the status is 0 where none failed.
 set -u
 export LC_ALL=C
 
 root=$(cd "$(dirname "$0")/.." && pwd)
 cpu=()
 is_built=0
-case "$# ${1-}" in
+build=default
+case "$# $*" in
     '0 ') ;;
     '1 --built') is_built=1 ;;
-    '2 --cpu') cpu=("$@") ;;
+    '2 --cpu '*) cpu=("$@") build=$2 ;;
+    '2 --backend rattle') build=rattle ;;
     *)
-        echo 'usage: tests/secrets.sh [--cpu NAME | --built]' >&2
+        echo 'usage: tests/secrets.sh [--cpu NAME | --backend rattle | --built]' >&2
         exit 2 ;;
 esac
 
@@ -36,9 +39,27 @@ if [ "$is_built" -eq 0 ] && ! python3 "$root/tools/prove.py" "${cpu[@]}" test_be
     fail 'the library is not built'
     finish
 fi
+library=$root/crates/test_bench/out/libtest_bench.a
+
+# The library by Rattle's own compiler, over the same proofs. That of LLVM is put back where it was.
+by_rattle() {
+    cp "$library" "$work/by_llvm.a"
+    (cd "$root/crates/test_bench" && rt lib --backend rattle) >"$work/build" 2>&1
+    local status=$?
+    cp "$library" "$work/by_rattle.a"
+    cp "$work/by_llvm.a" "$library"
+    library=$work/by_rattle.a
+    return "$status"
+}
+
+if [ "$build" = rattle ] && ! by_rattle; then
+    tail -n 30 "$work/build"
+    fail "the library is not built by Rattle's own compiler"
+    finish
+fi
 kit=$(dirname "$(rt doc)")
 if ! cc -std=c11 -Wall -Wextra -Werror -O1 -o "$work/secrets" "$root/tests/secrets.c" "$root/tests/secrets_of_keys.c" \
-    "$root/crates/test_bench/out/libtest_bench.a" "$kit/c/liblibc_c.a" "$kit/c/libos_c.a"; then
+    "$library" "$kit/c/liblibc_c.a" "$kit/c/libos_c.a"; then
     fail 'the driver is not built'
     finish
 fi
@@ -68,7 +89,7 @@ ask() {
 # may CALL KIND FUNCTION: in how many places secrets.txt lets it be reported.
 may() {
     awk -v call="$1" -v kind="$2" -v name="$3" \
-        -v build="${cpu[1]:-default}" '($1 == "*" || $1 == build) && $2 == call && $3 == kind && $5 == name { most = $4 }
+        -v build="$build" '($1 == "*" || $1 == build) && $2 == call && $3 == kind && $5 == name { most = $4 }
         END { print most + 0 }' "$root/tests/secrets.txt"
 }
 
@@ -94,6 +115,12 @@ for kind in jump address; do
 done
 if [ "$(may control jump control)" -eq 0 ]; then pass; else fail 'secrets.txt lets the control pass'; fi
 
+for version in v1 v2 v3 v4; do
+    for call in text_write text_read text_refused; do
+        check "$version" "$call"
+    done
+done
+[ "$build" != rattle ] || finish
 for version in v1 v2 v3 v4 box; do
     for call in seal seal_text refused open; do
         check "$version" "$call"

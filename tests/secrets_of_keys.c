@@ -1,5 +1,5 @@
-/* The half of the driver that wraps keys, puts them under a password, seals them, and writes and reads them in PEM. The
-   head of secrets.c tells the calls. */
+/* The half of the driver that writes and reads keys as text, wraps them, puts them under a password, seals them, and
+   writes and reads them in PEM. The head of secrets.c tells the calls. */
 #include "secrets.h"
 
 #include <stdio.h>
@@ -58,6 +58,27 @@ static material *make_material(uint32_t version, size_t round) {
     fill(m->ephemeral, SECRET3, round + 7);
     if (version != 1 && !make_pair(m, round)) exit(2);
     return m;
+}
+
+/* ---- texts of keys */
+
+/* How long a header is, as "k4.local." and "k4.secret.". */
+enum { LOCAL_HEADER = 9, SECRET_HEADER = 10 };
+
+static size_t text_length(const material *m, bool is_secret) {
+    return is_secret ? SECRET_HEADER + encoded(m->secret_length) : LOCAL_HEADER + encoded(KEY);
+}
+
+static bool writes_text(material *m, bool is_secret) {
+    size_t length = text_length(m, is_secret);
+    return done(is_secret ? paseto_bench_write_secret(m->version, m->secret, m->secret_length, m->text, length, 1)
+                          : paseto_bench_write_local(m->version, m->local, KEY, m->text, length, 1));
+}
+
+static bool reads_text(material *m, bool is_secret) {
+    size_t length = text_length(m, is_secret);
+    return done(is_secret ? paseto_bench_read_secret(m->version, m->text, length, m->read, m->secret_length, 1)
+                          : paseto_bench_read_local(m->version, m->text, length, m->read, KEY, 1));
 }
 
 /* ---- keys under a wrapping key */
@@ -143,6 +164,24 @@ static bool is_read(material *m, bool is_secret) {
     return memcmp(m->read, key, length) == 0;
 }
 
+static bool write_text(material *m, bool is_secret) {
+    VALGRIND_MAKE_MEM_UNDEFINED(m->local, KEY);
+    VALGRIND_MAKE_MEM_UNDEFINED(m->secret, m->secret_length);
+    return writes_text(m, is_secret);
+}
+
+/* Every character behind the header is marked. In a refused text one is of no alphabet. */
+static bool read_text(material *m, bool is_secret, bool is_changed) {
+    if (!writes_text(m, is_secret)) return false;
+    size_t header = is_secret ? SECRET_HEADER : LOCAL_HEADER, length = text_length(m, is_secret);
+    if (is_changed) m->text[header + 4] = '=';
+    VALGRIND_MAKE_MEM_UNDEFINED(m->text + header, length - header);
+    return reads_text(m, is_secret) ? !is_changed && is_read(m, is_secret) : is_changed;
+}
+
+/* A private key of version 1 has no such text. */
+static bool has_secret_text(const material *m) { return m->version != 1; }
+
 static bool wrap(material *m, bool is_secret) {
     VALGRIND_MAKE_MEM_UNDEFINED(m->wrapping_key, KEY);
     mark_keys(m);
@@ -185,7 +224,7 @@ static bool unseal(material *m, bool is_changed) {
 /* ---- PEM */
 
 /* The two lines around the contents, with their ends, and how many characters a line between them has. */
-enum { FIRST_LINE = 28, LAST_LINE = 26, LINE = 64 };
+enum { FIRST_LINE = 28, LAST_LINE = 26, LINE = 64, WORD = 8 };
 
 /* How many bytes the PrivateKeyInfo of a key has, and where its secret begins: of Ed25519 a seed, and of P-384 a number. */
 enum { INFO3 = 185, NUMBER3 = 35, INFO4 = 48, SEED4 = 16 };
@@ -216,16 +255,6 @@ static bool write_pem(material *m) {
     return writes_pem(m);
 }
 
-/* All characters between the two lines are marked, but not the ends of lines. */
-static bool read_pem(material *m) {
-    if (!read_rsa(m) || !writes_pem(m)) return false;
-    size_t length = pem_length(m);
-    for (size_t i = FIRST_LINE; i < length - LAST_LINE; i++) {
-        if (m->text[i] != '\n') VALGRIND_MAKE_MEM_UNDEFINED(m->text + i, 1);
-    }
-    return done(paseto_bench_pem_read(m->version, m->text, length, m->read, m->secret_length)) && is_read(m, true);
-}
-
 static uint32_t digit(uint8_t character) {
     static const char DIGITS[] = "ABCDEFGHIJKLMNOPQRSTUVWXYZabcdefghijklmnopqrstuvwxyz0123456789+/";
     const char *found = memchr(DIGITS, character, sizeof DIGITS - 1);
@@ -244,15 +273,40 @@ static void decode_pem(const material *m, uint8_t *contents) {
     }
 }
 
+/* Marks what is secret in the contents of a text. */
+static bool mark_contents(const material *m, uint8_t *contents) {
+    if (m->version == 1) return mark_rsa_numbers(contents, contents_length(m));
+    if (m->version == 3) VALGRIND_MAKE_MEM_UNDEFINED(contents + NUMBER3, SECRET3);
+    if (!m->is_nist) VALGRIND_MAKE_MEM_UNDEFINED(contents + SEED4, KEY);
+    return true;
+}
+
+/* Every character is marked whose six bits are all secret: the others tell what is in the texts of all keys. Nor are the
+   WORD before the end of a line, which is looked for in words of so many characters. */
+static bool read_pem(material *m) {
+    uint8_t contents[LONGEST_SECRET], marks[LONGEST_SECRET];
+    if (!read_rsa(m) || !writes_pem(m)) return false;
+    decode_pem(m, contents);
+    size_t length = pem_length(m), bytes = contents_length(m), bit = 0;
+    if (!mark_contents(m, contents)) return false;
+    VALGRIND_GET_VBITS(contents, marks, bytes);
+    for (size_t i = FIRST_LINE; i < length - LAST_LINE; i++) {
+        if (m->text[i] == '\n') continue;
+        size_t first = bit / 8, last = (bit + 5) / 8;
+        bool is_secret = last < bytes && marks[first] && marks[last];
+        if (is_secret && memchr(m->text + i, '\n', WORD + 1) == NULL) VALGRIND_MAKE_MEM_UNDEFINED(m->text + i, 1);
+        bit += 6;
+    }
+    return done(paseto_bench_pem_read(m->version, m->text, length, m->read, m->secret_length)) && is_read(m, true);
+}
+
 static bool read_contents(material *m) {
     uint8_t contents[LONGEST_SECRET];
     if (!read_rsa(m) || !writes_pem(m)) return false;
     decode_pem(m, contents);
     size_t length = contents_length(m);
-    if (m->version == 1 && !mark_rsa_numbers(contents, length)) return false;
-    if (m->version == 3) VALGRIND_MAKE_MEM_UNDEFINED(contents + NUMBER3, SECRET3);
-    if (!m->is_nist) VALGRIND_MAKE_MEM_UNDEFINED(contents + SEED4, KEY);
-    return done(paseto_bench_pem_read_contents(m->version, contents, length, m->read, m->secret_length))
+    return mark_contents(m, contents)
+           && done(paseto_bench_pem_read_contents(m->version, contents, length, m->read, m->secret_length))
            && is_read(m, true);
 }
 
@@ -260,6 +314,15 @@ static bool read_contents(material *m) {
 
 /* A call of a round, -1 where there is none of this name. */
 static int ask(material *m, const char *call) {
+    if (strcmp(call, "text_write") == 0) {
+        return write_text(m, false) && (!has_secret_text(m) || write_text(m, true));
+    }
+    if (strcmp(call, "text_read") == 0) {
+        return read_text(m, false, false) && (!has_secret_text(m) || read_text(m, true, false));
+    }
+    if (strcmp(call, "text_refused") == 0) {
+        return read_text(m, false, true) && (!has_secret_text(m) || read_text(m, true, true));
+    }
     if (strcmp(call, "wrap") == 0) return wrap(m, false) && wrap(m, true);
     if (strcmp(call, "unwrap") == 0) return unwrap(m, false, false);
     if (strcmp(call, "unwrap_secret") == 0) return unwrap(m, true, false);

@@ -1,7 +1,7 @@
 #!/usr/bin/env python3
 """Writes a manual page for each call of the library for C, from its header.
 
-    python3 tools/pages.py FOLDER HEADER..
+    python3 tools/pages.py FOLDER HEADER
 
 FOLDER gets NAME.3 for each function that the header declares or defines. A page has the prototype and the structs that it takes, the
 comment that stands above it, with its example, what the heading of its topic says, and the statuses that are named there, each with
@@ -142,17 +142,16 @@ def page(call, calls, structs, statuses, include):
 
 
 def main():
-    if len(sys.argv) < 3:
+    if len(sys.argv) != 3:
         sys.exit(__doc__)
-    folder, *headers = sys.argv[1:]
+    folder, source = sys.argv[1:]
     os.makedirs(folder, exist_ok=True)
-    for source in headers:
-        with open(source, encoding="utf-8") as file:
-            header = file.read()
-        calls, structs = read(header)
-        for call in calls:
-            with open(os.path.join(folder, f"{call.name}.3"), "w", encoding="utf-8") as file:
-                file.write(page(call, calls, structs, STATUS.findall(header), os.path.basename(source)))
+    with open(source, encoding="utf-8") as file:
+        header = file.read()
+    calls, structs = read(header)
+    for call in calls:
+        with open(os.path.join(folder, f"{call.name}.3"), "w", encoding="utf-8") as file:
+            file.write(page(call, calls, structs, STATUS.findall(header), os.path.basename(source)))
 
 
 if __name__ == "__main__":

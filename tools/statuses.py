@@ -16,7 +16,6 @@ import textwrap
 ROOT = os.path.dirname(os.path.dirname(os.path.abspath(__file__)))
 TABLE = f"{ROOT}/c/statuses.txt"
 HEADER = f"{ROOT}/c/paseto.h"
-KEYS_HEADER = f"{ROOT}/c/paseto_keys.h"
 PYTHON = f"{ROOT}/bindings/python/src/paseto/_errors.py"
 GO = f"{ROOT}/bindings/go/reasons.go"
 RUST = f"{ROOT}/bindings/rust/src/library.rs"
@@ -108,8 +107,7 @@ def between(path, first, last):
 
 
 PLACES = [
-    (HEADER, "/* The statuses, from c/statuses.txt: */\n", "\n\n/* Draws secret random bytes", header),
-    (KEYS_HEADER, "/* The statuses, from c/statuses.txt: */\n", "\n\n/* The moment by the system's clock", header),
+    (HEADER, "/* The statuses, from c/statuses.txt: */\n", "\n\n/* The moment by the system's clock", header),
     (GO, "// The reasons of the library, from c/statuses.txt:\n", "\n// Beside the reasons of the library", go),
     (RUST, "// The statuses, from c/statuses.txt:\n", "\n\n/// Why a token was refused", rust),
     (PYTHON, "# ---- the statuses, from c/statuses.txt\n\n\n", "\n\n# ---- other faults\n", python),

@@ -4,7 +4,7 @@ package paseto
 
 /*
 #cgo pkg-config: paseto
-#include <paseto_keys.h>
+#include <paseto.h>
 
 // Memory of Go that is lent to C may hold no pointers, so what has some is put together here.
 typedef struct { const void *at; size_t length; } lent;

@@ -34,7 +34,7 @@ const (
 	ErrNoPaserk                      Reason = 31 // the text does not begin as a PASERK key
 	ErrOtherVersion                  Reason = 32 // the key is of another version
 	ErrOtherType                     Reason = 33 // the key has another type (local, private or public)
-	ErrNotPem                        Reason = 34 // the text is not a key in PEM, in the strict form of RFC 7468
+	ErrNotPem                        Reason = 34 // the text is not a key in PEM, or has more than one
 	ErrEncryptedKey                  Reason = 35 // the key in PEM is encrypted
 	ErrOtherLabel                    Reason = 36 // the PEM text has another label, for example that of a public key in place of a private one
 	ErrOtherAlgorithm                Reason = 37 // the key in PEM is of another algorithm

@@ -5,7 +5,7 @@
 #include <ngx_config.h>
 #include <ngx_core.h>
 
-#include <paseto_keys.h>
+#include <paseto.h>
 
 typedef struct {
     ngx_str_t id; /* the PASERK id; empty for a key of version 1 that has none */

@@ -23,7 +23,7 @@ fi
 ld -r --whole-archive "$archive" --no-whole-archive "$heap" "$kit/c/libos_c.a" -o "$work/all.o"
 objects=("$work/all.o")
 if [ "$half" != heap ]; then
-    python3 "$here/wrap.py" "$work/all.o" "$work/wrappers.c" "$here"/../*.h
+    python3 "$here/wrap.py" "$work/all.o" "$work/wrappers.c" "$here/../paseto.h"
     cc "${flags[@]}" -c "$work/wrappers.c" -o "$work/wrappers.o"
     cc -c "$here/wipe.S" -o "$work/wipe.o"
     objects+=("$work/wrappers.o" "$work/wipe.o")

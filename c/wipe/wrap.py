@@ -1,7 +1,7 @@
 #!/usr/bin/env python3
 """Puts around each export of the library a function that calls it, and then wipes the stack that it used, and the registers.
 
-    wrap.py OBJECT.o WRAPPERS.c HEADER..
+    wrap.py OBJECT.o WRAPPERS.c HEADER
 
 Each export X of the object becomes proved_X, and WRAPPERS.c has a function with its name and the header's prototype, but for what
 pointers point to. How deep to wipe is read from the machine code. The functions that recursion reaches become proved_deep_N:
@@ -34,14 +34,11 @@ __attribute__((constructor(101))) static void find(void) {
 """
 
 
-def prototypes(headers):
+def prototypes(header):
     """name -> (what it returns, its parameters), as the preprocessor leaves them."""
-    found = {}
-    for header in headers:
-        text = subprocess.run(["cc", "-E", "-P", header], capture_output=True, text=True, check=True).stdout
-        for result, name, parameters in re.findall(r"^(\w+) (paseto_\w+)\(([^()]*)\);", text, re.M):
-            found[name] = result, " ".join(parameters.split())
-    return found
+    text = subprocess.run(["cc", "-E", "-P", header], capture_output=True, text=True, check=True).stdout
+    found = re.findall(r"^(\w+) (paseto_\w+)\(([^()]*)\);", text, re.M)
+    return {name: (result, " ".join(parameters.split())) for result, name, parameters in found}
 
 
 def objcopy(obj, *options):
@@ -58,12 +55,12 @@ def up(n):
     return -(-n // 64) * 64
 
 
-def wrapped(of, headers):
+def wrapped(of, header):
     """The exports to wrap, with their prototypes."""
-    known = prototypes(headers)
+    known = prototypes(header)
     unknown = [it for it in exports(of) if it not in known]
     if unknown:
-        sys.exit(f"no header declares {' '.join(unknown)}")
+        sys.exit(f"the header does not declare {' '.join(unknown)}")
     return {it: known[it] for it in exports(of) if known[it][1] != "void"}
 
 
@@ -100,10 +97,10 @@ def write(of, known, size, file):
 
 
 def main():
-    obj, wrappers, *headers = sys.argv[1:]
+    obj, wrappers, header = sys.argv[1:]
     sys.setrecursionlimit(100000)
     of = Depths(obj)
-    known = wrapped(of, headers)
+    known = wrapped(of, header)
     with open(wrappers, "w", encoding="utf-8") as file:
         write(of, known, sizes(obj), file)
     renamed = {it: f"proved_{it}" for it in known} | {it: f"proved_deep_{i}" for i, it in enumerate(of.deep)}

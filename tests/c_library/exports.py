@@ -13,8 +13,7 @@ import pathlib
 import re
 import sys
 
-FREE = {"Global", "&[u8]", "&mut [u8]", "&mut usize", "&mut u8", "i64", "u8", "&Options<'_>",
-        "&HeldKey", "&mut HeldKey", "&[HeldKey]", "&AdmitOptions<'_>"}
+FREE = {"Global", "&[u8]", "&mut [u8]", "&mut usize", "i64", "u8", "&HeldKey", "&mut HeldKey", "&[HeldKey]", "&AdmitOptions<'_>"}
 HEAD = re.compile(r'(?P<before>(?:^#\[[^\n]*\]\n)*)^pub extern "C" fn (?P<name>\w+)\((?P<words>[^)]*)\)(?P<clauses>.*?)^\{', re.M | re.S)
 
 

@@ -1,77 +1,108 @@
-/* Keys as text, as an independent implementation wrote them, through the calls of the library:
+/* Keys as text, as independent implementations wrote them, through the calls of the library:
 
-     keys FILE
+     keys paserk FILE    rows VERSION TYPE KEY TEXT ID, the key in hexadecimal
+     keys locked FILE    rows password|key VERSION TYPE KEY OPENER DRAWN TEXT, keys under a password or a wrapping key
 
-   where a row of the file is VERSION TYPE KEY TEXT ID, the key in hexadecimal. Each key is written, read and named, and a text is
-   refused by its name where it is of another kind. The last line is 'N passed, M failed'. */
-#include <stdlib.h>
+   Each key is written, read and named, and refused by the name of its fault. The last line is 'N passed, M failed'. */
+#include "asking.h"
 
-enum { MOST = 256, TYPES = 3, VERSIONS = 4 };
+/* Texts that are no key, where the text of one is changed. */
+static void ask_other_texts(const char *row) {
+    struct slice whole = given;
+    given.length--;
+    check(makes_none(key_read, PASETO_INVALID_KEY), "a text that is cut", row);
+    given = whole;
+    given.at[given.length++] = '\n';
+    given.at[given.length++] = '\n';
+    check(makes_none(key_read, PASETO_INVALID_KEY), "a key with two newlines", row);
+    given = whole;
+    given.at[given.length++] = 0xff;
+    check(makes_none(key_read, PASETO_NOT_UTF8), "no text", row);
+    given = whole;
+}
 
-#include "asked_rooms.h"
+/* A key of another length has no text and no id. */
+static void ask_length(unsigned length, const char *row) {
+    uint16_t right = key.length;
+    key.length = (uint16_t)length;
+    if (length != right)
+        check(is_refused(key_text, PASETO_INVALID_KEY) && is_refused(key_id, PASETO_INVALID_KEY), "a key of another length", row);
+    key.length = right;
+}
 
-#define LOCAL(v) {paseto_v##v##_local_key_to_paserk, paseto_v##v##_local_key_from_paserk, paseto_v##v##_local_key_id}
-#define PRIVATE(v) {paseto_v##v##_private_key_to_paserk, paseto_v##v##_private_key_from_paserk, paseto_v##v##_private_key_id}
-#define PUBLIC(v) {paseto_v##v##_public_key_to_paserk, paseto_v##v##_public_key_from_paserk, paseto_v##v##_public_key_id}
+static void ask_other_lengths(const char *row) {
+    ask_length(key.length - 1U, row);
+    ask_length(key.length + 1U, row);
+    for (unsigned length = 0; length <= sizeof key.bytes + 1; length += 13) ask_length(length, row);
+}
 
-/* The calls of a version and a type. Version 1 has no pairs as text. */
-static const struct kind {
-    call *write, *read, *name;
-} kinds[VERSIONS][TYPES] = {
-    {LOCAL(1), {NULL, NULL, NULL}, {NULL, NULL, NULL}},
-    {LOCAL(2), PRIVATE(2), PUBLIC(2)},
-    {LOCAL(3), PRIVATE(3), PUBLIC(3)},
-    {LOCAL(4), PRIVATE(4), PUBLIC(4)},
-};
+static void ask_text(char **fields, size_t count) {
+    if (count != 5) abort();
+    struct paseto_key wanted = key_of((unsigned)atoi(fields[0]), type_of(fields[1]), fields[2]);
+    const char *row = fields[3];
+    key = wanted;
+    set(&given, row);
+    check(gives(key_text, OF(given)), "a key is written", row);
+    check(gives(key_id, fields[4], strlen(fields[4])), "a key is named", fields[4]);
+    check(makes(key_read, &wanted), "a key is read", row);
+    check(makes(key_unlock, &wanted), "a key that is not locked is read with a password", row);
+    other = key_of(4, PASETO_KEY_LOCAL, K4);
+    check(makes(key_unwrap, &wanted), "a key that is not locked is read with another key", row);
+    given.at[given.length++] = '\n';
+    check(makes(key_read, &wanted), "a key is read with a newline", row);
+    given.length--;
+    ask_other_texts(row);
+    ask_other_lengths(row);
+    set(&given, fields[4]);
+    check(makes_none(key_read, PASETO_NO_PASERK), "an id is no key", fields[4]);
+}
 
-static void ask(unsigned version, unsigned type, const uint8_t *key, size_t length, const char *text, const char *id) {
-    const struct kind *kind = &kinds[version - 1][type - 1];
-    uint8_t found = 9, found_type = 9, longer[MOST];
-    size_t text_length = strlen(text);
-    check(answers(kind->write, key, length, text, text_length), "it is written", text);
-    check(answers(kind->read, text, text_length, key, length), "it is read", text);
-    check(answers(kind->name, key, length, id, strlen(id)), "it is named", text);
-    check(paseto_key_kind((const uint8_t *)text, text_length, &found, &found_type) == PASETO_OK && found == version
-              && found_type == type,
-          "its kind is told", text);
-    memcpy(longer, key, length);
-    longer[length] = 0;
-    check(refuses(PASETO_INVALID_KEY, kind->write, longer, length + 1), "a longer key is not written", text);
-    check(refuses(PASETO_INVALID_KEY, kind->name, longer, length - 1), "a shorter key is not named", text);
-    check(refuses(PASETO_INVALID_KEY, kind->read, text, text_length - 1), "a text that is cut", text);
-    check(refuses(PASETO_NO_PASERK, kind->read, id, strlen(id)), "an id is no key", id);
-    check(refuses(PASETO_NOT_UTF8, kind->read, "\xff", 1), "no text", text);
-    check(paseto_key_kind((const uint8_t *)id, strlen(id), &found, &found_type) == PASETO_NO_PASERK && found == 0 && found_type == 0,
-          "an id is of no kind", id);
-    check(paseto_key_kind((const uint8_t *)"\xff", 1, &found, &found_type) == PASETO_NOT_UTF8, "no text is of no kind", text);
-    for (unsigned v = 1; v <= VERSIONS; v++) {
-        for (unsigned t = 1; t <= TYPES; t++) {
-            const struct kind *other = &kinds[v - 1][t - 1];
-            if (other->read == NULL || (v == version && t == type)) continue;
-            check(refuses(v == version ? PASETO_OTHER_TYPE : PASETO_OTHER_VERSION, other->read, text, text_length), "another kind", text);
-        }
-    }
+static void ask_password(char **fields, const struct paseto_key *wanted, bool is_key) {
+    const char *row = fields[6];
+    set_hex(&password, fields[4]);
+    check(is_key ? makes(key_unlock, wanted) : makes_none(key_unlock, PASETO_INVALID_KEY), "a key under a password", row);
+    check(makes_none(key_read, PASETO_NEEDS_PASSWORD), "no password", row);
+    password.at[password.length++] = 'x';
+    check(makes_none(key_unlock, PASETO_WRONG_KEY), "a wrong password", row);
+    other = key_of(wanted->version, PASETO_KEY_LOCAL, fields[3]);
+    other.length = 32;
+    check(makes_none(key_unwrap, PASETO_NEEDS_PASSWORD), "a key in place of a password", row);
+}
+
+static void ask_wrapping(char **fields, const struct paseto_key *wanted, bool is_key) {
+    const char *row = fields[6];
+    other = key_of(wanted->version, PASETO_KEY_LOCAL, fields[4]);
+    check(is_key ? makes(key_unwrap, wanted) : makes_none(key_unwrap, PASETO_INVALID_KEY), "a key under a wrapping key", row);
+    check(makes_none(key_read, PASETO_NEEDS_KEY), "no wrapping key", row);
+    set_hex(&drawn, fields[5]);
+    key = *wanted;
+    check(is_key ? gives(key_wrap_with, OF(given)) : is_refused(key_wrap_with, PASETO_INVALID_KEY), "a key is wrapped", row);
+    drawn.length = 31;
+    check(is_refused(key_wrap_with, PASETO_INVALID_NONCE), "too few random bytes", row);
+    other.bytes[0] ^= 1;
+    check(makes_none(key_unwrap, PASETO_WRONG_KEY), "a wrong wrapping key", row);
+    other.version = (uint8_t)(wanted->version % 4 + 1);
+    check(makes_none(key_unwrap, PASETO_OTHER_VERSION), "a wrapping key of another version", row);
+    other.type = PASETO_KEY_PUBLIC;
+    check(makes_none(key_unwrap, PASETO_OTHER_TYPE), "a public key does not open", row);
+}
+
+static void ask_locked(char **fields, size_t count) {
+    if (count != 7) abort();
+    struct paseto_key wanted = key_of((unsigned)atoi(fields[1]), type_of(fields[2]), fields[3]);
+    /* What is locked in the rows of private keys of version 1 is no key of RSA. */
+    bool is_key = wanted.version != 1 || wanted.type != PASETO_KEY_PRIVATE;
+    set(&given, fields[6]);
+    (strcmp(fields[0], "password") == 0 ? ask_password : ask_wrapping)(fields, &wanted, is_key);
 }
 
 int main(int count, char **words) {
-    static char line[8 * MOST], type[16], digits[4 * MOST], text[MOST], id[MOST];
-    unsigned version;
-    FILE *rows = count == 2 ? fopen(words[1], "r") : NULL;
-    if (rows == NULL) {
-        fputs("usage: keys FILE\n", stderr);
+    bool is_locked = count == 3 && strcmp(words[1], "locked") == 0;
+    if (count != 3 || (!is_locked && strcmp(words[1], "paserk") != 0)) {
+        fputs("usage: keys paserk FILE, or keys locked FILE\n", stderr);
         return 2;
     }
-    while (fgets(line, sizeof line, rows) != NULL) {
-        if (sscanf(line, "%u %15s %1023s %255s %255s", &version, type, digits, text, id) != 5) abort();
-        uint8_t key[MOST];
-        size_t length = strlen(digits) / 2;
-        for (size_t i = 0; i < length; i++) {
-            char pair[3] = {digits[2 * i], digits[2 * i + 1], '\0'};
-            key[i] = (uint8_t)strtoul(pair, NULL, 16);
-        }
-        ask(version, strcmp(type, "local") == 0 ? 1 : strcmp(type, "secret") == 0 ? 2 : 3, key, length, text, id);
-    }
-    fclose(rows);
-    printf("%u passed, %u failed\n", passed, failed);
-    return failed > 0;
+    reset();
+    for_rows(words[2], is_locked ? ask_locked : ask_text);
+    return finish();
 }

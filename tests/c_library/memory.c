@@ -1,286 +1,209 @@
 /* Each call of the library where memory is refused: the first request that it makes, the second, and so on, alone and with all
-   that follow. The answer is PASETO_MEMORY each time, with nothing written, the room as it was, and all memory given back, and
-   the next call answers what it did before.
+   that follow. The answer is PASETO_MEMORY each time, which the line tells, with nothing written, the room as it was, and all memory
+   given back, and the next call answers what it did before. What reads PEM, as the lines of key pairs of version 1 are, may do
+   without what is refused, and give the key: it reads a text as each key that it may be.
 
-   A line for each call has its name and how many requests it makes. The last line is 'N passed, M failed', where each refused
+   A line for each call has its name and the most requests that it makes. The last line is 'N passed, M failed', where each refused
    request is one.
 
    It is linked with --wrap for malloc, realloc and free, so that what the library asks for goes through it. */
-#include "refused_requests.h"
+#define REFUSING
+#include "asking.h"
 #include "rsa.h"
 
-#include <paseto.h>
+/* The most requests of each call. */
+static struct {
+    const char *name;
+    unsigned long requests;
+} asked[32];
+static size_t asked_count;
 
-#include <stdbool.h>
-#include <stdio.h>
-#include <stdlib.h>
-#include <string.h>
-
-enum { MOST = 4096 };
-
-#define NOW INT64_C(1795608000)
-
-/* ---- what is handed over */
-
-struct slice {
-    uint8_t at[MOST];
-    size_t length;
-};
-
-static struct slice key, nonce, short_nonce, salt, text, claims, expected, binding, assertion;
-/* By version: the keys, and a token of the text and of the claims of each purpose. */
-static struct slice private_keys[5], public_keys[5], encrypted[5], issued[5], signed_texts[5], signed_claims[5];
-/* By version: the texts of a key for local tokens, of a private key and of a public one, by PASERK and in PEM. */
-static struct slice local_texts[5], private_texts[5], public_texts[5], private_pem[5], public_pem[5];
-
-static void set(struct slice *slice, const char *bytes) {
-    slice->length = strlen(bytes);
-    memcpy(slice->at, bytes, slice->length);
+static void note(const char *name, unsigned long made) {
+    size_t i = 0;
+    while (i < asked_count && strcmp(asked[i].name, name) != 0) i++;
+    if (i == asked_count) asked[asked_count++].name = name;
+    if (made > asked[i].requests) asked[i].requests = made;
 }
 
-static void set_digits(struct slice *slice, const char *digits) {
-    slice->length = strlen(digits) / 2;
-    for (size_t i = 0; i < slice->length; i++) {
-        char pair[3] = {digits[2 * i], digits[2 * i + 1], '\0'};
-        slice->at[i] = (uint8_t)strtoul(pair, NULL, 16);
-    }
-}
-
-static void set_count(struct slice *slice, size_t length, uint8_t first) {
-    slice->length = length;
-    for (size_t i = 0; i < length; i++) slice->at[i] = (uint8_t)(first + i);
-}
-
-/* ---- the calls, each of which answers in one room */
-
-typedef paseto_status ask(uint8_t *room, size_t length, size_t *written);
-
-#define GIVEN(slice) (slice).at, (slice).length
-#define NOTHING
-#define ASSERTION , GIVEN(assertion)
-#define SALT , GIVEN(salt)
-#define CALL(name, ...)                                                            \
-    static paseto_status name(uint8_t *room, size_t length, size_t *written) {     \
-        return paseto_##name(__VA_ARGS__, room, length, written);                  \
-    }
-
-/* The room in which a refusal is told, and the length of the line. */
-static uint8_t line[100];
-static size_t told;
-
-static const struct paseto_options options = {5, 65536, (const uint8_t *)"[\"exp\"]", 7};
-
-#define CALL_WITH(name, ...)                                                                              \
-    static paseto_status name(uint8_t *room, size_t length, size_t *written) {                            \
-        return paseto_##name(__VA_ARGS__, &options, room, length, written, line, sizeof line, &told);     \
-    }
-
-#define TOKENS(n, drawn, salted, asserted)                                                                                     \
-    CALL(v##n##_local_encrypt, GIVEN(key), GIVEN(nonce), GIVEN(text), GIVEN(binding) asserted)                                  \
-    CALL(v##n##_local_decrypt, GIVEN(key), GIVEN(encrypted[n]), GIVEN(binding) asserted)                                        \
-    CALL(v##n##_local_build, GIVEN(key), GIVEN(drawn), GIVEN(claims), NOW, GIVEN(binding) asserted)                             \
-    CALL(v##n##_local_parse, GIVEN(key), GIVEN(issued[n]), GIVEN(expected), NOW + 1, GIVEN(binding) asserted)                   \
-    CALL_WITH(v##n##_local_parse_with, GIVEN(key), GIVEN(issued[n]), GIVEN(expected), NOW + 1, GIVEN(binding) asserted)         \
-    CALL(v##n##_public_sign, GIVEN(private_keys[n]) salted, GIVEN(text), GIVEN(binding) asserted)                               \
-    CALL(v##n##_public_verify, GIVEN(public_keys[n]), GIVEN(signed_texts[n]), GIVEN(binding) asserted)                          \
-    CALL(v##n##_public_build, GIVEN(private_keys[n]) salted, GIVEN(claims), NOW, GIVEN(binding) asserted)                       \
-    CALL(v##n##_public_parse, GIVEN(public_keys[n]), GIVEN(signed_claims[n]), GIVEN(expected), NOW + 1, GIVEN(binding) asserted) \
-    CALL_WITH(v##n##_public_parse_with, GIVEN(public_keys[n]), GIVEN(signed_claims[n]), GIVEN(expected), NOW + 1,              \
-              GIVEN(binding) asserted)                                                                                          \
-    CALL(v##n##_local_key_to_paserk, GIVEN(key))                                                                               \
-    CALL(v##n##_local_key_from_paserk, GIVEN(local_texts[n]))                                                                  \
-    CALL(v##n##_local_key_id, GIVEN(key))                                                                                      \
-    CALL(v##n##_private_key_to_pem, GIVEN(private_keys[n]))                                                                    \
-    CALL(v##n##_private_key_from_pem, GIVEN(private_pem[n]))                                                                   \
-    CALL(v##n##_public_key_to_pem, GIVEN(public_keys[n]))                                                                      \
-    CALL(v##n##_public_key_from_pem, GIVEN(public_pem[n]))
-
-#define PAIRS(n)                                                      \
-    CALL(v##n##_private_key_to_paserk, GIVEN(private_keys[n]))        \
-    CALL(v##n##_private_key_from_paserk, GIVEN(private_texts[n]))     \
-    CALL(v##n##_private_key_id, GIVEN(private_keys[n]))               \
-    CALL(v##n##_public_key_to_paserk, GIVEN(public_keys[n]))          \
-    CALL(v##n##_public_key_from_paserk, GIVEN(public_texts[n]))       \
-    CALL(v##n##_public_key_id, GIVEN(public_keys[n]))
-
-/* Both keys in one room, the private one first. */
-#define KEYPAIR(n, seed, private_length, public_length)                                                       \
-    static paseto_status v##n##_public_keypair(uint8_t *room, size_t length, size_t *written) {               \
-        size_t first = length < private_length ? length : private_length;                                     \
-        paseto_status status = paseto_v##n##_public_keypair(GIVEN(seed), room, first, room + first, length - first); \
-        *written = status == PASETO_OK ? private_length + public_length : 0;                                  \
-        return status;                                                                                        \
-    }
-
-TOKENS(1, nonce, SALT, NOTHING)
-TOKENS(2, short_nonce, NOTHING, NOTHING)
-TOKENS(3, nonce, NOTHING, ASSERTION)
-TOKENS(4, nonce, NOTHING, ASSERTION)
-PAIRS(2)
-PAIRS(3)
-PAIRS(4)
-KEYPAIR(2, nonce, 64, 32)
-KEYPAIR(3, salt, 48, 49)
-KEYPAIR(4, nonce, 64, 32)
-CALL(footer, GIVEN(issued[4]))
-CALL(error_text, PASETO_EXPIRED)
-
-/* Two numbers in the room. At a refusal both are 0, and the room is as it was. */
-#define KIND(name, of)                                                                 \
-    static paseto_status name(uint8_t *room, size_t length, size_t *written) {         \
-        uint8_t version = 9, type = 9;                                                 \
-        paseto_status status = paseto_##name(GIVEN(of), &version, &type);              \
-        bool holds = length >= 2 && (status == PASETO_OK || (version == 0 && type == 0)); \
-        *written = status == PASETO_OK ? 2 : 0;                                        \
-        if (status == PASETO_OK && holds) {                                            \
-            room[0] = version;                                                         \
-            room[1] = type;                                                            \
-        }                                                                              \
-        return holds ? status : PASETO_OTHER;                                          \
-    }
-
-KIND(key_kind, private_texts[4])
-KIND(pem_kind, public_pem[1])
-
-static paseto_status version(uint8_t *room, size_t length, size_t *written) {
-    uint32_t number = paseto_version();
-    *written = length < sizeof number ? 0 : sizeof number;
-    memcpy(room, &number, *written);
-    return *written == 0 ? PASETO_OTHER : PASETO_OK;
-}
-
-/* ---- refusing */
-
-static unsigned passed, failed;
-
-static void fail(const char *name, const char *what, unsigned n) {
-    failed++;
-    printf("FAILED: paseto_%s: %s, request %u\n", name, what, n);
-}
-
-/* Whether the line tells that memory was refused, and nothing behind it was written. */
-static bool is_told(void) {
-    static const char wanted[] = "No memory was found";
-    size_t length = sizeof wanted - 1;
-    return told == length && memcmp(line, wanted, length) == 0 && line[length] == '#';
-}
-
-static paseto_status asked(ask *call, uint8_t *room, size_t length, size_t *written) {
-    memset(room, '#', MOST);
-    memset(line, '#', sizeof line);
+/* Asks a call; a text is what it makes, or the struct of a key. */
+static paseto_status answer(ask *call, ask_key *maker, size_t *length) {
+    clear();
     requests = 0;
-    *written = 12345;
-    told = 12345;
-    return call(room, length, written);
+    *length = 0;
+    if (maker == NULL) {
+        paseto_status status = call(room, MOST, &written, line, sizeof line, &told);
+        *length = written;
+        return status;
+    }
+    struct paseto_key made;
+    memset(&made, 0xa5, sizeof made);
+    paseto_status status = maker(&made, line, sizeof line, &told);
+    if (!is_untouched(&made, sizeof made)) {
+        memcpy(room, &made, sizeof made);
+        *length = sizeof made;
+    }
+    return status;
 }
 
-/* Refuses the nth request, or it and all that follow, and then none. Returns whether there was an nth one. */
-static bool refuse(const char *name, ask *call, bool has_line, const struct slice *answer, unsigned n, bool follow) {
-    static uint8_t room[MOST], before[MOST];
-    size_t written;
+/* What the call gave where memory was given, and how often it gave that where it was refused. */
+static uint8_t whole[MOST];
+static size_t whole_length;
+static unsigned did_without;
+
+static bool is_whole(paseto_status status, size_t length) {
+    return status == PASETO_OK && length == whole_length && memcmp(room, whole, length) == 0 && told == 0 && is_untouched(line, sizeof line);
+}
+
+/* The call that refuses the nth request, or it and all that follow, and then none. Returns whether there was an nth one. */
+static bool refuse(const char *name, ask *call, ask_key *maker, unsigned long n, bool follow) {
+    size_t length;
     *(follow ? &refuse_from : &refuse_at) = n;
-    paseto_status status = asked(call, room, answer->length, &written);
-    unsigned made = requests;
+    paseto_status status = answer(call, maker, &length);
+    unsigned long made = requests;
     refuse_at = refuse_from = 0;
     if (made < n) return false;
-    memset(before, '#', MOST);
-    if (status != PASETO_MEMORY || written != 0) fail(name, "the answer is not that memory was refused", n);
-    else if (memcmp(room, before, MOST) != 0) fail(name, "the room is not as it was", n);
-    else if (has_line && !is_told()) fail(name, "the line does not tell it", n);
-    else if (out != 0) fail(name, "memory is not given back", n);
-    else if (asked(call, room, answer->length, &written) != PASETO_OK || written != answer->length
-             || memcmp(room, answer->at, written) != 0)
-        fail(name, "the next call does not answer what it did", n);
-    else passed++;
+    bool holds = status == PASETO_MEMORY && length == 0 && tells(status, "No memory was found", sizeof line) && is_untouched(room, sizeof room);
+    if (is_whole(status, length)) did_without++;
+    else check(holds && out == 0, "memory is refused", name);
+    status = answer(call, maker, &length);
+    check(out == 0 && is_whole(status, length), "the next call", name);
     return true;
 }
 
-/* Asks a call, which makes requests or none, and keeps its answer. */
-static void check(const char *name, ask *call, bool makes_requests, bool has_line, struct slice *kept) {
-    static struct slice answer;
-    paseto_status status = asked(call, answer.at, MOST - 1, &answer.length);
-    unsigned made = requests;
-    if (status != PASETO_OK || answer.length == 0 || out != 0 || (has_line && (told != 0 || line[0] != '#'))) {
-        fail(name, "it does not answer", 0);
+static void refuse_each(const char *name, ask *call, ask_key *maker) {
+    if (answer(call, maker, &whole_length) != PASETO_OK || whole_length == 0 || out != 0) {
+        check(false, "a call gives nothing where memory is given", name);
         return;
     }
-    if ((made > 0) != makes_requests) fail(name, "it makes other requests", made);
-    for (unsigned n = 1; refuse(name, call, has_line, &answer, n, false); n++) continue;
-    for (unsigned n = 1; refuse(name, call, has_line, &answer, n, true); n++) continue;
-    printf("paseto_%s %u\n", name, made);
-    if (kept != NULL) *kept = answer;
+    memcpy(whole, room, whole_length);
+    note(name, requests);
+    did_without = 0;
+    for (unsigned long n = 1; refuse(name, call, maker, n, false); n++) continue;
+    for (unsigned long n = 1; refuse(name, call, maker, n, true); n++) continue;
+    bool is_of_rsa = key.version == 1 && key.type != PASETO_KEY_LOCAL && maker == key_unwrap;
+    bool reads_pem = is_of_rsa || (maker == key_read && given.at[0] == '-');
+    check(reads_pem || did_without == 0, "a call does without memory", name);
 }
 
-#define CHECK(name, kept) check(#name, name, true, false, kept)
-#define CHECK_LINE(name) check(#name, name, true, true, NULL)
-#define CHECK_NONE(name) check(#name, name, false, false, NULL)
+#define EACH(name) refuse_each(#name, name, NULL)
+#define EACH_KEY(name) refuse_each(#name, NULL, name)
 
-#define CHECK_TOKENS(n)                                     \
-    CHECK(v##n##_local_encrypt, &encrypted[n]);             \
-    CHECK(v##n##_local_decrypt, NULL);                      \
-    CHECK(v##n##_local_build, &issued[n]);                  \
-    CHECK(v##n##_local_parse, NULL);                        \
-    CHECK_LINE(v##n##_local_parse_with);                    \
-    CHECK(v##n##_public_sign, &signed_texts[n]);            \
-    CHECK(v##n##_public_verify, NULL);                      \
-    CHECK(v##n##_public_build, &signed_claims[n]);          \
-    CHECK(v##n##_public_parse, NULL);                       \
-    CHECK_LINE(v##n##_public_parse_with);                   \
-    CHECK(v##n##_local_key_to_paserk, &local_texts[n]);     \
-    CHECK(v##n##_local_key_from_paserk, NULL);              \
-    CHECK(v##n##_local_key_id, NULL);                       \
-    CHECK(v##n##_private_key_to_pem, &private_pem[n]);      \
-    CHECK(v##n##_private_key_from_pem, NULL);               \
-    CHECK(v##n##_public_key_to_pem, &public_pem[n]);        \
-    CHECK(v##n##_public_key_from_pem, NULL)
+/* A token of a text and one of claims, by the key and by a ring, and the footer. */
+static void ask_tokens(const struct paseto_key *writer, const struct paseto_key *reader) {
+    bool is_local = writer->type == PASETO_KEY_LOCAL;
+    reset();
+    if (writer->version <= 2) assertion.length = 0;
+    set(&text, "a text, of some length, so that a token of it takes more than one request");
+    key = *writer;
+    if (is_local) EACH(encrypt_with);
+    else EACH(sign_with);
+    keep(is_local ? encrypt_with : sign_with);
+    EACH(token_footer);
+    key = *reader;
+    if (is_local) EACH(decrypt);
+    else EACH(verify);
+    if (is_local || writer->version > 1) {
+        if (answer_of(key_id) != PASETO_OK) abort();
+        footer.length = (size_t)sprintf((char *)footer.at, "{\"kid\":\"%.*s\"}", (int)written, (const char *)room);
+    }
+    set(&claims, "{\"sub\":\"Ada\",\"aud\":\"customers\",\"seats\":4,\"roles\":[\"a\",{\"b\":null}]}");
+    key = *writer;
+    EACH(issue_with);
+    keep(issue_with);
+    key = *reader;
+    set(&claims, "{\"aud\":\"customers\",\"seats\":4}");
+    options.leeway = 5;
+    options.longest = 65536;
+    options.required = "[\"exp\"]";
+    options.required_length = 7;
+    EACH(admit);
+    ring[0] = key_of(4, PASETO_KEY_LOCAL, K4);
+    ring[0].bytes[0] ^= 1;
+    ring[1] = *reader;
+    ring_length = 2;
+    if (is_local || writer->version > 1) EACH(admit_by);
+}
 
-#define CHECK_PAIRS(n)                                          \
-    CHECK(v##n##_private_key_to_paserk, &private_texts[n]);     \
-    CHECK(v##n##_private_key_from_paserk, NULL);                \
-    CHECK(v##n##_private_key_id, NULL);                         \
-    CHECK(v##n##_public_key_to_paserk, &public_texts[n]);       \
-    CHECK(v##n##_public_key_from_paserk, NULL);                 \
-    CHECK(v##n##_public_key_id, NULL)
+/* The texts of a key, and the key of each. Those under a password take long, and are asked of one key for each way to hash it. */
+static void ask_texts(const struct paseto_key *of) {
+    bool is_pair = of->type != PASETO_KEY_LOCAL, is_public = of->type == PASETO_KEY_PUBLIC;
+    reset();
+    key = *of;
+    EACH(key_text);
+    keep(key_text);
+    given = text;
+    EACH_KEY(key_read);
+    if (!is_pair || of->version > 1) EACH(key_id);
+    if (is_pair && of->version != 2) {
+        EACH(key_pem);
+        keep(key_pem);
+        given = text;
+        EACH_KEY(key_read);
+    }
+    if (is_public) return;
+    other = key_of(of->version, PASETO_KEY_LOCAL, K4);
+    EACH(key_wrap_with);
+    keep(key_wrap_with);
+    given = text;
+    EACH_KEY(key_unwrap);
+    if (is_pair || of->version < 3) return;
+    EACH(key_protect_with);
+    keep(key_protect_with);
+    given = text;
+    EACH_KEY(key_unlock);
+}
 
-static void set_pair(unsigned n, ask *call, size_t private_length, size_t public_length) {
-    static struct slice pair;
-    if (asked(call, pair.at, MOST - 1, &pair.length) != PASETO_OK) abort();
-    private_keys[n].length = private_length;
-    memcpy(private_keys[n].at, pair.at, private_length);
-    public_keys[n].length = public_length;
-    memcpy(public_keys[n].at, pair.at + private_length, public_length);
+/* A key pair, and what is sealed to it. */
+static void ask_pair(const struct paseto_key *own, const struct paseto_key *half) {
+    reset();
+    new_version = own->version;
+    new_type = PASETO_KEY_PRIVATE;
+    EACH_KEY(key_generate_with);
+    key = *own;
+    EACH_KEY(key_public);
+    key = key_of(own->version, PASETO_KEY_LOCAL, K4);
+    other = *half;
+    EACH(key_seal_with);
+    keep(key_seal_with);
+    given = text;
+    other = *own;
+    EACH_KEY(key_unwrap);
+}
+
+/* The calls that ask for no memory. */
+static void ask_none(void) {
+    reset();
+    requests = 0;
+    paseto_key_wipe(&key);
+    check(requests == 0, "wiping takes no memory", "paseto_key_wipe");
+    check(paseto_version() == PASETO_VERSION && requests == 0, "the version takes no memory", "paseto_version");
+    check(paseto_error_text(PASETO_EXPIRED, room, MOST, &written) == PASETO_OK && requests == 0, "a text takes no memory", "paseto_error_text");
+    printf("paseto_key_wipe 0\npaseto_version 0\npaseto_error_text 0\n");
 }
 
 int main(void) {
-    set_count(&key, 32, 1);
-    set_count(&nonce, 32, 77);
-    set_count(&short_nonce, 24, 99);
-    set_count(&salt, 48, 33);
-    set(&text, "a text, of some length, so that a token of it takes more than one request");
-    set(&claims, "{\"sub\":\"Ada\",\"aud\":\"customers\",\"seats\":4,\"roles\":[\"a\",{\"b\":null}]}");
-    set(&expected, "{\"aud\":\"customers\",\"seats\":4}");
-    set(&binding, "{\"kid\":\"2026-11\"}");
-    set(&assertion, "user-7");
-    set_digits(&private_keys[1], RSA_PRIVATE);
-    set_digits(&public_keys[1], RSA_PUBLIC);
-    set_pair(2, v2_public_keypair, 64, 32);
-    set_pair(3, v3_public_keypair, 48, 49);
-    set_pair(4, v4_public_keypair, 64, 32);
-    CHECK_TOKENS(1);
-    CHECK_TOKENS(2);
-    CHECK_TOKENS(3);
-    CHECK_TOKENS(4);
-    CHECK_PAIRS(2);
-    CHECK_PAIRS(3);
-    CHECK_PAIRS(4);
-    CHECK(footer, NULL);
-    CHECK(pem_kind, NULL);
-    CHECK_NONE(v2_public_keypair);
-    CHECK_NONE(v3_public_keypair);
-    CHECK_NONE(v4_public_keypair);
-    CHECK_NONE(error_text);
-    CHECK_NONE(key_kind);
-    CHECK_NONE(version);
-    printf("%u passed, %u failed\n", passed, failed);
-    return failed > 0;
+    for (unsigned version = 1; version <= 4; version++) {
+        struct paseto_key local = key_of(version, PASETO_KEY_LOCAL, K4), own = key_of(1, PASETO_KEY_PRIVATE, RSA_PRIVATE);
+        struct paseto_key half = key_of(1, PASETO_KEY_PUBLIC, RSA_PUBLIC);
+        reset();
+        new_version = (uint8_t)version;
+        new_type = PASETO_KEY_LOCAL;
+        EACH_KEY(key_generate_with);
+        if (version > 1) {
+            key = own = new_private_key(version);
+            half = made_by(key_public);
+            ask_pair(&own, &half);
+        }
+        ask_tokens(&local, &local);
+        ask_tokens(&own, &half);
+        ask_texts(&local);
+        ask_texts(&own);
+        ask_texts(&half);
+    }
+    ask_none();
+    for (size_t i = 0; i < asked_count; i++) {
+        check(asked[i].requests > 0, "a call makes no request", asked[i].name);
+        printf("paseto_%s %lu\n", asked[i].name, asked[i].requests);
+    }
+    return finish();
 }

@@ -2,113 +2,77 @@
 
      pem FILE
 
-   where the rows of the file are those of pem_rows.py. A key is written as the text, a text is read as the key, or it is refused
-   by its name, with the room as it was. The last line is 'N passed, M failed'. */
-#include <stdlib.h>
+   where the rows of the file are those of pem_rows.py. A text is read as the key, the key is written as the text, or a text is
+   refused by the name of its fault. The last line is 'N passed, M failed'. */
+#include "asking.h"
 
-enum { MOST = 4096, TYPES = 2, VERSIONS = 4 };
-
-#include "asked_rooms.h"
-
-#define PAIR(v)                                                              \
-    {                                                                        \
-        {paseto_v##v##_private_key_to_pem, paseto_v##v##_private_key_from_pem}, \
-        {paseto_v##v##_public_key_to_pem, paseto_v##v##_public_key_from_pem},   \
-    }
-
-static const struct kind {
-    call *write, *read;
-} kinds[VERSIONS][TYPES] = {PAIR(1), PAIR(2), PAIR(3), PAIR(4)};
-
-/* The bytes of a file, of which there is memory for just so many. */
-static uint8_t *content_of(const char *path, size_t *length) {
-    static uint8_t buffer[MOST];
+static void read_given(const char *path) {
     FILE *file = fopen(path, "rb");
     if (file == NULL) abort();
-    *length = fread(buffer, 1, sizeof buffer, file);
+    given.length = fread(given.at, 1, MOST, file);
     fclose(file);
-    uint8_t *made = malloc(*length + (*length == 0));
-    if (made == NULL || *length == sizeof buffer) abort();
-    memcpy(made, buffer, *length);
-    return made;
+    if (given.length == MOST) abort();
 }
 
-static size_t bytes_of(const char *digits, uint8_t *bytes) {
-    size_t length = strlen(digits) / 2;
-    for (size_t i = 0; i < length; i++) {
-        char pair[3] = {digits[2 * i], digits[2 * i + 1], '\0'};
-        bytes[i] = (uint8_t)strtoul(pair, NULL, 16);
+/* A key of another length has no text. */
+static void ask_other_lengths(const char *path) {
+    static const int changes[] = {-1, 1};
+    uint16_t right = key.length;
+    for (size_t i = 0; i < 2; i++) {
+        key.length = (uint16_t)(right + changes[i]);
+        check(is_refused(key_pem, PASETO_INVALID_KEY), "a key of another length in PEM", path);
     }
-    return length;
+    key.length = 0;
+    check(is_refused(key_pem, PASETO_INVALID_KEY), "no key in PEM", path);
+    key.length = right;
 }
 
-/* A key that is read of the text, and written as it where the row says so. */
-static void ask_key(const char *row, const struct kind *kind, bool is_written, const uint8_t *text, size_t length) {
-    static char digits[2 * MOST];
-    static uint8_t bytes[MOST];
-    if (sscanf(row, "%*s %*u %*u %8191s", digits) != 1) abort();
-    size_t key_length = bytes_of(digits, bytes);
-    uint8_t *key = malloc(key_length);
-    if (key == NULL) abort();
-    memcpy(key, bytes, key_length);
-    check(answers(kind->read, text, length, key, key_length), "it is read", row);
-    if (is_written) {
-        check(answers(kind->write, key, key_length, text, length), "it is written", row);
-        check(refuses(PASETO_INVALID_KEY, kind->write, key, key_length - 1), "a shorter key is not written", row);
-        check(refuses(PASETO_INVALID_KEY, kind->write, NULL, 0), "no key is not written", row);
-        bytes[key_length] = 0;
-        check(refuses(PASETO_INVALID_KEY, kind->write, bytes, key_length + 1), "a longer key is not written", row);
+static void ask_row(char **fields, size_t count) {
+    if (count != 5) abort();
+    const char *path = fields[4];
+    read_given(path);
+    if (strcmp(fields[0], "refuse") == 0) {
+        check(makes_none(key_read, (paseto_status)atoi(fields[1])), "a text in PEM is refused", path);
+        return;
     }
-    free(key);
+    struct paseto_key wanted = key_of((unsigned)atoi(fields[1]), (unsigned)atoi(fields[2]), fields[3]);
+    check(makes(key_read, &wanted), "a key in PEM is read", path);
+    if (strcmp(fields[0], "both") != 0) return;
+    key = wanted;
+    check(gives(key_pem, OF(given)), "a key in PEM is written", path);
+    if (wanted.version == 1) check(gives(key_text, OF(given)), "the text of a key pair of version 1", path);
+    ask_other_lengths(path);
 }
 
-static void ask_kind(const char *row, unsigned status, unsigned version, unsigned type, const uint8_t *text, size_t length) {
-    uint8_t found = 9, found_type = 9;
-    check(paseto_pem_kind(text, length, &found, &found_type) == status && found == version && found_type == type,
-          "its kind is told", row);
-}
-
-static void ask(const char *row) {
-    static char word[16], path[512];
-    unsigned status = 0, version, type;
-    bool has_key = sscanf(row, "%15s %u %u %*s %511s", word, &version, &type, path) == 4
-                   && (strcmp(word, "both") == 0 || strcmp(word, "read") == 0);
-    if (!has_key && sscanf(row, "%15s %u %u %u %511s", word, &status, &version, &type, path) != 5) abort();
-    size_t length;
-    uint8_t *text = content_of(path, &length);
-    if (strcmp(word, "kind") == 0) {
-        ask_kind(row, status, version, type, text, length);
-    } else if (has_key) {
-        ask_key(row, &kinds[version - 1][type - 2], strcmp(word, "both") == 0, text, length);
-    } else {
-        check(refuses((paseto_status)status, kinds[version - 1][type - 2].read, text, length), "it is refused", row);
-    }
-    free(text);
-}
-
-/* Keys of the right length that no text has. */
+/* Keys of the right length that have no text. */
 static void ask_unwritten(void) {
-    static const uint8_t zeros[64];
-    uint8_t private_key[64], public_key[32], point[49] = {2};
-    check(paseto_v4_public_keypair(zeros, 32, private_key, 64, public_key, 32) == PASETO_OK, "a pair of keys", "zeros");
-    private_key[63] ^= 1;
-    check(refuses(PASETO_INVALID_KEY, paseto_v4_private_key_to_pem, private_key, 64), "halves of two keys", "version 4");
-    check(refuses(PASETO_INVALID_KEY, paseto_v2_private_key_to_pem, private_key, 64), "halves of two keys", "version 2");
-    check(refuses(PASETO_INVALID_KEY, paseto_v3_private_key_to_pem, zeros, 48), "the number 0", "version 3");
-    memset(point + 1, 0xff, 48);
-    check(refuses(PASETO_INVALID_KEY, paseto_v3_public_key_to_pem, point, 49), "no point of the curve", "version 3");
+    static const char zeros[] = "000000000000000000000000000000000000000000000000000000000000000000000000000000000000000000000000";
+    key = new_private_key(4);
+    check(answer_of(key_pem) == PASETO_OK, "a new key in PEM", "version 4");
+    key.bytes[63] ^= 1;
+    check(is_refused(key_pem, PASETO_INVALID_KEY), "halves of two keys", "version 4");
+    key = new_private_key(2);
+    check(is_refused(key_pem, PASETO_OTHER_VERSION), "a key of version 2", "it would be read as one of version 4");
+    key = made_by(key_public);
+    check(is_refused(key_pem, PASETO_OTHER_VERSION), "a public key of version 2", "it would be read as one of version 4");
+    key = key_of(3, PASETO_KEY_PRIVATE, zeros);
+    check(is_refused(key_pem, PASETO_INVALID_KEY), "the number 0", "version 3");
+    key = key_of(3, PASETO_KEY_PUBLIC, zeros);
+    key.length = 49;
+    memset(key.bytes, 0xff, 49);
+    key.bytes[0] = 2;
+    check(is_refused(key_pem, PASETO_INVALID_KEY), "no point of the curve", "version 3");
+    key = key_of(4, PASETO_KEY_LOCAL, K4);
+    check(is_refused(key_pem, PASETO_OTHER_TYPE), "a key for local tokens", "version 4");
 }
 
 int main(int count, char **words) {
-    static char row[4 * MOST];
-    FILE *rows = count == 2 ? fopen(words[1], "r") : NULL;
-    if (rows == NULL) {
+    if (count != 2) {
         fputs("usage: pem FILE\n", stderr);
         return 2;
     }
-    while (fgets(row, sizeof row, rows) != NULL) ask(row);
-    fclose(rows);
+    reset();
+    for_rows(words[1], ask_row);
     ask_unwritten();
-    printf("%u passed, %u failed\n", passed, failed);
-    return failed > 0;
+    return finish();
 }

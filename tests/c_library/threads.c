@@ -2,9 +2,10 @@
 
      threads SECONDS COUNT
 
-   Each thread makes and opens, signs and verifies, builds and parses tokens of all eight kinds, under keys and of texts of its
-   own, until the time is over, and at least once. Each answer has to be the thread's own, and the token that it made first under
-   the same nonce comes again, byte for byte. The last line is 'N passed, M failed', where a round over all kinds is one. */
+   Each thread makes and reads tokens of a text and of claims of all eight kinds, and writes and reads its keys in each form, with
+   keys and texts of its own, until the time is over, and at least once; keys under a password in its first round, where there is more
+   than a second. Each answer has to be the thread's own, and what it made first of the same random bytes comes again, byte for byte.
+   The last line is 'N passed, M failed', where a round over all kinds is one. */
 #include "rsa.h"
 
 #include <paseto.h>
@@ -18,7 +19,7 @@
 
 enum { MOST = 4096, KINDS = 8, THREADS = 16 };
 
-#define NOW INT64_C(1795608000)
+#define NOW INT64_C(1795608000000000000)
 
 struct slice {
     uint8_t at[MOST];
@@ -27,50 +28,21 @@ struct slice {
 
 /* What a thread hands over to the calls of one kind. */
 struct given {
-    struct slice key, read_key, drawn, seed, text, claims, token, footer, assertion;
+    struct paseto_key key, read_key, wrapping_key;
+    struct slice drawn, text, claims, token, footer, assertion;
 };
 
-typedef paseto_status ask(const struct given *g, uint8_t *room, size_t length, size_t *written);
-
 #define GIVEN(slice) (slice).at, (slice).length
-#define NOTHING
-#define ASSERTION , GIVEN(g->assertion)
-#define DRAWN , GIVEN(g->drawn)
-#define SEED , GIVEN(g->seed)
-#define EXPECTED (const uint8_t *)"{\"aud\":\"customers\"}", 19
-#define CALL(name, ...)                                                                              \
-    static paseto_status name(const struct given *g, uint8_t *room, size_t length, size_t *written) { \
-        return paseto_##name(__VA_ARGS__, room, length, written);                                    \
-    }
-#define KIND(kind, make_name, read_name, nonce, seed, asserted)                                              \
-    CALL(kind##_##make_name, GIVEN(g->key) nonce, GIVEN(g->text), GIVEN(g->footer) asserted)                 \
-    CALL(kind##_##read_name, GIVEN(g->read_key), GIVEN(g->token), GIVEN(g->footer) asserted)                 \
-    CALL(kind##_build, GIVEN(g->key) seed, GIVEN(g->claims), NOW, GIVEN(g->footer) asserted)                 \
-    CALL(kind##_parse, GIVEN(g->read_key), GIVEN(g->token), EXPECTED, NOW + 1, GIVEN(g->footer) asserted)
+#define INTO(slice) (slice)->at, MOST, &(slice)->length, PASETO_NO_REASON
 
-KIND(v1_local, encrypt, decrypt, DRAWN, SEED, NOTHING)
-KIND(v2_local, encrypt, decrypt, DRAWN, SEED, NOTHING)
-KIND(v3_local, encrypt, decrypt, DRAWN, SEED, ASSERTION)
-KIND(v4_local, encrypt, decrypt, DRAWN, SEED, ASSERTION)
-KIND(v1_public, sign, verify, DRAWN, SEED, NOTHING)
-KIND(v2_public, sign, verify, NOTHING, NOTHING, NOTHING)
-KIND(v3_public, sign, verify, NOTHING, NOTHING, ASSERTION)
-KIND(v4_public, sign, verify, NOTHING, NOTHING, ASSERTION)
-
-/* The calls of each kind, and how many bytes are drawn for a token of a text and for one of claims. */
+/* A kind of tokens, by the version and the type of the key that makes them. */
 static const struct kind {
     const char *header;
-    ask *make, *read, *build, *parse;
-    size_t drawn, seed;
+    uint8_t version, type;
 } kinds[KINDS] = {
-    {"v1.local.", v1_local_encrypt, v1_local_decrypt, v1_local_build, v1_local_parse, 32, 32},
-    {"v2.local.", v2_local_encrypt, v2_local_decrypt, v2_local_build, v2_local_parse, 32, 24},
-    {"v3.local.", v3_local_encrypt, v3_local_decrypt, v3_local_build, v3_local_parse, 32, 32},
-    {"v4.local.", v4_local_encrypt, v4_local_decrypt, v4_local_build, v4_local_parse, 32, 32},
-    {"v1.public.", v1_public_sign, v1_public_verify, v1_public_build, v1_public_parse, 48, 48},
-    {"v2.public.", v2_public_sign, v2_public_verify, v2_public_build, v2_public_parse, 0, 0},
-    {"v3.public.", v3_public_sign, v3_public_verify, v3_public_build, v3_public_parse, 0, 0},
-    {"v4.public.", v4_public_sign, v4_public_verify, v4_public_build, v4_public_parse, 0, 0},
+    {"v1.local.", 1, PASETO_KEY_LOCAL},    {"v2.local.", 2, PASETO_KEY_LOCAL},    {"v3.local.", 3, PASETO_KEY_LOCAL},
+    {"v4.local.", 4, PASETO_KEY_LOCAL},    {"v1.public.", 1, PASETO_KEY_PRIVATE}, {"v2.public.", 2, PASETO_KEY_PRIVATE},
+    {"v3.public.", 3, PASETO_KEY_PRIVATE}, {"v4.public.", 4, PASETO_KEY_PRIVATE},
 };
 
 /* A thread: its number, and what came of it. */
@@ -78,22 +50,64 @@ struct worker {
     unsigned number, rounds;
     const char *fault;
     time_t end;
+    bool has_time;
     struct given given[KINDS];
-    /* The first tokens of each kind, of the same nonce, text and claims. */
-    struct slice first_made[KINDS], first_built[KINDS];
+    /* The first tokens of each kind, of the same random bytes, text and claims. */
+    struct slice first_made[KINDS], first_issued[KINDS];
 };
+
+static bool is_local(const struct kind *kind) {
+    return kind->type == PASETO_KEY_LOCAL;
+}
+
+static bool is_rsa(const struct kind *kind) {
+    return kind->version == 1 && !is_local(kind);
+}
+
+/* ---- the calls */
+
+static paseto_status make(const struct given *g, struct slice *made) {
+    if (g->key.type == PASETO_KEY_LOCAL)
+        return paseto_encrypt_with(&g->key, GIVEN(g->drawn), GIVEN(g->text), GIVEN(g->footer), GIVEN(g->assertion), INTO(made));
+    return paseto_sign_with(&g->key, GIVEN(g->drawn), GIVEN(g->text), GIVEN(g->footer), GIVEN(g->assertion), INTO(made));
+}
+
+static paseto_status read_text(const struct given *g, struct slice *held) {
+    if (g->key.type == PASETO_KEY_LOCAL)
+        return paseto_decrypt(&g->read_key, GIVEN(g->token), GIVEN(g->footer), GIVEN(g->assertion), INTO(held));
+    return paseto_verify(&g->read_key, GIVEN(g->token), GIVEN(g->footer), GIVEN(g->assertion), INTO(held));
+}
+
+static paseto_status issue(const struct given *g, struct slice *made) {
+    return paseto_issue_with(&g->key, GIVEN(g->drawn), GIVEN(g->claims), NOW, GIVEN(g->footer), GIVEN(g->assertion), INTO(made));
+}
+
+static const struct paseto_options options = {sizeof options, 0, 0, 0, "[\"exp\"]", 7};
+
+static paseto_status admit(const struct given *g, struct slice *held) {
+    return paseto_admit(&g->read_key, GIVEN(g->token), "{\"aud\":\"customers\"}", 19, NOW, GIVEN(g->footer), GIVEN(g->assertion), &options, INTO(held));
+}
+
+/* By a ring, in which the footer names the second key. */
+static paseto_status admit_by(const struct given *g, struct slice *held) {
+    const struct paseto_key ring[] = {g->wrapping_key, g->read_key};
+    return paseto_admit_by(ring, 2, GIVEN(g->token), "{\"aud\":\"customers\"}", 19, NOW, NULL, 0, GIVEN(g->assertion), &options, INTO(held));
+}
+
+/* ---- what a thread has of its own */
 
 static void draw(struct slice *slice, size_t length) {
     slice->length = length;
     if (paseto_random(slice->at, length) != 0) abort();
 }
 
-static void set_digits(struct slice *slice, const char *digits) {
-    slice->length = strlen(digits) / 2;
-    for (size_t i = 0; i < slice->length; i++) {
-        char pair[3] = {digits[2 * i], digits[2 * i + 1], '\0'};
-        slice->at[i] = (uint8_t)strtoul(pair, NULL, 16);
+static struct paseto_key rsa_key(uint8_t type, const char *digits) {
+    struct paseto_key made = {1, type, 0, {0}};
+    for (; digits[0] != '\0'; digits += 2) {
+        char pair[3] = {digits[0], digits[1], '\0'};
+        made.bytes[made.length++] = (uint8_t)strtoul(pair, NULL, 16);
     }
+    return made;
 }
 
 static void set_text(struct slice *slice, const char *form, unsigned number, unsigned turn) {
@@ -102,36 +116,35 @@ static void set_text(struct slice *slice, const char *form, unsigned number, uns
     slice->length = (size_t)length;
 }
 
-/* Both keys of a kind, which are new, but for version 1, whose keys are made by OpenSSL. */
+/* Both keys of a kind, which are new, but for those of RSA, which OpenSSL made. */
 static void draw_keys(const struct kind *kind, struct given *g) {
-    struct slice seed;
-    bool is_p384 = kind->header[1] == '3';
-    if (kind->header[3] == 'l') {
-        draw(&g->key, 32);
-        g->read_key = g->key;
-    } else if (kind->header[1] == '1') {
-        set_digits(&g->key, RSA_PRIVATE);
-        set_digits(&g->read_key, RSA_PUBLIC);
+    if (is_rsa(kind)) {
+        g->key = rsa_key(PASETO_KEY_PRIVATE, RSA_PRIVATE);
+        g->read_key = rsa_key(PASETO_KEY_PUBLIC, RSA_PUBLIC);
     } else {
-        draw(&seed, is_p384 ? 48 : 32);
-        g->key.length = is_p384 ? 48 : 64;
-        g->read_key.length = is_p384 ? 49 : 32;
-        paseto_status status = is_p384 ? paseto_v3_public_keypair(GIVEN(seed), g->key.at, MOST, g->read_key.at, MOST)
-                                       : paseto_v4_public_keypair(GIVEN(seed), g->key.at, MOST, g->read_key.at, MOST);
-        if (status != PASETO_OK) abort();
+        if (paseto_key_generate(kind->version, kind->type, &g->key, PASETO_NO_REASON) != PASETO_OK) abort();
+        g->read_key = g->key;
+        if (!is_local(kind) && paseto_key_public(&g->key, &g->read_key, PASETO_NO_REASON) != PASETO_OK) abort();
     }
+    if (paseto_key_generate(kind->version, PASETO_KEY_LOCAL, &g->wrapping_key, PASETO_NO_REASON) != PASETO_OK) abort();
 }
 
 static void set_given(const struct kind *kind, struct given *g, unsigned number) {
+    char id[128];
+    size_t n;
     draw_keys(kind, g);
-    draw(&g->drawn, kind->drawn);
-    draw(&g->seed, kind->seed);
+    draw(&g->drawn, PASETO_DRAWN);
     set_text(&g->footer, "{\"kid\":\"thread %u of %u\"}", number, THREADS);
-    set_text(&g->assertion, "assertion %u of %u", number, THREADS);
+    if (!is_rsa(kind)) {
+        if (paseto_key_id(&g->read_key, id, sizeof id, &n, PASETO_NO_REASON) != PASETO_OK) abort();
+        g->footer.length = (size_t)sprintf((char *)g->footer.at, "{\"kid\":\"%.*s\"}", (int)n, id);
+    }
+    g->assertion.length = 0;
+    if (kind->version > 2) set_text(&g->assertion, "assertion %u of %u", number, THREADS);
 }
 
-static bool is_same(const struct slice *one, const struct slice *other) {
-    return one->length == other->length && memcmp(one->at, other->at, one->length) == 0;
+static bool is_same(const struct slice *one, const struct slice *two) {
+    return one->length == two->length && memcmp(one->at, two->at, one->length) == 0;
 }
 
 static bool begins(const struct slice *slice, const char *front) {
@@ -145,44 +158,88 @@ static bool has(const struct slice *slice, const struct slice *part) {
     return false;
 }
 
-/* Makes a token, and reads what it holds. */
-static const char *ask_both(ask *make, ask *read, const char *header, struct given *g, struct slice *held) {
-    if (make(g, g->token.at, MOST, &g->token.length) != PASETO_OK) return "no token is made";
-    if (!begins(&g->token, header)) return "the token is of another kind";
-    if (read(g, held->at, MOST, &held->length) != PASETO_OK) return "a token is not read";
+/* ---- what a thread asks; each answers what is wrong, or NULL */
+
+/* A token of a text. In turn 0 it is kept, and in each later one made again. */
+static const char *ask_text(struct worker *worker, size_t i, unsigned turn, unsigned told) {
+    struct given *g = &worker->given[i];
+    struct slice held;
+    set_text(&g->text, "the text of thread %u in turn %u", worker->number, told);
+    if (make(g, &g->token) != PASETO_OK) return "no token is made";
+    if (!begins(&g->token, kinds[i].header)) return "the token is of another kind";
+    if (read_text(g, &held) != PASETO_OK) return "a token is not read";
+    if (!is_same(&held, &g->text)) return "a token holds another text";
+    if (paseto_token_footer(GIVEN(g->token), INTO(&held)) != PASETO_OK || !is_same(&held, &g->footer)) return "a token has another footer";
+    if (turn == 0) worker->first_made[i] = g->token;
+    if (told == 0 && !is_same(&g->token, &worker->first_made[i])) return "the same text makes another token";
     return NULL;
 }
 
-/* A token of a text and one of claims, of one kind. In turn 0 they are kept, and in each later one made again. */
-static const char *ask_kind(struct worker *worker, size_t i, unsigned turn) {
-    const struct kind *kind = &kinds[i];
+/* One of claims. */
+static const char *ask_claims(struct worker *worker, size_t i, unsigned turn, unsigned told) {
     struct given *g = &worker->given[i];
-    struct slice held, member;
-    for (unsigned again = 0; again < 2; again++) {
-        unsigned told = again == 0 ? 0 : turn;
-        set_text(&g->text, "the text of thread %u in turn %u", worker->number, told);
-        const char *fault = ask_both(kind->make, kind->read, kind->header, g, &held);
-        if (fault != NULL) return fault;
-        if (!is_same(&held, &g->text)) return "a token holds another text";
-        if (turn == 0 && again == 0) worker->first_made[i] = g->token;
-        if (told == 0 && !is_same(&g->token, &worker->first_made[i])) return "the same text makes another token";
-        set_text(&g->claims, "{\"aud\":\"customers\",\"sub\":\"%u\",\"jti\":\"%u\"}", worker->number, told);
-        fault = ask_both(kind->build, kind->parse, kind->header, g, &held);
-        if (fault != NULL) return fault;
-        set_text(&member, "\"sub\":\"%u\"", worker->number, 0);
-        if (!has(&held, &member)) return "a token holds the claims of another thread";
-        set_text(&member, "\"jti\":\"%u\"", told, 0);
-        if (!has(&held, &member)) return "a token holds other claims";
-        if (turn == 0 && again == 0) worker->first_built[i] = g->token;
-        if (told == 0 && !is_same(&g->token, &worker->first_built[i])) return "the same claims make another token";
-        g->token.at[20] = g->token.at[20] == 'A' ? 'B' : 'A';
-        if (kind->parse(g, held.at, MOST, &held.length) == PASETO_OK) return "a token that was changed is read";
-    }
+    struct slice held, again, member;
+    set_text(&g->claims, "{\"aud\":\"customers\",\"sub\":\"%u\",\"jti\":\"%u\"}", worker->number, told);
+    if (issue(g, &g->token) != PASETO_OK) return "no token is issued";
+    if (!begins(&g->token, kinds[i].header)) return "the token of claims is of another kind";
+    if (admit(g, &held) != PASETO_OK) return "a token is not admitted";
+    set_text(&member, "\"sub\":\"%u\"", worker->number, 0);
+    if (!has(&held, &member)) return "a token holds the claims of another thread";
+    set_text(&member, "\"jti\":\"%u\"", told, 0);
+    if (!has(&held, &member)) return "a token holds other claims";
+    if (!is_rsa(&kinds[i]) && (admit_by(g, &again) != PASETO_OK || !is_same(&again, &held))) return "a ring does not admit a token";
+    if (turn == 0) worker->first_issued[i] = g->token;
+    if (told == 0 && !is_same(&g->token, &worker->first_issued[i])) return "the same claims make another token";
+    g->token.at[20] = g->token.at[20] == 'A' ? 'B' : 'A';
+    if (admit(g, &held) == PASETO_OK) return "a token that was changed is admitted";
     return NULL;
+}
+
+static bool is_key(const struct paseto_key *one, paseto_status status, const struct paseto_key *two) {
+    return status == PASETO_OK && memcmp(one, two, sizeof *one) == 0;
+}
+
+/* The key as a text, in PEM, wrapped and sealed. */
+static const char *ask_key(const struct kind *kind, const struct given *g) {
+    struct slice text;
+    struct paseto_key read;
+    if (paseto_key_text(&g->key, INTO(&text)) != PASETO_OK) return "a key has no text";
+    if (!is_key(&g->key, paseto_key_read(GIVEN(text), &read, PASETO_NO_REASON), &read)) return "a key is not read";
+    if (!is_local(kind) && kind->version != 2) {
+        if (paseto_key_pem(&g->key, INTO(&text)) != PASETO_OK) return "a key has no text in PEM";
+        if (!is_key(&g->key, paseto_key_read(GIVEN(text), &read, PASETO_NO_REASON), &read)) return "a key in PEM is not read";
+    }
+    if (paseto_key_wrap_with(&g->key, &g->wrapping_key, GIVEN(g->drawn), INTO(&text)) != PASETO_OK) return "a key is not wrapped";
+    if (!is_key(&g->key, paseto_key_unwrap(GIVEN(text), &g->wrapping_key, &read, PASETO_NO_REASON), &read)) return "a key is not unwrapped";
+    if (is_local(kind) || is_rsa(kind)) return NULL;
+    if (paseto_key_seal_with(&g->wrapping_key, &g->read_key, GIVEN(g->drawn), INTO(&text)) != PASETO_OK) return "a key is not sealed";
+    if (!is_key(&g->wrapping_key, paseto_key_unwrap(GIVEN(text), &g->key, &read, PASETO_NO_REASON), &read)) return "a sealed key is not opened";
+    return NULL;
+}
+
+static const char *ask_password(const struct given *g) {
+    struct slice text;
+    struct paseto_key read;
+    if (paseto_key_protect_with(&g->key, "secret", 6, GIVEN(g->drawn), INTO(&text)) != PASETO_OK) return "a key is not put under a password";
+    if (!is_key(&g->key, paseto_key_unlock(GIVEN(text), "secret", 6, &read, PASETO_NO_REASON), &read)) return "a key is not unlocked";
+    return NULL;
+}
+
+/* All of one kind. */
+static const char *ask_kind(struct worker *worker, size_t i, unsigned turn) {
+    const char *fault = NULL;
+    for (unsigned again = 0; again < 2 && fault == NULL; again++) {
+        unsigned told = again == 0 ? 0 : turn;
+        fault = ask_text(worker, i, turn + again, told);
+        if (fault == NULL) fault = ask_claims(worker, i, turn + again, told);
+    }
+    if (fault == NULL) fault = ask_key(&kinds[i], &worker->given[i]);
+    if (fault == NULL && turn == 0 && worker->has_time) fault = ask_password(&worker->given[i]);
+    return fault;
 }
 
 static void *work(void *given) {
-    struct worker *worker = given;
+    struct worker *worker = (struct worker *)given;
     for (size_t i = 0; i < KINDS; i++) set_given(&kinds[i], &worker->given[i], worker->number);
     do {
         for (size_t i = 0; i < KINDS && worker->fault == NULL; i++) worker->fault = ask_kind(worker, i, worker->rounds);
@@ -200,11 +257,12 @@ int main(int count, char **words) {
         fputs("usage: threads SECONDS COUNT\n", stderr);
         return 2;
     }
-    struct worker *workers = calloc(threads, sizeof *workers);
+    struct worker *workers = (struct worker *)calloc(threads, sizeof *workers);
     if (workers == NULL) abort();
     for (unsigned i = 0; i < threads; i++) {
         workers[i].number = i;
         workers[i].end = time(NULL) + (time_t)seconds;
+        workers[i].has_time = seconds > 1;
         if (pthread_create(&ids[i], NULL, work, &workers[i]) != 0) abort();
     }
     for (unsigned i = 0; i < threads; i++) {

@@ -2,7 +2,7 @@
 
        user make KEY
        user read KEY TOKEN */
-#include <paseto_keys.h>
+#include <paseto.h>
 #include <stdio.h>
 #include <string.h>
 

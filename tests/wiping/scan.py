@@ -1,6 +1,5 @@
 #!/usr/bin/env python3
-"""Looks for secrets in the memory of a process after one call of the library, for each call of the files cases_*.py whose header
-is there.
+"""Looks for secrets in the memory of a process after one call of the library, for each call of cases.py.
 
     scan.py CALLS LIBRARY [WORD]
 
@@ -8,9 +7,8 @@ CALLS is the program of calls.c, which has wiped its own copies. All its writabl
 right after the call, for any 8 bytes in a row of a key, of what is derived from it, and of the text: as they are, in reverse order,
 in words of 8 bytes in reverse order, and with each word of 4 bytes twice, as vectors of ChaCha hold a key. The stack below the call
 has to be zeros as deep as it was used. With WORD only the calls whose names hold it are asked; without it each export of the
-headers has to be asked. A line tells what was found of a call, and the last line is 'N passed, M failed'.
+header has to be asked. A line tells what was found of a call, and the last line is 'N passed, M failed'.
 """
-import importlib
 import os
 import pathlib
 import struct
@@ -22,9 +20,10 @@ ROOT = HERE.parent.parent
 sys.dont_write_bytecode = True
 sys.path[:0] = [str(HERE), str(ROOT / "c/wipe")]
 
+from cases import cases  # noqa: E402
 from wrap import prototypes  # noqa: E402
 
-HEADER = prototypes(sorted((ROOT / "c").glob("*.h")))
+HEADER = prototypes(ROOT / "c/paseto.h")
 WORDS = 32
 # What a struct takes at most, and struct paseto_key.
 STRUCT, KEY = 2048, 1248
@@ -155,29 +154,22 @@ def left_below(memory, at):
     return len(used) + SAVED, sum(it not in (0, PAINT) for it in used)
 
 
-class Stream:
-    """The calls of all files, which are sent what the last one left in its buffers."""
-
-    def __init__(self):
-        files = [importlib.import_module(it.stem) for it in sorted(HERE.glob("cases_*.py"))]
-        self.files = [it.cases() for it in files if (ROOT / "c" / it.HEADER).exists()]
-        self.sent = None
-
-    def __iter__(self):
-        for calls in self.files:
-            self.sent = None
-            try:
-                while True:
-                    yield calls.send(self.sent)
-            except StopIteration:
-                continue
+def next_of(calls, after):
+    """The next case, or None."""
+    try:
+        return calls.send(after)
+    except StopIteration:
+        return None
 
 
 def main():
     program, library, word = (*sys.argv[1:], "")[:3]
     passed, failed, asked = 0, 0, set()
-    for name, export, given, secrets, status in (stream := Stream()):
-        got, stream.sent, at, memory = ask(program, library, Block(export, given))
+    calls, after = cases(), None
+    # A call is told what the one before left in its buffers.
+    while case := next_of(calls, after):
+        name, export, given, secrets, status = case
+        got, after, at, memory = ask(program, library, Block(export, given))
         asked.add(export)
         if word not in name:
             continue

@@ -43,7 +43,7 @@ macro_rules! faults {
         pub(crate) fn text_of(fault: Fault) -> String {
             match fault {
                 $(Fault::$name => error_text($number),)*
-                Fault::NoRandom => "The system gave no random bytes".to_owned(),
+                Fault::NoRandom => error_text(RANDOM),
                 Fault::Other => "An unknown error occurred".to_owned(),
             }
         }
@@ -112,12 +112,14 @@ pub(crate) struct Refusal {
 pub(crate) struct Checks<'a> {
     /// The expected claims, a JSON object.
     pub(crate) expected: &'a str,
-    /// The moment, in seconds after 1970.
+    /// The moment, in nanoseconds after 1970.
     pub(crate) now: i64,
     /// By how many seconds clocks may differ.
     pub(crate) leeway: u32,
     /// How many bytes the token may have; 0 is no limit.
     pub(crate) longest: usize,
+    /// How many bytes its footer may have; 0 is no limit.
+    pub(crate) longest_footer: usize,
     /// The names of the claims that must be there, a JSON array, or nothing.
     pub(crate) required: &'a str,
 }
@@ -126,6 +128,7 @@ type Status = u8;
 
 const OK: Status = 0;
 const ROOM: Status = 1;
+const RANDOM: Status = 50;
 
 // The room that a first call lends beyond the length of what it is given: a header, a nonce, a signature or a tag.
 const MORE: usize = 256;
@@ -141,9 +144,6 @@ const LINE: usize = 512;
 
 // How many random bytes are enough for each call that takes some.
 const DRAWN: usize = 48;
-
-// How many nanoseconds a second has.
-const SECOND: i64 = 1_000_000_000;
 
 // `struct paseto_key`.
 #[repr(C)]
@@ -251,9 +251,24 @@ extern "C" {
     fn paseto_key_unwrap(
         text: Bytes, _: usize, opener: *const Key, made: *mut Key, line: *mut u8, _: usize, told: *mut usize,
     ) -> Status;
+    fn paseto_key_protect_with(
+        key: *const Key, password: Bytes, _: usize, drawn: Bytes, _: usize,
+        room: *mut u8, _: usize, written: *mut usize, line: *mut u8, _: usize, told: *mut usize,
+    ) -> Status;
+    fn paseto_key_wrap_with(
+        key: *const Key, wrapping: *const Key, drawn: Bytes, _: usize,
+        room: *mut u8, _: usize, written: *mut usize, line: *mut u8, _: usize, told: *mut usize,
+    ) -> Status;
+    fn paseto_key_seal_with(
+        key: *const Key, public: *const Key, drawn: Bytes, _: usize,
+        room: *mut u8, _: usize, written: *mut usize, line: *mut u8, _: usize, told: *mut usize,
+    ) -> Status;
     fn paseto_key_public(key: *const Key, made: *mut Key, line: *mut u8, _: usize, told: *mut usize) -> Status;
     fn paseto_key_generate_with(
         version: u8, kind: u8, drawn: Bytes, _: usize, made: *mut Key, line: *mut u8, _: usize, told: *mut usize,
+    ) -> Status;
+    fn paseto_token_footer(
+        token: Bytes, _: usize, room: *mut u8, _: usize, written: *mut usize, line: *mut u8, _: usize, told: *mut usize,
     ) -> Status;
     fn paseto_error_text(status: Status, room: *mut u8, _: usize, written: *mut usize) -> Status;
     fn getrandom(bytes: *mut u8, length: usize, flags: u32) -> isize;
@@ -400,6 +415,11 @@ pub(crate) fn decrypt(
     )))
 }
 
+/// The footer of a token that is not verified yet, empty if it has none.
+pub(crate) fn token_footer(token: &[u8]) -> Result<String, Fault> {
+    string(ask!(token.len(); paseto_token_footer(token.as_ptr(), token.len())))
+}
+
 /// Signs a text with a private key. In version 1 it draws a salt.
 pub(crate) fn sign(
     version: Version,
@@ -409,6 +429,7 @@ pub(crate) fn sign(
     assertion: &[u8],
 ) -> Result<String, Fault> {
     let (key, salt) = (Key::of(version, KeyType::Private, key)?, salt_of(version)?);
+    let salt = salt.bytes();
     string(ask!(token_length(&[text, footer]); paseto_sign_with(
         &key, salt.as_ptr(), salt.len(), text.as_ptr(), text.len(), footer.as_ptr(), footer.len(), assertion.as_ptr(),
         assertion.len()
@@ -433,7 +454,7 @@ pub(crate) fn verify(
 pub(crate) struct Parts<'a> {
     /// A JSON object.
     pub(crate) claims: &'a str,
-    /// In seconds after 1970.
+    /// In nanoseconds after 1970.
     pub(crate) now: i64,
     pub(crate) footer: &'a [u8],
     /// Empty in versions 1 and 2.
@@ -448,7 +469,7 @@ pub(crate) fn build_local(
 ) -> Result<String, Fault> {
     issue(
         &Key::of(version, KeyType::Local, key)?,
-        &drawn::<DRAWN>()?,
+        &Drawn::new()?,
         parts,
     )
 }
@@ -466,11 +487,11 @@ pub(crate) fn build_public(
     )
 }
 
-fn issue(key: &Key, drawn: &[u8], parts: &Parts<'_>) -> Result<String, Fault> {
+fn issue(key: &Key, drawn: &Drawn, parts: &Parts<'_>) -> Result<String, Fault> {
     let (claims, footer, assertion) = (parts.claims.as_bytes(), parts.footer, parts.assertion);
-    let now = parts.now.checked_mul(SECOND).ok_or(Fault::InvalidMoment)?;
+    let drawn = drawn.bytes();
     string(ask!(token_length(&[claims, footer]); paseto_issue_with(
-        key, drawn.as_ptr(), drawn.len(), claims.as_ptr(), claims.len(), now, footer.as_ptr(), footer.len(),
+        key, drawn.as_ptr(), drawn.len(), claims.as_ptr(), claims.len(), parts.now, footer.as_ptr(), footer.len(),
         assertion.as_ptr(), assertion.len()
     )))
 }
@@ -519,18 +540,16 @@ fn admit(
     assertion: &[u8],
 ) -> Result<String, Refusal> {
     let (key, expected) = (key.map_err(refusal)?, checks.expected.as_bytes());
-    let now = checks.now.checked_mul(SECOND);
-    let now = now.ok_or_else(|| refusal(Fault::InvalidMoment))?;
     let options = Options {
         size: std::mem::size_of::<Options>(),
         leeway: checks.leeway,
         longest: checks.longest,
-        longest_footer: 0,
+        longest_footer: checks.longest_footer,
         required: checks.required.as_ptr(),
         required_length: checks.required.len(),
     };
     let claims = ask!(token.len(); paseto_admit(
-        &key, token.as_ptr(), token.len(), expected.as_ptr(), expected.len(), now, footer.as_ptr(), footer.len(),
+        &key, token.as_ptr(), token.len(), expected.as_ptr(), expected.len(), checks.now, footer.as_ptr(), footer.len(),
         assertion.as_ptr(), assertion.len(), &options
     ))?;
     String::from_utf8(claims).map_err(|_| refusal(Fault::Utf8Error))
@@ -604,6 +623,44 @@ pub(crate) fn unwrapped(
     let opener = Key::of(version, opener.0, opener.1)?;
     let key = ask!(paseto_key_unwrap(text.as_ptr(), text.len(), &opener))?;
     bytes_of(&key, version, kind)
+}
+
+/// The text of a key under a password.
+pub(crate) fn protected(
+    version: Version,
+    kind: KeyType,
+    key: &[u8],
+    password: &[u8],
+) -> Result<String, Fault> {
+    let (key, drawn) = (Key::of(version, kind, key)?, Drawn::new()?);
+    let drawn = drawn.bytes();
+    string(ask!(TEXT; paseto_key_protect_with(
+        &key, password.as_ptr(), password.len(), drawn.as_ptr(), drawn.len()
+    )))
+}
+
+/// The text of a key under a wrapping key, which is one for local tokens of the version.
+pub(crate) fn wrapped(
+    version: Version,
+    kind: KeyType,
+    key: &[u8],
+    wrapping: &[u8],
+) -> Result<String, Fault> {
+    let key = Key::of(version, kind, key)?;
+    let wrapping = Key::of(version, KeyType::Local, wrapping)?;
+    let drawn = Drawn::new()?;
+    let drawn = drawn.bytes();
+    string(ask!(TEXT; paseto_key_wrap_with(&key, &wrapping, drawn.as_ptr(), drawn.len())))
+}
+
+/// The text of a key for local tokens that is sealed to a public key of the version. In version 3 it fails with
+/// `KeyRejected` for random bytes that are no private key.
+pub(crate) fn sealed(version: Version, key: &[u8], public: &[u8]) -> Result<String, Fault> {
+    let key = Key::of(version, KeyType::Local, key)?;
+    let public = Key::of(version, KeyType::Public, public)?;
+    let drawn = Drawn::new()?;
+    let drawn = drawn.bytes();
+    string(ask!(TEXT; paseto_key_seal_with(&key, &public, drawn.as_ptr(), drawn.len())))
 }
 
 // The bytes of a key that must be of a version and of a type.
@@ -699,20 +756,43 @@ fn has_label(version: Version, kind: KeyType, text: &[u8]) -> bool {
 }
 
 // What signing takes beside a key: a random salt in version 1.
-fn salt_of(version: Version) -> Result<Vec<u8>, Fault> {
+fn salt_of(version: Version) -> Result<Drawn, Fault> {
     match version {
-        Version::V1 => Ok(drawn::<DRAWN>()?.to_vec()),
-        _ => Ok(Vec::new()),
+        Version::V1 => Drawn::new(),
+        _ => Ok(Drawn {
+            bytes: [0; DRAWN],
+            length: 0,
+        }),
     }
 }
 
-// Random bytes, for a nonce or a salt.
-fn drawn<const N: usize>() -> Result<[u8; N], Fault> {
-    let mut bytes = [0; N];
-    if fill_random(&mut bytes) {
-        Ok(bytes)
-    } else {
-        Err(Fault::NoRandom)
+// Random bytes for one call: a nonce, a salt or a private key, which is why they are wiped.
+struct Drawn {
+    bytes: [u8; DRAWN],
+    length: usize,
+}
+
+impl Drawn {
+    fn new() -> Result<Self, Fault> {
+        let mut drawn = Drawn {
+            bytes: [0; DRAWN],
+            length: DRAWN,
+        };
+        if fill_random(&mut drawn.bytes) {
+            Ok(drawn)
+        } else {
+            Err(Fault::NoRandom)
+        }
+    }
+
+    fn bytes(&self) -> &[u8] {
+        &self.bytes[..self.length]
+    }
+}
+
+impl Drop for Drawn {
+    fn drop(&mut self) {
+        wipe(&mut self.bytes);
     }
 }
 

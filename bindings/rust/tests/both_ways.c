@@ -4,7 +4,7 @@
        both_ways read KIND KEY TOKEN
 
    A key is in hexadecimal. `make` prints a token of the subject ada, and `read` the claims of one. */
-#include <paseto_keys.h>
+#include <paseto.h>
 #include <stdio.h>
 #include <string.h>
 

@@ -3,8 +3,7 @@
 use paseto_proved::prelude::*;
 use serde_json::Value;
 use std::error::Error;
-use std::time::{SystemTime, UNIX_EPOCH};
-use time::{format_description::well_known::Rfc3339, OffsetDateTime};
+use time::{format_description::well_known::Rfc3339, Duration, OffsetDateTime};
 
 type Outcome = Result<(), Box<dyn Error>>;
 
@@ -16,40 +15,40 @@ fn claims_of(token: &str) -> Result<Value, GenericParserError> {
     PasetoParser::<V4, Local>::new().parse(token, &key())
 }
 
-fn seconds(date: &Value) -> Result<i64, Box<dyn Error>> {
+fn moment_of(date: &Value) -> Result<OffsetDateTime, Box<dyn Error>> {
     let text = date.as_str().ok_or("no text")?;
-    Ok(OffsetDateTime::parse(text, &Rfc3339)?.unix_timestamp())
+    Ok(OffsetDateTime::parse(text, &Rfc3339)?)
 }
 
 #[test]
 fn a_token_is_usable_at_once_and_for_an_hour() -> Outcome {
-    let before = SystemTime::now().duration_since(UNIX_EPOCH)?.as_secs() as i64;
+    let before = OffsetDateTime::now_utc();
     let claims = claims_of(&PasetoBuilder::<V4, Local>::default().build(&key())?)?;
-    let after = SystemTime::now().duration_since(UNIX_EPOCH)?.as_secs() as i64;
-    let begun = seconds(&claims["nbf"])?;
+    let after = OffsetDateTime::now_utc();
+    let issued = moment_of(&claims["iat"])?;
     assert!(
-        (before - 1..after).contains(&begun),
-        "{before} {begun} {after}"
+        before <= issued && issued <= after,
+        "{before} {issued} {after}"
     );
-    assert_eq!(seconds(&claims["iat"])?, begun + 1);
-    assert_eq!(seconds(&claims["exp"])?, begun + 3_601);
+    assert_eq!(moment_of(&claims["nbf"])?, issued - Duration::SECOND);
+    assert_eq!(moment_of(&claims["exp"])?, issued + Duration::HOUR);
     Ok(())
 }
 
 #[test]
 fn a_token_that_never_expires_has_the_other_times_as_the_library_writes_them() -> Outcome {
-    let mut builder = PasetoBuilder::<V4, Local>::default();
-    let expires = claims_of(&builder.build(&key())?)?;
-    let lasts = claims_of(
-        &builder
-            .set_no_expiration_danger_acknowledged()
-            .build(&key())?,
-    )?;
-    assert_eq!(lasts.as_object().map(|claims| claims.len()), Some(2));
-    assert_eq!(
-        (&lasts["iat"], &lasts["nbf"]),
-        (&expires["iat"], &expires["nbf"])
-    );
+    // One moment of ten ends in a zero, which is not written.
+    for _ in 0..100 {
+        let mut builder = PasetoBuilder::<V4, Local>::default();
+        let expires = claims_of(&builder.build(&key())?)?;
+        builder.set_no_expiration_danger_acknowledged();
+        let lasts = claims_of(&builder.build(&key())?)?;
+        assert_eq!(lasts.as_object().map(|claims| claims.len()), Some(2));
+        assert_eq!(
+            (&lasts["iat"], &lasts["nbf"]),
+            (&expires["iat"], &expires["nbf"])
+        );
+    }
     let early = "2019-01-01T00:00:00+00:00";
     let mut builder = PasetoBuilder::<V4, Local>::default();
     builder

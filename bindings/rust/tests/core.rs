@@ -79,6 +79,18 @@ fn a_text_of_a_megabyte_has_room() -> Outcome {
     Ok(())
 }
 
+// Tokens of a byte 255, which is no text: Python's hashlib and a ChaCha20 written by the definition, which make the published
+// tokens too, encrypted the one, and OpenSSL signed the other.
+const NO_TEXT: &str = "v4.local.AAAAAAAAAAAAAAAAAAAAAAAAAAAAAAAAAAAAAAAAAACUxPhIoEOkuhIMDdH2KFRu2qm0q_sDr-gr_cFuLB3zAnU";
+const NO_SIGNED_TEXT: &str =
+    "v4.public._9V3tqI1lccdpRc9YXuHTY1BgR5JQqKPjKhcKWt-cuTafwGfQRQtx-KlwXa1P0yA6vgRTLKWSelIfXdvGoSjLws";
+
+#[test]
+fn what_a_token_holds_is_a_text() {
+    assert_eq!(decrypted(NO_TEXT, "", ""), Err(PasetoError::Utf8Error));
+    assert_eq!(verified(NO_SIGNED_TEXT), Err(PasetoError::FromUtf8Error));
+}
+
 fn with_another_nonce(token: &str) -> String {
     let other = if &token[20..21] == "A" { "B" } else { "A" };
     format!("{}{other}{}", &token[..20], &token[21..])
@@ -113,6 +125,23 @@ fn refusals_of_public_tokens() -> Outcome {
         verified(&format!("{front}{signature}")),
         Err(PasetoError::InvalidSignature)
     );
+    Ok(())
+}
+
+#[test]
+fn a_public_key_that_is_no_point_verifies_nothing() -> Outcome {
+    // No point of P-384 has this first coordinate, and none of edwards25519 the second one of the other key.
+    let mut bytes = [9; 49];
+    (bytes[0], bytes[48]) = (2, 1);
+    let key = Key::<49>::from(bytes);
+    let public = PasetoAsymmetricPublicKey::<V3, Public>::try_from(&key)?;
+    let token = format!("v3.public.{}", "A".repeat(200));
+    let read = Paseto::<V3, Public>::try_verify(&token, &public, None, None);
+    assert_eq!(read, Err(PasetoError::InvalidSignature));
+    let key = Key::<32>::from([2; 32]);
+    let public = PasetoAsymmetricPublicKey::<V4, Public>::from(&key);
+    let read = Paseto::<V4, Public>::try_verify(&signed("a text")?, &public, None, None);
+    assert_eq!(read, Err(PasetoError::InvalidSignature));
     Ok(())
 }
 
@@ -194,10 +223,20 @@ fn untrusted_tokens_are_read() -> Outcome {
     assert_eq!((untrusted.version(), untrusted.purpose()), ("v4", "local"));
     assert_eq!(untrusted.footer_base64(), Some("eyJraWQiOiJrZXktMSJ9"));
     assert_eq!(
+        format!("{untrusted:?}"),
+        r#"UntrustedToken { version: "v4", purpose: "local", footer: Some("eyJraWQiOiJrZXktMSJ9") }"#
+    );
+    assert_eq!(
         Footer::try_from_token(&token)?.as_deref(),
         Some("{\"kid\":\"key-1\"}")
     );
     assert_eq!(Footer::try_from_token("v4.local.payload")?, None);
+    assert_eq!(
+        Footer::try_from_token("v4.local.payload.")?.as_deref(),
+        Some("")
+    );
+    let no_text = UntrustedToken::try_parse("v4.local.payload._w")?;
+    assert_eq!(no_text.footer_decoded()?, Some(vec![255]));
     Ok(())
 }
 
@@ -234,6 +273,9 @@ fn locked_keys_are_read() -> Outcome {
     assert_eq!(opened.to_paserk()?, INSIDE);
 
     let other = Symmetric::try_new_random()?;
+    // In place of 64 KiB it asks for 2 GiB.
+    let costly = LOCKED.replacen("pgAAAAAAAQAAAAAAAgAAAAN", "pgAAAACAAAAAAAAAAgAAAAN", 1);
+    assert_ne!(costly, LOCKED);
     let refusals = [
         (
             Symmetric::try_unlock(LOCKED, b"passwort").err(),
@@ -256,6 +298,14 @@ fn locked_keys_are_read() -> Outcome {
         (
             Private::try_unwrap(WRAPPED, &key()?).err(),
             KeyTextError::OtherType,
+        ),
+        (
+            Symmetric::try_unlock(&costly, b"a password").err(),
+            KeyTextError::TooCostly,
+        ),
+        (
+            PasetoSymmetricKey::<V2, Local>::try_unlock(LOCKED, "paßwort".as_bytes()).err(),
+            KeyTextError::OtherVersion,
         ),
     ];
     for (found, wanted) in refusals {

@@ -43,7 +43,7 @@ macro_rules! generic {
             .set_footer(Footer::from("a footer"));
         $(builder.set_implicit_assertion($assertion::from("an assertion"));)?
         assert_eq!(builder.build_payload_from_claims()?, r#"{"rows":[1,2],"seats":4,"sub":"ada"}"#);
-        let token = builder.$make($making)?;
+        let token = builder.clone().$make($making)?;
         assert_ne!(builder.$make($making)?, "");
         let mut parser = GenericParser::<$version, $purpose>::new();
         parser
@@ -56,6 +56,7 @@ macro_rules! generic {
             })
             .require_claim("rows")
             .set_longest(2_000)
+            .set_longest_footer(100)
             .set_footer(Footer::from("a footer"));
         $(parser.set_implicit_assertion($assertion::from("an assertion"));
         assert_eq!(parser.get_implicit_assertion(), $assertion::from("an assertion"));)?
@@ -70,28 +71,43 @@ macro_rules! prelude {
     ($version:ident $purpose:ident, by $making:expr, read by $reading:expr $(, $assertion:ident)?) => {{
         let mut builder = PasetoBuilder::<$version, $purpose>::default();
         builder
+            .set_claim(AudienceClaim::from("customers"))
+            .set_claim(IssuerClaim::from("us"))
             .set_claim(SubjectClaim::from("ada"))
+            .set_claim(TokenIdentifierClaim::from("7"))
+            .set_claim(ExpirationClaim::try_from("2199-01-01T00:00:00Z")?)
+            .set_claim(IssuedAtClaim::try_from("2019-01-01T00:00:00+01:00")?)
+            .set_claim(NotBeforeClaim::try_from("2019-01-01T00:00:00.5Z".to_owned())?)
             .set_claim(CustomClaim::try_from(("seats", 4))?)
             .set_footer(Footer::from("a footer"));
         $(builder.set_implicit_assertion($assertion::from("an assertion"));)?
         let token = builder.build($making)?;
         let mut parser = PasetoParser::<$version, $purpose>::default();
         parser
+            .check_claim(AudienceClaim::from("customers"))
+            .check_claim(IssuerClaim::from("us"))
             .check_claim(SubjectClaim::from("ada"))
+            .check_claim(TokenIdentifierClaim::from("7"))
+            .check_claim(IssuedAtClaim::try_from("2019-01-01T00:00:00+01:00")?)
             .validate_claim(CustomClaim::try_from("seats")?, &|key, value| match value.as_u64() {
                 Some(4) => Ok(()),
                 _ => Err(PasetoClaimError::CustomValidation(key.to_owned())),
             })
             .require_claim("exp")
             .set_longest(2_000)
+            .set_longest_footer(100)
             .set_leeway(Duration::from_secs(1))
             .set_now(SystemTime::now())
             .set_footer(Footer::from("a footer"));
         $(parser.set_implicit_assertion($assertion::from("an assertion"));)?
-        let read = parser.parse(&token, $reading)?;
-        assert_eq!((&read["sub"], &read["seats"]), (&json!("ada"), &json!(4)));
-        assert!(["exp", "iat", "nbf"].iter().all(|key| read[key].is_string()), "{read}");
+        assert_eq!(parser.parse(&token, $reading)?, json!({
+            "aud": "customers", "iss": "us", "sub": "ada", "jti": "7", "exp": "2199-01-01T00:00:00Z",
+            "iat": "2019-01-01T00:00:00+01:00", "nbf": "2019-01-01T00:00:00.5Z", "seats": 4
+        }));
         assert!(PasetoParser::<$version, $purpose>::new().parse(&token, $reading).is_err());
+        let mut times = PasetoBuilder::<$version, $purpose>::default();
+        let read = PasetoParser::<$version, $purpose>::default().parse(&times.build($making)?, $reading)?;
+        assert!(["exp", "iat", "nbf"].iter().all(|key| read[key].is_string()), "{read}");
         let lasting = builder.set_no_expiration_danger_acknowledged().build($making)?;
         assert_eq!(parser.set_leeway(Duration::ZERO).parse(&lasting, $reading).map_err(|refusal| refusal.to_string()),
             Err("The expected claim 'exp' was not found in the payload".to_owned()));

@@ -3,8 +3,9 @@
 //! calloc.
 
 use paseto_proved::core::{
-    Key, Local, Paseto, PasetoError, PasetoNonce, PasetoSymmetricKey, Payload, V4,
+    Footer, Key, Local, Paseto, PasetoError, PasetoNonce, PasetoSymmetricKey, Payload, V4,
 };
+use paseto_proved::keys::KeyTextError;
 use std::cell::Cell;
 use std::ffi::c_void;
 
@@ -52,6 +53,11 @@ fn a_call_without_memory_says_so() -> Result<(), PasetoError> {
         refused(|| Paseto::<V4, Local>::try_decrypt(&token, &key, None, None)),
         Err(PasetoError::Memory)
     );
+    assert_eq!(
+        refused(|| Footer::try_from_token("v4.local.payload.AAAA")),
+        Err(PasetoError::Memory)
+    );
+    assert_eq!(refused(|| key.to_paserk()), Err(KeyTextError::Memory));
     assert_eq!(
         Paseto::<V4, Local>::try_decrypt(&token, &key, None, None)?,
         "a text"

@@ -1,7 +1,7 @@
 //! What calls answer where the system gives no random bytes: `Cipher`. `tests/rust.sh` of the repository runs this program
 //! under strace, by which getrandom(2) fails.
 
-use paseto_proved::keys::KeyPair;
+use paseto_proved::keys::{KeyPair, KeyTextError};
 use paseto_proved::prelude::*;
 
 #[test]
@@ -16,6 +16,16 @@ fn without_random_bytes() {
         Err(PasetoError::Cipher)
     ));
     let key = PasetoSymmetricKey::<V4, Local>::from(Key::from([7; 32]));
+    let refused = Some(KeyTextError::NoRandom);
+    assert_eq!(key.to_protected(b"a password").err(), refused);
+    assert_eq!(key.to_wrapped(&key).err(), refused);
+    let public = "k4.public.Hrnbu7wEfAP9cGBOAHHwmH4Wsot1ciXBHwBBXQ4gsaI";
+    let sealed = public.parse().map(|public| key.to_sealed(&public));
+    assert_eq!(sealed.and_then(|sealed| sealed).err(), refused);
+    assert_eq!(
+        KeyTextError::NoRandom.to_string(),
+        "The system returned no random bytes"
+    );
     let built = PasetoBuilder::<V4, Local>::default().build(&key);
     assert!(
         matches!(

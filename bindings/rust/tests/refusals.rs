@@ -94,6 +94,14 @@ fn faults_of_tokens() -> Outcome {
         .set_longest(9)
         .parse(&token, &key());
     assert_eq!(cipher_fault(read)?, PasetoError::TooLong);
+    let read = PasetoParser::<V4, Local>::default()
+        .set_longest_footer(2)
+        .parse(&(token.clone() + ".AAAA"), &key());
+    assert_eq!(cipher_fault(read)?, PasetoError::TooLong);
+    let read = PasetoParser::<V4, Local>::default()
+        .set_longest_footer(3)
+        .parse(&(token.clone() + ".AAAA"), &key());
+    assert_eq!(cipher_fault(read)?, PasetoError::FooterInvalid);
     let read = GenericParser::<V4, Local>::default()
         .parse(&token, &PasetoSymmetricKey::from(Key::default()));
     assert_eq!(cipher_fault(read)?, PasetoError::Cryption);
@@ -326,7 +334,7 @@ fn times_are_asked_of_a_default_parser_alone() -> Outcome {
 }
 
 #[test]
-fn a_token_is_taken_from_its_second_to_its_end() -> Outcome {
+fn a_token_is_taken_after_its_beginning_and_before_its_end() -> Outcome {
     let token = token_of(r#"{"nbf":"2026-11-29T12:00:00Z","exp":"2026-11-29T13:00:00Z"}"#)?;
     let noon = SystemTime::UNIX_EPOCH + Duration::from_secs(1_795_953_600);
     let at = |time: SystemTime| {
@@ -338,15 +346,33 @@ fn a_token_is_taken_from_its_second_to_its_end() -> Outcome {
         .ok()
     };
     let early = PasetoClaimError::UseBeforeAvailable("2026-11-29T12:00:00Z".to_owned());
-    assert_eq!(at(noon - Duration::from_millis(1)), Some(early));
-    assert_eq!(at(noon), None);
-    assert_eq!(at(noon + Duration::from_millis(500)), None);
-    assert_eq!(at(noon + Duration::from_millis(3_599_999)), None);
+    let (nanosecond, hour) = (Duration::from_nanos(1), Duration::from_secs(3_600));
+    assert_eq!(at(noon - nanosecond), Some(early.clone()));
+    assert_eq!(at(noon), Some(early));
+    assert_eq!(at(noon + nanosecond), None);
+    assert_eq!(at(noon + hour - nanosecond), None);
+    assert_eq!(at(noon + hour), Some(PasetoClaimError::Expired));
+    // The library counts 64 bits of nanoseconds.
+    let far = SystemTime::UNIX_EPOCH + Duration::from_secs(1 << 34);
     assert_eq!(
-        at(noon + Duration::from_secs(3_600)),
-        Some(PasetoClaimError::Expired)
+        at(far),
+        Some(PasetoClaimError::RFC3339Date(
+            "17179869184 seconds after 1970".to_owned()
+        ))
     );
     Ok(())
+}
+
+#[test]
+fn a_password_is_not_too_long() {
+    // The system gives the zeros of what is never written without memory for them.
+    let password = vec![0; 1 << 32];
+    let written = key().to_protected(&password);
+    assert_eq!(written, Err(KeyTextError::LongPassword));
+    assert_eq!(
+        KeyTextError::LongPassword.to_string(),
+        "The password is too long"
+    );
 }
 
 fn local(text: &str) -> Option<KeyTextError> {
@@ -454,7 +480,9 @@ fn faults_of_rings() -> Outcome {
             }
         })
     ));
-    ring.set_longest_footer(4);
+    ring.set_longest_footer(key_footer("one").len());
+    assert!(ring.parse(&parser, &named).is_ok());
+    ring.set_longest_footer(key_footer("one").len() - 1);
     assert!(matches!(
         ring.parse(&parser, &named),
         Err(KeyRingError::Untrusted {

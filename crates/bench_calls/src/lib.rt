@@ -10,6 +10,7 @@ mod agreement;
 mod boxed;
 mod copying;
 mod json;
+mod key_texts;
 mod p384;
 mod passwords;
 mod pem;
@@ -29,6 +30,7 @@ pub use boxed::{
     bench_v2_open, bench_v2_seal, bench_xchacha20poly1305_open, bench_xchacha20poly1305_seal,
 };
 pub use json::bench_json_read;
+pub use key_texts::{bench_read_local, bench_read_secret, bench_write_local, bench_write_secret};
 pub use p384::{
     bench_p384_public_key, bench_p384_shared_secret, bench_p384_sign, bench_p384_verify,
 };

@@ -33,7 +33,7 @@ pub fn bench_argon2id(alloc: Global, password: &[u8], salt: &[u8], key: &mut [u8
 /// Fills `key`, which has 48 bytes, with the key of a password by PBKDF2 with so many iterations, `reps` times and at
 /// least once. The answer is the sum of the keys' last bytes, or 2^64 - 1 where the key has another length.
 pub fn bench_pbkdf2(password: &[u8], salt: &[u8], iterations: u32, key: &mut [u8], reps: u32) -> u64
-    ensures { result ≢ 2 ^ 64 - 1 → key.new ≡ derived_key password.now salt.now iterations }
+    ensures { result ≢ 2 ^ 64 - 1 → key.new ≡ derived_key password.now salt.now iterations 48 }
 {
     if key.len() != 48 {
         return FAILED;

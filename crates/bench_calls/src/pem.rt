@@ -64,7 +64,7 @@ fn write_in(alloc: Global, version: u32, key: &[u8], text: &mut [u8]) -> Option<
 
 // Writes the key.
 fn write<V: PemVersion>(alloc: Global, key: &[u8], text: &mut [u8]) -> Option<()>
-    ensures { IsSome result → IsWritten V.is_private_of PrivateLabel key.now text.new }
+    ensures { IsSome result → IsWritten V.is_private_written PrivateLabel key.now text.new }
 {
     let key = PrivateKey::<V>::try_from(Vec::from_slice(alloc, key).ok()?).ok()?;
     let made = private_key_to_pem(alloc, &key.lend()).ok()?;

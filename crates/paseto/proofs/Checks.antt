@@ -1,6 +1,7 @@
 -- What is answered for the claims of a token.
 use Rattle.std.proofs.Common.{◌≡◌, ◌⊎◌, ℕ, List, Option, Result, Ok, Err, IfErr, IfOk, IsErrAnd, IsOk, String, Global, string_bytes, IsUtf8, true, inl, inr, sym, subst}
 use Rattle.std.specs.Bool.{⊤}
+use Rattle.std.specs.Result.{IsOkAnd}
 use Rattle.std.proofs.lemmas.Bool.{false≢true}
 use Rattle.jiff.specs.Types.{Timestamp}
 use Rattle.serde_json.specs.Data.{Data}
@@ -16,10 +17,8 @@ use Rattle.paseto_keys.specs.AnyKey.{parts_of}
 use Rattle.paseto_keys.specs.declared.any_key.AnyKey.{AnyKey}
 use Rattle.paseto_tasks.specs.declared.arguments.Options.{Options}
 use Rattle.paseto_tasks.specs.declared.error.ProgramError.{ProgramError}
-use Rattle.paseto_tasks.specs.declared.error.ProgramError.TheVariants.{System}
-use Rattle.paseto_tasks.specs.declared.error.system.SystemError.TheVariants.{Memory}
 use Rattle.rusty_paseto_core.specs.declared.PasetoError.TheVariants.{WrongHeader}
-use Rattle.paseto_tasks.specs.Error.{BlamesNone, Fails, IsMemory as IsMemoryOf, IsNoUsage, IsOfWords, IsOutside, IsPlain, Lacks, nothing, token_error_of}
+use Rattle.paseto_tasks.specs.Error.{BlamesNone, Fails, IsNoUsage, IsOfWords, IsOutside, IsPlain, Lacks, nothing, token_error_of}
 use Rattle.paseto_tasks.specs.Input.{IsNoText, OfInput, reading, token_of_input}
 use Rattle.paseto_tasks.specs.Output.{Makes}
 use Rattle.paseto_tasks.proofs.Blames.{blames_so, fails_so, within_all}
@@ -28,12 +27,26 @@ use Rattle.paseto.specs.declared.commands.check.Keys.{Keys}
 use Rattle.paseto.specs.declared.commands.check.Keys.TheVariants.{One}
 use Rattle.paseto.specs.ClaimLine.{SaysOfCheck}
 use Rattle.paseto.specs.Check.{AreDemands, Demanded, IsDemanded, IsTheValueOf, RefusesKey, demanded_rules}
-use Rattle.paseto.specs.Checked.{ChecksBy, ChecksFor, IsCheckLine, IsJsonLine, IsTheValueBy, RefusesCheck, RefusesDemands, RefusesKeys}
+use Rattle.paseto.specs.Checked.{Admits, ChecksBy, ChecksFor, IsCheckLine, IsJsonLine, IsTheValueBy, RefusesCheck, RefusesDemands, RefusesKeys}
 use Rattle.paseto.specs.Claims.{are_whole}
 use Rattle.paseto.specs.Gives.{Gives}
 use Rattle.paseto.specs.Ring.{IsRingLine}
 use Rattle.paseto.proofs.Lines.{told_check}
 use Rattle.paseto.proofs.Payloads.{outside_or_not}
+
+-- ---- lines
+
+-- the line of claims, or the error in their place
+pub line_made : (Is : Data → Type 0) (Refuses : ProgramError → Type 0) (claims : Result Value ProgramError) (made : Result (String Global) ProgramError)
+    → Gives (λ value. Is (view value)) Refuses (Fails nothing) claims
+    → IfOk made (λ line. IsOkAnd claims (λ value. IsJsonLine (view value) (string_bytes line)))
+    → IfErr made (λ error. IsErrAnd claims (λ source. source ≡ error) ⊎ Fails nothing error)
+    → Makes (λ line. (value : Data) × Is value × IsJsonLine value line) Refuses (Fails nothing) made
+line_made Is Refuses (Ok value) (Ok line) gives said told = record { printed = (view value, gives.given, said); refused = tt }
+line_made Is Refuses (Err source) (Ok line) gives said told = absurd said
+line_made Is Refuses (Ok value) (Err error) gives said (inl none) = absurd none
+line_made Is Refuses (Err source) (Err error) gives said (inl same) = record { printed = tt; refused = rw (sym same) gives.refused }
+line_made Is Refuses claims (Err error) gives said (inr fails) = record { printed = tt; refused = inr fails }
 
 -- ---- keys
 
@@ -80,7 +93,7 @@ module _ (keys : Keys) (demands : Demanded) (token : List ℕ) where
   -- no line is that of a token that has no value under the keys
   pub keys_refuse : (error : ProgramError) → RefusesKeys keys demands.footer demands.assertion token error ⊎ Fails nothing error → RefusesDemands keys demands token error ⊎ Fails nothing error
   keys_refuse error (inl is) = inl (record {
-    none = λ line checks. is.none checks.0 checks.1;
+    none = λ line checks. is.none checks.0 checks.1.parses;
     no_usage = is.no_usage;
     said = says_so (IsRingLine token) (IsCheckLine keys demands token) (λ line of_ring. inl of_ring) error is.said;
     blames = is.blames;
@@ -91,7 +104,7 @@ module _ (keys : Keys) (demands : Demanded) (token : List ℕ) where
   pub never_whole : (error : ProgramError) → IsOutside error ⊎ ((are_whole demands.claims ≡ true) → ⊥) → IsPlain error → RefusesDemands keys demands token error ⊎ Fails nothing error
   never_whole error (inl outside) plain = inr (outside, plain.1)
   never_whole error (inr none) plain = inl (record {
-    none = λ line checks. none checks.2.whole;
+    none = λ line checks. none checks.1.is_demanded.whole;
     no_usage = fixed_no_usage error plain.0;
     said = fixed_says (IsCheckLine keys demands token) error plain.0;
     blames = blames_so (within_all _) error plain.1;
@@ -108,7 +121,7 @@ module _ (keys : Keys) (demands : Demanded) (token : List ℕ) where
             → IsOutside error ⊎ ((line : List ℕ) → ¬ ChecksBy keys demands token line)
         none_or (Ok passed) found told = absurd told
         none_or (Err source) found (inl outside) = inl outside
-        none_or (Err source) found (inr none) = inr (λ line checks. none (found.complete (rw (sym same, is.1 checks.0 checks.1) at checks.2.passes)))
+        none_or (Err source) found (inr none) = inr (λ line checks. none (found.complete (rw (sym same, is.1 checks.0 checks.1.parses) at checks.1.is_demanded.passes)))
 
         by : IsOutside error ⊎ (¬ IsOutside error) → IsOutside error ⊎ ((line : List ℕ) → ¬ ChecksBy keys demands token line)
             → RefusesDemands keys demands token error ⊎ Fails nothing error
@@ -121,14 +134,8 @@ module _ (keys : Keys) (demands : Demanded) (token : List ℕ) where
           blames = blames_so (within_all _) error blames;
         })
 
-    pub check_passes : IsOk answer → are_whole demands.claims ≡ true → (line : List ℕ) → IsJsonLine value line → ChecksBy keys demands token line
-    check_passes ok whole line json = (value, is.0, fit demands value rules answer same answered ok whole, json)
-
-    pub check_makes : IsOk answer → are_whole demands.claims ≡ true → (made : Result (String Global) ProgramError) → IfOk made (λ line. IsJsonLine value (string_bytes line))
-        → IfErr made IsMemoryOf → Makes (ChecksBy keys demands token) (RefusesDemands keys demands token) (Fails nothing) made
-    check_makes ok whole (Ok line) json memory = record { printed = check_passes ok whole (string_bytes line) json; refused = tt }
-    check_makes ok whole (Err (System (Memory source))) json memory = record { printed = tt; refused = inr (tt, tt) }
-    check_makes ok whole (Err error) json memory = absurd memory
+    pub admits_value : IsOk answer → are_whole demands.claims ≡ true → Admits keys demands token value
+    admits_value ok whole = record { parses = is.0; is_demanded = fit demands value rules answer same answered ok whole }
 
 -- ---- words
 

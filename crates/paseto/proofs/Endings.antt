@@ -1,12 +1,11 @@
 -- How a command on claims ends.
-use Rattle.std.proofs.Common.{◌≡◌, ◌⊎◌, ◌==◌, ◌∙◌, ℕ, List, Option, Result, Ok, Err, IfErr, IsErrAnd, String, Global, string_bytes, inl, inr, sym, ap, subst}
+use Rattle.std.proofs.Common.{◌≡◌, ◌⊎◌, ℕ, List, Option, Result, Ok, Err, IfErr, IsErrAnd, String, Global, string_bytes, inl, inr, sym, subst}
 use Rattle.std.specs.Bool.{⊤}
-use Rattle.std.proofs.lemmas.Bool.{false≢true}
 use Rattle.paseto_tasks.specs.declared.error.Names.{Names}
 use Rattle.paseto_tasks.specs.declared.error.ProgramError.{ProgramError}
 use Rattle.paseto_tasks.specs.Error.{IsCauseOf, IsOutside, status_of}
 use Rattle.paseto_tasks.specs.Output.{IsTextOf, Makes}
-use Rattle.paseto_tasks.specs.Run.{IsRefusal, Leaves, Tells}
+use Rattle.paseto_tasks.specs.Run.{Leaves, Tells}
 use Rattle.paseto_tasks.proofs.Outputs.{is_refusal, leaves_made}
 use Rattle.paseto.specs.Run.{Ends, EndsSo}
 

@@ -8,5 +8,11 @@ pub mod KeyReads
 pub mod RingReads
 pub mod Endings
 pub mod Checks
+pub mod Cuts
+pub mod LineRows
+pub mod Rows
+pub mod Stopping
+pub mod Progress
+pub mod Passes
 pub mod Faults
 pub mod NamedKeys

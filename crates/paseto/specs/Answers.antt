@@ -1,17 +1,9 @@
 -- What the program says of what builders, parsers and rings refuse, where that has a line of its own. No key is among what
 -- these lines are made of: the claims and the footer of the token, the claims of the words, and a moment.
-use Rattle.std.specs.Prelude.{◌≡◌, ℕ, ℤ, pos, ◌/◌, ◌-ℤ◌, ◌==◌, List, [], ◌++◌, if◌then◌else◌, nat_lt, ⊤, Result, Ok, Err, codes, map, string_bytes, unwrap_or, encode_utf8_all, chars, decimal, int_div, unsigned_abs}
+use Rattle.std.specs.Prelude.{◌≡◌, ℕ, ℤ, pos, ◌/◌, ◌-ℤ◌, ◌==◌, List, [], ◌++◌, if◌then◌else◌, nat_lt, ⊤, Result, Ok, Err, codes, map, string_bytes, encode_utf8_all, chars, decimal, int_div, unsigned_abs}
 use Rattle.std.specs.Char.{is_control}
-use Rattle.jiff.specs.Types.{Timestamp}
-use Rattle.jiff.specs.Words.{parse_timestamp}
-use Rattle.serde_json.specs.Data.{Data}
-use Rattle.serde_json.specs.Find.{as_str}
 use Rattle.serde_json.specs.declared.value.Value.{Value}
-use Rattle.rusty_paseto_claims.specs.Error.{error_text}
-use Rattle.rusty_paseto_claims.specs.declared.error.PasetoClaimError.{PasetoClaimError}
-use Rattle.rusty_paseto_claims.specs.declared.error.PasetoClaimError.TheVariants.{Expired, Invalid, UseBeforeAvailable}
 use Rattle.rusty_paseto_core.specs.declared.PasetoError.TheVariants.{FooterInvalid}
-use Rattle.rusty_paseto_generic.specs.Parsers.Verdicts.{entry}
 use Rattle.rusty_paseto_generic.specs.declared.error.GenericBuilderError.{GenericBuilderError}
 use Rattle.rusty_paseto_generic.specs.declared.error.GenericBuilderError.TheVariants.{DuplicateTopLevelPayloadClaim}
 use Rattle.rusty_paseto_generic.specs.declared.error.GenericParserError.{GenericParserError}

@@ -27,10 +27,14 @@ ParsesBy (Ring keys) footer assertion token value = ParsesByRing keys.items foot
 abbrev pub IsJsonLine : Data → List ℕ → Type 0
 IsJsonLine value line = has_float value ≡ false → line ≡ compact_text value ++ (10 ∷ [])
 
--- the line is that of the claims of a token that is what is demanded
+-- the value is that of the claims of a token that is what is demanded
+pub record Admits (keys : Keys) (demands : Demanded) (token : List ℕ) (value : Data) : Type 0 where
+  pub parses : ParsesBy keys demands.footer demands.assertion token value
+  pub is_demanded : IsDemanded demands value
+
+-- the line is the JSON of such claims
 abbrev pub ChecksBy : Keys → Demanded → List ℕ → List ℕ → Type 0
-ChecksBy keys demands token line =
-    (value : Data) × ParsesBy keys demands.footer demands.assertion token value × IsDemanded demands value × IsJsonLine value line
+ChecksBy keys demands token line = (value : Data) × Admits keys demands token value × IsJsonLine value line
 
 -- the same of what words demand at a moment
 pub record ChecksFor (claims : List (List ℕ)) (options : Options) (now : Timestamp) (keys : Keys) (token line : List ℕ) : Type 0 where

@@ -19,6 +19,19 @@ use Rattle.paseto_tasks.specs.Error.{Blame, IsNoUsage, IsOfWords, IsOutside, Say
 use Rattle.paseto_tasks.specs.Output.{IsLineOf}
 use Rattle.paseto_tasks.specs.declared.error.ProgramError.{ProgramError}
 use Rattle.paseto.specs.Times.{BeginsAt, IsTimeSet, SaysTime, time_counted}
+use Rattle.paseto_words.specs.Action.{footing, key_file_words, openers_words, text, texts_of}
+use Rattle.paseto_words.specs.declared.action.Issue.{Issue}
+
+-- the words of the command with a folder in place of the key file, and the id of a key in place of a footer
+pub record IsSignedBy (words : Issue) (path id : List ℕ) (made : Issue) : Type 0 where
+  pub key : key_file_words made.key ≡ record { file = Some path; openers = openers_words words.key.openers }
+  pub ring : text made.ring ≡ None
+  pub claims : texts_of made.claims.items ≡ texts_of words.claims.items
+  pub expires : text made.expires ≡ text words.expires
+  pub not_before : text made.not_before ≡ text words.not_before
+  pub foot : footing made.foot ≡ (None, Some id)
+  pub assertion : text made.assertion ≡ text words.assertion
+  pub out : text made.out ≡ text words.out
 
 -- what is ordered: a moment, claims, when the token expires and when it may first be used, and its footer and its assertion
 -- or none

@@ -11,6 +11,7 @@ pub mod Gives
 pub mod Run
 pub mod Options
 pub mod Texts
+pub mod Each
 pub mod Files
 pub mod Forms
 pub mod Half

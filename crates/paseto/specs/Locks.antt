@@ -1,7 +1,7 @@
 -- What `unwrap` and `unseal` take, and what they make of it.
-use Rattle.std.specs.Prelude.{◌≡◌, ◌≢◌, ◌⊎◌, ◌++◌, ℕ, List, Option, None, Some, codes}
+use Rattle.std.specs.Prelude.{◌≡◌, ◌≢◌, ◌⊎◌, ℕ, List, Option, None, Some}
 use Rattle.paseto_key_files.specs.Line.{BeginsPem}
-use Rattle.paseto_keys.specs.AnyKey.{KeyParts, parts_of}
+use Rattle.paseto_keys.specs.AnyKey.{KeyParts}
 use Rattle.paseto_keys.specs.Line.{IsLineOf}
 use Rattle.paseto_tasks.specs.KeyLine.{BeginsAs}
 use Rattle.paseto_tasks.specs.declared.arguments.Format.{Format}

@@ -4,6 +4,7 @@ pub mod answers;
 pub mod check;
 pub mod claim_line;
 pub mod claims;
+pub mod each;
 pub mod footer;
 pub mod issue;
 pub mod ring;

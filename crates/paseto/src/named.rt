@@ -1,19 +1,18 @@
 //! The key of a ring that the footer of a token names.
 
-ghost use Rattle.std.specs.Prelude.{◌≡◌, ℕ, List, IfOk, OnOk, Some, string_bytes};
-ghost use Rattle.rusty_paseto.specs.Held.{keys_of};
-ghost use Rattle.rusty_paseto.specs.KeyRing.{HasFooter, Names};
+ghost use Rattle.std.specs.Prelude.{◌≡◌, ℕ, List, IfErr, IfOk, MatchBool, MatchOption, MatchResult, false, string_bytes};
+ghost use Rattle.rusty_paseto.specs.KeyRing.{IsMemory};
+ghost use Rattle.rusty_paseto_paserk.specs.Error.{IsMemory as IsNoIdMemory};
 ghost use Rattle.paseto_keys.specs.AnyKey.{parts_of};
-ghost use Rattle.paseto.specs.Named.{AreUnderIds, IsIdOf, IsIdOfHalf};
+ghost use Rattle.paseto.specs.Named.{AreWithout, IsFirstWith, IsIdOf, IsIdOfHalf, IsNoUnknown, IsUnknown, NamesNone, NamesUnknown, SaysUnknown, TokenNames};
 
 use paseto_keys::AnyKey;
-use rusty_paseto::{KeyRingError, Ring};
-use rusty_paseto_core::{Footer, PasetoError};
+use rusty_paseto::{KeyRingError, footer_of, key_id};
 use rusty_paseto_paserk::PaserkError;
-use std::alloc::Global;
+use std::alloc::{AllocError, Global};
 use std::str;
 
-/// The key whose id the footer of a token names, and the footer. Nothing of the token is verified.
+/// The first key whose id the footer of a token names, and the footer. Nothing of the token is verified.
 ///
 /// The errors are those of a key ring: `Untrusted` for a footer that is not read, `NoFooter`,
 /// `NotAnObject`, `NoKeyId`, and `UnknownKey` if no key has the id.
@@ -22,70 +21,88 @@ pub fn named_in<'k>(
     keys: &'k [AnyKey],
     token: &str,
 ) -> Result<(String, &'k AnyKey), KeyRingError>
-    ensures { IfOk result (λ found. HasFooter token.now (Some (string_bytes found.0))
-        × ((id : List ℕ) × Names (string_bytes found.0) id × IsIdOf (parts_of found.1.now) id)) }
+    ensures found { IfOk result (λ found. (id : List ℕ) × TokenNames token.now
+        (string_bytes found.0) id × IsFirstWith id keys.now found.1.now) }
+    ensures none { IfErr result (NamesNone keys.now token.now) }
+    ensures unknown { (id : List ℕ) → NamesUnknown keys.now token.now id
+        → MatchResult result (λ found. ⊥) IsNoUnknown }
 {
-    let footer = match Footer::try_from_token(alloc, token) {
-        Ok(Some(footer)) => footer,
-        Ok(None) => return Err(KeyRingError::NoFooter),
-        Err(PasetoError::Memory(source)) => return Err(KeyRingError::Memory(source)),
-        Err(source) => return Err(KeyRingError::Untrusted(source)),
-    };
-    let ring = by_ids(alloc, keys)?;
-    let key = match ring.key_of(footer.as_str()) {
-        Ok(key) => *key,
-        Err(error) => return Err(error),
-    };
-    Ok((footer, key))
+    let footer = footer_of(alloc, token)?;
+    let id = key_id(alloc, footer.as_str())?;
+    match with_id(alloc, keys, id.as_str())? {
+        Some(key) => Ok((footer, key)),
+        None => Err(KeyRingError::UnknownKey(id)),
+    }
 }
 
 /// Whether an input is a token whose footer names a key that is not among these.
-pub fn is_unknown(alloc: Global, keys: &[AnyKey], input: &[u8]) -> bool {
-    let Ok(text) = str::from_utf8(input) else {
-        return false;
-    };
-    matches!(
-        named_in(alloc, keys, text.trim()),
-        Err(KeyRingError::UnknownKey(_))
-    )
-}
-
-/// The keys, each under its id. Keys that have none are left out.
-fn by_ids<'k>(alloc: Global, keys: &'k [AnyKey]) -> Result<Ring<&'k AnyKey>, KeyRingError>
-    ensures { IfOk result (λ ring. AreUnderIds (keys_of ring)) }
+pub fn is_unknown(alloc: Global, keys: &[AnyKey], input: &[u8]) -> Result<bool, AllocError>
+    ensures { IfOk result (λ unknown. MatchBool unknown (IsUnknown keys.now input.now)
+        (¬ IsUnknown keys.now input.now)) }
 {
-    let mut ring = Ring::new(alloc);
-    match put_all(alloc, &mut ring, keys) {
-        Ok(()) => Ok(ring),
-        Err(error) => Err(error),
+    let Ok(text) = str::from_utf8(input) else {
+        return Ok(false);
+    };
+    match named_in(alloc, keys, text.trim()) {
+        Ok(_) => Ok(false),
+        Err(error) => says_unknown(error),
     }
 }
 
-/// Adds keys to a ring, each under its id.
-fn put_all<'k>(
+/// Whether an error says that a key is unknown.
+fn says_unknown(error: KeyRingError) -> Result<bool, AllocError>
+    ensures { IfOk result (λ says. MatchBool says (SaysUnknown error) (¬ IsNoUnknown error)) }
+{
+    match error {
+        KeyRingError::Memory(refused) => Err(refused),
+        KeyRingError::UnknownKey(_) => Ok(true),
+        KeyRingError::Untrusted(_)
+        | KeyRingError::NoFooter
+        | KeyRingError::NotAnObject
+        | KeyRingError::NoKeyId
+        | KeyRingError::Token(_) => Ok(false),
+    }
+}
+
+/// The first key that has an id.
+fn with_id<'k>(
     alloc: Global,
-    ring: &mut Ring<&'k AnyKey>,
     keys: &'k [AnyKey],
-) -> Result<(), KeyRingError>
-    ensures { AreUnderIds (keys_of ring.old) → OnOk result (AreUnderIds (keys_of ring.new)) }
+    id: &str,
+) -> Result<Option<&'k AnyKey>, AllocError>
+    ensures { IfOk result (λ found. MatchOption found (AreWithout id.now keys.now)
+        (λ key. IsFirstWith id.now keys.now key.now)) }
 {
     let [key, rest @ ..] = keys else {
-        return Ok(());
+        return Ok(None);
     };
-    match put(alloc, ring, key) {
-        Ok(()) => put_all(alloc, ring, rest),
-        Err(error) => Err(error),
+    if has_id(alloc, key, id)? {
+        return Ok(Some(key));
+    }
+    with_id(alloc, rest, id)
+}
+
+/// Whether a key has an id. One that has none has no id at all.
+fn has_id(alloc: Global, key: &AnyKey, id: &str) -> Result<bool, AllocError>
+    ensures { IfOk result (λ has. MatchBool has (IsIdOf (parts_of key.now) id.now)
+        (¬ IsIdOf (parts_of key.now) id.now)) }
+{
+    match key.id(alloc) {
+        Ok(own) => Ok(own.as_str() == id),
+        Err(error) => without_id(error),
     }
 }
 
-/// Adds a key to a ring under its id, if it has one.
-fn put<'k>(alloc: Global, ring: &mut Ring<&'k AnyKey>, key: &'k AnyKey) -> Result<(), KeyRingError>
-    ensures { AreUnderIds (keys_of ring.old) → OnOk result (AreUnderIds (keys_of ring.new)) }
+/// What is so of a key for whose id an error is returned: it has none, unless memory was refused.
+fn without_id(error: PaserkError) -> Result<bool, AllocError>
+    ensures { IfOk result (λ has. (has ≡ false) × ¬ IsNoIdMemory error) }
 {
-    match key.id(alloc) {
-        Ok(id) => ring.add(id.as_str(), key),
-        Err(PaserkError::Memory(source)) => Err(KeyRingError::Memory(source)),
-        Err(_) => Ok(()),
+    match error {
+        PaserkError::Memory(refused) => Err(refused),
+        PaserkError::NoKey
+        | PaserkError::OtherVersion(_)
+        | PaserkError::OtherType(_)
+        | PaserkError::InvalidKey => Ok(false),
     }
 }
 

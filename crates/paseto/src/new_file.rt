@@ -116,13 +116,19 @@ impl<'a> NewFile<'a> {
             .open(rt, self.temporary.as_str())
     }
 
-    /// Gives the file its name, unless another file has it. The temporary name goes in any case.
+    /// Gives the file its name, unless another file has it, and flushes its folder. The temporary name goes in any case.
     fn name(&self, rt: &HostRuntime) -> Result<(), Fault<'a>> {
         let named = fs::hard_link(rt, self.temporary.as_str(), self.path);
         self.remove(rt);
-        match named {
+        if let Err(source) = named {
+            return Err(Fault::about(self.path, ProgramError::of_link(&source)));
+        }
+        match flush_folder(rt, self.path) {
             Ok(()) => Ok(()),
-            Err(source) => Err(Fault::about(self.path, ProgramError::of_link(&source))),
+            Err(_) => {
+                remove(rt, self.path);
+                Err(Fault::about(self.path, ProgramError::File(FileError::Unwritten)))
+            }
         }
     }
 
@@ -149,6 +155,19 @@ fn fill(file: File, bytes: &[u8]) -> Result<(), ProgramError> {
         return Err(ProgramError::File(FileError::Unwritten));
     }
     Ok(())
+}
+
+/// Flushes the folder of a path to the disk, so that the names in it are kept. One that may not be read cannot be flushed.
+fn flush_folder(rt: &HostRuntime, path: &str) -> io::Result<()> {
+    let folder = match folder_of(path) {
+        "" => ".",
+        folder => folder,
+    };
+    match File::open(rt, folder) {
+        Ok(folder) => folder.sync_all(),
+        Err(source) if source.kind() == io::ErrorKind::PermissionDenied => Ok(()),
+        Err(source) => Err(source),
+    }
 }
 
 /// Removes a file that this program made, and says on standard error if it stays.

@@ -4,14 +4,17 @@ ghost use Rattle.std.specs.Prelude.{◌≡◌, ◌*ℤ◌, IfErr, IfOk, IsErr, I
 ghost use Rattle.jiff.specs.Words.{IsTimestampNanos};
 ghost use Rattle.jiff.specs.Types.{Timestamp as Moment};
 ghost use Rattle.paseto.specs.Answers.{second_of};
+ghost use Rattle.paseto.specs.Issue.{IsSignedBy};
+ghost use Rattle.paseto.specs.Named.{AsksUnknown};
 ghost use Rattle.paseto.specs.Times.{SaysTime};
+ghost use Rattle.paseto_tasks.specs.Error.{IsOutside};
 
 use crate::commands::check::Keys;
-use crate::commands::run::{run_check, run_issue};
+use crate::commands::run::{run_check, run_each, run_issue};
 use crate::commands::times::moment_of;
 use crate::fault::Fault;
-use crate::files::{input_file, input_of, once};
-use crate::folder::{Folder, folder_of, last_private};
+use crate::files::{input_file, input_of, is_standard, name_of, once, opened};
+use crate::folder::{Broken, Folder, folder_of, last_private};
 use crate::keys::{Held, key_name, key_of};
 use crate::named::{is_unknown, public_id};
 use crate::new_file::{free, put_secret};
@@ -94,7 +97,10 @@ fn signed_by<'w>(
     words: &Issue<'w>,
     path: &'w str,
     id: &'w str,
-) -> Result<Issue<'w>, ProgramError> {
+) -> Result<Issue<'w>, ProgramError>
+    ensures made { IfOk result (IsSignedBy words.now path.now id.now) }
+    ensures memory { IfErr result IsOutside }
+{
     Ok(Issue {
         key: KeyFile {
             file: Some(path),
@@ -162,64 +168,118 @@ fn told(read: Result<Timestamp, jiff::Error>) -> Result<Timestamp, ProgramError>
     }
 }
 
-/// Checks a token at the current moment.
+/// The keys that check tokens.
+#[derive(Drop)]
+struct Checking<'a> {
+    /// What errors name them.
+    name: &'a str,
+    keys: Keys,
+    /// The first key file of a ring that cannot be used.
+    broken: Option<Broken>,
+}
+
+/// Checks a token, or that of each line, at the current moment. If a token names no key of a ring, a key
+/// file that cannot be used is at fault; of many tokens, it is at fault before any is read.
 pub fn check<'a>(rt: &HostRuntime, words: &Check<'a>) -> Result<u8, Fault<'a>> {
-    let openers = words.openers;
-    let path = match words.keys {
+    let file = match words.keys {
         KeyWords::File(path) => Some(path),
         KeyWords::Unsaid | KeyWords::Ring(_) => None,
     };
-    once(&[path, openers.password, openers.key, input_file(words.input)])?;
+    let openers = words.openers;
+    once(&[file, openers.password, openers.key, input_file(words.input)])?;
     let longest = longest_of(words.longest)?;
-    if let KeyWords::Ring(folder) = words.keys {
-        return check_by_ring(rt, words, folder, longest);
+    let Checking { name, keys, broken } = keys_of(rt, words, file)?;
+    if words.each {
+        return match broken {
+            Some(broken) => Ok(broken.report(rt)),
+            None => check_each(rt, words, name, &keys, longest),
+        };
     }
-    let key = key_of(
-        rt,
-        &KeyFile {
-            file: path,
-            openers,
-        },
-    )?;
     let input = input_of(rt, words.input, longest)?;
-    check_token(rt, words, key_name(path), &Keys::One(key), &input)
-}
-
-/// Checks a token with the key of a folder that its footer names. If it names none of them, a key file
-/// that cannot be used is at fault.
-fn check_by_ring<'a>(
-    rt: &HostRuntime,
-    words: &Check<'a>,
-    path: &'a str,
-    longest: usize,
-) -> Result<u8, Fault<'a>> {
-    let Folder { keys, broken } = folder_of(rt, path, &Held::of(rt, &words.openers)?)?;
-    let input = input_of(rt, words.input, longest)?;
-    if let Some(broken) = broken {
-        if is_unknown(rt.alloc(), &keys, &input) {
-            return Ok(broken.report(rt));
-        }
+    if let Some(broken) = broken
+        && asks_unknown(rt.alloc(), &keys, &input)?
+    {
+        return Ok(broken.report(rt));
     }
-    check_token(rt, words, path, &Keys::Ring(keys), &input)
-}
-
-fn check_token<'a>(
-    rt: &HostRuntime,
-    words: &Check<'a>,
-    name: &str,
-    keys: &Keys,
-    input: &[u8],
-) -> Result<u8, Fault<'a>> {
-    let (mut input, now) = (input, clock(rt)?);
-    let (mut output, mut errors) = (rt.stdout(), rt.stderr());
     Ok(run_check(
         rt.alloc(),
         words,
         name,
-        keys,
-        now,
-        &mut input,
-        &mut output,
-        &mut errors,
+        &keys,
+        clock(rt)?,
+        &mut input.as_slice(),
+        &mut rt.stdout(),
+        &mut rt.stderr(),
     ))
+}
+
+/// The keys of a folder, or else the key of a file.
+fn keys_of<'a>(
+    rt: &HostRuntime,
+    words: &Check<'a>,
+    file: Option<&'a str>,
+) -> Result<Checking<'a>, Fault<'a>> {
+    let openers = words.openers;
+    if let KeyWords::Ring(path) = words.keys {
+        let Folder { keys, broken } = folder_of(rt, path, &Held::of(rt, &openers)?)?;
+        return Ok(Checking {
+            name: path,
+            keys: Keys::Ring(keys),
+            broken,
+        });
+    }
+    Ok(Checking {
+        name: key_name(file),
+        keys: Keys::One(key_of(rt, &KeyFile { file, openers })?),
+        broken: None,
+    })
+}
+
+/// Whether the footer of a token names a key that is not in the ring. One key needs no name.
+fn asks_unknown(alloc: Global, keys: &Keys, input: &[u8]) -> Result<bool, ProgramError>
+    ensures { IfOk result (AsksUnknown keys.now input.now) }
+{
+    match keys {
+        Keys::One(_) => Ok(false),
+        Keys::Ring(keys) => Ok(is_unknown(alloc, keys, input)?),
+    }
+}
+
+/// Checks the token of each line at the moment of the start, and writes a row for each.
+fn check_each<'a>(
+    rt: &HostRuntime,
+    words: &Check<'a>,
+    name: &str,
+    keys: &Keys,
+    longest: usize,
+) -> Result<u8, Fault<'a>> {
+    let (alloc, now) = (rt.alloc(), clock(rt)?);
+    let (mut output, mut errors) = (rt.stdout(), rt.stderr());
+    let status = if is_standard(words.input) {
+        run_each(
+            alloc,
+            words,
+            name,
+            keys,
+            longest,
+            now,
+            &mut rt.stdin(),
+            &mut output,
+            &mut errors,
+        )
+    } else {
+        let mut file = opened(rt, name_of(words.input))?;
+        run_each(
+            alloc,
+            words,
+            name,
+            keys,
+            longest,
+            now,
+            &mut file,
+            &mut output,
+            &mut errors,
+        )
+    };
+    Ok(status)
 }

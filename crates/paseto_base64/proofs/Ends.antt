@@ -4,7 +4,7 @@ use Rattle.base64.specs.GeneralPurpose.{encode_of}
 use Rattle.base64.specs.Rfc4648.{encode_group, encode_symbols, padding_len}
 use Rattle.paseto_base64.specs.declared.alphabet.Alphabet.{Alphabet}
 use Rattle.paseto_base64.specs.declared.alphabet.Alphabet.TheVariants.{Standard, UrlSafe}
-use Rattle.paseto_base64.specs.Alphabet.{engine, symbols}
+use Rattle.paseto_base64.specs.Alphabet.{engine, padding_of, symbols}
 
 -- no bytes have no characters
 pub no_end : (alphabet : Alphabet) → encode_of (engine alphabet) [] ≡ []
@@ -33,6 +33,18 @@ pub url_safe_two : (one two : ℕ) → encode_of (engine UrlSafe) (one ∷ two �
     ∷ slice_index (symbols UrlSafe) (two % 16 * 4) ∷ []
 unfolding encode_symbols
 url_safe_two one two = refl
+
+-- the characters of a last byte, and those of two
+pub one_end : (alphabet : Alphabet) (one : ℕ) → encode_of (engine alphabet) (one ∷ [])
+    ≡ slice_index (symbols alphabet) (one / 4) ∷ slice_index (symbols alphabet) (one % 4 * 16) ∷ padding_of alphabet (61 ∷ 61 ∷ [])
+one_end Standard one = standard_one one
+one_end UrlSafe one = url_safe_one one
+
+pub two_end : (alphabet : Alphabet) (one two : ℕ) → encode_of (engine alphabet) (one ∷ two ∷ [])
+    ≡ slice_index (symbols alphabet) (one / 4) ∷ slice_index (symbols alphabet) (one % 4 * 16 + two / 16)
+    ∷ slice_index (symbols alphabet) (two % 16 * 4) ∷ padding_of alphabet (61 ∷ [])
+two_end Standard one two = standard_two one two
+two_end UrlSafe one two = url_safe_two one two
 
 -- a list shorter than one has nothing
 pub none_left : (rest : List ℕ) → length rest < 1 → rest ≡ []

@@ -50,26 +50,19 @@ not_ended front tail all =
     let end : All IsSymbol (61 ∷ tail) = subst (All IsSymbol) (drop_at front (61 ∷ tail) (length front) refl) (All-drop IsSymbol (length front) _ all) in
     end 0 61 (omega arith) refl
 
-pub strip_two : (all front : List ℕ) (count : ℕ) → count < 3 → All IsSymbol all → all ++ replicate count 61 ≡ front ++ 61 ∷ 61 ∷ []
-    → front ≡ all
-strip_two all front zero few h e =
-    absurd (not_ended front (61 ∷ []) (subst (All IsSymbol) (sym (append-nil all) ∙ e) h))
-strip_two all front (suc zero) few h e =
-    let shorter : all ≡ front ++ 61 ∷ [] = append_cancel_right all (front ++ 61 ∷ []) (61 ∷ []) (e ∙ sym (append_assoc front (61 ∷ []) (61 ∷ []))) in
-    absurd (not_ended front [] (subst (All IsSymbol) shorter h))
-strip_two all front (suc (suc zero)) few h e = sym (append_cancel_right all front (61 ∷ 61 ∷ []) e)
-strip_two all front (suc (suc (suc count))) few h e = absurd (omega (arith, few))
+-- behind symbols, with one character of padding less
+pub one_less : (all front : List ℕ) (count : ℕ) → count < 3 → All IsSymbol all → all ++ replicate count 61 ≡ front ++ 61 ∷ []
+    → (less : ℕ) × (less < 3) × (front ≡ all ++ replicate less 61)
+one_less all front zero few h e = absurd (not_ended front [] (subst (All IsSymbol) (sym (append-nil all) ∙ e) h))
+one_less all front (suc zero) few h e = (0, omega arith, sym (append_cancel_right all front (61 ∷ []) e) ∙ sym (append-nil all))
+one_less all front (suc (suc zero)) few h e =
+    (1, omega arith, sym (append_cancel_right (all ++ 61 ∷ []) front (61 ∷ []) (append_assoc all (61 ∷ []) (61 ∷ []) ∙ e)))
+one_less all front (suc (suc (suc count))) few h e = absurd (omega (arith, few))
 
-pub strip_one : (all front : List ℕ) (count : ℕ) → count < 3 → All IsSymbol all
-    → ((other : List ℕ) → all ++ replicate count 61 ≢ other ++ 61 ∷ 61 ∷ []) → all ++ replicate count 61 ≡ front ++ 61 ∷ [] → front ≡ all
-strip_one all front zero few h other_end e = absurd (not_ended front [] (subst (All IsSymbol) (sym (append-nil all) ∙ e) h))
-strip_one all front (suc zero) few h other_end e = sym (append_cancel_right all front (61 ∷ []) e)
-strip_one all front (suc (suc zero)) few h other_end e = absurd (other_end all refl)
-strip_one all front (suc (suc (suc count))) few h other_end e = absurd (omega (arith, few))
-
-pub strip_none : (all : List ℕ) (count : ℕ) → count < 3
-    → ((other : List ℕ) → all ++ replicate count 61 ≢ other ++ 61 ∷ []) → all ++ replicate count 61 ≡ all
-strip_none all zero few other_end = append-nil all
-strip_none all (suc zero) few other_end = absurd (other_end all refl)
-strip_none all (suc (suc zero)) few other_end = absurd (other_end (all ++ 61 ∷ []) (sym (append_assoc all (61 ∷ []) (61 ∷ []))))
-strip_none all (suc (suc (suc count))) few other_end = absurd (omega (arith, few))
+-- behind symbols, with no more of it
+pub no_more : (all rest : List ℕ) (count : ℕ) → count < 3 → rest ≡ all ++ replicate count 61
+    → ((front : List ℕ) → rest ≢ front ++ 61 ∷ []) → rest ≡ all
+no_more all rest zero few e none = e ∙ append-nil all
+no_more all rest (suc zero) few e none = absurd (none all e)
+no_more all rest (suc (suc zero)) few e none = absurd (none (all ++ 61 ∷ []) (e ∙ sym (append_assoc all (61 ∷ []) (61 ∷ []))))
+no_more all rest (suc (suc (suc count))) few e none = absurd (omega (arith, few))

@@ -3,7 +3,7 @@
 ghost use Rattle.std.specs.Prelude.{◌≡◌, ◌<◌, ℕ, slice_index};
 ghost use Rattle.paseto_base64.specs.Alphabet.{symbols};
 
-use crate::less::{between, less};
+use crate::masks::{above, equal};
 
 /// Which characters stand for 62 and 63.
 #[derive(Clone, Copy, Debug, PartialEq, Eq)]
@@ -18,16 +18,17 @@ impl Alphabet {
     /// The character of a value below 64.
     pub(crate) fn symbol(self, value: u8) -> u8
         requires { value < 64 }
-        ensures { result ≡ slice_index (symbols self) value }
+        ensures value { result ≡ slice_index (symbols self) value }
+        ensures ascii { result < 128 }
     {
         let value = value as u32;
-        let (small, digit) = (1 - less(value, 26), 1 - less(value, 52));
-        let (plus, slash) = (1 - less(value, 62), 1 - less(value, 63));
         let (down, up) = match self {
-            Alphabet::Standard => (15 * plus, 3 * slash),
-            Alphabet::UrlSafe => (13 * plus, 49 * slash),
+            Alphabet::Standard => (15, 3),
+            Alphabet::UrlSafe => (13, 49),
         };
-        (65 + value + 6 * small + up).wrapping_sub(75 * digit + down) as u8
+        let raised = 65 + value + above(value, 25, 6) + above(value, 62, up);
+        let lowered = above(value, 51, 75) + above(value, 61, down);
+        (raised.wrapping_sub(lowered) % 128) as u8
     }
 
     /// The value of a character of the alphabet. Of another character it is any number.
@@ -36,16 +37,12 @@ impl Alphabet {
             → result ≡ value }
     {
         let byte = character as u32;
-        let (upper, lower) = (between(byte, 65, 26), between(byte, 97, 26));
-        let digit = between(byte, 48, 10);
-        let (plus, slash) = match self {
-            Alphabet::Standard => (between(byte, 43, 1), between(byte, 47, 1)),
-            Alphabet::UrlSafe => (between(byte, 45, 1), between(byte, 95, 1)),
+        let (plus, to_plus, slash, to_slash) = match self {
+            Alphabet::Standard => (43, 15, 47, 12),
+            Alphabet::UrlSafe => (45, 13, 95, 33),
         };
-        let letters = upper
-            .wrapping_mul(byte + 191)
-            .wrapping_add(lower.wrapping_mul(byte + 185));
-        let others = digit.wrapping_mul(byte + 4) + 62 * plus + 63 * slash;
-        (letters.wrapping_add(others) % 256) as u8
+        let raised = byte + 4 + equal(byte, plus, to_plus) + equal(byte, slash, to_slash);
+        let lowered = above(byte, 64, 69) + above(byte, 96, 6);
+        (raised.wrapping_sub(lowered) % 64) as u8
     }
 }

@@ -1,14 +1,13 @@
 //! Reading base64.
 
-ghost use Rattle.std.specs.Prelude.{◌≡◌, ◌≢◌, ◌<◌, ◌∷◌, ◌++◌, [], ℕ, List, IfOk, IfSome, None, OnOk, length};
+ghost use Rattle.std.specs.Prelude.{◌≡◌, ◌≢◌, ◌<◌, ◌∷◌, ◌++◌, [], ℕ, List, IfOk, IfSome, MatchOption, None, OnOk, length};
 ghost use Rattle.base64.specs.GeneralPurpose.{IsBytes, encode_of};
 ghost use Rattle.base64.specs.Rfc4648.{encode_group, encode_symbols};
 ghost use Rattle.paseto_base64.specs.declared.alphabet.Alphabet.TheVariants.{Standard};
 ghost use Rattle.paseto_base64.specs.Alphabet.{engine, symbols};
 
 use crate::alphabet::Alphabet;
-use crate::encoding::encoded;
-use rusty_paseto_primitives::same_bytes;
+use crate::comparing::is_encoding;
 use std::alloc::{AllocError, Global};
 
 /// The secret bytes of which a text is the base64, or `None` if it is that of none.
@@ -21,12 +20,14 @@ use std::alloc::{AllocError, Global};
 pub fn decode(alloc: Global, alphabet: Alphabet, text: &str) -> Result<Option<Vec<u8>>, AllocError>
     ensures read { IfOk result (λ read. IfSome read (λ bytes.
         text.now ≡ encode_of (engine alphabet) bytes.items)) }
+    ensures bytes { IfOk result (λ read. IfSome read (λ bytes. IsBytes bytes.items)) }
+    ensures exact { (bytes : List ℕ) → IsBytes bytes → text.now ≡ encode_of (engine alphabet) bytes
+        → IfOk result (λ read. MatchOption read ⊥ (λ found. found.items ≡ bytes)) }
     ensures none { IfOk result (λ read. read ≡ None → (bytes : List ℕ) → IsBytes bytes
         → text.now ≢ encode_of (engine alphabet) bytes) }
 {
     let bytes = unchecked(alloc, alphabet, without_padding(alphabet, text.as_bytes()))?;
-    let again = encoded(alloc, alphabet, &bytes)?;
-    if same_bytes(&again, text.as_bytes()) {
+    if is_encoding(alphabet, &bytes, text.as_bytes()) {
         Ok(Some(bytes))
     } else {
         Ok(None)
@@ -44,18 +45,16 @@ fn without_padding(alphabet: Alphabet, text: &[u8]) -> &[u8]
     }
 }
 
-/// What stands before one or two characters of padding.
+/// What stands before the padding, however much there is.
 fn before_padding(text: &[u8]) -> &[u8]
     ensures { (bytes : List ℕ) → text.now ≡ encode_of (engine Standard) bytes
         → result.now ≡ encode_symbols (symbols Standard) bytes }
 {
-    if let Some(front) = text.strip_suffix(b"==") {
-        return front;
+    let mut rest = text;
+    while let Some(front) = rest.strip_suffix(b"=") {
+        rest = front;
     }
-    if let Some(front) = text.strip_suffix(b"=") {
-        return front;
-    }
-    text
+    rest
 }
 
 /// The bytes of a text without padding, if it is the base64 of any; else what its characters happen to give.
@@ -64,8 +63,9 @@ pub(crate) fn unchecked(
     alphabet: Alphabet,
     text: &[u8],
 ) -> Result<Vec<u8>, AllocError>
-    ensures { IfOk result (λ found. (bytes : List ℕ) → IsBytes bytes
+    ensures found { IfOk result (λ found. (bytes : List ℕ) → IsBytes bytes
         → text.now ≡ encode_symbols (symbols alphabet) bytes → found.items ≡ bytes) }
+    ensures bytes { IfOk result (λ found. IsBytes found.items) }
 {
     let mut bytes = Vec::with_capacity(alloc, text.len() / 4 * 3 + 3)?;
     let mut rest = text;
@@ -79,8 +79,9 @@ pub(crate) fn unchecked(
 
 /// The three bytes of four characters.
 fn group(alphabet: Alphabet, one: u8, two: u8, three: u8, four: u8) -> [u8; 3]
-    ensures { (a b c : ℕ) → a < 256 → b < 256 → c < 256
+    ensures group { (a b c : ℕ) → a < 256 → b < 256 → c < 256
         → one ∷ two ∷ three ∷ four ∷ [] ≡ encode_group (symbols alphabet) a b c → result ≡ a ∷ b ∷ c ∷ [] }
+    ensures bytes { IsBytes result }
 {
     let (one, two) = (alphabet.value(one) as u32, alphabet.value(two) as u32);
     let (three, four) = (alphabet.value(three) as u32, alphabet.value(four) as u32);
@@ -95,8 +96,9 @@ fn group(alphabet: Alphabet, one: u8, two: u8, three: u8, four: u8) -> [u8; 3]
 /// Appends the bytes of the characters behind the groups.
 fn push_last(alphabet: Alphabet, rest: &[u8], bytes: &mut Vec<u8>) -> Result<(), AllocError>
     requires { length rest.now < 4 }
-    ensures { OnOk result ((last : List ℕ) → IsBytes last
+    ensures last { OnOk result ((last : List ℕ) → IsBytes last
         → rest.now ≡ encode_symbols (symbols alphabet) last → bytes.new.items ≡ bytes.old.items ++ last) }
+    ensures bytes { OnOk result (IsBytes bytes.old.items → IsBytes bytes.new.items) }
 {
     match rest {
         [one, two] => {

@@ -3,12 +3,13 @@
 #![tactic(auto)]
 
 mod alphabet;
+mod comparing;
 mod decoding;
 mod encoding;
-mod less;
+mod masks;
 #[cfg(test)]
 mod tests;
 
 pub use alphabet::Alphabet;
 pub use decoding::decode;
-pub use encoding::encode;
+pub use encoding::{encode, encode_string};

@@ -1,6 +1,6 @@
 //! The rows of RFC 4648, section 10, and texts that are refused.
 
-use crate::{Alphabet, decode, encode};
+use crate::{Alphabet, decode, encode, encode_string};
 use std::alloc::Global;
 use std::process::Abort;
 
@@ -31,6 +31,8 @@ const REFUSED: &[(Alphabet, &str)] = &[
     (Alphabet::UrlSafe, "Zm9vY"),
     (Alphabet::UrlSafe, "+/+/"),
     (Alphabet::UrlSafe, "Zg.."),
+    (Alphabet::UrlSafe, "Zm9é"),
+    (Alphabet::UrlSafe, "Zm9v\n"),
 ];
 
 fn check(rt: &impl Abort, alloc: Global, alphabet: Alphabet, bytes: &[u8], text: &str) {
@@ -49,6 +51,15 @@ fn rows(rt: HostRuntime) {
     'rows: for &(bytes, standard, url_safe) in ROWS {
         check(&rt, rt.alloc(), Alphabet::Standard, bytes, standard);
         check(&rt, rt.alloc(), Alphabet::UrlSafe, bytes, url_safe);
+    }
+}
+
+#[test]
+fn what_is_appended(rt: HostRuntime) {
+    let mut text = String::from_str(rt.alloc(), "k4.local.").expect(&rt, "a text");
+    encode_string(Alphabet::UrlSafe, b"fooba", &mut text).expect(&rt, "memory");
+    if text.as_str() != "k4.local.Zm9vYmE" {
+        panic!(rt; "{} is written", text.as_str());
     }
 }
 

@@ -2,8 +2,9 @@
 
 ghost use Rattle.paseto_calls.specs.Admit.{admitting};
 ghost use Rattle.paseto_calls.specs.AdmitBy.{admitting_by};
-ghost use Rattle.paseto_calls.specs.Issue.{issuing};
-ghost use Rattle.paseto_calls.specs.Request.{IsReply, IsWhole};
+ghost use Rattle.paseto_calls.specs.Issue.{IsIssued, issuing};
+ghost use Rattle.paseto_calls.specs.Request.{IsReply, IsWhole, IsWholeWhere};
+ghost use Rattle.paseto_calls.specs.Tokens.{HasToken};
 
 use paseto_calls::admit::admit;
 use paseto_calls::admit::options::AdmitOptions;
@@ -31,8 +32,10 @@ pub extern "C" fn paseto_issue_with(
     line: &mut [u8],
     told: &mut usize,
 ) -> u8
-    ensures { IsReply (issuing key.now drawn.now claims.now now footer.now assertion.now) room.old room.new
+    ensures answer { IsReply (issuing key.now drawn.now claims.now now footer.now assertion.now) room.old room.new
         written.new result line.old line.new told.new }
+    ensures whole { IsWholeWhere (IsIssued claims.now now (HasToken key.now drawn.now footer.now assertion.now))
+        (issuing key.now drawn.now claims.now now footer.now assertion.now) result }
 {
     hand_over_telling(
         alloc,
@@ -95,8 +98,9 @@ pub extern "C" fn paseto_admit_by(
     line: &mut [u8],
     told: &mut usize,
 ) -> u8
-    ensures { IsReply (admitting_by keys.now token.now expected.now now footer.now assertion.now options.now) room.old room.new
+    ensures answer { IsReply (admitting_by keys.now token.now expected.now now footer.now assertion.now options.now) room.old room.new
         written.new result line.old line.new told.new }
+    ensures whole { IsWhole (admitting_by keys.now token.now expected.now now footer.now assertion.now options.now) result }
 {
     hand_over_telling(
         alloc,

@@ -2,7 +2,7 @@
 
 ghost use Rattle.std.specs.Prelude.{◌≡◌, replicate};
 ghost use Rattle.paseto_calls.specs.KeyCalls.{generating, halving, key_reading, line_writing, naming, pem_writing, protecting, sealing, unlocking, unwrapping, wrapping};
-ghost use Rattle.paseto_calls.specs.Request.{IsKeyReply, IsReply};
+ghost use Rattle.paseto_calls.specs.Request.{IsKeyReply, IsKeyWhole, IsReply, IsWhole};
 
 use paseto_calls::answer::{hand_over_held, hand_over_telling};
 use paseto_calls::held_key::HeldKey;
@@ -30,8 +30,9 @@ pub extern "C" fn paseto_key_read(
     line: &mut [u8],
     told: &mut usize,
 ) -> u8
-    ensures { IsKeyReply (key_reading text_of_key.now) made.old made.new result line.old
+    ensures answer { IsKeyReply (key_reading text_of_key.now) made.old made.new result line.old
         line.new told.new }
+    ensures whole { IsKeyWhole (key_reading text_of_key.now) result }
 {
     hand_over_held(read_key(alloc, text_of_key), made, line, told)
 }
@@ -48,8 +49,9 @@ pub extern "C" fn paseto_key_unlock(
     line: &mut [u8],
     told: &mut usize,
 ) -> u8
-    ensures { IsKeyReply (unlocking text_of_key.now password.now) made.old made.new result line.old
+    ensures answer { IsKeyReply (unlocking text_of_key.now password.now) made.old made.new result line.old
         line.new told.new }
+    ensures whole { IsKeyWhole (unlocking text_of_key.now password.now) result }
 {
     hand_over_held(unlock(alloc, text_of_key, password), made, line, told)
 }
@@ -66,8 +68,9 @@ pub extern "C" fn paseto_key_unwrap(
     line: &mut [u8],
     told: &mut usize,
 ) -> u8
-    ensures { IsKeyReply (unwrapping text_of_key.now opener.now) made.old made.new result line.old
+    ensures answer { IsKeyReply (unwrapping text_of_key.now opener.now) made.old made.new result line.old
         line.new told.new }
+    ensures whole { IsKeyWhole (unwrapping text_of_key.now opener.now) result }
 {
     hand_over_held(unwrap(alloc, text_of_key, opener), made, line, told)
 }
@@ -83,8 +86,9 @@ pub extern "C" fn paseto_key_public(
     line: &mut [u8],
     told: &mut usize,
 ) -> u8
-    ensures { IsKeyReply (halving key.now) made.old made.new result line.old
+    ensures answer { IsKeyReply (halving key.now) made.old made.new result line.old
         line.new told.new }
+    ensures whole { IsKeyWhole (halving key.now) result }
 {
     hand_over_held(public_half(alloc, key), made, line, told)
 }
@@ -102,8 +106,9 @@ pub extern "C" fn paseto_key_generate_with(
     line: &mut [u8],
     told: &mut usize,
 ) -> u8
-    ensures { IsKeyReply (generating version kind drawn.now) made.old made.new result line.old
+    ensures answer { IsKeyReply (generating version kind drawn.now) made.old made.new result line.old
         line.new told.new }
+    ensures whole { IsKeyWhole (generating version kind drawn.now) result }
 {
     hand_over_held(generate(alloc, version, kind, drawn), made, line, told)
 }
@@ -120,8 +125,9 @@ pub extern "C" fn paseto_key_text(
     line: &mut [u8],
     told: &mut usize,
 ) -> u8
-    ensures { IsReply (line_writing key.now) room.old room.new
+    ensures answer { IsReply (line_writing key.now) room.old room.new
         written.new result line.old line.new told.new }
+    ensures whole { IsWhole (line_writing key.now) result }
 {
     hand_over_telling(alloc, text(alloc, key), room, written, line, told)
 }
@@ -138,8 +144,9 @@ pub extern "C" fn paseto_key_pem(
     line: &mut [u8],
     told: &mut usize,
 ) -> u8
-    ensures { IsReply (pem_writing key.now) room.old room.new
+    ensures answer { IsReply (pem_writing key.now) room.old room.new
         written.new result line.old line.new told.new }
+    ensures whole { IsWhole (pem_writing key.now) result }
 {
     hand_over_telling(alloc, pem(alloc, key), room, written, line, told)
 }
@@ -156,8 +163,9 @@ pub extern "C" fn paseto_key_id(
     line: &mut [u8],
     told: &mut usize,
 ) -> u8
-    ensures { IsReply (naming key.now) room.old room.new
+    ensures answer { IsReply (naming key.now) room.old room.new
         written.new result line.old line.new told.new }
+    ensures whole { IsWhole (naming key.now) result }
 {
     hand_over_telling(alloc, id(alloc, key), room, written, line, told)
 }
@@ -176,8 +184,9 @@ pub extern "C" fn paseto_key_protect_with(
     line: &mut [u8],
     told: &mut usize,
 ) -> u8
-    ensures { IsReply (protecting key.now password.now drawn.now) room.old room.new
+    ensures answer { IsReply (protecting key.now password.now drawn.now) room.old room.new
         written.new result line.old line.new told.new }
+    ensures whole { IsWhole (protecting key.now password.now drawn.now) result }
 {
     hand_over_telling(
         alloc,
@@ -203,8 +212,9 @@ pub extern "C" fn paseto_key_wrap_with(
     line: &mut [u8],
     told: &mut usize,
 ) -> u8
-    ensures { IsReply (wrapping key.now other.now drawn.now) room.old room.new
+    ensures answer { IsReply (wrapping key.now other.now drawn.now) room.old room.new
         written.new result line.old line.new told.new }
+    ensures whole { IsWhole (wrapping key.now other.now drawn.now) result }
 {
     hand_over_telling(
         alloc,
@@ -230,8 +240,9 @@ pub extern "C" fn paseto_key_seal_with(
     line: &mut [u8],
     told: &mut usize,
 ) -> u8
-    ensures { IsReply (sealing key.now other.now drawn.now) room.old room.new
+    ensures answer { IsReply (sealing key.now other.now drawn.now) room.old room.new
         written.new result line.old line.new told.new }
+    ensures whole { IsWhole (sealing key.now other.now drawn.now) result }
 {
     hand_over_telling(
         alloc,

@@ -7,136 +7,25 @@
 //! ```c
 //! uint8_t token[256];
 //! size_t written;
-//! uint8_t status = paseto_v4_local_encrypt(key, 32, nonce, 32, text, text_length, NULL, 0, NULL, 0, token, 256,
-//!                                          &written);
+//! paseto_status status = paseto_encrypt_with(&key, drawn, 32, text, text_length, NULL, 0, NULL, 0, token, 256, &written,
+//!                                            PASETO_NO_REASON);
 //! ```
 #![tactic(auto)]
 
-mod boxed;
-mod build;
 mod claims;
 mod error_text;
-mod footer;
-mod key_pair;
-mod key_pem;
-mod key_text;
 mod keys;
-mod local;
-mod parse;
-mod public;
 mod tokens;
 mod version;
 
-pub use boxed::paseto_v2_local_decrypt;
-pub use boxed::paseto_v2_local_encrypt;
-pub use build::local::paseto_v1_local_build;
-pub use build::local::paseto_v2_local_build;
-pub use build::local::paseto_v3_local_build;
-pub use build::local::paseto_v4_local_build;
-pub use build::public::paseto_v1_public_build;
-pub use build::public::paseto_v2_public_build;
-pub use build::public::paseto_v3_public_build;
-pub use build::public::paseto_v4_public_build;
-pub use claims::paseto_admit;
-pub use claims::paseto_issue_with;
+pub use claims::{paseto_admit, paseto_admit_by, paseto_issue_with};
 pub use error_text::paseto_error_text;
-pub use footer::paseto_footer;
-pub use key_pair::paseto_v2_public_keypair;
-pub use key_pair::paseto_v3_public_keypair;
-pub use key_pair::paseto_v4_public_keypair;
-pub use key_pem::kind::paseto_pem_kind;
-pub use key_pem::pairs::paseto_v1_private_key_from_pem;
-pub use key_pem::pairs::paseto_v1_private_key_to_pem;
-pub use key_pem::pairs::paseto_v1_public_key_from_pem;
-pub use key_pem::pairs::paseto_v1_public_key_to_pem;
-pub use key_pem::pairs::paseto_v2_private_key_from_pem;
-pub use key_pem::pairs::paseto_v2_private_key_to_pem;
-pub use key_pem::pairs::paseto_v2_public_key_from_pem;
-pub use key_pem::pairs::paseto_v2_public_key_to_pem;
-pub use key_pem::pairs::paseto_v3_private_key_from_pem;
-pub use key_pem::pairs::paseto_v3_private_key_to_pem;
-pub use key_pem::pairs::paseto_v3_public_key_from_pem;
-pub use key_pem::pairs::paseto_v3_public_key_to_pem;
-pub use key_pem::pairs::paseto_v4_private_key_from_pem;
-pub use key_pem::pairs::paseto_v4_private_key_to_pem;
-pub use key_pem::pairs::paseto_v4_public_key_from_pem;
-pub use key_pem::pairs::paseto_v4_public_key_to_pem;
-pub use key_text::kind::paseto_key_kind;
-pub use key_text::local::paseto_v1_local_key_from_paserk;
-pub use key_text::local::paseto_v1_local_key_id;
-pub use key_text::local::paseto_v1_local_key_to_paserk;
-pub use key_text::local::paseto_v2_local_key_from_paserk;
-pub use key_text::local::paseto_v2_local_key_id;
-pub use key_text::local::paseto_v2_local_key_to_paserk;
-pub use key_text::local::paseto_v3_local_key_from_paserk;
-pub use key_text::local::paseto_v3_local_key_id;
-pub use key_text::local::paseto_v3_local_key_to_paserk;
-pub use key_text::local::paseto_v4_local_key_from_paserk;
-pub use key_text::local::paseto_v4_local_key_id;
-pub use key_text::local::paseto_v4_local_key_to_paserk;
-pub use key_text::pairs::paseto_v2_private_key_from_paserk;
-pub use key_text::pairs::paseto_v2_private_key_id;
-pub use key_text::pairs::paseto_v2_private_key_to_paserk;
-pub use key_text::pairs::paseto_v2_public_key_from_paserk;
-pub use key_text::pairs::paseto_v2_public_key_id;
-pub use key_text::pairs::paseto_v2_public_key_to_paserk;
-pub use key_text::pairs::paseto_v3_private_key_from_paserk;
-pub use key_text::pairs::paseto_v3_private_key_id;
-pub use key_text::pairs::paseto_v3_private_key_to_paserk;
-pub use key_text::pairs::paseto_v3_public_key_from_paserk;
-pub use key_text::pairs::paseto_v3_public_key_id;
-pub use key_text::pairs::paseto_v3_public_key_to_paserk;
-pub use key_text::pairs::paseto_v4_private_key_from_paserk;
-pub use key_text::pairs::paseto_v4_private_key_id;
-pub use key_text::pairs::paseto_v4_private_key_to_paserk;
-pub use key_text::pairs::paseto_v4_public_key_from_paserk;
-pub use key_text::pairs::paseto_v4_public_key_id;
-pub use key_text::pairs::paseto_v4_public_key_to_paserk;
-pub use keys::paseto_key_generate_with;
-pub use keys::paseto_key_id;
-pub use keys::paseto_key_pem;
-pub use keys::paseto_key_protect_with;
-pub use keys::paseto_key_public;
-pub use keys::paseto_key_read;
-pub use keys::paseto_key_seal_with;
-pub use keys::paseto_key_text;
-pub use keys::paseto_key_unlock;
-pub use keys::paseto_key_unwrap;
-pub use keys::paseto_key_wipe;
-pub use keys::paseto_key_wrap_with;
-pub use local::paseto_v1_local_decrypt;
-pub use local::paseto_v1_local_encrypt;
-pub use local::paseto_v3_local_decrypt;
-pub use local::paseto_v3_local_encrypt;
-pub use local::paseto_v4_local_decrypt;
-pub use local::paseto_v4_local_encrypt;
-pub use parse::local::paseto_v1_local_parse;
-pub use parse::local::paseto_v1_local_parse_with;
-pub use parse::local::paseto_v2_local_parse;
-pub use parse::local::paseto_v2_local_parse_with;
-pub use parse::local::paseto_v3_local_parse;
-pub use parse::local::paseto_v3_local_parse_with;
-pub use parse::local::paseto_v4_local_parse;
-pub use parse::local::paseto_v4_local_parse_with;
-pub use parse::public::paseto_v1_public_parse;
-pub use parse::public::paseto_v1_public_parse_with;
-pub use parse::public::paseto_v2_public_parse;
-pub use parse::public::paseto_v2_public_parse_with;
-pub use parse::public::paseto_v3_public_parse;
-pub use parse::public::paseto_v3_public_parse_with;
-pub use parse::public::paseto_v4_public_parse;
-pub use parse::public::paseto_v4_public_parse_with;
-pub use public::paseto_v1_public_sign;
-pub use public::paseto_v1_public_verify;
-pub use public::paseto_v2_public_sign;
-pub use public::paseto_v2_public_verify;
-pub use public::paseto_v3_public_sign;
-pub use public::paseto_v3_public_verify;
-pub use public::paseto_v4_public_sign;
-pub use public::paseto_v4_public_verify;
-pub use tokens::paseto_decrypt;
-pub use tokens::paseto_encrypt_with;
-pub use tokens::paseto_sign_with;
-pub use tokens::paseto_token_footer;
-pub use tokens::paseto_verify;
+pub use keys::{
+    paseto_key_generate_with, paseto_key_id, paseto_key_pem, paseto_key_protect_with,
+    paseto_key_public, paseto_key_read, paseto_key_seal_with, paseto_key_text, paseto_key_unlock,
+    paseto_key_unwrap, paseto_key_wipe, paseto_key_wrap_with,
+};
+pub use tokens::{
+    paseto_decrypt, paseto_encrypt_with, paseto_sign_with, paseto_token_footer, paseto_verify,
+};
 pub use version::paseto_version;

@@ -1,7 +1,7 @@
 //! Tokens that hold a text, under keys that know their version and type.
 
-ghost use Rattle.paseto_calls.specs.Request.{IsReply, IsWhole};
-ghost use Rattle.paseto_calls.specs.Tokens.{footer_reading, reading, writing};
+ghost use Rattle.paseto_calls.specs.Request.{IsReply, IsWhole, IsWholeWhere};
+ghost use Rattle.paseto_calls.specs.Tokens.{SignsText, footer_reading, reading, writing};
 ghost use Rattle.paseto_calls.specs.declared.wanted.Wanted.TheVariants.{LocalKeys, PublicKeys, SecretKeys};
 
 use paseto_calls::answer::hand_over_telling;
@@ -26,8 +26,9 @@ pub extern "C" fn paseto_encrypt_with(
     line: &mut [u8],
     told: &mut usize,
 ) -> u8
-    ensures { IsReply (writing LocalKeys key.now drawn.now text.now footer.now assertion.now) room.old room.new
+    ensures answer { IsReply (writing LocalKeys key.now drawn.now text.now footer.now assertion.now) room.old room.new
         written.new result line.old line.new told.new }
+    ensures whole { IsWhole (writing LocalKeys key.now drawn.now text.now footer.now assertion.now) result }
 {
     hand_over_telling(
         alloc,
@@ -63,8 +64,10 @@ pub extern "C" fn paseto_sign_with(
     line: &mut [u8],
     told: &mut usize,
 ) -> u8
-    ensures { IsReply (writing SecretKeys key.now drawn.now text.now footer.now assertion.now) room.old room.new
+    ensures answer { IsReply (writing SecretKeys key.now drawn.now text.now footer.now assertion.now) room.old room.new
         written.new result line.old line.new told.new }
+    ensures whole { IsWholeWhere (SignsText key.now footer.now assertion.now text.now)
+        (writing SecretKeys key.now drawn.now text.now footer.now assertion.now) result }
 {
     hand_over_telling(
         alloc,

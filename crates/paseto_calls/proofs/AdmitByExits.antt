@@ -1,20 +1,17 @@
 -- What C is answered where a token is admitted by a ring.
-use Rattle.std.proofs.Common.{◌≡◌, ◌∙◌, inl, inr, ℕ, ℤ, true, false, List, map, None, Result, Ok, Err, IfOk, IfErr, IsOkAnd, MatchResult, String, Global, string_bytes, refl, ap}
+use Rattle.std.proofs.Common.{◌≡◌, inl, inr, ℕ, ℤ, true, false, List, map, None, Result, Ok, Err, IfOk, IfErr, IsOkAnd, MatchResult, String, Global, string_bytes, refl}
 use Rattle.serde_json.specs.View.{view}
 use Rattle.serde_json.specs.Written.{compact_text, has_float}
 use Rattle.serde_json.specs.declared.value.Value.{Value}
 use Rattle.rusty_paseto_parts.specs.Limit.{has_long_footer}
 use Rattle.rusty_paseto_parts.specs.Section.{sections}
 use Rattle.rusty_paseto_parts.specs.declared.error.PasetoError.TheVariants as Token
-use Rattle.rusty_paseto_parts.specs.declared.texts.footer.Footer.{Footer}
-use Rattle.rusty_paseto_parts.specs.declared.texts.implicit_assertion.ImplicitAssertion.{ImplicitAssertion}
 use Rattle.rusty_paseto_generic.specs.declared.error.GenericParserError.TheVariants.{CipherError}
 use Rattle.paseto_keys.specs.Ring.{IsAdmittedByRing, Wanted}
 use Rattle.paseto_keys.specs.declared.ring_error.RingError.{RingError}
 use Rattle.paseto_calls.specs.Admit.{IsUnprepared, demanded}
 use Rattle.paseto_calls.specs.AdmitBy.{IsAsked, admitting_by, key_in, ring_fault}
-use Rattle.paseto_calls.specs.Fault.{fault_line, refusal_of}
-use Rattle.paseto_calls.specs.Request.{AreTaken, IsFaultOf, IsMade, Refuses, Request, no_memory, not_utf8, refused, status_line, told}
+use Rattle.paseto_calls.specs.Request.{AreTaken, IsFaultOf, IsMade, Refuses, no_memory, not_utf8, refused, status_line, told}
 use Rattle.paseto_calls.specs.declared.admit.options.AdmitOptions.{AdmitOptions}
 use Rattle.paseto_calls.specs.declared.fault.Fault.{Fault}
 use Rattle.paseto_calls.specs.declared.fault.Fault.TheVariants.{Refused, Unparsed}

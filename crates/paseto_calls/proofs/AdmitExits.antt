@@ -1,5 +1,5 @@
 -- What C is refused with where a token is admitted, and that nothing else is refused where there is an answer.
-use Rattle.std.proofs.Common.{◌≡◌, ◌∙◌, ◌⊎◌, ◌||◌, inl, inr, ℕ, ℤ, List, [], ◌∷◌, Bool, true, false, not, length, Some, None, Option, Result, Ok, Err, IfOk, IfErr, MatchResult, IsOkAnd, String, Global, string_bytes, refl, sym, ap}
+use Rattle.std.proofs.Common.{◌≡◌, ◌∙◌, ◌⊎◌, ◌||◌, inl, inr, ℕ, ℤ, List, [], ◌∷◌, Bool, true, false, not, length, Some, None, Result, Ok, Err, IfOk, IfErr, MatchResult, IsOkAnd, String, Global, string_bytes, refl, sym, ap}
 use Rattle.std.proofs.lemmas.Bool.{false≢true}
 use Rattle.jiff.specs.Types.{Timestamp}
 use Rattle.jiff.specs.Words.{IsTimestampNanos}
@@ -21,12 +21,12 @@ use Rattle.paseto_keys.specs.Claims.{admitted}
 use Rattle.paseto_keys.specs.Error.{admit_error_in}
 use Rattle.paseto_keys.specs.Reading.{reading_by}
 use Rattle.paseto_keys.specs.declared.error.AdmitError.{AdmitError}
-use Rattle.paseto_calls.specs.Admit.{Demands, IsAdmitted, IsAdmittingFault, IsExpected, IsExpectingFault, IsReadyFault, IsUnprepared, admit_fault, admitting, demanded, is_long, no_array, no_claim, no_moment, no_name, no_object, not_begun, not_expected, not_named}
+use Rattle.paseto_calls.specs.Admit.{Demands, IsExpected, IsExpectingFault, IsReadyFault, IsUnprepared, admit_fault, admitting, demanded, is_long, no_array, no_claim, no_moment, no_name, no_object, not_begun, not_expected, not_named}
 use Rattle.paseto_calls.specs.Arguments.{AreUtf8}
 use Rattle.paseto_calls.specs.Claims.{IsNoObject}
 use Rattle.paseto_calls.specs.Fault.{fault_line, refusal_of}
 use Rattle.paseto_calls.specs.HeldKey.{named_by}
-use Rattle.paseto_calls.specs.Parse.{IsMemberFault, IsNameFault, IsNoArray, are_texts, expected_rules, line_of, read_names}
+use Rattle.paseto_calls.specs.Parse.{IsMemberFault, IsNameFault, IsNoArray, expected_rules, line_of, read_names}
 use Rattle.paseto_calls.specs.Refusal.{parser_refusal}
 use Rattle.paseto_calls.specs.Request.{AreTaken, IsFaultOf, IsMade, IsMadeWhole, Makes, Refuses, Request, no_memory, not_utf8, refused, status_line, told}
 use Rattle.paseto_calls.specs.declared.admit.options.AdmitOptions.{AdmitOptions}

@@ -1,6 +1,5 @@
 -- Claims that are set one after another.
-use Rattle.std.proofs.Common.{◌≡◌, ◌∙◌, ◌⊎◌, inl, inr, ℕ, ℤ, List, [], ◌∷◌, Bool, true, false, Option, Some, None, IsSome, MatchOption, MatchResult, option_map, ok_or, if◌then◌else◌, refl, sym, ap}
-use Rattle.jiff.specs.Types.{Timestamp}
+use Rattle.std.proofs.Common.{◌≡◌, ◌∙◌, ◌⊎◌, inl, inr, ℕ, List, [], ◌∷◌, Bool, true, false, Option, Some, None, MatchOption, MatchResult, option_map, ok_or, if◌then◌else◌, refl, sym, ap}
 use Rattle.serde_json.specs.Data.{Data, null, boolean, number, string, array, object, Members, no_members, member, put}
 use Rattle.serde_json.specs.Find.{as_object}
 use Rattle.serde_json.specs.Read.{read}
@@ -9,19 +8,11 @@ use Rattle.std.specs.Option.{option_map_or}
 use Rattle.rusty_paseto_claims.specs.Error.{Fault, fault_of, unexpected}
 use Rattle.rusty_paseto_claims.specs.Whole.{is_whole}
 use Rattle.rusty_paseto_generic.specs.Builders.Claims.{IsRefusal, Outcome, becomes, refused, claim_set, unwrapped}
-use Rattle.rusty_paseto.specs.Moment.{FitsDefault}
-use Rattle.rusty_paseto.specs.PasetoBuilder.{Counting, IsDuplicate, IsSame, counted}
-use Rattle.rusty_paseto_core.specs.declared.PasetoError.{PasetoError}
-use Rattle.rusty_paseto_core.specs.declared.PasetoError.TheVariants as Cipher
-use Rattle.rusty_paseto_generic.specs.Error.{IsMemory, of_cipher}
 use Rattle.rusty_paseto_generic.specs.declared.error.GenericBuilderError.{GenericBuilderError}
 use Rattle.rusty_paseto_generic.specs.declared.error.GenericBuilderError.TheVariants as Builder
-use Rattle.paseto_calls.specs.Build.{BeginsAt, HasNoMoment, IsBeginningFault, IsClaimFault, IsRepeat, not_begun, not_set}
-use Rattle.paseto_calls.specs.Public.{IsDeclinedBy}
-use Rattle.paseto_calls.specs.Refusal.{builder_refusal, fault_refusal, token_refusal}
-use Rattle.paseto_calls.specs.declared.refusal.Refusal.{Refusal}
-use Rattle.paseto_calls.specs.declared.refusal.Refusal.TheVariants.{Memory, InvalidMoment, NotObject}
-use Rattle.paseto_calls.specs.Claims.{IsNoObject, all_counted, all_set, then_set}
+use Rattle.paseto_calls.specs.Refusal.{builder_refusal, fault_refusal}
+use Rattle.paseto_calls.specs.declared.refusal.Refusal.TheVariants.{Memory, NotObject}
+use Rattle.paseto_calls.specs.Claims.{IsClaimFault, IsNoObject, all_set, then_set}
 
 -- a value that is no object is read of no object's text
 pub no_object_read : (text : List ℕ) (value : Data) → read text ≡ Some value → as_object value ≡ None → IsNoObject text
@@ -65,30 +56,6 @@ all_set-fault (member (first ∷ rest) value more) a b fault is =
     (unwrapped (first ∷ rest) (one_member (first ∷ rest) value)) a b (λ new. all_set more new) fault
     (λ new other. all_set-fault more new other fault) is
 
--- counting a key keeps what is the same
-pub counted-same : (key : List ℕ) (a b : Counting) → IsSame a b → IsSame (counted key a) (counted key b)
-counted-same key a b same = record {
-  is_counted = λ other. rw (same.is_counted other) refl;
-  repeated = rw (same.is_counted key, same.repeated) refl;
-}
-
-pub all_counted-same : (members : Members) (a b : Counting) → IsSame a b → IsSame (all_counted members a) (all_counted members b)
-all_counted-same no_members a b same = same
-all_counted-same (member key value more) a b same = all_counted-same more (counted key a) (counted key b) (counted-same key a b same)
-
-pub IsSame-trans : (a b c : Counting) → IsSame a b → IsSame b c → IsSame a c
-IsSame-trans a b c first second = record {
-  is_counted = λ key. second.is_counted key ∙ first.is_counted key;
-  repeated = second.repeated ∙ first.repeated;
-}
-
-pub IsSame-refl : (a : Counting) → IsSame a a
-IsSame-refl a = record { is_counted = λ key. refl; repeated = refl }
-
--- whether a builder begins at a moment is said of its nanoseconds
-pub fits_same : (a b : Timestamp) → a.nanosecond ≡ b.nanosecond → FitsDefault a → FitsDefault b
-fits_same a b same fits = record { year = rw (← same) fits.year; later = rw (← same) fits.later; later_year = rw (← same) fits.later_year }
-
 -- the refusal for a fault, or that memory was refused
 refusal_of_fault : (found : Option Fault) (outcome : Outcome) (claims : Members)
     → MatchOption found ⊥ (λ fault. outcome ≡ refused fault)
@@ -111,65 +78,3 @@ pub first_fault : (members : Members) (key : List ℕ) (value : Data) (more old 
     → all_set members no_members ≡ refused fault
 first_fault members key value more old now fault same is =
     all_set-fault members old no_members fault (sym same ∙ ap (λ made. then_set made (λ new. all_set more new)) is)
-
--- why no builder begins is why there are no claims
-pub begin_refuses : (claims : Members) (now : ℤ) (refusal : Refusal) → (refusal ≡ Memory) ⊎ ((refusal ≡ InvalidMoment) × HasNoMoment now)
-    → (refusal ≡ Memory) ⊎ IsBeginningFault claims now refusal
-begin_refuses claims now refusal (inl memory) = inl memory
-begin_refuses claims now refusal (inr none) = inr (rw none.0 (not_begun none.1))
-
-pub set_refuses : (claims : Members) (now : ℤ) (moment : Timestamp) (refusal : Refusal) → BeginsAt now moment
-    → (refusal ≡ Memory) ⊎ IsClaimFault claims refusal → (refusal ≡ Memory) ⊎ IsBeginningFault claims now refusal
-set_refuses claims now moment refusal begins (inl memory) = inl memory
-set_refuses claims now moment refusal begins (inr fault) = inr (not_set moment refusal begins fault)
-
--- ---- what a builder refuses to build
-
--- an error of the core is the builder's own, and has the same refusal
-cipher_refusal : (error : PasetoError) → builder_refusal (of_cipher error) ≡ token_refusal error
-cipher_refusal (Cipher.Memory source) = refl
-cipher_refusal error = refl
-
-memory_repeat : (keys : Counting) (error : GenericBuilderError) → IsMemory error → IsRepeat keys (builder_refusal error)
-memory_repeat keys (Builder.Memory source) memory = inl refl
-memory_repeat keys error memory = absurd memory
-
-duplicate_repeat : (keys : Counting) (error : GenericBuilderError) → IsSome keys.repeated → IsDuplicate keys.repeated error
-    → IsRepeat keys (builder_refusal error)
-duplicate_repeat keys (Builder.DuplicateTopLevelPayloadClaim key) set is = inr (refl, set)
-duplicate_repeat keys error set is = absurd is
-
--- why nothing is built: a key was set again, or else there is this reason
-abbrev pub IsBuildRefusal : Counting → (GenericBuilderError → Type 0) → GenericBuilderError → Type 0
-IsBuildRefusal keys Reason error =
-    (IsSome keys.repeated → IsMemory error ⊎ IsDuplicate keys.repeated error) × (keys.repeated ≡ None → IsMemory error ⊎ Reason error)
-
-some_or_none : (found : Option (List ℕ)) → IsSome found ⊎ (found ≡ None)
-some_or_none None = inr refl
-some_or_none (Some key) = inl refl
-
--- there is no token for an error of the core
-abbrev pub IsOfCipher : (PasetoError → Type 0) → GenericBuilderError → Type 0
-IsOfCipher Declines error = (refusal : PasetoError) × Declines refusal × (error ≡ of_cipher refusal)
-
--- what a builder refuses is a key that was set again, or else what its maker declines
-pub make_refuses : (keys : Counting) (Declines : PasetoError → Type 0) (error : GenericBuilderError)
-    → IsBuildRefusal keys (IsOfCipher Declines) error
-    → IsRepeat keys (builder_refusal error) ⊎ ((keys.repeated ≡ None) × IsDeclinedBy Declines (builder_refusal error))
-make_refuses keys Declines error why = elim (some_or_none keys.repeated) [
-  | inl set ↦ elim (why.0 set) [
-    | inl memory ↦ inl (memory_repeat keys error memory)
-    | inr duplicate ↦ inl (duplicate_repeat keys error set duplicate)
-  ]
-  | inr none ↦ elim (why.1 none) [
-    | inl memory ↦ inl (memory_repeat keys error memory)
-    | inr found ↦ inr (
-      none,
-      record {
-        error = found.0;
-        is_error = found.1;
-        is_refusal = ap builder_refusal found.2 ∙ cipher_refusal found.0;
-      },
-    )
-  ]
-]

@@ -6,9 +6,8 @@ use Rattle.rusty_paseto_claims.specs.Error.{Fault, fault_of}
 use Rattle.rusty_paseto_generic.specs.Builders.Claims.{IsRefusal, Outcome, becomes, extended, payload, refused as refused_for}
 use Rattle.rusty_paseto_generic.specs.declared.error.GenericBuilderError.{GenericBuilderError}
 use Rattle.rusty_paseto_generic.specs.declared.error.GenericBuilderError.TheVariants as Builder
-use Rattle.paseto_calls.specs.Build.{IsClaimFault}
 use Rattle.paseto_calls.specs.Arguments.{has_bytes}
-use Rattle.paseto_calls.specs.Claims.{IsNoObject}
+use Rattle.paseto_calls.specs.Claims.{IsClaimFault, IsNoObject}
 use Rattle.paseto_calls.specs.Issue.{AreClaims, AreMomentClaims, AreMoments, IsMembersFault, issuing, no_claim, no_member, no_moment, no_moments, no_object}
 use Rattle.paseto_calls.specs.Refusal.{builder_refusal}
 use Rattle.paseto_calls.specs.Request.{AreTaken, Makes, Refuses, no_memory, refused, status_line}

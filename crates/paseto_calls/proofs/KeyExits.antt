@@ -1,5 +1,5 @@
 -- What a call answers for a key that is read, made or written.
-use Rattle.std.proofs.Common.{◌≡◌, ◌⊎◌, inl, inr, ℕ, List, [], ◌∷◌, Option, None, Result, Ok, Err, MatchResult, String, Global, string_bytes, refl}
+use Rattle.std.proofs.Common.{◌≡◌, ◌⊎◌, inl, inr, ℕ, List, [], ◌∷◌, Option, None, Result, Ok, Err, MatchResult, refl}
 use Rattle.std.specs.Bool.{⊤}
 use Rattle.paseto_key_files.specs.Error.{IsMemory}
 use Rattle.paseto_key_files.specs.declared.error.KeyFileError.{KeyFileError}
@@ -16,10 +16,10 @@ use Rattle.paseto_keys.specs.Unlock.{UnlocksKey}
 use Rattle.paseto_keys.specs.WrittenLine.{HasNoLine}
 use Rattle.paseto_keys.specs.declared.any_key.AnyKey.{AnyKey}
 use Rattle.paseto_calls.specs.HeldKey.{Fits, IsHeld, key_fault, named_by}
-use Rattle.paseto_calls.specs.KeyCalls.{IsLineOf, IsOpenedBy, IsOpeningFault, key_writing, lined_writing, making, opening, unwrapping}
+use Rattle.paseto_calls.specs.KeyCalls.{IsLineless, IsOpenedBy, IsOpeningFault, key_writing, making, opening, unwrapping}
 use Rattle.paseto_calls.specs.Arguments.{AreUtf8}
 use Rattle.paseto_calls.specs.Refusal.{file_refusal}
-use Rattle.paseto_calls.specs.Request.{AreTaken, IsKeyMade, Makes, Refuses, Request, no_memory, refused, status_line}
+use Rattle.paseto_calls.specs.Request.{AreTaken, IsKeyMade, Makes, Refuses, no_memory, refused, status_line}
 use Rattle.paseto_calls.specs.declared.held_key.HeldKey.{HeldKey}
 use Rattle.paseto_calls.specs.declared.refusal.Refusal.{Refusal}
 use Rattle.paseto_calls.specs.declared.refusal.Refusal.TheVariants.{InvalidKey, Memory}
@@ -32,17 +32,22 @@ memory_of_file error memory = absurd memory
 
 -- ---- texts of keys
 
-module _ (fault : Option Refusal) (IsLine : List ℕ → Type 0) (HasNone : KeyFileError → Type 0) (fine : fault ≡ None) where
+module _ (fault : Option Refusal) (IsLine : List ℕ → Type 0) (HasNone : Refusal → Type 0) (fine : fault ≡ None) where
   form_taken : AreTaken (key_writing fault IsLine HasNone)
   form_taken = record { fine = fine; texts = tt }
 
   pub form_makes : (text : List ℕ) → IsLine text → Makes (key_writing fault IsLine HasNone) text
   form_makes text is = record { taken = form_taken; makes = is }
 
-  pub form_refuses : (error : KeyFileError) → IsMemory error ⊎ HasNone error
-      → Refuses (key_writing fault IsLine HasNone) (file_refusal error) (status_line (file_refusal error))
-  form_refuses error (inl memory) = rw (memory_of_file error memory) no_memory
-  form_refuses error (inr none) = refused (file_refusal error) form_taken (error, none, refl)
+  pub form_refuses : (refusal : Refusal) → (refusal ≡ Memory) ⊎ HasNone refusal → Refuses (key_writing fault IsLine HasNone) refusal (status_line refusal)
+  form_refuses refusal (inl memory) = rw memory no_memory
+  form_refuses refusal (inr none) = refused refusal form_taken none
+
+-- a key has no line
+pub lineless : (key : KeyParts) (error : KeyFileError) → IsMemory error ⊎ HasNoLine key.kind key.version key.bytes error
+    → (file_refusal error ≡ Memory) ⊎ IsLineless key (file_refusal error)
+lineless key error (inl memory) = inl (memory_of_file error memory)
+lineless key error (inr none) = inr (error, none, refl)
 
 -- ---- keys of texts
 
@@ -106,24 +111,3 @@ called Secret V2 IsDrawn Failure IsNotCalled answer is = is
 called Secret V3 IsDrawn Failure IsNotCalled answer is = is
 called Secret V4 IsDrawn Failure IsNotCalled answer is = is
 called Public version IsDrawn Failure IsNotCalled answer is = (is.0, tt)
-
--- ---- keys under another key, and sealed to one
-
-module _ (fault : Option Refusal) (other : KeyParts) (IsText : List ℕ → List ℕ → Type 0) (HasNone : List ℕ → KeyFileError → Type 0) (fine : fault ≡ None) where
-  lined_taken : AreTaken (lined_writing fault other IsText HasNone)
-  lined_taken = record { fine = fine; texts = tt }
-
-  -- the other key has no line
-  pub lineless_refuses : (error : KeyFileError) → IsMemory error ⊎ HasNoLine other.kind other.version other.bytes error
-      → Refuses (lined_writing fault other IsText HasNone) (file_refusal error) (status_line (file_refusal error))
-  lineless_refuses error (inl memory) = rw (memory_of_file error memory) no_memory
-  lineless_refuses error (inr none) = refused (file_refusal error) lined_taken (inl (error, none, refl))
-
-  module _ (line : List ℕ) (is_line : IsLineOf other line) where
-    pub lined_makes : (text : List ℕ) → IsText line text → Makes (lined_writing fault other IsText HasNone) text
-    lined_makes text is = record { taken = lined_taken; makes = (line, is_line, is) }
-
-    pub lined_refuses : (error : KeyFileError) → IsMemory error ⊎ HasNone line error
-        → Refuses (lined_writing fault other IsText HasNone) (file_refusal error) (status_line (file_refusal error))
-    lined_refuses error (inl memory) = rw (memory_of_file error memory) no_memory
-    lined_refuses error (inr none) = refused (file_refusal error) lined_taken (inr (line, is_line, error, none, refl))

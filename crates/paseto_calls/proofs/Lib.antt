@@ -1,12 +1,6 @@
-pub mod Answers
-pub mod Exits
 pub mod ClaimLemmas
-pub mod BuildLemmas
 pub mod ParseLemmas
 pub mod Told
-pub mod ParseExits
-pub mod KeyLemmas
-pub mod PemLemmas
 pub mod Replies
 pub mod Taken
 pub mod TokenExits
@@ -14,3 +8,9 @@ pub mod AdmitExits
 pub mod IssueExits
 pub mod KeyExits
 pub mod AdmitByExits
+pub mod Whole
+pub mod KeyWhole
+pub mod FormWhole
+pub mod OpenWhole
+pub mod TokenWhole
+pub mod AdmitByWhole

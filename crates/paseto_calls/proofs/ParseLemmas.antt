@@ -7,15 +7,13 @@ use Rattle.serde_json.specs.View.{items_view, view}
 use Rattle.serde_json.specs.Written.{has_float}
 use Rattle.serde_json.specs.declared.value.Value.{Value, String as Text, the_lemmas}
 use Rattle.jiff.specs.Types.{Timestamp}
-use Rattle.jiff.specs.Words.{IsTimestampNanos}
 use Rattle.rusty_paseto_claims.specs.Claim.{gives, one_member, refuses}
 use Rattle.rusty_paseto_claims.specs.Error.{Fault, expired, fault_of, unexpected, use_before_available}
 use Rattle.rusty_paseto_claims.specs.Whole.{first_odd, is_whole}
 use Rattle.rusty_paseto_core.specs.Reading.{Reading}
-use Rattle.rusty_paseto_parts.specs.declared.texts.implicit_assertion.ImplicitAssertion.{ImplicitAssertion}
 use Rattle.rusty_paseto_generic.specs.Error.Parser.{IsMemory, IsRefusal}
 use Rattle.rusty_paseto_generic.specs.Parsers.Held.{default_date, checked, rules_of, verdicts_of, with_times}
-use Rattle.rusty_paseto_generic.specs.Parsers.Parsing.{IsAnswerWithin, IsCheckFault, IsFirstFault, IsParseAnswer, IsParsed, IsTextFault, IsValueOf, assertion_in}
+use Rattle.rusty_paseto_generic.specs.Parsers.Parsing.{IsAnswerWithin, IsCheckFault, IsFirstFault, IsParseAnswer, IsParsed, IsTextFault, IsValueOf}
 use Rattle.rusty_paseto_generic.specs.Parsers.Rules.{AreSame, IsStored, Rule, Rules, edited, fault_in, no_rule, whole_answer, with_both, with_required, with_stored}
 use Rattle.rusty_paseto_generic.specs.Parsers.Verdicts.{IsFirstFailing, PassesAll}
 use Rattle.rusty_paseto_generic.specs.Parsers.Times.{expiry, not_before, time_fault, times_at}
@@ -26,10 +24,9 @@ use Rattle.rusty_paseto_generic.specs.declared.parsers.checks.Checks.{Checks}
 use Rattle.rusty_paseto_generic.specs.declared.parsers.checks.Checker.{Checker}
 use Rattle.rusty_paseto_generic.specs.declared.parsers.checks.Checker.TheVariants.{Expiry, NotBefore}
 use Rattle.rusty_paseto_generic.proofs.RuleLemmas.{edited-same}
-use Rattle.paseto_calls.specs.Parse.{IsMemberFault, IsNameFault, IsReadyFault, all_expected, all_required, are_texts, expected_rules, nanoseconds, not_begun, not_expected, not_named, timed}
+use Rattle.paseto_calls.specs.Parse.{IsMemberFault, IsNameFault, all_expected, all_required, are_texts, expected_rules, timed}
 use Rattle.paseto_calls.specs.Refusal.{fault_refusal, parser_refusal}
-use Rattle.paseto_calls.specs.declared.refusal.Refusal.{Refusal}
-use Rattle.paseto_calls.specs.declared.refusal.Refusal.TheVariants.{Memory, InvalidMoment, Unexpected}
+use Rattle.paseto_calls.specs.declared.refusal.Refusal.TheVariants.{Memory, Unexpected}
 
 -- ---- a member that is expected
 
@@ -84,32 +81,10 @@ member_refuses (Parser.ClaimError source) key value more all same is =
     inr (rw (same, odd) refl, both.1)
 member_refuses error key value more all same is = absurd is
 
--- ---- why no parser is ready
-
-pub begin_unready : (found : Members) (names : Items) (now : ℤ) (refusal : Refusal)
-    → (refusal ≡ Memory) ⊎ ((refusal ≡ InvalidMoment) × ¬ IsTimestampNanos (nanoseconds now)) → (refusal ≡ Memory) ⊎ IsReadyFault found names now refusal
-begin_unready found names now refusal (inl memory) = inl memory
-begin_unready found names now refusal (inr none) = inr (rw none.0 (not_begun none.1))
-
-pub member_unready : (found : Members) (names : Items) (now : ℤ) (refusal : Refusal) → IsTimestampNanos (nanoseconds now)
-    → (refusal ≡ Memory) ⊎ IsMemberFault found refusal → (refusal ≡ Memory) ⊎ IsReadyFault found names now refusal
-member_unready found names now refusal moment (inl memory) = inl memory
-member_unready found names now refusal moment (inr fault) = inr (rw fault.1 (not_expected moment fault.0))
-
-pub name_unready : (found : Members) (names : Items) (now : ℤ) (refusal : Refusal) → IsTimestampNanos (nanoseconds now) → first_odd found ≡ None
-    → (refusal ≡ Memory) ⊎ IsNameFault names refusal → (refusal ≡ Memory) ⊎ IsReadyFault found names now refusal
-name_unready found names now refusal moment whole (inl memory) = inl memory
-name_unready found names now refusal moment whole (inr fault) = inr (rw fault.1 (not_named moment whole fault.0))
-
 -- checking the times keeps what is the same
 pub with_times-same : {B : Type 0} (r s : Rules (Checker B)) → AreSame r s → AreSame (with_times r) (with_times s)
 with_times-same r s same = edited-same (codes "nbf") (with_both NotBefore (default_date (codes "nbf"))) _ _
     (edited-same (codes "exp") (with_both Expiry (default_date (codes "exp"))) r s same)
-
--- where nothing is bound to an assertion, none is left out
-pub all_bound : (binds : Bool) (assertion : Option ImplicitAssertion) → (binds ≡ false → assertion ≡ None) → assertion_in binds assertion ≡ assertion
-all_bound true assertion none = refl
-all_bound false assertion none = sym (none refl)
 
 -- a failed allocation is refused as one
 pub memory_refuses : (error : GenericParserError) → IsMemory error → (names : Items) → (parser_refusal error ≡ Memory) ⊎ IsNameFault names (parser_refusal error)

@@ -5,7 +5,7 @@ use Rattle.paseto_calls.specs.Answer.{IsCut}
 use Rattle.paseto_calls.specs.ErrorText.{status_text}
 use Rattle.paseto_calls.specs.Fault.{IsHandedTelling, fault_line, refusal_of}
 use Rattle.paseto_calls.specs.Refusal.{status_of}
-use Rattle.paseto_calls.specs.Request.{IsFaultOf, IsKeyHanded, IsKeyMade, IsKeyMadeWhole, IsKeyReply, IsKeyWhole, IsMade, IsMadeWhole, IsReply, IsWhole, Makes, Request, gives, gives_key, no_memory, refuses, refuses_key, status_line}
+use Rattle.paseto_calls.specs.Request.{IsFaultOf, IsKeyHanded, IsKeyMade, IsKeyMadeWhole, IsKeyReply, IsKeyWhole, IsMade, IsMadeWhole, IsMadeWholeWhere, IsReply, IsWhole, IsWholeWhere, Request, gives, gives_key, no_memory, refuses, refuses_key, status_line}
 use Rattle.paseto_calls.specs.declared.fault.Fault.{Fault}
 use Rattle.paseto_calls.specs.declared.held_key.HeldKey.{HeldKey}
 use Rattle.paseto_calls.specs.declared.refusal.Refusal.{Refusal}
@@ -32,6 +32,14 @@ module _ (request : Request (List ℕ)) (before after : List ℕ) (written statu
   whole_reply (Ok text) whole given = λ other makes. elim given.0 [ inl stands ↦ inl stands.is_status | inr long ↦ inr (inl long.is_status) ]
   whole_reply (Err fault) whole given = λ other makes. elim given.2 [
     | inl line ↦ inr (inr (line.0 ∙ ap status_of (whole other makes)))
+    | inr memory ↦ inr (inr memory.0)
+  ]
+
+  pub whole_reply_where : (Holds : Type 0) (made : Result (String Global) Fault) → IsMadeWholeWhere Holds request made
+      → IsHandedTelling made before after written status line_before line_after length_told → IsWholeWhere Holds request status
+  whole_reply_where Holds (Ok text) whole given = λ taken holds. elim given.0 [ inl stands ↦ inl stands.is_status | inr long ↦ inr (inl long.is_status) ]
+  whole_reply_where Holds (Err fault) whole given = λ taken holds. elim given.2 [
+    | inl line ↦ inr (inr (line.0 ∙ ap status_of (whole taken holds)))
     | inr memory ↦ inr (inr memory.0)
   ]
 

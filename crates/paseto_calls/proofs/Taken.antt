@@ -1,13 +1,12 @@
 -- Why a call makes nothing of the keys, the random bytes and the texts that it is given.
-use Rattle.std.proofs.Common.{◌≡◌, ◌∙◌, ◌⊎◌, ◌&&◌, not, ℕ, List, inl, inr, Bool, true, false, if◌then◌else◌, Option, Some, None, is_some, Result, Ok, Err, String, Global, refl, sym, ap}
+use Rattle.std.proofs.Common.{◌≡◌, ◌∙◌, ◌⊎◌, ◌&&◌, not, ℕ, List, inl, inr, Bool, true, false, if◌then◌else◌, Option, Some, None, Result, Err, String, Global, refl, sym, ap}
 use Rattle.std.proofs.lemmas.Bool.{false≢true}
 use Rattle.rusty_paseto_paserk.specs.declared.header.PaserkType.{PaserkType}
 use Rattle.rusty_paseto_paserk.specs.declared.header.PaserkType.TheVariants.{Local, Secret, Public}
 use Rattle.paseto_keys.specs.AnyKey.{reads_tokens, takes_assertion, writes_tokens}
 use Rattle.paseto_calls.specs.Arguments.{AreUtf8, has_bytes}
-use Rattle.paseto_calls.specs.Fault.{refusal_of}
-use Rattle.paseto_calls.specs.HeldKey.{assertion_fault, bound_fault, first_of, is_type, is_version, is_wanted, key_fault, named_by, names_key, type_by, version_by}
-use Rattle.paseto_calls.specs.Request.{AreTaken, IsKeyMade, IsMade, IsMadeWhole, Makes, Refuses, Request, misused, no_memory, not_utf8, status_line}
+use Rattle.paseto_calls.specs.HeldKey.{bound_fault, first_of, is_type, is_version, is_wanted, type_by, version_by}
+use Rattle.paseto_calls.specs.Request.{IsMade, IsMadeWhole, Makes, Refuses, Request, misused, no_memory, not_utf8, status_line}
 use Rattle.paseto_calls.specs.declared.fault.Fault.{Fault}
 use Rattle.paseto_calls.specs.declared.fault.Fault.TheVariants.{Refused}
 use Rattle.paseto_calls.specs.declared.held_key.HeldKey.{HeldKey}

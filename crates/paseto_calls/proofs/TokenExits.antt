@@ -1,5 +1,5 @@
 -- What a call answers for a token that a key reads or writes.
-use Rattle.std.proofs.Common.{◌≡◌, ◌∙◌, ◌⊎◌, inl, inr, ℕ, Bool, true, false, List, length, Result, Ok, Err, IfErr, Option, is_some, String, Global, string_bytes, refl, sym, ap}
+use Rattle.std.proofs.Common.{◌≡◌, ◌∙◌, ◌⊎◌, inl, inr, ℕ, Bool, List, length, Result, Ok, Err, String, Global, string_bytes, refl, ap}
 use Rattle.rusty_paseto_parts.specs.Error.{IsMemory}
 use Rattle.rusty_paseto_parts.specs.declared.error.PasetoError.{PasetoError}
 use Rattle.rusty_paseto_parts.specs.declared.error.PasetoError.TheVariants as Token
@@ -7,7 +7,7 @@ use Rattle.rusty_paseto_parts.specs.Section.{sections}
 use Rattle.rusty_paseto_parts.specs.UntrustedToken.{IsTokenFooterFault}
 use Rattle.rusty_paseto_core.specs.Reading.{IsAnswer, IsRead, Reading}
 use Rattle.paseto_keys.specs.Error.{key_error_of}
-use Rattle.paseto_keys.specs.Tokens.{IsLength, Reads, Writes, lifted}
+use Rattle.paseto_keys.specs.Tokens.{Reads, Writes, lifted}
 use Rattle.paseto_keys.specs.Writing.{IsWriteAnswer, Writing}
 use Rattle.paseto_keys.specs.declared.error.KeyError.{KeyError}
 use Rattle.paseto_calls.specs.Refusal.{key_refusal, token_refusal}

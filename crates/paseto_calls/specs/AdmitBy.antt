@@ -1,5 +1,5 @@
 -- Claims of tokens that C admits by a ring of keys: the token's footer names the key.
-use Rattle.std.specs.Prelude.{◌≡◌, ◌⊎◌, ℕ, ℤ, true, false, List, [], ◌∷◌, map, Option, Some, None, is_some, Ok, Err, String}
+use Rattle.std.specs.Prelude.{◌≡◌, ◌⊎◌, ℕ, ℤ, true, false, List, [], ◌∷◌, map, Option, None, is_some, Ok, Err, String}
 use Rattle.std.specs.Global.{Global}
 use Rattle.jiff.specs.Types.{Timestamp}
 use Rattle.serde_json.specs.Data.{Items, Members}
@@ -9,17 +9,14 @@ use Rattle.serde_json.specs.declared.value.Value.{Value}
 use Rattle.rusty_paseto_parts.specs.Limit.{has_long_footer}
 use Rattle.rusty_paseto_parts.specs.Section.{sections}
 use Rattle.rusty_paseto_parts.specs.declared.error.PasetoError.TheVariants as Token
-use Rattle.rusty_paseto_parts.specs.declared.texts.footer.Footer.{Footer}
-use Rattle.rusty_paseto_parts.specs.declared.texts.implicit_assertion.ImplicitAssertion.{ImplicitAssertion}
 use Rattle.rusty_paseto_core.specs.Context.{assertion_of, footer_of}
-use Rattle.rusty_paseto_generic.specs.Parsers.Rules.{AreSame, Rules}
-use Rattle.rusty_paseto_generic.specs.Validator.{Verdict}
+use Rattle.rusty_paseto_generic.specs.Parsers.Rules.{AreSame}
 use Rattle.rusty_paseto_generic.specs.declared.error.GenericParserError.TheVariants.{CipherError}
 use Rattle.rusty_paseto_paserk.specs.declared.header.PaserkType.{PaserkType}
 use Rattle.rusty_paseto_paserk.specs.declared.header.PaserkType.TheVariants.{Local, Secret, Public}
 use Rattle.rusty_paseto_paserk.specs.declared.header.PaserkVersion.{PaserkVersion}
 use Rattle.rusty_paseto_paserk.specs.declared.header.PaserkVersion.TheVariants.{V1, V2, V3, V4}
-use Rattle.paseto_keys.specs.Ring.{IsAdmittedByRing, Wanted, wanted_of}
+use Rattle.paseto_keys.specs.Ring.{IsAdmittedByRing, Wanted}
 use Rattle.paseto_keys.specs.declared.any_key.AnyKey.{AnyKey}
 use Rattle.paseto_keys.specs.declared.any_key.AnyKey.TheVariants.{V1Local, V2Local, V3Local, V4Local, V1Secret, V2Secret, V3Secret, V4Secret, V1Public, V2Public, V3Public, V4Public}
 use Rattle.paseto_keys.specs.declared.ring_error.RingError.{RingError}

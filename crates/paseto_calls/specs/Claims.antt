@@ -1,10 +1,12 @@
 -- Claims that C gives as the members of a JSON object.
-use Rattle.std.specs.Prelude.{◌≢◌, ℕ, List, Some}
+use Rattle.std.specs.Prelude.{◌≡◌, ◌≢◌, ℕ, List, Some}
 use Rattle.serde_json.specs.Data.{Members, no_members, member, object}
 use Rattle.serde_json.specs.Read.{read}
 use Rattle.rusty_paseto_claims.specs.Claim.{gives, one_member}
+use Rattle.rusty_paseto_claims.specs.Error.{Fault}
 use Rattle.rusty_paseto_generic.specs.Builders.Claims.{Outcome, becomes, refused, claim_set}
-use Rattle.rusty_paseto.specs.PasetoBuilder.{Counting, counted}
+use Rattle.paseto_calls.specs.Refusal.{fault_refusal}
+use Rattle.paseto_calls.specs.declared.refusal.Refusal.{Refusal}
 
 -- the text is no JSON object
 abbrev pub IsNoObject : List ℕ → Type 0
@@ -21,7 +23,8 @@ all_set no_members old = becomes old
 all_set (member key value more) old =
     then_set (claim_set key (gives (one_member key value)) old) (λ new. all_set more new)
 
--- the keys of the members are counted, in their order
-abbrev pub all_counted : Members → Counting → Counting
-all_counted no_members old = old
-all_counted (member key value more) old = all_counted more (counted key old)
+-- one of the members is no claim, and this is the refusal for its fault
+pub record IsClaimFault (members : Members) (refusal : Refusal) : Type 0 where
+  pub fault : Fault
+  pub is_fault : all_set members no_members ≡ refused fault
+  pub is_refusal : refusal ≡ fault_refusal fault

@@ -4,6 +4,8 @@ use Rattle.rusty_paseto_parts.specs.Error.{error_text}
 use Rattle.rusty_paseto_parts.specs.declared.error.PasetoError.{PasetoError}
 use Rattle.rusty_paseto_parts.specs.declared.error.PasetoError.TheVariants.{Cryption, InvalidKey, Signature, KeyRejected, InvalidSignature, IncorrectSize, WrongHeader, FooterInvalid, ChaChaCipherError, FromUtf8Error, RsaCipher, TooLong}
 use Rattle.paseto_pem.specs.Error.{error_text as pem_text}
+use Rattle.paseto_pem.specs.declared.found.Algorithm.TheVariants.{Unknown}
+use Rattle.paseto_pem.specs.declared.found.Curve.TheVariants.{Unknown as UnknownCurve}
 use Rattle.paseto_pem.specs.declared.error.PemError.TheVariants.{NotPem, Encrypted, OtherAlgorithm, OtherCurve, OtherSize}
 use Rattle.paseto_calls.specs.Refusal.{status_of, token_refusal}
 use Rattle.paseto_calls.specs.declared.refusal.Refusal.TheVariants.{Other}
@@ -60,9 +62,9 @@ later_text status =
     if status == 34 then pem_text NotPem else
     if status == 35 then pem_text Encrypted else
     if status == 36 then codes "The text is another thing than such a key" else
-    if status == 37 then pem_text OtherAlgorithm else
-    if status == 38 then pem_text OtherCurve else
-    if status == 39 then pem_text OtherSize else
+    if status == 37 then pem_text (OtherAlgorithm Unknown) else
+    if status == 38 then pem_text (OtherCurve UnknownCurve) else
+    if status == 39 then pem_text (OtherSize 0) else
     codes "An unknown error occurred"
 
 -- of a status of keys, options and footers

@@ -1,9 +1,7 @@
 -- Why C gets no text of a token, and what tells it.
-use Rattle.std.specs.Prelude.{◌≡◌, ◌⊎◌, ℕ, List, Result, MatchResult, IfErr, String, string_bytes}
+use Rattle.std.specs.Prelude.{◌≡◌, ◌⊎◌, ℕ, List, Result, MatchResult, String, string_bytes}
 use Rattle.std.specs.Global.{Global}
-use Rattle.rusty_paseto_generic.specs.Error.Parser.{IsMemory}
 use Rattle.paseto_calls.specs.Answer.{IsCut, IsGiven}
-use Rattle.paseto_calls.specs.Arguments.{AreTaken, Makes, Refuses, Telling}
 use Rattle.paseto_calls.specs.ErrorText.{status_text}
 use Rattle.paseto_calls.specs.Parse.{line_of}
 use Rattle.paseto_calls.specs.Refusal.{parser_refusal, status_of}
@@ -22,20 +20,6 @@ refusal_of (Unparsed error) = parser_refusal error
 abbrev pub fault_line : Fault → List ℕ
 fault_line (Refused refusal) = status_text (status_of refusal)
 fault_line (Unparsed error) = line_of error
-
--- why the call makes no text
-abbrev pub IsFaultOf : Telling → Fault → Type 0
-IsFaultOf telling (Refused refusal) = Refuses telling.call refusal
-IsFaultOf telling (Unparsed error) =
-    IsMemory error ⊎ (AreTaken telling.call × telling.Tells (parser_refusal error) (line_of error))
-
--- the result is what the call makes, or why it makes nothing
-abbrev pub IsMadeTelling : Telling → Result (String Global) Fault → Type 0
-IsMadeTelling telling result = MatchResult result (λ text. Makes telling.call (string_bytes text)) (IsFaultOf telling)
-
--- where the call makes a text, nothing is refused but memory
-abbrev pub IsMadeWholeTelling : Telling → Result (String Global) Fault → Type 0
-IsMadeWholeTelling telling result = (text : List ℕ) → Makes telling.call text → IfErr result (λ fault. refusal_of fault ≡ Memory)
 
 -- the status and the line are those of the fault, or say that memory was refused
 abbrev pub IsTold : Fault → ℕ → List ℕ → List ℕ → ℕ → Type 0

@@ -1,10 +1,9 @@
 -- The footer of a token, as C reads it.
-use Rattle.std.specs.Prelude.{◌≡◌, ⊤, ℕ, List, [], ◌∷◌, Option, unwrap_or}
+use Rattle.std.specs.Prelude.{◌≡◌, ℕ, List, [], Option, unwrap_or}
 use Rattle.std.specs.List.{slice_get}
 use Rattle.rusty_paseto_parts.specs.Section.{HasCount, sections}
 use Rattle.rusty_paseto_parts.specs.UntrustedToken.{HasFooterText, IsTokenFooterFault}
 use Rattle.rusty_paseto_parts.specs.declared.error.PasetoError.{PasetoError}
-use Rattle.paseto_calls.specs.Arguments.{Call}
 use Rattle.paseto_calls.specs.Refusal.{token_refusal}
 use Rattle.paseto_calls.specs.declared.refusal.Refusal.{Refusal}
 
@@ -20,13 +19,3 @@ pub record IsFooterFault (token : List ℕ) (refusal : Refusal) : Type 0 where
   pub error : PasetoError
   pub is_fault : IsTokenFooterFault (sections token) error
   pub is_refusal : refusal ≡ token_refusal error
-
--- the footer of a token is read
-abbrev pub footer_reading : List ℕ → Call
-footer_reading token = record {
-  HasKey = ⊤;
-  HasNonce = ⊤;
-  texts = token ∷ [];
-  Makes = HasFooter token;
-  Refuses = IsFooterFault token;
-}

@@ -1,12 +1,11 @@
 -- Keys as C holds them: the numbers of a version and a type, a length, and bytes in room for the longest key.
-use Rattle.std.specs.Prelude.{◌≡◌, ◌≤◌, ◌<◌, ◌==◌, ◌&&◌, ◌++◌, not, ℕ, Bool, true, false, List, length, take, drop, replicate, nat_lt, Option, Some, None, if◌then◌else◌}
+use Rattle.std.specs.Prelude.{◌≡◌, ◌≤◌, ◌==◌, ◌&&◌, ◌++◌, not, ℕ, Bool, true, false, List, length, take, drop, replicate, nat_lt, Option, Some, None, if◌then◌else◌}
 use Rattle.rusty_paseto_paserk.specs.declared.header.PaserkType.{PaserkType}
 use Rattle.rusty_paseto_paserk.specs.declared.header.PaserkType.TheVariants.{Local, Secret, Public}
 use Rattle.rusty_paseto_paserk.specs.declared.header.PaserkVersion.{PaserkVersion}
 use Rattle.rusty_paseto_paserk.specs.declared.header.PaserkVersion.TheVariants.{V1, V2, V3, V4}
 use Rattle.paseto_keys.specs.AnyKey.{KeyParts, is_key, key_parts, takes_assertion}
 use Rattle.paseto_calls.specs.Arguments.{has_bytes}
-use Rattle.paseto_calls.specs.KeyText.{type_number, version_number}
 use Rattle.paseto_calls.specs.declared.held_key.HeldKey.{HeldKey}
 use Rattle.paseto_calls.specs.declared.refusal.Refusal.{Refusal}
 use Rattle.paseto_calls.specs.declared.refusal.Refusal.TheVariants.{InvalidKey, InvalidNonce, NoAssertion, OtherType}
@@ -43,6 +42,18 @@ names_key key =
     && (is_type key.kind && (nat_lt key.length 1245 && is_key (type_by key.kind) (version_by key.version) (bytes_in key)))
 
 -- ---- which key C gets
+
+-- the numbers of a version and of a type
+abbrev pub version_number : PaserkVersion → ℕ
+version_number V1 = 1
+version_number V2 = 2
+version_number V3 = 3
+version_number V4 = 4
+
+abbrev pub type_number : PaserkType → ℕ
+type_number Local = 1
+type_number Secret = 2
+type_number Public = 3
 
 -- what is held of a key: zeros stand behind its bytes
 pub record IsHeld (key : KeyParts) (held : HeldKey) : Type 0 where

@@ -1,14 +1,12 @@
 -- Tokens that C issues of claims.
-use Rattle.std.specs.Prelude.{◌≡◌, ◌≢◌, ◌⊎◌, ℕ, ℤ, pos, ◌+ℤ◌, ◌-ℤ◌, List, [], ◌∷◌, Some, codes}
+use Rattle.std.specs.Prelude.{◌≡◌, ◌⊎◌, ℕ, ℤ, pos, ◌+ℤ◌, ◌-ℤ◌, List, [], ◌∷◌, Some, codes}
 use Rattle.jiff.specs.Words.{IsTimestampNanos}
 use Rattle.serde_json.specs.Data.{Members, no_members, member, object, string}
 use Rattle.serde_json.specs.Read.{read}
 use Rattle.rusty_paseto_claims.specs.Moment.{IsMomentText}
 use Rattle.rusty_paseto_generic.specs.Builders.Claims.{becomes, payload}
 use Rattle.paseto_calls.specs.Arguments.{has_bytes}
-use Rattle.paseto_calls.specs.Build.{IsClaimFault}
-use Rattle.paseto_calls.specs.Claims.{IsNoObject, all_set}
-use Rattle.paseto_calls.specs.HeldKey.{bound_fault}
+use Rattle.paseto_calls.specs.Claims.{IsClaimFault, IsNoObject, all_set}
 use Rattle.paseto_calls.specs.Request.{Request, tells_nothing}
 use Rattle.paseto_calls.specs.Tokens.{IsDeclined, writes, writing_fault}
 use Rattle.paseto_calls.specs.declared.held_key.HeldKey.{HeldKey}

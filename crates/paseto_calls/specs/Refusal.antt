@@ -137,11 +137,14 @@ paserk_refusal (Paserk.Memory _) = Memory
 -- the refusal for an error of a key's text in PEM
 abbrev pub pem_refusal : PemError → Refusal
 pem_refusal Pem.NotPem = NotPem
+pem_refusal Pem.TwoKeys = NotPem
 pem_refusal Pem.Encrypted = EncryptedKey
 pem_refusal (Pem.OtherLabel _) = OtherLabel
-pem_refusal Pem.OtherAlgorithm = OtherAlgorithm
-pem_refusal Pem.OtherCurve = OtherCurve
-pem_refusal Pem.OtherSize = OtherSize
+pem_refusal (Pem.OtherAlgorithm _) = OtherAlgorithm
+pem_refusal (Pem.OtherCurve _) = OtherCurve
+pem_refusal (Pem.OtherSize _) = OtherSize
+pem_refusal Pem.InvalidDer = InvalidKey
+pem_refusal Pem.OtherHalf = InvalidKey
 pem_refusal Pem.InvalidKey = InvalidKey
 pem_refusal (Pem.Memory _) = Memory
 

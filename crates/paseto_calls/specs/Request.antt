@@ -1,17 +1,17 @@
 -- What a call for C asks of its arguments, what it makes of them, and what C sees of it, with a line that tells a refusal.
-use Rattle.std.specs.Prelude.{◌≡◌, ◌⊎◌, ⊤, ℕ, List, Option, Some, None, Result, MatchResult, IfErr, String, string_bytes}
+use Rattle.std.specs.Prelude.{◌≡◌, ◌⊎◌, ℕ, List, Option, Some, None, Result, MatchResult, IfErr, String, string_bytes}
 use Rattle.std.specs.Global.{Global}
 use Rattle.paseto_keys.specs.AnyKey.{KeyParts}
 use Rattle.paseto_calls.specs.Answer.{IsCut, IsGiven, IsNotRefused, IsRefused}
 use Rattle.paseto_calls.specs.Arguments.{AreUtf8}
 use Rattle.paseto_calls.specs.ErrorText.{status_text}
 use Rattle.paseto_calls.specs.Fault.{fault_line, refusal_of}
-use Rattle.paseto_calls.specs.HeldKey.{Fits, IsHeld}
+use Rattle.paseto_calls.specs.HeldKey.{IsHeld}
 use Rattle.paseto_calls.specs.Refusal.{status_of}
 use Rattle.paseto_calls.specs.declared.fault.Fault.{Fault}
 use Rattle.paseto_calls.specs.declared.held_key.HeldKey.{HeldKey}
 use Rattle.paseto_calls.specs.declared.refusal.Refusal.{Refusal}
-use Rattle.paseto_calls.specs.declared.refusal.Refusal.TheVariants.{InvalidKey, Memory, NotUtf8}
+use Rattle.paseto_calls.specs.declared.refusal.Refusal.TheVariants.{Memory, NotUtf8}
 
 -- a call: why its keys, its random bytes or its options are refused, where they are; what is to be text; and of arguments that
 -- are so, what it makes, by which refusals it makes nothing, and by which with a line of their own
@@ -61,6 +61,11 @@ pub data IsReply (request : Request (List ℕ)) (before after : List ℕ) (writt
 abbrev pub IsWhole : Request (List ℕ) → ℕ → Type 0
 IsWhole request status = (text : List ℕ) → Makes request text → IsNotRefused status
 
+-- where the arguments are what the call asks for, and this holds of them, C gets a text, or learns that the room is too short or
+-- memory was refused
+abbrev pub IsWholeWhere : Type 0 → Request (List ℕ) → ℕ → Type 0
+IsWholeWhere Holds request status = AreTaken request → Holds → IsNotRefused status
+
 -- what C sees of a call that makes a key: the key is written, and no line; or why there is none, and the line
 pub data IsKeyReply (request : Request KeyParts) (before after : HeldKey) (status : ℕ) (line_before line_after : List ℕ) (length_told : ℕ) : Type 0 where
   gives_key : (key : KeyParts) → Makes request key → IsHeld key after → status ≡ 0 → line_after ≡ line_before → length_told ≡ 0
@@ -86,6 +91,9 @@ IsMade request result = MatchResult result (λ text. Makes request (string_bytes
 -- where the call makes a text, nothing is refused but memory
 abbrev pub IsMadeWhole : Request (List ℕ) → Result (String Global) Fault → Type 0
 IsMadeWhole request result = (text : List ℕ) → Makes request text → IfErr result (λ fault. refusal_of fault ≡ Memory)
+
+abbrev pub IsMadeWholeWhere : Type 0 → Request (List ℕ) → Result (String Global) Fault → Type 0
+IsMadeWholeWhere Holds request result = AreTaken request → Holds → IfErr result (λ fault. refusal_of fault ≡ Memory)
 
 -- the result is the key that the call makes, or why it makes none, by a status
 abbrev pub IsKeyMade : Request KeyParts → Result HeldKey Refusal → Type 0

@@ -16,10 +16,9 @@ ghost use Rattle.rusty_paseto_parts.specs.declared.error.PasetoError.TheVariants
 
 use crate::admit::options::{AdmitOptions, limit_of};
 use crate::arguments::{Texts, str_of};
-use crate::claims::{MemberClaim, object_of};
+use crate::claims::{MemberClaim, names_of, object_of};
 use crate::fault::Fault;
 use crate::held_key::HeldKey;
-use crate::parse::names_of;
 use crate::refusal::Refusal;
 use crate::wanted::Wanted;
 use jiff::Timestamp;

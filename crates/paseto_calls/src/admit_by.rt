@@ -4,7 +4,7 @@ ghost use Rattle.std.specs.Prelude.{◌≡◌, ◌⊎◌, IfErr, IfOk, IsOkAnd, 
 ghost use Rattle.serde_json.specs.View.{view};
 ghost use Rattle.serde_json.specs.Written.{compact_text, has_float};
 ghost use Rattle.paseto_calls.specs.AdmitBy.{admitting_by, key_in, keys_fault, ring_fault};
-ghost use Rattle.paseto_calls.specs.Request.{IsMade};
+ghost use Rattle.paseto_calls.specs.Request.{IsMade, IsMadeWhole};
 ghost use Rattle.paseto_calls.specs.declared.fault.Fault.TheVariants.{Refused};
 
 use crate::admit::options::{AdmitOptions, limit_of};
@@ -29,8 +29,10 @@ pub fn admit_by(
     assertion: &[u8],
     options: &AdmitOptions<'_>,
 ) -> Result<String, Fault>
-    ensures { IsMade (admitting_by keys.now token.now expected.now now footer.now assertion.now
+    ensures made { IsMade (admitting_by keys.now token.now expected.now now footer.now assertion.now
         options.now) result }
+    ensures whole { IsMadeWhole (admitting_by keys.now token.now expected.now now footer.now
+        assertion.now options.now) result }
 {
     let ring = ring_of(alloc, keys)?;
     options.check()?;

@@ -1,10 +1,9 @@
 //! How results are returned to C.
 
 ghost use Rattle.std.specs.Prelude.{◌≡◌, ◌≤◌, ◌++◌, drop, length};
-ghost use Rattle.paseto_calls.specs.Answer.{IsCut, IsGiven, IsHanded};
+ghost use Rattle.paseto_calls.specs.Answer.{IsCut, IsGiven};
 ghost use Rattle.paseto_calls.specs.ErrorText.{status_text};
 ghost use Rattle.paseto_calls.specs.Fault.{IsHandedTelling, IsTold};
-ghost use Rattle.paseto_calls.specs.KeyText.{IsKeyHanded as IsKeyBytesHanded};
 ghost use Rattle.paseto_calls.specs.Refusal.{status_of};
 ghost use Rattle.paseto_calls.specs.Request.{IsKeyHanded};
 
@@ -20,33 +19,8 @@ pub const OK: u8 = 0;
 /// The status of a buffer that is too short for a text.
 pub const ROOM: u8 = 1;
 
-/// Writes the result into the buffer, and its length into `written`, and returns the status.
-pub fn hand_over(made: Result<String, Refusal>, room: &mut [u8], written: &mut usize) -> u8
-    ensures { IsHanded made room.old room.new written.new result }
-{
-    match made {
-        Ok(text) => give(text.as_bytes(), room, written),
-        Err(refusal) => {
-            *written = 0;
-            refusal.status()
-        }
-    }
-}
-
-/// Returns a key, as `hand_over` does a text.
-pub fn hand_over_key(made: Result<Vec<u8>, Refusal>, room: &mut [u8], written: &mut usize) -> u8
-    ensures { IsKeyBytesHanded made room.old room.new written.new result }
-{
-    match made {
-        Ok(key) => give(&key, room, written),
-        Err(refusal) => {
-            *written = 0;
-            refusal.status()
-        }
-    }
-}
-
-/// Returns the result, as `hand_over` does, and writes an error message into a buffer of its own.
+/// Writes the result into the buffer, and its length into `written`, and returns the status; an error message goes into a
+/// buffer of its own.
 pub fn hand_over_telling(
     alloc: Global,
     made: Result<String, Fault>,

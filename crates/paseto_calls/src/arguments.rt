@@ -1,11 +1,11 @@
 //! Converting C's arguments for the library.
 
-ghost use Rattle.std.specs.Prelude.{◌≡◌, [], ◌∷◌, IsUtf8, MatchResult, is_some, length};
+ghost use Rattle.std.specs.Prelude.{◌≡◌, [], ◌∷◌, IsUtf8, MatchResult, is_some};
 ghost use Rattle.rusty_paseto_core.specs.Context.{assertion_of, footer_of};
 ghost use Rattle.paseto_calls.specs.Arguments.{AreUtf8, has_bytes};
 
 use crate::refusal::Refusal;
-use rusty_paseto_core::{Footer, ImplicitAssertion, Key};
+use rusty_paseto_core::{Footer, ImplicitAssertion};
 use std::str;
 
 /// The arguments that must be UTF-8: a text or a token, a footer, and an implicit assertion. An empty footer or
@@ -49,26 +49,4 @@ pub fn str_of(bytes: &[u8]) -> Result<&str, Refusal>
         (λ refusal. (refusal ≡ Refusal.NotUtf8) × ¬ IsUtf8 bytes.now) }
 {
     str::from_utf8(bytes).map_err(|_| Refusal::NotUtf8)
-}
-
-/// A key of these bytes, or `InvalidKey`.
-pub(crate) fn key_of<const N: usize>(bytes: &[u8]) -> Result<Key<N>, Refusal>
-    ensures { MatchResult result (λ key. (key ≡ bytes.now) × (length bytes.now ≡ N))
-        (λ refusal. (refusal ≡ Refusal.InvalidKey) × ¬ (length bytes.now ≡ N)) }
-{
-    if bytes.len() != N {
-        return Err(Refusal::InvalidKey);
-    }
-    Ok(Key::from_slice(bytes))
-}
-
-/// A nonce or a seed of these bytes, or `InvalidNonce`.
-pub fn nonce_of<const N: usize>(bytes: &[u8]) -> Result<Key<N>, Refusal>
-    ensures { MatchResult result (λ nonce. (nonce ≡ bytes.now) × (length bytes.now ≡ N))
-        (λ refusal. (refusal ≡ Refusal.InvalidNonce) × ¬ (length bytes.now ≡ N)) }
-{
-    if bytes.len() != N {
-        return Err(Refusal::InvalidNonce);
-    }
-    Ok(Key::from_slice(bytes))
 }

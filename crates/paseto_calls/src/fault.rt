@@ -1,6 +1,6 @@
 //! Why a token is not parsed, and the error message for it.
 
-ghost use Rattle.std.specs.Prelude.{◌≡◌, MatchResult, Ok, Err, IfOk, string_bytes};
+ghost use Rattle.std.specs.Prelude.{◌≡◌, IfOk, string_bytes};
 ghost use Rattle.paseto_calls.specs.Fault.{refusal_of};
 ghost use Rattle.paseto_calls.specs.Parse.{line_of};
 ghost use Rattle.paseto_calls.specs.Refusal.{file_refusal, key_refusal, paserk_refusal, token_refusal};
@@ -81,17 +81,6 @@ impl From<PasetoError> for Fault {
 
     fn from(error: PasetoError) -> Fault {
         Fault::Refused(Refusal::of_token(&error))
-    }
-}
-
-/// What was made, without what tells why it was not.
-pub fn unsaid(made: Result<String, Fault>) -> Result<String, Refusal>
-    ensures { MatchResult made (λ text. result ≡ Ok text)
-        (λ fault. result ≡ Err (refusal_of fault)) }
-{
-    match made {
-        Ok(text) => Ok(text),
-        Err(fault) => Err(fault.refusal()),
     }
 }
 

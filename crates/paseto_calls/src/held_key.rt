@@ -2,10 +2,9 @@
 
 ghost use Rattle.std.specs.Prelude.{◌≡◌, ◌⊎◌, ◌≤◌, ◌<◌, ◌++◌, MatchOption, MatchResult, None, Some, drop, false, length, replicate, take, true};
 ghost use Rattle.paseto_keys.specs.AnyKey.{key_parts, parts_of};
-ghost use Rattle.paseto_calls.specs.HeldKey.{Fits, IsHeld, assertion_fault, bound_fault, bytes_in, drawn_fault, is_type, is_version, key_fault, named_by, names_key, type_by, version_by};
+ghost use Rattle.paseto_calls.specs.HeldKey.{Fits, IsHeld, assertion_fault, bound_fault, bytes_in, drawn_fault, is_type, is_version, key_fault, named_by, names_key, type_by, type_number, version_by, version_number};
 
 use crate::answer::lay;
-use crate::key_text::kind::{type_number, version_number};
 use crate::refusal::Refusal;
 use crate::wanted::Wanted;
 use paseto_keys::{AnyKey, TokenKey};
@@ -16,7 +15,7 @@ use std::alloc::Global;
 /// How many bytes a key may have: no private key of RSA of 2048 bits has more than 1,220.
 const ROOM: usize = 1244;
 
-/// A key as C holds it: `struct paseto_key` of `c/paseto_keys.h`. It may hold anything.
+/// A key as C holds it: `struct paseto_key` of `c/paseto.h`. It may hold anything.
 #[repr(C)]
 #[derive(Clone, Copy)]
 pub struct HeldKey {
@@ -174,6 +173,29 @@ pub(crate) fn type_of(number: u8) -> Option<PaserkType>
         2 => Some(PaserkType::Secret),
         3 => Some(PaserkType::Public),
         _ => None,
+    }
+}
+
+/// The number of a version.
+pub(crate) fn version_number(version: PaserkVersion) -> u8
+    ensures { result ≡ version_number version }
+{
+    match version {
+        PaserkVersion::V1 => 1,
+        PaserkVersion::V2 => 2,
+        PaserkVersion::V3 => 3,
+        PaserkVersion::V4 => 4,
+    }
+}
+
+/// The number of a type.
+pub(crate) fn type_number(kind: PaserkType) -> u8
+    ensures { result ≡ type_number kind }
+{
+    match kind {
+        PaserkType::Local => 1,
+        PaserkType::Secret => 2,
+        PaserkType::Public => 3,
     }
 }
 

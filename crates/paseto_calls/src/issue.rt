@@ -6,10 +6,10 @@ ghost use Rattle.serde_json.specs.Data.{put, string};
 ghost use Rattle.serde_json.specs.View.{members_view};
 ghost use Rattle.rusty_paseto_generic.specs.Builders.Claims.{becomes};
 ghost use Rattle.rusty_paseto_generic.specs.Builders.Held.{held};
-ghost use Rattle.paseto_calls.specs.Build.{IsClaimFault};
-ghost use Rattle.paseto_calls.specs.Claims.{all_set};
-ghost use Rattle.paseto_calls.specs.Issue.{AreClaims, AreMomentClaims, AreMoments, AreTimes, IsMembersFault, hour_after, issuing, second_before};
-ghost use Rattle.paseto_calls.specs.Request.{IsMade};
+ghost use Rattle.paseto_calls.specs.Claims.{IsClaimFault, all_set};
+ghost use Rattle.paseto_calls.specs.Issue.{AreClaims, AreMomentClaims, AreMoments, AreTimes, IsIssued, IsMembersFault, hour_after, issuing, second_before};
+ghost use Rattle.paseto_calls.specs.Request.{IsMade, IsMadeWholeWhere};
+ghost use Rattle.paseto_calls.specs.Tokens.{HasToken};
 
 use crate::arguments::Texts;
 use crate::claims::{MemberClaim, object_of};
@@ -40,7 +40,10 @@ pub fn issue(
     footer: &[u8],
     assertion: &[u8],
 ) -> Result<String, Fault>
-    ensures { IsMade (issuing key.now drawn.now claims.now now footer.now assertion.now) result }
+    ensures made { IsMade (issuing key.now drawn.now claims.now now footer.now assertion.now) result }
+    ensures whole { IsMadeWholeWhere
+        (IsIssued claims.now now (HasToken key.now drawn.now footer.now assertion.now))
+        (issuing key.now drawn.now claims.now now footer.now assertion.now) result }
 {
     let writer = key.take_bound(alloc, Wanted::Writers, assertion)?;
     let drawn = front(drawn, writer.draws())?;

@@ -82,7 +82,7 @@ pub enum Refusal {
     OtherVersion,
     /// A text begins like a key of another type.
     OtherType,
-    /// A text is not PEM in the strict form, or has a label that no key has.
+    /// A text is not PEM, has a label that no key has, or has more than one key.
     NotPem,
     /// A key in PEM is encrypted.
     EncryptedKey,
@@ -265,13 +265,15 @@ impl Refusal {
         ensures { result ≡ pem_refusal error.now }
     {
         match error {
-            PemError::NotPem => Refusal::NotPem,
+            PemError::NotPem | PemError::TwoKeys => Refusal::NotPem,
             PemError::Encrypted => Refusal::EncryptedKey,
             PemError::OtherLabel(_) => Refusal::OtherLabel,
-            PemError::OtherAlgorithm => Refusal::OtherAlgorithm,
-            PemError::OtherCurve => Refusal::OtherCurve,
-            PemError::OtherSize => Refusal::OtherSize,
-            PemError::InvalidKey => Refusal::InvalidKey,
+            PemError::OtherAlgorithm(_) => Refusal::OtherAlgorithm,
+            PemError::OtherCurve(_) => Refusal::OtherCurve,
+            PemError::OtherSize(_) => Refusal::OtherSize,
+            PemError::InvalidDer | PemError::OtherHalf | PemError::InvalidKey => {
+                Refusal::InvalidKey
+            }
             PemError::Memory(_) => Refusal::Memory,
         }
     }
@@ -397,6 +399,22 @@ impl From<PaserkError> for Refusal {
 
     fn from(error: PaserkError) -> Refusal {
         Refusal::of_paserk(&error)
+    }
+}
+
+impl From<PemError> for Refusal {
+    ghost from_gives = { λ error refusal. refusal ≡ pem_refusal error };
+
+    fn from(error: PemError) -> Refusal {
+        Refusal::of_pem(&error)
+    }
+}
+
+impl From<WrapError> for Refusal {
+    ghost from_gives = { λ error refusal. refusal ≡ wrap_refusal error };
+
+    fn from(error: WrapError) -> Refusal {
+        Refusal::of_wrap(&error)
     }
 }
 

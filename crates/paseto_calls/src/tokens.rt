@@ -4,8 +4,8 @@ ghost use Rattle.std.specs.Prelude.{◌≡◌, true};
 ghost use Rattle.rusty_paseto_paserk.specs.declared.header.PaserkType.{PaserkType as KeyType};
 ghost use Rattle.paseto_keys.specs.AnyKey.{reads_tokens, writes_tokens};
 ghost use Rattle.paseto_calls.specs.HeldKey.{is_wanted};
-ghost use Rattle.paseto_calls.specs.Request.{IsMade, IsMadeWhole};
-ghost use Rattle.paseto_calls.specs.Tokens.{footer_reading, reading, writing};
+ghost use Rattle.paseto_calls.specs.Request.{IsMade, IsMadeWhole, IsMadeWholeWhere};
+ghost use Rattle.paseto_calls.specs.Tokens.{HasToken, footer_reading, reading, writing};
 
 use crate::arguments::{Texts, str_of};
 use crate::fault::Fault;
@@ -44,7 +44,9 @@ pub fn write(
     assertion: &[u8],
 ) -> Result<String, Fault>
     requires { (kind : KeyType) → is_wanted wanted kind ≡ true → writes_tokens kind ≡ true }
-    ensures { IsMade (writing wanted key.now drawn.now text.now footer.now assertion.now) result }
+    ensures made { IsMade (writing wanted key.now drawn.now text.now footer.now assertion.now) result }
+    ensures whole { IsMadeWholeWhere (HasToken key.now drawn.now footer.now assertion.now text.now)
+        (writing wanted key.now drawn.now text.now footer.now assertion.now) result }
 {
     let writer = key.take_bound(alloc, wanted, assertion)?;
     let drawn = front(drawn, writer.draws())?;

@@ -19,6 +19,7 @@ use Rattle.paseto_wrapping.specs.Laws.{ProtectedUnwrap, SealedUnseal, WrappedUnw
 use Rattle.paseto_wrapping.specs.Password.{payload as password_payload}
 use Rattle.paseto_wrapping.specs.Pie.{payload as pie_payload}
 use Rattle.paseto_wrapping.specs.Text.{writing}
+use Rattle.paseto_pem.proofs.RsaBytes.{key-bytes}
 use Rattle.paseto_key_files.specs.declared.openers.Openers.{Openers}
 use Rattle.paseto_key_files.specs.Held.{HoldsKey}
 use Rattle.paseto_key_files.specs.Laws.{IsSameLine, ProtectedUnlock, SealedUnlock, WrappedUnlock}
@@ -36,7 +37,7 @@ front_bytes front back h = (
 -- what the line of a private key tells of the key
 private_parts : (version : PaserkVersion) (key line : List ℕ) → IsPrivateLine version key line
     → IsBytes key × IsPrivateKey version key × IsSameLine line (private_line version key)
-private_parts V1 key line is = (subst IsBytes is.held.written is.bytes, is.held.is_key, inr (key, is, refl))
+private_parts V1 key line is = (key-bytes is.label is.contents key is.bytes is.held, is.held.is_key, inr (key, is, refl))
 private_parts V2 key line is = (is.bytes, is.form, inl (sym is.written))
 private_parts V3 key line is = (is.bytes, is.form, inl (sym is.written))
 private_parts V4 key line is = (is.bytes, is.form, inl (sym is.written))

@@ -5,10 +5,12 @@ use Rattle.paseto_p384.specs.P384.{IsPrivate}
 use Rattle.paseto_pem.specs.Error.{IsMemory as IsPemMemory}
 use Rattle.paseto_pem.specs.Info.{public_key_info}
 use Rattle.paseto_pem.specs.Text.{pem}
-use Rattle.paseto_pem.specs.Rsa.{IsPrivateOf as IsRsaPrivateOf, IsPublic as IsRsaPublic, IsPublicOf as IsRsaPublicOf, rsa}
+use Rattle.paseto_pem.specs.Algorithm.{rsa}
+use Rattle.paseto_pem.specs.Rsa.{IsPrivateForm as IsRsaPrivateForm, IsPrivateWritten as IsRsaPrivateWritten, IsPublic as IsRsaPublic, IsPublicForm as IsRsaPublicForm, IsPublicWritten as IsRsaPublicWritten}
+use Rattle.paseto_pem.proofs.WrittenKeys.{rsa_private_is_read, rsa_public_is_read}
 use Rattle.paseto_rsa.specs.Keys.{IsPrivate as IsRsaPrivate}
 use Rattle.paseto_pem.specs.declared.label.Label.TheVariants.{PrivateKey, PublicKey}
-use Rattle.paseto_pem.specs.Key.{Contents, Faults, ReadsKey, WritesKey, written_form}
+use Rattle.paseto_pem.specs.Key.{Contents, Faults, ReadsKey, WritesKey}
 use Rattle.paseto_pem.specs.Ed25519.{IsPrivateOf as IsEdwardsPrivateOf}
 use Rattle.paseto_pem.specs.P384.{IsPrivateOf as IsCurvePrivateOf}
 use Rattle.paseto_pem.specs.declared.label.Label.{Label}
@@ -84,7 +86,7 @@ module _ (A B : List ℕ → Type 0) (F G : KeyFileError → Type 0) where
   tells_less : (first : KeyFileError) → (¬ IsMemory first) → nat_lt (tells first) 3 ≡ true
   tells_less (Memory source) fixed = absurd (fixed tt)
   tells_less (Pem (OtherLabel label)) fixed = refl
-  tells_less (Pem OtherAlgorithm) fixed = refl
+  tells_less (Pem (OtherAlgorithm algorithm)) fixed = refl
   tells_less (Pem error) fixed = refl
   tells_less error fixed = refl
 
@@ -130,21 +132,31 @@ no_pem IsLine IsKeyOf label line key error is (inr other) =
     subst (λ (e : PemError). HasNoPem IsLine IsKeyOf label line (pem_error_of e)) (sym other.0) (key, is, other.1)
 
 -- a private key of RSA, as it is written
-pub rsa_private_written : (key : List ℕ) (answer : Result (String Global) PemError) → WritesKey IsRsaPrivateOf PrivateKey key answer
-    → IfOk answer (λ text. IsRsaPrivate key × (string_bytes text ≡ pem written_form PrivateKey key))
+pub rsa_private_written : (key : List ℕ) (answer : Result (String Global) PemError) → WritesKey IsRsaPrivateWritten PrivateKey key answer
+    → IfOk answer (λ text. IsRsaPrivate key × (string_bytes text ≡ pem PrivateKey key))
 rsa_private_written key (Err error) writes = tt
 rsa_private_written key (Ok text) writes =
-    (writes.ok.held.is_key, writes.ok.written ∙ ap (pem written_form PrivateKey) writes.ok.held.written)
+    (writes.ok.held.0.is_key, writes.ok.written ∙ ap (pem PrivateKey) writes.ok.held.0.written)
 
 -- a private key of RSA has a text
-pub rsa_private_refused : (key : List ℕ) → ((contents : List ℕ) → ¬ IsRsaPrivateOf PrivateKey contents key) → ¬ IsRsaPrivate key
-rsa_private_refused key none is = none key (record { is_private = refl; is_key = is; written = refl })
+pub rsa_private_refused : (key : List ℕ) → ((contents : List ℕ) → ¬ IsRsaPrivateWritten PrivateKey contents key) → ¬ IsRsaPrivate key
+rsa_private_refused key none is =
+    let form : IsRsaPrivateForm PrivateKey key key = record { is_private = refl; is_key = is; written = refl } in
+    none key (form, rsa_private_is_read PrivateKey key key form)
 
-pub rsa_public_written : (key : List ℕ) (answer : Result (String Global) PemError) → WritesKey IsRsaPublicOf PublicKey key answer
-    → IfOk answer (λ text. IsRsaPublic key × (string_bytes text ≡ pem written_form PublicKey (public_key_info rsa key)))
+-- a private key that has none, where no memory was refused
+pub rsa_private_none : (key : List ℕ) (error : PemError) → ¬ IsPemMemory error
+    → IsPemMemory error ⊎ ((error ≡ InvalidKey) × ((contents : List ℕ) → ¬ IsRsaPrivateWritten PrivateKey contents key)) → ¬ IsRsaPrivate key
+rsa_private_none key error fixed (inl memory) = absurd (fixed memory)
+rsa_private_none key error fixed (inr other) = rsa_private_refused key other.1
+
+pub rsa_public_written : (key : List ℕ) (answer : Result (String Global) PemError) → WritesKey IsRsaPublicWritten PublicKey key answer
+    → IfOk answer (λ text. IsRsaPublic key × (string_bytes text ≡ pem PublicKey (public_key_info rsa key)))
 rsa_public_written key (Err error) writes = tt
 rsa_public_written key (Ok text) writes =
-    (writes.ok.held.is_key, writes.ok.written ∙ ap (pem written_form PublicKey) writes.ok.held.held)
+    (writes.ok.held.0.is_key, writes.ok.written ∙ ap (pem PublicKey) writes.ok.held.0.written)
 
-pub rsa_public_refused : (key : List ℕ) → ((contents : List ℕ) → ¬ IsRsaPublicOf PublicKey contents key) → ¬ IsRsaPublic key
-rsa_public_refused key none is = none (public_key_info rsa key) (record { held = refl; is_key = is })
+pub rsa_public_refused : (key : List ℕ) → ((contents : List ℕ) → ¬ IsRsaPublicWritten PublicKey contents key) → ¬ IsRsaPublic key
+rsa_public_refused key none is =
+    let form : IsRsaPublicForm PublicKey (public_key_info rsa key) key = record { is_public = refl; is_key = is; written = refl } in
+    none (public_key_info rsa key) (form, rsa_public_is_read PublicKey (public_key_info rsa key) key form)

@@ -5,7 +5,7 @@ use Rattle.std.specs.Io.BufRead.{ends_with_byte, strip_last}
 use Rattle.std.specs.declared.alloc.Global.{Global}
 use Rattle.std.specs.declared.string.String.{String}
 use Rattle.base64.specs.GeneralPurpose.{IsBytes}
-use Rattle.paseto_pem.specs.Key.{Faults as PemFaults, IsKeyFault as IsPemKeyFault, IsText, written_form}
+use Rattle.paseto_pem.specs.Key.{Faults as PemFaults, IsKeyFault as IsPemKeyFault, IsText}
 use Rattle.paseto_pem.specs.Rsa.{IsPrivateFault as IsRsaPrivateFault, IsPrivateOf as IsRsaPrivateOf}
 use Rattle.paseto_pem.specs.Text.{pem}
 use Rattle.paseto_pem.specs.declared.label.Label.TheVariants.{PrivateKey}
@@ -48,7 +48,7 @@ IsPublicKey V4 = λ key. IsTrue (length key == 32)
 
 -- the line of a private key: in version 1 its text as `openssl pkey` writes it
 abbrev pub private_line : PaserkVersion → List ℕ → List ℕ
-private_line V1 = pem written_form PrivateKey
+private_line V1 = pem PrivateKey
 private_line V2 = writing V2 Secret
 private_line V3 = writing V3 Secret
 private_line V4 = writing V4 Secret

@@ -2,14 +2,15 @@
 use Rattle.std.specs.Prelude.{◌≡◌, ◌⊎◌, ⊤, ℕ, List, Result, Ok, Err, if◌then◌else◌, nat_lt}
 use Rattle.std.specs.declared.alloc.Global.{Global}
 use Rattle.std.specs.declared.string.String.{String}
-use Rattle.paseto_pem.specs.Key.{Contents, IsText, IsWritten, written_form}
+use Rattle.paseto_pem.specs.Key.{Contents, IsText, IsWritten}
 use Rattle.paseto_pem.specs.Info.{public_key_info}
 use Rattle.paseto_pem.specs.Text.{pem}
 use Rattle.paseto_pem.specs.declared.label.Label.{Label}
 use Rattle.paseto_pem.specs.declared.label.Label.TheVariants.{PrivateKey, PublicKey}
-use Rattle.paseto_pem.specs.Ed25519.{IsPrivateFault as IsEdwardsPrivateFault, IsPrivateOf as IsEdwardsPrivateOf, IsPublicFault as IsEdwardsPublicFault, IsPublicOf as IsEdwardsPublicOf}
-use Rattle.paseto_pem.specs.P384.{IsPrivateFault as IsCurvePrivateFault, IsPrivateOf as IsCurvePrivateOf, IsPublicFault as IsCurvePublicFault, IsPublicOf as IsCurvePublicOf}
-use Rattle.paseto_pem.specs.Rsa.{IsPrivateFault as IsRsaPrivateFault, IsPrivateOf as IsRsaPrivateOf, IsPublicFault as IsRsaPublicFault, IsPublicOf as IsRsaPublicOf, rsa}
+use Rattle.paseto_pem.specs.Ed25519.{IsPrivateFault as IsEdwardsPrivateFault, IsPrivateOf as IsEdwardsPrivateOf, IsPrivateWritten as IsEdwardsPrivateWritten, IsPublicFault as IsEdwardsPublicFault, IsPublicOf as IsEdwardsPublicOf}
+use Rattle.paseto_pem.specs.P384.{IsPrivateFault as IsCurvePrivateFault, IsPrivateOf as IsCurvePrivateOf, IsPrivateWritten as IsCurvePrivateWritten, IsPublicFault as IsCurvePublicFault, IsPublicOf as IsCurvePublicOf, IsPublicWritten as IsCurvePublicWritten}
+use Rattle.paseto_pem.specs.Rsa.{IsPrivateFault as IsRsaPrivateFault, IsPrivateOf as IsRsaPrivateOf, IsPublicFault as IsRsaPublicFault, IsPublicOf as IsRsaPublicOf}
+use Rattle.paseto_pem.specs.Algorithm.{rsa}
 use Rattle.paseto_pem.specs.declared.error.PemError.TheVariants.{InvalidKey, OtherAlgorithm, OtherLabel}
 use Rattle.rusty_paseto_paserk.specs.declared.error.PaserkError.TheVariants.{OtherVersion}
 use Rattle.rusty_paseto_paserk.specs.declared.header.PaserkVersion.{PaserkVersion}
@@ -32,19 +33,23 @@ pub record InPem (IsKeyOf : Contents) (line_of : List ℕ → List ℕ) (text li
 abbrev pub OrElse : (List ℕ → Type 0) → (List ℕ → Type 0) → List ℕ → Type 0
 OrElse First Second line = First line ⊎ (((other : List ℕ) → ¬ First other) × Second line)
 
--- a key of Ed25519 is one of version 4, one of P-384 of version 3, and one of RSA of version 1, whose line is the text itself
+-- a key of Ed25519 is one of version 4, one of P-384 of version 3, and one of RSA of version 1, whose line is its text as
+-- `openssl pkey` writes it
 abbrev pub EdwardsInPem : List ℕ → List ℕ → Type 0
 EdwardsInPem text = OrElse (InPem IsEdwardsPrivateOf (writing V4 Secret) text) (InPem IsEdwardsPublicOf (writing V4 Public) text)
 
 abbrev pub CurveInPem : List ℕ → List ℕ → Type 0
 CurveInPem text = OrElse (InPem IsCurvePrivateOf (writing V3 Secret) text) (InPem IsCurvePublicOf (writing V3 Public) text)
 
-abbrev pub RsaInPem : List ℕ → List ℕ → Type 0
-RsaInPem text = OrElse (InPem IsRsaPrivateOf (λ _. text) text) (InPem IsRsaPublicOf (λ _. text) text)
+abbrev pub rsa_public_text : List ℕ → List ℕ
+rsa_public_text key = pem PublicKey (public_key_info rsa key)
+
+abbrev pub RsaToPem : List ℕ → List ℕ → Type 0
+RsaToPem line = OrElse (InPem IsRsaPrivateOf (private_line V1) line) (InPem IsRsaPublicOf rsa_public_text line)
 
 -- the line of a key whose text in PEM this is
 abbrev pub PemLine : List ℕ → List ℕ → Type 0
-PemLine text = OrElse (EdwardsInPem text) (OrElse (CurveInPem text) (RsaInPem text))
+PemLine text = OrElse (EdwardsInPem text) (OrElse (CurveInPem text) (RsaToPem text))
 
 -- why it is that of no key: each reading refuses it, and one of them by this error
 abbrev pub Either : (KeyFileError → Type 0) → (KeyFileError → Type 0) → KeyFileError → Type 0
@@ -67,7 +72,7 @@ PemLineFault text = Either (EdwardsFault text) (Either (CurveFault text) (RsaFau
 -- how much an error tells of what stands in a text: that the label or the algorithm is another tells least
 abbrev pub tells : KeyFileError → ℕ
 tells (Pem (OtherLabel _)) = 0
-tells (Pem OtherAlgorithm) = 1
+tells (Pem (OtherAlgorithm _)) = 1
 tells (Memory _) = 3
 tells _ = 2
 
@@ -101,18 +106,11 @@ abbrev pub IsNotToPem : PaserkVersion → PaserkType → (List ℕ → Type 0) �
 IsNotToPem version kind IsKey IsKeyOf label line error =
     IsPaserkFault version kind IsKey line error ⊎ HasNoPem (IsWritingOf version kind IsKey) IsKeyOf label line error
 
--- the line of a key pair of version 1 is in PEM already, and is written as `openssl pkey` writes it
-abbrev pub rsa_public_text : List ℕ → List ℕ
-rsa_public_text key = pem written_form PublicKey (public_key_info rsa key)
-
-abbrev pub RsaToPem : List ℕ → List ℕ → Type 0
-RsaToPem line = OrElse (InPem IsRsaPrivateOf (private_line V1) line) (InPem IsRsaPublicOf rsa_public_text line)
-
 -- the text of a line of a version and a type
 abbrev pub WritesPemAs : PaserkVersion → PaserkType → List ℕ → List ℕ → Type 0
-WritesPemAs V3 Secret line text = IsToPem (IsWritingOf V3 Secret (IsPrivateKey V3)) IsCurvePrivateOf PrivateKey line text
-WritesPemAs V3 Public line text = IsToPem (IsWritingOf V3 Public (IsPublicKey V3)) IsCurvePublicOf PublicKey line text
-WritesPemAs V4 Secret line text = IsToPem (IsWritingOf V4 Secret (IsPrivateKey V4)) IsEdwardsPrivateOf PrivateKey line text
+WritesPemAs V3 Secret line text = IsToPem (IsWritingOf V3 Secret (IsPrivateKey V3)) IsCurvePrivateWritten PrivateKey line text
+WritesPemAs V3 Public line text = IsToPem (IsWritingOf V3 Public (IsPublicKey V3)) IsCurvePublicWritten PublicKey line text
+WritesPemAs V4 Secret line text = IsToPem (IsWritingOf V4 Secret (IsPrivateKey V4)) IsEdwardsPrivateWritten PrivateKey line text
 WritesPemAs V4 Public line text = IsToPem (IsWritingOf V4 Public (IsPublicKey V4)) IsEdwardsPublicOf PublicKey line text
 WritesPemAs _ _ line text = ⊥
 
@@ -122,9 +120,9 @@ WritesNoPemAs V1 Secret line error = error ≡ Paserk (OtherVersion V1)
 WritesNoPemAs V1 Public line error = error ≡ Paserk (OtherVersion V1)
 WritesNoPemAs V2 Secret line error = error ≡ SecondInPem
 WritesNoPemAs V2 Public line error = error ≡ SecondInPem
-WritesNoPemAs V3 Secret line error = IsNotToPem V3 Secret (IsPrivateKey V3) IsCurvePrivateOf PrivateKey line error
-WritesNoPemAs V3 Public line error = IsNotToPem V3 Public (IsPublicKey V3) IsCurvePublicOf PublicKey line error
-WritesNoPemAs V4 Secret line error = IsNotToPem V4 Secret (IsPrivateKey V4) IsEdwardsPrivateOf PrivateKey line error
+WritesNoPemAs V3 Secret line error = IsNotToPem V3 Secret (IsPrivateKey V3) IsCurvePrivateWritten PrivateKey line error
+WritesNoPemAs V3 Public line error = IsNotToPem V3 Public (IsPublicKey V3) IsCurvePublicWritten PublicKey line error
+WritesNoPemAs V4 Secret line error = IsNotToPem V4 Secret (IsPrivateKey V4) IsEdwardsPrivateWritten PrivateKey line error
 WritesNoPemAs V4 Public line error = IsNotToPem V4 Public (IsPublicKey V4) IsEdwardsPublicOf PublicKey line error
 
 -- the text of a line

@@ -17,9 +17,9 @@ use std::alloc::Global;
 /// The line of the key in a key file, whatever its form.
 ///
 /// A text that begins like PEM is read as a key of `openssl`: an Ed25519 key as version 4, a P-384 key as version 3,
-/// and an RSA key as version 1, whose line is the text itself. A text that begins like a wrapped PASERK key is opened
-/// with the password, within the bound `PasswordCost::most()`, or with the key of `openers`. Any other text is returned
-/// as the line without being checked; a line end at its end, LF or CR and LF, is removed.
+/// and an RSA key as version 1, whose line is its text as `openssl pkey` writes it. A text that begins like a wrapped
+/// PASERK key is opened with the password, within the bound `PasswordCost::most()`, or with the key of `openers`. Any
+/// other text is returned as the line without being checked; a line end at its end, LF or CR and LF, is removed.
 ///
 /// `NeedsPassword` and `NeedsKey` are returned if the password or key is missing; `OtherOpener` if the key does not
 /// have the version and the type that is needed; `NoSealing` for a sealed key of version 1; `Wrap` if the key cannot be

@@ -7,11 +7,11 @@ ghost use Rattle.rusty_paseto_paserk.specs.Text.{writing};
 ghost use Rattle.rusty_paseto_paserk.specs.declared.header.PaserkType.TheVariants.{Public as PublicKeys, Secret};
 ghost use Rattle.paseto_key_files.specs.Held.{GivesLine};
 ghost use Rattle.paseto_key_files.specs.Line.{IsPemFault, IsWritingOf, WritesLine, private_line};
-ghost use Rattle.paseto_key_files.specs.Pem.{Either, InPem, IsNotToPem, IsToPem, OrElse, PemLine, PemLineFault, RsaFault, RsaInPem, RsaToPem, WritesNoPem, WritesNoPemAs, WritesPem, WritesPemAs, first_of, rsa_public_text, telling, tells};
+ghost use Rattle.paseto_key_files.specs.Pem.{Either, InPem, IsNotToPem, IsToPem, OrElse, PemLine, PemLineFault, RsaFault, RsaToPem, WritesNoPem, WritesNoPemAs, WritesPem, WritesPemAs, first_of, rsa_public_text, telling, tells};
 ghost use Rattle.paseto_pem.specs.Rsa.{IsPrivateFault as IsRsaPrivateFault, IsPrivateOf as IsRsaPrivateOf, IsPublic as IsRsaPublic, IsPublicFault as IsRsaPublicFault, IsPublicOf as IsRsaPublicOf};
 
 use crate::error::KeyFileError;
-use crate::line::{is_pem, private_to_paserk, public_line, rsa_private_line, same_line};
+use crate::line::{is_pem, private_to_paserk, public_line, rsa_private_line};
 use paseto_pem::{
     PemError, PemVersion, private_key_from_pem, private_key_to_pem, public_key_from_pem,
     public_key_to_pem,
@@ -25,13 +25,13 @@ use rusty_paseto_paserk::{
 use std::alloc::Global;
 
 /// The line of the key whose text in PEM this is. A key of Ed25519 is taken as one of version 4, since PEM does not
-/// tell versions 2 and 4 apart.
+/// tell versions 2 and 4 apart. The line of a key of RSA is its text as `openssl pkey` writes it.
 pub(crate) fn line_of_pem(alloc: Global, text: &str) -> Result<String, KeyFileError>
     ensures { GivesLine (PemLine text.now) (PemLineFault text.now) result }
 {
     let edwards = line_of_pair::<V4>(alloc, text);
     let curve = line_of_pair::<V3>(alloc, text);
-    let rsa = line_of_rsa(alloc, text);
+    let rsa = rsa_pem(alloc, text);
     first_of(edwards, first_of(curve, rsa))
 }
 
@@ -78,37 +78,6 @@ fn line_of_public<V: KeyPairVersion + PemVersion>(
 {
     match public_key_from_pem::<V>(alloc, text) {
         Ok(key) => public_line(alloc, &key),
-        Err(error) => Err(KeyFileError::from(error)),
-    }
-}
-
-// The line of a key of RSA, which is the text itself.
-fn line_of_rsa(alloc: Global, text: &str) -> Result<String, KeyFileError>
-    ensures { GivesLine (RsaInPem text.now) (RsaFault text.now) result }
-{
-    let private = line_of_rsa_private(alloc, text);
-    let public = line_of_rsa_public(alloc, text);
-    first_of(private, public)
-}
-
-// The text itself, where it is a private key of RSA.
-fn line_of_rsa_private(alloc: Global, text: &str) -> Result<String, KeyFileError>
-    ensures { GivesLine (InPem IsRsaPrivateOf (λ _. text.now) text.now)
-        (IsPemFault IsRsaPrivateFault text.now) result }
-{
-    match private_key_from_pem::<V1>(alloc, text) {
-        Ok(_key) => same_line(alloc, text),
-        Err(error) => Err(KeyFileError::from(error)),
-    }
-}
-
-// The text itself, where it is a public key of RSA.
-fn line_of_rsa_public(alloc: Global, text: &str) -> Result<String, KeyFileError>
-    ensures { GivesLine (InPem IsRsaPublicOf (λ _. text.now) text.now)
-        (IsPemFault IsRsaPublicFault text.now) result }
-{
-    match public_key_from_pem::<V1>(alloc, text) {
-        Ok(_key) => same_line(alloc, text),
         Err(error) => Err(KeyFileError::from(error)),
     }
 }
@@ -182,10 +151,10 @@ fn private_pem<V: KeyPairVersion + PemVersion>(
     line: &str,
 ) -> Result<String, KeyFileError>
     ensures ok { IfOk result (λ text. IsToPem
-        (IsWritingOf V.paserk Secret (λ key. length key ≡ V.secret_length)) V.is_private_of PrivateLabel
+        (IsWritingOf V.paserk Secret (λ key. length key ≡ V.secret_length)) V.is_private_written PrivateLabel
         line.now (string_bytes text)) }
     ensures err { IfErr result (IsNotToPem V.paserk Secret (λ key. length key ≡ V.secret_length)
-        V.is_private_of PrivateLabel line.now) }
+        V.is_private_written PrivateLabel line.now) }
 {
     let key = private_key_from_paserk::<V>(alloc, line)?;
     Ok(private_key_to_pem(alloc, &key.lend())?)
@@ -197,10 +166,10 @@ fn public_pem<V: KeyPairVersion + PemVersion>(
     line: &str,
 ) -> Result<String, KeyFileError>
     ensures ok { IfOk result (λ text. IsToPem
-        (IsWritingOf V.paserk PublicKeys (λ key. IsTrue (V.is_public_key key))) V.is_public_of PublicLabel
+        (IsWritingOf V.paserk PublicKeys (λ key. IsTrue (V.is_public_key key))) V.is_public_written PublicLabel
         line.now (string_bytes text)) }
     ensures err { IfErr result (IsNotToPem V.paserk PublicKeys (λ key. IsTrue (V.is_public_key key))
-        V.is_public_of PublicLabel line.now) }
+        V.is_public_written PublicLabel line.now) }
 {
     let key = public_key_from_paserk::<V>(alloc, line)?;
     Ok(public_key_to_pem(alloc, &key.lend())?)
@@ -279,7 +248,7 @@ fn tells(error: &KeyFileError) -> u8
 {
     match error {
         KeyFileError::Pem(PemError::OtherLabel(_)) => 0,
-        KeyFileError::Pem(PemError::OtherAlgorithm) => 1,
+        KeyFileError::Pem(PemError::OtherAlgorithm(_)) => 1,
         KeyFileError::Memory(_) => 3,
         _ => 2,
     }

@@ -2,7 +2,7 @@
 use Rattle.std.specs.Prelude.{◌≡◌, ◌≢◌, ◌⊎◌, ℕ, List, length, Result, IfOk, IfErr, String, string_bytes}
 use Rattle.std.specs.Global.{Global}
 use Rattle.paseto_pem.specs.Key.{Contents, IsWritten}
-use Rattle.paseto_pem.specs.Rsa.{IsPrivateOf as IsRsaPrivateOf, IsPublicOf as IsRsaPublicOf}
+use Rattle.paseto_pem.specs.Rsa.{IsPrivateWritten as IsRsaPrivateWritten, IsPublicWritten as IsRsaPublicWritten}
 use Rattle.paseto_pem.specs.declared.error.PemError.TheVariants.{InvalidKey as NoPemKey}
 use Rattle.paseto_pem.specs.declared.label.Label.{Label}
 use Rattle.paseto_pem.specs.declared.label.Label.TheVariants.{PrivateKey, PublicKey}
@@ -33,11 +33,11 @@ HasNoText IsKeyOf label bytes error = (error ≡ Pem NoPemKey) × ((contents : L
 -- the line of these bytes, a key of a type and a version
 abbrev pub IsWrittenIn : PaserkType → PaserkVersion → List ℕ → List ℕ → Type 0
 IsWrittenIn Local version = λ bytes line. line ≡ writing version Local bytes
-IsWrittenIn Secret V1 = IsWritten IsRsaPrivateOf PrivateKey
+IsWrittenIn Secret V1 = IsWritten IsRsaPrivateWritten PrivateKey
 IsWrittenIn Secret V2 = λ bytes line. (length bytes ≡ 64) × (line ≡ writing V2 Secret bytes)
 IsWrittenIn Secret V3 = λ bytes line. (length bytes ≡ 48) × (line ≡ writing V3 Secret bytes)
 IsWrittenIn Secret V4 = λ bytes line. (length bytes ≡ 64) × (line ≡ writing V4 Secret bytes)
-IsWrittenIn Public V1 = IsWritten IsRsaPublicOf PublicKey
+IsWrittenIn Public V1 = IsWritten IsRsaPublicWritten PublicKey
 IsWrittenIn Public V2 = λ bytes line. line ≡ writing V2 Public bytes
 IsWrittenIn Public V3 = λ bytes line. line ≡ writing V3 Public bytes
 IsWrittenIn Public V4 = λ bytes line. line ≡ writing V4 Public bytes
@@ -45,11 +45,11 @@ IsWrittenIn Public V4 = λ bytes line. line ≡ writing V4 Public bytes
 -- why they have none
 abbrev pub HasNoLine : PaserkType → PaserkVersion → List ℕ → KeyFileError → Type 0
 HasNoLine Local version = λ bytes error. ⊥
-HasNoLine Secret V1 = HasNoText IsRsaPrivateOf PrivateKey
+HasNoLine Secret V1 = HasNoText IsRsaPrivateWritten PrivateKey
 HasNoLine Secret V2 = HasNoLength 64
 HasNoLine Secret V3 = HasNoLength 48
 HasNoLine Secret V4 = HasNoLength 64
-HasNoLine Public V1 = HasNoText IsRsaPublicOf PublicKey
+HasNoLine Public V1 = HasNoText IsRsaPublicWritten PublicKey
 HasNoLine Public V2 = λ bytes error. ⊥
 HasNoLine Public V3 = λ bytes error. ⊥
 HasNoLine Public V4 = λ bytes error. ⊥

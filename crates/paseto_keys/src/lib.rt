@@ -34,7 +34,6 @@ mod forms;
 mod generation;
 mod id;
 mod line;
-mod naming;
 mod public_half;
 mod reading;
 mod ring;

@@ -13,11 +13,10 @@ ghost use Rattle.paseto_keys.specs.Ring.{IsAdmittedByRing, IsKeyFor, bytes_for, 
 
 use crate::any_key::AnyKey;
 use crate::claims::ClaimsParser;
-use crate::naming::{footer_of, key_id};
 use crate::reading::read_token;
 use crate::ring_error::RingError;
 use crate::token_key::takes_assertion;
-use rusty_paseto::{KeyRingError, KeyRingParserError};
+use rusty_paseto::{KeyRingError, KeyRingParserError, footer_of, key_id};
 use rusty_paseto_core::{Footer, ImplicitAssertion, PasetoError, UntrustedToken};
 use rusty_paseto_parts::is_longer;
 use rusty_paseto_paserk::{PaserkError, PaserkType, PaserkVersion};

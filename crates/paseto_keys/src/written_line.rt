@@ -2,7 +2,7 @@
 
 ghost use Rattle.std.specs.Prelude.{◌≡◌, length};
 ghost use Rattle.paseto_pem.specs.Key.{IsWritten};
-ghost use Rattle.paseto_pem.specs.Rsa.{IsPrivateOf as IsRsaPrivateOf, IsPublicOf as IsRsaPublicOf};
+ghost use Rattle.paseto_pem.specs.Rsa.{IsPrivateWritten as IsRsaPrivateWritten, IsPublicWritten as IsRsaPublicWritten};
 ghost use Rattle.paseto_pem.specs.declared.label.Label.TheVariants.{PrivateKey as PrivateLabel, PublicKey as PublicLabel};
 ghost use Rattle.rusty_paseto_paserk.specs.Text.{writing};
 ghost use Rattle.rusty_paseto_paserk.specs.declared.header.PaserkType.TheVariants.{Local as LocalKey, Public as PublicKeys, Secret};
@@ -87,8 +87,8 @@ fn public_line<V: KeyPairVersion>(alloc: Global, key: &PublicKey<V>) -> Result<S
 
 // The line of a private key of version 1.
 fn rsa_private_line(alloc: Global, key: &PrivateKey<V1>) -> Result<String, KeyFileError>
-    ensures { WritesIn (IsWritten IsRsaPrivateOf PrivateLabel key.now)
-        (HasNoText IsRsaPrivateOf PrivateLabel key.now) result }
+    ensures { WritesIn (IsWritten IsRsaPrivateWritten PrivateLabel key.now)
+        (HasNoText IsRsaPrivateWritten PrivateLabel key.now) result }
 {
     match private_key_to_pem(alloc, &key.lend()) {
         Ok(line) => Ok(line),
@@ -98,8 +98,8 @@ fn rsa_private_line(alloc: Global, key: &PrivateKey<V1>) -> Result<String, KeyFi
 
 // The line of a public key of version 1.
 fn rsa_public_line(alloc: Global, key: &PublicKey<V1>) -> Result<String, KeyFileError>
-    ensures { WritesIn (IsWritten IsRsaPublicOf PublicLabel key.now)
-        (HasNoText IsRsaPublicOf PublicLabel key.now) result }
+    ensures { WritesIn (IsWritten IsRsaPublicWritten PublicLabel key.now)
+        (HasNoText IsRsaPublicWritten PublicLabel key.now) result }
 {
     match public_key_to_pem(alloc, &key.lend()) {
         Ok(line) => Ok(line),

@@ -13,10 +13,11 @@ use Rattle.paseto_primes.proofs.OrderOfP384.{is-prime}
 use Rattle.paseto_weierstrass_laws.specs.Curve.{order}
 use Rattle.paseto_weierstrass_laws.specs.Field.{prime}
 use Rattle.paseto_weierstrass_laws.specs.Group.{IsPoint, Same}
+use Rattle.paseto_weierstrass_laws.specs.Line.{line_x, line_y}
 use Rattle.paseto_weierstrass_laws.specs.Multiples.{IsMultiple, multiple_of}
 use Rattle.paseto_weierstrass_laws.specs.Point.{Point, base, neutral, point_add}
 use Rattle.paseto_weierstrass_laws.proofs.FieldLaws.{times_none}
-use Rattle.paseto_weierstrass_laws.proofs.Lines.{line, line-is_plane, line-sum, line_x, line_y, opposite, slope}
+use Rattle.paseto_weierstrass_laws.proofs.Lines.{line, line-is_plane, line-sum, opposite, slope}
 use Rattle.paseto_weierstrass_laws.proofs.MultipleLaws.{multiple-is_point, multiple-itself, sum-made, sum-plus}
 use Rattle.paseto_weierstrass_laws.proofs.OrderLaws.{divided-neutral, neutral-times}
 use Rattle.paseto_weierstrass_laws.proofs.Plane.{plane_point}

@@ -7,20 +7,14 @@ use Rattle.std.specs.declared.vec.Vec.{Vec}
 use Rattle.base64.specs.GeneralPurpose.{IsBytes}
 use Rattle.paseto_pem.specs.declared.label.Label.{Label}
 use Rattle.paseto_pem.specs.declared.error.PemError.{PemError}
-use Rattle.paseto_pem.specs.declared.error.PemError.TheVariants.{NotPem, Encrypted, OtherLabel, OtherAlgorithm, OtherCurve, OtherSize, InvalidKey, Memory}
+use Rattle.paseto_pem.specs.declared.error.PemError.TheVariants.{Memory}
 use Rattle.paseto_pem.specs.Error.{IsMemory}
-use Rattle.paseto_pem.specs.Key.{Contents, Faults, IsKeyFault, IsText, IsTextFault, ReadsContents, ReadsKey, ReadsText, WritesKey, written_form}
+use Rattle.paseto_pem.specs.Key.{Contents, Faults, IsKeyFault, IsText, IsTextFault, ReadsContents, ReadsKey, ReadsText, WritesKey}
 use Rattle.paseto_pem.specs.Text.{IsPem, pem}
 
 memory-fault : (text : List ℕ) (error : PemError) → IsMemory error → IsTextFault text error
-memory-fault text NotPem h = absurd h
-memory-fault text Encrypted h = absurd h
-memory-fault text (OtherLabel label) h = absurd h
-memory-fault text OtherAlgorithm h = absurd h
-memory-fault text OtherCurve h = absurd h
-memory-fault text OtherSize h = absurd h
-memory-fault text InvalidKey h = absurd h
 memory-fault text (Memory source) h = h
+memory-fault text error h = absurd h
 
 module _ (IsKeyOf : Contents) (IsFaultOf : Faults) where
   -- contents that are no key
@@ -35,7 +29,7 @@ module _ (IsKeyOf : Contents) (IsFaultOf : Faults) where
   -- the text of contents that are a key
   pub written-key : (label : Label) (key given octets held : List ℕ) (answer : Result (String Global) PemError) → IsBytes octets
       → IsKeyOf label held given → octets ≡ held → given ≡ key
-      → IfOk answer (λ text. string_bytes text ≡ pem written_form label octets) → IfErr answer IsMemory
+      → IfOk answer (λ text. string_bytes text ≡ pem label octets) → IfErr answer IsMemory
       → WritesKey IsKeyOf label key answer
   written-key label key given octets held (Ok text) bytes is are same ok err =
       let octets_are : IsKeyOf label octets key =
@@ -62,6 +56,9 @@ module _ (IsKeyOf : Contents) (IsFaultOf : Faults) where
       is-pem : IsPem label octets text
       is-pem = subst (λ (o : List ℕ). IsPem label o text) (sym are) h.found
 
+      octets-are : IsBytes octets
+      octets-are = subst (λ (o : List ℕ). IsBytes o) (sym are) h.bytes
+
       -- a text whose contents are no key
       pub refused-key : (error : PemError) (answer : Result (List ℕ) PemError) → IsErrAnd answer (λ e. e ≡ error)
           → ReadsContents IsKeyOf IsFaultOf label octets (Err error) → ReadsKey IsKeyOf IsFaultOf text answer
@@ -69,7 +66,7 @@ module _ (IsKeyOf : Contents) (IsFaultOf : Faults) where
       refused-key error (Err e) is r =
           let fault : IsKeyFault IsFaultOf text error = elim r.refused [
             | inl memory ↦ inl (memory-fault text error memory)
-            | inr other ↦ inr (label, octets, is-pem, other)
+            | inr other ↦ inr (label, octets, octets-are, is-pem, other)
           ] in
           subst (λ (x : PemError). ReadsKey IsKeyOf IsFaultOf text (Err x)) (sym is)
           (record { found = tt; read = λ key p. r.read key (at-octets key p); refused = fault })
@@ -78,12 +75,11 @@ module _ (IsKeyOf : Contents) (IsFaultOf : Faults) where
       pub made-key : (made : Vec ℕ Global) (key : List ℕ) → ReadsContents IsKeyOf IsFaultOf label octets (Ok made)
           → key ≡ made.items → ReadsKey IsKeyOf IsFaultOf text (Ok key)
       made-key made key r is =
-          let bytes = subst (λ (o : List ℕ). IsBytes o) (sym are) h.bytes in
           record {
             found = record {
               label = label;
               contents = octets;
-              bytes = bytes;
+              bytes = octets-are;
               written = is-pem;
               held = subst (λ (k : List ℕ). IsKeyOf label octets k) (sym is) r.found;
             };

@@ -1,53 +1,55 @@
--- A text has one label.
-use Rattle.std.proofs.Common.{◌≡◌, ℕ, List, ◌++◌, get_or, refl, sym, ap, ◌∙◌, append_assoc}
-use Rattle.std.specs.Prelude.{nat_eq, if◌then◌else◌}
+-- A line begins the block of one label.
+use Rattle.std.proofs.Common.{◌≡◌, ◌≢◌, ℕ, List, ◌++◌, get_or, length, refl, sym, ap, ◌∙◌, arith}
+use Rattle.std.specs.Prelude.{codes, nat_eq, if◌then◌else◌}
 use Rattle.paseto_pem.specs.declared.label.Label.{Label}
-use Rattle.paseto_pem.specs.declared.label.Label.TheVariants.{PrivateKey, EncryptedPrivateKey, PublicKey, EcPrivateKey, RsaPrivateKey, RsaPublicKey}
-use Rattle.paseto_pem.specs.declared.text.Form.{Form}
-use Rattle.paseto_pem.specs.Label.{HasLabel, begin_boundary, end_boundary}
-use Rattle.paseto_pem.specs.Text.{IsPem, base64, last_end, line_end, lines, pem}
+use Rattle.paseto_pem.specs.declared.label.Label.TheVariants.{PrivateKey, EncryptedPrivateKey, PublicKey, EcPrivateKey, RsaPrivateKey, RsaPublicKey, OpenSshPrivateKey}
+use Rattle.paseto_pem.specs.Label.{begin_boundary, label_text}
+use Rattle.paseto_pem.specs.Text.{IsPassed}
 
--- the label that two characters of the first line tell
+-- the label that two characters of the line tell
 told : List ℕ → Label
 told text =
     if nat_eq (get_or text 12 0) 82 then PrivateKey
     else (if nat_eq (get_or text 12 0) 78 then EncryptedPrivateKey
     else (if nat_eq (get_or text 12 0) 85 then PublicKey
     else (if nat_eq (get_or text 12 0) 67 then EcPrivateKey
-    else (if nat_eq (get_or text 16 0) 82 then RsaPrivateKey else RsaPublicKey))))
+    else (if nat_eq (get_or text 12 0) 80 then OpenSshPrivateKey
+    else (if nat_eq (get_or text 16 0) 82 then RsaPrivateKey else RsaPublicKey)))))
 
-told-is : (label : Label) (rest : List ℕ) → told (begin_boundary label ++ rest) ≡ label
+told-is : (label : Label) → told (begin_boundary label) ≡ label
 unfolding told
-told-is PrivateKey rest = refl
-told-is EncryptedPrivateKey rest = refl
-told-is PublicKey rest = refl
-told-is EcPrivateKey rest = refl
-told-is RsaPrivateKey rest = refl
-told-is RsaPublicKey rest = refl
+told-is PrivateKey = refl
+told-is EncryptedPrivateKey = refl
+told-is PublicKey = refl
+told-is EcPrivateKey = refl
+told-is RsaPrivateKey = refl
+told-is RsaPublicKey = refl
+told-is OpenSshPrivateKey = refl
 
-pub one-label : (a b : Label) (text : List ℕ) → HasLabel a text → HasLabel b text → a ≡ b
-one-label a b text h k = sym (told-is a h.0) ∙ ap told (sym h.1 ∙ k.1) ∙ told-is b k.0
+pub one-label : (a b : Label) → begin_boundary a ≡ begin_boundary b → a ≡ b
+one-label a b e = sym (told-is a) ∙ ap told e ∙ told-is b
 
-pub none-of : (text : List ℕ) → ¬ HasLabel PrivateKey text → ¬ HasLabel PublicKey text → ¬ HasLabel EncryptedPrivateKey text
-    → ¬ HasLabel EcPrivateKey text → ¬ HasLabel RsaPrivateKey text → ¬ HasLabel RsaPublicKey text
-    → (label : Label) → HasLabel label text → ⊥
-none-of text a b c d e f PrivateKey = a
-none-of text a b c d e f PublicKey = b
-none-of text a b c d e f EncryptedPrivateKey = c
-none-of text a b c d e f EcPrivateKey = d
-none-of text a b c d e f RsaPrivateKey = e
-none-of text a b c d e f RsaPublicKey = f
+pub none-of : (line : List ℕ) → line ≢ begin_boundary PrivateKey → line ≢ begin_boundary PublicKey
+    → line ≢ begin_boundary EncryptedPrivateKey → line ≢ begin_boundary EcPrivateKey → line ≢ begin_boundary RsaPrivateKey
+    → line ≢ begin_boundary RsaPublicKey → line ≢ begin_boundary OpenSshPrivateKey → (label : Label) → line ≢ begin_boundary label
+none-of line a b c d e f g PrivateKey = a
+none-of line a b c d e f g PublicKey = b
+none-of line a b c d e f g EncryptedPrivateKey = c
+none-of line a b c d e f g EcPrivateKey = d
+none-of line a b c d e f g RsaPrivateKey = e
+none-of line a b c d e f g RsaPublicKey = f
+none-of line a b c d e f g OpenSshPrivateKey = g
 
--- a text begins with the line of its label, and with the end of this line
-pub pem-begins : (form : Form) (label : Label) (contents : List ℕ)
-    → pem form label contents
-    ≡ begin_boundary label
-    ++ (line_end form.ends ++ (lines (line_end form.ends) (base64 contents) ++ (end_boundary label ++ last_end form)))
-pem-begins form label contents =
-    let end = line_end form.ends in
-    let body = lines end (base64 contents) in
-    let back = end_boundary label ++ last_end form in
-    append_assoc (begin_boundary label ++ end) body back ∙ append_assoc (begin_boundary label) end (body ++ back)
+not-13 : (label : Label) → length (begin_boundary label) ≢ 29
+not-13 PrivateKey e = omega arith
+not-13 EncryptedPrivateKey e = omega arith
+not-13 PublicKey e = omega arith
+not-13 EcPrivateKey e = omega arith
+not-13 RsaPrivateKey e = omega arith
+not-13 RsaPublicKey e = omega arith
+not-13 OpenSshPrivateKey e = omega arith
 
-pub pem-label : (label : Label) (contents text : List ℕ) → IsPem label contents text → HasLabel label text
-pem-label label contents text p = (_, p.1 ∙ pem-begins p.0 label contents)
+-- it is not passed over
+pub label-begins : (label : Label) → ¬ IsPassed (begin_boundary label)
+unfolding IsPassed
+label-begins label h = not-13 label (ap length (h (label_text label ++ codes "-----", refl)))

@@ -1,9 +1,13 @@
 pub mod LineLaws
 pub mod InfoLaws
 pub mod LabelLaws
-pub mod FormLaws
+pub mod BlockLaws
+pub mod WrittenLaws
 pub mod OctetLaws
+pub mod AlgorithmLaws
 pub mod KeyLaws
 pub mod Ed25519Laws
 pub mod RsaLaws
 pub mod P384Laws
+pub mod WrittenKeys
+pub mod RsaBytes

@@ -1,31 +1,31 @@
 -- Keys of P-384.
-use Rattle.std.proofs.Common.{◌≡◌, ◌≢◌, ℕ, ◌+◌, ◌<◌, ◌≤◌, inl, inr, List, [], ◌∷◌, ◌++◌, length, slice_index, ◌%◌, subst, take, drop, refl, sym, ap, ◌∙◌, append_assoc, length-append, arith}
-use Rattle.std.proofs.lemmas.List.{append_cancel_left}
-use Rattle.paseto_der.specs.Element.{der_length, element}
-use Rattle.paseto_der.proofs.ElementLaws.{element-unique}
-use Rattle.paseto_pem.specs.declared.label.Label.{Label}
-use Rattle.paseto_pem.specs.declared.label.Label.TheVariants.{PrivateKey, EncryptedPrivateKey, PublicKey, EcPrivateKey, RsaPrivateKey, RsaPublicKey}
-use Rattle.paseto_pem.specs.declared.error.PemError.{PemError}
-use Rattle.paseto_pem.specs.declared.error.PemError.TheVariants.{NotPem, Encrypted, OtherLabel, OtherAlgorithm, OtherCurve, OtherSize, InvalidKey, Memory}
-use Rattle.paseto_pem.specs.Info.{private_key_info, public_key_info}
-use Rattle.paseto_pem.specs.P384.{IsAlgorithmFault, IsAloneFault, IsForm, IsFormFault, IsInfoFault, IsOctetsFault, IsPoint, IsPointOf, IsPrivateOf, IsPublicOf, IsSpelled, compressed, ec_private_key, ec_public_key, p384, public_part, secp384r1}
-use Rattle.std.specs.Prelude.{IsTrue, ◌==◌, ◌&&◌, ◌||◌}
+use Rattle.std.proofs.Common.{◌≡◌, ◌≢◌, ℕ, ◌+◌, ◌<◌, ◌≤◌, inl, inr, List, [], ◌∷◌, ◌++◌, length, get_or, slice_index, ◌%◌, subst, take, drop, refl, sym, ap, ◌∙◌, append_assoc, length-append, arith}
+use Rattle.std.specs.Prelude.{IsTrue, Option, None, ◌==◌, ◌&&◌, ◌||◌}
 use Rattle.std.proofs.lemmas.Bool.Decides.{nat_tests}
-use Rattle.rusty_paseto_parts.specs.PublicKey.{is_compressed}
+use Rattle.std.proofs.lemmas.List.{append-nil, append_cancel_left}
+use Rattle.paseto_der.specs.Element.{der_length, element}
+use Rattle.paseto_der.proofs.ElementLaws.{element-first, element-unique}
 use Rattle.paseto_p384.specs.P384.{IsPrivate}
-use Rattle.paseto_pem.proofs.InfoLaws.{element-most, element-same, private-unique, public-unique}
-
-pub ec-octets : 0x06 ∷ 0x07 ∷ 0x2a ∷ 0x86 ∷ 0x48 ∷ 0xce ∷ 0x3d ∷ 0x02 ∷ 0x01 ∷ [] ≡ ec_public_key
-unfolding ec_public_key element der_length
-ec-octets = refl
-
-pub curve-octets : 0x06 ∷ 0x05 ∷ 0x2b ∷ 0x81 ∷ 0x04 ∷ 0x00 ∷ 0x22 ∷ [] ≡ secp384r1
-unfolding secp384r1 element der_length
-curve-octets = refl
+use Rattle.rusty_paseto_parts.specs.PublicKey.{is_compressed}
+use Rattle.paseto_pem.specs.declared.label.Label.{Label}
+use Rattle.paseto_pem.specs.declared.label.Label.TheVariants.{PrivateKey, EcPrivateKey}
+use Rattle.paseto_pem.specs.declared.found.Algorithm.{Algorithm}
+use Rattle.paseto_pem.specs.declared.found.Algorithm.TheVariants.{Ed25519, EllipticCurve, Rsa, Unknown}
+use Rattle.paseto_pem.specs.declared.error.PemError.{PemError}
+use Rattle.paseto_pem.specs.declared.error.PemError.TheVariants.{InvalidDer, OtherAlgorithm, OtherCurve, InvalidKey}
+use Rattle.paseto_pem.specs.Algorithm.{IsAlgorithm, ec_public_key, secp384r1}
+use Rattle.paseto_pem.specs.Info.{IsPrivateInfo, private_key_info, public_key_info}
+use Rattle.paseto_pem.specs.P384.{AreHalves, IsAlgorithmFault, IsAloneFault, IsBehindCurve, IsForm, IsFormFault, IsInfoFault, IsPoint, IsPointOf, IsPrivateOf, IsPublicOf, IsPublicRefusal, IsSpelled, compressed, ec_private_key, p384, parameters, public_part}
+use Rattle.paseto_pem.proofs.AlgorithmLaws.{ed25519-octets, rsa-octets}
+use Rattle.paseto_pem.proofs.InfoLaws.{element-most, element-same, private-info, private-unique, public-unique}
 
 pub algorithm-octets : 0x06 ∷ 0x07 ∷ 0x2a ∷ 0x86 ∷ 0x48 ∷ 0xce ∷ 0x3d ∷ 0x02 ∷ 0x01 ∷ 0x06 ∷ 0x05 ∷ 0x2b ∷ 0x81 ∷ 0x04 ∷ 0x00 ∷ 0x22 ∷ [] ≡ p384
 unfolding ec_public_key secp384r1 element der_length
 algorithm-octets = refl
+
+pub parameters-octets : 0xa0 ∷ 0x07 ∷ 0x06 ∷ 0x05 ∷ 0x2b ∷ 0x81 ∷ 0x04 ∷ 0x00 ∷ 0x22 ∷ [] ≡ parameters secp384r1
+unfolding secp384r1 element der_length
+parameters-octets = refl
 
 pub version-octets : 0x02 ∷ 0x01 ∷ 0x01 ∷ [] ≡ element 0x02 (1 ∷ [])
 unfolding element der_length
@@ -65,71 +65,126 @@ pub ec-of : (number rest contents octets version behind : List ℕ) → octets �
 ec-of number rest contents octets version behind read is split parts =
     read ∙ ap (element 0x30) (split ∙ ap (λ v. v ++ behind) is ∙ ap (λ b. element 0x02 (1 ∷ []) ++ b) parts) ∙ sym (ec-is number rest)
 
--- contents are one ECPrivateKey
-pub form-unique : (label : Label) (contents a b r s : List ℕ) → IsForm label contents a r → IsForm label contents b s → (a ≡ b) × (r ≡ s)
-form-unique PrivateKey contents a b r s e f =
-    ec-unique a b r s (ec_private_key a r) refl (private-unique p384 p384 (ec_private_key a r) (ec_private_key b s) contents e f).1
-form-unique EncryptedPrivateKey contents a b r s e f = absurd e
-form-unique PublicKey contents a b r s e f = absurd e
-form-unique EcPrivateKey contents a b r s e f =
-    let parts = ec-unique a b (element 0xa0 secp384r1 ++ r) (element 0xa0 secp384r1 ++ s) contents e f in
-    (parts.0, append_cancel_left (element 0xa0 secp384r1) r s parts.1)
-form-unique RsaPrivateKey contents a b r s e f = absurd e
-form-unique RsaPublicKey contents a b r s e f = absurd e
+-- what stands behind the parameters is one
+pub behind-unique : (behind a b : List ℕ) → IsBehindCurve behind a → IsBehindCurve behind b → a ≡ b
+behind-unique behind a b (inl e) (inl f) = append_cancel_left (parameters secp384r1) a b (sym e ∙ f)
+behind-unique behind a b (inl e) (inr f) = absurd (f.1 a e)
+behind-unique behind a b (inr e) (inl f) = absurd (e.1 b f)
+behind-unique behind a b (inr e) (inr f) = sym e.0 ∙ f.0
+
+-- an ECPrivateKey that tells its curve can be read in one way
+pub alone-unique : (a b c d r s octets : List ℕ) → octets ≡ ec_private_key a (parameters c ++ r)
+    → octets ≡ ec_private_key b (parameters d ++ s) → (a ≡ b) × (c ≡ d) × (r ≡ s)
+alone-unique a b c d r s octets e f =
+    let parts = ec-unique a b (parameters c ++ r) (parameters d ++ s) octets e f in
+    let named = element-unique 0xa0 c d r s parts.1 in
+    (parts.0, named.0, named.1)
+
+-- contents are one ECPrivateKey of the curve
+pub form-unique : (label : Label) (contents a b r s : List ℕ) (x y : Option (List ℕ)) → IsForm label contents a r x → IsForm label contents b s y
+    → (a ≡ b) × (r ≡ s) × (x ≡ y)
+form-unique PrivateKey contents a b r s x y e f =
+    let info = private-unique p384 p384 (ec_private_key a e.0) (ec_private_key b f.0) contents x y e.2 f.2 in
+    let parts = ec-unique a b e.0 f.0 (ec_private_key a e.0) refl info.1 in
+    let again : IsBehindCurve e.0 s = subst (λ (l : List ℕ). IsBehindCurve l s) (sym parts.1) f.1 in
+    (parts.0, behind-unique e.0 r s e.1 again, info.2)
+form-unique EcPrivateKey contents a b r s x y e f =
+    let parts = alone-unique a b secp384r1 secp384r1 r s contents e.0 f.0 in
+    (parts.0, parts.2, e.1 ∙ sym f.1)
+form-unique label contents a b r s x y e f = absurd e
+
+-- another algorithm or curve is not this one
+other-curves : (other : Algorithm) → IsAlgorithm other p384 → other ≢ EllipticCurve → ⊥
+other-curves Ed25519 is other =
+    let second : 7 ≡ 3 = ap (λ (l : List ℕ). get_or l 1 0) (algorithm-octets ∙ is ∙ sym ed25519-octets) in
+    cc second
+other-curves EllipticCurve is other = other refl
+other-curves Rsa is other =
+    let second : 7 ≡ 9 = ap (λ (l : List ℕ). get_or l 1 0) (algorithm-octets ∙ is ∙ sym rsa-octets) in
+    cc second
+other-curves Unknown is other = is.1 (secp384r1, refl)
 
 fault-algorithm : (algorithm : List ℕ) (error : PemError) → IsAlgorithmFault algorithm error → algorithm ≢ p384
-fault-algorithm algorithm NotPem h e = h
-fault-algorithm algorithm Encrypted h e = h
-fault-algorithm algorithm (OtherLabel other) h e = h
-fault-algorithm algorithm OtherAlgorithm h e = h secp384r1 e
-fault-algorithm algorithm OtherCurve h e = h.2 (append_cancel_left ec_public_key h.0 secp384r1 (sym h.1 ∙ e))
-fault-algorithm algorithm OtherSize h e = h
-fault-algorithm algorithm InvalidKey h e = h
-fault-algorithm algorithm (Memory source) h e = h
+fault-algorithm algorithm (OtherAlgorithm other) h e = other-curves other (subst (IsAlgorithm other) e h.0) h.1
+fault-algorithm algorithm (OtherCurve other) h e = h.2 (append_cancel_left ec_public_key h.0 secp384r1 (sym h.1 ∙ e))
+fault-algorithm algorithm error h e = absurd h
 
-no-info : (contents number rest : List ℕ) (error : PemError) → IsInfoFault contents error
-    → contents ≡ private_key_info p384 (ec_private_key number rest) → ⊥
-no-info contents number rest NotPem h e = h.3
-no-info contents number rest Encrypted h e = h.3
-no-info contents number rest (OtherLabel other) h e = h.3
-no-info contents number rest OtherAlgorithm h e = fault-algorithm h.0 OtherAlgorithm h.3 (private-unique h.0 p384 h.1 _ contents h.2 e).0
-no-info contents number rest OtherCurve h e = fault-algorithm h.0 OtherCurve h.3 (private-unique h.0 p384 h.1 _ contents h.2 e).0
-no-info contents number rest OtherSize h e = h.3
-no-info contents number rest InvalidKey h e = h number rest e
-no-info contents number rest (Memory source) h e = h.3
+info-fault : (contents algorithm key number behind : List ℕ) (public own : Option (List ℕ)) (error : PemError)
+    → IsPrivateInfo algorithm key public contents → IsAlgorithmFault algorithm error
+    → IsPrivateInfo p384 (ec_private_key number behind) own contents → ⊥
+info-fault contents algorithm key number behind public own error p h q =
+    fault-algorithm algorithm error h (private-unique algorithm p384 key (ec_private_key number behind) contents public own p q).0
+
+no-info : (contents number behind : List ℕ) (own : Option (List ℕ)) (error : PemError) → IsInfoFault contents error
+    → IsPrivateInfo p384 (ec_private_key number behind) own contents → ⊥
+no-info contents number behind own InvalidDer h q = h p384 (ec_private_key number behind) own q
+no-info contents number behind own InvalidKey h q =
+    h.3 number behind (private-unique p384 p384 h.0 (ec_private_key number behind) contents h.1 own h.2 q).1
+no-info contents number behind own (OtherAlgorithm other) h q = info-fault contents h.0 h.1 number behind h.2 own (OtherAlgorithm other) h.3 h.4 q
+no-info contents number behind own (OtherCurve other) h q = info-fault contents h.0 h.1 number behind h.2 own (OtherCurve other) h.3 h.4 q
+no-info contents number behind own error h q = absurd h.4
 
 no-alone : (contents number rest : List ℕ) (error : PemError) → IsAloneFault contents error
-    → contents ≡ ec_private_key number (element 0xa0 secp384r1 ++ rest) → ⊥
-no-alone contents number rest NotPem h e = h
-no-alone contents number rest Encrypted h e = h
-no-alone contents number rest (OtherLabel other) h e = h
-no-alone contents number rest OtherAlgorithm h e = h
-no-alone contents number rest OtherCurve h e =
-    let parts = ec-unique h.0 number (element 0xa0 h.1 ++ h.2) (element 0xa0 secp384r1 ++ rest) contents h.3 e in
-    h.4 (element-unique 0xa0 h.1 secp384r1 h.2 rest parts.1).0
-no-alone contents number rest OtherSize h e = h
-no-alone contents number rest InvalidKey h e = h number rest e
-no-alone contents number rest (Memory source) h e = h
+    → contents ≡ ec_private_key number (parameters secp384r1 ++ rest) → ⊥
+no-alone contents number rest InvalidDer h e = h number secp384r1 rest e
+no-alone contents number rest (OtherCurve other) h e =
+    h.4 (alone-unique h.0 number h.1 secp384r1 h.2 rest contents h.3 e).1
+no-alone contents number rest error h e = absurd h
 
-pub no-form : (label : Label) (contents number rest : List ℕ) (error : PemError) → IsFormFault label contents error
-    → IsForm label contents number rest → ⊥
-no-form PrivateKey contents number rest error h p = no-info contents number rest error h p
-no-form EncryptedPrivateKey contents number rest error h p = p
-no-form PublicKey contents number rest error h p = p
-no-form EcPrivateKey contents number rest error h p = no-alone contents number rest error h p
-no-form RsaPrivateKey contents number rest error h p = p
-no-form RsaPublicKey contents number rest error h p = p
+pub no-form : (label : Label) (contents number rest : List ℕ) (public : Option (List ℕ)) (error : PemError) → IsFormFault label contents error
+    → IsForm label contents number rest public → ⊥
+no-form PrivateKey contents number rest public error h p = no-info contents number p.0 public error h p.2
+no-form EcPrivateKey contents number rest public error h p = no-alone contents number rest error h p.0
+no-form label contents number rest public error h p = p
 
-pub no-octets : (contents octets : List ℕ) (error : PemError) → IsOctetsFault contents error
-    → contents ≡ public_key_info p384 octets → ⊥
-no-octets contents octets NotPem h e = h.3
-no-octets contents octets Encrypted h e = h.3
-no-octets contents octets (OtherLabel other) h e = h.3
-no-octets contents octets OtherAlgorithm h e = fault-algorithm h.0 OtherAlgorithm h.3 (public-unique h.0 p384 h.1 octets contents h.2 e).0
-no-octets contents octets OtherCurve h e = fault-algorithm h.0 OtherCurve h.3 (public-unique h.0 p384 h.1 octets contents h.2 e).0
-no-octets contents octets OtherSize h e = h.3
-no-octets contents octets InvalidKey h e = h octets e
-no-octets contents octets (Memory source) h e = h.3
+public-fault : (contents algorithm key octets : List ℕ) (error : PemError) → contents ≡ public_key_info algorithm key
+    → IsAlgorithmFault algorithm error → contents ≡ public_key_info p384 octets → ⊥
+public-fault contents algorithm key octets error p h q =
+    fault-algorithm algorithm error h (public-unique algorithm p384 key octets contents p q).0
+
+pub no-public : (label : Label) (contents key : List ℕ) (error : PemError) → IsPublicRefusal contents error → IsPublicOf label contents key → ⊥
+no-public label contents key InvalidDer h p = h p384 p.octets p.written
+no-public label contents key InvalidKey h p =
+    let same = (public-unique p384 p384 h.0 p.octets contents h.1 p.written).1 in
+    h.2 key p.xy p.point (subst (λ (o : List ℕ). IsSpelled o key p.xy) (sym same) p.spelled)
+no-public label contents key (OtherAlgorithm other) h p = public-fault contents h.0 h.1 p.octets (OtherAlgorithm other) h.2 h.3 p.written
+no-public label contents key (OtherCurve other) h p = public-fault contents h.0 h.1 p.octets (OtherCurve other) h.2 h.3 p.written
+no-public label contents key error h p = absurd h.3
+
+-- a private key has one point
+pub one-point : (a b xy zs : List ℕ) → a ≡ b → IsPointOf a xy → IsPointOf b zs → xy ≡ zs
+one-point a b xy zs same p q =
+    let r = subst (λ (k : List ℕ). IsPointOf k zs) (sym same) q in
+    let both = sym p.1 ∙ r.1 in
+    cc both
+
+-- what is found beside a number
+pub number-fault : (label : Label) (contents number rest key xy : List ℕ) (public : Option (List ℕ)) → IsForm label contents number rest public
+    → IsPointOf number xy → ¬ AreHalves rest public xy → IsPrivateOf label contents key → ⊥
+number-fault label contents number rest key xy public form point other p =
+    let same = form-unique label contents number key rest p.rest public p.public form p.form in
+    let coordinates = one-point number key xy p.xy same.0 point p.point in
+    let halves : AreHalves rest public p.xy =
+    subst (λ (o : Option (List ℕ)). AreHalves rest o p.xy) (sym same.2) (subst (λ (r : List ℕ). AreHalves r p.public p.xy) (sym same.1) p.halves) in
+    other (subst (AreHalves rest public) (sym coordinates) halves)
+
+pub no-number : (label : Label) (contents number rest key : List ℕ) (public : Option (List ℕ)) → IsForm label contents number rest public
+    → ((xy : List ℕ) → ¬ IsPointOf number xy) → IsPrivateOf label contents key → ⊥
+no-number label contents number rest key public form none p =
+    let same = form-unique label contents number key rest p.rest public p.public form p.form in
+    none p.xy (subst (λ (k : List ℕ). IsPointOf k p.xy) (sym same.0) p.point)
+
+-- what is written is an ECPrivateKey of the curve
+part-no-parameters : (xy other : List ℕ) → public_part xy ≢ parameters secp384r1 ++ other
+part-no-parameters xy other e =
+    let first = (element-first 0xa1 (element 0x03 (0 ∷ 4 ∷ xy)) [] (public_part xy) (part-is xy ∙ sym (append-nil (element 0xa1 (element 0x03 (0 ∷ 4 ∷ xy)))))).1 in
+    let second = (element-first 0xa0 secp384r1 other (public_part xy) e).1 in
+    omega (arith, first, second)
+
+pub written-form : (contents number xy : List ℕ) → contents ≡ private_key_info p384 (ec_private_key number (public_part xy))
+    → IsForm PrivateKey contents number (public_part xy) None
+written-form contents number xy e =
+    (public_part xy, inr (refl, part-no-parameters xy), private-info p384 (ec_private_key number (public_part xy)) contents e)
 
 pub compressed-is : (xy : List ℕ) → (2 + slice_index xy 95 % 2) ∷ take 48 xy ≡ compressed xy
 unfolding compressed
@@ -147,13 +202,6 @@ public-one octets a b xy zs p q (inr e) (inl f) =
 public-one octets a b xy zs p q (inr e) (inr f) =
     let same : xy ≡ zs = ap (drop 1) (sym e ∙ f) in
     p.encoded ∙ ap compressed same ∙ sym q.encoded
-
--- a private key has one point
-pub one-point : (a b xy zs : List ℕ) → a ≡ b → IsPointOf a xy → IsPointOf b zs → xy ≡ zs
-one-point a b xy zs same p q =
-    let r = subst (λ (k : List ℕ). IsPointOf k zs) (sym same) q in
-    let both = sym p.1 ∙ r.1 in
-    cc both
 
 -- a public key in an ECPrivateKey has few octets
 pub part-most : (xy : List ℕ) → length (public_part xy) ≤ 10 + length xy

@@ -1,7 +1,7 @@
 -- The encapsulation boundaries of texts with a label (RFC 7468, section 3, figure 1).
 use Rattle.std.specs.Prelude.{◌≡◌, ℕ, List, ◌++◌, codes}
 use Rattle.paseto_pem.specs.declared.label.Label.{Label}
-use Rattle.paseto_pem.specs.declared.label.Label.TheVariants.{PrivateKey, EncryptedPrivateKey, PublicKey, EcPrivateKey, RsaPrivateKey, RsaPublicKey}
+use Rattle.paseto_pem.specs.declared.label.Label.TheVariants.{PrivateKey, EncryptedPrivateKey, PublicKey, EcPrivateKey, RsaPrivateKey, RsaPublicKey, OpenSshPrivateKey}
 
 abbrev pub label_text : Label → List ℕ
 label_text PrivateKey = codes "PRIVATE KEY"
@@ -10,6 +10,7 @@ label_text PublicKey = codes "PUBLIC KEY"
 label_text EcPrivateKey = codes "EC PRIVATE KEY"
 label_text RsaPrivateKey = codes "RSA PRIVATE KEY"
 label_text RsaPublicKey = codes "RSA PUBLIC KEY"
+label_text OpenSshPrivateKey = codes "OPENSSH PRIVATE KEY"
 
 -- preeb
 abbrev pub begin_boundary : Label → List ℕ

@@ -1,6 +1,7 @@
 pub mod Label
 pub mod Text
 pub mod Error
+pub mod Algorithm
 pub mod Info
 pub mod Key
 pub mod Ed25519

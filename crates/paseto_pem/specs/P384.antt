@@ -1,22 +1,16 @@
 -- Keys of P-384 (RFC 5480, RFC 5915).
-use Rattle.std.specs.Prelude.{◌≡◌, ◌≢◌, ◌⊎◌, ℕ, ◌+◌, ◌%◌, List, [], ◌∷◌, ◌++◌, length, take, slice_index, Some}
+use Rattle.std.specs.Prelude.{◌≡◌, ◌≢◌, ◌⊎◌, ℕ, ◌+◌, ◌%◌, List, [], ◌∷◌, ◌++◌, length, take, slice_index, Option, None, Some}
 use Rattle.paseto_der.specs.Element.{element}
 use Rattle.paseto_p384.specs.Encoding.{coordinates_of}
 use Rattle.paseto_p384.specs.P384.{IsPrivate, p384_public}
 use Rattle.paseto_pem.specs.declared.label.Label.{Label}
 use Rattle.paseto_pem.specs.declared.label.Label.TheVariants.{PrivateKey, PublicKey, EcPrivateKey}
+use Rattle.paseto_pem.specs.declared.found.Algorithm.TheVariants.{EllipticCurve}
 use Rattle.paseto_pem.specs.declared.error.PemError.{PemError}
-use Rattle.paseto_pem.specs.declared.error.PemError.TheVariants.{OtherAlgorithm, OtherCurve, InvalidKey}
-use Rattle.paseto_pem.specs.Info.{private_key_info, public_key_info}
+use Rattle.paseto_pem.specs.declared.error.PemError.TheVariants.{InvalidDer, OtherAlgorithm, OtherCurve, OtherHalf, InvalidKey}
+use Rattle.paseto_pem.specs.Algorithm.{IsAlgorithm, IsCurve, ec_public_key, secp384r1}
+use Rattle.paseto_pem.specs.Info.{IsHalf, IsNoPrivateInfo, IsNoPublicInfo, IsPrivateInfo, private_key_info, public_key_info}
 use Rattle.paseto_pem.specs.Key.{Faults, IsOtherLabel}
-
--- id-ecPublicKey, 1.2.840.10045.2.1 (RFC 5480, section 2.1.1)
-unfoldable pub ec_public_key : List ℕ
-ec_public_key = element 0x06 (0x2a ∷ 0x86 ∷ 0x48 ∷ 0xce ∷ 0x3d ∷ 0x02 ∷ 0x01 ∷ [])
-
--- secp384r1, 1.3.132.0.34 (RFC 5480, section 2.1.1.1)
-unfoldable pub secp384r1 : List ℕ
-secp384r1 = element 0x06 (0x2b ∷ 0x81 ∷ 0x04 ∷ 0x00 ∷ 0x22 ∷ [])
 
 -- the algorithm, whose parameters are the curve
 abbrev pub p384 : List ℕ
@@ -26,27 +20,55 @@ p384 = ec_public_key ++ secp384r1
 unfoldable pub ec_private_key : List ℕ → List ℕ → List ℕ
 ec_private_key number rest = element 0x30 (element 0x02 (1 ∷ []) ++ (element 0x04 number ++ rest))
 
--- the public key in an ECPrivateKey, by its coordinates, without compression
+-- the parameters in an ECPrivateKey, tagged 0
+abbrev pub parameters : List ℕ → List ℕ
+parameters curve = element 0xa0 curve
+
+-- the public key in an ECPrivateKey, tagged 1, by its coordinates, without compression
 unfoldable pub public_part : List ℕ → List ℕ
 public_part xy = element 0xa1 (element 0x03 (0 ∷ 4 ∷ xy))
 
--- contents are an ECPrivateKey: in a PrivateKeyInfo, which tells the curve, or alone with the curve as its parameters
-abbrev pub IsForm : Label → List ℕ → List ℕ → List ℕ → Type 0
-IsForm PrivateKey contents number rest = contents ≡ private_key_info p384 (ec_private_key number rest)
-IsForm EcPrivateKey contents number rest = contents ≡ ec_private_key number (element 0xa0 secp384r1 ++ rest)
-IsForm _ contents number rest = ⊥
+-- what follows the number is the parameters of the curve and the rest, or it has none and is the rest
+abbrev pub IsBehindCurve : List ℕ → List ℕ → Type 0
+IsBehindCurve behind rest =
+    (behind ≡ parameters secp384r1 ++ rest)
+    ⊎ ((behind ≡ rest) × ((other : List ℕ) → behind ≢ parameters secp384r1 ++ other))
+
+-- contents are an ECPrivateKey of the curve: in a OneAsymmetricKey, which tells the curve and may have the public key once
+-- more, and where the parameters need not tell it again; or alone, where they tell it (RFC 5915, section 3)
+abbrev pub IsForm : Label → List ℕ → List ℕ → List ℕ → Option (List ℕ) → Type 0
+IsForm PrivateKey contents number rest public =
+    (behind : List ℕ) × IsBehindCurve behind rest × IsPrivateInfo p384 (ec_private_key number behind) public contents
+IsForm EcPrivateKey contents number rest public =
+    (contents ≡ ec_private_key number (parameters secp384r1 ++ rest)) × (public ≡ None)
+IsForm _ contents number rest public = ⊥
 
 -- these are the coordinates of the public key of a private key
 abbrev pub IsPointOf : List ℕ → List ℕ → Type 0
 IsPointOf private xy = IsPrivate private × (coordinates_of (p384_public private) ≡ Some xy)
 
--- contents are a private key of 48 octets, with its own public key or with none
+-- each public key beside a private one is its own, by its coordinates: that in the ECPrivateKey, and that beside it
+abbrev pub AreHalves : List ℕ → Option (List ℕ) → List ℕ → Type 0
+AreHalves rest public xy = ((rest ≡ []) ⊎ (rest ≡ public_part xy)) × IsHalf public (4 ∷ xy)
+
+-- contents are a private key of 48 octets
 pub record IsPrivateOf (label : Label) (contents key : List ℕ) : Type 0 where
   pub xy : List ℕ
   pub point : IsPointOf key xy
   pub rest : List ℕ
-  pub form : IsForm label contents key rest
-  pub half : (rest ≡ []) ⊎ (rest ≡ public_part xy)
+  pub public : Option (List ℕ)
+  pub form : IsForm label contents key rest public
+  pub halves : AreHalves rest public xy
+
+-- contents are those that are written of a private key: a PrivateKeyInfo, and in its ECPrivateKey the public key
+pub record IsPrivateForm (label : Label) (contents key : List ℕ) : Type 0 where
+  pub is_private : label ≡ PrivateKey
+  pub xy : List ℕ
+  pub point : IsPointOf key xy
+  pub written : contents ≡ private_key_info p384 (ec_private_key key (public_part xy))
+
+abbrev pub IsPrivateWritten : Label → List ℕ → List ℕ → Type 0
+IsPrivateWritten label contents key = IsPrivateForm label contents key × IsPrivateOf label contents key
 
 -- the compressed form of coordinates: 2 or 3 by the parity of y, and x (SEC 1, section 2.3.3, step 2)
 unfoldable pub compressed : List ℕ → List ℕ
@@ -72,26 +94,38 @@ pub record IsPublicOf (label : Label) (contents key : List ℕ) : Type 0 where
   pub written : contents ≡ public_key_info p384 octets
   pub spelled : IsSpelled octets key xy
 
+-- contents are those that are written of a public key: its point without compression
+pub record IsPublicForm (label : Label) (contents key : List ℕ) : Type 0 where
+  pub is_public : label ≡ PublicKey
+  pub xy : List ℕ
+  pub point : IsPoint key xy
+  pub written : contents ≡ public_key_info p384 (4 ∷ xy)
+
+abbrev pub IsPublicWritten : Label → List ℕ → List ℕ → Type 0
+IsPublicWritten label contents key = IsPublicForm label contents key × IsPublicOf label contents key
+
 -- why an algorithm is refused
 abbrev pub IsAlgorithmFault : List ℕ → PemError → Type 0
-IsAlgorithmFault algorithm OtherAlgorithm = (curve : List ℕ) → algorithm ≢ ec_public_key ++ curve
-IsAlgorithmFault algorithm OtherCurve = (curve : List ℕ) × (algorithm ≡ ec_public_key ++ curve) × (curve ≢ secp384r1)
+IsAlgorithmFault algorithm (OtherAlgorithm other) = IsAlgorithm other algorithm × (other ≢ EllipticCurve)
+IsAlgorithmFault algorithm (OtherCurve other) =
+    (curve : List ℕ) × (algorithm ≡ ec_public_key ++ curve) × (curve ≢ secp384r1) × IsCurve other curve
 IsAlgorithmFault algorithm _ = ⊥
 
--- why no ECPrivateKey is found in a PrivateKeyInfo
+-- why no ECPrivateKey of the curve is found in a OneAsymmetricKey: each presupposes that none before it holds
 abbrev pub IsInfoFault : List ℕ → PemError → Type 0
+IsInfoFault contents InvalidDer = IsNoPrivateInfo contents
 IsInfoFault contents InvalidKey =
-    (number : List ℕ) (rest : List ℕ) → contents ≢ private_key_info p384 (ec_private_key number rest)
+    (key : List ℕ) × (public : Option (List ℕ)) × IsPrivateInfo p384 key public contents
+    × ((number rest : List ℕ) → key ≢ ec_private_key number rest)
 IsInfoFault contents error =
-    (algorithm : List ℕ) × (key : List ℕ) × (contents ≡ private_key_info algorithm key) × IsAlgorithmFault algorithm error
+    (algorithm key : List ℕ) × (public : Option (List ℕ)) × IsPrivateInfo algorithm key public contents × IsAlgorithmFault algorithm error
 
--- why none is found that stands alone
+-- why none is found that stands alone: it is none, or none that tells its curve, or one of another curve
 abbrev pub IsAloneFault : List ℕ → PemError → Type 0
-IsAloneFault contents InvalidKey =
-    (number : List ℕ) (rest : List ℕ) → contents ≢ ec_private_key number (element 0xa0 secp384r1 ++ rest)
-IsAloneFault contents OtherCurve =
-    (number : List ℕ) × (curve : List ℕ) × (rest : List ℕ)
-    × (contents ≡ ec_private_key number (element 0xa0 curve ++ rest)) × (curve ≢ secp384r1)
+IsAloneFault contents InvalidDer = (number curve rest : List ℕ) → contents ≢ ec_private_key number (parameters curve ++ rest)
+IsAloneFault contents (OtherCurve other) =
+    (number curve rest : List ℕ) × (contents ≡ ec_private_key number (parameters curve ++ rest)) × (curve ≢ secp384r1)
+    × IsCurve other curve
 IsAloneFault contents _ = ⊥
 
 abbrev pub IsFormFault : Faults
@@ -99,20 +133,28 @@ IsFormFault PrivateKey contents error = IsInfoFault contents error
 IsFormFault EcPrivateKey contents error = IsAloneFault contents error
 IsFormFault label contents error = IsOtherLabel label error
 
+-- why an ECPrivateKey of the curve is refused: a public key beside the private one is not its own, or there is no private key
+abbrev pub IsNumberFault : Label → List ℕ → PemError → Type 0
+IsNumberFault label contents OtherHalf =
+    (number rest : List ℕ) × (public : Option (List ℕ)) × (xy : List ℕ) × IsForm label contents number rest public
+    × IsPointOf number xy × (¬ AreHalves rest public xy)
+IsNumberFault label contents InvalidKey =
+    (number rest : List ℕ) × (public : Option (List ℕ)) × IsForm label contents number rest public
+    × ((xy : List ℕ) → ¬ IsPointOf number xy)
+IsNumberFault label contents _ = ⊥
+
 -- why contents are not read as a private key
 abbrev pub IsPrivateFault : Faults
-IsPrivateFault label contents error =
-    IsFormFault label contents error ⊎ ((error ≡ InvalidKey) × ((key : List ℕ) → ¬ IsPrivateOf label contents key))
+IsPrivateFault label contents error = IsFormFault label contents error ⊎ IsNumberFault label contents error
 
--- why no octets of a key of the curve are found
-abbrev pub IsOctetsFault : List ℕ → PemError → Type 0
-IsOctetsFault contents InvalidKey = (octets : List ℕ) → contents ≢ public_key_info p384 octets
-IsOctetsFault contents error =
-    (algorithm : List ℕ) × (key : List ℕ) × (contents ≡ public_key_info algorithm key) × IsAlgorithmFault algorithm error
+-- why contents are not read as a public key, where the label is that of one: each presupposes that none before it holds
+abbrev pub IsPublicRefusal : List ℕ → PemError → Type 0
+IsPublicRefusal contents InvalidDer = IsNoPublicInfo contents
+IsPublicRefusal contents InvalidKey =
+    (octets : List ℕ) × (contents ≡ public_key_info p384 octets) × ((key xy : List ℕ) → IsPoint key xy → ¬ IsSpelled octets key xy)
+IsPublicRefusal contents error =
+    (algorithm key : List ℕ) × (contents ≡ public_key_info algorithm key) × IsAlgorithmFault algorithm error
 
--- why contents are not read as a public key
 abbrev pub IsPublicFault : Faults
 IsPublicFault label contents error =
-    ((label ≢ PublicKey) × IsOtherLabel label error)
-    ⊎ (((label ≡ PublicKey) × IsOctetsFault contents error)
-    ⊎ ((error ≡ InvalidKey) × ((key : List ℕ) → ¬ IsPublicOf label contents key)))
+    ((label ≢ PublicKey) × IsOtherLabel label error) ⊎ ((label ≡ PublicKey) × IsPublicRefusal contents error)

@@ -1,17 +1,15 @@
 -- Keys of RSA of 2048 bits (RFC 8017, appendix A.1).
-use Rattle.std.specs.Prelude.{◌≡◌, ◌≢◌, ◌⊎◌, ⊤, ℕ, List, [], ◌∷◌, ◌++◌, length}
+use Rattle.std.specs.Prelude.{◌≡◌, ◌≢◌, ◌⊎◌, ℕ, ◌*◌, ◌-◌, ◌<◌, List, ◌++◌, length, nat_eq, slice_index, if◌then◌else◌, Option, None, Some}
 use Rattle.paseto_der.specs.Element.{element}
 use Rattle.paseto_rsa.specs.Keys.{IsInRange, IsPrivate, IsPublicKey}
 use Rattle.paseto_pem.specs.declared.label.Label.{Label}
-use Rattle.paseto_pem.specs.declared.label.Label.TheVariants.{PrivateKey, PublicKey, RsaPublicKey}
+use Rattle.paseto_pem.specs.declared.label.Label.TheVariants.{PrivateKey, PublicKey, RsaPrivateKey, RsaPublicKey}
+use Rattle.paseto_pem.specs.declared.found.Algorithm.TheVariants.{Rsa}
 use Rattle.paseto_pem.specs.declared.error.PemError.{PemError}
-use Rattle.paseto_pem.specs.declared.error.PemError.TheVariants.{OtherAlgorithm, OtherSize, InvalidKey}
-use Rattle.paseto_pem.specs.Info.{private_key_info, public_key_info}
+use Rattle.paseto_pem.specs.declared.error.PemError.TheVariants.{InvalidDer, OtherAlgorithm, OtherSize, InvalidKey}
+use Rattle.paseto_pem.specs.Algorithm.{IsAlgorithm, rsa}
+use Rattle.paseto_pem.specs.Info.{IsNoPrivateInfo, IsNoPublicInfo, IsPrivateInfo, private_key_info, public_key_info}
 use Rattle.paseto_pem.specs.Key.{Faults, IsOtherLabel}
-
--- rsaEncryption, 1.2.840.113549.1.1.1, with parameters NULL
-unfoldable pub rsa : List ℕ
-rsa = element 0x06 (0x2a ∷ 0x86 ∷ 0x48 ∷ 0x86 ∷ 0xf7 ∷ 0x0d ∷ 0x01 ∷ 0x01 ∷ 0x01 ∷ []) ++ element 0x05 []
 
 -- octets are a public key, an RSAPublicKey, which has 270 octets: its modulus has 2048 bits, and its exponent is 65537
 pub record IsPublic (key : List ℕ) : Type 0 where
@@ -21,11 +19,27 @@ pub record IsPublic (key : List ℕ) : Type 0 where
   pub in_range : IsInRange n e
   pub read : IsPublicKey n e key
 
--- contents are a private key: a PrivateKeyInfo, which is the key itself
+-- an RSAPrivateKey of this label: in a PrivateKeyInfo, or alone (A.1.2)
+abbrev pub IsForm : Label → List ℕ → List ℕ → Type 0
+IsForm PrivateKey contents inner = IsPrivateInfo rsa inner None contents
+IsForm RsaPrivateKey contents inner = contents ≡ inner
+IsForm _ contents inner = ⊥
+
+-- contents are a private key: the PrivateKeyInfo of their RSAPrivateKey
 pub record IsPrivateOf (label : Label) (contents key : List ℕ) : Type 0 where
+  pub inner : List ℕ
+  pub form : IsForm label contents inner
+  pub written : key ≡ private_key_info rsa inner
+  pub is_key : IsPrivate key
+
+-- contents are those that are written of a private key: a PrivateKeyInfo, which is the key itself
+pub record IsPrivateForm (label : Label) (contents key : List ℕ) : Type 0 where
   pub is_private : label ≡ PrivateKey
   pub is_key : IsPrivate key
   pub written : contents ≡ key
+
+abbrev pub IsPrivateWritten : Label → List ℕ → List ℕ → Type 0
+IsPrivateWritten label contents key = IsPrivateForm label contents key × IsPrivateOf label contents key
 
 -- what stands in contents for an RSAPublicKey
 abbrev pub IsHeld : Label → List ℕ → List ℕ → Type 0
@@ -38,43 +52,69 @@ pub record IsPublicOf (label : Label) (contents key : List ℕ) : Type 0 where
   pub held : IsHeld label contents key
   pub is_key : IsPublic key
 
--- the first INTEGER is no modulus of 2048 bits, which has 257 octets, the first of them 0
-abbrev pub HasOtherModulus : List ℕ → Type 0
-HasOtherModulus integers =
-    (modulus : List ℕ) × (behind : List ℕ) × (integers ≡ element 0x02 modulus ++ behind) × (length modulus ≢ 257)
+-- contents are those that are written of a public key: a SubjectPublicKeyInfo
+pub record IsPublicForm (label : Label) (contents key : List ℕ) : Type 0 where
+  pub is_public : label ≡ PublicKey
+  pub is_key : IsPublic key
+  pub written : contents ≡ public_key_info rsa key
 
--- why contents are not read as a private key, where the label is that of one
-abbrev pub IsPrivateRefusal : List ℕ → PemError → Type 0
-IsPrivateRefusal contents OtherAlgorithm =
-    (¬ IsPrivate contents)
-    × ((algorithm : List ℕ) × (key : List ℕ) × (contents ≡ private_key_info algorithm key) × (algorithm ≢ rsa))
-IsPrivateRefusal contents OtherSize =
-    (¬ IsPrivate contents)
-    × ((version : List ℕ) × (integers : List ℕ)
-    × (contents ≡ private_key_info rsa (element 0x30 (element 0x02 version ++ integers))) × HasOtherModulus integers)
-IsPrivateRefusal contents InvalidKey = ¬ IsPrivate contents
-IsPrivateRefusal contents _ = ⊥
+abbrev pub IsPublicWritten : Label → List ℕ → List ℕ → Type 0
+IsPublicWritten label contents key = IsPublicForm label contents key × IsPublicOf label contents key
 
+-- how many bits a modulus has, rounded up to whole octets: one of them may be the 0 that keeps the INTEGER from being negative
+abbrev pub modulus_size : List ℕ → ℕ
+modulus_size modulus = 8 * (if nat_eq (slice_index modulus 0) 0 then length modulus - 1 else length modulus)
+
+-- the first INTEGER is a modulus of so many bits, and not of 2048
+abbrev pub HasOtherModulus : ℕ → List ℕ → Type 0
+HasOtherModulus size integers =
+    (modulus behind : List ℕ) × (integers ≡ element 0x02 modulus ++ behind) × (length modulus < 65536)
+    × (size ≡ modulus_size modulus) × (size ≢ 2048)
+
+-- an RSAPrivateKey has a modulus of so many bits, and not of 2048
+abbrev pub HasOtherSize : ℕ → List ℕ → Type 0
+HasOtherSize size inner =
+    (version integers : List ℕ) × (inner ≡ element 0x30 (element 0x02 version ++ integers)) × HasOtherModulus size integers
+
+-- why no RSAPrivateKey is found: the last is that one stands beside its public key, in version v2 (RFC 5958, section 2)
+abbrev pub IsFormFault : Faults
+IsFormFault PrivateKey contents InvalidDer = IsNoPrivateInfo contents
+IsFormFault PrivateKey contents (OtherAlgorithm other) =
+    (algorithm key : List ℕ) × (public : Option (List ℕ)) × IsPrivateInfo algorithm key public contents
+    × IsAlgorithm other algorithm × (other ≢ Rsa)
+IsFormFault PrivateKey contents InvalidKey = (inner public : List ℕ) × IsPrivateInfo rsa inner (Some public) contents
+IsFormFault PrivateKey contents _ = ⊥
+IsFormFault RsaPrivateKey contents error = ⊥
+IsFormFault label contents error = IsOtherLabel label error
+
+-- why an RSAPrivateKey is refused: each presupposes that none before it holds
+abbrev pub IsInnerFault : List ℕ → PemError → Type 0
+IsInnerFault inner (OtherSize size) = (¬ IsPrivate (private_key_info rsa inner)) × HasOtherSize size inner
+IsInnerFault inner InvalidKey = (¬ IsPrivate (private_key_info rsa inner)) × ((size : ℕ) → ¬ HasOtherSize size inner)
+IsInnerFault inner _ = ⊥
+
+-- why contents are not read as a private key
 abbrev pub IsPrivateFault : Faults
 IsPrivateFault label contents error =
-    ((label ≢ PrivateKey) × IsOtherLabel label error) ⊎ ((label ≡ PrivateKey) × IsPrivateRefusal contents error)
+    IsFormFault label contents error ⊎ ((inner : List ℕ) × IsForm label contents inner × IsInnerFault inner error)
 
 -- why no RSAPublicKey is found
-abbrev pub IsPublicRefusal : List ℕ → PemError → Type 0
-IsPublicRefusal contents OtherAlgorithm =
-    (algorithm : List ℕ) × (key : List ℕ) × (contents ≡ public_key_info algorithm key) × (algorithm ≢ rsa)
-IsPublicRefusal contents InvalidKey = (key : List ℕ) → contents ≢ public_key_info rsa key
-IsPublicRefusal contents _ = ⊥
-
 abbrev pub IsHeldFault : Faults
-IsHeldFault PublicKey contents error = IsPublicRefusal contents error
+IsHeldFault PublicKey contents InvalidDer = IsNoPublicInfo contents
+IsHeldFault PublicKey contents (OtherAlgorithm other) =
+    (algorithm key : List ℕ) × (contents ≡ public_key_info algorithm key) × IsAlgorithm other algorithm × (other ≢ Rsa)
+IsHeldFault PublicKey contents _ = ⊥
 IsHeldFault RsaPublicKey contents error = ⊥
 IsHeldFault label contents error = IsOtherLabel label error
 
+-- an RSAPublicKey has a modulus of so many bits, and not of 2048
+abbrev pub HasOtherPublicSize : ℕ → List ℕ → Type 0
+HasOtherPublicSize size key = (integers : List ℕ) × (key ≡ element 0x30 integers) × HasOtherModulus size integers
+
 -- why an RSAPublicKey is refused
 abbrev pub IsSizeFault : List ℕ → PemError → Type 0
-IsSizeFault key OtherSize = (integers : List ℕ) × (key ≡ element 0x30 integers) × HasOtherModulus integers
-IsSizeFault key InvalidKey = ⊤
+IsSizeFault key (OtherSize size) = HasOtherPublicSize size key
+IsSizeFault key InvalidKey = (size : ℕ) → ¬ HasOtherPublicSize size key
 IsSizeFault key _ = ⊥
 
 -- why contents are not read as a public key

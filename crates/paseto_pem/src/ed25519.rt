@@ -1,15 +1,19 @@
 //! Keys of Ed25519 (RFC 8410), of versions 2 and 4.
 
-ghost use Rattle.std.specs.Prelude.{◌≡◌, length, IfErr, IfOk};
+ghost use Rattle.std.specs.Prelude.{◌≡◌, ◌≢◌, ◌↔◌, Option, ℕ, List, length, IfErr, IfOk, IsTrue, MatchOption};
+ghost use Rattle.paseto_der.specs.Element.{element};
 ghost use Rattle.paseto_ed25519.specs.Ed25519.{ed25519_public};
-ghost use Rattle.paseto_pem.specs.Ed25519.{IsPrivateFault, IsPrivateOf, IsPrivateRefusal, IsPublicFault, IsPublicOf, IsPublicRefusal, ed25519, private_contents};
-ghost use Rattle.paseto_pem.specs.Info.{public_key_info};
+ghost use Rattle.paseto_pem.specs.Algorithm.{ed25519};
+ghost use Rattle.paseto_pem.specs.Ed25519.{IsPrivateFault, IsPrivateOf, IsPrivateRefusal, IsPrivateWritten, IsPublicFault, IsPublicOf, IsPublicRefusal, IsSeed};
+ghost use Rattle.paseto_pem.specs.Info.{IsHalf, lent, public_key_info};
 ghost use Rattle.paseto_pem.specs.Key.{ReadsContents, WritesContents};
 ghost use Rattle.paseto_pem.specs.declared.label.Label.TheVariants.{PrivateKey as PrivateLabel, PublicKey as PublicLabel};
 
+use crate::algorithm::{algorithm_of, ed25519};
 use crate::error::PemError;
+use crate::found::Algorithm;
 use crate::info::{
-    push_element, read_private_info, read_public_info, whole_element, write_private_info,
+    is_half, push_element, read_private_info, read_public_info, whole_element, write_private_info,
     write_public_info,
 };
 use crate::label::Label;
@@ -22,32 +26,45 @@ const OCTET_STRING: u8 = 0x04;
 // How many octets a seed and a public key have.
 const HALF: usize = 32;
 
-// The algorithm.
-fn algorithm() -> [u8; 5]
-    ensures { result ≡ ed25519 }
-{
-    [0x06, 0x03, 0x2b, 0x65, 0x70]
+// A seed, and the public key beside it, if there is one.
+#[derive(Drop)]
+struct Seed<'a> {
+    seed: &'a [u8],
+    public: Option<&'a [u8]>,
 }
 
-// The seed in contents that are a PrivateKeyInfo.
-fn seed_of(contents: &[u8]) -> Result<&[u8], PemError>
-    ensures found { IfOk result (λ seed. (length seed.now ≡ 32)
-        × (contents.now ≡ private_contents seed.now)) }
+// The seed of 32 octets in the key of a OneAsymmetricKey.
+fn seed_in(key: &[u8]) -> Option<&[u8]>
+    ensures { MatchOption result
+        ((seed : List ℕ) → length seed ≡ 32 → key.now ≢ element 0x04 seed)
+        (λ seed. (length seed.now ≡ 32) × (key.now ≡ element 0x04 seed.now)) }
+{
+    let seed = whole_element(OCTET_STRING, key)?;
+    if seed.len() != HALF {
+        return None;
+    }
+    Some(seed)
+}
+
+// The seed in contents that are a OneAsymmetricKey.
+fn seed_of(contents: &[u8]) -> Result<Seed<'_>, PemError>
+    ensures found { IfOk result (λ found. IsSeed found.seed.now (lent found.public) contents.now) }
     ensures refused { IfErr result (IsPrivateRefusal contents.now) }
 {
     let Some(info) = read_private_info(contents) else {
-        return Err(PemError::InvalidKey);
+        return Err(PemError::InvalidDer);
     };
-    if info.algorithm != algorithm().as_slice() {
-        return Err(PemError::OtherAlgorithm);
+    match algorithm_of(info.algorithm) {
+        Algorithm::Ed25519 => {}
+        other => return Err(PemError::OtherAlgorithm(other)),
     }
-    let Some(seed) = whole_element(OCTET_STRING, info.key) else {
-        return Err(PemError::InvalidKey);
-    };
-    if seed.len() != HALF {
-        return Err(PemError::InvalidKey);
+    match seed_in(info.key) {
+        Some(seed) => Ok(Seed {
+            seed,
+            public: info.public,
+        }),
+        None => Err(PemError::InvalidKey),
     }
-    Ok(seed)
 }
 
 // The key in contents that are a SubjectPublicKeyInfo.
@@ -57,10 +74,11 @@ fn public_of(contents: &[u8]) -> Result<&[u8], PemError>
     ensures refused { IfErr result (IsPublicRefusal contents.now) }
 {
     let Some(info) = read_public_info(contents) else {
-        return Err(PemError::InvalidKey);
+        return Err(PemError::InvalidDer);
     };
-    if info.algorithm != algorithm().as_slice() {
-        return Err(PemError::OtherAlgorithm);
+    match algorithm_of(info.algorithm) {
+        Algorithm::Ed25519 => {}
+        other => return Err(PemError::OtherAlgorithm(other)),
     }
     if info.key.len() != HALF {
         return Err(PemError::InvalidKey);
@@ -87,9 +105,13 @@ pub(crate) fn read_private(
     let Label::PrivateKey = label else {
         return Err(PemError::other_label(label));
     };
-    let seed = seed_of(contents)?;
-    let mut key = Vec::from_slice(alloc, seed)?;
-    key.extend_from_slice(&public_key(seed))?;
+    let found = seed_of(contents)?;
+    let own = public_key(found.seed);
+    if !is_half(found.public, &own) {
+        return Err(PemError::OtherHalf);
+    }
+    let mut key = Vec::from_slice(alloc, found.seed)?;
+    key.extend_from_slice(&own)?;
     Ok(key)
 }
 
@@ -106,7 +128,7 @@ pub(crate) fn read_public(alloc: Global, label: Label, contents: &[u8]) -> Resul
 
 /// The contents of the text of a private key.
 pub(crate) fn write_private(alloc: Global, key: &[u8]) -> Result<Vec<u8>, PemError>
-    ensures { WritesContents IsPrivateOf PrivateLabel key.now result }
+    ensures { WritesContents IsPrivateWritten PrivateLabel key.now result }
 {
     if key.len() != 2 * HALF {
         return Err(PemError::InvalidKey);
@@ -117,7 +139,7 @@ pub(crate) fn write_private(alloc: Global, key: &[u8]) -> Result<Vec<u8>, PemErr
     }
     let mut string = Vec::new(alloc);
     push_element(OCTET_STRING, seed, &mut string)?;
-    Ok(write_private_info(alloc, &algorithm(), &string)?)
+    Ok(write_private_info(alloc, &ed25519(), &string)?)
 }
 
 /// The contents of the text of a public key.
@@ -127,5 +149,5 @@ pub(crate) fn write_public(alloc: Global, key: &[u8]) -> Result<Vec<u8>, PemErro
     if key.len() != HALF {
         return Err(PemError::InvalidKey);
     }
-    Ok(write_public_info(alloc, &algorithm(), key)?)
+    Ok(write_public_info(alloc, &ed25519(), key)?)
 }

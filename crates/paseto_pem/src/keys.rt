@@ -14,13 +14,18 @@ use std::alloc::Global;
 
 /// The private key with this text.
 ///
-/// Reading is strict: `NotPem` is returned for anything but PEM in the strict form of RFC 7468, `Encrypted` for an
-/// encrypted key, `OtherLabel` for another label, for example that of a public key, `OtherAlgorithm`, `OtherCurve` and
-/// `OtherSize` for a key of another algorithm, curve or size, and `InvalidKey` if the contents are not a key. If the
-/// text contains the public key, it must belong to the private key. Version 3 also reads `EC PRIVATE KEY`.
+/// The text has one block: lines of text may stand before it, and a block `EC PARAMETERS`, but nothing behind it. Its
+/// lines have 1 to 76 characters, and each ends in LF or in CR and LF. `PRIVATE KEY` is read, as a OneAsymmetricKey of
+/// version v1 or v2, whose attributes are passed over; in version 3 also `EC PRIVATE KEY`, and in version 1 also `RSA
+/// PRIVATE KEY`, but no key of version v2. A public key beside the private one must be its own.
 ///
-/// Source: RFC 7468, sections 3 and 10; RFC 5208, section 5; RFC 8410, section 7; RFC 5915, section 3; RFC 8017, appendix
-/// A.1.2.
+/// The first fault is returned: `NotPem` if there is no such block; `TwoKeys` if there are several; `Encrypted` for an
+/// encrypted key, whose label or first header says so; `OtherLabel` for another label, for example that of a public
+/// key; `InvalidDer` if the contents are not those of the label; `OtherAlgorithm`; `OtherCurve`, or `OtherSize` for a
+/// modulus of another size; `OtherHalf` if a public key is that of another key; and `InvalidKey` if there is no key.
+///
+/// Source: RFC 7468, sections 2, 3 and 10; RFC 5958, section 2; RFC 8410, section 7; RFC 5915, section 3; RFC 8017,
+/// appendix A.1.2; RFC 1421, section 4.6.1.1.
 pub fn private_key_from_pem<V: PemVersion>(
     alloc: Global,
     text: &str,
@@ -63,7 +68,7 @@ pub fn private_key_to_pem<V: PemVersion>(
     alloc: Global,
     key: &PasetoAsymmetricPrivateKey<'_, V, Public>,
 ) -> Result<String, PemError>
-    ensures { WritesKey V.is_private_of PrivateLabel key.now result }
+    ensures { WritesKey V.is_private_written PrivateLabel key.now result }
 {
     let contents = V::write_private(alloc, key.as_bytes())?;
     write_text(alloc, Label::PrivateKey, &contents)
@@ -77,7 +82,7 @@ pub fn public_key_to_pem<V: PemVersion>(
     alloc: Global,
     key: &PasetoAsymmetricPublicKey<'_, V, Public>,
 ) -> Result<String, PemError>
-    ensures { WritesKey V.is_public_of PublicLabel key.now result }
+    ensures { WritesKey V.is_public_written PublicLabel key.now result }
 {
     let contents = V::write_public(alloc, key.as_bytes())?;
     write_text(alloc, Label::PublicKey, &contents)

@@ -8,12 +8,12 @@ use crate::version::PemVersion;
 
 /// The text that is written for a private key is read as this key, and as no other.
 pub fn written_private_keys_are_read<V: PemVersion>()
-    ensures { (label : TheLabel) (key text : List ℕ) → IsWritten V.is_private_of label key text
+    ensures { (label : TheLabel) (key text : List ℕ) → IsWritten V.is_private_written label key text
         → IsText V.is_private_of key text }
 {}
 
 /// The text that is written for a public key is read as this key, and as no other.
 pub fn written_public_keys_are_read<V: PemVersion>()
-    ensures { (label : TheLabel) (key text : List ℕ) → IsWritten V.is_public_of label key text
+    ensures { (label : TheLabel) (key text : List ℕ) → IsWritten V.is_public_written label key text
         → IsText V.is_public_of key text }
 {}

@@ -1,5 +1,5 @@
-//! Keys in PEM (RFC 7468), as `openssl pkey` writes and reads them: private keys in PKCS #8 and public keys as
-//! SubjectPublicKeyInfo, of Ed25519 for versions 2 and 4, of P-384 for version 3, and of RSA for version 1.
+//! Keys in PEM (RFC 7468), as `openssl pkey` writes them: private keys in PKCS #8 and public keys as SubjectPublicKeyInfo,
+//! of Ed25519 for versions 2 and 4, of P-384 for version 3, and of RSA for version 1.
 //!
 //! ```rust
 //! use paseto_pem::{PemError, private_key_from_pem, private_key_to_pem};
@@ -13,12 +13,14 @@
 //! }
 //! ```
 //!
-//! `EC PRIVATE KEY` (SEC 1) and `RSA PUBLIC KEY` (PKCS #1) are read, too. Anything else is refused with an error that
-//! says what it is.
+//! `EC PRIVATE KEY` (SEC 1), `RSA PRIVATE KEY` and `RSA PUBLIC KEY` (PKCS #1) are read, too, and keys of other programs
+//! than OpenSSL. Anything else is refused with an error that says what it is.
 #![tactic(auto)]
 
+mod algorithm;
 mod ed25519;
 mod error;
+mod found;
 mod info;
 mod keys;
 mod label;
@@ -29,6 +31,7 @@ mod text;
 mod version;
 
 pub use error::PemError;
+pub use found::{Algorithm, Curve};
 pub use keys::{private_key_from_pem, private_key_to_pem, public_key_from_pem, public_key_to_pem};
 pub use label::Label;
 pub use version::PemVersion;

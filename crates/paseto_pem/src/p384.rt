@@ -2,14 +2,16 @@
 
 ghost use Rattle.std.specs.Prelude.{◌≡◌, ◌↔◌, ◌⊎◌, ◌∷◌, ◌++◌, ◌<◌, [], ℕ, List, length, IfErr, IfOk, IsTrue, MatchOption};
 ghost use Rattle.paseto_der.specs.Element.{element};
-ghost use Rattle.paseto_pem.specs.Info.{private_key_info, public_key_info};
+ghost use Rattle.paseto_pem.specs.Info.{lent, private_key_info, public_key_info};
 ghost use Rattle.paseto_pem.specs.Key.{ReadsContents, WritesContents};
-ghost use Rattle.paseto_pem.specs.P384.{IsAlgorithmFault, IsAloneFault, IsForm, IsFormFault, IsInfoFault, IsPoint, IsPointOf, IsPrivateFault, IsPrivateOf, IsOctetsFault, IsPublicFault, IsPublicOf, IsSpelled, compressed, ec_private_key, ec_public_key, p384, public_part, secp384r1};
-ghost use Rattle.paseto_pem.specs.declared.label.Label.TheVariants.{PrivateKey as PrivateLabel, PublicKey as PublicLabel};
+ghost use Rattle.paseto_pem.specs.Algorithm.{secp384r1};
+ghost use Rattle.paseto_pem.specs.P384.{AreHalves, IsAlgorithmFault, IsAloneFault, IsBehindCurve, IsForm, IsFormFault, IsInfoFault, IsPoint, IsPointOf, IsPrivateFault, IsPrivateOf, IsPrivateWritten, IsPublicFault, IsPublicOf, IsPublicWritten, IsPublicRefusal, IsSpelled, compressed, ec_private_key, p384, parameters, public_part};
+ghost use Rattle.paseto_pem.specs.declared.label.Label.TheVariants.{EcPrivateKey as EcLabel, PrivateKey as PrivateLabel, PublicKey as PublicLabel};
 
+use crate::algorithm::{algorithm_of, curve_of, ec_public_key, secp384r1};
 use crate::error::PemError;
 use crate::info::{
-    push_element, read_private_info, read_public_info, whole_element, write_private_info,
+    is_half, push_element, read_private_info, read_public_info, whole_element, write_private_info,
     write_public_info,
 };
 use crate::label::Label;
@@ -40,18 +42,12 @@ struct EcKey<'a> {
     rest: &'a [u8],
 }
 
-// The algorithm id-ecPublicKey.
-fn ec_algorithm() -> [u8; 9]
-    ensures { result ≡ ec_public_key }
-{
-    [0x06, 0x07, 0x2a, 0x86, 0x48, 0xce, 0x3d, 0x02, 0x01]
-}
-
-// The curve.
-fn curve() -> [u8; 7]
-    ensures { result ≡ secp384r1 }
-{
-    [0x06, 0x05, 0x2b, 0x81, 0x04, 0x00, 0x22]
+// The number of an ECPrivateKey of the curve, what stands for the public key in it, and the public key beside it.
+#[derive(Drop)]
+struct CurveKey<'a> {
+    number: &'a [u8],
+    rest: &'a [u8],
+    public: Option<&'a [u8]>,
 }
 
 // The algorithm with the curve.
@@ -62,6 +58,13 @@ fn algorithm() -> [u8; 16]
         0x06, 0x07, 0x2a, 0x86, 0x48, 0xce, 0x3d, 0x02, 0x01, 0x06, 0x05, 0x2b, 0x81, 0x04, 0x00,
         0x22,
     ]
+}
+
+// The parameters of the curve in an ECPrivateKey.
+fn curve_parameters() -> [u8; 9]
+    ensures { result ≡ parameters secp384r1 }
+{
+    [0xa0, 0x07, 0x06, 0x05, 0x2b, 0x81, 0x04, 0x00, 0x22]
 }
 
 // The INTEGER 1, which is the version of an ECPrivateKey.
@@ -76,9 +79,9 @@ fn algorithm_refusal(algorithm: &[u8]) -> PemError
     requires { ¬ (algorithm.now ≡ p384) }
     ensures { IsAlgorithmFault algorithm.now result }
 {
-    match algorithm.strip_prefix(&ec_algorithm()) {
-        Some(_) => PemError::OtherCurve,
-        None => PemError::OtherAlgorithm,
+    match algorithm.strip_prefix(&ec_public_key()) {
+        Some(curve) => PemError::OtherCurve(curve_of(curve)),
+        None => PemError::OtherAlgorithm(algorithm_of(algorithm)),
     }
 }
 
@@ -97,48 +100,64 @@ fn read_ec(octets: &[u8]) -> Option<EcKey<'_>>
     })
 }
 
-// The ECPrivateKey in a PrivateKeyInfo.
-fn key_in_info(contents: &[u8]) -> Result<EcKey<'_>, PemError>
-    ensures found { IfOk result (λ key. contents.now
-        ≡ private_key_info p384 (ec_private_key key.number.now key.rest.now)) }
+// What stands behind the parameters of the curve, if it has them.
+fn behind_curve(behind: &[u8]) -> &[u8]
+    ensures { IsBehindCurve behind.now result.now }
+{
+    match behind.strip_prefix(&curve_parameters()) {
+        Some(rest) => rest,
+        None => behind,
+    }
+}
+
+// The ECPrivateKey in a OneAsymmetricKey.
+fn key_in_info(contents: &[u8]) -> Result<CurveKey<'_>, PemError>
+    ensures found { IfOk result (λ key.
+        IsForm PrivateLabel contents.now key.number.now key.rest.now (lent key.public)) }
     ensures refused { IfErr result (IsInfoFault contents.now) }
 {
     let Some(info) = read_private_info(contents) else {
-        return Err(PemError::InvalidKey);
+        return Err(PemError::InvalidDer);
     };
     if info.algorithm != algorithm().as_slice() {
         return Err(algorithm_refusal(info.algorithm));
     }
     match read_ec(info.key) {
-        Some(key) => Ok(key),
+        Some(key) => Ok(CurveKey {
+            number: key.number,
+            rest: behind_curve(key.rest),
+            public: info.public,
+        }),
         None => Err(PemError::InvalidKey),
     }
 }
 
 // The ECPrivateKey that stands alone.
-fn key_alone(contents: &[u8]) -> Result<EcKey<'_>, PemError>
-    ensures found { IfOk result (λ key. contents.now
-        ≡ ec_private_key key.number.now (element 0xa0 secp384r1 ++ key.rest.now)) }
+fn key_alone(contents: &[u8]) -> Result<CurveKey<'_>, PemError>
+    ensures found { IfOk result (λ key.
+        IsForm EcLabel contents.now key.number.now key.rest.now (lent key.public)) }
     ensures refused { IfErr result (IsAloneFault contents.now) }
 {
     let Some(key) = read_ec(contents) else {
-        return Err(PemError::InvalidKey);
+        return Err(PemError::InvalidDer);
     };
     let Some(named) = read_element(PARAMETERS, key.rest) else {
-        return Err(PemError::InvalidKey);
+        return Err(PemError::InvalidDer);
     };
-    if named.contents != curve().as_slice() {
-        return Err(PemError::OtherCurve);
+    if named.contents != secp384r1().as_slice() {
+        return Err(PemError::OtherCurve(curve_of(named.contents)));
     }
-    Ok(EcKey {
+    Ok(CurveKey {
         number: key.number,
         rest: named.behind,
+        public: None,
     })
 }
 
 // The ECPrivateKey that contents under a label are.
-fn key_of(label: Label, contents: &[u8]) -> Result<EcKey<'_>, PemError>
-    ensures found { IfOk result (λ key. IsForm label contents.now key.number.now key.rest.now) }
+fn key_of(label: Label, contents: &[u8]) -> Result<CurveKey<'_>, PemError>
+    ensures found { IfOk result (λ key.
+        IsForm label contents.now key.number.now key.rest.now (lent key.public)) }
     ensures refused { IfErr result (IsFormFault label contents.now) }
 {
     match label {
@@ -173,7 +192,7 @@ fn public_part(alloc: Global, xy: &[u8; 96]) -> Result<Vec<u8>, AllocError>
 }
 
 // Whether octets are no public key, or that of these coordinates.
-fn is_half(alloc: Global, xy: &[u8; 96], rest: &[u8]) -> Result<bool, AllocError>
+fn is_part(alloc: Global, xy: &[u8; 96], rest: &[u8]) -> Result<bool, AllocError>
     ensures { IfOk result (λ is. IsTrue is
         ↔ ((rest.now ≡ []) ⊎ (rest.now ≡ public_part xy.now))) }
 {
@@ -182,6 +201,27 @@ fn is_half(alloc: Global, xy: &[u8; 96], rest: &[u8]) -> Result<bool, AllocError
     }
     let part = public_part(alloc, xy)?;
     Ok(part.as_slice() == rest)
+}
+
+// The octets of a point without compression.
+fn point(xy: &[u8; 96]) -> [u8; 97]
+    ensures { result ≡ 4 ∷ xy.now }
+{
+    let mut octets = [4u8; 97];
+    let (_form, rest) = octets.split_at_mut(1);
+    rest.copy_from_slice(xy);
+    octets
+}
+
+// Whether each public key beside a private one has these coordinates.
+fn are_halves(alloc: Global, key: &CurveKey<'_>, xy: &[u8; 96]) -> Result<bool, AllocError>
+    ensures { IfOk result (λ are. IsTrue are
+        ↔ AreHalves key.now.rest.now (lent key.now.public) xy.now) }
+{
+    if !is_half(key.public, &point(xy)) {
+        return Ok(false);
+    }
+    is_part(alloc, xy, key.rest)
 }
 
 /// The private key that contents are.
@@ -196,8 +236,8 @@ pub(crate) fn read_private(
     let Some(xy) = point_of(alloc, key.number) else {
         return Err(PemError::InvalidKey);
     };
-    if !is_half(alloc, &xy, key.rest)? {
-        return Err(PemError::InvalidKey);
+    if !are_halves(alloc, &key, &xy)? {
+        return Err(PemError::OtherHalf);
     }
     Ok(Vec::from_slice(alloc, key.number)?)
 }
@@ -219,7 +259,7 @@ fn write_ec(alloc: Global, number: &[u8], xy: &[u8; 96]) -> Result<Vec<u8>, Allo
 
 /// The contents of the text of a private key.
 pub(crate) fn write_private(alloc: Global, key: &[u8]) -> Result<Vec<u8>, PemError>
-    ensures { WritesContents IsPrivateOf PrivateLabel key.now result }
+    ensures { WritesContents IsPrivateWritten PrivateLabel key.now result }
 {
     let Some(xy) = point_of(alloc, key) else {
         return Err(PemError::InvalidKey);
@@ -258,10 +298,10 @@ fn coordinates_of(key: &[u8]) -> Option<[u8; 96]>
 // The octets of a public key in a SubjectPublicKeyInfo.
 fn octets_of(contents: &[u8]) -> Result<&[u8], PemError>
     ensures found { IfOk result (λ octets. contents.now ≡ public_key_info p384 octets.now) }
-    ensures refused { IfErr result (IsOctetsFault contents.now) }
+    ensures refused { IfErr result (IsPublicRefusal contents.now) }
 {
     let Some(info) = read_public_info(contents) else {
-        return Err(PemError::InvalidKey);
+        return Err(PemError::InvalidDer);
     };
     if info.algorithm != algorithm().as_slice() {
         return Err(algorithm_refusal(info.algorithm));
@@ -320,7 +360,7 @@ pub(crate) fn read_public(alloc: Global, label: Label, contents: &[u8]) -> Resul
 
 /// The contents of the text of a public key.
 pub(crate) fn write_public(alloc: Global, key: &[u8]) -> Result<Vec<u8>, PemError>
-    ensures { WritesContents IsPublicOf PublicLabel key.now result }
+    ensures { WritesContents IsPublicWritten PublicLabel key.now result }
 {
     let Some(xy) = coordinates_of(key) else {
         return Err(PemError::InvalidKey);

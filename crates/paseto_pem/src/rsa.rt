@@ -1,69 +1,126 @@
 //! Keys of RSA (RFC 8017), of version 1.
 
-ghost use Rattle.std.specs.Prelude.{◌≡◌, ◌↔◌, length, IfErr, IfOk, IsTrue};
+ghost use Rattle.std.specs.Prelude.{◌≡◌, ◌↔◌, ℕ, ◌<◌, ◌≤◌, length, IfErr, IfOk, IsTrue, MatchOption};
 ghost use Rattle.paseto_rsa.specs.Keys.{IsPrivate};
+ghost use Rattle.paseto_pem.specs.Algorithm.{rsa};
 ghost use Rattle.paseto_pem.specs.Key.{ReadsContents, WritesContents};
-ghost use Rattle.paseto_pem.specs.Rsa.{HasOtherModulus, IsHeld, IsHeldFault, IsPrivateFault, IsPrivateOf, IsPrivateRefusal, IsPublic, IsPublicFault, IsPublicOf, IsPublicRefusal, IsSizeFault, rsa};
-ghost use Rattle.paseto_pem.specs.Info.{public_key_info};
+ghost use Rattle.paseto_pem.specs.Rsa.{HasOtherModulus, HasOtherPublicSize, HasOtherSize, IsForm, IsFormFault, IsHeld, IsHeldFault, IsInnerFault, IsPrivateFault, IsPrivateOf, IsPrivateWritten, IsPublic, IsPublicFault, IsPublicOf, IsPublicWritten, IsSizeFault, modulus_size};
+ghost use Rattle.paseto_pem.specs.Info.{private_key_info, public_key_info};
 ghost use Rattle.paseto_pem.specs.declared.label.Label.TheVariants.{PrivateKey as PrivateLabel, PublicKey as PublicLabel};
 
+use crate::algorithm::{algorithm_of, rsa};
 use crate::error::PemError;
-use crate::info::{read_private_info, read_public_info, whole_element, write_public_info};
+use crate::found::Algorithm;
+use crate::info::{
+    read_private_info, read_public_info, whole_element, write_private_info, write_public_info,
+};
 use crate::label::Label;
 use paseto_der::read_element;
 use paseto_rsa::{PublicKey, is_private_key};
-use std::alloc::Global;
+use std::alloc::{AllocError, Global};
 
 const INTEGER: u8 = 0x02;
 
 const SEQUENCE: u8 = 0x30;
 
-// How many octets the INTEGER of a modulus of 2048 bits has for contents, the first of which is 0.
-const MODULUS: usize = 257;
+// How many bits a modulus has.
+const MODULUS: usize = 2048;
+
+// How many octets the RSAPrivateKey of a key has at most: nine INTEGERs, each of at most 257 octets.
+const MOST_INNER: usize = 2400;
 
 // How many octets a public key has.
 const PUBLIC_KEY: usize = 270;
 
-// The algorithm, with its parameters.
-fn algorithm() -> [u8; 13]
-    ensures { result ≡ rsa }
+// How many bits a modulus has, rounded up to whole octets, if it is not longer than any that is read.
+fn modulus_size(modulus: &[u8]) -> Option<usize>
+    ensures { MatchOption result (65536 ≤ length modulus.now)
+        (λ size. (length modulus.now < 65536) × (size ≡ modulus_size modulus.now)) }
 {
-    [
-        0x06, 0x09, 0x2a, 0x86, 0x48, 0x86, 0xf7, 0x0d, 0x01, 0x01, 0x01, 0x05, 0x00,
-    ]
-}
-
-// Whether the first INTEGER is no modulus of 2048 bits by its length.
-fn has_other_modulus(integers: &[u8]) -> bool
-    ensures { IsTrue result → HasOtherModulus integers.now }
-{
-    match read_element(INTEGER, integers) {
-        Some(modulus) => modulus.contents.len() != MODULUS,
-        None => false,
+    if modulus.len() >= 65536 {
+        return None;
+    }
+    match modulus {
+        [0, rest @ ..] => Some(8 * rest.len()),
+        _ => Some(8 * modulus.len()),
     }
 }
 
-// Why contents that are no private key are refused.
-fn private_refusal(contents: &[u8]) -> PemError
-    requires { ¬ IsPrivate contents.now }
-    ensures { IsPrivateRefusal contents.now result }
+// How many bits the first INTEGER has, if it is no modulus of 2048 bits by its length.
+fn other_modulus(integers: &[u8]) -> Option<usize>
+    ensures { MatchOption result ((size : ℕ) → ¬ HasOtherModulus size integers.now)
+        (λ size. HasOtherModulus size integers.now) }
+{
+    let modulus = read_element(INTEGER, integers)?;
+    let size = modulus_size(modulus.contents)?;
+    if size == MODULUS {
+        return None;
+    }
+    Some(size)
+}
+
+// How many bits the modulus of an RSAPrivateKey has, if these are not 2048.
+fn other_size(inner: &[u8]) -> Option<usize>
+    ensures { MatchOption result ((size : ℕ) → ¬ HasOtherSize size inner.now)
+        (λ size. HasOtherSize size inner.now) }
+{
+    let integers = whole_element(SEQUENCE, inner)?;
+    let version = read_element(INTEGER, integers)?;
+    other_modulus(version.behind)
+}
+
+// The RSAPrivateKey in a PrivateKeyInfo.
+fn inner_in_info(contents: &[u8]) -> Result<&[u8], PemError>
+    ensures found { IfOk result (λ inner. IsForm PrivateLabel contents.now inner.now) }
+    ensures refused { IfErr result (IsFormFault PrivateLabel contents.now) }
 {
     let Some(info) = read_private_info(contents) else {
-        return PemError::InvalidKey;
+        return Err(PemError::InvalidDer);
     };
-    if info.algorithm != algorithm().as_slice() {
-        return PemError::OtherAlgorithm;
+    match (algorithm_of(info.algorithm), info.public) {
+        (Algorithm::Rsa, None) => Ok(info.key),
+        (Algorithm::Rsa, Some(_)) => Err(PemError::InvalidKey),
+        (other, _) => Err(PemError::OtherAlgorithm(other)),
     }
-    let Some(integers) = whole_element(SEQUENCE, info.key) else {
-        return PemError::InvalidKey;
-    };
-    let Some(version) = read_element(INTEGER, integers) else {
-        return PemError::InvalidKey;
-    };
-    if has_other_modulus(version.behind) {
-        return PemError::OtherSize;
+}
+
+// The RSAPrivateKey that contents under a label are.
+fn inner_of(label: Label, contents: &[u8]) -> Result<&[u8], PemError>
+    ensures found { IfOk result (λ inner. IsForm label contents.now inner.now) }
+    ensures refused { IfErr result (IsFormFault label contents.now) }
+{
+    match label {
+        Label::PrivateKey => inner_in_info(contents),
+        Label::RsaPrivateKey => Ok(contents),
+        _ => Err(PemError::other_label(label)),
     }
-    PemError::InvalidKey
+}
+
+// The PrivateKeyInfo of an RSAPrivateKey, if it is a key of 2048 bits.
+fn key_of_inner(alloc: Global, inner: &[u8]) -> Result<Option<Vec<u8>>, AllocError>
+    ensures { IfOk result (λ found. MatchOption found
+        (¬ IsPrivate (private_key_info rsa inner.now))
+        (λ key. (key.items ≡ private_key_info rsa inner.now) × IsPrivate key.items)) }
+{
+    if MOST_INNER < inner.len() {
+        return Ok(None);
+    }
+    let key = write_private_info(alloc, &rsa(), inner)?;
+    if !is_private_key(&key) {
+        return Ok(None);
+    }
+    Ok(Some(key))
+}
+
+// Why an RSAPrivateKey is refused that is none of 2048 bits.
+fn inner_refusal(inner: &[u8]) -> PemError
+    requires { ¬ IsPrivate (private_key_info rsa inner.now) }
+    ensures { IsInnerFault inner.now result }
+{
+    match other_size(inner) {
+        Some(size) => PemError::OtherSize(size),
+        None => PemError::InvalidKey,
+    }
 }
 
 /// The private key that contents are.
@@ -74,37 +131,34 @@ pub(crate) fn read_private(
 ) -> Result<Vec<u8>, PemError>
     ensures { ReadsContents IsPrivateOf IsPrivateFault label contents.now result }
 {
-    let Label::PrivateKey = label else {
-        return Err(PemError::other_label(label));
-    };
-    if !is_private_key(contents) {
-        return Err(private_refusal(contents));
+    let inner = inner_of(label, contents)?;
+    match key_of_inner(alloc, inner)? {
+        Some(key) => Ok(key),
+        None => Err(inner_refusal(inner)),
     }
-    Ok(Vec::from_slice(alloc, contents)?)
 }
 
 /// The contents of the text of a private key.
 pub(crate) fn write_private(alloc: Global, key: &[u8]) -> Result<Vec<u8>, PemError>
-    ensures { WritesContents IsPrivateOf PrivateLabel key.now result }
+    ensures { WritesContents IsPrivateWritten PrivateLabel key.now result }
 {
     if !is_private_key(key) {
         return Err(PemError::InvalidKey);
     }
     Ok(Vec::from_slice(alloc, key)?)
 }
-
 // What stands for the key in a SubjectPublicKeyInfo.
 fn held_in_info(contents: &[u8]) -> Result<&[u8], PemError>
     ensures found { IfOk result (λ key. contents.now ≡ public_key_info rsa key.now) }
-    ensures refused { IfErr result (IsPublicRefusal contents.now) }
+    ensures refused { IfErr result (IsHeldFault PublicLabel contents.now) }
 {
     let Some(info) = read_public_info(contents) else {
-        return Err(PemError::InvalidKey);
+        return Err(PemError::InvalidDer);
     };
-    if info.algorithm != algorithm().as_slice() {
-        return Err(PemError::OtherAlgorithm);
+    match algorithm_of(info.algorithm) {
+        Algorithm::Rsa => Ok(info.key),
+        other => Err(PemError::OtherAlgorithm(other)),
     }
-    Ok(info.key)
 }
 
 // What stands in contents for an RSAPublicKey, whatever it is.
@@ -132,17 +186,22 @@ fn is_public_key(key: &[u8]) -> bool
     }
 }
 
+// How many bits the modulus of an RSAPublicKey has, if these are not 2048.
+fn other_public_size(key: &[u8]) -> Option<usize>
+    ensures { MatchOption result ((size : ℕ) → ¬ HasOtherPublicSize size key.now)
+        (λ size. HasOtherPublicSize size key.now) }
+{
+    other_modulus(whole_element(SEQUENCE, key)?)
+}
+
 // Why an RSAPublicKey is refused.
 fn public_refusal(key: &[u8]) -> PemError
     ensures { IsSizeFault key.now result }
 {
-    let Some(integers) = whole_element(SEQUENCE, key) else {
-        return PemError::InvalidKey;
-    };
-    if has_other_modulus(integers) {
-        return PemError::OtherSize;
+    match other_public_size(key) {
+        Some(size) => PemError::OtherSize(size),
+        None => PemError::InvalidKey,
     }
-    PemError::InvalidKey
 }
 
 /// The public key that contents are.
@@ -158,10 +217,10 @@ pub(crate) fn read_public(alloc: Global, label: Label, contents: &[u8]) -> Resul
 
 /// The contents of the text of a public key.
 pub(crate) fn write_public(alloc: Global, key: &[u8]) -> Result<Vec<u8>, PemError>
-    ensures { WritesContents IsPublicOf PublicLabel key.now result }
+    ensures { WritesContents IsPublicWritten PublicLabel key.now result }
 {
     if !is_public_key(key) {
         return Err(PemError::InvalidKey);
     }
-    Ok(write_public_info(alloc, &algorithm(), key)?)
+    Ok(write_public_info(alloc, &rsa(), key)?)
 }

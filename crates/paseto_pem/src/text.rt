@@ -1,217 +1,181 @@
 //! Texts of RFC 7468, around any contents.
 
-ghost use Rattle.std.specs.Prelude.{◌≡◌, ◌++◌, ◌∷◌, ◌≤◌, [], ℕ, List, length, true, false, IfErr, IfOk, IfSome, MatchOption, OnOk, string_bytes};
+ghost use Rattle.std.specs.Prelude.{◌≡◌, ◌≢◌, ◌↔◌, ◌++◌, ◌∷◌, [], ℕ, List, All, length, IfErr, IfOk, IfSome, IsTrue, MatchOption, OnOk, string_bytes};
+ghost use Rattle.std.specs.List.{concat};
+ghost use Rattle.std.specs.Str.Lines.{lines as lines_of};
 ghost use Rattle.base64.specs.GeneralPurpose.{IsBytes};
 ghost use Rattle.paseto_pem.specs.Error.{IsMemory};
-ghost use Rattle.paseto_pem.specs.Key.{ReadsText, written_form};
-ghost use Rattle.paseto_pem.specs.declared.text.Form.{Form as TheForm};
-ghost use Rattle.paseto_pem.specs.declared.text.LineEnd.{LineEnd as TheLineEnd};
-ghost use Rattle.paseto_pem.specs.Text.{IsPem, base64, last_end, line_end, lines, pem};
+ghost use Rattle.paseto_pem.specs.Key.{IsBlockRefusal, ReadsText};
+ghost use Rattle.paseto_pem.specs.Text.{BeginsOldEncrypted, FirstBlock, HasSecond, IsBase64Line, IsBegin, IsBody, IsPassed, base64, lines, pem, texts};
 
 use crate::error::PemError;
 use crate::label::{Label, label_of};
-use base64::DecodeAllocError;
-use base64::engine::general_purpose::STANDARD;
+use paseto_base64::{Alphabet, decode, encode};
 use std::alloc::{AllocError, Global};
 
-// How many octets a full line tells, and in how many characters.
+// How many octets a written line tells.
 const LINE_OCTETS: usize = 48;
 
-const LINE_CHARACTERS: usize = 64;
-
-/// How lines end.
-#[derive(Clone, Copy, Debug, PartialEq, Eq)]
-pub(crate) enum LineEnd {
-    LineFeed,
-    ReturnAndLineFeed,
-}
-
-impl LineEnd {
-    fn as_str(self) -> &'static str
-        ensures { result.now ≡ line_end self }
-    {
-        match self {
-            LineEnd::LineFeed => "\n",
-            LineEnd::ReturnAndLineFeed => "\r\n",
-        }
-    }
-}
-
-/// How the lines of a text end, and whether the last one does.
-#[derive(Clone, Copy, Debug)]
-pub(crate) struct Form {
-    pub(crate) ends: LineEnd,
-    pub(crate) closed: bool,
-}
-
-impl Form {
-    fn last_end(self) -> &'static str
-        ensures { result.now ≡ last_end self }
-    {
-        if self.closed { self.ends.as_str() } else { "" }
-    }
-}
-
-/// The text of contents.
-pub(crate) fn write(
-    alloc: Global,
-    form: Form,
-    label: Label,
-    contents: &[u8],
-) -> Result<String, AllocError>
-    ensures { IfOk result (λ text. string_bytes text ≡ pem form label contents.now) }
-{
-    let mut text = String::from_str(alloc, label.begin_boundary())?;
-    text.push_str(form.ends.as_str())?;
-    push_lines(contents, form.ends.as_str(), &mut text)?;
-    text.push_str(label.end_boundary())?;
-    text.push_str(form.last_end())?;
-    Ok(text)
-}
+// How many characters a line may have that is read.
+const MOST_CHARACTERS: usize = 76;
 
 // Appends the lines of contents.
-fn push_lines(contents: &[u8], end: &str, text: &mut String) -> Result<(), AllocError>
+fn push_lines(alloc: Global, contents: &[u8], text: &mut String) -> Result<(), AllocError>
     ensures { OnOk result (string_bytes text.new
-        ≡ string_bytes text.old ++ lines end.now (base64 contents.now)) }
+        ≡ string_bytes text.old ++ lines (base64 contents.now)) }
 {
     'pieces: for piece in contents.chunks(LINE_OCTETS) {
-        STANDARD.encode_string(piece, text)?;
-        text.push_str(end)?;
+        let line = encode(alloc, Alphabet::Standard, piece)?;
+        text.push_str(&line)?;
+        text.push_str("\n")?;
     }
     Ok(())
 }
 
-/// The contents of a text with this label, or `None` if it is not such a text.
-pub(crate) fn read(alloc: Global, label: Label, text: &str) -> Result<Option<Vec<u8>>, AllocError>
-    ensures { IfOk result (λ read. MatchOption read
-        ((contents : List ℕ) → IsBytes contents → IsPem label contents text.now → ⊥)
-        (λ found. IsBytes found.items × IsPem label found.items text.now
-        × ((contents : List ℕ) → IsBytes contents → IsPem label contents text.now
-        → found.items ≡ contents))) }
+/// The text of contents.
+fn write(alloc: Global, label: Label, contents: &[u8]) -> Result<String, AllocError>
+    ensures { IfOk result (λ text. string_bytes text ≡ pem label contents.now) }
 {
-    let form = form_of(label, text.as_bytes());
-    let Some(contents) = candidate(alloc, form, label, text.as_bytes())? else {
-        return Ok(None);
-    };
-    let written = write(alloc, form, label, &contents)?;
-    if written.as_bytes() != text.as_bytes() {
-        return Ok(None);
-    }
-    Ok(Some(contents))
-}
-
-// The form of a text with this label.
-fn form_of(label: Label, text: &[u8]) -> Form
-    ensures { (form : TheForm) (contents : List ℕ) → text.now ≡ pem form label contents
-        → result ≡ form }
-{
-    Form {
-        ends: line_end_at(label.begin_boundary().len(), text),
-        closed: is_closed(text),
-    }
-}
-
-// The line end that stands behind so many octets.
-fn line_end_at(front: usize, text: &[u8]) -> LineEnd
-    ensures { (end : TheLineEnd) (before behind : List ℕ) → length before ≡ front
-        → text.now ≡ before ++ (line_end end ++ behind) → result ≡ end }
-{
-    if front < text.len() && text[front] == b'\r' {
-        LineEnd::ReturnAndLineFeed
-    } else {
-        LineEnd::LineFeed
-    }
-}
-
-// Whether a text ends in a line end, and not in a hyphen.
-fn is_closed(text: &[u8]) -> bool
-    ensures closed { (front : List ℕ) → text.now ≡ front ++ 10 ∷ [] → result ≡ true }
-    ensures not { (front : List ℕ) → text.now ≡ front ++ 45 ∷ [] → result ≡ false }
-{
-    if text.is_empty() {
-        return false;
-    }
-    text[text.len() - 1] == b'\n'
-}
-
-// The contents of a text, if it is one of this form and label. What else is answered is to be compared with the text.
-fn candidate(
-    alloc: Global,
-    form: Form,
-    label: Label,
-    text: &[u8],
-) -> Result<Option<Vec<u8>>, AllocError>
-    ensures bytes { IfOk result (λ found. IfSome found (λ contents. IsBytes contents.items)) }
-    ensures found { IfOk result (λ found. (contents : List ℕ) → IsBytes contents
-        → text.now ≡ pem form label contents
-        → MatchOption found ⊥ (λ octets. octets.items ≡ contents)) }
-{
-    let front = label.begin_boundary().len() + form.ends.as_str().len();
-    let back = label.end_boundary().len() + form.last_end().len();
-    let Some(body) = middle(front, back, text) else {
-        return Ok(None);
-    };
-    let characters = characters_of(alloc, form.ends.as_str().len(), body)?;
-    match STANDARD.decode(alloc, &characters) {
-        Ok(contents) => Ok(Some(contents)),
-        Err(DecodeAllocError::DecodeError(_)) => Ok(None),
-        Err(DecodeAllocError::OutOfMemory) => Err(AllocError),
-    }
-}
-
-// What stands between so many octets at the front and at the back.
-fn middle(front: usize, back: usize, text: &[u8]) -> Option<&[u8]>
-    ensures { (a b c : List ℕ) → text.now ≡ (a ++ b) ++ c → length a ≡ front → length c ≡ back
-        → MatchOption result ⊥ (λ middle. middle.now ≡ b) }
-{
-    if text.len() < front {
-        return None;
-    }
-    let (_front, rest) = text.split_at(front);
-    if rest.len() < back {
-        return None;
-    }
-    let (middle, _back) = rest.split_at(rest.len() - back);
-    Some(middle)
-}
-
-// The characters of lines, each without its last octets, which are to be its end.
-fn characters_of(alloc: Global, end: usize, body: &[u8]) -> Result<Vec<u8>, AllocError>
-    requires some { 1 ≤ end }
-    requires few { end ≤ 2 }
-    ensures { IfOk result (λ characters. (ends text : List ℕ) → length ends ≡ end
-        → body.now ≡ lines ends text → characters.items ≡ text) }
-{
-    let mut characters = Vec::new(alloc);
-    'pieces: for line in body.chunks(LINE_CHARACTERS + end) {
-        let (text, _end) = line.split_at(line.len().saturating_sub(end));
-        characters.extend_from_slice(text)?;
-    }
-    Ok(characters)
+    let mut text = String::from_str(alloc, label.begin_boundary())?;
+    text.push_str("\n")?;
+    push_lines(alloc, contents, &mut text)?;
+    text.push_str(label.end_boundary())?;
+    text.push_str("\n")?;
+    Ok(text)
 }
 
 /// The text of contents, as `openssl` writes it.
 pub(crate) fn write_text(alloc: Global, label: Label, contents: &[u8]) -> Result<String, PemError>
-    ensures ok { IfOk result (λ text. string_bytes text ≡ pem written_form label contents.now) }
+    ensures ok { IfOk result (λ text. string_bytes text ≡ pem label contents.now) }
     ensures err { IfErr result IsMemory }
     ensures bytes { IsBytes contents.now }
 {
-    let form = Form {
-        ends: LineEnd::LineFeed,
-        closed: true,
+    Ok(write(alloc, label, contents)?)
+}
+
+// The lines of a text, without their ends.
+fn lines_of(alloc: Global, text: &str) -> Result<Vec<&str>, AllocError>
+    ensures { IfOk result (λ found. texts found.items ≡ lines_of text.now) }
+{
+    text.lines().collect(alloc)
+}
+
+// Whether a line begins a block.
+fn begins_block(line: &str) -> bool
+    ensures { IsTrue result ↔ IsBegin line.now }
+{
+    line.as_bytes().starts_with(b"-----BEGIN ")
+}
+
+// Whether a line may stand before the block of a key.
+fn is_passed(line: &str) -> bool
+    ensures { IsTrue result ↔ IsPassed line.now }
+{
+    if begins_block(line) {
+        line == "-----BEGIN EC PARAMETERS-----"
+    } else {
+        true
+    }
+}
+
+// The first line that begins the block of a key, and those behind it.
+fn first_block<'a>(lines: &'a [&'a str]) -> Option<(&'a str, &'a [&'a str])>
+    ensures { MatchOption result (All IsPassed (texts lines.now))
+        (λ found. FirstBlock (texts lines.now) found.0.now (texts found.1.now)) }
+{
+    let mut rest = lines;
+    'each: while let [line, behind @ ..] = rest {
+        if !is_passed(line) {
+            return Some((*line, behind));
+        }
+        rest = behind;
+    }
+    None
+}
+
+// Whether a line has as many characters as a line of base64.
+fn is_base64_line(line: &str) -> bool
+    ensures { IsTrue result ↔ IsBase64Line line.now }
+{
+    1 <= line.len() && line.len() <= MOST_CHARACTERS
+}
+
+// The characters of lines of base64, one behind the other.
+fn characters_of(alloc: Global, body: &[&str]) -> Result<Option<String>, AllocError>
+    ensures { IfOk result (λ found. MatchOption found (¬ All IsBase64Line (texts body.now))
+        (λ characters. All IsBase64Line (texts body.now)
+        × (string_bytes characters ≡ concat (texts body.now)))) }
+{
+    let mut characters = String::new(alloc);
+    'each: for index in 0..body.len() {
+        if !is_base64_line(body[index]) {
+            return Ok(None);
+        }
+        characters.push_str(body[index])?;
+    }
+    Ok(Some(characters))
+}
+
+// The contents of a block, from the lines behind its first one.
+fn contents_of(alloc: Global, label: Label, behind: &[&str]) -> Result<Option<Vec<u8>>, AllocError>
+    ensures { IfOk result (λ found. MatchOption found
+        ((contents : List ℕ) → IsBytes contents → ¬ IsBody label contents (texts behind.now))
+        (λ contents. IsBody label contents.items (texts behind.now))) }
+{
+    let [body @ .., last] = behind else {
+        return Ok(None);
     };
-    Ok(write(alloc, form, label, contents)?)
+    if *last != label.end_boundary() {
+        return Ok(None);
+    }
+    let Some(characters) = characters_of(alloc, body)? else {
+        return Ok(None);
+    };
+    decode(alloc, Alphabet::Standard, &characters)
+}
+
+// A label, and contents: each octet of these is below 256.
+fn labelled(label: Label, contents: Vec<u8>) -> (Label, Vec<u8>)
+    ensures same { result ≡ (label, contents) }
+    ensures bytes { IsBytes contents.items }
+{
+    (label, contents)
+}
+
+// Whether a block begins with the header of a key that is encrypted as before PKCS #8, by the lines behind its first one.
+fn is_old_encrypted(behind: &[&str]) -> bool
+    ensures { IsTrue result ↔ BeginsOldEncrypted (texts behind.now) }
+{
+    match behind {
+        [first, ..] => *first == "Proc-Type: 4,ENCRYPTED",
+        [] => false,
+    }
+}
+
+// Why the first block of a text is not that of a key, by the lines behind its first one.
+fn refusal(behind: &[&str]) -> PemError
+    ensures { IsBlockRefusal (texts behind.now) result }
+{
+    match first_block(behind) {
+        Some(_) => PemError::TwoKeys,
+        None if is_old_encrypted(behind) => PemError::Encrypted,
+        None => PemError::NotPem,
+    }
 }
 
 /// The label and the contents of a text.
 pub(crate) fn read_text(alloc: Global, text: &str) -> Result<(Label, Vec<u8>), PemError>
     ensures { ReadsText text.now result }
 {
-    let Some(label) = label_of(text) else {
+    let lines = lines_of(alloc, text)?;
+    let Some((first, behind)) = first_block(&lines) else {
         return Err(PemError::NotPem);
     };
-    match read(alloc, label, text)? {
-        Some(contents) => Ok((label, contents)),
-        None => Err(PemError::NotPem),
+    let Some(label) = label_of(first) else {
+        return Err(refusal(behind));
+    };
+    match contents_of(alloc, label, behind)? {
+        Some(contents) => Ok(labelled(label, contents)),
+        None => Err(refusal(behind)),
     }
 }

@@ -2,9 +2,10 @@
 use Rattle.std.proofs.Common.{◌≡◌, ℕ, ◌-◌, ◌≤◌, List, [], ◌∷◌, ◌++◌, length, get_or, take, drop, refl, sym, ◌∙◌, ap, ap₂, subst, append_assoc, length-append, arith}
 use Rattle.std.proofs.lemmas.List.{drop_at, take-append-drop, take_at}
 use Rattle.paseto_der.specs.Element.{behind_of, contents_of, der_length, element}
+use Rattle.paseto_rsa.specs.Forms.{algorithm}
 use Rattle.paseto_rsa.specs.Integers.{IsSequence}
 use Rattle.sha2.specs.Sha512.{sha384}
-use Rattle.paseto_rsa.specs.Keys.{IsPrivateKey, IsPublicKey, PrivateNumbers, first_two, key_front, rsa_public}
+use Rattle.paseto_rsa.specs.Keys.{IsPrivateKey, IsPublicKey, PrivateNumbers, first_two, key_front, rsa_private, rsa_public}
 use Rattle.paseto_rsa.specs.Rsa.{IsPssSignature, pss_sign}
 use Rattle.paseto_rsa.specs.RsaPss.{HasNoSignature, IsSigned, RsaPssVerifies}
 use Rattle.paseto_der.proofs.ElementLaws.{behind-is, contents-is, element-exact, element-unique, element-whole}
@@ -89,17 +90,14 @@ valid-by n e public message signature key v =
     subst (λ (k : ℕ). IsPssSignature n k (sha384 message) signature) second
     (subst (λ (k : ℕ). IsPssSignature k v.e (sha384 message) signature) first v.valid)
 
--- rsaEncryption and its parameters
-abbrev algorithm : List ℕ
-algorithm = element 0x06 (0x2a ∷ 0x86 ∷ 0x48 ∷ 0x86 ∷ 0xf7 ∷ 0x0d ∷ 0x01 ∷ 0x01 ∷ 0x01 ∷ []) ++ element 0x05 []
-
-front-parts : (rest : List ℕ) → key_front ++ rest ≡ element 0x02 (0 ∷ []) ++ (element 0x30 algorithm ++ rest)
-unfolding key_front
+-- the version, the algorithm, and what is behind them
+pub front-parts : (rest : List ℕ) → key_front ++ rest ≡ element 0x02 (0 ∷ []) ++ (element 0x30 algorithm ++ rest)
+unfolding key_front algorithm
 front-parts rest = append_assoc (element 0x02 (0 ∷ [])) (element 0x30 algorithm) rest
 
 -- the RSAPrivateKey, as it is found
-inner-found : (inner key : List ℕ) → key ≡ element 0x30 (key_front ++ element 0x04 inner)
-    → contents_of (behind_of (behind_of (contents_of key))) ≡ inner
+pub inner-found : (inner key : List ℕ) → key ≡ element 0x30 (key_front ++ element 0x04 inner) → rsa_private key ≡ inner
+unfolding rsa_private
 inner-found inner key e =
     let string = element 0x04 inner in
     let info = contents-is 0x30 (key_front ++ string) [] key (element-whole 0x30 _ key e) in

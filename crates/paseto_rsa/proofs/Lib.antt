@@ -1,3 +1,4 @@
 pub mod IntegerLaws
 pub mod KeyLaws
 pub mod MaskLaws
+pub mod FormLaws

@@ -1,5 +1,5 @@
 -- RSA keys of 2048 bits (RFC 8017, appendix A.1; RFC 5208, section 5).
-use Rattle.std.specs.Prelude.{◌≡◌, ℕ, ◌-◌, ◌%◌, ◌^◌, ◌<◌, ◌≤◌, List, [], ◌∷◌, ◌++◌, length, take}
+use Rattle.std.specs.Prelude.{◌≡◌, ℕ, ◌-◌, ◌*◌, ◌%◌, ◌^◌, ◌<◌, ◌≤◌, List, [], ◌∷◌, ◌++◌, length, take}
 use Rattle.paseto_der.specs.Element.{behind_of, contents_of, element}
 use Rattle.paseto_rsa.specs.Integers.{IsSequence}
 
@@ -45,13 +45,15 @@ pub record IsHalf (p : ℕ) : Type 0 where
   pub below : p < 2 ^ 1024
   pub odd : p % 2 ≡ 1
 
--- the public key is in range, and each factor has half as many bits as n; the other numbers are as long as what they belong
--- to. That they are of one key is not asked: no signature of such a key is valid
+-- the public key is in range, n is the product of the factors, and each of these has half as many bits (3.2, where u is 2);
+-- the other numbers are as long as what they belong to. That the exponents and the coefficient are of this key is not asked:
+-- where they are not, what they sign is not valid
 pub record IsPrivateInRange (k : PrivateNumbers) : Type 0 where
   pub public : IsInRange k.n k.e
   pub d_below : k.d < 2 ^ 2048
   pub p_half : IsHalf k.p
   pub q_half : IsHalf k.q
+  pub product : k.p * k.q ≡ k.n
   pub dp_below : k.dp < 2 ^ 1024
   pub dq_below : k.dq < 2 ^ 1024
   pub qinv_below : k.qinv < 2 ^ 1024
@@ -66,9 +68,10 @@ pub record IsPrivate (key : List ℕ) : Type 0 where
 abbrev pub first_two : List ℕ → List ℕ
 first_two octets = take (length octets - length (behind_of (behind_of octets))) octets
 
--- the public key of a private key: the RSAPublicKey whose INTEGERs are the second and the third of the RSAPrivateKey,
--- which stands behind the version and the algorithm
+-- the RSAPrivateKey of a private key, which stands behind the version and the algorithm
+unfoldable pub rsa_private : List ℕ → List ℕ
+rsa_private private = contents_of (behind_of (behind_of (contents_of private)))
+
+-- the public key of a private key: the RSAPublicKey whose INTEGERs are the second and the third of the RSAPrivateKey
 unfoldable pub rsa_public : List ℕ → List ℕ
-rsa_public private =
-    let key = contents_of (behind_of (behind_of (contents_of private))) in
-    element 0x30 (first_two (behind_of (contents_of key)))
+rsa_public private = element 0x30 (first_two (behind_of (contents_of (rsa_private private))))

@@ -2,6 +2,7 @@
 #![tactic(auto)]
 
 mod encoding;
+mod forms;
 mod integers;
 mod mask;
 mod private_key;
@@ -12,6 +13,10 @@ mod rsa_pss;
 mod signing;
 mod verifying;
 
+pub use forms::{
+    is_public_key, private_key_from_pkcs1, private_key_to_pkcs1, public_key_from_info,
+    public_key_to_info,
+};
 pub use private_reading::is_private_key;
 pub use public_key::PublicKey;
 pub use rsa_pss::RsaPss;

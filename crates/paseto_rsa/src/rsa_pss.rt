@@ -64,8 +64,9 @@ impl<R: TryRng> SignatureScheme<256> for RsaPss<R> {
 
     /// The signature of RFC 8017, section 8.1.1, with a salt from the generator, computed with both factors of the
     /// modulus and checked against the public key before it is returned. `KeyRejected` is returned for an invalid
-    /// private key: a malformed encoding, or numbers that are out of range; `Cipher` if the generator fails; and
-    /// `RsaCipher` if the signature is not valid, since the numbers are inconsistent. Does not allocate.
+    /// private key: a malformed encoding, numbers that are out of range, or a modulus that is not the product of the
+    /// factors; `Cipher` if the generator fails; and `RsaCipher` if the signature is not valid, since an exponent or the
+    /// coefficient is another key's. Does not allocate.
     fn sign(
         &mut self,
         _alloc: Global,

@@ -11,7 +11,7 @@ use Rattle.rusty_paseto_parts.specs.UntrustedToken.{AreKept, HasFooterText, foot
 use Rattle.rusty_paseto_parts.specs.declared.untrusted_token.UntrustedToken.{UntrustedToken}
 use Rattle.paseto_tasks.specs.declared.error.ProgramError.{ProgramError}
 use Rattle.paseto_tasks.specs.Error.{Fails, IsOutside, IsPlain, program_error_of}
-use Rattle.paseto_tasks.specs.Input.{OfInput, reading, token_of_input}
+use Rattle.paseto_tasks.specs.Input.{OfInput, inspected_text, reading}
 use Rattle.paseto_tasks.specs.Output.{Makes}
 use Rattle.paseto_tasks.specs.Inspect.Key.{BeginsAsNone}
 use Rattle.paseto_tasks.specs.TokenKind.{NamesKind}
@@ -115,12 +115,12 @@ or_no_lines text (Err error) none (inl outside) = inl outside
 or_no_lines text (Err error) none (inr nothing) = inr (no_lines text none (inr nothing))
 
 -- what is said of a token
-pub inspect_makes : (known : Option (List ℕ)) (token : List ℕ) (made : Result (String Global) ProgramError) → OfInput known (λ bytes. token_of_input bytes ≡ token)
+pub inspect_makes : (known : Option (List ℕ)) (token : List ℕ) (made : Result (String Global) ProgramError) → OfInput known (λ bytes. inspected_text bytes ≡ token)
     → IfOk made (λ lines. Inspects token (string_bytes lines)) → IfErr made (λ error. IsOutside error ⊎ InspectsNothing token) → IfErr made IsPlain
-    → Makes (λ lines. OfInput known (λ bytes. Inspects (token_of_input bytes) lines)) (λ error. OfInput known (λ bytes. RefusesInspecting bytes error))
+    → Makes (λ lines. OfInput known (λ bytes. Inspects (inspected_text bytes) lines)) (λ error. OfInput known (λ bytes. RefusesInspecting bytes error))
     (Fails reading) made
 inspect_makes known token (Ok lines) is printed refused plain = record {
-  printed = of_more known (λ bytes. token_of_input bytes ≡ token) (λ bytes. Inspects (token_of_input bytes) (string_bytes lines)) (λ bytes same. rw same printed) is;
+  printed = of_more known (λ bytes. inspected_text bytes ≡ token) (λ bytes. Inspects (inspected_text bytes) (string_bytes lines)) (λ bytes same. rw same printed) is;
   refused = tt;
 }
 inspect_makes known token (Err error) is printed (inl outside) plain = record {
@@ -129,5 +129,5 @@ inspect_makes known token (Err error) is printed (inl outside) plain = record {
 }
 inspect_makes known token (Err error) is printed (inr none) plain = record {
   printed = tt;
-  refused = inl (of_more known (λ bytes. token_of_input bytes ≡ token) (λ bytes. RefusesInspecting bytes error) (λ bytes same. inr (rw same (none, plain))) is);
+  refused = inl (of_more known (λ bytes. inspected_text bytes ≡ token) (λ bytes. RefusesInspecting bytes error) (λ bytes same. inr (rw same (none, plain))) is);
 }

@@ -2,6 +2,7 @@ pub mod Outputs
 pub mod Inspections
 pub mod Statuses
 pub mod Blames
+pub mod Comments
 pub mod Inputs
 pub mod Fronts
 pub mod KeyLines

@@ -1,5 +1,5 @@
 -- No refusal has a text of its own.
-use Rattle.std.proofs.Common.{ℕ, List, Option, inl, inr, sym, subst}
+use Rattle.std.proofs.Common.{ℕ, List, Option, false, inl, inr, sym, subst}
 use Rattle.rusty_paseto_parts.specs.declared.error.PasetoError.{PasetoError}
 use Rattle.rusty_paseto_parts.specs.declared.error.PasetoError.TheVariants.{KeyRejected, Signature, WrongHeader}
 use Rattle.rusty_paseto_paserk.specs.declared.header.PaserkType.{PaserkType}
@@ -13,7 +13,7 @@ use Rattle.paseto_tasks.specs.declared.token_kind.TokenKind.{TokenKind}
 use Rattle.paseto_tasks.specs.Error.{IsFixed, IsOutside, IsPlain, IsTokenError, token_error_of}
 use Rattle.paseto_tasks.specs.Explain.{RefusesExplaining}
 use Rattle.paseto_tasks.specs.Inspect.{RefusesInspecting}
-use Rattle.paseto_tasks.specs.Input.{IsNoText, token_of_input}
+use Rattle.paseto_tasks.specs.Input.{IsNoText, token_of_input, uncommented}
 use Rattle.paseto_tasks.specs.Run.{RefusesOf}
 use Rattle.paseto_tasks.specs.Tokens.{RefusesInput, RefusesKey, RefusesReading, RefusesText, RefusesToken}
 
@@ -69,5 +69,5 @@ explaining_fixed key options input error (inr (inl refused)) = key_fixed _ optio
 explaining_fixed key options input error (inr (inr refused)) = reading_fixed key options (token_of_input input) error refused.1
 
 pub inspecting_fixed : (input : List ℕ) (error : ProgramError) → RefusesInspecting input error → IsFixed error
-inspecting_fixed input error (inl none) = no_text_fixed input error none
+inspecting_fixed input error (inl none) = no_text_fixed (uncommented false input) error none
 inspecting_fixed input error (inr refused) = refused.1.0

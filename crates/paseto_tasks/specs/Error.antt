@@ -78,6 +78,15 @@ abbrev pub joined : List (List ℕ) → List ℕ
 joined [] = []
 joined (text ∷ texts) = text ++ joined texts
 
+-- of a token of one kind and a key for tokens of another
+abbrev pub kinds_text : List ℕ → List ℕ → List ℕ
+kinds_text token key = codes "the token is " ++ (token ++ (codes ", and the key is for " ++ key))
+
+-- what is said of the error, without a name
+abbrev pub message_of : ProgramError → List ℕ
+message_of (OfToken (OtherKind token key)) = kinds_text (kind_text token) (kind_text key)
+message_of error = text_of error
+
 -- the line on standard error, which ends in a line feed: that on two kinds tells both
 abbrev pub line_of : Names → ProgramError → List ℕ
 line_of names (OfToken (OtherKind token key)) = joined (codes "paseto: " ∷ names.input.now ∷ colon_behind names.input.now ∷ codes "the token is "

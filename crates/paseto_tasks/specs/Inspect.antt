@@ -8,7 +8,7 @@ use Rattle.rusty_paseto_parts.specs.Section.{HasCount, sections, base64url}
 use Rattle.rusty_paseto_parts.specs.UntrustedToken.{HasFooterText}
 use Rattle.paseto_tasks.specs.declared.error.ProgramError.{ProgramError}
 use Rattle.paseto_tasks.specs.Error.{IsPlain}
-use Rattle.paseto_tasks.specs.Input.{IsNoText, token_of_input}
+use Rattle.paseto_tasks.specs.Input.{IsNoText, inspected_text, uncommented}
 use Rattle.paseto_tasks.specs.Inspect.Key.{BeginsAsNone, InspectsKey}
 use Rattle.paseto_tasks.specs.TokenKind.{NamesKind}
 use Rattle.paseto_tasks.specs.declared.token_kind.TokenKind.TheVariants.{Other}
@@ -73,7 +73,7 @@ Inspects text lines = IsUtf8 text × (InspectsKey text lines ⊎ (BeginsAsNone t
 abbrev pub InspectsNothing : List ℕ → Type 0
 InspectsNothing text = (lines : List ℕ) → ¬ Inspects text lines
 
--- why none are printed of an input: it is no text, or its text has none, with an error that has no text of its own and is
+-- why none are printed of an input: what is behind its comments is no text, or its text has none, with an error that has no text of its own and is
 -- not one of a stream
 abbrev pub RefusesInspecting : List ℕ → ProgramError → Type 0
-RefusesInspecting input error = IsNoText input error ⊎ (InspectsNothing (token_of_input input) × IsPlain error)
+RefusesInspecting input error = IsNoText (uncommented false input) error ⊎ (InspectsNothing (inspected_text input) × IsPlain error)

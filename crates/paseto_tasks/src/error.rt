@@ -1,6 +1,6 @@
 //! Why the program failed.
 
-ghost use Rattle.std.specs.Prelude.{◌≡◌, ◌∷◌, [], ℕ, List, alloc_error, codes};
+ghost use Rattle.std.specs.Prelude.{◌≡◌, ◌∷◌, [], ℕ, List, IfOk, alloc_error, codes, string_bytes};
 ghost use Rattle.paseto_tasks.specs.Arguments.{texts};
 ghost use Rattle.std.specs.Io.{StartsWith};
 ghost use Rattle.std.specs.Io.KnownBytes.{Appends};
@@ -9,7 +9,7 @@ ghost use Rattle.rusty_paseto_parts.specs.declared.error.PasetoError.TheVariants
 ghost use Rattle.paseto_tasks.specs.declared.error.ProgramError.TheVariants.{System, Token};
 ghost use Rattle.paseto_tasks.specs.declared.error.system.SystemError.TheVariants.{InputOrOutput, Memory};
 ghost use Rattle.paseto_tasks.specs.declared.error.token.TokenError.TheVariants.{Refused};
-ghost use Rattle.paseto_tasks.specs.Error.{colon_behind, file_error, joined, key_error_of, key_file_error_of, line_of, link_error, name_of, program_error_of, status_of, stream_error_of, subject_of, text_of, token_error_of, use_error_of, words_error};
+ghost use Rattle.paseto_tasks.specs.Error.{colon_behind, file_error, joined, key_error_of, key_file_error_of, kinds_text, line_of, link_error, message_of, name_of, program_error_of, status_of, stream_error_of, subject_of, text_of, token_error_of, use_error_of, words_error};
 
 mod file;
 mod system;
@@ -24,7 +24,7 @@ use paseto_streams::StreamError;
 use paseto_wrapping::WrapError;
 use rusty_paseto_core::PasetoError;
 use rusty_paseto_paserk::PaserkError;
-use std::alloc::{AllocError, AllocFailed};
+use std::alloc::{AllocError, AllocFailed, Global};
 use std::io::{self, Write};
 use std::str::Utf8Error;
 pub use system::SystemError;
@@ -87,6 +87,18 @@ impl ProgramError {
             ProgramError::File(error) => error.text(),
             ProgramError::Token(error) => error.text(),
             ProgramError::System(error) => error.text(),
+        }
+    }
+
+    /// The message on standard error, without the name of what the error is about.
+    pub fn message(&self, alloc: Global) -> Result<String, AllocError>
+        ensures { IfOk result (λ message. string_bytes message ≡ message_of self.now) }
+    {
+        match self {
+            ProgramError::Token(TokenError::OtherKind(token, key)) => {
+                kinds_text(alloc, token.text(), key.text())
+            }
+            _ => String::from_str(alloc, self.text()),
         }
     }
 
@@ -226,6 +238,13 @@ fn write_kinds<'p, E: Write>(
             "\n",
         ],
     );
+}
+
+/// The message about a token of one kind and a key for tokens of another.
+fn kinds_text(alloc: Global, token: &str, key: &str) -> Result<String, AllocError>
+    ensures { IfOk result (λ message. string_bytes message ≡ kinds_text token.now key.now) }
+{
+    format!(in alloc; "the token is {token}, and the key is for {key}")
 }
 
 /// Writes texts one after another, or a prefix of them if a write fails.

@@ -25,3 +25,4 @@ pub use input::{read_input, read_key_line, read_password, read_text, read_token}
 pub use key_line::begins_as;
 pub use output::{with_line_feed, write_whole};
 pub use token_kind::TokenKind;
+pub use tokens::takes;

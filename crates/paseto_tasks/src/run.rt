@@ -7,7 +7,7 @@ ghost use Rattle.paseto_tasks.specs.Error.{Fails, IsCauseOf, nothing, status_of}
 ghost use Rattle.paseto_tasks.specs.Explain.{Explains, RefusesExplaining, TellsForged, TellsIssued};
 ghost use Rattle.paseto_tasks.specs.Half.{HasHalf, HasNoHalf};
 ghost use Rattle.paseto_tasks.specs.Id.{HasId, HasNoId};
-ghost use Rattle.paseto_tasks.specs.Input.{IsNoText, OfInput, reading, token_of_input};
+ghost use Rattle.paseto_tasks.specs.Input.{IsNoText, OfInput, inspected_text, reading, token_of_input};
 ghost use Rattle.paseto_tasks.specs.Inspect.{Inspects, RefusesInspecting};
 ghost use Rattle.paseto_tasks.specs.Output.{IsLeftOf, IsTextOf, Makes};
 ghost use Rattle.paseto_tasks.specs.Run.{Ends, FailsOf, IsRefusal, Leaves, PrintsOf, RefusesOf, Tells, Told, forged_status};
@@ -18,7 +18,7 @@ use crate::error::{Names, ProgramError};
 use crate::explain::{Explanation, explain};
 use crate::half::public;
 use crate::id::id;
-use crate::input::read_token;
+use crate::input::{read_inspected, read_token};
 use crate::inspect::inspect;
 use crate::output::write_whole;
 use crate::tokens::{fits, read, write};
@@ -112,12 +112,12 @@ pub fn run_inspect<R: Read, W: Write, E: Write>(
 ) -> u8
     ensures no_usage { result ≢ 2 }
     ensures output { Leaves W.contents
-        (λ lines. OfInput (R.remaining input.old) (λ bytes. Inspects (token_of_input bytes) lines))
+        (λ lines. OfInput (R.remaining input.old) (λ bytes. Inspects (inspected_text bytes) lines))
         (IsRefusal (λ error. OfInput (R.remaining input.old)
         (λ bytes. RefusesInspecting bytes error)) result)
         result output.old output.new }
     ensures errors { Tells E.contents names.now (Ends
-        (λ lines. OfInput (R.remaining input.old) (λ bytes. Inspects (token_of_input bytes) lines))
+        (λ lines. OfInput (R.remaining input.old) (λ bytes. Inspects (inspected_text bytes) lines))
         (λ error. OfInput (R.remaining input.old) (λ bytes. RefusesInspecting bytes error))
         (Fails reading)) result errors.old errors.new }
 {
@@ -127,12 +127,12 @@ pub fn run_inspect<R: Read, W: Write, E: Write>(
 /// What the token in the input says about itself.
 fn inspected<R: Read>(alloc: Global, input: &mut R) -> Result<String, ProgramError>
     ensures { Makes
-        (λ lines. OfInput (R.remaining input.old) (λ bytes. Inspects (token_of_input bytes) lines))
+        (λ lines. OfInput (R.remaining input.old) (λ bytes. Inspects (inspected_text bytes) lines))
         (λ error. OfInput (R.remaining input.old) (λ bytes. RefusesInspecting bytes error))
         (Fails reading) result }
 {
-    let token = read_token(alloc, input)?;
-    inspect(alloc, token.as_str())
+    let text = read_inspected(alloc, input)?;
+    inspect(alloc, text.as_str())
 }
 
 /// Prints which issued token a token is, or that it is a forgery, and returns the status: 0 where it was issued, 1 where it

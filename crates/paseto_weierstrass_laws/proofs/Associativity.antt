@@ -4,9 +4,10 @@ use Rattle.std.proofs.Common.{◌≡◌, ◌≢◌, ◌⊎◌, ℕ, ◌<◌, inl
 use Rattle.paseto_primes.specs.Polynomial.{Expression, constant, difference, product, sum, variable}
 use Rattle.paseto_primes.proofs.ElementLaws.{AreListedBelow}
 use Rattle.paseto_weierstrass_laws.specs.Field.{minus, plus, prime, times}
+use Rattle.paseto_weierstrass_laws.specs.Line.{line_x, line_y}
 use Rattle.paseto_weierstrass_laws.proofs.FieldLaws.{minus-below, plus-below, times-zero}
 use Rattle.paseto_weierstrass_laws.proofs.Identities.{equation, identity, minus_one, v0, v1, v2, v3, v4, v5, v6}
-use Rattle.paseto_weierstrass_laws.proofs.Lines.{IsSlope, by_chord, by_tangent, line_x, line_x_expr, line_y, line_y_expr, lining, square_expr}
+use Rattle.paseto_weierstrass_laws.proofs.Lines.{IsSlope, by_chord, by_tangent, line_x_expr, line_y_expr, lining, square_expr}
 
 abbrev pub v7 : Expression
 v7 = variable 7

@@ -2,10 +2,11 @@
 use Rattle.std.proofs.Common.{◌≡◌, ◌≢◌, ◌⊎◌, ℕ, inl, inr, sym, ◌∙◌, ap, subst}
 use Rattle.paseto_weierstrass_laws.specs.Field.{minus, plus}
 use Rattle.paseto_weierstrass_laws.specs.Group.{IsPoint, Same}
+use Rattle.paseto_weierstrass_laws.specs.Line.{line_x, line_y}
 use Rattle.paseto_weierstrass_laws.specs.Point.{Point, neutral, point_add}
 use Rattle.paseto_weierstrass_laws.proofs.Associativity.{Three, both-sums, mirrored, on_line, right-slope, same-slopes}
 use Rattle.paseto_weierstrass_laws.proofs.FieldLaws.{zero_or_not}
-use Rattle.paseto_weierstrass_laws.proofs.Lines.{IsSlope, line, line-is_plane, line-sum, line_x, line_y, opposite, opposite-sum, opposite-twice, plus-swapped, same_plane, slope, swapped}
+use Rattle.paseto_weierstrass_laws.proofs.Lines.{IsSlope, line, line-is_plane, line-sum, opposite, opposite-sum, opposite-twice, plus-swapped, same_plane, slope, swapped}
 use Rattle.paseto_weierstrass_laws.proofs.Plane.{IsPlane, plane_point}
 use Rattle.paseto_weierstrass_laws.proofs.PointLaws.{at_infinity, in_plane, kind, neutral-is_point, plane-is_point, same_refl, same_sym, same_trans}
 use Rattle.paseto_weierstrass_laws.proofs.SumLaws.{sum-is_point, sum-neutral, sum-neutral_first, sum-same, sum-same_first, sum_comm}

@@ -5,6 +5,7 @@ pub mod Formulas
 pub mod GroupLaws
 pub mod Identities
 pub mod Lines
+pub mod Opposites
 pub mod MultipleLaws
 pub mod OrderLaws
 pub mod Plane

@@ -1,5 +1,5 @@
 -- Lines through two points of the plane, and the third point of the curve on them, whose opposite is the sum.
-use Rattle.std.proofs.Common.{◌≡◌, ◌≢◌, ◌⊎◌, ℕ, ◌-◌, ◌*◌, ◌<◌, inl, inr, List, [], ◌∷◌, refl, true, lit<}
+use Rattle.std.proofs.Common.{◌≡◌, ◌≢◌, ◌⊎◌, ℕ, ◌-◌, ◌*◌, ◌<◌, inl, inr, List, [], ◌∷◌, refl, subst, true, lit<}
 use Rattle.paseto_primes.specs.Element.{HoldElements, element}
 use Rattle.paseto_primes.specs.Identity.{Equation, is_null, left_sides, right_sides}
 use Rattle.paseto_primes.specs.Polynomial.{Expression, constant, difference, polynomial, product, sum}
@@ -9,12 +9,13 @@ use Rattle.paseto_primes.proofs.ElementLaws.{AreListedBelow, listed-below}
 use Rattle.paseto_primes.proofs.IdentityLaws.{term, total}
 use Rattle.paseto_primes.proofs.ReductionLaws.{elements-by_rules}
 use Rattle.paseto_weierstrass_laws.specs.Curve.{curve_b}
-use Rattle.paseto_weierstrass_laws.specs.Field.{inverse, minus, plus, prime, times}
-use Rattle.paseto_weierstrass_laws.specs.Group.{Same}
+use Rattle.paseto_weierstrass_laws.specs.Field.{inverse, minus, plus, prime, times, triple}
+use Rattle.paseto_weierstrass_laws.specs.Group.{IsPoint, Same}
+use Rattle.paseto_weierstrass_laws.specs.Line.{IsChord, IsTangent, affine, line_x, line_y}
 use Rattle.paseto_weierstrass_laws.specs.Point.{neutral, point_add}
 use Rattle.paseto_weierstrass_laws.proofs.FieldLaws.{fermat, inverse-below, minus-below, plus-below, times-below, zero_or_not}
 use Rattle.paseto_weierstrass_laws.proofs.Formulas.{ExpressionPoint, add_expr, cubic_expr, parts_of_sum, plane, summing}
-use Rattle.paseto_weierstrass_laws.proofs.Identities.{equation, identity, minus_one, v0, v1, v2, v3, v4}
+use Rattle.paseto_weierstrass_laws.proofs.Identities.{equation, identity, minus_one, v0, v1, v2, v3, v4, v5}
 use Rattle.paseto_weierstrass_laws.proofs.Plane.{IsPlane, plane_expr, plane_point, rule-1, rule-3}
 use Rattle.paseto_weierstrass_laws.proofs.PointLaws.{neutral-same, plane-is_point, same_of_across}
 use Rattle.paseto_weierstrass_laws.proofs.SumLaws.{sum-is_point}
@@ -25,13 +26,6 @@ pub record IsSlope (x y v w k : ℕ) : Type 0 where
   pub below : k < prime
   pub chord : times k (minus v x) ≡ minus w y
   pub tangent : times k (plus y w) ≡ minus (plus (plus (times x x) (times x v)) (times v v)) 3
-
--- the sum of (x, y) and of the point at v, by the slope k of their line
-unfoldable pub line_x : ℕ → ℕ → ℕ → ℕ
-line_x k x v = minus (minus (times k k) x) v
-
-unfoldable pub line_y : ℕ → ℕ → ℕ → ℕ → ℕ
-line_y k x y v = minus (times k (minus x (line_x k x v))) y
 
 -- two points of the plane are opposites, or they have a line, whose slope is determined
 pub data Line (x y v w : ℕ) : Type 0 where
@@ -305,3 +299,48 @@ opposite-twice a b c ha hb hc e f =
 
 pub same_plane : (x y v w : ℕ) → x ≡ v → y ≡ w → plane_point x y ≡ plane_point v w
 same_plane x y v w e f = λ i. record { x = e i; y = f i; z = 1 }
+
+-- ---- by the chord, and by the tangent
+
+pub plane-of : (x y : ℕ) → IsPoint (affine x y) → IsPlane x y
+plane-of x y h = record { x_below = h.x_below; y_below = h.y_below; on_curve = h.on_curve }
+
+-- the slope of a chord is the difference of y times what is inverse to that of x
+chord-is : (x y v w k i : ℕ) → IsPlane x y → IsPlane v w → IsChord x y v w k → i < prime → times (minus v x) i ≡ 1
+    → times (minus w y) i ≡ k
+unfolding lining
+chord-is x y v w k i h l c low inv =
+    identity 6 (y ∷ x ∷ w ∷ v ∷ i ∷ k ∷ []) (h.y_below, (h.x_below, (l.y_below, (l.x_below, (low, (c.below, tt))))))
+    (equation v5 (product (difference v3 v1) v4) (constant 1)
+    ∷ equation (product minus_one v4) (product v5 (difference v3 v1)) (difference v2 v0)
+    ∷ []) (inv, (c.slope, tt))
+    (product (difference v2 v0) v4) v5 refl
+
+chord-slope : (x y v w k : ℕ) → IsPlane x y → IsPlane v w → IsChord x y v w k → IsSlope x y v w k
+chord-slope x y v w k h l c =
+    let d = minus v x in
+    let some : d ≢ 0 = λ none. c.apart (of_difference v x l.x_below h.x_below none) in
+    let inv = fermat d (minus-below v x) some in
+    subst (IsSlope x y v w) (chord-is x y v w k (inverse d) h l c (inverse-below d) inv)
+    (by_difference x y v w (inverse d) h l (inverse-below d) inv)
+
+pub chord-sum : (x y v w k : ℕ) → IsPoint (affine x y) → IsPoint (affine v w) → IsChord x y v w k
+    → Same (point_add (affine x y) (affine v w)) (affine (line_x k x v) (line_y k x y v))
+chord-sum x y v w k hp hq c =
+    let h = plane-of x y hp in
+    let l = plane-of v w hq in
+    line-sum x y v w k h l (chord-slope x y v w k h l c)
+
+tangent-slope : (x y k : ℕ) → IsPlane x y → IsTangent x y k → IsSlope x y x y k
+unfolding lining triple
+tangent-slope x y k h t = record {
+  below = t.below;
+  chord = identity 3 (y ∷ x ∷ k ∷ []) (h.y_below, (h.x_below, (t.below, tt))) [] tt (chord_expr v2 v1 v1) (difference v0 v0) refl;
+  tangent = t.slope;
+}
+
+pub tangent-sum : (x y k : ℕ) → IsPoint (affine x y) → IsTangent x y k
+    → Same (point_add (affine x y) (affine x y)) (affine (line_x k x x) (line_y k x y x))
+tangent-sum x y k hp t =
+    let h = plane-of x y hp in
+    line-sum x y x y k h h (tangent-slope x y k h t)

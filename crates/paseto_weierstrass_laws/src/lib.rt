@@ -9,7 +9,8 @@ mod same;
 
 pub use curve::{base_is_point, inverse_of_element, neutral_is_point, no_point_of_order_two};
 pub use group::{
-    double_is_sum, sum_associates, sum_commutes, sum_is_point, sum_of_same, sum_with_neutral,
+    double_is_sum, sum_associates, sum_by_chord, sum_by_tangent, sum_commutes, sum_is_point,
+    sum_of_same, sum_with_neutral, sum_with_opposite,
 };
 pub use multiples::{
     joint_multiple_is_sum, multiple_by_product, multiple_by_remainder, multiple_by_sum,

@@ -69,6 +69,7 @@ pub record CheckWords : Type 0 where
   pub leeway : Option Text
   pub foot : Option Text × Option Text
   pub assertion : Option Text
+  pub each : Bool
   pub longest : Option Text
   pub input : Option Text
 
@@ -190,6 +191,7 @@ plain (action.Check a) = Asked.to_check (record {
   leeway = text a.leeway;
   foot = footing a.foot;
   assertion = text a.assertion;
+  each = a.each;
   longest = text a.longest;
   input = text a.input;
 })

@@ -74,7 +74,7 @@ abbrev pub check_app : App
 check_app = command (codes "check") (key_rules ++ option_rule (codes "ring") ∷ many_rule (codes "claim")
     ∷ many_rule (codes "require") ∷ option_rule (codes "at") ∷ option_rule (codes "leeway")
     ∷ option_rule (codes "footer") ∷ option_rule (codes "footer-kid") ∷ option_rule (codes "assertion")
-    ∷ option_rule (codes "longest") ∷ place_rule (codes "input") ∷ [])
+    ∷ flag_rule (codes "each") ∷ option_rule (codes "longest") ∷ place_rule (codes "input") ∷ [])
 
 -- what a command takes, beside its key, that takes a text or a token
 abbrev pub input_rules : List Rule

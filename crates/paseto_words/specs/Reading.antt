@@ -84,6 +84,7 @@ check_in rows = option_and_then (λ keys. option_map (λ foot. Asked.to_check (r
   leeway = first_of (codes "leeway") rows;
   foot = foot;
   assertion = first_of (codes "assertion") rows;
+  each = says (first_of (codes "each") rows);
   longest = first_of (codes "longest") rows;
   input = first_of (codes "input") rows;
 })) (foot_in rows)) (keys_in rows)

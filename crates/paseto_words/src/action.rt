@@ -124,7 +124,7 @@ pub struct Issue<'a> {
 }
 
 /// `check [--key FILE | --ring FOLDER] [--password-file FILE] [--unlock-key FILE] [--claim CLAIM].. [--require NAME]..
-/// [--at TIME] [--leeway TIME] [--footer TEXT | --footer-kid ID] [--assertion TEXT] [--longest BYTES] [INPUT]`
+/// [--at TIME] [--leeway TIME] [--footer TEXT | --footer-kid ID] [--assertion TEXT] [--each] [--longest BYTES] [INPUT]`
 #[derive(Drop)]
 pub struct Check<'a> {
     /// The key file, or the folder of key files.
@@ -143,9 +143,11 @@ pub struct Check<'a> {
     pub foot: Foot<'a>,
     /// Its implicit assertion.
     pub assertion: Option<&'a str>,
-    /// The number of bytes that the token may have. It may be invalid.
+    /// Whether each line of the input is a token.
+    pub each: bool,
+    /// The number of bytes that the token may have, or each of them. It may be invalid.
     pub longest: Option<&'a str>,
-    /// The file of the token.
+    /// The file of the token, or of the tokens.
     pub input: Option<&'a str>,
 }
 

@@ -204,6 +204,13 @@ const LONGEST: Parameter = Parameter {
     is_required: false,
 };
 
+const EACH: Parameter = Parameter {
+    id: "each",
+    form: Form::Flag,
+    help: "Checks the token on each line, of --longest bytes at most, and prints a JSON line for each: {\"claims\":..} or {\"error\":..}",
+    is_required: false,
+};
+
 const REQUIRE: Parameter = Parameter {
     id: "require",
     form: Form::Many("NAME"),
@@ -307,8 +314,8 @@ const CHECK: Subcommand = Subcommand {
     example: "Example: paseto check --key office.key --claim aud=customers token",
     usage: Some("paseto check [--key <FILE> | --ring <FOLDER>] [OPTIONS] [INPUT]"),
     parameters: &[
-        KEY, PASSWORD, OPENER, RING, CLAIM, REQUIRE, AT, LEEWAY, FOOTER, KID, ASSERTION, LONGEST,
-        INPUT,
+        KEY, PASSWORD, OPENER, RING, CLAIM, REQUIRE, AT, LEEWAY, FOOTER, KID, ASSERTION, EACH,
+        LONGEST, INPUT,
     ],
 };
 

@@ -278,6 +278,7 @@ fn check_of<'a>(alloc: Global, matches: &ArgMatches<'a>) -> Result<Option<Action
     let at = text(matches, "at");
     let leeway = text(matches, "leeway");
     let assertion = text(matches, "assertion");
+    let each = is_set(matches, "each");
     let longest = text(matches, "longest");
     let input = text(matches, "input");
     Ok(Some(Action::Check(Check {
@@ -289,6 +290,7 @@ fn check_of<'a>(alloc: Global, matches: &ArgMatches<'a>) -> Result<Option<Action
         leeway,
         foot,
         assertion,
+        each,
         longest,
         input,
     })))

@@ -55,7 +55,7 @@ salt_length Sodium = 16
 
 -- k: 32 bytes by PBKDF2 with HMAC-SHA384, or by Argon2id
 unfoldable pub k : Family → List ℕ → List ℕ → PasswordCost → List ℕ
-k Nist password s cost = take 32 (derived_key password s cost.iterations)
+k Nist password s cost = derived_key password s cost.iterations 32
 k Sodium password s cost =
     argon2id password s [] [] (record { memory = cost.memory / 1024; passes = cost.passes; lanes = cost.lanes }) 32
 

@@ -433,7 +433,7 @@ fn tag(version: PaserkVersion, kind: WrappedType, password_key: &[u8; 32], front
 }
 
 // The key of a password.
-#[tactic(auto, unfolding(crate::specs::Password::k))]
+#[tactic(auto, using(rusty_paseto_primitives::proofs::Pbkdf2Iterations::key_of_32), unfolding(crate::specs::Password::k))]
 fn password_key(
     alloc: Global,
     family: Family,

@@ -12,7 +12,6 @@ ghost use Rattle.rusty_paseto.specs.declared.error.KeyRingError.TheVariants.{Unt
 
 use crate::error::KeyRingError;
 use crate::key_ring::limits::Limits;
-use crate::key_ring::naming::{footer_of, key_id};
 use rusty_paseto_core::{
     Local, PasetoAsymmetricPublicKey, PasetoError, PasetoSymmetricKey, Public, PublicKey,
 };
@@ -30,7 +29,7 @@ mod opened;
 mod owned;
 mod public;
 
-pub use naming::key_footer;
+pub use naming::{footer_of, key_footer, key_id};
 
 /// The keys of local tokens of a version by their ids: a [`Ring`] that opens them.
 ///

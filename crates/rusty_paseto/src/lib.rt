@@ -39,7 +39,9 @@ pub mod validators;
 mod version;
 
 pub use error::{GeneralPasetoError, KeyRingError, KeyRingParserError};
-pub use key_ring::{KeyRing, OwnedPublicKeyRing, PublicKeyRing, Ring, key_footer};
+pub use key_ring::{
+    KeyRing, OwnedPublicKeyRing, PublicKeyRing, Ring, footer_of, key_footer, key_id,
+};
 pub use moment::fits_default;
 pub use paseto_builder::PasetoBuilder;
 pub use paseto_parser::{DefaultParser, PasetoParser};

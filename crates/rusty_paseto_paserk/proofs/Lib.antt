@@ -1,3 +1,4 @@
 pub mod Prefixes
 pub mod KindLaws
 pub mod IdLaws
+pub mod RsaLaws

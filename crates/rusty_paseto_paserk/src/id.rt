@@ -74,8 +74,8 @@ pub fn public_id<V: KeyPairVersion>(
     )
 }
 
-// The id of the key of a text.
-fn id_of(
+/// The id of the key of a text.
+pub(crate) fn id_of(
     alloc: Global,
     version: PaserkVersion,
     kind: PaserkType,

@@ -25,6 +25,7 @@ mod header;
 mod id;
 mod keys;
 pub mod laws;
+mod rsa;
 mod text;
 mod versions;
 
@@ -34,5 +35,9 @@ pub use id::{local_id, public_id, secret_id};
 pub use keys::{
     local_from_paserk, local_to_paserk, private_key_from_paserk, public_from_paserk,
     public_key_from_paserk, public_to_paserk, secret_from_paserk, secret_to_paserk,
+};
+pub use rsa::{
+    rsa_private_key_from_paserk, rsa_public_id, rsa_public_key_from_paserk, rsa_public_to_paserk,
+    rsa_secret_id, rsa_secret_to_paserk,
 };
 pub use versions::{KeyPairVersion, KeyVersion};

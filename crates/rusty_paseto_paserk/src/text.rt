@@ -8,8 +8,7 @@ ghost use Rattle.rusty_paseto_paserk.specs.Text.{IsKeyFault, ReadsBytes, writing
 
 use crate::error::PaserkError;
 use crate::header::{PaserkType, PaserkVersion, header_of};
-use base64::engine::general_purpose::URL_SAFE_NO_PAD;
-use rusty_paseto_parts::{PasetoError, from_section};
+use paseto_base64::{Alphabet, decode, encode_string};
 use std::alloc::Global;
 
 /// The text of a key of these bytes. It fails only with `Memory`.
@@ -38,10 +37,9 @@ pub(crate) fn read_bytes(
     ensures { ReadsBytes version kind text.now result }
 {
     let payload = payload_of(version, kind, text)?;
-    match from_section(alloc, payload) {
-        Ok(bytes) => Ok(bytes),
-        Err(PasetoError::Memory(source)) => Err(PaserkError::Memory(source)),
-        Err(_) => Err(PaserkError::InvalidKey),
+    match decode(alloc, Alphabet::UrlSafe, payload)? {
+        Some(bytes) => Ok(bytes),
+        None => Err(PaserkError::InvalidKey),
     }
 }
 
@@ -69,6 +67,6 @@ pub(crate) fn push_encoded(bytes: &[u8], text: &mut String) -> Result<(), Paserk
         ++ base64url bytes.now) }
     ensures err { IfErr result IsMemory }
 {
-    URL_SAFE_NO_PAD.encode_string(bytes, text)?;
+    encode_string(Alphabet::UrlSafe, bytes, text)?;
     Ok(())
 }

@@ -20,7 +20,7 @@ pub trait KeyVersion: VersionTrait {
 
 /// A version whose key pairs have texts: 2, 3 and 4, whose keys have a fixed number of bytes.
 ///
-/// Version 1 is not supported: its key pairs are RSA keys, whose encodings have any length.
+/// The key pairs of version 1 are RSA keys, whose encodings have any length; their calls begin with `rsa_`.
 pub trait KeyPairVersion: KeyVersion {
     // How many bytes a private key has in its text.
     ghost secret_length: { ℕ };

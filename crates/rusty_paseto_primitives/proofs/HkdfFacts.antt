@@ -2,7 +2,8 @@
 -- 5869 are of other hashes: these are of their inputs under SHA-384, as CPython's hmac gives them.
 use Rattle.std.proofs.Common.{◌≡◌, [], ◌∷◌, refl, replicate}
 use Rattle.sha2.specs.Sha512.{compress, digest_bytes, first_words, hash_after, rounds, schedule, sha384}
-use Rattle.rusty_paseto_primitives.specs.Hkdf.{expansion, expansion_block, hkdf, hkdf_expand, hkdf_extract}
+use Rattle.rusty_paseto_primitives.specs.Bytes.{joined}
+use Rattle.rusty_paseto_primitives.specs.Hkdf.{expansion_block, hkdf, hkdf_expand, hkdf_extract}
 use Rattle.rusty_paseto_primitives.specs.Hmac.{hmac, key_block}
 
 -- two blocks, the second of them cut (the inputs of appendix A.1)
@@ -12,7 +13,7 @@ pub key_of_two_blocks : hkdf (0x00 ∷ 0x01 ∷ 0x02 ∷ 0x03 ∷ 0x04 ∷ 0x05 
     0x3A ∷ 0x9F ∷ 0x38 ∷ 0x06 ∷ 0x3E ∷ 0x25 ∷ 0xB5 ∷ 0x16 ∷ 0xDC ∷ 0xBF ∷ 0x36 ∷ 0x9F ∷ 0x39 ∷
     0x4C ∷ 0xFA ∷ 0xB4 ∷ 0x36 ∷ 0x85 ∷ 0xF7 ∷ 0x48 ∷ 0xB6 ∷ 0x45 ∷ 0x77 ∷ 0x63 ∷ 0xE4 ∷ 0xF0 ∷
     0x20 ∷ 0x4F ∷ 0xC5 ∷ 0xD9 ∷ 0x5D ∷ 0x1D ∷ 0xA3 ∷ 0xE6 ∷ 0x25 ∷ 0x87 ∷ 0xB2 ∷ []
-unfolding first_words schedule rounds compress hash_after digest_bytes sha384 key_block hmac expansion_block expansion hkdf_extract hkdf_expand hkdf
+unfolding first_words schedule rounds compress hash_after digest_bytes sha384 key_block hmac expansion_block joined hkdf_extract hkdf_expand hkdf
 key_of_two_blocks = refl
 
 -- the empty salt (the inputs of appendix A.3)

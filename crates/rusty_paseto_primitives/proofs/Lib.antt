@@ -5,6 +5,7 @@ pub mod Differences
 pub mod ChaChaFacts
 pub mod LaneBytes
 pub mod Xored
+pub mod JoinedBlocks
 pub mod QuarterRounds
 pub mod Quarters
 pub mod StreamBlocks
@@ -15,7 +16,6 @@ pub mod Blake2Hashers
 pub mod Blake2Lengths
 pub mod Blake2Pairs
 pub mod Blake2Rows
-pub mod HkdfBlocks
 pub mod HkdfFacts
 pub mod HkdfLengths
 pub mod HmacFacts

@@ -1,6 +1,7 @@
 -- HKDF (RFC 5869) with HMAC-SHA384 on lists of bytes.
 use Rattle.std.specs.Prelude.{ℕ, zero, suc, ◌+◌, List, [], ◌∷◌, ◌++◌, take, replicate}
 use Rattle.std.specs.Int.{div_ceil}
+use Rattle.rusty_paseto_primitives.specs.Bytes.{joined}
 use Rattle.rusty_paseto_primitives.specs.Hmac.{hmac}
 
 -- the salt, where an empty one stands for as many zeros as a digest has bytes (2.2)
@@ -18,14 +19,9 @@ unfoldable pub expansion_block : List ℕ → List ℕ → ℕ → List ℕ
 expansion_block prk info zero = []
 expansion_block prk info (suc n) = hmac prk (expansion_block prk info n ++ info ++ (n + 1) ∷ [])
 
--- T(1) to T(n), joined (2.3)
-unfoldable pub expansion : List ℕ → List ℕ → ℕ → List ℕ
-expansion prk info zero = []
-expansion prk info (suc n) = expansion prk info n ++ expansion_block prk info (suc n)
-
--- the first n bytes of as many blocks as they need, where n is at most 255 * 48 (2.3)
+-- the first n bytes of as many blocks as they need, T(1) and so on, where n is at most 255 * 48 (2.3)
 unfoldable pub hkdf_expand : List ℕ → List ℕ → ℕ → List ℕ
-hkdf_expand prk info n = take n (expansion prk info (div_ceil n 48))
+hkdf_expand prk info n = take n (joined (expansion_block prk info) (div_ceil n 48))
 
 -- n bytes from a salt, the input keying material and the info (2)
 unfoldable pub hkdf : List ℕ → List ℕ → List ℕ → ℕ → List ℕ

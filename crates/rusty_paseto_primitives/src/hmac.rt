@@ -18,7 +18,7 @@ const INNER_PAD: u8 = 0x36;
 const OUTER_PAD: u8 = 0x5c;
 
 /// An HMAC-SHA384 hasher (RFC 2104) that takes the message piece by piece. No call allocates.
-#[derive(Drop)]
+#[derive(Clone, Drop)]
 pub struct HmacSha384 {
     // Has taken in the inner key, and the message so far.
     inner: Sha384,
@@ -68,6 +68,17 @@ impl HmacSha384 {
             → Holds self.new key (message ++ «data».now) }
     {
         self.inner.update(data);
+    }
+
+    // The code of `data` behind the message. The hasher stays as it was, so that one of the empty message gives the codes
+    // of many messages, with its key taken in once.
+    pub(crate) fn code_of(&self, data: &[u8]) -> [u8; 48]
+        ensures { (key message : List ℕ) → Holds self.now key message
+            → result ≡ hmac key (message ++ «data».now) }
+    {
+        let mut hasher = self.clone().unwrap();
+        hasher.update(data);
+        hasher.finalize()
     }
 
     /// The message authentication code of the message.

@@ -30,4 +30,4 @@ pub use chacha::{chacha20_block, hchacha20, quarter_round, xchacha20_apply, xcha
 pub use equality::same_bytes;
 pub use hkdf::{hkdf_sha384_expand, hkdf_sha384_extract};
 pub use hmac::{HmacSha384, hmac_sha384};
-pub use pbkdf2::pbkdf2_sha384;
+pub use pbkdf2::{DerivedKeyTooLong, pbkdf2_sha384, pbkdf2_sha384_into};

@@ -12,6 +12,7 @@
 mod agreement;
 mod boxed;
 mod json;
+mod key_texts;
 mod p384;
 mod passwords;
 mod pem;
@@ -31,6 +32,10 @@ pub use boxed::{
     paseto_bench_xchacha20poly1305_seal,
 };
 pub use json::paseto_bench_json_read;
+pub use key_texts::{
+    paseto_bench_read_local, paseto_bench_read_secret, paseto_bench_write_local,
+    paseto_bench_write_secret,
+};
 pub use p384::{
     paseto_bench_p384_public_key, paseto_bench_p384_shared_secret, paseto_bench_p384_sign,
     paseto_bench_p384_verify,

@@ -31,7 +31,7 @@ pub extern "C" fn paseto_bench_pbkdf2(
     key: &mut [u8],
     reps: u32,
 ) -> u64
-    ensures { result ≢ 2 ^ 64 - 1 → key.new ≡ derived_key password.now salt.now iterations }
+    ensures { result ≢ 2 ^ 64 - 1 → key.new ≡ derived_key password.now salt.now iterations 48 }
 {
     bench_calls::bench_pbkdf2(password, salt, iterations, key, reps)
 }

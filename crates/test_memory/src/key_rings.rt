@@ -6,6 +6,7 @@ use crate::run::{Run, Snapshot, calls, edits, shown};
 use crate::tokens::{seal, seal_boxed, sign};
 use anyhow::Result;
 use rusty_paseto::prelude::*;
+use rusty_paseto::{footer_of, key_id};
 use std::alloc::Global;
 use test_toys::keys::{Keys, SECRET, ToyVersion};
 use test_toys::{Lenient, PlainBox};
@@ -45,8 +46,12 @@ pub fn ask(run: &mut Run<'_>) -> Result<()> {
 fn ask_id(run: &mut Run<'_>) -> Result<()> {
     let (alloc, text) = (run.alloc, run.text);
     let footer = key_footer(alloc, text)?;
+    let section = to_section(alloc, text.as_bytes())?;
+    let token = format!(in alloc; "v4.local.AAAA.{section}")?;
     calls! { run;
         "key_footer of an id" => key_footer(alloc, text);
+        "footer_of of a token" => footer_of(alloc, token.as_str());
+        "key_id of a footer" => key_id(alloc, NEW);
         "Ring::add of v4.local, an id of the text" => key_by(alloc, text, footer.as_str());
     }
 }

@@ -1,6 +1,7 @@
 //! The calls of keys as text. What is no key is as long as the text that the calls are about.
 
 use crate::kinds::{bytes_of, symmetric_key};
+use crate::rsa_key::{PRIVATE, PUBLIC};
 use crate::run::{Run, calls};
 use anyhow::Result;
 use rusty_paseto::prelude::*;
@@ -19,7 +20,8 @@ pub fn ask(run: &mut Run<'_>) -> Result<()> {
         "local_from_paserk of another text, refused" => read_local(alloc, other.as_str());
         "local_id of v4.local" => local_id(alloc, &key);
     )?;
-    ask_pairs(run)
+    ask_pairs(run)?;
+    ask_rsa_pairs(run)
 }
 
 fn read_local(alloc: Global, text: &str) -> Result<String, PaserkError> {
@@ -59,5 +61,35 @@ fn ask_pairs(run: &mut Run<'_>) -> Result<()> {
         "public_key_from_paserk of v4.public" => read_public(alloc, text.as_str());
         "public_key_from_paserk of another text, refused" => read_public(alloc, other_public.as_str());
         "public_id of v4.public" => public_id(alloc, &public);
+    }
+}
+
+fn read_rsa_private(alloc: Global, text: &str) -> Result<String, PaserkError> {
+    let key = rsa_private_key_from_paserk(alloc, text)?;
+    rsa_secret_to_paserk(alloc, &key.lend())
+}
+
+fn read_rsa_public(alloc: Global, text: &str) -> Result<String, PaserkError> {
+    let key = rsa_public_key_from_paserk(alloc, text)?;
+    rsa_public_to_paserk(alloc, &key.lend())
+}
+
+fn ask_rsa_pairs(run: &mut Run<'_>) -> Result<()> {
+    let alloc = run.alloc;
+    let private = PrivateKey::<V1>::try_from(from_section(alloc, PRIVATE)?)?;
+    let public = PublicKey::<V1>::try_from(from_section(alloc, PUBLIC)?)?;
+    let secret = rsa_secret_to_paserk(alloc, &private.lend())?;
+    let info = format!(in alloc; "k1.secret.{PRIVATE}")?;
+    let text = rsa_public_to_paserk(alloc, &public.lend())?;
+    let other = format!(in alloc; "k1.public.{PUBLIC}")?;
+    calls! { run;
+        "rsa_secret_to_paserk of v1.public" => rsa_secret_to_paserk(alloc, &private.lend());
+        "rsa_private_key_from_paserk of v1.public" => read_rsa_private(alloc, secret.as_str());
+        "rsa_private_key_from_paserk of v1.public in PKCS 8" => read_rsa_private(alloc, info.as_str());
+        "rsa_secret_id of v1.public" => rsa_secret_id(alloc, &private.lend());
+        "rsa_public_to_paserk of v1.public" => rsa_public_to_paserk(alloc, &public.lend());
+        "rsa_public_key_from_paserk of v1.public" => read_rsa_public(alloc, text.as_str());
+        "rsa_public_key_from_paserk of v1.public in PKCS 1, refused" => read_rsa_public(alloc, other.as_str());
+        "rsa_public_id of v1.public" => rsa_public_id(alloc, &public.lend());
     }
 }

@@ -153,8 +153,9 @@ fn keys_of_openssl_become_lines(rt: HostRuntime) {
         (P384_PUBLIC, CURVE_PUBLIC),
         (P384_COMPRESSED, CURVE_PUBLIC),
         (RSA_PRIVATE, RSA_PRIVATE),
+        (RSA_PRIVATE_PKCS1, RSA_PRIVATE),
         (RSA_PUBLIC, RSA_PUBLIC),
-        (RSA_PUBLIC_PKCS1, RSA_PUBLIC_PKCS1),
+        (RSA_PUBLIC_PKCS1, RSA_PUBLIC),
     ] {
         expect_line(&rt, alloc, &NO_OPENERS, text, line);
     }

@@ -1,5 +1,6 @@
 //! Keys of OpenSSL, both ways, and what is refused.
 
+mod others;
 mod refusals;
 pub(crate) mod texts;
 
@@ -49,6 +50,15 @@ fn keys_of_ed25519(rt: HostRuntime) {
     writes_public::<V2>(&rt, alloc, ED25519_PUBLIC, ED25519_PUBLIC);
     let open = ED25519_PUBLIC.strip_suffix('\n').expect(&rt, "a line feed");
     reads_public::<V2>(&rt, alloc, open, public);
+}
+
+// Lines of other lengths and ends, and a text in front.
+#[test]
+fn other_forms_of_texts(rt: HostRuntime) {
+    let alloc = rt.alloc();
+    'texts: for text in ED25519_PUBLIC_IN_OTHER_FORMS {
+        writes_public::<V4>(&rt, alloc, text, ED25519_PUBLIC);
+    }
 }
 
 #[test]

@@ -238,7 +238,7 @@ class OtherType(InvalidKey):
 
 
 class NotPem(InvalidKey):
-    """The text is not a key in PEM, in the strict form of RFC 7468."""
+    """The text is not a key in PEM, or has more than one."""
 
     code = 34
 

@@ -1,4 +1,5 @@
-//! Base64url without padding (RFC 4648, section 5), for footers of tokens that are not verified yet.
+//! Base64url without padding (RFC 4648, section 5), for the bytes of footers of tokens that are not verified yet: the library
+//! reads only those that are UTF-8.
 
 /// The bytes that a text encodes, or `None` if it is not valid base64url: it has another character, a length of 4n + 1,
 /// or nonzero bits after the last byte.

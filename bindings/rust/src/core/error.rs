@@ -63,7 +63,7 @@ pub enum PasetoError {
     Cipher,
     /// Out of memory.
     Memory,
-    /// The token is longer than the limit.
+    /// The token or its footer is longer than the limit.
     TooLong,
 }
 
@@ -92,7 +92,7 @@ impl fmt::Display for PasetoError {
                 "A Utf8 parsing error occurred"
             }
             PasetoError::Memory => "No memory was found",
-            PasetoError::TooLong => "The token is longer than the limit",
+            PasetoError::TooLong => "The token or its footer is longer than allowed",
         })
     }
 }
@@ -143,6 +143,36 @@ impl From<Fault> for PasetoError {
             Fault::TooLong => PasetoError::TooLong,
             Fault::NoRandom => PasetoError::Cipher,
             _ => PasetoError::InvalidKey,
+        }
+    }
+}
+
+#[cfg(test)]
+mod tests {
+    use super::*;
+    use crate::library::text_of;
+
+    #[test]
+    fn texts_are_those_of_the_library() {
+        let faults = [
+            Fault::Memory,
+            Fault::InvalidKey,
+            Fault::IncorrectSize,
+            Fault::FooterInvalid,
+            Fault::WrongHeader,
+            Fault::PayloadBase64Decode,
+            Fault::Cryption,
+            Fault::ChaChaCipherError,
+            Fault::InvalidSignature,
+            Fault::Utf8Error,
+            Fault::FromUtf8Error,
+            Fault::KeyRejected,
+            Fault::Signature,
+            Fault::RsaCipher,
+            Fault::TooLong,
+        ];
+        for fault in faults {
+            assert_eq!(PasetoError::from(fault).to_string(), text_of(fault));
         }
     }
 }

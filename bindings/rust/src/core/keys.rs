@@ -8,6 +8,19 @@ use std::marker::PhantomData;
 use std::ops::Deref;
 
 /// The bytes of a key or a nonce. They are overwritten when it is dropped, and `Debug` does not show them.
+///
+/// ```rust
+/// use paseto_proved::core::{Key, PasetoError};
+///
+/// # fn main() -> Result<(), PasetoError> {
+/// let key = Key::<4>::try_from("70a1b2C3")?;
+/// assert_eq!(*key, [0x70, 0xa1, 0xb2, 0xc3]);
+/// assert_eq!(Key::<4>::try_from("70").err(), Some(PasetoError::InvalidKey));
+/// assert_ne!(*Key::<32>::try_new_random()?, *Key::<32>::try_new_random()?);
+/// assert_eq!(format!("{key:?}"), "!!! KEY IS PRIVATE !!!");
+/// # Ok(())
+/// # }
+/// ```
 #[derive(Clone)]
 pub struct Key<const N: usize>([u8; N]);
 
@@ -182,6 +195,16 @@ impl<Version, Purpose> fmt::Debug for PasetoSymmetricKey<Version, Purpose> {
 }
 
 /// The nonce of a local token. Draw a fresh one for each token.
+///
+/// ```rust
+/// use paseto_proved::core::{Key, Local, PasetoNonce, V4};
+///
+/// # fn main() -> Result<(), Box<dyn std::error::Error>> {
+/// let bytes = Key::<32>::try_new_random()?;
+/// assert_eq!(PasetoNonce::<V4, Local>::from(&bytes).as_ref(), bytes.as_ref());
+/// # Ok(())
+/// # }
+/// ```
 pub struct PasetoNonce<'a, Version, Purpose> {
     kind: PhantomData<(Version, Purpose)>,
     bytes: &'a [u8],
@@ -298,6 +321,20 @@ macro_rules! nonce {
 }
 
 nonce!(V1, V2, V3, V4);
+
+impl<'a, T> From<&'a T> for PasetoNonce<'a, V2, Public>
+where
+    T: Into<&'a [u8]>,
+    &'a [u8]: From<&'a T>,
+{
+    /// The nonce of bytes that a type of the caller's lends. No call takes it: it is there as in the crate rusty_paseto.
+    fn from(bytes: &'a T) -> Self {
+        PasetoNonce {
+            kind: PhantomData,
+            bytes: bytes.into(),
+        }
+    }
+}
 
 impl<'a> From<&'a [u8]> for PasetoAsymmetricPrivateKey<'a, V1, Public> {
     /// The key of a PKCS #8 `PrivateKeyInfo` in DER, of an RSA key of 2048 bits with the exponent 65537. The bytes are

@@ -12,6 +12,23 @@ use std::marker::PhantomData;
 ///
 /// `try_encrypt` and `try_sign` make a token of these parts and do not change them; `try_decrypt` and `try_verify` read
 /// a token.
+///
+/// ```rust
+/// use paseto_proved::core::*;
+///
+/// # fn main() -> Result<(), Box<dyn std::error::Error>> {
+/// let key = PasetoSymmetricKey::<V4, Local>::try_new_random()?;
+/// let nonce = Key::<32>::try_new_random()?;
+/// let footer = Footer::from("key-1");
+/// let token = Paseto::<V4, Local>::builder()
+///     .set_payload(Payload::from("a text"))
+///     .set_footer(footer)
+///     .try_encrypt(&key, &PasetoNonce::from(&nonce))?;
+/// assert_eq!(Paseto::<V4, Local>::try_decrypt(&token, &key, footer, None)?, "a text");
+/// assert_eq!(Paseto::<V4, Local>::try_decrypt(&token, &key, None, None), Err(PasetoError::FooterInvalid));
+/// # Ok(())
+/// # }
+/// ```
 #[derive(Clone, Copy)]
 pub struct Paseto<'a, Version: VersionTrait, Purpose: PurposeTrait> {
     kind: PhantomData<(Version, Purpose)>,

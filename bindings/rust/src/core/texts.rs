@@ -40,14 +40,45 @@ macro_rules! text {
 
 text! {
     /// The text that a token holds, usually claims as JSON.
+    ///
+    /// ```rust
+    /// use paseto_proved::core::Payload;
+    ///
+    /// assert!(Payload::from("a text") == "a text");
+    /// ```
     Payload
 }
 text! {
     /// A text in the token that is authenticated but not encrypted: often the id of the key, as JSON.
+    ///
+    /// ```rust
+    /// use paseto_proved::core::Footer;
+    ///
+    /// # fn main() -> Result<(), Box<dyn std::error::Error>> {
+    /// assert_eq!(Footer::from("key-1").to_string(), "key-1");
+    /// assert_eq!(Footer::try_from_token("v4.local.payload.a2V5LTE")?.as_deref(), Some("key-1"));
+    /// # Ok(())
+    /// # }
+    /// ```
     Footer
 }
 text! {
     /// A text that is not in the token, but authenticated with it: the reader must pass the same one. Versions 3 and 4.
+    ///
+    /// ```rust
+    /// use paseto_proved::prelude::*;
+    ///
+    /// # fn main() -> Result<(), Box<dyn std::error::Error>> {
+    /// let key = PasetoSymmetricKey::<V4, Local>::try_new_random()?;
+    /// let token = PasetoBuilder::<V4, Local>::default()
+    ///     .set_implicit_assertion(ImplicitAssertion::from("account 7"))
+    ///     .build(&key)?;
+    /// let mut parser = PasetoParser::<V4, Local>::default();
+    /// assert!(parser.parse(&token, &key).is_err());
+    /// assert!(parser.set_implicit_assertion(ImplicitAssertion::from("account 7")).parse(&token, &key).is_ok());
+    /// # Ok(())
+    /// # }
+    /// ```
     ImplicitAssertion
 }
 

@@ -2,7 +2,8 @@
 
 use crate::core::base64url::decode;
 use crate::core::PasetoError;
-use std::str;
+use crate::library;
+use std::fmt;
 
 /// The sections of a token that is not verified yet: do not trust them.
 ///
@@ -16,11 +17,23 @@ use std::str;
 /// # Ok(())
 /// # }
 /// ```
-#[derive(Clone, Copy, Debug)]
+#[derive(Clone, Copy)]
 pub struct UntrustedToken<'a> {
+    token: &'a str,
     version: &'a str,
     purpose: &'a str,
     footer: Option<&'a str>,
+}
+
+// A log does not have to hold the token itself.
+impl fmt::Debug for UntrustedToken<'_> {
+    fn fmt(&self, f: &mut fmt::Formatter<'_>) -> fmt::Result {
+        f.debug_struct("UntrustedToken")
+            .field("version", &self.version)
+            .field("purpose", &self.purpose)
+            .field("footer", &self.footer)
+            .finish()
+    }
 }
 
 impl<'a> UntrustedToken<'a> {
@@ -32,6 +45,7 @@ impl<'a> UntrustedToken<'a> {
         let footer = sections.next();
         match sections.next() {
             None => Ok(UntrustedToken {
+                token,
                 version,
                 purpose,
                 footer,
@@ -78,10 +92,11 @@ impl<'a> UntrustedToken<'a> {
             .transpose()
     }
 
-    /// The text of the footer, or `None` if there is none. Fails with `Utf8Error` if its bytes are not UTF-8.
+    /// The text of the footer, or `None` if there is none. Fails with `PayloadBase64Decode` if the section is not valid
+    /// base64url, `Utf8Error` if its bytes are not UTF-8, and `Memory` if the library is out of memory.
     pub fn footer_str(&self) -> Result<Option<String>, PasetoError> {
-        match self.footer_decoded()? {
-            Some(bytes) => Ok(Some(str::from_utf8(&bytes)?.to_owned())),
+        match self.footer {
+            Some(_) => Ok(Some(library::token_footer(self.token.as_bytes())?)),
             None => Ok(None),
         }
     }

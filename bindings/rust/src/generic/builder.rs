@@ -13,6 +13,18 @@ use std::marker::PhantomData;
 /// by default: [`PasetoBuilder`](crate::prelude::PasetoBuilder) adds the times.
 ///
 /// `try_encrypt` and `try_sign` keep the claims, so that a second token has them too.
+///
+/// ```rust
+/// use paseto_proved::generic::*;
+///
+/// # fn main() -> Result<(), Box<dyn std::error::Error>> {
+/// let mut builder = GenericBuilder::<V4, Local>::default();
+/// builder.set_claim(SubjectClaim::from("ada")).set_claim(CustomClaim::try_from(("seats", 4))?);
+/// assert_eq!(builder.build_payload_from_claims()?, r#"{"seats":4,"sub":"ada"}"#);
+/// assert!(builder.try_encrypt(&PasetoSymmetricKey::try_new_random()?)?.starts_with("v4.local."));
+/// # Ok(())
+/// # }
+/// ```
 pub struct GenericBuilder<'a, 'b, Version, Purpose> {
     kind: PhantomData<(Version, Purpose)>,
     // Values are written when they are set, so that nothing of them is borrowed.

@@ -6,6 +6,19 @@ use std::error::Error;
 use std::fmt;
 
 /// Why a builder did not make a token.
+///
+/// ```rust
+/// use paseto_proved::prelude::*;
+///
+/// # fn main() -> Result<(), Box<dyn std::error::Error>> {
+/// let twice = PasetoBuilder::<V4, Local>::default()
+///     .set_claim(SubjectClaim::from("ada"))
+///     .set_claim(SubjectClaim::from("bob"))
+///     .build(&PasetoSymmetricKey::try_new_random()?);
+/// assert!(matches!(twice, Err(GenericBuilderError::DuplicateTopLevelPayloadClaim(key)) if key == "sub"));
+/// # Ok(())
+/// # }
+/// ```
 #[derive(Debug)]
 pub enum GenericBuilderError {
     /// A claim was refused. The message is the claim's own.
@@ -27,6 +40,26 @@ pub enum GenericBuilderError {
         /// Why.
         source: serde_json::Error,
     },
+}
+
+impl GenericBuilderError {
+    /// The reason, in one line: for `CipherError` and `PayloadJsonError` that of its source, which the message of the error
+    /// itself does not say.
+    ///
+    /// ```rust
+    /// use paseto_proved::prelude::*;
+    ///
+    /// let no_key: &[u8] = &[0; 63];
+    /// let built = PasetoBuilder::<V4, Public>::default().build(&PasetoAsymmetricPrivateKey::from(no_key));
+    /// assert_eq!(built.map_err(|error| error.reason()), Err("Key was not in the correct format".to_owned()));
+    /// ```
+    pub fn reason(&self) -> String {
+        match self {
+            GenericBuilderError::CipherError { source } => source.to_string(),
+            GenericBuilderError::PayloadJsonError { source } => source.to_string(),
+            other => other.to_string(),
+        }
+    }
 }
 
 impl fmt::Display for GenericBuilderError {

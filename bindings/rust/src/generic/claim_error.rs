@@ -4,6 +4,13 @@ use std::error::Error;
 use std::fmt;
 
 /// Why a claim was refused, or why the claims of a token did not pass a check.
+///
+/// ```rust
+/// use paseto_proved::generic::PasetoClaimError;
+///
+/// let missing = PasetoClaimError::Missing("sub".to_owned());
+/// assert_eq!(missing.to_string(), "The expected claim 'sub' was not found in the payload");
+/// ```
 #[derive(Clone, Debug, PartialEq, Eq)]
 pub enum PasetoClaimError {
     /// The token has expired.

@@ -9,6 +9,17 @@ const RESERVED: [&str; 7] = ["iss", "sub", "aud", "exp", "nbf", "iat", "jti"];
 /// Of a key alone it is one with an empty text, to be checked by a closure.
 ///
 /// A reserved key gives `Reserved`. Numbers are 64-bit integers: a token with another one is not built.
+///
+/// ```rust
+/// use paseto_proved::generic::{CustomClaim, PasetoClaim, PasetoClaimError};
+///
+/// # fn main() -> Result<(), PasetoClaimError> {
+/// assert_eq!(CustomClaim::try_from(("seats", vec![4, 5]))?.get_key(), "seats");
+/// let refused = CustomClaim::try_from(("exp", 4)).err();
+/// assert_eq!(refused, Some(PasetoClaimError::Reserved("exp".to_owned())));
+/// # Ok(())
+/// # }
+/// ```
 #[derive(Clone, Debug)]
 pub struct CustomClaim<T>((String, T));
 

@@ -12,6 +12,18 @@ macro_rules! date_claim {
     ($(#[$about:meta])* $name:ident, $key:literal) => {
         $(#[$about])*
         /// It is made of an RFC 3339 date and time, such as `2026-11-29T12:00:00Z`; another text gives `RFC3339Date`.
+        ///
+        /// ```rust
+        #[doc = concat!("use paseto_proved::generic::{", stringify!($name), ", PasetoClaimError};")]
+        ///
+        /// # fn main() -> Result<(), PasetoClaimError> {
+        #[doc = concat!("let claim = ", stringify!($name), "::try_from(\"2026-11-29T12:00:00Z\")?;")]
+        #[doc = concat!("assert_eq!(claim.as_ref().0, \"", $key, "\");")]
+        #[doc = concat!("let refused = ", stringify!($name), "::try_from(\"noon\").err();")]
+        /// assert_eq!(refused, Some(PasetoClaimError::RFC3339Date("noon".to_owned())));
+        /// # Ok(())
+        /// # }
+        /// ```
         #[derive(Clone, Debug)]
         pub struct $name((String, String));
 

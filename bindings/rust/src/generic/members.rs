@@ -2,12 +2,13 @@
 
 use crate::generic::{GenericBuilderError, PasetoClaim, PasetoClaimError};
 use serde::ser::Error;
-use serde_json::{Map, Value};
+use serde_json::Value;
+use std::collections::BTreeMap;
 
 /// The values of claims by their keys, in the order of the keys, and why one is missing, where it could not be written.
 #[derive(Clone, Debug, Default)]
 pub(crate) struct Members {
-    values: Map<String, Value>,
+    values: BTreeMap<String, Value>,
     fault: Option<String>,
 }
 
@@ -84,7 +85,7 @@ impl Members {
 }
 
 /// The first key whose value has a number that is not a 64-bit integer.
-pub(super) fn odd_key(values: &Map<String, Value>) -> Option<&str> {
+pub(super) fn odd_key(values: &BTreeMap<String, Value>) -> Option<&str> {
     let odd = values.iter().find(|(_, value)| has_float(value));
     odd.map(|(key, _)| key.as_str())
 }

@@ -8,9 +8,9 @@ use crate::generic::refusals::parser_error;
 use crate::generic::{
     GenericParserError, Members, PasetoClaim, PasetoClaimError, ValidatorFn, ValidatorMap,
 };
-use crate::library::{self, Checks, Fault, Refusal, Version};
-use crate::moment::{second_of, this_second};
-use serde_json::{Map, Value};
+use crate::library::{self, Checks, Refusal, Version};
+use crate::moment::Moment;
+use serde_json::Value;
 use std::collections::{BTreeMap, BTreeSet, HashMap};
 use std::marker::PhantomData;
 use std::time::{Duration, SystemTime};
@@ -36,6 +36,26 @@ impl Validator<'_> {
 ///
 /// The library checks the expected claims, in the order of their keys, and the validators run after it, also in the order
 /// of their keys.
+///
+/// ```rust
+/// use paseto_proved::generic::*;
+///
+/// # fn main() -> Result<(), Box<dyn std::error::Error>> {
+/// let key = PasetoSymmetricKey::<V4, Local>::try_new_random()?;
+/// let token = GenericBuilder::<V4, Local>::default()
+///     .set_claim(CustomClaim::try_from(("seats", 4))?)
+///     .try_encrypt(&key)?;
+/// let most = 3;
+/// let refused = GenericParser::<V4, Local>::default()
+///     .validate_claim(CustomClaim::try_from("seats")?, &|key, value| match value.as_u64() {
+///         Some(seats) if seats <= most => Ok(()),
+///         _ => Err(PasetoClaimError::CustomValidation(key.to_owned())),
+///     })
+///     .parse(&token, &key);
+/// assert!(matches!(refused, Err(GenericParserError::ClaimError { source: PasetoClaimError::CustomValidation(_) })));
+/// # Ok(())
+/// # }
+/// ```
 pub struct GenericParser<'a, 'b, Version, Purpose> {
     kind: PhantomData<(Version, Purpose)>,
     expected: Members,
@@ -46,6 +66,7 @@ pub struct GenericParser<'a, 'b, Version, Purpose> {
     checks_times: bool,
     leeway: u32,
     longest: usize,
+    longest_footer: usize,
     now: Option<SystemTime>,
 }
 
@@ -62,6 +83,7 @@ impl<'a, 'b, Version, Purpose> GenericParser<'a, 'b, Version, Purpose> {
             checks_times: false,
             leeway: 0,
             longest: 0,
+            longest_footer: 0,
             now: None,
         }
     }
@@ -157,6 +179,28 @@ impl<'a, 'b, Version, Purpose> GenericParser<'a, 'b, Version, Purpose> {
         self
     }
 
+    /// Refuses a token whose footer has more bytes with `CipherError` of `TooLong`, before it is decoded. 0 is no limit, as
+    /// before the first call.
+    ///
+    /// ```rust
+    /// use paseto_proved::generic::*;
+    ///
+    /// # fn main() -> Result<(), Box<dyn std::error::Error>> {
+    /// let key = PasetoSymmetricKey::<V4, Local>::try_new_random()?;
+    /// let footer = Footer::from("a footer of 24 bytes, ..");
+    /// let token = GenericBuilder::<V4, Local>::default().set_footer(footer).try_encrypt(&key)?;
+    /// let mut parser = GenericParser::<V4, Local>::default();
+    /// assert!(parser.set_footer(footer).set_longest_footer(24).parse(&token, &key).is_ok());
+    /// let refused = parser.set_longest_footer(23).parse(&token, &key);
+    /// assert!(matches!(refused, Err(GenericParserError::CipherError { source: PasetoError::TooLong })));
+    /// # Ok(())
+    /// # }
+    /// ```
+    pub fn set_longest_footer(&mut self, bytes: usize) -> &mut Self {
+        self.longest_footer = bytes;
+        self
+    }
+
     // Checks exp and nbf from now on.
     pub(crate) fn check_times(&mut self) {
         self.checks_times = true;
@@ -180,27 +224,30 @@ impl<'a, 'b, Version, Purpose> GenericParser<'a, 'b, Version, Purpose> {
         self.expected.fault()?;
         let compared = self.compared();
         let required = self.required_names()?;
+        let moment = self.now.map_or_else(Moment::now, Moment::from);
         let checks = Checks {
             expected: &serde_json::to_string(&compared)?,
-            now: self.now.map_or_else(this_second, second_of),
+            now: moment
+                .nanoseconds()
+                .ok_or_else(|| PasetoClaimError::RFC3339Date(moment.to_string()))?,
             leeway: if self.checks_times {
                 self.leeway
             } else {
                 u32::MAX
             },
             longest: self.longest,
+            longest_footer: self.longest_footer,
             required: &required,
         };
-        let read = at_this_second(checks, call);
-        let claims: Value =
-            serde_json::from_str(&read.map_err(|fault| parser_error(fault, &compared))?)?;
+        let read = call(&checks).map_err(|refusal| parser_error(refusal, &compared))?;
+        let claims: Value = serde_json::from_str(&read)?;
         self.compare_times(&claims)?;
         self.validate(&claims)?;
         Ok(claims)
     }
 
     // The expected claims that no validator checks.
-    fn compared(&self) -> Map<String, Value> {
+    fn compared(&self) -> BTreeMap<String, Value> {
         let expected = self.expected.iter();
         expected
             .filter(|(key, _)| !self.validators.contains_key(*key))
@@ -232,24 +279,6 @@ impl<'a, 'b, Version, Purpose> GenericParser<'a, 'b, Version, Purpose> {
         validators.try_for_each(|(key, validator)| {
             validator.validate(key, claims.get(key).unwrap_or(&null))
         })
-    }
-}
-
-// Reads a token at the second that has begun, which is that of its nbf where another program has just made it. Then the
-// second counts as over, since the nbf may lie within it.
-fn at_this_second(
-    checks: Checks<'_>,
-    call: impl Fn(&Checks<'_>) -> Result<String, Refusal>,
-) -> Result<String, Refusal> {
-    match call(&checks) {
-        Err(refusal) if refusal.fault == Fault::UseBeforeAvailable => {
-            let over = Checks {
-                now: checks.now.saturating_add(1),
-                ..checks
-            };
-            call(&over).map_err(|_| refusal)
-        }
-        read => read,
     }
 }
 

@@ -6,6 +6,17 @@ use std::error::Error;
 use std::fmt;
 
 /// Why a parser refused a token.
+///
+/// ```rust
+/// use paseto_proved::prelude::*;
+///
+/// # fn main() -> Result<(), Box<dyn std::error::Error>> {
+/// let key = PasetoSymmetricKey::<V4, Local>::try_new_random()?;
+/// let refused = PasetoParser::<V4, Local>::default().parse("v4.local", &key);
+/// assert!(matches!(refused, Err(GenericParserError::CipherError { source: PasetoError::IncorrectSize })));
+/// # Ok(())
+/// # }
+/// ```
 #[derive(Debug)]
 pub enum GenericParserError {
     /// A claim is missing, or did not pass a check. The message is the claim's own.

@@ -6,10 +6,14 @@ use crate::generic::members::odd_key;
 use crate::generic::{GenericParserError, PasetoClaimError};
 use crate::library::{Fault, Refusal};
 use serde::de::Error;
-use serde_json::{Map, Value};
+use serde_json::Value;
+use std::collections::BTreeMap;
 
 /// The error of a refusal of a token of which the claims were expected.
-pub(super) fn parser_error(refusal: Refusal, expected: &Map<String, Value>) -> GenericParserError {
+pub(super) fn parser_error(
+    refusal: Refusal,
+    expected: &BTreeMap<String, Value>,
+) -> GenericParserError {
     let line = refusal.line.as_str();
     match refusal.fault {
         Fault::PayloadJsonError => serde_json::Error::custom(line).into(),
@@ -58,7 +62,7 @@ fn part(line: &str, front: &str, end: &str) -> String {
 }
 
 // The claim whose message a line is: the texts are between what is known of an expected claim.
-fn invalid(line: &str, expected: &Map<String, Value>) -> PasetoClaimError {
+fn invalid(line: &str, expected: &BTreeMap<String, Value>) -> PasetoClaimError {
     let named = expected.iter().find_map(|(key, value)| {
         let wanted = text_of(value);
         let found = line

@@ -6,6 +6,14 @@ use serde::{Serialize, Serializer};
 macro_rules! text_claim {
     ($(#[$about:meta])* $name:ident, $key:literal) => {
         $(#[$about])*
+        ///
+        /// ```rust
+        #[doc = concat!("use paseto_proved::generic::{", stringify!($name), ", PasetoClaim};")]
+        ///
+        #[doc = concat!("let claim = ", stringify!($name), "::from(\"a text\");")]
+        #[doc = concat!("assert_eq!(claim.get_key(), \"", $key, "\");")]
+        #[doc = concat!("assert_eq!(claim.as_ref(), &(\"", $key, "\", \"a text\"));")]
+        /// ```
         #[derive(Clone, Debug)]
         pub struct $name<'a>((&'a str, &'a str));
 

@@ -24,7 +24,7 @@ pub enum KeyTextError {
     OtherVersion,
     /// The text is a key of another type: local, private or public.
     OtherType,
-    /// The text is not a key in PEM, in the strict form of RFC 7468.
+    /// The text is not a key in PEM, or has more than one.
     NotPem,
     /// The key in PEM is encrypted.
     EncryptedKey,
@@ -44,6 +44,10 @@ pub enum KeyTextError {
     WrongKey,
     /// The password of the key asks for more work than the library does.
     TooCostly,
+    /// The password has 4 GiB or more.
+    LongPassword,
+    /// The system gave no random bytes.
+    NoRandom,
     /// Out of memory.
     Memory,
 }
@@ -65,6 +69,8 @@ impl fmt::Display for KeyTextError {
             KeyTextError::NeedsKey => Fault::NeedsKey,
             KeyTextError::WrongKey => Fault::WrongKey,
             KeyTextError::TooCostly => Fault::TooCostly,
+            KeyTextError::LongPassword => return f.write_str("The password is too long"),
+            KeyTextError::NoRandom => Fault::NoRandom,
             KeyTextError::Memory => Fault::Memory,
         }))
     }
@@ -89,6 +95,8 @@ impl From<Fault> for KeyTextError {
             Fault::NeedsKey => KeyTextError::NeedsKey,
             Fault::WrongKey => KeyTextError::WrongKey,
             Fault::TooCostly => KeyTextError::TooCostly,
+            Fault::TooLong => KeyTextError::LongPassword,
+            Fault::NoRandom => KeyTextError::NoRandom,
             _ => KeyTextError::InvalidKey,
         }
     }

@@ -24,6 +24,16 @@ impl KeyId {
     }
 
     /// The text of the id.
+    ///
+    /// ```rust
+    /// use paseto_proved::core::{Key, Local, PasetoSymmetricKey, V4};
+    ///
+    /// # fn main() -> Result<(), Box<dyn std::error::Error>> {
+    /// let id = PasetoSymmetricKey::<V4, Local>::from(Key::from([0; 32])).id()?;
+    /// assert_eq!(id.as_str(), "k4.lid.bqltbNc4JLUAmc9Xtpok-fBuI0dQN5_m3CD9W_nbh559");
+    /// # Ok(())
+    /// # }
+    /// ```
     pub fn as_str(&self) -> &str {
         &self.0
     }

@@ -32,11 +32,31 @@ pub struct KeyPair<Version> {
 
 impl<Version> KeyPair<Version> {
     /// The key that signs.
+    ///
+    /// ```rust
+    /// use paseto_proved::core::V4;
+    /// use paseto_proved::keys::KeyPair;
+    ///
+    /// # fn main() -> Result<(), Box<dyn std::error::Error>> {
+    /// assert!(KeyPair::<V4>::try_new_random()?.private_key().to_paserk()?.starts_with("k4.secret."));
+    /// # Ok(())
+    /// # }
+    /// ```
     pub fn private_key(&self) -> &PasetoAsymmetricPrivateKey<'static, Version, Public> {
         &self.private_key
     }
 
     /// The key that verifies.
+    ///
+    /// ```rust
+    /// use paseto_proved::core::V4;
+    /// use paseto_proved::keys::KeyPair;
+    ///
+    /// # fn main() -> Result<(), Box<dyn std::error::Error>> {
+    /// assert!(KeyPair::<V4>::try_new_random()?.public_key().to_paserk()?.starts_with("k4.public."));
+    /// # Ok(())
+    /// # }
+    /// ```
     pub fn public_key(&self) -> &PasetoAsymmetricPublicKey<'static, Version, Public> {
         &self.public_key
     }
@@ -53,6 +73,18 @@ macro_rules! pair {
         #[cfg(feature = $feature)]
         impl KeyPair<$version> {
             /// A new random key pair. Fails with `Cipher` if the system gives no random bytes.
+            ///
+            /// ```rust
+            #[doc = concat!("use paseto_proved::core::", stringify!($version), ";")]
+            /// use paseto_proved::keys::KeyPair;
+            ///
+            /// # fn main() -> Result<(), Box<dyn std::error::Error>> {
+            #[doc = concat!("let pair = KeyPair::<", stringify!($version), ">::try_new_random()?;")]
+            #[doc = concat!("let other = KeyPair::<", stringify!($version), ">::try_new_random()?;")]
+            /// assert_ne!(pair.public_key().as_ref(), other.public_key().as_ref());
+            /// # Ok(())
+            /// # }
+            /// ```
             pub fn try_new_random() -> Result<Self, PasetoError> {
                 loop {
                     match Self::try_from_seed(&Key::<$length>::try_new_random()?) {
@@ -65,6 +97,18 @@ macro_rules! pair {
 
             /// The key pair of a seed: 32 bytes, or 48 in version 3, where the seed is the private key. Fails with
             /// `KeyRejected` for a seed of version 3 that is not a private key.
+            ///
+            /// ```rust
+            #[doc = concat!("use paseto_proved::core::{Key, ", stringify!($version), "};")]
+            /// use paseto_proved::keys::KeyPair;
+            ///
+            /// # fn main() -> Result<(), Box<dyn std::error::Error>> {
+            #[doc = concat!("let seed = Key::from([7; ", stringify!($length), "]);")]
+            #[doc = concat!("let pair = KeyPair::<", stringify!($version), ">::try_from_seed(&seed)?;")]
+            #[doc = concat!("assert_eq!(pair.private_key().as_ref()[..", stringify!($length), "], seed[..]);")]
+            /// # Ok(())
+            /// # }
+            /// ```
             pub fn try_from_seed(seed: &Key<$length>) -> Result<Self, PasetoError> {
                 let (private, public) = library::key_pair(Version::$version, seed.as_ref())?;
                 Ok(KeyPair {

@@ -64,37 +64,96 @@ impl<K> Default for KeyRing<K> {
 
 impl<K> KeyRing<K> {
     /// No keys, and no limits.
+    ///
+    /// ```rust
+    /// use paseto_proved::core::{Local, PasetoSymmetricKey, V4};
+    /// use paseto_proved::keys::KeyRing;
+    ///
+    /// assert_eq!(KeyRing::<PasetoSymmetricKey<V4, Local>>::new().ids().count(), 0);
+    /// ```
     pub fn new() -> Self {
         KeyRing::default()
     }
 
     /// Adds a key under an id, in place of an earlier one, which is returned.
+    ///
+    /// ```rust
+    /// use paseto_proved::core::{Local, PasetoSymmetricKey, V4};
+    /// use paseto_proved::keys::KeyRing;
+    ///
+    /// # fn main() -> Result<(), Box<dyn std::error::Error>> {
+    /// let key = PasetoSymmetricKey::<V4, Local>::try_new_random()?;
+    /// let mut ring = KeyRing::new();
+    /// assert!(ring.add(key.id()?.as_str(), key.clone()).is_none());
+    /// assert!(ring.add(key.id()?.as_str(), key).is_some());
+    /// # Ok(())
+    /// # }
+    /// ```
     pub fn add(&mut self, id: &str, key: K) -> Option<K> {
         self.keys.insert(id.to_owned(), key)
     }
 
     /// Removes the key with an id, and returns it.
+    ///
+    /// ```rust
+    /// let mut ring = paseto_proved::keys::KeyRing::new();
+    /// ring.add("2026-10", "any type");
+    /// assert_eq!(ring.remove("2026-10"), Some("any type"));
+    /// assert_eq!(ring.remove("2026-10"), None);
+    /// ```
     pub fn remove(&mut self, id: &str) -> Option<K> {
         self.keys.remove(id)
     }
 
     /// The key with an id.
+    ///
+    /// ```rust
+    /// let mut ring = paseto_proved::keys::KeyRing::new();
+    /// ring.add("2026-10", "any type");
+    /// assert_eq!(ring.get("2026-10"), Some(&"any type"));
+    /// assert_eq!(ring.get("2026-11"), None);
+    /// ```
     pub fn get(&self, id: &str) -> Option<&K> {
         self.keys.get(id)
     }
 
     /// The ids, in their order.
+    ///
+    /// ```rust
+    /// let mut ring = paseto_proved::keys::KeyRing::new();
+    /// ring.add("2026-11", "any type");
+    /// ring.add("2026-10", "any type");
+    /// assert_eq!(ring.ids().collect::<Vec<_>>(), ["2026-10", "2026-11"]);
+    /// ```
     pub fn ids(&self) -> impl Iterator<Item = &str> + '_ {
         self.keys.keys().map(String::as_str)
     }
 
     /// Refuses a token of more bytes with `TooLong`, before any of it is decoded. 0 is no limit.
+    ///
+    /// ```rust
+    /// use paseto_proved::keys::{KeyRing, KeyRingError};
+    /// use paseto_proved::prelude::*;
+    ///
+    /// let mut ring = KeyRing::<PasetoSymmetricKey<V4, Local>>::new();
+    /// let refused = ring.set_longest(10).parse(&PasetoParser::default(), "v4.local.payload");
+    /// assert!(matches!(refused, Err(KeyRingError::Untrusted { source: PasetoError::TooLong })));
+    /// ```
     pub fn set_longest(&mut self, bytes: usize) -> &mut Self {
         self.longest = bytes;
         self
     }
 
-    /// Refuses a token whose footer has more bytes, in base64url, with `TooLong`, before it is decoded. 0 is no limit.
+    /// Refuses a token whose footer has more bytes with `TooLong`, before it is decoded. 0 is no limit.
+    ///
+    /// ```rust
+    /// use paseto_proved::keys::{KeyRing, KeyRingError};
+    /// use paseto_proved::prelude::*;
+    ///
+    /// let mut ring = KeyRing::<PasetoSymmetricKey<V4, Local>>::new();
+    /// let refused = ring.set_longest_footer(2).parse(&PasetoParser::default(), "v4.local.payload.AAAA");
+    /// assert!(matches!(refused, Err(KeyRingError::Untrusted { source: PasetoError::TooLong })));
+    /// ```
     pub fn set_longest_footer(&mut self, bytes: usize) -> &mut Self {
         self.longest_footer = bytes;
         self
@@ -107,7 +166,8 @@ impl<K> KeyRing<K> {
             longest => UntrustedToken::try_parse_within(token, longest)?,
         };
         let section = untrusted.footer_base64().unwrap_or_default();
-        if self.longest_footer != 0 && section.len() > self.longest_footer {
+        // Four letters of base64url are three bytes.
+        if self.longest_footer != 0 && section.len() * 3 / 4 > self.longest_footer {
             return Err(PasetoError::TooLong.into());
         }
         let footer = untrusted.footer_str()?.unwrap_or_default();
@@ -123,8 +183,21 @@ fn kid_of(footer: &str) -> Option<String> {
     named.get("kid")?.as_str().map(str::to_owned)
 }
 
+// An example of a ring of keys of a version.
+macro_rules! example {
+    ($version:ident: $($line:literal)*) => {
+        concat!(
+            "```rust\nuse paseto_proved::keys::*;\nuse paseto_proved::prelude::*;\n\ntype Version = ",
+            stringify!($version),
+            ";\n\n# fn main() -> Result<(), Box<dyn std::error::Error>> {\n",
+            $($line, "\n",)*
+            "# Ok(())\n# }\n```"
+        )
+    };
+}
+
 macro_rules! parse {
-    ($feature:tt $version:ident $purpose:ident $key:ty) => {
+    ($feature:tt $version:ident $purpose:ident $key:ty, $example:expr) => {
         #[cfg(feature = $feature)]
         impl KeyRing<$key> {
             /// The claims of a token, with the id of its key, if it passes the checks of the parser, whose own footer is
@@ -132,6 +205,8 @@ macro_rules! parse {
             ///
             /// Fails with `UnknownKey` if the footer names no key of the ring, `Untrusted` if the token or its footer is
             /// too long or malformed, and `Refused` if the parser refuses the token.
+            ///
+            #[doc = $example]
             pub fn parse(
                 &self,
                 parser: &PasetoParser<'_, $version, $purpose>,
@@ -145,14 +220,39 @@ macro_rules! parse {
     };
 }
 
-parse!("v1_local" V1 Local PasetoSymmetricKey<V1, Local>);
-parse!("v2_local" V2 Local PasetoSymmetricKey<V2, Local>);
-parse!("v3_local" V3 Local PasetoSymmetricKey<V3, Local>);
-parse!("v4_local" V4 Local PasetoSymmetricKey<V4, Local>);
-parse!("v1_public" V1 Public PasetoAsymmetricPublicKey<'_, V1, Public>);
-parse!("v2_public" V2 Public PasetoAsymmetricPublicKey<'_, V2, Public>);
-parse!("v3_public" V3 Public PasetoAsymmetricPublicKey<'_, V3, Public>);
-parse!("v4_public" V4 Public PasetoAsymmetricPublicKey<'_, V4, Public>);
+macro_rules! locals {
+    ($($feature:tt $version:ident)*) => {$(
+        parse!($feature $version Local PasetoSymmetricKey<$version, Local>, example!($version:
+            "let (key, footer) = (PasetoSymmetricKey::<Version, Local>::try_new_random()?, key_footer(\"one\"));"
+            "let token = PasetoBuilder::<Version, Local>::default().set_footer(Footer::from(footer.as_str())).build(&key)?;"
+            "let mut ring = KeyRing::new();"
+            "ring.add(\"one\", key);"
+            "assert_eq!(ring.parse(&PasetoParser::default(), &token)?.0, \"one\");"
+        ));
+    )*};
+}
+
+macro_rules! publics {
+    ($($feature:tt $version:ident)*) => {$(
+        parse!($feature $version Public PasetoAsymmetricPublicKey<'_, $version, Public>, example!($version:
+            "let (pair, footer) = (KeyPair::<Version>::try_new_random()?, key_footer(\"one\"));"
+            "let token = PasetoBuilder::<Version, Public>::default()"
+            "    .set_footer(Footer::from(footer.as_str()))"
+            "    .build(pair.private_key())?;"
+            "let mut ring = KeyRing::new();"
+            "ring.add(\"one\", pair.public_key().clone());"
+            "assert_eq!(ring.parse(&PasetoParser::default(), &token)?.0, \"one\");"
+        ));
+    )*};
+}
+
+locals! { "v1_local" V1 "v2_local" V2 "v3_local" V3 "v4_local" V4 }
+publics! { "v2_public" V2 "v3_public" V3 "v4_public" V4 }
+parse!("v1_public" V1 Public PasetoAsymmetricPublicKey<'_, V1, Public>, example!(V1:
+    "let ring = KeyRing::<PasetoAsymmetricPublicKey<Version, Public>>::new();"
+    "let refused = ring.parse(&PasetoParser::default(), \"v1.public.payload\");"
+    "assert!(matches!(refused, Err(KeyRingError::UnknownKey)));"
+));
 
 /// Why a ring did not read a token.
 ///
@@ -178,6 +278,31 @@ pub enum KeyRingError {
         /// Why.
         source: GenericParserError,
     },
+}
+
+impl KeyRingError {
+    /// The reason of the refusal, in one line: for `Refused` that of its source.
+    ///
+    /// ```rust
+    /// use paseto_proved::keys::{key_footer, KeyRing};
+    /// use paseto_proved::prelude::*;
+    ///
+    /// # fn main() -> Result<(), Box<dyn std::error::Error>> {
+    /// let mut ring = KeyRing::<PasetoSymmetricKey<V4, Local>>::new();
+    /// ring.add("one", PasetoSymmetricKey::try_new_random()?);
+    /// let (footer, other) = (key_footer("one"), PasetoSymmetricKey::<V4, Local>::try_new_random()?);
+    /// let token = PasetoBuilder::<V4, Local>::default().set_footer(Footer::from(footer.as_str())).build(&other)?;
+    /// let refused = ring.parse(&PasetoParser::default(), &token);
+    /// assert_eq!(refused.map_err(|error| error.reason()), Err("An unspecified cryption error occured".to_owned()));
+    /// # Ok(())
+    /// # }
+    /// ```
+    pub fn reason(&self) -> String {
+        match self {
+            KeyRingError::Refused { source } => source.reason(),
+            other => other.to_string(),
+        }
+    }
 }
 
 impl fmt::Display for KeyRingError {

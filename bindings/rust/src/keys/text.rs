@@ -15,6 +15,19 @@ fn bytes_of(version: Version, kind: KeyType, text: &str) -> Result<Vec<u8>, Faul
     library::from_paserk(version, kind, line.as_bytes())
 }
 
+// An example of a method of keys of a version.
+macro_rules! example {
+    ($version:ident: $($line:literal)*) => {
+        concat!(
+            "```rust\nuse paseto_proved::core::*;\nuse paseto_proved::keys::*;\n\ntype Version = ",
+            stringify!($version),
+            ";\n\n# fn main() -> Result<(), Box<dyn std::error::Error>> {\n",
+            $($line, "\n",)*
+            "# Ok(())\n# }\n```"
+        )
+    };
+}
+
 // The key of bytes that are a secret, and are wiped.
 fn symmetric<Version>(
     mut bytes: Vec<u8>,
@@ -32,6 +45,12 @@ macro_rules! local {
         impl PasetoSymmetricKey<$version, Local> {
             /// The key as PASERK text, as in the key files of the program `paseto`. The text is a secret. Fails with
             /// `Memory` alone.
+            ///
+            #[doc = example!($version:
+                "let key = PasetoSymmetricKey::<Version, Local>::try_new_random()?;"
+                "let same: PasetoSymmetricKey<Version, Local> = key.to_paserk()?.parse()?;"
+                "assert_eq!(same.as_ref(), key.as_ref());"
+            )]
             pub fn to_paserk(&self) -> Result<String, KeyTextError> {
                 Ok(library::to_paserk(
                     Version::$version,
@@ -41,13 +60,55 @@ macro_rules! local {
             }
 
             /// The PASERK id of the key, which identifies it without revealing it. Fails with `Memory` alone.
+            ///
+            #[doc = example!($version:
+                "let key = PasetoSymmetricKey::<Version, Local>::try_new_random()?;"
+                "assert!(key.id()?.as_str()[2..].starts_with(\".lid.\"));"
+            )]
             pub fn id(&self) -> Result<KeyId, KeyTextError> {
                 let id = library::key_id(Version::$version, KeyType::Local, self.as_ref())?;
                 Ok(KeyId::new(id))
             }
 
+            /// The key as text under a password, `k4.local-pw..`: in versions 1 and 3 by 100,000 iterations of PBKDF2, in
+            /// 2 and 4 by two passes of Argon2id over 64 MiB. `try_unlock` reads it.
+            ///
+            /// Fails with `LongPassword` for one of 4 GiB, `NoRandom` if the system gives no random bytes, and `Memory`.
+            ///
+            #[doc = example!($version:
+                "let key = PasetoSymmetricKey::<Version, Local>::try_new_random()?;"
+                "let text = key.to_protected(b\"a password\")?;"
+                "let same = PasetoSymmetricKey::<Version, Local>::try_unlock(&text, b\"a password\")?;"
+                "assert_eq!(same.as_ref(), key.as_ref());"
+            )]
+            pub fn to_protected(&self, password: &[u8]) -> Result<String, KeyTextError> {
+                let (version, kind) = (Version::$version, KeyType::Local);
+                Ok(library::protected(version, kind, self.as_ref(), password)?)
+            }
+
+            /// The key as text that is wrapped under another one, `k4.local-wrap..`. `try_unwrap` reads it.
+            ///
+            /// Fails with `NoRandom` if the system gives no random bytes, and `Memory`.
+            ///
+            #[doc = example!($version:
+                "let (key, wrapping) = (PasetoSymmetricKey::<Version, Local>::try_new_random()?, PasetoSymmetricKey::try_new_random()?);"
+                "let text = key.to_wrapped(&wrapping)?;"
+                "let same = PasetoSymmetricKey::<Version, Local>::try_unwrap(&text, &wrapping)?;"
+                "assert_eq!(same.as_ref(), key.as_ref());"
+            )]
+            pub fn to_wrapped(&self, wrapping: &Self) -> Result<String, KeyTextError> {
+                let (version, kind) = (Version::$version, KeyType::Local);
+                Ok(library::wrapped(version, kind, self.as_ref(), wrapping.as_ref())?)
+            }
+
             /// The key of a text that is under a password, `k4.local-pw..`. Fails with `WrongKey` for a wrong one,
-            /// `TooCostly`, and as `from_str` does.
+            /// `TooCostly`, `LongPassword`, and as `from_str` does.
+            ///
+            #[doc = example!($version:
+                "let text = PasetoSymmetricKey::<Version, Local>::try_new_random()?.to_protected(b\"a password\")?;"
+                "let refused = PasetoSymmetricKey::<Version, Local>::try_unlock(&text, b\"another\");"
+                "assert_eq!(refused.err(), Some(KeyTextError::WrongKey));"
+            )]
             pub fn try_unlock(text: &str, password: &[u8]) -> Result<Self, KeyTextError> {
                 let (version, text) = (Version::$version, text.as_bytes());
                 symmetric(library::unlocked(version, KeyType::Local, text, password)?)
@@ -55,6 +116,12 @@ macro_rules! local {
 
             /// The key of a text that is wrapped under another one, `k4.local-wrap..`. Fails with `WrongKey` for another
             /// wrapping key, and as `from_str` does.
+            ///
+            #[doc = example!($version:
+                "let key = PasetoSymmetricKey::<Version, Local>::try_new_random()?;"
+                "let refused = PasetoSymmetricKey::<Version, Local>::try_unwrap(&key.to_wrapped(&key)?, &Key::from([7; 32]).into());"
+                "assert_eq!(refused.err(), Some(KeyTextError::WrongKey));"
+            )]
             pub fn try_unwrap(text: &str, wrapping: &Self) -> Result<Self, KeyTextError> {
                 let (version, text) = (Version::$version, text.as_bytes());
                 let opener = (KeyType::Local, wrapping.as_ref());
@@ -67,7 +134,7 @@ macro_rules! local {
             type Err = KeyTextError;
 
             /// The key of PASERK text, behind which one newline may follow. Fails with `NoPaserk`, `OtherVersion`,
-            /// `OtherType` or `InvalidKey`, with `NotPem` for a text in PEM, and with `Memory`.
+            /// `OtherType`, `NeedsPassword`, `NeedsKey` or `InvalidKey`, with `NotPem` for a text in PEM, and with `Memory`.
             fn from_str(text: &str) -> Result<Self, KeyTextError> {
                 symmetric(bytes_of(Version::$version, KeyType::Local, text)?)
             }
@@ -81,13 +148,15 @@ local!("v3_local" V3);
 local!("v4_local" V4);
 
 macro_rules! half {
-    ($feature:tt $version:ident $name:ident $type:ident) => {
+    ($feature:tt $version:ident $name:ident $type:ident, $example:expr) => {
         #[cfg(feature = $feature)]
         impl $name<'_, $version, Public> {
             /// The key in PEM, byte for byte as `openssl pkey` writes it. That of a private key is a secret.
             ///
             /// Fails with `InvalidKey` for an invalid key: a wrong length, halves that do not belong together, a point
             /// that is not on the curve, or DER that is not such a key; and with `Memory`.
+            ///
+            #[doc = $example]
             pub fn to_pem(&self) -> Result<String, KeyTextError> {
                 Ok(library::to_pem(
                     Version::$version,
@@ -104,8 +173,8 @@ macro_rules! half {
             /// The key of a text in PEM, as `openssl` writes it, or of PASERK text, behind which one newline may follow
             /// and which a key pair of version 1 has not.
             ///
-            /// Fails with `NoPaserk`, `OtherVersion`, `OtherType`, `NotPem`, `EncryptedKey`, `OtherLabel`,
-            /// `OtherAlgorithm`, `OtherCurve`, `OtherSize` or `InvalidKey`, and with `Memory`.
+            /// Fails with `NoPaserk`, `OtherVersion`, `OtherType`, `NeedsPassword`, `NeedsKey`, `NotPem`, `EncryptedKey`,
+            /// `OtherLabel`, `OtherAlgorithm`, `OtherCurve`, `OtherSize` or `InvalidKey`, and with `Memory`.
             fn from_str(text: &str) -> Result<Self, KeyTextError> {
                 Ok($name::owning(bytes_of(
                     Version::$version,
@@ -117,22 +186,44 @@ macro_rules! half {
     };
 }
 
-half!("v1_public" V1 PasetoAsymmetricPrivateKey Private);
-half!("v2_public" V2 PasetoAsymmetricPrivateKey Private);
-half!("v3_public" V3 PasetoAsymmetricPrivateKey Private);
-half!("v4_public" V4 PasetoAsymmetricPrivateKey Private);
-half!("v1_public" V1 PasetoAsymmetricPublicKey Public);
-half!("v2_public" V2 PasetoAsymmetricPublicKey Public);
-half!("v3_public" V3 PasetoAsymmetricPublicKey Public);
-half!("v4_public" V4 PasetoAsymmetricPublicKey Public);
+macro_rules! halves {
+    ($($feature:tt $version:ident)*) => {$(
+        half!($feature $version PasetoAsymmetricPrivateKey Private, example!($version:
+            "let pair = KeyPair::<Version>::try_new_random()?;"
+            "let same: PasetoAsymmetricPrivateKey<Version, Public> = pair.private_key().to_pem()?.parse()?;"
+            "assert_eq!(same.as_ref(), pair.private_key().as_ref());"
+        ));
+        half!($feature $version PasetoAsymmetricPublicKey Public, example!($version:
+            "let pair = KeyPair::<Version>::try_new_random()?;"
+            "let same: PasetoAsymmetricPublicKey<Version, Public> = pair.public_key().to_pem()?.parse()?;"
+            "assert_eq!(same.as_ref(), pair.public_key().as_ref());"
+        ));
+    )*};
+}
+
+halves! {
+    "v2_public" V2
+    "v3_public" V3
+    "v4_public" V4
+}
+half!("v1_public" V1 PasetoAsymmetricPrivateKey Private, example!(V1:
+    "let no_key = PasetoAsymmetricPrivateKey::<Version, Public>::from(&b\"no DER\"[..]);"
+    "assert_eq!(no_key.to_pem(), Err(KeyTextError::InvalidKey));"
+));
+half!("v1_public" V1 PasetoAsymmetricPublicKey Public, example!(V1:
+    "let no_key = PasetoAsymmetricPublicKey::<Version, Public>::from(&b\"no DER\"[..]);"
+    "assert_eq!(no_key.to_pem(), Err(KeyTextError::InvalidKey));"
+));
 
 macro_rules! paserk {
-    ($feature:tt $version:ident $name:ident $type:ident) => {
+    ($feature:tt $version:ident $name:ident $type:ident, $written:expr, $named:expr) => {
         #[cfg(feature = $feature)]
         impl $name<'_, $version, Public> {
             /// The key as PASERK text, as in the key files of the program `paseto`. That of a private key is a secret.
             ///
             /// Fails with `InvalidKey` for a key of another length, and with `Memory`.
+            ///
+            #[doc = $written]
             pub fn to_paserk(&self) -> Result<String, KeyTextError> {
                 Ok(library::to_paserk(
                     Version::$version,
@@ -142,6 +233,8 @@ macro_rules! paserk {
             }
 
             /// The PASERK id of the key, which identifies it without revealing it. It fails as `to_paserk` does.
+            ///
+            #[doc = $named]
             pub fn id(&self) -> Result<KeyId, KeyTextError> {
                 let id = library::key_id(Version::$version, KeyType::$type, self.as_ref())?;
                 Ok(KeyId::new(id))
@@ -150,19 +243,87 @@ macro_rules! paserk {
     };
 }
 
-paserk!("v2_public" V2 PasetoAsymmetricPrivateKey Private);
-paserk!("v3_public" V3 PasetoAsymmetricPrivateKey Private);
-paserk!("v4_public" V4 PasetoAsymmetricPrivateKey Private);
-paserk!("v2_public" V2 PasetoAsymmetricPublicKey Public);
-paserk!("v3_public" V3 PasetoAsymmetricPublicKey Public);
-paserk!("v4_public" V4 PasetoAsymmetricPublicKey Public);
+macro_rules! paserks {
+    ($($feature:tt $version:ident)*) => {$(
+        paserk!($feature $version PasetoAsymmetricPrivateKey Private, example!($version:
+            "let pair = KeyPair::<Version>::try_new_random()?;"
+            "let same: PasetoAsymmetricPrivateKey<Version, Public> = pair.private_key().to_paserk()?.parse()?;"
+            "assert_eq!(same.as_ref(), pair.private_key().as_ref());"
+        ), example!($version:
+            "let id = KeyPair::<Version>::try_new_random()?.private_key().id()?;"
+            "assert!(id.as_str()[2..].starts_with(\".sid.\"));"
+        ));
+        paserk!($feature $version PasetoAsymmetricPublicKey Public, example!($version:
+            "let pair = KeyPair::<Version>::try_new_random()?;"
+            "let same: PasetoAsymmetricPublicKey<Version, Public> = pair.public_key().to_paserk()?.parse()?;"
+            "assert_eq!(same.as_ref(), pair.public_key().as_ref());"
+        ), example!($version:
+            "let id = KeyPair::<Version>::try_new_random()?.public_key().id()?;"
+            "assert!(id.as_str()[2..].starts_with(\".pid.\"));"
+        ));
+    )*};
+}
+
+paserks! {
+    "v2_public" V2
+    "v3_public" V3
+    "v4_public" V4
+}
 
 macro_rules! locked {
     ($feature:tt $local:tt $version:ident) => {
         #[cfg(feature = $feature)]
+        impl PasetoAsymmetricPrivateKey<'_, $version, Public> {
+            /// The key as text under a password, `k4.secret-pw..`: in version 3 by 100,000 iterations of PBKDF2, in 2 and
+            /// 4 by two passes of Argon2id over 64 MiB. `try_unlock` reads it.
+            ///
+            /// Fails with `InvalidKey` for a key of another length, `LongPassword` for a password of 4 GiB, `NoRandom` if
+            /// the system gives no random bytes, and `Memory`.
+            ///
+            #[doc = example!($version:
+                "let pair = KeyPair::<Version>::try_new_random()?;"
+                "let text = pair.private_key().to_protected(b\"a password\")?;"
+                "let same = PasetoAsymmetricPrivateKey::<Version, Public>::try_unlock(&text, b\"a password\")?;"
+                "assert_eq!(same.as_ref(), pair.private_key().as_ref());"
+            )]
+            pub fn to_protected(&self, password: &[u8]) -> Result<String, KeyTextError> {
+                let (version, kind) = (Version::$version, KeyType::Private);
+                Ok(library::protected(version, kind, self.as_ref(), password)?)
+            }
+        }
+
+        #[cfg(all(feature = $feature, feature = $local))]
+        impl PasetoAsymmetricPrivateKey<'_, $version, Public> {
+            /// The key as text that is wrapped under a key for local tokens, `k4.secret-wrap..`. `try_unwrap` reads it.
+            ///
+            /// Fails with `InvalidKey` for a key of another length, `NoRandom` if the system gives no random bytes, and
+            /// `Memory`.
+            ///
+            #[doc = example!($version:
+                "let (pair, wrapping) = (KeyPair::<Version>::try_new_random()?, PasetoSymmetricKey::try_new_random()?);"
+                "let text = pair.private_key().to_wrapped(&wrapping)?;"
+                "let same = PasetoAsymmetricPrivateKey::<Version, Public>::try_unwrap(&text, &wrapping)?;"
+                "assert_eq!(same.as_ref(), pair.private_key().as_ref());"
+            )]
+            pub fn to_wrapped(
+                &self,
+                wrapping: &PasetoSymmetricKey<$version, Local>,
+            ) -> Result<String, KeyTextError> {
+                let (version, kind) = (Version::$version, KeyType::Private);
+                Ok(library::wrapped(version, kind, self.as_ref(), wrapping.as_ref())?)
+            }
+        }
+
+        #[cfg(feature = $feature)]
         impl PasetoAsymmetricPrivateKey<'static, $version, Public> {
             /// The key of a text that is under a password, `k4.secret-pw..`. Fails with `WrongKey` for a wrong one,
-            /// `TooCostly`, and as `from_str` does.
+            /// `TooCostly`, `LongPassword`, and as `from_str` does.
+            ///
+            #[doc = example!($version:
+                "let text = KeyPair::<Version>::try_new_random()?.private_key().to_protected(b\"a password\")?;"
+                "let refused = PasetoAsymmetricPrivateKey::<Version, Public>::try_unlock(&text, b\"another\");"
+                "assert_eq!(refused.err(), Some(KeyTextError::WrongKey));"
+            )]
             pub fn try_unlock(text: &str, password: &[u8]) -> Result<Self, KeyTextError> {
                 let (version, text) = (Version::$version, text.as_bytes());
                 let bytes = library::unlocked(version, KeyType::Private, text, password)?;
@@ -174,6 +335,13 @@ macro_rules! locked {
         impl PasetoAsymmetricPrivateKey<'static, $version, Public> {
             /// The key of a text that is wrapped under a key for local tokens, `k4.secret-wrap..`. Fails with `WrongKey`
             /// for another wrapping key, and as `from_str` does.
+            ///
+            #[doc = example!($version:
+                "let (pair, wrapping) = (KeyPair::<Version>::try_new_random()?, PasetoSymmetricKey::try_new_random()?);"
+                "let text = pair.private_key().to_wrapped(&wrapping)?;"
+                "let refused = PasetoAsymmetricPrivateKey::<Version, Public>::try_unwrap(&text, &Key::from([7; 32]).into());"
+                "assert_eq!(refused.err(), Some(KeyTextError::WrongKey));"
+            )]
             pub fn try_unwrap(
                 text: &str,
                 wrapping: &PasetoSymmetricKey<$version, Local>,
@@ -187,8 +355,39 @@ macro_rules! locked {
 
         #[cfg(all(feature = $feature, feature = $local))]
         impl PasetoSymmetricKey<$version, Local> {
+            /// The key as text that is sealed to a public key, `k4.seal..`. `try_unseal` reads it, by the private key.
+            ///
+            /// Fails with `InvalidKey` for a public key that is none, `NoRandom` if the system gives no random bytes, and
+            /// `Memory`.
+            ///
+            #[doc = example!($version:
+                "let (key, pair) = (PasetoSymmetricKey::<Version, Local>::try_new_random()?, KeyPair::<Version>::try_new_random()?);"
+                "let text = key.to_sealed(pair.public_key())?;"
+                "let same = PasetoSymmetricKey::<Version, Local>::try_unseal(&text, pair.private_key())?;"
+                "assert_eq!(same.as_ref(), key.as_ref());"
+            )]
+            pub fn to_sealed(
+                &self,
+                public: &PasetoAsymmetricPublicKey<'_, $version, Public>,
+            ) -> Result<String, KeyTextError> {
+                loop {
+                    match library::sealed(Version::$version, self.as_ref(), public.as_ref()) {
+                        // Of version 3, less than one in 2^189 random seeds is not a private key.
+                        Err(Fault::KeyRejected) => {}
+                        made => return Ok(made?),
+                    }
+                }
+            }
+
             /// The key of a text that is sealed to the public key of a private one, `k4.seal..`. Fails with `WrongKey`
             /// for another private key, and as `from_str` does.
+            ///
+            #[doc = example!($version:
+                "let (key, pair) = (PasetoSymmetricKey::<Version, Local>::try_new_random()?, KeyPair::<Version>::try_new_random()?);"
+                "let (text, other) = (key.to_sealed(pair.public_key())?, KeyPair::<Version>::try_new_random()?);"
+                "let refused = PasetoSymmetricKey::<Version, Local>::try_unseal(&text, other.private_key());"
+                "assert_eq!(refused.err(), Some(KeyTextError::WrongKey));"
+            )]
             pub fn try_unseal(
                 text: &str,
                 private: &PasetoAsymmetricPrivateKey<'_, $version, Public>,

@@ -9,26 +9,40 @@ use crate::generic::{
     PasetoClaimError,
 };
 use crate::library::{self, Fault, Parts, Version};
-use crate::moment::this_second;
+use crate::moment::Moment;
 use std::collections::HashSet;
 use std::marker::PhantomData;
-use time::format_description::well_known::Rfc3339;
-use time::OffsetDateTime;
 
-/// The claims of a token, with `exp`, `iat` and `nbf` where they are not set: the token is issued in the second that has
-/// begun, may be used at once, and expires an hour later. A footer, and in versions 3 and 4 an implicit assertion,
-/// are optional.
+/// The claims of a token, with `exp`, `iat` and `nbf` where they are not set: the token is issued when the builder is made,
+/// may be used at once, since its `nbf` is a second before, and expires an hour later. A footer, and in versions 3 and 4 an
+/// implicit assertion, are optional.
 ///
 /// The library sets the times, and makes the token. `build` keeps the claims, so that a second token has them too.
+///
+/// ```rust
+/// use paseto_proved::keys::KeyPair;
+/// use paseto_proved::prelude::*;
+///
+/// # fn main() -> Result<(), Box<dyn std::error::Error>> {
+/// let pair = KeyPair::<V4>::try_new_random()?;
+/// let token = PasetoBuilder::<V4, Public>::default()
+///     .set_claim(SubjectClaim::from("ada"))
+///     .set_no_expiration_danger_acknowledged()
+///     .build(pair.private_key())?;
+/// let claims = PasetoParser::<V4, Public>::default().parse(&token, pair.public_key())?;
+/// assert!(claims["sub"] == "ada" && claims["iat"].is_string() && claims["exp"].is_null());
+/// # Ok(())
+/// # }
+/// ```
 pub struct PasetoBuilder<'a, Version, Purpose> {
     kind: PhantomData<(Version, Purpose)>,
     builder: GenericBuilder<'a, 'a, Version, Purpose>,
     keys: HashSet<String>,
     twice: Option<String>,
     never_expires: bool,
-    // The second in which the builder was made. The library sets nbf a second before it, so that readers take the token at
-    // once.
-    moment: i64,
+    // When the builder was made. The library sets nbf a second before it, so that readers whose clocks count whole seconds
+    // take the token at once too.
+    moment: Moment,
 }
 
 impl<'a, Version, Purpose> PasetoBuilder<'a, Version, Purpose> {
@@ -76,13 +90,14 @@ impl<'a, Version, Purpose> PasetoBuilder<'a, Version, Purpose> {
     ) -> Result<String, GenericBuilderError> {
         let members = self.builder.members();
         let footer = self.builder.footer();
+        let now = self.moment.nanoseconds();
         let parts = Parts {
             claims: &members.to_json()?,
-            now: self.moment,
+            now: now.ok_or_else(|| no_date(self.moment))?,
             footer: &footer.unwrap_or_default(),
             assertion: &self.builder.implicit_assertion().unwrap_or_default(),
         };
-        let token = call(&parts).map_err(|fault| error_of(fault, members, self.moment))?;
+        let token = call(&parts).map_err(|fault| error_of(fault, members))?;
         Ok(with_end(token, footer))
     }
 
@@ -90,37 +105,30 @@ impl<'a, Version, Purpose> PasetoBuilder<'a, Version, Purpose> {
     fn without_expiration(
         &self,
     ) -> Result<GenericBuilder<'a, 'a, Version, Purpose>, GenericBuilderError> {
-        let date = |moment| date_of(moment).ok_or_else(|| no_date(moment));
+        let date = |moment: Moment| moment.to_date().ok_or_else(|| no_date(moment));
         let mut builder = self.builder.clone();
         builder.remove_claim("exp");
         if builder.members().get("iat").is_none() {
             builder.set_claim(IssuedAtClaim::try_from(date(self.moment)?)?);
         }
         if builder.members().get("nbf").is_none() {
-            builder.set_claim(NotBeforeClaim::try_from(date(
-                self.moment.saturating_sub(1),
-            )?)?);
+            let begun = self.moment.a_second_before();
+            builder.set_claim(NotBeforeClaim::try_from(date(begun)?)?);
         }
         Ok(builder)
     }
 }
 
-fn date_of(moment: i64) -> Option<String> {
-    let moment = OffsetDateTime::from_unix_timestamp(moment).ok()?;
-    moment.format(&Rfc3339).ok()
-}
-
-fn no_date(moment: i64) -> PasetoClaimError {
-    PasetoClaimError::RFC3339Date(format!("{moment} seconds after 1970"))
+fn no_date(moment: Moment) -> PasetoClaimError {
+    PasetoClaimError::RFC3339Date(moment.to_string())
 }
 
 // The library's status says of claims what is wrong, and not of which.
-fn error_of(fault: Fault, members: &Members, moment: i64) -> GenericBuilderError {
+fn error_of(fault: Fault, members: &Members) -> GenericBuilderError {
     match fault {
         Fault::Unexpected => {
             PasetoClaimError::Unexpected(members.odd().unwrap_or_default().to_owned()).into()
         }
-        Fault::InvalidMoment => no_date(moment).into(),
         fault => GenericBuilderError::CipherError {
             source: fault.into(),
         },
@@ -147,7 +155,7 @@ impl<Version, Purpose> Default for PasetoBuilder<'_, Version, Purpose> {
             keys: HashSet::new(),
             twice: None,
             never_expires: false,
-            moment: this_second(),
+            moment: Moment::now(),
         }
     }
 }
@@ -160,7 +168,7 @@ macro_rules! build {
             ///
             /// Fails with `DuplicateTopLevelPayloadClaim` for a key that was set twice, `PayloadJsonError` for a value
             /// that cannot be written as JSON, `ClaimError` of `Unexpected` for a number that is not a 64-bit integer and
-            /// of `RFC3339Date` if the clock is outside the years 0 to 9999, and `CipherError` of a fault of the key, of
+            /// of `RFC3339Date` if the clock is more than 292 years from 1970, and `CipherError` of a fault of the key, of
             /// `Cipher` if the system gives no random bytes, or of `Memory` if the library is out of memory.
             pub fn build(&mut self, key: &$key) -> Result<String, GenericBuilderError> {
                 self.ready()?;

@@ -40,7 +40,15 @@ impl fmt::Display for GeneralPasetoError {
     }
 }
 
-impl Error for GeneralPasetoError {}
+impl Error for GeneralPasetoError {
+    fn source(&self) -> Option<&(dyn Error + 'static)> {
+        match self {
+            GeneralPasetoError::PasetoError(_) => None,
+            GeneralPasetoError::Infallible { source } => match *source {},
+            GeneralPasetoError::RFC3339Date(source) => source.source(),
+        }
+    }
+}
 
 impl From<Infallible> for GeneralPasetoError {
     fn from(source: Infallible) -> Self {

@@ -12,6 +12,21 @@ use std::time::{Duration, SystemTime};
 /// footer, and in versions 3 and 4 an implicit assertion. [`PasetoParser::new`] checks no times.
 ///
 /// A token without `exp` never expires: `require_claim("exp")` refuses it.
+///
+/// ```rust
+/// use paseto_proved::prelude::*;
+///
+/// # fn main() -> Result<(), Box<dyn std::error::Error>> {
+/// let key = PasetoSymmetricKey::<V4, Local>::try_new_random()?;
+/// let token = PasetoBuilder::<V4, Local>::default()
+///     .set_claim(ExpirationClaim::try_from("2019-01-01T00:00:00Z")?)
+///     .build(&key)?;
+/// let refused = PasetoParser::<V4, Local>::default().parse(&token, &key);
+/// assert!(matches!(refused, Err(GenericParserError::ClaimError { source: PasetoClaimError::Expired })));
+/// assert!(PasetoParser::<V4, Local>::new().parse(&token, &key).is_ok());
+/// # Ok(())
+/// # }
+/// ```
 pub struct PasetoParser<'a, Version, Purpose> {
     parser: GenericParser<'a, 'a, Version, Purpose>,
 }
@@ -88,6 +103,26 @@ impl<'a, Version, Purpose> PasetoParser<'a, Version, Purpose> {
         self
     }
 
+    /// Refuses a token whose footer has more bytes with `CipherError` of `TooLong`, before it is decoded. 0 is no limit, as
+    /// before the first call.
+    ///
+    /// ```rust
+    /// use paseto_proved::prelude::*;
+    ///
+    /// # fn main() -> Result<(), Box<dyn std::error::Error>> {
+    /// let key = PasetoSymmetricKey::<V4, Local>::try_new_random()?;
+    /// let token = PasetoBuilder::<V4, Local>::default().build(&key)?;
+    /// let sent = token + "." + &"A".repeat(2_000);
+    /// let refused = PasetoParser::<V4, Local>::default().set_longest_footer(1_024).parse(&sent, &key);
+    /// assert!(matches!(refused, Err(GenericParserError::CipherError { source: PasetoError::TooLong })));
+    /// # Ok(())
+    /// # }
+    /// ```
+    pub fn set_longest_footer(&mut self, bytes: usize) -> &mut Self {
+        self.parser.set_longest_footer(bytes);
+        self
+    }
+
     /// By how much the clocks of issuer and reader may differ, in whole seconds of up to 2^32 - 1: a token is taken for so
     /// long after its `exp` and before its `nbf`.
     ///
@@ -111,7 +146,7 @@ impl<'a, Version, Purpose> PasetoParser<'a, Version, Purpose> {
     }
 
     /// Reads tokens at a time, in place of that of the clock, for example to test what a service does with a token that has
-    /// expired.
+    /// expired. `parse` returns `ClaimError` of `RFC3339Date` for a time that is more than 292 years from 1970.
     ///
     /// ```rust
     /// use paseto_proved::prelude::*;

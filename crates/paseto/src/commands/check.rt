@@ -1,6 +1,7 @@
 //! The command `check`: the claims of a token, by the default parser.
 
 ghost use Rattle.std.specs.Prelude.{◌≡◌, ◌⊎◌, None, IfErr, IfOk, IsErrAnd, Ok, OnOk, false, option_map, string_bytes, true};
+ghost use Rattle.std.specs.Result.{IsOkAnd};
 ghost use Rattle.serde_json.specs.View.{view};
 ghost use Rattle.rusty_paseto_parts.specs.Footer.{footer_text};
 ghost use Rattle.rusty_paseto_generic.specs.Parsers.Held.{rules_of, verdicts_of, with_times};
@@ -9,9 +10,8 @@ ghost use Rattle.rusty_paseto_generic.specs.Parsers.Times.{times_at};
 ghost use Rattle.paseto_keys.specs.AnyKey.{parts_of};
 ghost use Rattle.paseto_tasks.specs.Arguments.{texts};
 ghost use Rattle.paseto_tasks.specs.Error.{Fails, IsMemory, IsOfWords, IsOutside, IsPlain, Lacks, nothing, token_error_of};
-ghost use Rattle.paseto_tasks.specs.Output.{Makes};
 ghost use Rattle.paseto.specs.Check.{AreDemands, IsCheckedAt, IsTheValueOf, RefusesKey, demanded, demanded_rules};
-ghost use Rattle.paseto.specs.Checked.{ChecksBy, IsJsonLine, IsTheValueBy, RefusesDemands, RefusesKeys};
+ghost use Rattle.paseto.specs.Checked.{Admits, IsJsonLine, IsTheValueBy, RefusesDemands, RefusesKeys};
 ghost use Rattle.paseto.specs.Claims.{all_demanded, all_named, all_required, are_whole};
 ghost use Rattle.paseto.specs.Gives.{Gives};
 
@@ -29,7 +29,7 @@ use rusty_paseto::prelude::{
     VersionTrait,
 };
 use serde_json::Value;
-use std::alloc::Global;
+use std::alloc::{AllocError, Global};
 
 /// The keys to check a token with: one key, or those of a ring.
 #[derive(Drop)]
@@ -48,7 +48,7 @@ pub struct Demands<'w> {
     claims: Vec<NamedClaim>,
     required: &'w [&'w str],
     footer: Option<String>,
-    pub(crate) assertion: Option<ImplicitAssertion<'w>>,
+    pub assertion: Option<ImplicitAssertion<'w>>,
 }
 
 impl<'w> Demands<'w> {
@@ -193,14 +193,14 @@ fn put_requirements<V: VersionTrait, P: PurposeTrait, B: Drop>(
     }
 }
 
-/// The line of the claims of a token that meets the requirements.
-pub fn check(
+/// The claims of a token that meets the requirements.
+pub fn admitted_by(
     alloc: Global,
     keys: &Keys,
     demands: &Demands<'_>,
     token: &str,
-) -> Result<String, ProgramError>
-    ensures { Makes (ChecksBy keys.now (demanded demands.now) token.now)
+) -> Result<Value, ProgramError>
+    ensures { Gives (λ value. Admits keys.now (demanded demands.now) token.now (view value))
         (RefusesDemands keys.now (demanded demands.now) token.now) (Fails nothing) result }
 {
     let checker = demands.checker(alloc)?;
@@ -212,13 +212,25 @@ pub fn check(
         demands.at,
         checker.check(&claims),
     )?;
-    json_line(alloc, &claims)
+    Ok(claims)
+}
+
+/// The line of claims as JSON, or the error in their place.
+pub fn line_of(alloc: Global, claims: Result<Value, ProgramError>) -> Result<String, ProgramError>
+    ensures line { IfOk result (λ line. IsOkAnd claims
+        (λ value. IsJsonLine (view value) (string_bytes line))) }
+    ensures error { IfErr result (λ error. IsErrAnd claims (λ source. source ≡ error)
+        ⊎ Fails nothing error) }
+{
+    match claims {
+        Ok(claims) => Ok(json_line(alloc, &claims)?),
+        Err(error) => Err(error),
+    }
 }
 
 /// The line of a value as JSON.
-fn json_line(alloc: Global, value: &Value) -> Result<String, ProgramError>
-    ensures line { IfOk result (λ line. IsJsonLine (view value.now) (string_bytes line)) }
-    ensures memory { IfErr result IsMemory }
+pub fn json_line(alloc: Global, value: &Value) -> Result<String, AllocError>
+    ensures { IfOk result (λ line. IsJsonLine (view value.now) (string_bytes line)) }
 {
     let mut line = value.to_string(alloc)?;
     line.push('\n')?;

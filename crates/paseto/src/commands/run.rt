@@ -1,6 +1,6 @@
 //! The commands on claims, over any generator, input and outputs.
 
-ghost use Rattle.std.specs.Prelude.{◌≡◌};
+ghost use Rattle.std.specs.Prelude.{◌≡◌, IfErr, IfOk};
 ghost use Rattle.paseto_keys.specs.AnyKey.{parts_of};
 ghost use Rattle.paseto_keys.specs.Drawing.{IsDraw};
 ghost use Rattle.paseto_tasks.specs.Arguments.{texts};
@@ -8,10 +8,12 @@ ghost use Rattle.paseto_tasks.specs.Error.{Fails};
 ghost use Rattle.paseto_tasks.specs.Input.{OfInput, reading, token_of_input};
 ghost use Rattle.paseto_tasks.specs.Output.{Makes};
 ghost use Rattle.paseto.specs.Checked.{ChecksFor, RefusesCheck};
+ghost use Rattle.paseto.specs.Each.{ChecksAllFor, ChecksEach, StopsFor};
 ghost use Rattle.paseto.specs.Issue.{IssuesFor, RefusesIssue, draws, issuing};
 ghost use Rattle.paseto.specs.Run.{ChecksToken, IssuesToken};
 
-use crate::commands::check::{Demands, Keys, check};
+use crate::commands::check::{Demands, Keys, admitted_by, line_of};
+use crate::commands::each::{LineChecker, ready};
 use crate::commands::issue::{Order, issue};
 use crate::files::name_of;
 use crate::keys::key_name;
@@ -120,5 +122,71 @@ fn claims_line<R: Read>(
 {
     let demands = Demands::parse(alloc, claims, options, now)?;
     let token = read_token(alloc, input)?;
-    check(alloc, keys, &demands, token.as_str())
+    line_of(alloc, admitted_by(alloc, keys, &demands, token.as_str()))
+}
+
+/// Prints a row for the token of each line of an input, of which none has more bytes than that, and returns the status: 0 where
+/// all were admitted, 1 where not, and else that of the error, as `run` does.
+pub fn run_each<R: Read, W: Write, E: Write>(
+    alloc: Global,
+    words: &Check<'_>,
+    name: &str,
+    keys: &Keys,
+    longest: usize,
+    now: Timestamp,
+    input: &mut R,
+    output: &mut W,
+    errors: &mut E,
+) -> u8
+    ensures { ChecksEach words.now name.now keys.now longest now (R.remaining input.old) W.contents
+        E.contents result output.old output.new errors.old errors.new }
+{
+    let names = Names {
+        key: name,
+        input: name_of(words.input),
+    };
+    match each(
+        alloc,
+        &words.claims,
+        &check_options(words),
+        keys,
+        longest,
+        now,
+        input,
+        output,
+    ) {
+        Ok(all) => if all { 0 } else { 1 },
+        Err(error) => {
+            error.say(&names, errors);
+            error.status()
+        }
+    }
+}
+
+/// Writes a row for the token of each line, and returns whether all were admitted.
+fn each<R: Read, W: Write>(
+    alloc: Global,
+    claims: &[&str],
+    options: &Options<'_>,
+    keys: &Keys,
+    longest: usize,
+    now: Timestamp,
+    input: &mut R,
+    output: &mut W,
+) -> Result<bool, ProgramError>
+    ensures all { IfOk result (ChecksAllFor (texts claims.now) options.now now keys.now longest
+        (R.remaining input.old) (W.contents output.old) (W.contents output.new)) }
+    ensures stops { IfErr result (StopsFor (texts claims.now) options.now now keys.now longest
+        (R.remaining input.old) (W.contents output.old) (W.contents output.new)
+        (output.new ≡ output.old)) }
+{
+    let demands = Demands::parse(alloc, claims, options, now)?;
+    ready(keys, &demands)?;
+    let checker = LineChecker {
+        alloc,
+        keys,
+        demands: &demands,
+        longest,
+    };
+    checker.check(input, output)
 }

@@ -9,7 +9,7 @@ use crate::refusal::Refusal;
 /// The size of the options of this version.
 const SIZE: usize = 48;
 
-/// Further checks of a token beside the expected claims: `struct paseto_options` of `c/paseto_keys.h`.
+/// Further checks of a token beside the expected claims: `struct paseto_options` of `c/paseto.h`.
 #[repr(C)]
 #[derive(Clone, Copy)]
 pub struct AdmitOptions<'a> {

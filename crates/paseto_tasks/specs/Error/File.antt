@@ -4,8 +4,9 @@ use Rattle.paseto_key_files.specs.Error.{error_text as key_file_error_text}
 use Rattle.paseto_key_files.specs.declared.error.KeyFileError.TheVariants.{NeedsPassword, Pem, Random as NoBytes, Memory as NoFileMemory}
 use Rattle.paseto_pem.specs.Error.{error_text as pem_error_text}
 use Rattle.paseto_pem.specs.declared.error.PemError.{PemError}
-use Rattle.paseto_pem.specs.declared.error.PemError.TheVariants.{NotPem, Encrypted, OtherLabel, OtherAlgorithm, OtherCurve, OtherSize}
-use Rattle.paseto_pem.specs.declared.label.Label.TheVariants.{EncryptedPrivateKey, RsaPrivateKey}
+use Rattle.paseto_pem.specs.declared.error.PemError.TheVariants.{NotPem, TwoKeys, Encrypted, OtherLabel, OtherAlgorithm, OtherCurve, OtherSize}
+use Rattle.paseto_pem.specs.declared.found.Curve.TheVariants.{P256, P521, Explicit}
+use Rattle.paseto_pem.specs.declared.label.Label.TheVariants.{EncryptedPrivateKey, OpenSshPrivateKey}
 use Rattle.rusty_paseto_paserk.specs.Error.{error_text as key_error_text}
 use Rattle.rusty_paseto_paserk.specs.declared.error.PaserkError.TheVariants.{Memory as NoKeyMemory}
 use Rattle.paseto_tasks.specs.declared.error.file.FileError.{FileError}
@@ -14,12 +15,16 @@ use Rattle.paseto_tasks.specs.declared.error.file.FileError.TheVariants.{Key, Ke
 -- what is said of a key that was refused as PEM: the text of the error, but where that leaves open what to do
 abbrev pub pem_text : PemError → List ℕ
 pem_text NotPem = codes "neither PASERK nor valid PEM"
+pem_text TwoKeys = codes "more than one key: a key file has one"
 pem_text Encrypted = codes "encrypted PEM: remove its password by openssl pkey -in FILE -out NEW"
 pem_text (OtherLabel EncryptedPrivateKey) = codes "encrypted PEM: remove its password by openssl pkey -in FILE -out NEW"
-pem_text (OtherLabel RsaPrivateKey) = codes "a private key in PKCS #1: convert it by openssl pkcs8 -topk8 -nocrypt -in FILE -out NEW"
-pem_text OtherAlgorithm = codes "a key of another algorithm than RSA, P-384 and Ed25519"
-pem_text OtherCurve = codes "a key of another curve: version 3 takes P-384"
-pem_text OtherSize = codes "an RSA key of another size: version 1 takes 2048 bits"
+pem_text (OtherLabel OpenSshPrivateKey) = codes "a key of OpenSSH: make another by paseto keygen or openssl genpkey"
+pem_text (OtherAlgorithm _) = codes "a key of another algorithm than RSA, P-384 and Ed25519"
+pem_text (OtherCurve P256) = codes "a key of P-256: version 3 takes P-384"
+pem_text (OtherCurve P521) = codes "a key of P-521: version 3 takes P-384"
+pem_text (OtherCurve Explicit) = codes "a curve without a name: name it by openssl ec -param_enc named_curve -in FILE -out NEW"
+pem_text (OtherCurve _) = codes "a key of another curve: version 3 takes P-384"
+pem_text (OtherSize _) = codes "an RSA key of another size: version 1 takes 2048 bits"
 pem_text error = pem_error_text error
 
 abbrev pub file_text : FileError → List ℕ

@@ -4,7 +4,7 @@ ghost use Rattle.std.specs.Prelude.{◌≡◌};
 ghost use Rattle.paseto_tasks.specs.Error.File.{file_status, file_text, pem_text};
 
 use paseto_key_files::KeyFileError;
-use paseto_pem::{Label, PemError};
+use paseto_pem::{Curve, Label, PemError};
 use rusty_paseto_paserk::PaserkError;
 
 /// Why a key, a password or another named file cannot be used.
@@ -114,13 +114,18 @@ fn pem_text(source: &PemError) -> &'static str
 {
     match source {
         PemError::NotPem => "neither PASERK nor valid PEM",
+        PemError::TwoKeys => "more than one key: a key file has one",
         PemError::Encrypted | PemError::OtherLabel(Label::EncryptedPrivateKey) =>
             "encrypted PEM: remove its password by openssl pkey -in FILE -out NEW",
-        PemError::OtherLabel(Label::RsaPrivateKey) =>
-            "a private key in PKCS #1: convert it by openssl pkcs8 -topk8 -nocrypt -in FILE -out NEW",
-        PemError::OtherAlgorithm => "a key of another algorithm than RSA, P-384 and Ed25519",
-        PemError::OtherCurve => "a key of another curve: version 3 takes P-384",
-        PemError::OtherSize => "an RSA key of another size: version 1 takes 2048 bits",
+        PemError::OtherLabel(Label::OpenSshPrivateKey) =>
+            "a key of OpenSSH: make another by paseto keygen or openssl genpkey",
+        PemError::OtherAlgorithm(_) => "a key of another algorithm than RSA, P-384 and Ed25519",
+        PemError::OtherCurve(Curve::P256) => "a key of P-256: version 3 takes P-384",
+        PemError::OtherCurve(Curve::P521) => "a key of P-521: version 3 takes P-384",
+        PemError::OtherCurve(Curve::Explicit) =>
+            "a curve without a name: name it by openssl ec -param_enc named_curve -in FILE -out NEW",
+        PemError::OtherCurve(_) => "a key of another curve: version 3 takes P-384",
+        PemError::OtherSize(_) => "an RSA key of another size: version 1 takes 2048 bits",
         _ => source.text(),
     }
 }

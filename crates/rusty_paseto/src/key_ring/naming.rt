@@ -45,8 +45,12 @@ pub fn key_footer(alloc: Global, id: &str) -> Result<String, AllocError>
     Value::Object(members).to_string(alloc)
 }
 
-/// The text of a token's footer.
-pub(super) fn footer_of(alloc: Global, token: &str) -> Result<String, KeyRingError>
+/// The text of a token's footer, before any of the token can be trusted.
+///
+/// The errors: `Untrusted` of `IncorrectSize` unless there are three or four sections, and of `PayloadBase64Decode` or
+/// `Utf8Error` for a fourth section that does not encode a text; and `NoFooter` where there is none. `Memory` may be
+/// returned in place of any result but `IncorrectSize`.
+pub fn footer_of(alloc: Global, token: &str) -> Result<String, KeyRingError>
     ensures ok { IfOk result (λ footer. HasFooter token.now (Some (string_bytes footer))) }
     ensures count { ¬ HasCount (sections token.now) → result ≡ Err (Untrusted IncorrectSize) }
     ensures read { (footer : List ℕ) → HasFooter token.now (Some footer) → MatchResult result
@@ -60,8 +64,11 @@ pub(super) fn footer_of(alloc: Global, token: &str) -> Result<String, KeyRingErr
     }
 }
 
-/// The id that a footer names as its key's.
-pub(super) fn key_id(alloc: Global, footer: &str) -> Result<String, KeyRingError>
+/// The id that a footer names as its key's, as in one that `key_footer` makes: the text under `kid` of a JSON object.
+///
+/// The errors: `NotAnObject` for a footer that is no JSON object, and `NoKeyId` for an object without such a text.
+/// `Memory` may be returned in place of any result.
+pub fn key_id(alloc: Global, footer: &str) -> Result<String, KeyRingError>
     ensures ok { IfOk result (λ id. Names footer.now (string_bytes id)) }
     ensures read { (id : List ℕ) → Names footer.now id → MatchResult result
         (λ found. string_bytes found ≡ id) IsMemory }

@@ -153,14 +153,16 @@ fn texts_in_pem(rt: HostRuntime) {
         (ED25519_ENCRYPTED, "The key is encrypted"),
         (X25519_PRIVATE, "The key is one of another algorithm"),
         (X25519_PUBLIC, "The key is one of another algorithm"),
-        (P256_PRIVATE, "The key is one of another curve"),
-        (P256_SEC1, "The key is one of another curve"),
-        (P256_PUBLIC, "The key is one of another curve"),
+        (P256_PRIVATE, "The key is one of P-256"),
+        (P256_SEC1, "The key is one of P-256"),
+        (P256_PUBLIC, "The key is one of P-256"),
         (RSA_1024_PRIVATE, "The key has another size"),
         (RSA_1024_PUBLIC, "The key has another size"),
-        (RSA_PRIVATE_PKCS1, "The text is a private key of RSA"),
         (ED25519_SHORT, "The key was not in the correct format"),
-        (P384_OF_TWO_KEYS, "The key was not in the correct format"),
+        (
+            P384_OF_TWO_KEYS,
+            "The public key is not that of the private key",
+        ),
         (P384_OFF_THE_CURVE, "The key was not in the correct format"),
     ] {
         expect_fault(&rt, unlock(alloc, &NO_OPENERS, text), wanted);
@@ -186,7 +188,7 @@ fn lines_without_pem(rt: HostRuntime) {
         ("k4.public.abc", "The key was not in the correct format"),
         (two_halves, "The key was not in the correct format"),
         ("", "The text is no PASERK key"),
-        (ED25519_PRIVATE, "The key is one of another algorithm"),
+        (ED25519_PRIVATE, "The key is one of Ed25519"),
     ] {
         expect_fault(&rt, pem_of(alloc, line), wanted);
     }
@@ -208,7 +210,7 @@ const LINES: &[(&str, &str)] = &[
     ("k3.secret.abcd", "The key was not in the correct format"),
     ("k1.secret.abcd", "The text is no PEM"),
     (RSA_PUBLIC, "The text is a public key"),
-    (P384_PRIVATE, "The key is one of another algorithm"),
+    (P384_PRIVATE, "The key is one of a curve"),
     (LOCAL4, "the system returned no random bytes"),
     (EDWARDS_SECRET, "the system returned no random bytes"),
 ];

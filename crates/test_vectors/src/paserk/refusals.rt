@@ -11,7 +11,7 @@ use std::process::Abort;
 const LOCAL: &str = "k4.local.AAAAAAAAAAAAAAAAAAAAAAAAAAAAAAAAAAAAAAAAAAA";
 
 // What the error says is the wanted text, which is `a key` where there is none.
-fn expect_fault<T: Drop>(rt: &impl Abort, answer: Result<T, PaserkError>, wanted: &str) {
+pub(crate) fn expect_fault<T: Drop>(rt: &impl Abort, answer: Result<T, PaserkError>, wanted: &str) {
     match answer {
         Ok(_) => expect_text(rt, "a key", wanted),
         Err(error) => expect_text(rt, error.text(), wanted),

@@ -28,8 +28,8 @@ fn refuses_public<V: PemVersion>(rt: &impl Abort, alloc: Global, text: &str, wan
     expect_fault(rt, public_key_from_pem::<V>(alloc, text), wanted);
 }
 
-// Texts that are no PEM in the strict form: with something before or behind, other lines, another label at the end, a
-// label that no key has, no padding, or stray bits.
+// Texts that are no PEM: with something before the boundary in its line, or behind the key, empty or too long lines,
+// another label at the end, a label that no key has, no padding, or stray bits.
 const NO_PEM: &[&str] = &[
     "",
     "-----BEGIN PUBLIC KEY-----",
@@ -37,9 +37,7 @@ const NO_PEM: &[&str] = &[
     " -----BEGIN PUBLIC KEY-----\nMCowBQYDK2VwAyEAFeXdMaAdSliupg640rnTBm05UYr99JxoB6CDUoPeARg=\n-----END PUBLIC KEY-----\n",
     "-----BEGIN PUBLIC KEY-----\nMCowBQYDK2VwAyEAFeXdMaAdSliupg640rnTBm05UYr99JxoB6CDUoPeARg=\n-----END PUBLIC KEY-----\n\n",
     "-----BEGIN PUBLIC KEY-----\n\nMCowBQYDK2VwAyEAFeXdMaAdSliupg640rnTBm05UYr99JxoB6CDUoPeARg=\n-----END PUBLIC KEY-----\n",
-    "-----BEGIN PUBLIC KEY-----\nMCowBQYDK2VwAyEAFeXdMaAdSliupg640rnTBm05UYr99JxoB6CDUoPeARg=\r\n-----END PUBLIC KEY-----\n",
     "-----BEGIN PUBLIC KEY-----\rMCowBQYDK2VwAyEAFeXdMaAdSliupg640rnTBm05UYr99JxoB6CDUoPeARg=\r-----END PUBLIC KEY-----\r",
-    "-----BEGIN PUBLIC KEY-----\nMCowBQYDK2VwAyEAFeXdMaAdSliupg640rnT\nBm05UYr99JxoB6CDUoPeARg=\n-----END PUBLIC KEY-----\n",
     "-----BEGIN PUBLIC KEY-----\nMCowBQYDK2VwAyEAFeXdMaAdSliupg640rnTBm05UYr99JxoB6CDUoPeARg=\n-----END PRIVATE KEY-----\n",
     "-----BEGIN CERTIFICATE-----\nMCowBQYDK2VwAyEAFeXdMaAdSliupg640rnTBm05UYr99JxoB6CDUoPeARg=\n-----END CERTIFICATE-----\n",
     "-----BEGIN PUBLIC KEY-----\nMCowBQYDK2VwAyEAFeXdMaAdSliupg640rnTBm05UYr99JxoB6CDUoPeARg\n-----END PUBLIC KEY-----\n",
@@ -67,7 +65,7 @@ fn other_labels(rt: HostRuntime) {
         P384_SEC1,
         "The text is a private key of a curve",
     );
-    refuses_private::<V1>(
+    refuses_private::<V3>(
         &rt,
         alloc,
         RSA_PRIVATE_PKCS1,
@@ -84,16 +82,20 @@ fn other_labels(rt: HostRuntime) {
 #[test]
 fn other_algorithms_and_curves(rt: HostRuntime) {
     let alloc = rt.alloc();
-    let algorithm = "The key is one of another algorithm";
-    'privates: for text in [X25519_PRIVATE, P384_PRIVATE, RSA_PRIVATE] {
-        refuses_private::<V4>(&rt, alloc, text, algorithm);
-    }
-    refuses_public::<V4>(&rt, alloc, X25519_PUBLIC, algorithm);
-    refuses_private::<V3>(&rt, alloc, ED25519_PRIVATE, algorithm);
-    refuses_public::<V3>(&rt, alloc, RSA_PUBLIC, algorithm);
-    refuses_private::<V1>(&rt, alloc, P384_PRIVATE, algorithm);
-    refuses_public::<V1>(&rt, alloc, P384_PUBLIC, algorithm);
-    let curve = "The key is one of another curve";
+    let (unknown, rsa) = (
+        "The key is one of another algorithm",
+        "The key is one of RSA",
+    );
+    let (edwards, elliptic) = ("The key is one of Ed25519", "The key is one of a curve");
+    refuses_private::<V4>(&rt, alloc, X25519_PRIVATE, unknown);
+    refuses_private::<V4>(&rt, alloc, P384_PRIVATE, elliptic);
+    refuses_private::<V4>(&rt, alloc, RSA_PRIVATE, rsa);
+    refuses_public::<V4>(&rt, alloc, X25519_PUBLIC, unknown);
+    refuses_private::<V3>(&rt, alloc, ED25519_PRIVATE, edwards);
+    refuses_public::<V3>(&rt, alloc, RSA_PUBLIC, rsa);
+    refuses_private::<V1>(&rt, alloc, P384_PRIVATE, elliptic);
+    refuses_public::<V1>(&rt, alloc, P384_PUBLIC, elliptic);
+    let curve = "The key is one of P-256";
     refuses_private::<V3>(&rt, alloc, P256_PRIVATE, curve);
     refuses_private::<V3>(&rt, alloc, P256_SEC1, curve);
     refuses_public::<V3>(&rt, alloc, P256_PUBLIC, curve);
@@ -106,8 +108,18 @@ fn what_is_no_key(rt: HostRuntime) {
     refuses_public::<V1>(&rt, alloc, RSA_1024_PUBLIC, "The key has another size");
     let wanted = "The key was not in the correct format";
     refuses_private::<V4>(&rt, alloc, ED25519_SHORT, wanted);
-    refuses_private::<V3>(&rt, alloc, P384_OF_TWO_KEYS, wanted);
+    let half = "The public key is not that of the private key";
+    refuses_private::<V3>(&rt, alloc, P384_OF_TWO_KEYS, half);
     refuses_public::<V3>(&rt, alloc, P384_OFF_THE_CURVE, wanted);
+}
+
+// No DER, and then what would be found behind it: the errors in their order.
+#[test]
+fn errors_in_their_order(rt: HostRuntime) {
+    let alloc = rt.alloc();
+    refuses_public::<V4>(&rt, alloc, NO_DER, "The key is not in DER");
+    refuses_private::<V4>(&rt, alloc, NO_DER, "The text is a public key");
+    refuses_private::<V3>(&rt, alloc, P256_OF_NO_KEY, "The key is one of P-256");
 }
 
 #[test]

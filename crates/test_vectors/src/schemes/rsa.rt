@@ -3,7 +3,7 @@
 use super::Repeated;
 use crate::expect::{expect_digits, expect_text, expect_that};
 use crate::hexadecimal::{array_of, bytes_of};
-use paseto_rsa::{PublicKey, RsaPss};
+use paseto_rsa::{PublicKey, RsaPss, is_private_key};
 use rusty_paseto_core::{
     Footer, Paseto, PasetoAsymmetricPublicKey, PasetoError, Public, SignatureScheme, V1,
 };
@@ -145,6 +145,20 @@ fn numbers_of_two_keys(rt: HostRuntime) {
     let answer = sevens().sign(rt.alloc(), &private, b"sample");
     let is_named = matches!(&answer, Err(PasetoError::RsaCipher));
     expect_that(&rt, is_named, "another coefficient");
+}
+
+// The factors are those of the key, and the modulus, of 2048 bits and odd as before, is not their product.
+#[test]
+fn another_modulus(rt: HostRuntime) {
+    let mut private = bytes_of(&rt, rt.alloc(), PRIVATE);
+    // The bytes of the modulus are those from 38 to 293.
+    if let Some(byte) = private.get_mut(160) {
+        *byte ^= 1;
+    }
+    expect_that(&rt, !is_private_key(&private), "another modulus");
+    let answer = sevens().sign(rt.alloc(), &private, b"sample");
+    let is_named = matches!(&answer, Err(PasetoError::KeyRejected));
+    expect_that(&rt, is_named, "another modulus");
 }
 
 #[test]

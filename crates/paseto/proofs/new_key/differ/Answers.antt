@@ -1,4 +1,4 @@
-use Rattle.std.proofs.Common.{rules, ◌≡◌, ◌∙◌, Some, ap, refl, sym}
+use Rattle.std.proofs.Common.{rules, ◌≡◌, ◌∙◌, Some, ap, refl}
 use Rattle.paseto_words.specs.Action.{text}
 use Rattle.paseto.proofs.new_key.differ.Goals as goal
 

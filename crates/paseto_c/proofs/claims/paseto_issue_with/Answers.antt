@@ -1,6 +1,10 @@
 use Rattle.std.proofs.lemmas.Int.{to_z-of_z}
-use Rattle.paseto_calls.proofs.Replies.{replied}
+use Rattle.paseto_calls.proofs.Replies.{replied, whole_reply_where}
 use Rattle.paseto_c.proofs.claims.paseto_issue_with.Goals as goal
 
-pub returns : goal.returns
-returns c = replied _ _ _ _ _ _ _ _ c.issue.result (rw (to_z-of_z _ _ c.ranges.now) at c.issue.ensures) c.hand_over_telling.ensures
+pub returns-clause-answer : goal.returns-clause-answer
+returns-clause-answer c = replied _ _ _ _ _ _ _ _ c.issue.result (rw (to_z-of_z _ _ c.ranges.now) at c.issue.ensures.made) c.hand_over_telling.ensures
+
+pub returns-clause-whole : goal.returns-clause-whole
+returns-clause-whole c =
+    whole_reply_where _ _ _ _ _ _ _ _ _ c.issue.result (rw (to_z-of_z _ _ c.ranges.now) at c.issue.ensures.whole) c.hand_over_telling.ensures

@@ -1,5 +1,8 @@
-use Rattle.paseto_calls.proofs.Replies.{replied}
+use Rattle.paseto_calls.proofs.Replies.{replied, whole_reply}
 use Rattle.paseto_c.proofs.keys.paseto_key_pem.Goals as goal
 
-pub returns : goal.returns
-returns c = replied _ _ _ _ _ _ _ _ c.pem.result c.pem.ensures c.hand_over_telling.ensures
+pub returns-clause-answer : goal.returns-clause-answer
+returns-clause-answer c = replied _ _ _ _ _ _ _ _ c.pem.result c.pem.ensures.made c.hand_over_telling.ensures
+
+pub returns-clause-whole : goal.returns-clause-whole
+returns-clause-whole c = whole_reply _ _ _ _ _ _ _ _ c.pem.result c.pem.ensures.whole c.hand_over_telling.ensures

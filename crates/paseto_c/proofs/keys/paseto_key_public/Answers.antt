@@ -1,5 +1,8 @@
-use Rattle.paseto_calls.proofs.Replies.{key_replied}
+use Rattle.paseto_calls.proofs.Replies.{key_replied, whole_key_reply}
 use Rattle.paseto_c.proofs.keys.paseto_key_public.Goals as goal
 
-pub returns : goal.returns
-returns c = key_replied _ _ _ _ _ _ _ c.public_half.result c.public_half.ensures c.hand_over_held.ensures
+pub returns-clause-answer : goal.returns-clause-answer
+returns-clause-answer c = key_replied _ _ _ _ _ _ _ c.public_half.result c.public_half.ensures.made c.hand_over_held.ensures
+
+pub returns-clause-whole : goal.returns-clause-whole
+returns-clause-whole c = whole_key_reply _ _ _ _ _ _ _ c.public_half.result c.public_half.ensures.whole c.hand_over_held.ensures

@@ -1,9 +1,15 @@
-use Rattle.paseto_calls.proofs.Replies.{replied}
+use Rattle.paseto_calls.proofs.Replies.{replied, whole_reply_where}
 use Rattle.paseto_calls.proofs.Taken.{secrets_write}
+use Rattle.paseto_calls.proofs.TokenWhole.{signed_whole}
 use Rattle.paseto_c.proofs.tokens.paseto_sign_with.Goals as goal
 
 pub write-requires : goal.write-requires
 write-requires c = secrets_write
 
-pub returns : goal.returns
-returns c = replied _ _ _ _ _ _ _ _ c.write.result c.write.ensures c.hand_over_telling.ensures
+pub returns-clause-answer : goal.returns-clause-answer
+returns-clause-answer c = replied _ _ _ _ _ _ _ _ c.write.result c.write.ensures.made c.hand_over_telling.ensures
+
+pub returns-clause-whole : goal.returns-clause-whole
+returns-clause-whole c =
+    signed_whole c.args.key.now c.args.drawn.now c.args.footer.now c.args.assertion.now c.args.text.now _
+    (whole_reply_where _ _ _ _ _ _ _ _ _ c.write.result c.write.ensures.whole c.hand_over_telling.ensures)

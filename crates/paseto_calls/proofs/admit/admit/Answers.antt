@@ -1,4 +1,4 @@
-use Rattle.std.proofs.Common.{◌∙◌, inr, ap, sym}
+use Rattle.std.proofs.Common.{◌∙◌, inr, sym}
 use Rattle.std.proofs.lemmas.Int.{to_z-of_z}
 use Rattle.std.proofs.lemmas.Result.{err_from_is_err_and}
 use Rattle.paseto_calls.proofs.AdmitExits.{answer_made, answer_whole, long_footer_told, long_footer_only, unprepared_only, unprepared_refuses}

@@ -1,49 +1,65 @@
-use Rattle.std.proofs.Common.{inl, inr, ◌⊎◌, subst, string_bytes}
+use Rattle.std.proofs.Common.{Err, inl, inr, refl}
 use Rattle.std.proofs.lemmas.Result.{err_from_is_err_and}
-use Rattle.std.specs.declared.convert.Infallible.{Infallible}
-use Rattle.paseto_key_files.specs.Error.{IsMemory}
-use Rattle.paseto_key_files.specs.Wrapping.{WrapsLine, WrapsNone}
-use Rattle.paseto_keys.specs.Forms.{ByLine, ByNoLine}
-use Rattle.paseto_calls.specs.HeldKey.{named_by}
-use Rattle.paseto_calls.specs.KeyCalls.{IsGiven}
-use Rattle.paseto_calls.proofs.KeyExits.{lined_makes, lined_refuses, lineless_refuses}
+use Rattle.paseto_calls.specs.declared.fault.Fault.TheVariants.{Refused}
+use Rattle.paseto_calls.specs.declared.refusal.Refusal.TheVariants.{OtherVersion}
+use Rattle.paseto_calls.proofs.FormWhole.{fails, holds, wrapping_apart}
+use Rattle.paseto_calls.proofs.KeyExits.{form_makes, form_refuses, lineless}
 use Rattle.paseto_calls.proofs.Taken.{exit_made, fault_refuses, first_fault, no_fault, second_fault}
+use Rattle.paseto_calls.proofs.Whole.{whole_of}
 use Rattle.paseto_calls.proofs.key_calls.wrap.Goals as goal
 
-pub returns-in_err-key : goal.returns-in_err-key
-returns-in_err-key c =
+pub returns-in_err-key-clause-made : goal.returns-in_err-key-clause-made
+returns-in_err-key-clause-made c =
     exit_made _ _ _ (err_from_is_err_and c.from_residual.result c.from_residual.ensures.1) (fault_refuses _ _ (first_fault _ _ _ c.in_err-key.ensures))
 
-pub returns-in_err-other : goal.returns-in_err-other
-returns-in_err-other c =
+pub returns-in_err-key-clause-whole : goal.returns-in_err-key-clause-whole
+returns-in_err-key-clause-whole c = whole_of _ (wrapping_apart c.args.key.now c.args.other.now c.args.drawn.now) _ (returns-in_err-key-clause-made c)
+
+pub returns-in_err-other-clause-made : goal.returns-in_err-other-clause-made
+returns-in_err-other-clause-made c =
     exit_made _ _ _ (err_from_is_err_and c.from_residual-in_err-other.result c.from_residual-in_err-other.ensures.1)
     (fault_refuses _ _ (elim (first_fault _ _ _ c.in_err-other.ensures) [ inl memory ↦ inl memory | inr fault ↦ inr (second_fault _ _ _ c.in_ok-key.ensures.1 fault) ]))
 
-pub returns-in_err-front : goal.returns-in_err-front
-returns-in_err-front c =
-    exit_made _ _ _ (err_from_is_err_and c.from_residual-in_err-front.result c.from_residual-in_err-front.ensures.1)
-    (fault_refuses _ _ (inr (second_fault _ _ _ c.in_ok-key.ensures.1 (second_fault _ _ _ c.in_ok-other.ensures.1 c.in_err-front.ensures))))
+pub returns-in_err-other-clause-whole : goal.returns-in_err-other-clause-whole
+returns-in_err-other-clause-whole c = whole_of _ (wrapping_apart c.args.key.now c.args.other.now c.args.drawn.now) _ (returns-in_err-other-clause-made c)
 
-pub returns-in_err-line : goal.returns-in_err-line
-returns-in_err-line c =
-    let front = c.in_ok-front.ensures in
-    exit_made _ _ _ (err_from_is_err_and c.from_residual-in_err-line.result c.from_residual-in_err-line.ensures.1)
-    (lineless_refuses _ _ _ _ (no_fault _ _ c.in_ok-key.ensures.1 (no_fault _ _ c.in_ok-other.ensures.1 front.2)) _
-    (rw c.in_ok-other.ensures.0 at c.in_err-line.ensures.refused))
+pub returns-in_err-nonce-clause-made : goal.returns-in_err-nonce-clause-made
+returns-in_err-nonce-clause-made c =
+    exit_made _ _ _ (err_from_is_err_and c.from_residual-in_err-nonce.result c.from_residual-in_err-nonce.ensures.1)
+    (fault_refuses _ _ (inr (second_fault _ _ _ c.in_ok-key.ensures.1 (second_fault _ _ _ c.in_ok-other.ensures.1 c.in_err-nonce.ensures))))
 
-pub returns-in_err-wrap : goal.returns-in_err-wrap
-returns-in_err-wrap c =
-    let front = c.in_ok-front.ensures in
-    let none = rw (c.in_ok-key.ensures.0, c.as_str.ensures.value) at c.in_err-wrap.ensures.refused in
-    exit_made _ _ _ (err_from_is_err_and c.from_residual-in_err-wrap.result c.from_residual-in_err-wrap.ensures.1)
-    (lined_refuses _ _ _ _ (no_fault _ _ c.in_ok-key.ensures.1 (no_fault _ _ c.in_ok-other.ensures.1 front.2))
-    (string_bytes c.in_ok-line.line) (rw c.in_ok-other.ensures.0 at c.in_ok-line.ensures.ok) _
-    none)
+pub returns-in_err-nonce-clause-whole : goal.returns-in_err-nonce-clause-whole
+returns-in_err-nonce-clause-whole c = whole_of _ (wrapping_apart c.args.key.now c.args.other.now c.args.drawn.now) _ (returns-in_err-nonce-clause-made c)
 
-pub returns : goal.returns
-returns c =
-    let front = c.in_ok-front.ensures in
-    let made = rw (c.in_ok-key.ensures.0, c.as_str.ensures.value) at c.in_ok-wrap.ensures.ok in
-    lined_makes _ _ _ _ (no_fault _ _ c.in_ok-key.ensures.1 (no_fault _ _ c.in_ok-other.ensures.1 front.2))
-    (string_bytes c.in_ok-line.line) (rw c.in_ok-other.ensures.0 at c.in_ok-line.ensures.ok) _
-    (subst (λ given. ByLine (named_by c.args.key.now) (WrapsLine (string_bytes c.in_ok-line.line) (IsGiven given)) (string_bytes c.in_ok-wrap.field-0)) front.0 made)
+pub returns-in_err-to_line-clause-made : goal.returns-in_err-to_line-clause-made
+returns-in_err-to_line-clause-made c =
+    exit_made _ _ _ (err_from_is_err_and c.from_residual-in_err-to_line.result c.from_residual-in_err-to_line.ensures.1)
+    (form_refuses _ _ _ (no_fault _ _ c.in_ok-key.ensures.1 (no_fault _ _ c.in_ok-other.ensures.1 c.in_ok-nonce.ensures.2)) _
+    (elim (lineless _ _ (rw c.in_ok-key.ensures.0 at c.in_err-to_line.ensures.refused)) [ inl memory ↦ inl memory | inr none ↦ inr (inl none) ]))
+
+pub returns-in_err-to_line-clause-whole : goal.returns-in_err-to_line-clause-whole
+returns-in_err-to_line-clause-whole c = whole_of _ (wrapping_apart c.args.key.now c.args.other.now c.args.drawn.now) _ (returns-in_err-to_line-clause-made c)
+
+pub returns-in_err-wrapped-clause-made : goal.returns-in_err-wrapped-clause-made
+returns-in_err-wrapped-clause-made c =
+    exit_made _ _ _ (err_from_is_err_and c.from_residual-in_err-wrapped.result c.from_residual-in_err-wrapped.ensures.1) (form_refuses _ _ _ (no_fault _ _ c.in_ok-key.ensures.1 (no_fault _ _ c.in_ok-other.ensures.1 c.in_ok-nonce.ensures.2)) _ (inl c.in_err-wrapped.ensures))
+
+pub returns-in_err-wrapped-clause-whole : goal.returns-in_err-wrapped-clause-whole
+returns-in_err-wrapped-clause-whole c = whole_of _ (wrapping_apart c.args.key.now c.args.other.now c.args.drawn.now) _ (returns-in_err-wrapped-clause-made c)
+
+pub returns-then-not-same_version-clause-made : goal.returns-then-not-same_version-clause-made
+returns-then-not-same_version-clause-made c =
+    let line = rw c.in_ok-key.ensures.0 at c.in_ok-to_line.ensures.ok in
+    let other = rw (c.version.ensures, c.version-2.ensures, c.in_ok-key.ensures.0, c.in_ok-other.ensures.0) at c.same_version.ensures in
+    form_refuses _ _ _ (no_fault _ _ c.in_ok-key.ensures.1 (no_fault _ _ c.in_ok-other.ensures.1 c.in_ok-nonce.ensures.2)) _ (inr (inr ((_, line), fails _ _ _ other c.if-not-same_version.true, refl)))
+
+pub returns-then-not-same_version-clause-whole : goal.returns-then-not-same_version-clause-whole
+returns-then-not-same_version-clause-whole c =
+    whole_of _ (wrapping_apart c.args.key.now c.args.other.now c.args.drawn.now) (Err (Refused OtherVersion)) (returns-then-not-same_version-clause-made c)
+
+pub returns-clause-made : goal.returns-clause-made
+returns-clause-made c =
+    let line = rw c.in_ok-key.ensures.0 at c.in_ok-to_line.ensures.ok in
+    let same = rw (c.version.ensures, c.version-2.ensures, c.in_ok-key.ensures.0, c.in_ok-other.ensures.0) at c.same_version.ensures in
+    let made = rw (c.in_ok-key.ensures.0, c.in_ok-other.ensures.0, c.in_ok-nonce.ensures.0) at c.in_ok-wrapped.ensures in
+    form_makes _ _ _ (no_fault _ _ c.in_ok-key.ensures.1 (no_fault _ _ c.in_ok-other.ensures.1 c.in_ok-nonce.ensures.2)) _ ((_, line), holds _ _ _ same c.if-not-same_version.false, made)

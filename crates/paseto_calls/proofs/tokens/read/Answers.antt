@@ -1,8 +1,4 @@
 use Rattle.std.proofs.lemmas.Result.{err_from_is_err_and}
-use Rattle.paseto_keys.specs.Reading.{reading_by}
-use Rattle.paseto_calls.specs.HeldKey.{named_by}
-use Rattle.paseto_calls.specs.Request.{AreTaken}
-use Rattle.paseto_calls.specs.Tokens.{reading}
 use Rattle.paseto_calls.proofs.Taken.{exit_made, exit_whole, fault_only, fault_refuses, suits, text_only, text_refuses}
 use Rattle.paseto_calls.proofs.TokenExits.{is_read, is_refused, is_refused_memory, read_refuses}
 use Rattle.paseto_calls.proofs.tokens.read.Goals as goal

@@ -1,26 +1,36 @@
-use Rattle.std.proofs.Common.{inr, ap}
+use Rattle.std.proofs.Common.{inr}
 use Rattle.std.proofs.lemmas.Result.{err_from_is_err_and}
 use Rattle.paseto_calls.proofs.Taken.{exit_made, fault_refuses, first_fault, no_fault, second_fault, suits, text_refuses}
 use Rattle.paseto_calls.proofs.TokenExits.{is_declined, is_written, write_refuses}
+use Rattle.paseto_calls.proofs.TokenWhole.{write_whole}
 use Rattle.paseto_calls.proofs.tokens.write.Goals as goal
 
-pub returns-in_err-writer : goal.returns-in_err-writer
-returns-in_err-writer c =
+pub returns-in_err-writer-clause-made : goal.returns-in_err-writer-clause-made
+returns-in_err-writer-clause-made c =
     exit_made _ _ _ (err_from_is_err_and c.from_residual.result c.from_residual.ensures.1) (fault_refuses _ _ (first_fault _ _ _ c.in_err-writer.ensures))
 
-pub returns-in_err-drawn : goal.returns-in_err-drawn
-returns-in_err-drawn c =
+pub returns-in_err-writer-clause-whole : goal.returns-in_err-writer-clause-whole
+returns-in_err-writer-clause-whole c = write_whole c.args.key.now c.args.drawn.now c.args.footer.now c.args.assertion.now c.args.text.now c.args.wanted _ (returns-in_err-writer-clause-made c)
+
+pub returns-in_err-drawn-clause-made : goal.returns-in_err-drawn-clause-made
+returns-in_err-drawn-clause-made c =
     exit_made _ _ _ (err_from_is_err_and c.from_residual-in_err-drawn.result c.from_residual-in_err-drawn.ensures.1)
     (fault_refuses _ _ (inr (second_fault _ _ _ c.in_ok-writer.ensures.1 (rw (c.draws.ensures, c.in_ok-writer.ensures.0) at c.in_err-drawn.ensures))))
 
-pub returns-in_err-texts : goal.returns-in_err-texts
-returns-in_err-texts c =
+pub returns-in_err-drawn-clause-whole : goal.returns-in_err-drawn-clause-whole
+returns-in_err-drawn-clause-whole c = write_whole c.args.key.now c.args.drawn.now c.args.footer.now c.args.assertion.now c.args.text.now c.args.wanted _ (returns-in_err-drawn-clause-made c)
+
+pub returns-in_err-texts-clause-made : goal.returns-in_err-texts-clause-made
+returns-in_err-texts-clause-made c =
     let enough = (rw (c.draws.ensures, c.in_ok-writer.ensures.0) at c.in_ok-drawn.ensures).2 in
     exit_made _ _ _ (err_from_is_err_and c.from_residual-in_err-texts.result c.from_residual-in_err-texts.ensures.1)
     (text_refuses _ _ (no_fault _ _ c.in_ok-writer.ensures.1 enough) c.in_err-texts.ensures)
 
-pub returns-in_err-write : goal.returns-in_err-write
-returns-in_err-write c =
+pub returns-in_err-texts-clause-whole : goal.returns-in_err-texts-clause-whole
+returns-in_err-texts-clause-whole c = write_whole c.args.key.now c.args.drawn.now c.args.footer.now c.args.assertion.now c.args.text.now c.args.wanted _ (returns-in_err-texts-clause-made c)
+
+pub returns-in_err-write-clause-made : goal.returns-in_err-write-clause-made
+returns-in_err-write-clause-made c =
     let lent = c.in_ok-texts.ensures in
     let front = rw (c.draws.ensures, c.in_ok-writer.ensures.0) at c.in_ok-drawn.ensures in
     let suit = suits c.args.wanted c.args.key.now c.args.assertion.now c.in_ok-writer.ensures.1 in
@@ -31,8 +41,11 @@ returns-in_err-write c =
     (record { fine = no_fault _ _ c.in_ok-writer.ensures.1 front.2; texts = lent.5 }) _
     (is_declined _ _ _ _ _ _ (rw front.0 at front.1) answer))
 
-pub returns : goal.returns
-returns c =
+pub returns-in_err-write-clause-whole : goal.returns-in_err-write-clause-whole
+returns-in_err-write-clause-whole c = write_whole c.args.key.now c.args.drawn.now c.args.footer.now c.args.assertion.now c.args.text.now c.args.wanted _ (returns-in_err-write-clause-made c)
+
+pub returns-clause-made : goal.returns-clause-made
+returns-clause-made c =
     let lent = c.in_ok-texts.ensures in
     let front = rw (c.draws.ensures, c.in_ok-writer.ensures.0) at c.in_ok-drawn.ensures in
     let suit = suits c.args.wanted c.args.key.now c.args.assertion.now c.in_ok-writer.ensures.1 in
@@ -42,3 +55,6 @@ returns c =
       taken = record { fine = no_fault _ _ c.in_ok-writer.ensures.1 front.2; texts = lent.5 };
       makes = is_written _ _ _ _ _ _ (rw front.0 at front.1) answer;
     }
+
+pub returns-clause-whole : goal.returns-clause-whole
+returns-clause-whole c = λ taken has. tt

@@ -25,5 +25,5 @@ pub returns-in_err-private_key_to_pem-clause-err : goal.returns-in_err-private_k
 returns-in_err-private_key_to_pem-clause-err g c =
     let p = err_from_is_err_and c.from_residual-in_err-private_key_to_pem.result c.from_residual-in_err-private_key_to_pem.ensures.1 in
     let key = c.in_ok-key.ensures in
-    rw (p.1, p.2) (inr (no_pem (IsWritingOf g.V.KeyVersion.paserk Secret (λ (key : List ℕ). length key ≡ g.V.KeyPairVersion.secret_length)) g.V.PemVersion.is_private_of PrivateKey c.args.line.now c.in_ok-key.key
+    rw (p.1, p.2) (inr (no_pem (IsWritingOf g.V.KeyVersion.paserk Secret (λ (key : List ℕ). length key ≡ g.V.KeyPairVersion.secret_length)) g.V.PemVersion.is_private_written PrivateKey c.args.line.now c.in_ok-key.key
     c.in_err-private_key_to_pem.field-0.0 (record { bytes = key.bytes; form = key.form; written = key.written }) (rw c.lend.ensures at c.in_err-private_key_to_pem.ensures.refused)))

@@ -1,6 +1,7 @@
 use Rattle.std.proofs.Common.{length, inr, sym, ap, ◌∙◌}
 use Rattle.paseto_pem.specs.Info.{public_key_info}
-use Rattle.paseto_pem.specs.Ed25519.{IsPublicFault, IsPublicOf, ed25519}
+use Rattle.paseto_pem.specs.Ed25519.{IsPublicFault, IsPublicOf}
+use Rattle.paseto_pem.specs.Algorithm.{ed25519}
 use Rattle.paseto_pem.proofs.Ed25519Laws.{public-one, refused-public}
 use Rattle.paseto_pem.proofs.KeyLaws.{refused-contents}
 use Rattle.paseto_pem.proofs.ed25519.read_public.Goals as goal

@@ -1,4 +1,6 @@
-use Rattle.paseto_pem.specs.Key.{written_form}
+use Rattle.std.proofs.Common.{List, ℕ, sym, subst}
+use Rattle.paseto_pem.specs.Text.{IsPem}
+use Rattle.paseto_pem.proofs.WrittenLaws.{written-is-pem}
 use Rattle.paseto_pem.proofs.laws.written_private_keys_are_read.Goals as goal
 
 pub returns : goal.returns
@@ -6,6 +8,6 @@ returns g c label key text w = record {
   label = label;
   contents = w.contents;
   bytes = w.bytes;
-  written = (written_form, w.written);
-  held = w.held;
+  written = subst (λ (t : List ℕ). IsPem label w.contents t) (sym w.written) (written-is-pem label w.contents);
+  held = g.V.PemVersion.private_is_read label w.contents key w.held;
 }

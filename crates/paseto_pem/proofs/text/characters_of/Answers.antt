@@ -1,40 +1,18 @@
-use Rattle.std.proofs.Common.{◌≡◌, ◌+◌, ◌-◌, ◌<◌, min, ◌++◌, length, take, drop, sym, ap, ◌∙◌, append_assoc, rules}
-use Rattle.std.specs.Slice.Iter.{chunks_rest}
-use Rattle.std.proofs.lemmas.List.{append-nil, nil_from_length, take-append-drop}
-use Rattle.paseto_pem.proofs.LineLaws.{line-is, lines-empty}
+use Rattle.std.proofs.Common.{sym, ◌∙◌}
+use Rattle.std.proofs.lemmas.Bool.{false≢true}
+use Rattle.paseto_pem.specs.Text.{IsBase64Line}
+use Rattle.paseto_pem.proofs.BlockLaws.{all-of, not-all, one-more}
 use Rattle.paseto_pem.proofs.text.characters_of.Goals as goal
 
-pub pieces-init : goal.pieces-init
-pieces-init c = (search rules, tt, search rules, λ ends text size are. (text, search rules, search rules))
-
-pub pieces-preserved : goal.pieces-preserved
-pieces-preserved c =
-    let steps = c.in-Some.ensures.steps in
-    let size = c.pieces.invariant.2 in (
-      search rules,
-      tt,
-      steps.0 ∙ size,
-      λ ends text long are.
-          let so_far = c.pieces.invariant.3 ends text long are in
-          let left = so_far.0 in
-          let whole : length c.in-Some.line.now ≡ min (64 + length ends) (length (chunks_rest c.pieces.line-iterator)) =
-          rw long (rw size at steps.1.1) in
-          let some : 0 < length (chunks_rest c.pieces.line-iterator) = steps.1.2 in
-          let line = line-is ends left c.in-Some.line.now (chunks_rest c.pieces.line-iterator) (chunks_rest c.next.new.self) some so_far.1 steps.1.0 whole in
-          let front : c.split_at.result.0.now ≡ take 64 left =
-          c.split_at.ensures.front ∙ ap (λ n. take n c.in-Some.line.now) (c.saturating_sub.ensures ∙ ap (λ n. length c.in-Some.line.now - n) (sym long)) ∙ line.characters in (
-            drop 64 left,
-            line.rest,
-            ap (λ l. l ++ drop 64 left) (c.in_ok-extend_from_slice.ensures.items ∙ ap (λ l. c.pieces.characters.items ++ l) front)
-                ∙ append_assoc c.pieces.characters.items (take 64 left) (drop 64 left)
-                ∙ ap (λ l. c.pieces.characters.items ++ l) (take-append-drop 64 left)
-                ∙ so_far.2,
-          ),
-    )
+pub each-preserved : goal.each-preserved
+each-preserved c =
+    one-more IsBase64Line c.args.body.now c.each.index _ _ _ c.each-test.true c.each.invariant.0 c.each.invariant.1
+    (c.is_base64_line.ensures.0 c.if-not-is_base64_line.false) c.in_ok-push_str.ensures.bytes
 
 pub returns : goal.returns
-returns c ends text long are =
-    let so_far = c.pieces.invariant.3 ends text long are in
-    let none = nil_from_length (chunks_rest c.pieces.line-iterator) c.in-None.ensures.steps.1.0 in
-    let nothing = lines-empty ends so_far.0 (sym so_far.1 ∙ none) in
-    sym (ap (λ l. c.pieces.characters.items ++ l) nothing ∙ append-nil c.pieces.characters.items) ∙ so_far.2
+returns c = all-of IsBase64Line c.args.body.now c.each.index _ c.each-test.false c.each.invariant.0 c.each.invariant.1
+
+pub returns-then-not-is_base64_line : goal.returns-then-not-is_base64_line
+returns-then-not-is_base64_line c =
+    not-all IsBase64Line c.args.body.now c.each.index _ c.each-test.true
+    (λ this. false≢true (sym c.if-not-is_base64_line.true ∙ c.is_base64_line.ensures.1 this))

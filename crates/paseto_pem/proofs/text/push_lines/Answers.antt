@@ -13,18 +13,19 @@ pub pieces-preserved : goal.pieces-preserved
 unfolding base64
 pieces-preserved c =
     let steps = c.in-Some.ensures.steps in
-    let size = c.pieces.invariant.2 in (
+    let size = c.pieces.invariant.2 in
+    let line = c.in_ok-push_str.ensures.bytes ∙ ap (λ l. string_bytes c.pieces.text ++ l) (c.deref.ensures ∙ c.in_ok-line.ensures) in (
       search rules,
       tt,
       steps.0 ∙ size,
-      pushed-line c.args.end.now (chunks_rest c.pieces.piece-iterator) c.in-Some.piece.now (chunks_rest c.next.new.self)
-          (string_bytes c.pieces.text) (string_bytes c.encode_string.new.output) (string_bytes c.push_str.new.self) _
-          steps.1.0 (rw size at steps.1.1) steps.1.2 c.in_ok-encode_string.ensures.ok c.in_ok-push_str.ensures.bytes c.pieces.invariant.3,
+      pushed-line (chunks_rest c.pieces.piece-iterator) c.in-Some.piece.now (chunks_rest c.next.new.self)
+          (string_bytes c.pieces.text) (string_bytes c.push_str.new.self) (string_bytes c.push_str-in-pieces.new.self) _
+          steps.1.0 (rw size at steps.1.1) steps.1.2 line c.in_ok-push_str-2.ensures.bytes c.pieces.invariant.3,
     )
 
 pub returns : goal.returns
 returns c =
     let none = nil_from_length (chunks_rest c.pieces.piece-iterator) c.in-None.ensures.steps.1.0 in
-    let nothing : lines c.args.end.now (base64 (chunks_rest c.pieces.piece-iterator)) ≡ [] =
-    ap (λ l. lines c.args.end.now (base64 l)) none ∙ ap (lines c.args.end.now) base64-nil ∙ lines-none c.args.end.now in
+    let nothing : lines (base64 (chunks_rest c.pieces.piece-iterator)) ≡ [] =
+    ap (λ l. lines (base64 l)) none ∙ ap lines base64-nil ∙ lines-none in
     sym (ap (λ l. string_bytes c.pieces.text ++ l) nothing ∙ append-nil (string_bytes c.pieces.text)) ∙ c.pieces.invariant.3

@@ -9,5 +9,5 @@ invariant-pieces l =
     goal.iterator-pieces.can_next l.piece-iterator
     × goal.iterator-pieces.is_finite l.piece-iterator
     × (chunks_size l.piece-iterator ≡ 48)
-    × (string_bytes l.text ++ lines l.fn.end (base64 (chunks_rest l.piece-iterator))
-    ≡ string_bytes l.initial.text ++ lines l.fn.end (base64 l.fn.contents))
+    × (string_bytes l.text ++ lines (base64 (chunks_rest l.piece-iterator))
+    ≡ string_bytes l.initial.text ++ lines (base64 l.fn.contents))

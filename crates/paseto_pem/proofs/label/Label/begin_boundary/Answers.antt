@@ -18,3 +18,6 @@ returns-in-RsaPrivateKey c = rw c.in-RsaPrivateKey.is refl
 
 pub returns-in-RsaPublicKey : goal.returns-in-RsaPublicKey
 returns-in-RsaPublicKey c = rw c.in-RsaPublicKey.is refl
+
+pub returns-in-OpenSshPrivateKey : goal.returns-in-OpenSshPrivateKey
+returns-in-OpenSshPrivateKey c = rw c.in-OpenSshPrivateKey.is refl

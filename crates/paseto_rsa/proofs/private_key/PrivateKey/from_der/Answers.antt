@@ -1,4 +1,5 @@
 use Rattle.std.proofs.Common.{◌≡◌, ℕ, ◌*◌, ◌%◌, ◌<◌, ◌≤◌, List, [], ◌∷◌, ◌++◌, get_or, length, inl, inr, refl, sym, ◌∙◌, ap, subst, arith}
+use Rattle.std.proofs.lemmas.Bool.{false≢true}
 use Rattle.paseto_montgomery.specs.Words.{value, weight}
 use Rattle.paseto_montgomery.proofs.DigitLaws.{weight-is}
 use Rattle.paseto_montgomery.proofs.WordsLaws.{value-one}
@@ -33,6 +34,15 @@ returns-then-integers-ne0 c h =
     let i = c.in_ok-integers.integers in
     let e = same h.numbers c.args.key.now c.in_ok-inner_key.field-0.now _ h.read c.in_ok-inner_key.ensures c.in_ok-integers.ensures.0 refl in
     c.if-integers-ne0.true (sym (value-one i.version) ∙ sym (ap (λ l. get_or l 0 0) e))
+
+pub returns-then-not-is_product : goal.returns-then-not-is_product
+returns-then-not-is_product c h =
+    let i = c.in_ok-integers.integers in
+    let e = same h.numbers c.args.key.now c.in_ok-inner_key.field-0.now _ h.read c.in_ok-inner_key.ensures c.in_ok-integers.ensures.0 refl in
+    let n : h.numbers.n ≡ value i.n 32 = ap (λ l. get_or l 1 0) e in
+    let p : h.numbers.p ≡ value i.p 16 = ap (λ l. get_or l 4 0) e in
+    let q : h.numbers.q ≡ value i.q 16 = ap (λ l. get_or l 5 0) e in
+    false≢true (c.if-not-is_product.ensures.1 (rw (p, q, n) at h.in_range.product))
 
 pub returns-in_err-public_key : goal.returns-in_err-public_key
 returns-in_err-public_key c =
@@ -97,6 +107,7 @@ returns c =
           d_below = known.1;
           p_half = rw first.0 (half (value i.p 16) (rw (← first.0) p.odd) first.1 first.2);
           q_half = rw second.0 (half (value i.q 16) (rw (← second.0) q.odd) second.1 second.2);
+          product = rw (first.0, second.0, public.1) (c.if-not-is_product.ensures.0 refl);
           dp_below = known.2;
           dq_below = known.3;
           qinv_below = known.4;

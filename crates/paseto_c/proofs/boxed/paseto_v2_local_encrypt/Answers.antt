@@ -1,8 +1,0 @@
-use Rattle.paseto_calls.proofs.Answers.{answered, completed}
-use Rattle.paseto_c.proofs.boxed.paseto_v2_local_encrypt.Goals as goal
-
-pub returns-clause-answer : goal.returns-clause-answer
-returns-clause-answer c = answered _ _ _ _ _ c.sealed.result c.sealed.ensures.made c.hand_over.ensures
-
-pub returns-clause-complete : goal.returns-clause-complete
-returns-clause-complete c = completed _ _ _ _ _ c.sealed.result c.sealed.ensures.whole c.hand_over.ensures

@@ -1,4 +1,0 @@
-//! Tokens of claims.
-
-pub(crate) mod local;
-pub(crate) mod public;

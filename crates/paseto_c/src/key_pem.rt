@@ -1,4 +1,0 @@
-//! Keys in PEM.
-
-pub(crate) mod kind;
-pub(crate) mod pairs;

@@ -1,5 +1,0 @@
-//! Keys as text in PASERK.
-
-pub(crate) mod kind;
-pub(crate) mod local;
-pub(crate) mod pairs;

@@ -1,4 +1,0 @@
-//! Parsing tokens of claims.
-
-pub(crate) mod local;
-pub(crate) mod public;
