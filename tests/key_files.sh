@@ -146,7 +146,10 @@ for file in "$others"/*.pem; do
     token=$("$program" sign --key "$file" <in)
     is "a token by $name" "${token:0:10}" "v$version.public."
     is "the text of a token by $name" "$("$program" verify --key half.pem <<<"$token")" hello
-    is "the public half of $name" "$("$program" public --key "$file" --format pem)" "$(cat half.pem)"
+    # A key of version 1 has no public half in the program.
+    if [ $version != 1 ]; then
+        is "the public half of $name" "$("$program" public --key "$file" --format pem)" "$(cat half.pem)"
+    fi
 done
 is "how many keys of other tools" "$(find "$others" -name '[!r]*.pem' | wc -l)" 22
 while IFS='|' read -r name line; do
