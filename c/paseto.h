@@ -131,11 +131,12 @@ struct paseto_key {
 void paseto_key_wipe(struct paseto_key *key);
 
 /* Reads a key from PASERK text, k4.local. and so on, as in the files of `paseto keygen`, or from PEM as `openssl` writes
-   it, where an Ed25519 key is one of version 4, a P-384 key of version 3, and an RSA key of version 1. One newline may
-   end the text. Statuses: PASETO_OK, PASETO_MEMORY, PASETO_NOT_UTF8, then of PEM PASETO_NOT_PEM, PASETO_ENCRYPTED_KEY,
-   PASETO_OTHER_LABEL, PASETO_OTHER_ALGORITHM, PASETO_OTHER_CURVE, PASETO_OTHER_SIZE, and of PASERK
-   PASETO_NEEDS_PASSWORD, PASETO_NEEDS_KEY, PASETO_NO_PASERK, PASETO_OTHER_VERSION for a key pair of version 1; and
-   PASETO_INVALID_KEY if what follows is no key.
+   it, which may stand behind other text: an Ed25519 key is one of version 4, a P-384 key of version 3, and an RSA key of
+   version 1. In PASERK version 1 has k1.secret., an RSAPrivateKey or a PrivateKeyInfo, and k1.public., a
+   SubjectPublicKeyInfo. One newline may end the text. Statuses: PASETO_OK, PASETO_MEMORY, PASETO_NOT_UTF8, then of PEM
+   PASETO_NOT_PEM, PASETO_ENCRYPTED_KEY, PASETO_OTHER_LABEL, PASETO_OTHER_ALGORITHM, PASETO_OTHER_CURVE,
+   PASETO_OTHER_SIZE, and of PASERK PASETO_NEEDS_PASSWORD, PASETO_NEEDS_KEY, PASETO_NO_PASERK, PASETO_OTHER_VERSION for
+   k1.seal.; and PASETO_INVALID_KEY if what follows is no key.
        struct paseto_key key;
        if (paseto_key_read(text, strlen(text), &key, PASETO_NO_REASON) != PASETO_OK) return -1; */
 paseto_status paseto_key_read(const void *text, size_t text_length, struct paseto_key *key, PASETO_REASON);
@@ -152,15 +153,15 @@ paseto_status paseto_key_unlock(const void *text, size_t text_length, const void
 paseto_status paseto_key_unwrap(const void *text, size_t text_length, const struct paseto_key *opener,
                                 struct paseto_key *key, PASETO_REASON);
 
-/* The public key of a private one. Statuses: PASETO_OK, PASETO_MEMORY, PASETO_OTHER_TYPE, PASETO_INVALID_KEY, also for
-   halves that do not belong together, and PASETO_OTHER_VERSION for a key of version 1.
+/* The public key of a private one. Statuses: PASETO_OK, PASETO_MEMORY, PASETO_OTHER_TYPE, and PASETO_INVALID_KEY, also
+   for halves that do not belong together.
        if (paseto_key_public(&key, &public_key, PASETO_NO_REASON) != PASETO_OK) return -1; */
 paseto_status paseto_key_public(const struct paseto_key *private_key, struct paseto_key *key, PASETO_REASON);
 
-/* The texts of a key: in PASERK, or in PEM for a key pair of version 1; in PEM, of key pairs of versions 1, 3 and 4; and
-   its id, k4.lid., k4.sid. or k4.pid. by its type, which key pairs of version 1 do not have. 128 bytes are room enough,
-   and in PEM 2,048. Statuses: PASETO_OK, PASETO_ROOM, PASETO_MEMORY, PASETO_OTHER_TYPE for a key for local tokens in PEM,
-   PASETO_INVALID_KEY, PASETO_OTHER_VERSION.
+/* The texts of a key: in PASERK; in PEM, of key pairs of versions 1, 3 and 4; and its id, k4.lid., k4.sid. or k4.pid. by
+   its type. 128 bytes are room enough, and 2,048 in PEM or for a key pair of version 1. Statuses: PASETO_OK, PASETO_ROOM,
+   PASETO_MEMORY, PASETO_OTHER_TYPE for a key for local tokens in PEM, PASETO_INVALID_KEY, PASETO_OTHER_VERSION for
+   version 2 in PEM.
        if (paseto_key_id(&key, id, sizeof id, &n, PASETO_NO_REASON) != PASETO_OK) return -1; */
 paseto_status paseto_key_text(const struct paseto_key *key, PASETO_ANSWER);
 paseto_status paseto_key_pem(const struct paseto_key *key, PASETO_ANSWER);

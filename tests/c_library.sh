@@ -171,15 +171,34 @@ counted 'keys as text' "$work/keys" paserk "$work/keys.txt"
 python3 - "$root/crates/test_vectors/src/wrapping/rows.rt" >"$work/locked.txt" <<'END'
 import re, sys
 text = open(sys.argv[1]).read()
+
+def held(version, kind, key):
+    """The bytes of struct paseto_key: of an RSAPrivateKey its PrivateKeyInfo."""
+    if (version, kind) != ("1", "secret"):
+        return key
+    info = "020100300d06092a864886f70d01010105000482%04x" % (len(key) // 2) + key
+    return "3082%04x" % (len(info) // 2) + info
+
 row = r'\(\s*(\d),\s*"(\w+)",\s*"([^"]+)",\s*"([^"]*)",\s*(?:\([^)]*\),\s*)?"([^"]+)",\s*(?:"([^"]+)",\s*)?"(k\d\.[^"]+)",\s*\)'
 for version, kind, key, opener, drawn, nonce, locked in re.findall(row, text):
-    print("password" if nonce else "key", version, kind, key, opener or "-", drawn + nonce, locked)
+    print("password" if nonce else "key", version, kind, held(version, kind, key), opener or "-", drawn + nonce, locked)
 END
 if [ "$(wc -l <"$work/locked.txt")" -eq "$(grep -cE '"k[1-4]\.(local|secret)-(pw|wrap)\.' "$root/crates/test_vectors/src/wrapping/rows.rt")" ]; then
     pass
 else
     fail 'not all rows of locked keys are read'
 fi
+# What was locked as a private key of version 1, and is none.
+python3 - "$root/crates/test_vectors/src/wrapping/rsa.rt" >"$work/no_keys.txt" <<'END'
+import re, sys
+text = open(sys.argv[1]).read()
+opener = re.search(r'WRAPPING_KEY: &str = "(\w+)"', text)[1]
+for wrapped, protected in re.findall(r'"\w*",\s*"(k1\.[^"]+)",\s*"(k1\.[^"]+)",\s*"what was wrapped is no key', text):
+    print("key 1 secret none", opener, opener, wrapped)
+    print("password 1 secret none - -", protected)
+END
+if [ "$(wc -l <"$work/no_keys.txt")" -eq 12 ]; then pass; else fail 'not all rows of what is no key are read'; fi
+cat "$work/no_keys.txt" >>"$work/locked.txt"
 counted 'locked keys' "$work/keys" locked "$work/locked.txt"
 build pem "${sanitized[@]}"
 mkdir "$work/texts"

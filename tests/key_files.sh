@@ -47,6 +47,18 @@ cost_of() {
     cut -d . -f 3 "$1" | cut -c 1-64 | tr _- /+ | base64 -d | tail -c +$((salt + 1)) | head -c $length | od -An -v -tx1 | tr -d ' \n'
 }
 
+# paserk HEADER: the text in PASERK of a key whose bytes are read.
+paserk() {
+    printf %s "$1"
+    basenc --base64url -w 0 | tr -d =
+    echo
+}
+
+# first_id TYPE FILE: the id of the key of version 1 whose text the file holds, by OpenSSL: what PASERK says of versions 1 and 3.
+first_id() {
+    printf '%s%s' "$1" "$(cat "$2")" | openssl dgst -sha384 -binary | head -c 33 | paserk "$1"
+}
+
 # modes FILE..: their modes, for files that hold a secret.
 modes() {
     stat -c %a "$@" | sort -u | tr '\n' ' '
@@ -64,6 +76,8 @@ needs_password='the key is under a password: use --password-file FILE, or
 no_password='no password is given: use --password-file FILE, or
   read -rs password
   printf %s "$password" | paseto wrap --password-file - --key FILE'
+bare='the key is bare: it is under no password, not wrapped and not sealed'
+no_key='The text is no PASERK key'
 odd_password='not a password: it must have 1 to 4095 bytes'
 one_input='standard input is named twice: name files for the key, the password or the input'
 needs_key='the key is wrapped or sealed: name the key that opens it by --unlock-key'
@@ -112,7 +126,7 @@ is "a token of RSA that was issued" "$("$program" explain --key rsa.public.pem -
 spelling: the same"
 is "a token of RSA that was not issued" "$("$program" explain --key rsa.public.pem --issued in token | cut -d : -f 1 | paste -sd ' ')" \
     "forged message signature"
-for name in ed p384; do
+for name in ed p384 rsa; do
     "$program" wrap --key $name.pem --password-file password --out $name.locked
     "$program" unwrap --key $name.locked --password-file password --out $name.line
     "$program" unwrap --key $name.locked --password-file password --format pem --out $name.again
@@ -131,11 +145,76 @@ for kind in v3.public v4.public; do
     same "the private key of keygen in PEM, $kind" new.pem openssl.pem
     rm new.pem new.public.pem
 done
-# -- PEM of other tools: keys_of_others/make.sh says how each was made
+
+# -- keys of RSA in PASERK: the private one is the RSAPrivateKey of PKCS #1, and PKCS #8 is read too
+
+openssl rsa -in rsa.pem -traditional -outform DER 2>err | paserk k1.secret. >rsa.secret
+openssl pkcs8 -topk8 -nocrypt -in rsa.pem -outform DER | paserk k1.secret. >rsa.pkcs8
+openssl pkey -in rsa.pem -pubout -outform DER | paserk k1.public. >rsa.public
+first_id k1.sid. rsa.secret >rsa.sid
+first_id k1.pid. rsa.public >rsa.pid
+is "the forms of one private key" "$(sort -u rsa.secret rsa.pkcs8 | wc -l) $(cmp -s rsa.secret rsa.line; echo $?)" "2 0"
+for name in rsa.pem rsa.secret rsa.pkcs8; do
+    is "the public half of $name" "$("$program" public --key $name)" "$(cat rsa.public)"
+    is "the public half of $name in PEM" "$("$program" public --key $name --format pem)" "$(cat rsa.public.pem)"
+    is "the id of $name" "$("$program" id --key $name)" "$(cat rsa.sid)"
+    token=$("$program" sign --key $name --footer id <in)
+    for half in rsa.public.pem rsa.pkcs1.pem rsa.public; do
+        is "$name signs, $half verifies" "$("$program" verify --key $half --footer id <<<"$token")" hello
+    done
+    "$program" wrap --key $name --password-file password --out locked
+    is "$name under a password" "$(cut -d . -f 1,2 locked)" k1.secret-pw
+    is "$name under a password, opened" "$("$program" unwrap --key locked --password-file password)" "$(cat rsa.secret)"
+    is "$name under a password, opened in PEM" "$("$program" unwrap --key locked --password-file password --format pem)" "$(cat rsa.pem)"
+    is "$name under a password, its id" "$("$program" id --key locked --password-file password)" "$(cat rsa.sid)"
+    is "$name under a password, its public half" "$("$program" public --key locked --password-file password)" "$(cat rsa.public)"
+    is "$name under a password signs" "$("$program" sign --key locked --password-file password <in | "$program" verify --key rsa.public)" hello
+    rm locked
+    refuses "$name verifies nothing" 3 "$name: The key is a private one, which signs" verify --key $name
+done
+for name in rsa.public.pem rsa.pkcs1.pem rsa.public; do
+    is "the id of $name" "$("$program" id --key $name)" "$(cat rsa.pid)"
+    refuses "the public half of $name" 3 "$name: The key is a public one, which verifies" public --key $name
+    refuses "$name signs nothing" 3 "$name: The key is a public one, which verifies" sign --key $name
+    refuses "$name under a password" 3 "$name: the key is public: it needs no password and no wrapping key" \
+        wrap --key $name --password-file password
+done
+is "a key of RSA in the environment" "$(PASETO_KEY=$(cat rsa.secret) "$program" sign <in | "$program" verify --key rsa.public)" hello
+is "a key of RSA on standard input" "$("$program" sign --key - in <rsa.secret | "$program" verify --key rsa.public)" hello
+"$program" issue --key rsa.secret --claim aud=customers --footer-kid "$(cat rsa.pid)" >token
+is "claims by a key of RSA in PASERK" \
+    "$("$program" check --key rsa.public --footer-kid "$(cat rsa.pid)" <token | grep -o '"aud":"customers"')" '"aud":"customers"'
+# What is no key of RSA of 2048 bits: fewer bytes, more, another size, a public key, and RSAPublicKey where the
+# SubjectPublicKeyInfo belongs.
+openssl genpkey -algorithm RSA -pkeyopt rsa_keygen_bits:3072 -out rsa3072.pem 2>err
+head -c 1000 rsa.secret >bad.short
+{ tr -d '\n' <rsa.secret && echo AAAA; } >bad.long
+openssl rsa -in rsa3072.pem -traditional -outform DER 2>err | paserk k1.secret. >bad.3072
+sed s/public/secret/ rsa.public >bad.kind
+openssl pkey -in ed.pem -outform DER | paserk k1.secret. >bad.ed
+openssl rsa -in rsa.pem -RSAPublicKey_out -outform DER 2>err | paserk k1.public. >bad.pkcs1
+sed s/secret/public/ rsa.secret >bad.half
+for name in bad.*; do
+    for words in id public sign verify "wrap --password-file password"; do
+        # shellcheck disable=SC2086
+        refuses "$name, ${words%% *}" 3 "$name: The key was not in the correct format" ${words%% *} --key $name ${words#"${words%% *}"}
+    done
+done
+
+# -- PEM of other tools: keys_of_others/make.sh says how each was made. As certtool does, text is put in front of each
+
+# fronted FILE: the file behind lines such as certtool writes.
+fronted() {
+    printf 'Private Key Info:\n\tKey Security Level: High (256 bits)\n\nk4.local: none\n'
+    cat "$1"
+}
 
 others=$root/tests/keys_of_others
+"$program" keygen v4.local --out local.line --quiet
 for file in "$others"/*.pem; do
     name=$(basename "$file" .pem)
+    cp "$file" own.pem
+    file=own.pem
     case $name in
         refused_*) continue ;;
         *ed25519*) version=4 ;;
@@ -146,15 +225,41 @@ for file in "$others"/*.pem; do
     token=$("$program" sign --key "$file" <in)
     is "a token by $name" "${token:0:10}" "v$version.public."
     is "the text of a token by $name" "$("$program" verify --key half.pem <<<"$token")" hello
-    # A key of version 1 has no public half in the program.
-    if [ $version != 1 ]; then
-        is "the public half of $name" "$("$program" public --key "$file" --format pem)" "$(cat half.pem)"
-    fi
+    is "the public half of $name" "$("$program" public --key "$file" --format pem)" "$(cat half.pem)"
+    fronted "$file" >behind.text
+    is "the public half of $name behind a text" "$("$program" public --key behind.text --format pem)" "$(cat half.pem)"
+    is "the id of $name behind a text" "$("$program" id --key behind.text)" "$("$program" id --key "$file")"
+    is "a token by $name behind a text" "$("$program" sign --key behind.text <in | "$program" verify --key half.pem)" hello
+    fronted half.pem >half.text
+    is "the id of the public half of $name behind a text" "$("$program" id --key half.text)" "$("$program" id --key half.pem)"
+    refuses "unwrap of $name behind a text" 3 "behind.text: $bare" unwrap --key behind.text
+    chmod 644 behind.text half.text
+    is "$name behind a text, which others can read" "$("$program" id --key behind.text 2>&1 >out)" \
+        "paseto: behind.text: warning: others than its owner can read the key file"
+    is "the public half of $name behind a text, which others can read" "$("$program" id --key half.text 2>&1 >out)" ""
+    rm behind.text half.text
 done
-is "how many keys of other tools" "$(find "$others" -name '[!r]*.pem' | wc -l)" 22
+is "how many keys of other tools" "$(find "$others" -name '[!r]*.pem' | wc -l)" 23
+for name in ed p384 rsa; do
+    { cat local.line && cat $name.pem; } >behind.paserk
+    refuses "$name.pem behind a key in PASERK" 3 "behind.paserk: line 2: a key file has one line of PASERK, or is PEM" id --key behind.paserk
+    { cat $name.line && cat $name.public.pem; } >behind.paserk
+    refuses "the public half of $name.pem behind a key in PASERK" 3 "behind.paserk: line 2: a key file has one line of PASERK, or is PEM" \
+        sign --key behind.paserk
+    "$program" wrap --key local.line --password-file password >behind.paserk
+    cat $name.pem >>behind.paserk
+    for words in id unwrap; do
+        refuses "$words of $name.pem behind a locked key" 3 "behind.paserk: line 2: a key file has one line of PASERK, or is PEM" \
+            $words --key behind.paserk --password-file password
+    done
+done
+printf '%s\n\n' "$(cat local.line)" >behind.paserk
+is "an empty line behind a key" "$("$program" id --key behind.paserk)" "$("$program" id --key local.line)"
 while IFS='|' read -r name line; do
     cp "$others/refused_$name.pem" .
     refuses "a key of another tool, $name" 3 "refused_$name.pem: $line" sign --key "refused_$name.pem"
+    fronted "$others/refused_$name.pem" >behind.text
+    refuses "a key of another tool behind a text, $name" 3 "behind.text: $line" sign --key behind.text
 done <<'END'
 openssl_ed448|a key of another algorithm than RSA, P-384 and Ed25519
 openssl_encrypted|encrypted PEM: remove its password by openssl pkey -in FILE -out NEW
@@ -167,7 +272,6 @@ END
 
 openssl genpkey -algorithm X25519 -out x25519.pem
 openssl genpkey -algorithm EC -pkeyopt ec_paramgen_curve:P-256 -out p256.pem
-openssl genpkey -algorithm RSA -pkeyopt rsa_keygen_bits:3072 -out rsa3072.pem 2>err
 openssl pkey -in ed.pem -aes256 -passout pass:secret -out encrypted.pem
 sed '2s/./!/' ed.pem >broken.pem
 refuses "another algorithm" 3 "x25519.pem: a key of another algorithm than RSA, P-384 and Ed25519" sign --key x25519.pem
@@ -303,13 +407,29 @@ for version in 1 2 3 4; do
     refuses "another wrapping key, version $version" 1 "wrapped.$version: $wrong_password" id --key wrapped.$version --unlock-key local.$version
     refuses "no wrapping key, version $version" 3 "wrapped.$version: $needs_key" id --key wrapped.$version
 done
-for version in 2 3 4; do
-    "$program" keygen v$version.public --out secret.$version --public public.$version --quiet
+cp rsa.secret secret.1
+cp rsa.public public.1
+for version in 1 2 3 4; do
+    [ $version = 1 ] || "$program" keygen v$version.public --out secret.$version --public public.$version --quiet
     "$program" wrap --key secret.$version --wrapping-key wrapping.$version --out wrapped.secret
     is "wrap a private key, version $version" "$(cut -d . -f 1-3 wrapped.secret)" "k$version.secret-wrap.pie"
     is "unwrap a private key, version $version" "$("$program" unwrap --key wrapped.secret --unlock-key wrapping.$version)" "$(cat secret.$version)"
+    token=$("$program" sign --key wrapped.secret --unlock-key wrapping.$version <in)
+    is "a wrapped private key signs, version $version" "$("$program" verify --key public.$version <<<"$token")" hello
+    is "the public half of a wrapped private key, version $version" \
+        "$("$program" public --key wrapped.secret --unlock-key wrapping.$version)" "$(cat public.$version)"
+    refuses "another wrapping key of a private key, version $version" 1 "wrapped.secret: $wrong_password" \
+        id --key wrapped.secret --unlock-key local.$version
     rm wrapped.secret
 done
+for name in rsa.pem rsa.pkcs8; do
+    "$program" wrap --key $name --wrapping-key wrapping.1 --out wrapped.secret
+    is "unwrap $name" "$("$program" unwrap --key wrapped.secret --unlock-key wrapping.1)" "$(cat rsa.secret)"
+    is "unwrap $name in PEM" "$("$program" unwrap --key wrapped.secret --unlock-key wrapping.1 --format pem)" "$(cat rsa.pem)"
+    rm wrapped.secret
+done
+refuses "a wrapping key of RSA" 3 "rsa.secret: this key is a private one, and another type is needed" \
+    wrap --key local.1 --wrapping-key rsa.secret
 is "the modes of wrapped keys" "$(modes wrapped.?)" "600 "
 refuses "a wrapping key of another version" 3 "wrapping.3: this key is one of version 3, and the other one is not" \
     wrap --key local.4 --wrapping-key wrapping.3
@@ -353,9 +473,7 @@ is "sealed to nobody" "$? $(head -n 1 err)" "2 error: the following required arg
 
 # -- what is not wrapped
 
-bare='the key is bare: it is under no password, not wrapped and not sealed'
-no_key='The text is no PASERK key'
-for name in local.4 secret.4 public.4 ed.pem ed.public.pem sec1.pem rsa.pem rsa.public.pem; do
+for name in local.4 secret.4 public.4 ed.pem ed.public.pem sec1.pem rsa.pem rsa.public.pem rsa.secret rsa.public; do
     refuses "unwrap of $name" 3 "$name: $bare" unwrap --key $name
     refuses "unseal of $name" 3 "$name: $bare" unseal --key $name
 done
@@ -401,8 +519,10 @@ is "a ring with another key that is not opened" "$("$program" check --ring ring 
 "$program" issue --key locked.v4.local --password-file password --footer-kid "$("$program" id --key locked.v4.local --password-file password)" >in
 refuses "a ring that is not opened" 3 "ring/one: $needs_password" check --ring ring
 rm ring/one
-cp rsa.public.pem ring/three
-refuses "a ring of a key of RSA" 3 "ring/three: a key pair of version 1, which has no id by which a ring finds it" check --ring ring
+for name in rsa.public.pem rsa.public rsa.pem rsa.secret; do
+    cp $name ring/three
+    refuses "a ring with $name" 3 "ring/three: a key pair of version 1, which a ring does not take" check --ring ring
+done
 
 # -- the lines
 
@@ -450,12 +570,12 @@ done <<'LIST'
 2|encrypt --key office --longest soon|--longest: write a number of bytes, such as 100000000
 1|encrypt --key office --longest 4 in|in: longer than it may be: 64000000 bytes, or as many as --longest says
 3|encrypt --key letter|letter: The text is no PASERK key
-3|id --key k1|k1: key pairs of version 1 are read from PEM, and not from PASERK
+3|id --key k1|k1: The key was not in the correct format
 3|sign --key office|office: The key is one for local tokens
 3|verify --key signer|signer: The key is a private one, which signs
 3|encrypt --key reader|reader: The key is a public one, which verifies
 3|encrypt --key short|short: The key was not in the correct format
-3|sign --key k1|k1: key pairs of version 1 are read from PEM, and not from PASERK
+3|sign --key k1|k1: The key was not in the correct format
 3|unwrap --key office|office: the key is bare: it is under no password, not wrapped and not sealed
 3|unseal --key office|office: the key is bare: it is under no password, not wrapped and not sealed
 3|unseal --key wrapped.4|wrapped.4: the key is not sealed: use paseto unwrap
@@ -493,7 +613,7 @@ done <<'LIST'
 1|check --key office --at 2026-11-22T09:30:00Z --require jti claims|claims: The expected claim 'jti' was not found in the payload
 1|issue --key office --claim a=1 --claim a=2|The claim 'a' appears more than once in the top level payload json
 3|check --ring keys.none stranger|keys.none/one: it is empty, and holds no key
-3|check --ring keys.rsa stranger|keys.rsa/one: a key pair of version 1, which has no id by which a ring finds it
+3|check --ring keys.rsa stranger|keys.rsa/one: a key pair of version 1, which a ring does not take
 3|issue --ring keys|keys: no private key is in this folder
 2|issue --ring keys --footer id|--ring names its key in the footer: omit --footer and --footer-kid
 2|keygen v4.public --out new --public new|--out and --public name one file: name two

@@ -51,7 +51,8 @@ asks_by_known_names "$tool"
 
 # Calls that answer what is right though a request was refused, and why that does no harm.
 lines='the lines of the text are collected: where room for all of them is refused, the list grows as they come'
-declare -A unharmed=([private_key_from_pem]=$lines [public_key_from_pem]=$lines)
+declare -A unharmed=([private_key_from_pem]=$lines [public_key_from_pem]=$lines [key_from_pem]=$lines
+    ['AnyKey::unlock of a key in PEM']=$lines ['unlock of a key in PEM']=$lines)
 
 # ---- the cases
 
@@ -92,7 +93,7 @@ check_mode() {
                 continue ;;
             *' right, then right')
                 harmless=$((harmless + 1))
-                if [ -n "${unharmed[${1% of *}]-}" ]; then pass; continue; fi ;;
+                if [ -n "${unharmed[${1% of *}]-}${unharmed[$1]-}" ]; then pass; continue; fi ;;
         esac
         fail "$1, $2=$n: requests $requests, refused $refused: $answer"
         [ "$refused" -gt 0 ] || return

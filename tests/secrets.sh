@@ -136,6 +136,8 @@ check rsa sign
 for version in v1 v2 v3 v4; do
     for call in wrap unwrap unwrap_secret unwrap_refused protect unprotect unprotect_secret unprotect_refused \
         pem_write pem_read pem_contents; do
+        # What is opened as a private key of version 1 is read as DER, and of that all is undefined: pem_contents asks it.
+        case "$version $call" in 'v1 unwrap_secret' | 'v1 unprotect_secret') continue ;; esac
         check "$version" "$call"
     done
 done

@@ -7,7 +7,7 @@
 #include <string.h>
 #include <valgrind/memcheck.h>
 
-enum { KEY = 32, NONCE = 32, SECRET1 = 70, SECRET3 = 48, SECRET4 = 64, POINT = 49, LONGEST_SECRET = LONGEST_RSA_KEY,
+enum { KEY = 32, NONCE = 32, SECRET3 = 48, SECRET4 = 64, POINT = 49, LONGEST_SECRET = LONGEST_RSA_KEY,
        LONGEST_PASSWORD = 220, LONGEST_TEXT = 2000 };
 
 /* What a password costs: 30 iterations; 64 KiB, filled twice. */
@@ -44,7 +44,7 @@ static material *make_material(uint32_t version, size_t round) {
     if (m == NULL) exit(2);
     m->version = version;
     m->is_nist = version % 2 == 1;
-    m->secret_length = version == 1 ? SECRET1 : version == 3 ? SECRET3 : SECRET4;
+    m->secret_length = version == 1 ? 0 : version == 3 ? SECRET3 : SECRET4;
     m->password_length = 20 * round;
     m->ephemeral_length = version == 3 ? SECRET3 : KEY;
     m->salt_length = m->is_nist ? 32 : 16;
@@ -83,9 +83,23 @@ static bool reads_text(material *m, bool is_secret) {
 
 /* ---- keys under a wrapping key */
 
+/* How many bytes stand in front of the RSAPrivateKey in a private key of version 1. */
+enum { RSA_FRONT = 26 };
+
+/* A private key of version 1 is one of RSA, which is read. */
+static bool read_rsa(material *m) {
+    if (m->version == 1) m->secret_length = read_rsa_key(m->secret);
+    return m->secret_length > (m->version == 1 ? RSA_FRONT : 0);
+}
+
+/* How many bytes of a key are wrapped: of a private key of version 1 its RSAPrivateKey. */
+static size_t wrapped_bytes(const material *m, bool is_secret) {
+    if (!is_secret) return KEY;
+    return m->version == 1 ? m->secret_length - RSA_FRONT : m->secret_length;
+}
+
 static size_t wrapped_length(const material *m, bool is_secret) {
-    size_t key = is_secret ? m->secret_length : KEY;
-    return (is_secret ? 19 : 18) + encoded((m->is_nist ? 48 : 32) + NONCE + key);
+    return (is_secret ? 19 : 18) + encoded((m->is_nist ? 48 : 32) + NONCE + wrapped_bytes(m, is_secret));
 }
 
 static bool wraps(material *m, bool is_secret) {
@@ -107,7 +121,7 @@ static bool unwraps(material *m, bool is_secret) {
 /* ---- keys under a password */
 
 static size_t protected_length(const material *m, bool is_secret) {
-    size_t key = is_secret ? m->secret_length : KEY;
+    size_t key = wrapped_bytes(m, is_secret);
     return (is_secret ? 13 : 12) + encoded(m->is_nist ? 32 + 4 + 16 + key + 48 : 16 + 16 + 24 + key + 32);
 }
 
@@ -151,9 +165,12 @@ static void mark_secret(material *m) {
     VALGRIND_MAKE_MEM_UNDEFINED(m->secret, length);
 }
 
-static void mark_keys(material *m) {
-    VALGRIND_MAKE_MEM_UNDEFINED(m->local, KEY);
-    mark_secret(m);
+/* The key that is written. In that of RSA it is numbers that are secret. */
+static bool mark_key(material *m, bool is_secret) {
+    if (!is_secret) VALGRIND_MAKE_MEM_UNDEFINED(m->local, KEY);
+    else if (m->version == 1) return mark_rsa_numbers(m->secret, m->secret_length);
+    else mark_secret(m);
+    return true;
 }
 
 /* Whether what was read is the key. */
@@ -183,26 +200,26 @@ static bool read_text(material *m, bool is_secret, bool is_changed) {
 static bool has_secret_text(const material *m) { return m->version != 1; }
 
 static bool wrap(material *m, bool is_secret) {
+    if (is_secret && !read_rsa(m)) return false;
     VALGRIND_MAKE_MEM_UNDEFINED(m->wrapping_key, KEY);
-    mark_keys(m);
-    return wraps(m, is_secret);
+    return mark_key(m, is_secret) && wraps(m, is_secret);
 }
 
 static bool unwrap(material *m, bool is_secret, bool is_changed) {
-    if (!wraps(m, is_secret)) return false;
+    if ((is_secret && !read_rsa(m)) || !wraps(m, is_secret)) return false;
     if (is_changed) change_letter(m->text, is_secret ? 19 : 18);
     VALGRIND_MAKE_MEM_UNDEFINED(m->wrapping_key, KEY);
     return unwraps(m, is_secret) ? !is_changed && is_read(m, is_secret) : is_changed;
 }
 
 static bool protect(material *m, bool is_secret) {
+    if (is_secret && !read_rsa(m)) return false;
     VALGRIND_MAKE_MEM_UNDEFINED(m->password, m->password_length);
-    mark_keys(m);
-    return protects(m, is_secret);
+    return mark_key(m, is_secret) && protects(m, is_secret);
 }
 
 static bool unprotect(material *m, bool is_secret, bool is_changed) {
-    if (!protects(m, is_secret)) return false;
+    if ((is_secret && !read_rsa(m)) || !protects(m, is_secret)) return false;
     if (is_changed) change_letter(m->text, protected_length(m, is_secret) - 8);
     VALGRIND_MAKE_MEM_UNDEFINED(m->password, m->password_length);
     return unprotects(m, is_secret) ? !is_changed && is_read(m, is_secret) : is_changed;
@@ -238,22 +255,11 @@ static size_t pem_length(const material *m) {
     return FIRST_LINE + characters + (characters + LINE - 1) / LINE + LAST_LINE;
 }
 
-/* A private key of version 1 is one of RSA in the same encoding as the contents of its text. */
-static bool read_rsa(material *m) {
-    if (m->version == 1) m->secret_length = read_rsa_key(m->secret);
-    return m->secret_length > 0;
-}
-
 static bool writes_pem(material *m) {
     return done(paseto_bench_pem_write(m->version, m->secret, m->secret_length, m->text, pem_length(m)));
 }
 
-static bool write_pem(material *m) {
-    if (!read_rsa(m)) return false;
-    if (m->version != 1) mark_secret(m);
-    else if (!mark_rsa_numbers(m->secret, m->secret_length)) return false;
-    return writes_pem(m);
-}
+static bool write_pem(material *m) { return read_rsa(m) && mark_key(m, true) && writes_pem(m); }
 
 static uint32_t digit(uint8_t character) {
     static const char DIGITS[] = "ABCDEFGHIJKLMNOPQRSTUVWXYZabcdefghijklmnopqrstuvwxyz0123456789+/";

@@ -2,13 +2,17 @@
 """Prints crates/test_vectors/src/wrapping/rows.rt: keys under wrapping keys and under passwords.
 
 They are made as the PASERK specification says by Python's hashlib and hmac, AES of the package cryptography, XChaCha20 of
-libsodium and Argon2id of libargon2. With a file of vectors as an argument (columns: type, name, expected, key, text, kind,
+libsodium and Argon2id of libargon2. The private key of version 1 is the RSAPrivateKey that OpenSSL made, which stands in
+crates/test_vectors/src/pem/texts.rt. With a file of vectors as an argument (columns: type, name, expected, key, text, kind,
 what it is wrapped under) each of its keys under a wrapping key or a password is first made again, and has to be the same.
+With the word `rsa` alone it prints the table of crates/test_vectors/src/wrapping/rsa.rt: of version 1, what others may have wrapped.
 """
 import base64
 import ctypes
 import hashlib
 import hmac
+import pathlib
+import re
 import sys
 
 from cryptography.hazmat.primitives.ciphers import Cipher, algorithms, modes
@@ -121,8 +125,36 @@ def drawn(name, length):
     return hashlib.shake_256(name.encode()).digest(length)
 
 
+def in_pem(name):
+    """What stands in PEM in the tests of the crate paseto_pem."""
+    texts = (pathlib.Path(__file__).parent.parent / "crates/test_vectors/src/pem/texts.rt").read_text()
+    text = re.search(r"const %s: &str = concat!\((.*?)\);" % name, texts, re.DOTALL).group(1)
+    return base64.b64decode("".join(re.findall(r'"([A-Za-z0-9+/=]+)\\n"', text)))
+
+
+def others():
+    """What may have been wrapped as a private key of version 1, with what the error for it says."""
+    key = in_pem("RSA_PRIVATE_PKCS1")
+    yield "the PrivateKeyInfo", in_pem("RSA_PRIVATE"), "a key"
+    yield "no encoding", drawn("key secret 1", 100), "what was wrapped is no key of the version"
+    yield "nothing", b"", "what was wrapped is no key of the version"
+    yield "a byte more", key + b"\0", "what was wrapped is no key of the version"
+    yield "a byte less", key[:-1], "what was wrapped is no key of the version"
+    yield "a key of 1024 bits", in_pem("RSA_1024_PRIVATE")[26:], "what was wrapped is no key of the version"
+    yield "the public key", in_pem("RSA_PUBLIC"), "what was wrapped is no key of the version"
+
+
+if sys.argv[1:] == ["rsa"]:
+    nonce, salt = drawn("nonce secret 1", 32), drawn("salt secret 1 0", 32)
+    for name, octets, said in others():
+        print(f'    // {name}\n    (\n        "{octets.hex()}",')
+        print(f'        "{wrapped(1, "secret", drawn("wrapping secret 1", 32), nonce, octets)}",')
+        text = protected(1, "secret", b"", (1, 0, 0, 0), salt, drawn("second secret 1 0", 16), octets)
+        print(f'        "{text}",\n        "{said}",\n    ),')
+    sys.exit()
+
 LENGTHS = {("local", 1): 32, ("local", 2): 32, ("local", 3): 32, ("local", 4): 32,
-           ("secret", 1): 100, ("secret", 2): 64, ("secret", 3): 48, ("secret", 4): 64}
+           ("secret", 1): 0, ("secret", 2): 64, ("secret", 3): 48, ("secret", 4): 64}
 COSTS = {True: [(1, 0, 0, 0), (1000, 0, 0, 0)], False: [(0, 8192, 1, 1), (0, 65536, 2, 3)]}
 
 rows = {"wrapped": [], "protected": []}
@@ -132,7 +164,7 @@ for path in sys.argv[1:]:
         if table == "wrapped" or row[4][1] <= 1 << 20:
             rows[table].append(row)
 for (kind, version), length in LENGTHS.items():
-    key = drawn(f"key {kind} {version}", length)
+    key = drawn(f"key {kind} {version}", length) if length else in_pem("RSA_PRIVATE_PKCS1")
     wrapping, nonce = drawn(f"wrapping {kind} {version}", 32), drawn(f"nonce {kind} {version}", 32)
     rows["wrapped"].append((version, kind, key, wrapping, nonce, wrapped(version, kind, wrapping, nonce, key)))
     for number, cost in enumerate(COSTS[is_nist(version)]):

@@ -126,7 +126,7 @@ func (k Key) Equal(other Key) bool {
 	return k.held().isSame(other.held())
 }
 
-// PASERK is the key as text, k4.local.., to store it. A key pair of version 1 has none.
+// PASERK is the key as text, k4.local.., to store it. A key pair of version 1 has none here.
 func (k Key) PASERK() (string, error) {
 	return k.told((*material).paserk)
 }
@@ -136,7 +136,7 @@ func (k Key) PEM() (string, error) {
 	return k.told((*material).pem)
 }
 
-// ID is the PASERK id, k4.lid.., which identifies the key without revealing it. A key pair of version 1 has none.
+// ID is the PASERK id, k4.lid.., which identifies the key without revealing it.
 func (k Key) ID() (string, error) {
 	return k.told((*material).id)
 }

@@ -101,8 +101,8 @@ static ngx_int_t add_file(ngx_conf_t *cf, ngx_str_t *path, paseto_keys_t *keys) 
         ngx_conf_log_error(NGX_LOG_EMERG, cf, 0, "\"paseto_keys\": %V is a private key: the gateway needs its public key alone", path);
         return NGX_ERROR;
     }
-    if (keys->is_ring && key->id.len == 0) {
-        ngx_conf_log_error(NGX_LOG_EMERG, cf, 0, "\"paseto_keys\": %V is a key of version 1, which has no id for a footer to name", path);
+    if (keys->is_ring && key->key->version == 1 && key->key->type == PASETO_KEY_PUBLIC) {
+        ngx_conf_log_error(NGX_LOG_EMERG, cf, 0, "\"paseto_keys\": %V is a public key of version 1, which a folder does not take", path);
         return NGX_ERROR;
     }
     return NGX_OK;

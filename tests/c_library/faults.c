@@ -91,9 +91,9 @@ static void no_keys(void) {
         const char *text;
         paseto_status status;
     } rows[] = {{"", PASETO_NO_PASERK}, {"k5.local.AAAA", PASETO_NO_PASERK}, {"k4.local.AAAA", PASETO_INVALID_KEY}, {"k4.local.*", PASETO_INVALID_KEY},
-                {"k1.secret.AAAA", PASETO_OTHER_VERSION}, {"k1.public.AAAA", PASETO_OTHER_VERSION}, {"\xff", PASETO_NOT_UTF8},
+                {"k1.secret.AAAA", PASETO_INVALID_KEY}, {"k1.public.AAAA", PASETO_INVALID_KEY}, {"\xff", PASETO_NOT_UTF8},
                 {"k1.seal.AAAA", PASETO_OTHER_VERSION}, {"k4.seal.AAAA", PASETO_NEEDS_KEY}, {"k4.secret-pw.AAAA", PASETO_NEEDS_PASSWORD},
-                {"-----BEGIN KEY-----", PASETO_NOT_PEM}};
+                {"-----BEGIN KEY-----", PASETO_NOT_PEM}, {"a text\n-----BEGIN KEY-----\n", PASETO_NOT_PEM}};
     for (size_t i = 0; i < sizeof rows / sizeof *rows; i++) {
         reset();
         set(&given, rows[i].text);
@@ -108,14 +108,31 @@ static void no_keys(void) {
     MAKES_NONE(key_unwrap, PASETO_OTHER_TYPE);
 }
 
-/* Keys of version 1, which have no id, and no public half. */
+/* Keys of version 1: their ids, which Python's hashlib computed, and what is no key. */
 static void rsa_keys(void) {
+    static const char id[] = "k1.sid.SoyorXSNQ1jgBicmt8PNEJLqZFwtoeFuEFZ5AtKKRK4c", half_id[] = "k1.pid.X7atxVN-a6t9JX4nY1HcqKFW3CoAycBebX_8jB8bSGn6";
+    struct paseto_key half = key_of(1, PASETO_KEY_PUBLIC, RSA_PUBLIC);
     reset();
-    key = key_of(1, PASETO_KEY_PUBLIC, RSA_PUBLIC);
-    REFUSES(key_id, PASETO_OTHER_VERSION);
+    key = half;
+    check(gives(key_id, half_id, sizeof half_id - 1), "the id of a public key", "version 1");
+    MAKES_NONE(key_public, PASETO_OTHER_TYPE);
+    key.bytes[0] ^= 1;
+    for (size_t j = 0; j < 2; j++) check(is_refused(texts_of_keys[j], PASETO_INVALID_KEY), "no public key of RSA", "");
+    REFUSES(key_pem, PASETO_INVALID_KEY);
     key = key_of(1, PASETO_KEY_PRIVATE, RSA_PRIVATE);
-    REFUSES(key_id, PASETO_OTHER_VERSION);
-    MAKES_NONE(key_public, PASETO_OTHER_VERSION);
+    check(gives(key_id, id, sizeof id - 1), "the id of a private key", "version 1");
+    check(makes(key_public, &half), "the public key of a private one", "version 1");
+    other = key_of(1, PASETO_KEY_LOCAL, K4);
+    struct slice before = text;
+    keep(key_wrap_with);
+    given = text;
+    check(makes(key_unwrap, &key), "a wrapped private key", "version 1");
+    if (!is_quick) {
+        keep(key_protect_with);
+        given = text;
+        check(makes(key_unlock, &key), "a private key under a password", "version 1");
+    }
+    text = before;
     assertion.length = 0;
     drawn.length = 47;
     REFUSES(sign_with, PASETO_INVALID_NONCE);
@@ -123,9 +140,13 @@ static void rsa_keys(void) {
     drawn.length = 48;
     key.bytes[0] ^= 1;
     REFUSES(sign_with, PASETO_KEY_REJECTED);
-    REFUSES(key_text, PASETO_INVALID_KEY);
+    for (size_t j = 0; j < 4; j++) check(is_refused(texts_of_keys[j], PASETO_INVALID_KEY), "no private key of RSA", "");
     REFUSES(key_pem, PASETO_INVALID_KEY);
+    MAKES_NONE(key_public, PASETO_INVALID_KEY);
+    other.version = 4;
+    REFUSES(key_wrap_with, PASETO_INVALID_KEY);
     key.bytes[0] ^= 1;
+    REFUSES(key_wrap_with, PASETO_OTHER_VERSION);
     key.bytes[key.length - 1] ^= 1;
     REFUSES(sign_with, PASETO_RSA_CIPHER);
 }

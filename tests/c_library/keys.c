@@ -1,7 +1,8 @@
 /* Keys as text, as independent implementations wrote them, through the calls of the library:
 
      keys paserk FILE    rows VERSION TYPE KEY TEXT ID, the key in hexadecimal
-     keys locked FILE    rows password|key VERSION TYPE KEY OPENER DRAWN TEXT, keys under a password or a wrapping key
+     keys locked FILE    rows password|key VERSION TYPE KEY OPENER DRAWN TEXT, keys under a password or a wrapping key; the KEY
+                         none stands for what is no key of the version
 
    Each key is written, read and named, and refused by the name of its fault. The last line is 'N passed, M failed'. */
 #include "asking.h"
@@ -89,9 +90,8 @@ static void ask_wrapping(char **fields, const struct paseto_key *wanted, bool is
 
 static void ask_locked(char **fields, size_t count) {
     if (count != 7) abort();
-    struct paseto_key wanted = key_of((unsigned)atoi(fields[1]), type_of(fields[2]), fields[3]);
-    /* What is locked in the rows of private keys of version 1 is no key of RSA. */
-    bool is_key = wanted.version != 1 || wanted.type != PASETO_KEY_PRIVATE;
+    bool is_key = strcmp(fields[3], "none") != 0;
+    struct paseto_key wanted = key_of((unsigned)atoi(fields[1]), type_of(fields[2]), is_key ? fields[3] : "3000");
     set(&given, fields[6]);
     (strcmp(fields[0], "password") == 0 ? ask_password : ask_wrapping)(fields, &wanted, is_key);
 }

@@ -1,7 +1,7 @@
 /* Each call of the library where memory is refused: the first request that it makes, the second, and so on, alone and with all
    that follow. The answer is PASETO_MEMORY each time, which the line tells, with nothing written, the room as it was, and all memory
-   given back, and the next call answers what it did before. What reads PEM, as the lines of key pairs of version 1 are, may do
-   without what is refused, and give the key: it reads a text as each key that it may be.
+   given back, and the next call answers what it did before. What reads PEM may do without what is refused, and give the key: where
+   room for all lines of the text is refused, it takes room for fewer.
 
    A line for each call has its name and the most requests that it makes. The last line is 'N passed, M failed', where each refused
    request is one.
@@ -80,8 +80,7 @@ static void refuse_each(const char *name, ask *call, ask_key *maker) {
     did_without = 0;
     for (unsigned long n = 1; refuse(name, call, maker, n, false); n++) continue;
     for (unsigned long n = 1; refuse(name, call, maker, n, true); n++) continue;
-    bool is_of_rsa = key.version == 1 && key.type != PASETO_KEY_LOCAL && maker == key_unwrap;
-    bool reads_pem = is_of_rsa || (maker == key_read && given.at[0] == '-');
+    bool reads_pem = maker == key_read && given.at[0] == '-';
     check(reads_pem || did_without == 0, "a call does without memory", name);
 }
 
@@ -133,7 +132,7 @@ static void ask_texts(const struct paseto_key *of) {
     keep(key_text);
     given = text;
     EACH_KEY(key_read);
-    if (!is_pair || of->version > 1) EACH(key_id);
+    EACH(key_id);
     if (is_pair && of->version != 2) {
         EACH(key_pem);
         keep(key_pem);
@@ -141,6 +140,7 @@ static void ask_texts(const struct paseto_key *of) {
         EACH_KEY(key_read);
     }
     if (is_public) return;
+    if (is_pair) EACH_KEY(key_public);
     other = key_of(of->version, PASETO_KEY_LOCAL, K4);
     EACH(key_wrap_with);
     keep(key_wrap_with);
@@ -159,8 +159,6 @@ static void ask_pair(const struct paseto_key *own, const struct paseto_key *half
     new_version = own->version;
     new_type = PASETO_KEY_PRIVATE;
     EACH_KEY(key_generate_with);
-    key = *own;
-    EACH_KEY(key_public);
     key = key_of(own->version, PASETO_KEY_LOCAL, K4);
     other = *half;
     EACH(key_seal_with);

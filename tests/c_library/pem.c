@@ -2,8 +2,8 @@
 
      pem FILE
 
-   where the rows of the file are those of pem_rows.py. A text is read as the key, the key is written as the text, or a text is
-   refused by the name of its fault. The last line is 'N passed, M failed'. */
+   where the rows of the file are those of pem_rows.py. A text is read as the key, the key is written as the text and named by the
+   id, the public key is made of the private one, or a text is refused by the name of its fault. The last line is 'N passed, M failed'. */
 #include "asking.h"
 
 static void read_given(const char *path) {
@@ -27,20 +27,45 @@ static void ask_other_lengths(const char *path) {
     key.length = right;
 }
 
+/* The text and the id of a key in PASERK. */
+static void ask_paserk(const char *kind, const struct paseto_key *wanted, const char *path) {
+    key = *wanted;
+    if (strcmp(kind, "id") == 0) {
+        check(gives(key_id, OF(given)), "the id of a key", path);
+        return;
+    }
+    if (strcmp(kind, "text") == 0) check(gives(key_text, OF(given)), "the text of a key", path);
+    check(makes(key_read, wanted), "a text of a key is read", path);
+}
+
+/* A key pair, in the place of a key and a file. */
+static void ask_pair(unsigned version, const char *own, const char *half) {
+    struct paseto_key wanted = key_of(version, PASETO_KEY_PUBLIC, half);
+    key = key_of(version, PASETO_KEY_PRIVATE, own);
+    check(makes(key_public, &wanted), "the public key of a private one", half);
+}
+
 static void ask_row(char **fields, size_t count) {
     if (count != 5) abort();
     const char *path = fields[4];
+    if (strcmp(fields[0], "pair") == 0) {
+        ask_pair((unsigned)atoi(fields[1]), fields[2], fields[3]);
+        return;
+    }
     read_given(path);
     if (strcmp(fields[0], "refuse") == 0) {
         check(makes_none(key_read, (paseto_status)atoi(fields[1])), "a text in PEM is refused", path);
         return;
     }
     struct paseto_key wanted = key_of((unsigned)atoi(fields[1]), (unsigned)atoi(fields[2]), fields[3]);
+    if (strcmp(fields[0], "both") != 0 && strcmp(fields[0], "read") != 0) {
+        ask_paserk(fields[0], &wanted, path);
+        return;
+    }
     check(makes(key_read, &wanted), "a key in PEM is read", path);
     if (strcmp(fields[0], "both") != 0) return;
     key = wanted;
     check(gives(key_pem, OF(given)), "a key in PEM is written", path);
-    if (wanted.version == 1) check(gives(key_text, OF(given)), "the text of a key pair of version 1", path);
     ask_other_lengths(path);
 }
 

@@ -8,12 +8,17 @@ one, and a key is in hexadecimal:
 
     both VERSION TYPE KEY FILE  the text that is written of the key, and is read as it
     read VERSION TYPE KEY FILE  a text that is read as the key
+    text VERSION TYPE KEY FILE  the same in PASERK: the text that is written
+    form VERSION TYPE KEY FILE  and another text that is read
+    id VERSION TYPE KEY FILE    the id in PASERK
+    pair VERSION KEY KEY -      a private key and its public key
     refuse STATUS 0 0 FILE      the status at which it is not read
 
 The bytes of keys are taken from what OpenSSL writes, and not from the library.
 """
 
 import base64
+import hashlib
 import subprocess
 import sys
 from pathlib import Path
@@ -94,14 +99,44 @@ def good(algorithm, private):
         row("read", version, kind, key.hex(), put(f"{name}-open", text.rstrip(b"\n")))
         first = text.splitlines()[1]
         for fault, status, spoiled in (
-            ("before", NO_PASERK, b"\n" + text),
             ("behind", NOT_PEM, text + b"\n"),
             ("blank", NOT_PEM, text.replace(b"-----\n", b"-----\n\n", 1)),
             ("cut", NOT_PEM, text[:-2]),
-            ("broken", NOT_PEM, text.replace(first, first[:20] + b"\n" + first[20:], 1)),
+            ("character", NOT_PEM, text.replace(first, first[:20] + b"!" + first[21:], 1)),
         ):
             refuse(status, f"{name}-{fault}", spoiled)
+        for form, other in (
+            ("before", b"\n" + text),
+            ("told", b"Key Info:\n\tKey Security Level: High\n\n" + text),
+            ("broken", text.replace(first, first[:20] + b"\n" + first[20:], 1)),
+        ):
+            row("read", version, kind, key.hex(), put(f"{name}-{form}", other))
+    row("pair", version, keys[0].hex(), keys[1].hex(), "-")
     return keys
+
+
+def spelled(data):
+    return base64.urlsafe_b64encode(data).rstrip(b"=")
+
+
+def in_paserk(keys, private):
+    """Rows for the texts and the ids of a key pair of version 1, of which OpenSSL writes the forms."""
+    public = public_of(private)
+    forms = {
+        (PRIVATE, "text"): openssl("rsa", "-traditional", "-outform", "DER", given=private),
+        (PRIVATE, "form"): openssl("pkcs8", "-topk8", "-nocrypt", "-outform", "DER", given=private),
+        (PUBLIC, "text"): openssl("pkey", "-pubin", "-pubout", "-outform", "DER", given=public),
+    }
+    for (kind, form), contents in forms.items():
+        key, half = keys[kind - PRIVATE], b"secret" if kind == PRIVATE else b"public"
+        text = b"k1.%s." % half + spelled(contents)
+        row(form, 1, kind, key.hex(), put(f"paserk-{kind}-{form}", text))
+        if form == "text":
+            front = b"k1.%cid." % half[0]
+            row("id", 1, kind, key.hex(), put(f"paserk-{kind}-id", front + spelled(hashlib.sha384(front + text).digest()[:33])))
+    refuse(INVALID_KEY, "paserk-pkcs1", b"k1.public." + spelled(keys[1]))
+    refuse(INVALID_KEY, "paserk-other", b"k1.secret." + spelled(forms[PUBLIC, "text"]))
+    refuse(INVALID_KEY, "paserk-longer", b"k1.secret." + spelled(forms[PRIVATE, "text"] + b"\0"))
 
 
 def main():
@@ -111,7 +146,9 @@ def main():
     rsa = generated("-algorithm", "RSA", "-pkeyopt", "rsa_keygen_bits:2048")
     good("ed25519", ed25519)
     number, point = good("p384", p384)
-    _, public = good("rsa", rsa)
+    rsa_keys = good("rsa", rsa)
+    in_paserk(rsa_keys, rsa)
+    public = rsa_keys[1]
     seed = contents_of(ed25519)
     other_p384 = generated("-algorithm", "EC", "-pkeyopt", "ec_paramgen_curve:P-384")
 
@@ -128,6 +165,7 @@ def main():
     short_rsa = generated("-algorithm", "RSA", "-pkeyopt", "rsa_keygen_bits:1024")
     refuse(OTHER_SIZE, "rsa1024", short_rsa)
     refuse(OTHER_SIZE, "rsa1024-public", public_of(short_rsa))
+    refuse(INVALID_KEY, "rsa1024-paserk", b"k1.secret." + spelled(openssl("rsa", "-traditional", "-outform", "DER", given=short_rsa)))
     exponent = generated("-algorithm", "RSA", "-pkeyopt", "rsa_keygen_bits:2048", "-pkeyopt", "rsa_keygen_pubexp:3")
     refuse(INVALID_KEY, "exponent", exponent)
     refuse(INVALID_KEY, "exponent-public", public_of(exponent))
@@ -149,7 +187,7 @@ def main():
 
     # Texts that are no keys of any kind here.
     refuse(ENCRYPTED_KEY, "encrypted", openssl("pkey", "-aes256", "-passout", "pass:a", given=ed25519))
-    refuse(OTHER_LABEL, "traditional", openssl("pkey", "-traditional", given=rsa))
+    row("read", 1, PRIVATE, rsa_keys[0].hex(), put("traditional", openssl("pkey", "-traditional", given=rsa)))
     refuse(NOT_PEM, "certificate", armored(b"CERTIFICATE", seed))
     refuse(NO_PASERK, "nothing", b"")
     refuse(NOT_UTF8, "no-text", b"\xff")

@@ -362,7 +362,6 @@ static void each_of_tokens(const struct kind *kind) {
 static void each_of_key(const char *name, const struct paseto_key *key, const struct paseto_key *wrapping) {
     static struct given g;
     static struct slice text;
-    bool is_rsa = key->version == 1 && key->type != PASETO_KEY_LOCAL;
     memset(&g, 0, sizeof g);
     g.key = *key;
     g.other = *wrapping;
@@ -370,7 +369,7 @@ static void each_of_key(const char *name, const struct paseto_key *key, const st
     fill(g.drawn.at, PASETO_DRAWN);
     set_text(&g.password, "secret");
     give_each(name, key_text, &g);
-    if (!is_rsa) give_each(name, key_id, &g);
+    give_each(name, key_id, &g);
     if (key->type != PASETO_KEY_LOCAL && key->version != 2) give_each(name, key_pem, &g);
     if (key->type != PASETO_KEY_PUBLIC) {
         give_each(name, key_wrap_with, &g);
@@ -379,6 +378,7 @@ static void each_of_key(const char *name, const struct paseto_key *key, const st
     if (asked(key_text, &g, &text) != PASETO_OK) abort();
     g.text = text;
     make_key(name, key_read, &g);
+    if (key->type == PASETO_KEY_PRIVATE) make_key(name, key_public, &g);
     if (key->version > 2 && key->type != PASETO_KEY_PUBLIC && asked(key_protect_with, &g, &g.text) != PASETO_OK) abort();
     make_key(name, key_unlock, &g);
     g.text = text;
@@ -416,7 +416,6 @@ static void each_of_pair(const char *name, const struct paseto_key *local, const
     make_key(name, key_unwrap, &g);
     g.key = *own;
     make_key(name, key_generate_with, &g);
-    make_key(name, key_public, &g);
 }
 
 static void each_length(void) {
@@ -585,7 +584,6 @@ static bool try_key(const struct sample *s) {
     static struct slice answer;
     ask *const calls[] = {key_text, key_id, key_wrap_with, key_read};
     ask *call = calls[below(4)];
-    if (is_rsa(s->kind) && call == key_id) call = key_text;
     g = s->making;
     g.other = s->making.key;
     g.other.type = PASETO_KEY_LOCAL;

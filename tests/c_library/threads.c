@@ -135,7 +135,7 @@ static void set_given(const struct kind *kind, struct given *g, unsigned number)
     draw_keys(kind, g);
     draw(&g->drawn, PASETO_DRAWN);
     set_text(&g->footer, "{\"kid\":\"thread %u of %u\"}", number, THREADS);
-    if (!is_rsa(kind)) {
+    if (!is_rsa(kind)) { /* A ring takes no keys of RSA. */
         if (paseto_key_id(&g->read_key, id, sizeof id, &n, PASETO_NO_REASON) != PASETO_OK) abort();
         g->footer.length = (size_t)sprintf((char *)g->footer.at, "{\"kid\":\"%.*s\"}", (int)n, id);
     }
@@ -199,10 +199,13 @@ static bool is_key(const struct paseto_key *one, paseto_status status, const str
     return status == PASETO_OK && memcmp(one, two, sizeof *one) == 0;
 }
 
-/* The key as a text, in PEM, wrapped and sealed. */
+/* The key as a text, in PEM, wrapped and sealed, its id and its public key. */
 static const char *ask_key(const struct kind *kind, const struct given *g) {
-    struct slice text;
+    struct slice text, again;
     struct paseto_key read;
+    if (paseto_key_id(&g->key, INTO(&text)) != PASETO_OK || text.length != 51) return "a key has no id";
+    if (paseto_key_id(&g->key, INTO(&again)) != PASETO_OK || !is_same(&text, &again)) return "a key has another id";
+    if (!is_local(kind) && !is_key(&g->read_key, paseto_key_public(&g->key, &read, PASETO_NO_REASON), &read)) return "a key has another public key";
     if (paseto_key_text(&g->key, INTO(&text)) != PASETO_OK) return "a key has no text";
     if (!is_key(&g->key, paseto_key_read(GIVEN(text), &read, PASETO_NO_REASON), &read)) return "a key is not read";
     if (!is_local(kind) && kind->version != 2) {

@@ -21,12 +21,15 @@ openssl genpkey -quiet -algorithm ed448 -out "$out/refused_openssl_ed448.pem"
 openssl pkey -in "$out/openssl_ed25519.pem" -aes256 -passout pass:password -out "$out/refused_openssl_encrypted.pem"
 cat "$out/openssl_ed25519.pem" "$out/openssl_p384.pem" >"$out/refused_openssl_two_keys.pem"
 
-# -- GnuTLS: the curve's parameters inside PKCS #8. It writes a private key of P-384 whose first bit is set with a zero in
-# front, in 49 bytes, which is no ECPrivateKey of the curve: such a key is made anew
+# -- GnuTLS: the curve's parameters inside PKCS #8; and as it writes by default, behind a text. A private key of P-384 whose
+# first bit is set has a zero in front, and so 49 bytes: the second is such a key, and the first is not
 certtool --generate-privkey --no-text --key-type ed25519 --outfile "$out/gnutls_ed25519.pem" 2>"$work/log"
 certtool --generate-privkey --no-text --key-type rsa --bits 2048 --outfile "$out/gnutls_rsa.pem" 2>"$work/log"
 until openssl asn1parse -in "$out/gnutls_p384_pkcs8.pem" 2>"$work/log" | grep -q 'DUMP\]:3081A40201010430'; do
     certtool --generate-privkey --pkcs8 --no-text --key-type ecdsa --curve secp384r1 --outfile "$out/gnutls_p384_pkcs8.pem" </dev/null >"$work/log" 2>&1
+done
+until sed -n '/BEGIN/,$p' "$out/gnutls_p384_sec1.pem" 2>"$work/log" | openssl asn1parse 2>"$work/log" | grep -q 'l=  49 prim: OCTET STRING'; do
+    certtool --generate-privkey --key-type ecdsa --curve secp384r1 --outfile "$out/gnutls_p384_sec1.pem" 2>"$work/log"
 done
 
 # -- Java: lines of 76 characters that end in CR LF, and no line end behind the last

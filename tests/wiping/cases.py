@@ -38,11 +38,12 @@ def bytes_of(key):
 
 
 def told(text):
-    """What a text of a key tells of it: in PEM not the beginning of the DER, which is the same for all keys."""
+    """What a text of a key tells of it: not the beginning of DER, which is the same for all keys."""
     if text.startswith(b"-----"):
         written = b"".join(text.split(b"\n")[1:-2])
         return {"text": written[300:] if len(written) > 1000 else written[-20:]}
-    return {"text": text[text.rindex(b".") + 1:]}
+    written = text[text.rindex(b".") + 1:]
+    return {"text": written[300:] if len(written) > 1000 else written}
 
 
 # ---- tokens
@@ -170,8 +171,10 @@ def rsa_cases():
     public = openssl(pem, "rsa", "-RSAPublicKey_out", "-outform", "DER")
     halves = held(1, PRIVATE, private), held(1, PUBLIC, public)
     yield from signing_cases(1, *halves, lambda _: of_rsa(private))
-    yield from text_cases("v1 private key", halves[0], of_rsa(private), ("text", "pem"))
-    yield from text_cases("v1 public key", halves[1], {}, ("text", "pem"))
+    yield "v1 public half", "paseto_key_public", {"private_key": halves[0]}, of_rsa(private), OK
+    yield from text_cases("v1 private key", halves[0], of_rsa(private), ("text", "pem", "id"))
+    yield from text_cases("v1 public key", halves[1], {}, ("text", "pem", "id"))
+    yield from locked_cases("v1 private key", halves[0], of_rsa(private))
 
 
 def cases():

@@ -645,7 +645,7 @@ class Broken(unittest.TestCase):
             (f"{on}paseto_keys secret.key;", f'"paseto_keys": {work}/secret.key is a private key: the gateway needs its public key alone'),
             (f"{on}paseto_keys empty;", f'"paseto_keys": the folder {work}/empty has no key'),
             (f"{on}paseto_keys bad;", f'"paseto_keys": {work}/bad/readme.txt is no key: '),
-            (f"{on}paseto_keys rsa;", f'"paseto_keys": {work}/rsa/rsa.pub is a key of version 1, which has no id for a footer to name'),
+            (f"{on}paseto_keys rsa;", f'"paseto_keys": {work}/rsa/rsa.pub is a public key of version 1, which a folder does not take'),
             (f"{on}paseto_keys keys; paseto_keys keys;", '"paseto_keys" directive is duplicate'),
             (f"{on}paseto_keys keys; paseto_footer a;", '"paseto_footer": the footer of a token names a key of the folder in "paseto_keys"'),
             (f"{on}paseto_keys v2.key; paseto_assertion a;", '"paseto_assertion": tokens of version 2 have no implicit assertion'),

@@ -196,7 +196,7 @@ class Pem(unittest.TestCase):
             (armored("CERTIFICATE", bytes(9)), paseto.NotPem),
             (ED25519_PRIVATE + "\n", paseto.NotPem),
             (armored("ENCRYPTED PRIVATE KEY", bytes(9)), paseto.EncryptedKey),
-            (armored("RSA PRIVATE KEY", bytes(9)), paseto.OtherLabel),
+            (armored("RSA PRIVATE KEY", bytes(9)), paseto.InvalidKey),
             (armored("PRIVATE KEY", x25519), paseto.OtherAlgorithm),
             (armored("PUBLIC KEY", p256), paseto.OtherCurve),
             (armored("PUBLIC KEY", short), paseto.OtherSize),

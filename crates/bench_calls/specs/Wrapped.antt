@@ -5,9 +5,10 @@ use Rattle.paseto_wrapping.specs.declared.header.WrappedType.{WrappedType}
 use Rattle.paseto_wrapping.specs.declared.header.WrappedType.TheVariants.{Seal}
 use Rattle.paseto_wrapping.specs.declared.cost.PasswordCost.{PasswordCost}
 use Rattle.paseto_wrapping.specs.Family.{family_of}
+use Rattle.paseto_wrapping.specs.Keys.{IsWrappedForm}
 use Rattle.paseto_wrapping.specs.Password.{IsProtected}
 use Rattle.paseto_wrapping.specs.Pie.{IsPie}
-use Rattle.paseto_wrapping.specs.Reading.{InText}
+use Rattle.paseto_wrapping.specs.Reading.{InText, WrapsForm}
 use Rattle.paseto_wrapping.specs.Sealing.{SealsFor}
 
 -- a cost with one lane
@@ -27,6 +28,16 @@ IsWrapped kind wrapping_key text key version = InText version kind (IsPie versio
 abbrev pub IsUnder : WrappedType → List ℕ → PasswordCost → List ℕ → List ℕ → PaserkVersion → Type 0
 IsUnder kind password most text key version =
     InText version kind (IsProtected version kind password most) text key
+
+-- the text holds octets that were wrapped for a private key, under a wrapping key
+abbrev pub IsPrivateWrapped : WrappedType → List ℕ → List ℕ → List ℕ → PaserkVersion → Type 0
+IsPrivateWrapped kind wrapping_key text key version =
+    WrapsForm (IsWrappedForm version) (InText version kind (IsPie version kind wrapping_key)) text key
+
+-- the same under a password, by a cost within a bound
+abbrev pub IsPrivateUnder : WrappedType → List ℕ → PasswordCost → List ℕ → List ℕ → PaserkVersion → Type 0
+IsPrivateUnder kind password most text key version =
+    WrapsForm (IsWrappedForm version) (InText version kind (IsProtected version kind password most)) text key
 
 -- the text seals the key for whoever has a private key
 abbrev pub IsSealedFor : List ℕ → List ℕ → List ℕ → PaserkVersion → Type 0

@@ -6,10 +6,11 @@
 
 ghost use Rattle.std.specs.Prelude.{◌≡◌, ◌≢◌, ◌^◌, ◌-◌, IsSome};
 ghost use Rattle.paseto_wrapping.specs.declared.header.WrappedType.TheVariants.{SecretPassword as PasswordKey, SecretWrap as WrappedKey};
+ghost use Rattle.paseto_wrapping.specs.Keys.{wrapped_form};
 ghost use Rattle.paseto_wrapping.specs.Password.{protected};
 ghost use Rattle.paseto_wrapping.specs.Pie.{pie};
 ghost use Rattle.bench_calls.specs.Versions.{OfVersion};
-ghost use Rattle.bench_calls.specs.Wrapped.{IsUnder, IsWrapped, cost_of, most};
+ghost use Rattle.bench_calls.specs.Wrapped.{IsPrivateUnder, IsPrivateWrapped, cost_of, most};
 
 use crate::copying::copy_bytes;
 use crate::protecting::{MOST, one_lane};
@@ -36,7 +37,8 @@ pub fn bench_wrap_secret(
     text: &mut [u8],
 ) -> u64
     ensures { result ≢ 2 ^ 64 - 1 → OfVersion version
-        (λ version. text.new ≡ pie version WrappedKey wrapping_key.now nonce.now key.now) }
+        (λ version. text.new ≡ pie version WrappedKey wrapping_key.now nonce.now
+        (wrapped_form version key.now)) }
 {
     match wrap_in(alloc, version, wrapping_key, nonce, key, text) {
         Some(()) => 0,
@@ -53,7 +55,7 @@ pub fn bench_unwrap_secret(
     key: &mut [u8],
 ) -> u64
     ensures { result ≢ 2 ^ 64 - 1
-        → OfVersion version (IsWrapped WrappedKey wrapping_key.now text.now key.new) }
+        → OfVersion version (IsPrivateWrapped WrappedKey wrapping_key.now text.now key.new) }
 {
     match unwrap_in(alloc, version, wrapping_key, text, key) {
         Some(()) => 0,
@@ -75,7 +77,8 @@ pub fn bench_protect_secret(
     text: &mut [u8],
 ) -> u64
     ensures { result ≢ 2 ^ 64 - 1 → OfVersion version (λ version. text.new ≡ protected version PasswordKey
-        password.now (cost_of iterations memory passes) salt.now nonce.now key.now) }
+        password.now (cost_of iterations memory passes) salt.now nonce.now
+        (wrapped_form version key.now)) }
 {
     let cost = one_lane(iterations, memory, passes);
     match protect_in(alloc, version, password, cost, salt, nonce, key, text) {
@@ -93,7 +96,7 @@ pub fn bench_unprotect_secret(
     key: &mut [u8],
 ) -> u64
     ensures { result ≢ 2 ^ 64 - 1
-        → OfVersion version (IsUnder PasswordKey password.now most text.now key.new) }
+        → OfVersion version (IsPrivateUnder PasswordKey password.now most text.now key.new) }
 {
     match unprotect_in(alloc, version, password, text, key) {
         Some(()) => 0,
@@ -111,7 +114,8 @@ fn wrap_in(
     text: &mut [u8],
 ) -> Option<()>
     ensures { IsSome result → OfVersion version
-        (λ version. text.new ≡ pie version WrappedKey wrapping_key.now nonce.now key.now) }
+        (λ version. text.new ≡ pie version WrappedKey wrapping_key.now nonce.now
+        (wrapped_form version key.now)) }
 {
     match version_of(version)? {
         PaserkVersion::V1 => wrap::<V1>(alloc, wrapping_key, nonce, key, text),
@@ -129,7 +133,8 @@ fn wrap<V: KeyVersion>(
     key: &[u8],
     text: &mut [u8],
 ) -> Option<()>
-    ensures { IsSome result → text.new ≡ pie V.paserk WrappedKey wrapping_key.now nonce.now key.now }
+    ensures { IsSome result → text.new ≡ pie V.paserk WrappedKey wrapping_key.now nonce.now
+        (wrapped_form V.paserk key.now) }
 {
     let wrapping_key = WrappingKey::<V>::from(Key::from(*wrapping_key.as_array::<32>()?));
     let nonce = Key::from(nonce.as_array::<32>()?);
@@ -146,7 +151,7 @@ fn unwrap_in(
     text: &[u8],
     key: &mut [u8],
 ) -> Option<()>
-    ensures { IsSome result → OfVersion version (IsWrapped WrappedKey wrapping_key.now text.now key.new) }
+    ensures { IsSome result → OfVersion version (IsPrivateWrapped WrappedKey wrapping_key.now text.now key.new) }
 {
     match version_of(version)? {
         PaserkVersion::V1 => unwrap::<V1>(alloc, wrapping_key, text, key),
@@ -163,7 +168,7 @@ fn unwrap<V: KeyVersion>(
     text: &[u8],
     key: &mut [u8],
 ) -> Option<()>
-    ensures { IsSome result → IsWrapped WrappedKey wrapping_key.now text.now key.new V.paserk }
+    ensures { IsSome result → IsPrivateWrapped WrappedKey wrapping_key.now text.now key.new V.paserk }
 {
     let wrapping_key = WrappingKey::<V>::from(Key::from(*wrapping_key.as_array::<32>()?));
     let text = str::from_utf8(text).ok()?;
@@ -183,7 +188,8 @@ fn protect_in(
     text: &mut [u8],
 ) -> Option<()>
     ensures { IsSome result → OfVersion version (λ version. text.new
-        ≡ protected version PasswordKey password.now cost salt.now nonce.now key.now) }
+        ≡ protected version PasswordKey password.now cost salt.now nonce.now
+        (wrapped_form version key.now)) }
 {
     match version_of(version)? {
         PaserkVersion::V1 => protect::<V1>(alloc, password, cost, salt, nonce, key, text),
@@ -204,7 +210,8 @@ fn protect<V: KeyVersion>(
     text: &mut [u8],
 ) -> Option<()>
     ensures { IsSome result → text.new
-        ≡ protected V.paserk PasswordKey password.now cost salt.now nonce.now key.now }
+        ≡ protected V.paserk PasswordKey password.now cost salt.now nonce.now
+        (wrapped_form V.paserk key.now) }
 {
     let key = PrivateKey::<V>::try_from(Vec::from_slice(alloc, key).ok()?).ok()?;
     let made = protect_secret(alloc, password, cost, salt, nonce, &key.lend()).ok()?;
@@ -219,7 +226,7 @@ fn unprotect_in(
     text: &[u8],
     key: &mut [u8],
 ) -> Option<()>
-    ensures { IsSome result → OfVersion version (IsUnder PasswordKey password.now most text.now key.new) }
+    ensures { IsSome result → OfVersion version (IsPrivateUnder PasswordKey password.now most text.now key.new) }
 {
     match version_of(version)? {
         PaserkVersion::V1 => unprotect::<V1>(alloc, password, text, key),
@@ -236,7 +243,7 @@ fn unprotect<V: KeyVersion>(
     text: &[u8],
     key: &mut [u8],
 ) -> Option<()>
-    ensures { IsSome result → IsUnder PasswordKey password.now most text.now key.new V.paserk }
+    ensures { IsSome result → IsPrivateUnder PasswordKey password.now most text.now key.new V.paserk }
 {
     let text = str::from_utf8(text).ok()?;
     let read = unprotect_secret::<V>(alloc, password, MOST, text).ok()?;

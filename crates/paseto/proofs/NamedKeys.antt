@@ -26,11 +26,11 @@ use Rattle.paseto.specs.Named.{AreWithout, IsFirstWith, IsIdOf, IsIdOfHalf, IsNo
 one_id_in : (kind : PaserkType) (version : PaserkVersion) (bytes : List ℕ) (one other : String Global) → IdentifiesIn kind version bytes (Ok one)
     → IdentifiesIn kind version bytes (Ok other) → string_bytes one ≡ string_bytes other
 one_id_in Local version bytes one other a b = a.0 ∙ sym b.0
-one_id_in Secret V1 bytes one other a b = absurd (cc)
+one_id_in Secret V1 bytes one other a b = a.ok.1 ∙ sym b.ok.1
 one_id_in Secret V2 bytes one other a b = a.ok.1 ∙ sym b.ok.1
 one_id_in Secret V3 bytes one other a b = a.ok.1 ∙ sym b.ok.1
 one_id_in Secret V4 bytes one other a b = a.ok.1 ∙ sym b.ok.1
-one_id_in Public V1 bytes one other a b = absurd (cc)
+one_id_in Public V1 bytes one other a b = a.ok.1 ∙ sym b.ok.1
 one_id_in Public V2 bytes one other a b = a.0 ∙ sym b.0
 one_id_in Public V3 bytes one other a b = a.0 ∙ sym b.0
 one_id_in Public V4 bytes one other a b = a.0 ∙ sym b.0
@@ -50,11 +50,11 @@ no_length n key (OtherType kind) inside fault = absurd fault
 no_id_in : (kind : PaserkType) (version : PaserkVersion) (bytes : List ℕ) (error : PaserkError) (other : String Global) → ¬ IsMemory error
     → IdentifiesIn kind version bytes (Err error) → ¬ IdentifiesIn kind version bytes (Ok other)
 no_id_in Local version bytes error other inside a b = inside a.1
-no_id_in Secret V1 bytes error other inside a b = absurd (cc)
+no_id_in Secret V1 bytes error other inside a b = elim a.refused [ inl memory ↦ inside memory | inr none ↦ none.1 b.ok.0 ]
 no_id_in Secret V2 bytes error other inside a b = no_length 64 bytes error inside a.refused b.ok.0
 no_id_in Secret V3 bytes error other inside a b = no_length 48 bytes error inside a.refused b.ok.0
 no_id_in Secret V4 bytes error other inside a b = no_length 64 bytes error inside a.refused b.ok.0
-no_id_in Public V1 bytes error other inside a b = absurd (cc)
+no_id_in Public V1 bytes error other inside a b = elim a.refused [ inl memory ↦ inside memory | inr none ↦ none.1 b.ok.0 ]
 no_id_in Public V2 bytes error other inside a b = inside a.1
 no_id_in Public V3 bytes error other inside a b = inside a.1
 no_id_in Public V4 bytes error other inside a b = inside a.1

@@ -4,14 +4,12 @@ use Rattle.std.specs.Global.{Global}
 use Rattle.paseto_key_files.specs.Held.{GivesLine}
 use Rattle.paseto_key_files.specs.Opening.{Unlocks, UnlocksNone}
 use Rattle.paseto_key_files.specs.declared.error.KeyFileError.{KeyFileError}
-use Rattle.paseto_key_files.specs.declared.error.KeyFileError.TheVariants.{OtherOpener, Paserk, Wrap}
+use Rattle.paseto_key_files.specs.declared.error.KeyFileError.TheVariants.{OtherOpener, Wrap}
 use Rattle.paseto_wrapping.specs.declared.error.WrapError.TheVariants.{InvalidPoint, InvalidPrivateKey, SmallOrder}
 use Rattle.paseto_keys.specs.Line.{IsLineFault}
-use Rattle.rusty_paseto_paserk.specs.declared.error.PaserkError.TheVariants.{OtherVersion}
-use Rattle.rusty_paseto_paserk.specs.declared.header.PaserkVersion.TheVariants.{V1}
 use Rattle.paseto_tasks.specs.declared.error.ProgramError.{ProgramError}
 use Rattle.paseto_tasks.specs.declared.error.ProgramError.TheVariants.{File}
-use Rattle.paseto_tasks.specs.declared.error.file.FileError.TheVariants.{InPaserk, SecondLine}
+use Rattle.paseto_tasks.specs.declared.error.file.FileError.TheVariants.{SecondLine}
 use Rattle.paseto_key_files.specs.declared.openers.Openers.{Openers}
 use Rattle.paseto_tasks.specs.Error.{IsMemory, key_file_error_of}
 use Rattle.paseto_tasks.specs.Output.{IsLineOf}
@@ -58,15 +56,9 @@ OpensHeld held text answer =
 
 -- ---- lines
 
--- why a line is not read as a key: key pairs of version 1 are read from PEM alone
-abbrev pub line_error_of : KeyFileError → ProgramError
-line_error_of (Paserk (OtherVersion V1)) = File InPaserk
-line_error_of error = key_file_error_of error
-
 -- memory was refused, or the line of the key of this name is that of none
 abbrev pub IsNoKeyLine : List ℕ → List ℕ → Fault → Type 0
-IsNoKeyLine name line fault =
-    IsMemory fault.error ⊎ ((fault.about.now ≡ name) × ((source : KeyFileError) × IsLineFault line source × (fault.error ≡ line_error_of source)))
+IsNoKeyLine name line = IsKeyFault name (IsLineFault line)
 
 -- ---- texts
 

@@ -1,9 +1,8 @@
 -- What `unwrap` and `unseal` take, and what they make of it.
 use Rattle.std.specs.Prelude.{◌≡◌, ◌≢◌, ◌⊎◌, ℕ, List, Option, None, Some}
-use Rattle.paseto_key_files.specs.Line.{BeginsPem}
+use Rattle.paseto_pem.specs.Text.{HoldsPem}
 use Rattle.paseto_keys.specs.AnyKey.{KeyParts}
 use Rattle.paseto_keys.specs.Line.{IsLineOf}
-use Rattle.paseto_tasks.specs.KeyLine.{BeginsAs}
 use Rattle.paseto_tasks.specs.declared.arguments.Format.{Format}
 use Rattle.paseto_tasks.specs.declared.error.ProgramError.{ProgramError}
 use Rattle.paseto_tasks.specs.declared.error.ProgramError.TheVariants.{File}
@@ -11,6 +10,7 @@ use Rattle.paseto_tasks.specs.declared.error.file.FileError.TheVariants.{Key, No
 use Rattle.paseto_wrapping.specs.Header.{HasHeader, HasNoHeader}
 use Rattle.paseto_wrapping.specs.declared.header.WrappedType.{WrappedType}
 use Rattle.paseto_wrapping.specs.declared.header.WrappedType.TheVariants.{Seal}
+use Rattle.rusty_paseto_paserk.specs.Header.{HasHeader as HasKeyHeader}
 use Rattle.rusty_paseto_paserk.specs.declared.error.PaserkError.TheVariants.{NoKey}
 use Rattle.rusty_paseto_paserk.specs.declared.header.PaserkType.{PaserkType}
 use Rattle.rusty_paseto_paserk.specs.declared.header.PaserkVersion.{PaserkVersion}
@@ -30,9 +30,9 @@ IsWrappedAs kind text = (version : PaserkVersion) × HasHeader version kind text
 abbrev pub IsWrapped : List ℕ → Type 0
 IsWrapped text = (kind : WrappedType) × IsWrappedAs kind text
 
--- the text begins as a bare key: in PASERK or in PEM
+-- the text is PEM, or begins as a bare key in PASERK
 abbrev pub IsBare : List ℕ → Type 0
-IsBare text = BeginsPem text ⊎ ((version : PaserkVersion) × (kind : PaserkType) × BeginsAs version kind text)
+IsBare text = HoldsPem text ⊎ ((version : PaserkVersion) × (kind : PaserkType) × HasKeyHeader version kind text)
 
 -- the text begins as a key under such a lock
 abbrev pub IsLockedBy : Lock → List ℕ → Type 0

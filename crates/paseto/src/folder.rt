@@ -166,14 +166,16 @@ fn key_of_file(rt: &HostRuntime, path: &str, held: &Held<'_>) -> Result<AnyKey, 
     key_of_text(rt.alloc(), held, text.as_str())
 }
 
-/// The key in the text of a key file, opened if it is locked. A key pair of version 1 has no id by
-/// which a ring could find it. A failed allocation is one of opening the text or of reading its line.
+/// The key in the text of a key file, opened if it is locked, which is none of a key pair of version
+/// 1: a ring does not take these. A failed allocation is one of opening the text or of reading its line.
 fn key_of_text(alloc: Global, held: &Held<'_>, text: &str) -> Result<AnyKey, ProgramError>
     ensures found { IfOk result (λ key. IsRingKey held.now text.now (parts_of key)) }
     ensures refused { IfErr result (IsNoRingKey held.now text.now) }
 {
     match held.open(alloc, "", text) {
-        Ok(AnyKey::V1Secret(_) | AnyKey::V1Public(_)) => Err(ProgramError::File(FileError::NoId)),
+        Ok(AnyKey::V1Secret(_) | AnyKey::V1Public(_)) => Err(ProgramError::File(
+            FileError::NoRingKey,
+        )),
         Ok(key) => Ok(key),
         Err(fault) => Err(fault.into_error()),
     }

@@ -1,7 +1,6 @@
 //! The commands `wrap`, `unwrap`, `seal` and `unseal`.
 
 ghost use Rattle.std.specs.Prelude.{◌≡◌, ◌⊎◌, IfErr, IfOk, MatchBool, OnOk, string_bytes};
-ghost use Rattle.paseto_key_files.specs.Line.{BeginsPem};
 ghost use Rattle.paseto_key_files.specs.Sealing.{SealsLine, SealsNone};
 ghost use Rattle.paseto_key_files.specs.Wrapping.{WrapsLine, WrapsNone};
 ghost use Rattle.paseto_keys.specs.AnyKey.{parts_of};
@@ -18,12 +17,13 @@ use crate::keys::{Held, key_file_fault, key_name, key_of, key_text, opener_line,
 use crate::new_file::{free, put_secret};
 use paseto_key_files::KeyFileError;
 use paseto_keys::AnyKey;
-use paseto_tasks::{FileError, Format, ProgramError, UsageError, begins_as, with_line_feed};
+use paseto_pem::holds_pem;
+use paseto_tasks::{FileError, Format, ProgramError, UsageError, with_line_feed};
 use paseto_words::{Seal, Under, Wrap, Written};
 use paseto_wrapping::{WrapError, WrappedType, wrapped_header_of};
 use rand::rngs::SysRng;
 use rand_core::TryRng;
-use rusty_paseto_paserk::PaserkError;
+use rusty_paseto_paserk::{PaserkError, header_of};
 use std::alloc::Global;
 
 /// Prints a key wrapped under a password or a wrapping key.
@@ -168,24 +168,14 @@ fn unlocked(text: &str) -> ProgramError
     }
 }
 
-/// Whether a text begins like a bare key, in PASERK or in PEM.
+/// Whether a text is PEM, or begins like a bare key in PASERK.
 fn is_key(text: &str) -> bool
     ensures { MatchBool result (IsBare text.now) (¬ IsBare text.now) }
 {
-    if begins_pem(text) {
+    if holds_pem(text) {
         return true;
     }
-    match begins_as(text) {
-        Some(_) => true,
-        None => false,
-    }
-}
-
-/// Whether a text begins like PEM.
-fn begins_pem(text: &str) -> bool
-    ensures { MatchBool result (BeginsPem text.now) (¬ BeginsPem text.now) }
-{
-    match text.strip_prefix("-----BEGIN ") {
+    match header_of(text) {
         Some(_) => true,
         None => false,
     }

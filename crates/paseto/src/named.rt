@@ -82,7 +82,7 @@ fn with_id<'k>(
     with_id(alloc, rest, id)
 }
 
-/// Whether a key has an id. One that has none has no id at all.
+/// Whether a key has this id. A key that is not valid has none.
 fn has_id(alloc: Global, key: &AnyKey, id: &str) -> Result<bool, AllocError>
     ensures { IfOk result (λ has. MatchBool has (IsIdOf (parts_of key.now) id.now)
         (¬ IsIdOf (parts_of key.now) id.now)) }

@@ -113,7 +113,7 @@ pub extern "C" fn paseto_key_generate_with(
     hand_over_held(generate(alloc, version, kind, drawn), made, line, told)
 }
 
-/// The text of a key: in PASERK, or in PEM of a key pair of version 1.
+/// The text of a key in PASERK.
 ///
 /// Source: PASERK specification; RFC 7468.
 #[unsafe(no_mangle)]

@@ -1,10 +1,10 @@
 -- Where there is a key or a text of one, nothing is refused but memory.
-use Rattle.std.proofs.Common.{◌≡◌, ◌∙◌, inl, inr, ℕ, List, length, take, Option, None, Result, Ok, Err, String, Global, refl, sym, ap, subst}
+use Rattle.std.proofs.Common.{◌≡◌, ◌⊎◌, ◌∙◌, inl, inr, ℕ, List, length, take, Option, None, Result, Ok, Err, String, Global, refl, sym, ap, subst}
 use Rattle.std.specs.Bool.{⊤}
 use Rattle.std.specs.declared.convert.Infallible.{Infallible}
 use Rattle.paseto_p384.specs.P384.{IsPrivate}
-use Rattle.paseto_pem.specs.Text.{pem}
-use Rattle.paseto_pem.specs.declared.label.Label.TheVariants.{PrivateKey, PublicKey}
+use Rattle.paseto_rsa.specs.Forms.{IsPublic as IsRsaPublic}
+use Rattle.paseto_rsa.specs.Keys.{IsPrivate as IsRsaPrivate}
 use Rattle.rusty_paseto_paserk.specs.Error.{IsMemory as IsPaserkMemory}
 use Rattle.rusty_paseto_paserk.specs.Text.{IsLengthFault}
 use Rattle.rusty_paseto_paserk.specs.declared.error.PaserkError.{PaserkError}
@@ -48,17 +48,23 @@ sized_memory n bytes (Paserk.Memory source) size fault = refl
 sized_memory n bytes Paserk.InvalidKey size fault = absurd (fault size)
 sized_memory n bytes error size fault = absurd fault
 
+-- nor is a key of version 1 that is one
+kept_memory : (IsKey : List ℕ → Type 0) (bytes : List ℕ) (error : PaserkError) → IsKey bytes
+    → IsPaserkMemory error ⊎ ((error ≡ Paserk.InvalidKey) × ¬ IsKey bytes) → paserk_refusal error ≡ Memory
+kept_memory IsKey bytes error is (inl memory) = paserk_memory error memory
+kept_memory IsKey bytes error is (inr other) = absurd (other.1 is)
+
 -- ---- lines
 
 -- a key that has a line does not lack one
 pub has_line : (kind : PaserkType) (version : PaserkVersion) (bytes line : List ℕ) (error : KeyFileError) → IsWrittenIn kind version bytes line
     → HasNoLine kind version bytes error → ⊥
 has_line Local version bytes line error is none = none
-has_line Secret V1 bytes line error is none = none.1 is.contents is.held
+has_line Secret V1 bytes line error is none = none.1 is.0
 has_line Secret V2 bytes line error is none = none.1 is.0
 has_line Secret V3 bytes line error is none = none.1 is.0
 has_line Secret V4 bytes line error is none = none.1 is.0
-has_line Public V1 bytes line error is none = none.1 is.contents is.held
+has_line Public V1 bytes line error is none = none.1 is.0
 has_line Public V2 bytes line error is none = none
 has_line Public V3 bytes line error is none = none
 has_line Public V4 bytes line error is none = none
@@ -67,11 +73,11 @@ has_line Public V4 bytes line error is none = none
 pub one_line : (kind : PaserkType) (version : PaserkVersion) (bytes one other : List ℕ) → IsWrittenIn kind version bytes one
     → IsWrittenIn kind version bytes other → one ≡ other
 one_line Local version bytes one other a b = a ∙ sym b
-one_line Secret V1 bytes one other a b = a.written ∙ ap (pem PrivateKey) (a.held.0.written ∙ sym b.held.0.written) ∙ sym b.written
+one_line Secret V1 bytes one other a b = a.1 ∙ sym b.1
 one_line Secret V2 bytes one other a b = a.1 ∙ sym b.1
 one_line Secret V3 bytes one other a b = a.1 ∙ sym b.1
 one_line Secret V4 bytes one other a b = a.1 ∙ sym b.1
-one_line Public V1 bytes one other a b = a.written ∙ ap (pem PublicKey) (a.held.0.written ∙ sym b.held.0.written) ∙ sym b.written
+one_line Public V1 bytes one other a b = a.1 ∙ sym b.1
 one_line Public V2 bytes one other a b = a ∙ sym b
 one_line Public V3 bytes one other a b = a ∙ sym b
 one_line Public V4 bytes one other a b = a ∙ sym b
@@ -87,11 +93,11 @@ line_apart key = record {
 id_memory : (kind : PaserkType) (version : PaserkVersion) (bytes : List ℕ) (id : String Global) (error : PaserkError)
     → IdentifiesIn kind version bytes (Ok id) → IdentifiesIn kind version bytes (Err error) → paserk_refusal error ≡ Memory
 id_memory Local version bytes id error is none = paserk_memory error none.1
-id_memory Secret V1 bytes id error is none = absurd (cc is)
+id_memory Secret V1 bytes id error is none = kept_memory IsRsaPrivate bytes error is.ok.0 none.refused
 id_memory Secret V2 bytes id error is none = sized_memory 64 bytes error is.ok.0 none.refused
 id_memory Secret V3 bytes id error is none = sized_memory 48 bytes error is.ok.0 none.refused
 id_memory Secret V4 bytes id error is none = sized_memory 64 bytes error is.ok.0 none.refused
-id_memory Public V1 bytes id error is none = absurd (cc is)
+id_memory Public V1 bytes id error is none = kept_memory IsRsaPublic bytes error is.ok.0 none.refused
 id_memory Public V2 bytes id error is none = paserk_memory error none.1
 id_memory Public V3 bytes id error is none = paserk_memory error none.1
 id_memory Public V4 bytes id error is none = paserk_memory error none.1
@@ -129,7 +135,7 @@ halves_memory : (kind : PaserkType) (version : PaserkVersion) (bytes : List ℕ)
     → GivesHalfIn kind version bytes (Ok key) → GivesHalfIn kind version bytes (Err error) → paserk_refusal error ≡ Memory
 halves_memory Local version bytes key error is none = absurd (cc is)
 halves_memory Public version bytes key error is none = absurd (cc is)
-halves_memory Secret V1 bytes key error is none = absurd (cc is)
+halves_memory Secret V1 bytes key error is none = elim none.refused [ inl memory ↦ paserk_memory error memory | inr other ↦ absurd (other.1 is.ok.0) ]
 halves_memory Secret V2 bytes key error is none = half_memory _ _ _ bytes key error is none
 halves_memory Secret V3 bytes key error is none = half_memory _ _ _ bytes key error is none
 halves_memory Secret V4 bytes key error is none = half_memory _ _ _ bytes key error is none
@@ -138,7 +144,7 @@ halves_one : (kind : PaserkType) (version : PaserkVersion) (bytes : List ℕ) (k
     → GivesHalfIn kind version bytes (Ok key) → GivesHalfIn kind version bytes (Ok other) → parts_of key ≡ parts_of other
 halves_one Local version bytes key other a b = absurd (cc a)
 halves_one Public version bytes key other a b = absurd (cc a)
-halves_one Secret V1 bytes key other a b = absurd (cc a)
+halves_one Secret V1 bytes key other a b = a.ok.2 ∙ sym b.ok.2
 halves_one Secret V2 bytes key other a b = half_one _ _ _ bytes key other a b
 halves_one Secret V3 bytes key other a b = half_one _ _ _ bytes key other a b
 halves_one Secret V4 bytes key other a b = half_one _ _ _ bytes key other a b

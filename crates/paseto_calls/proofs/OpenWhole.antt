@@ -8,7 +8,7 @@ use Rattle.rusty_paseto_paserk.specs.declared.header.PaserkType.TheVariants.{Loc
 use Rattle.rusty_paseto_paserk.specs.Text.{writing}
 use Rattle.paseto_key_files.specs.Held.{HoldsKey}
 use Rattle.paseto_key_files.specs.Line.{IsLocalKey, IsPrivateKey, private_line, without_line_end}
-use Rattle.paseto_key_files.specs.Opening.{ByKey, OpensAs, OpensLine, Pies, Seals, UnderPassword, Unlocks, Unseals}
+use Rattle.paseto_key_files.specs.Opening.{ByKey, InForm, OpensAs, OpensLine, Pies, Seals, UnderPassword, Unlocks, Unseals}
 use Rattle.paseto_key_files.specs.declared.openers.Openers.{Openers}
 use Rattle.paseto_key_files.specs.Error.{IsMemory}
 use Rattle.paseto_key_files.specs.declared.error.KeyFileError.{KeyFileError}
@@ -49,11 +49,12 @@ module _ (one two : Openers) (password : said one.password ≡ said two.password
   opens_same version LocalPassword text line is = said_and one.password two.password
       (λ given. HoldsKey IsLocalKey (writing version Local) (UnderPassword version LocalPassword given) text line) password is
   opens_same version SecretPassword text line is = said_and one.password two.password
-      (λ given. HoldsKey (IsPrivateKey version) (private_line version) (UnderPassword version SecretPassword given) text line) password is
+      (λ given. HoldsKey (IsPrivateKey version) (private_line version) (InForm version (UnderPassword version SecretPassword given)) text line) password is
   opens_same version LocalWrap text line is = said_and one.key two.key
       (λ opener. HoldsKey IsLocalKey (writing version Local) (ByKey version Local IsLocalKey (Pies version LocalWrap) opener) text line) key is
   opens_same version SecretWrap text line is = said_and one.key two.key
-      (λ opener. HoldsKey (IsPrivateKey version) (private_line version) (ByKey version Local IsLocalKey (Pies version SecretWrap) opener) text line) key is
+      (λ opener. HoldsKey (IsPrivateKey version) (private_line version)
+      (ByKey version Local IsLocalKey (λ (wk : List ℕ). InForm version (Pies version SecretWrap wk)) opener) text line) key is
   opens_same version Seal text line is = unseals_same version text line is
 
   line_same : (text line : List ℕ) → OpensLine one text line → OpensLine two text line

@@ -11,6 +11,7 @@ use Rattle.paseto_pem.specs.Rsa.{IsPrivateWritten as IsRsaPrivateWritten, IsPubl
 use Rattle.paseto_pem.specs.declared.label.Label.{Label}
 use Rattle.paseto_pem.specs.declared.label.Label.TheVariants.{PrivateKey, PublicKey}
 use Rattle.paseto_wrapping.specs.Family.{family_of}
+use Rattle.paseto_wrapping.specs.Keys.{wrapped_form}
 use Rattle.paseto_wrapping.specs.Password.{IsShort, protected, salt_length}
 use Rattle.paseto_wrapping.specs.Pie.{pie}
 use Rattle.paseto_wrapping.specs.Sealing.{IsSealFault, IsSealed}
@@ -114,7 +115,7 @@ halving key = making (key_fault SecretKeys key) (GivesHalf (named_by key)) paser
 abbrev pub key_writing : Option Refusal → (List ℕ → Type 0) → (Refusal → Type 0) → Request (List ℕ)
 key_writing fault IsText HasNone = record { fault = fault; texts = []; Makes = IsText; Refuses = HasNone; Tells = tells_nothing }
 
--- the text in PASERK, or in PEM of a key pair of version 1
+-- the text in PASERK
 abbrev pub line_writing : HeldKey → Request (List ℕ)
 line_writing key = key_writing (key_fault AllKeys key) (IsLineOf (named_by key)) (IsLineless (named_by key))
 
@@ -211,11 +212,17 @@ abbrev pub password_type : PaserkType → WrappedType
 password_type Local = LocalPassword
 password_type _ = SecretPassword
 
+-- the octets that are wrapped for a key: of a private one its form
+abbrev pub wrapped_octets : PaserkType → PaserkVersion → List ℕ → List ℕ
+wrapped_octets Local version bytes = bytes
+wrapped_octets _ version bytes = wrapped_form version bytes
+
 -- the text of a key under a password, by a salt and a nonce behind it
 abbrev pub password_text : KeyParts → List ℕ → List ℕ → List ℕ
 password_text key password given =
     let count = salt_length (family_of key.version) in
-    protected key.version (password_type key.kind) password new_cost (take count given) (drop count given) key.bytes
+    protected key.version (password_type key.kind) password new_cost (take count given) (drop count given)
+    (wrapped_octets key.kind key.version key.bytes)
 
 -- a key is put under a password that is short enough
 abbrev pub IsUnderPassword : KeyParts → List ℕ → List ℕ → List ℕ → Type 0
@@ -240,7 +247,8 @@ wrap_type _ = SecretWrap
 -- a key is put under a wrapping key of the same version, by a nonce
 abbrev pub IsUnderKey : KeyParts → KeyParts → List ℕ → List ℕ → Type 0
 IsUnderKey key other nonce text =
-    HasLine key × (key.version ≡ other.version) × (text ≡ pie key.version (wrap_type key.kind) other.bytes nonce key.bytes)
+    HasLine key × (key.version ≡ other.version)
+    × (text ≡ pie key.version (wrap_type key.kind) other.bytes nonce (wrapped_octets key.kind key.version key.bytes))
 
 -- the key is invalid, or else the wrapping key is of another version
 abbrev pub IsNotUnderKey : KeyParts → KeyParts → Refusal → Type 0

@@ -82,7 +82,7 @@ pub fn public_half(alloc: Global, key: &HeldKey) -> Result<HeldKey, Refusal>
     HeldKey::of(&half)
 }
 
-/// The text of a key, in PASERK or, of a key pair of version 1, in PEM.
+/// The text of a key in PASERK.
 pub fn text(alloc: Global, key: &HeldKey) -> Result<String, Fault>
     ensures made { IsMade (line_writing key.now) result }
     ensures whole { IsMadeWhole (line_writing key.now) result }

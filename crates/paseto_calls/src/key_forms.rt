@@ -5,12 +5,13 @@ ghost use Rattle.rusty_paseto_paserk.specs.declared.header.PaserkType.TheVariant
 ghost use Rattle.paseto_pem.specs.Key.{IsWritten};
 ghost use Rattle.paseto_pem.specs.declared.label.Label.TheVariants.{PrivateKey as PrivateLabel, PublicKey as PublicLabel};
 ghost use Rattle.paseto_wrapping.specs.Family.{family_of};
+ghost use Rattle.paseto_wrapping.specs.Keys.{IsWrappable, wrapped_form};
 ghost use Rattle.paseto_wrapping.specs.Password.{IsShort, protected, salt_length};
 ghost use Rattle.paseto_wrapping.specs.Pie.{pie};
 ghost use Rattle.paseto_wrapping.specs.Sealing.{IsSealed, secret_length};
 ghost use Rattle.paseto_wrapping.specs.declared.header.WrappedType.TheVariants.{LocalPassword, LocalWrap, SecretPassword, SecretWrap};
 ghost use Rattle.paseto_keys.specs.AnyKey.{parts_of, writes_tokens};
-ghost use Rattle.paseto_calls.specs.KeyCalls.{HasNoPem, IsNoPemOf, IsNotSealedTo, IsPemOf, IsSealRefusal, IsSealedTo, IsPasswordAnswer, new_cost, password_text, protecting_length, sealing_length, wrap_type};
+ghost use Rattle.paseto_calls.specs.KeyCalls.{HasLine, HasNoPem, IsNoPemOf, IsNotSealedTo, IsPemOf, IsSealRefusal, IsSealedTo, IsPasswordAnswer, new_cost, password_text, protecting_length, sealing_length, wrap_type, wrapped_octets};
 
 use crate::refusal::Refusal;
 use paseto_keys::AnyKey;
@@ -71,6 +72,7 @@ pub(crate) fn protected(
     given: &[u8],
 ) -> Result<String, Refusal>
     requires kind { writes_tokens (parts_of key.now).kind ≡ true }
+    requires line { HasLine (parts_of key.now) }
     requires given { length given.now ≡ protecting_length (parts_of key.now).version }
     ensures { IsPasswordAnswer password.now (password_text (parts_of key.now) password.now given.now) result }
 {
@@ -109,9 +111,11 @@ fn protected_secret<V: KeyVersion>(
     password: &[u8],
     given: &[u8],
 ) -> Result<String, Refusal>
-    requires { length given.now ≡ protecting_length V.paserk }
+    requires key { IsWrappable V.paserk key.now }
+    requires given { length given.now ≡ protecting_length V.paserk }
     ensures { IsPasswordAnswer password.now (protected V.paserk SecretPassword password.now new_cost
-        (take (salt_length (family_of V.paserk)) given.now) (drop (salt_length (family_of V.paserk)) given.now) key.now) result }
+        (take (salt_length (family_of V.paserk)) given.now) (drop (salt_length (family_of V.paserk)) given.now)
+        (wrapped_form V.paserk key.now)) result }
 {
     let (salt, nonce) = given.split_at(salt_length(V::paserk_version()));
     Ok(protect_secret(alloc, password, cost(), salt, nonce, &key.lend())?)
@@ -143,12 +147,14 @@ pub(crate) fn wrapped(
     nonce: &[u8],
 ) -> Result<String, Refusal>
     requires kind { writes_tokens (parts_of key.now).kind ≡ true }
+    requires line { HasLine (parts_of key.now) }
     requires other { (parts_of other.now).kind ≡ LocalKey }
     requires version { (parts_of key.now).version ≡ (parts_of other.now).version }
     requires nonce { length nonce.now ≡ 32 }
     ensures { MatchResult result
         (λ text. string_bytes text ≡ pie (parts_of key.now).version (wrap_type (parts_of key.now).kind)
-        (parts_of other.now).bytes nonce.now (parts_of key.now).bytes)
+        (parts_of other.now).bytes nonce.now
+        (wrapped_octets (parts_of key.now).kind (parts_of key.now).version (parts_of key.now).bytes))
         (λ refusal. refusal ≡ Refusal.Memory) }
 {
     let (other, nonce) = (local_bytes(other), Key::<32>::from_slice(nonce));
@@ -210,9 +216,11 @@ fn wrapped_secret<V: KeyVersion>(
     other: &[u8],
     nonce: &Key<32>,
 ) -> Result<String, Refusal>
-    requires { length other.now ≡ 32 }
+    requires key { IsWrappable V.paserk key.now }
+    requires other { length other.now ≡ 32 }
     ensures { MatchResult result
-        (λ text. string_bytes text ≡ pie V.paserk SecretWrap other.now nonce.now key.now)
+        (λ text. string_bytes text
+        ≡ pie V.paserk SecretWrap other.now nonce.now (wrapped_form V.paserk key.now))
         (λ refusal. refusal ≡ Refusal.Memory) }
 {
     let wrapping = WrappingKey::<V>::from(Key::<32>::from_slice(other));

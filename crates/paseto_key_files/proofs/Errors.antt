@@ -1,7 +1,7 @@
 -- Errors that were taken over.
 use Rattle.std.proofs.Common.{ℕ, List}
 use Rattle.paseto_pem.specs.Error.{IsMemory as IsPemMemory}
-use Rattle.paseto_pem.specs.Key.{Faults as PemFaults, IsKeyFault as IsPemKeyFault}
+use Rattle.paseto_pem.specs.PemKey.{IsAnyFault}
 use Rattle.paseto_pem.specs.declared.error.PemError.{PemError}
 use Rattle.paseto_pem.specs.declared.error.PemError.TheVariants.{Memory as NoPemMemory}
 use Rattle.paseto_wrapping.specs.Error.{IsMemory as IsWrapMemory}
@@ -14,7 +14,8 @@ use Rattle.rusty_paseto_paserk.specs.declared.header.PaserkType.{PaserkType}
 use Rattle.rusty_paseto_paserk.specs.declared.error.PaserkError.{PaserkError}
 use Rattle.rusty_paseto_paserk.specs.declared.error.PaserkError.TheVariants.{Memory as NoPaserkMemory}
 use Rattle.paseto_key_files.specs.Error.{IsMemory, opener_error_of, paserk_error_of, pem_error_of, wrap_error_of}
-use Rattle.paseto_key_files.specs.Line.{IsPaserkFault, IsPemFault}
+use Rattle.paseto_key_files.specs.Line.{IsPaserkFault}
+use Rattle.paseto_key_files.specs.Pem.{PemLineFault}
 
 pub pem_memory : (error : PemError) → IsPemMemory error → IsMemory (pem_error_of error)
 pem_memory (NoPemMemory source) h = tt
@@ -32,10 +33,9 @@ pub opener_memory : (error : PaserkError) → IsPaserkMemory error → IsMemory 
 opener_memory (NoPaserkMemory source) h = tt
 opener_memory error h = absurd h
 
-pub pem_fault : (IsFault : PemFaults) (text : List ℕ) (error : PemError) → IsPemKeyFault IsFault text error
-    → IsPemFault IsFault text (pem_error_of error)
-pem_fault IsFault text (NoPemMemory source) h = tt
-pem_fault IsFault text error h = h
+pub pem_fault : (text : List ℕ) (error : PemError) → IsAnyFault text error → PemLineFault text (pem_error_of error)
+pem_fault text (NoPemMemory source) h = tt
+pem_fault text error h = h
 
 pub paserk_fault : (version : PaserkVersion) (kind : PaserkType) (IsKey : List ℕ → Type 0) (line : List ℕ) (error : PaserkError)
     → IsKeyFault version kind IsKey line error → IsPaserkFault version kind IsKey line (paserk_error_of error)

@@ -1,4 +1,5 @@
 pub mod Errors
+pub mod FormLaws
 pub mod HeldLaws
 pub mod PemLaws
 pub mod OpeningLaws

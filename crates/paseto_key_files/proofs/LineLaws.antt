@@ -1,26 +1,14 @@
 -- Lines that are read.
 use Rattle.std.proofs.Common.{ℕ, List, Ok, Err}
-use Rattle.paseto_pem.specs.Key.{Contents, Faults, IsText, ReadsKey as ReadsPem}
-use Rattle.paseto_pem.specs.declared.error.PemError.{PemError}
+use Rattle.rusty_paseto_paserk.specs.Rsa.{ReadsForm}
 use Rattle.rusty_paseto_paserk.specs.Text.{ReadsKey as ReadsPaserk}
 use Rattle.rusty_paseto_paserk.specs.declared.header.PaserkVersion.{PaserkVersion}
 use Rattle.rusty_paseto_paserk.specs.declared.header.PaserkType.{PaserkType}
 use Rattle.rusty_paseto_paserk.specs.declared.error.PaserkError.{PaserkError}
-use Rattle.paseto_key_files.specs.Error.{paserk_error_of, pem_error_of}
-use Rattle.paseto_key_files.specs.Line.{IsPaserkFault, IsPemFault, IsWritingOf, ReadsKey}
-use Rattle.paseto_key_files.proofs.Errors.{paserk_fault, paserk_memory, pem_fault, pem_memory}
-
-module _ (IsKeyOf : Contents) (IsFault : Faults) (line : List ℕ) where
-  pub pem_read : (key : List ℕ) → ReadsPem IsKeyOf IsFault line (Ok key) → ReadsKey (IsText IsKeyOf) (IsPemFault IsFault) line (Ok key)
-  pem_read key reads = record { found = reads.found; read = reads.read; refused = tt }
-
-  pub pem_refused : (error : PemError) → ReadsPem IsKeyOf IsFault line (Err error)
-      → ReadsKey (IsText IsKeyOf) (IsPemFault IsFault) line (Err (pem_error_of error))
-  pem_refused error reads = record {
-    found = tt;
-    read = λ key h. pem_memory error (reads.read key h);
-    refused = pem_fault IsFault line error reads.refused;
-  }
+use Rattle.rusty_paseto_paserk.specs.declared.header.PaserkVersion.TheVariants.{V1}
+use Rattle.paseto_key_files.specs.Error.{paserk_error_of}
+use Rattle.paseto_key_files.specs.Line.{IsFormOf, IsPaserkFault, IsSomeForm, IsWritingOf, ReadsKey}
+use Rattle.paseto_key_files.proofs.Errors.{paserk_fault, paserk_memory}
 
 module _ (version : PaserkVersion) (kind : PaserkType) (IsKey : List ℕ → Type 0) (line : List ℕ) where
   pub paserk_read : (key : List ℕ) → ReadsPaserk version kind IsKey line (Ok key)
@@ -37,4 +25,22 @@ module _ (version : PaserkVersion) (kind : PaserkType) (IsKey : List ℕ → Typ
     found = tt;
     read = λ other h. paserk_memory error (reads.read other h.bytes h.form h.written);
     refused = paserk_fault version kind IsKey line error reads.refused;
+  }
+
+-- the same of the forms of a key of version 1
+module _ (kind : PaserkType) (IsForm : List ℕ → List ℕ → Type 0) (line : List ℕ) where
+  pub form_read : (key : List ℕ) → ReadsForm kind IsForm line (Ok key)
+      → ReadsKey (IsFormOf kind IsForm) (IsPaserkFault V1 kind (IsSomeForm IsForm)) line (Ok key)
+  form_read key reads = record {
+    found = record { octets = reads.found.0; bytes = reads.found.1; form = reads.found.3; written = reads.found.2 };
+    read = λ other h. reads.read h.octets other h.bytes h.form h.written;
+    refused = tt;
+  }
+
+  pub form_refused : (error : PaserkError) → ReadsForm kind IsForm line (Err error)
+      → ReadsKey (IsFormOf kind IsForm) (IsPaserkFault V1 kind (IsSomeForm IsForm)) line (Err (paserk_error_of error))
+  form_refused error reads = record {
+    found = tt;
+    read = λ other h. paserk_memory error (reads.read h.octets other h.bytes h.form h.written);
+    refused = paserk_fault V1 kind (IsSomeForm IsForm) line error reads.refused;
   }

@@ -14,17 +14,18 @@ use Rattle.paseto_p384.proofs.AgreementLaws.{public-bytes}
 use Rattle.rusty_paseto_primitives.proofs.ByteLists.{IsBytes-take, IsBytes-drop}
 use Rattle.paseto_wrapping.specs.declared.header.WrappedType.{WrappedType}
 use Rattle.paseto_wrapping.specs.declared.header.WrappedType.TheVariants.{LocalWrap, SecretWrap, LocalPassword, SecretPassword, Seal}
+use Rattle.paseto_wrapping.specs.Keys.{IsPrivateKey as IsWrappedKey, wrapped_form}
 use Rattle.paseto_wrapping.specs.Sealing.{IsSealed}
-use Rattle.paseto_wrapping.specs.Laws.{ProtectedUnwrap, SealedUnseal, WrappedUnwrap}
+use Rattle.paseto_wrapping.specs.Laws.{PrivateProtectedUnwrap, PrivateWrappedUnwrap, ProtectedUnwrap, SealedUnseal, WrappedUnwrap}
 use Rattle.paseto_wrapping.specs.Password.{payload as password_payload}
 use Rattle.paseto_wrapping.specs.Pie.{payload as pie_payload}
 use Rattle.paseto_wrapping.specs.Text.{writing}
-use Rattle.paseto_pem.proofs.RsaBytes.{key-bytes}
 use Rattle.paseto_key_files.specs.declared.openers.Openers.{Openers}
 use Rattle.paseto_key_files.specs.Held.{HoldsKey}
 use Rattle.paseto_key_files.specs.Laws.{IsSameLine, ProtectedUnlock, SealedUnlock, WrappedUnlock}
 use Rattle.paseto_key_files.specs.Line.{IsLocalKey, IsPrivateKey, IsPrivateLine, private_line}
-use Rattle.paseto_key_files.specs.Opening.{ByKey, OpensAs, OpensLine, Pies, Seals, UnderPassword, Unlocks, most}
+use Rattle.paseto_key_files.specs.Opening.{ByKey, InForm, OpensAs, OpensLine, Pies, Seals, UnderPassword, Unlocks, most}
+use Rattle.paseto_key_files.proofs.FormLaws.{line_bytes, line_key}
 use Rattle.paseto_key_files.proofs.TextLaws.{writing_is_line, writing_no_pem}
 
 -- the parts of bytes are bytes
@@ -34,13 +35,19 @@ front_bytes front back h = (
   subst IsBytes (drop_at front back (length front) refl) (IsBytes-drop (length front) (front ++ back) h),
 )
 
--- what the line of a private key tells of the key
-private_parts : (version : PaserkVersion) (key line : List ℕ) → IsPrivateLine version key line
-    → IsBytes key × IsPrivateKey version key × IsSameLine line (private_line version key)
-private_parts V1 key line is = (key-bytes is.label is.contents key is.bytes is.held, is.held.is_key, inr (key, is, refl))
-private_parts V2 key line is = (is.bytes, is.form, inl (sym is.written))
-private_parts V3 key line is = (is.bytes, is.form, inl (sym is.written))
-private_parts V4 key line is = (is.bytes, is.form, inl (sym is.written))
+-- a private key is one that is wrapped
+wrapping_key : (version : PaserkVersion) (key : List ℕ) → IsPrivateKey version key → IsWrappedKey version key
+wrapping_key V1 key h = h
+wrapping_key V2 key h = h
+wrapping_key V3 key h = h
+wrapping_key V4 key h = h
+
+-- the line of a private key is the one that is written, or in version 1 another one of the same key
+same_line : (version : PaserkVersion) (key line : List ℕ) → IsPrivateLine version key line → IsSameLine line (private_line version key)
+same_line V1 key line is = inr (key, is, refl)
+same_line V2 key line is = inl (sym is.written)
+same_line V3 key line is = inl (sym is.written)
+same_line V4 key line is = inl (sym is.written)
 
 -- a locked text is opened as the version and the type that it begins as
 unlocks_writing : (version : PaserkVersion) (kind : WrappedType) (payload : List ℕ) (openers : Openers) (line text : List ℕ) → text ≡ writing version kind payload
@@ -50,8 +57,8 @@ unlocks_writing version kind payload openers line text is opens =
     subst (λ (t : List ℕ). Unlocks openers t line) (sym is)
     (inr (writing_no_pem version kind payload, subst (λ (t : List ℕ). OpensLine openers t line) (sym (writing_is_line version kind payload)) own))
 
-pub protected_unlocks : ProtectedUnwrap → ProtectedUnlock
-protected_unlocks unwraps version Local cost openers password line text opener within p =
+pub protected_unlocks : ProtectedUnwrap → PrivateProtectedUnwrap → ProtectedUnlock
+protected_unlocks unwraps private version Local cost openers password line text opener within p =
     let bytes = front_bytes p.salt p.nonce p.is_drawn in
     let sealed : List ℕ = password_payload version LocalPassword password.now cost p.salt p.nonce p.key in
     let held : HoldsKey IsLocalKey (key_writing version Local) (UnderPassword version LocalPassword password.now) (writing version LocalPassword sealed) line = record {
@@ -62,22 +69,23 @@ protected_unlocks unwraps version Local cost openers password line text opener w
       line_is = p.is_line.written;
     } in
     (line, inl refl, unlocks_writing version LocalPassword sealed openers line text p.text_is (rw opener held))
-protected_unlocks unwraps version Secret cost openers password line text opener within p =
+protected_unlocks unwraps private version Secret cost openers password line text opener within p =
     let bytes = front_bytes p.salt p.nonce p.is_drawn in
-    let parts = private_parts version p.key line p.is_line in
-    let sealed : List ℕ = password_payload version SecretPassword password.now cost p.salt p.nonce p.key in
-    let held : HoldsKey (IsPrivateKey version) (private_line version) (UnderPassword version SecretPassword password.now) (writing version SecretPassword sealed) (private_line version p.key) = record {
+    let of = line_bytes version p.key line p.is_line in
+    let form = line_key version p.key line p.is_line in
+    let sealed : List ℕ = password_payload version SecretPassword password.now cost p.salt p.nonce (wrapped_form version p.key) in
+    let held : HoldsKey (IsPrivateKey version) (private_line version) (InForm version (UnderPassword version SecretPassword password.now)) (writing version SecretPassword sealed) (private_line version p.key) = record {
       key = p.key;
-      bytes = parts.0;
-      form = parts.1;
-      wrapped = unwraps version SecretPassword password.now most cost p.salt p.nonce p.key p.short (p.allowed, within) (bytes.0, p.lengths.0) (bytes.1, p.lengths.1) parts.0;
+      bytes = of;
+      form = form;
+      wrapped = private version password.now most cost p.salt p.nonce p.key p.short (p.allowed, within) (bytes.0, p.lengths.0) (bytes.1, p.lengths.1) of (wrapping_key version p.key form);
       line_is = refl;
     } in
-    (private_line version p.key, parts.2, unlocks_writing version SecretPassword sealed openers (private_line version p.key) text p.text_is (rw opener held))
-protected_unlocks unwraps version Public cost openers password line text opener within p = absurd p
+    (private_line version p.key, same_line version p.key line p.is_line, unlocks_writing version SecretPassword sealed openers (private_line version p.key) text p.text_is (rw opener held))
+protected_unlocks unwraps private version Public cost openers password line text opener within p = absurd p
 
-pub wrapped_unlocks : WrappedUnwrap → WrappedUnlock
-wrapped_unlocks unwraps version Local openers wrapping line text opener p =
+pub wrapped_unlocks : WrappedUnwrap → PrivateWrappedUnwrap → WrappedUnlock
+wrapped_unlocks unwraps private version Local openers wrapping line text opener p =
     let sealed : List ℕ = pie_payload version LocalWrap p.wk p.nonce p.key in
     let held : HoldsKey IsLocalKey (key_writing version Local) (ByKey version Local IsLocalKey (Pies version LocalWrap) wrapping.now) (writing version LocalWrap sealed) line = record {
       key = p.key;
@@ -87,18 +95,19 @@ wrapped_unlocks unwraps version Local openers wrapping line text opener p =
       line_is = p.is_line.written;
     } in
     (line, inl refl, unlocks_writing version LocalWrap sealed openers line text p.text_is (rw opener held))
-wrapped_unlocks unwraps version Secret openers wrapping line text opener p =
-    let parts = private_parts version p.key line p.is_line in
-    let sealed : List ℕ = pie_payload version SecretWrap p.wk p.nonce p.key in
-    let held : HoldsKey (IsPrivateKey version) (private_line version) (ByKey version Local IsLocalKey (Pies version SecretWrap) wrapping.now) (writing version SecretWrap sealed) (private_line version p.key) = record {
+wrapped_unlocks unwraps private version Secret openers wrapping line text opener p =
+    let of = line_bytes version p.key line p.is_line in
+    let form = line_key version p.key line p.is_line in
+    let sealed : List ℕ = pie_payload version SecretWrap p.wk p.nonce (wrapped_form version p.key) in
+    let held : HoldsKey (IsPrivateKey version) (private_line version) (ByKey version Local IsLocalKey (λ (wk : List ℕ). InForm version (Pies version SecretWrap wk)) wrapping.now) (writing version SecretWrap sealed) (private_line version p.key) = record {
       key = p.key;
-      bytes = parts.0;
-      form = parts.1;
-      wrapped = (p.wk, p.is_wrapping, unwraps version SecretWrap p.wk p.nonce p.key (p.is_drawn, p.size) parts.0);
+      bytes = of;
+      form = form;
+      wrapped = (p.wk, p.is_wrapping, private version p.wk p.nonce p.key (p.is_drawn, p.size) of (wrapping_key version p.key form));
       line_is = refl;
     } in
-    (private_line version p.key, parts.2, unlocks_writing version SecretWrap sealed openers (private_line version p.key) text p.text_is (rw opener held))
-wrapped_unlocks unwraps version Public openers wrapping line text opener p = absurd p
+    (private_line version p.key, same_line version p.key line p.is_line, unlocks_writing version SecretWrap sealed openers (private_line version p.key) text p.text_is (rw opener held))
+wrapped_unlocks unwraps private version Public openers wrapping line text opener p = absurd p
 
 -- a public key has one line
 one_point : (a b : List ℕ) → IsBytes a → IsBytes b → key_writing V3 Public a ≡ key_writing V3 Public b → a ≡ b

@@ -1,5 +1,6 @@
 -- How a key file is opened.
 use Rattle.std.proofs.Common.{◌≡◌, ℕ, ◌==◌, List, ◌++◌, if◌then◌else◌, get_or, Some, Bor, Result, Ok, Err, IfOk, IfErr, String, Global, string_bytes, inl, inr, refl, sym, ap, subst, subst₂, ◌∙◌}
+use Rattle.paseto_pem.specs.Text.{HoldsPem}
 use Rattle.rusty_paseto_paserk.specs.declared.header.PaserkVersion.{PaserkVersion}
 use Rattle.rusty_paseto_paserk.specs.declared.header.PaserkVersion.TheVariants.{V1, V2, V3, V4}
 use Rattle.paseto_wrapping.specs.declared.header.WrappedType.{WrappedType}
@@ -11,9 +12,9 @@ use Rattle.paseto_key_files.specs.declared.openers.Openers.{Openers}
 use Rattle.paseto_key_files.specs.Error.{IsMemory}
 use Rattle.rusty_paseto_paserk.specs.declared.header.PaserkType.TheVariants.{Local}
 use Rattle.paseto_key_files.specs.Held.{GivesLine, HoldsKey, HoldsNoKey}
-use Rattle.paseto_key_files.specs.Line.{BeginsPem, IsLocalKey, IsPrivateKey, private_line, without_line_end}
+use Rattle.paseto_key_files.specs.Line.{IsLocalKey, IsPrivateKey, private_line, without_line_end}
 use Rattle.paseto_key_files.specs.Pem.{PemLine, PemLineFault}
-use Rattle.paseto_key_files.specs.Opening.{ByKey, ByNoKey, OpensAs, OpensAsNone, OpensLine, OpensNoLine, PasswordFaults, PieFaults, Pies, UnderPassword, Unlocks, UnlocksNone}
+use Rattle.paseto_key_files.specs.Opening.{ByKey, ByNoKey, InForm, IsInForm, OpensAs, OpensAsNone, OpensLine, OpensNoLine, PasswordFaults, PieFaults, Pies, UnderPassword, Unlocks, UnlocksNone}
 
 -- the version and the type that a line begins with, by some bytes of each
 version_at : List ℕ → PaserkVersion
@@ -138,23 +139,23 @@ gives_same A B F G there back fault (Err error) gives = record {
 
 module _ (version : PaserkVersion) (openers : Openers) (text : List ℕ) (answer : Result (String Global) KeyFileError) where
   pub opens_by_password : (password : Bor (List ℕ)) → openers.password ≡ Some password
-      → GivesLine (HoldsKey (IsPrivateKey version) (private_line version) (UnderPassword version SecretPassword password.now) text)
-      (HoldsNoKey (IsPrivateKey version) (UnderPassword version SecretPassword password.now) (PasswordFaults version SecretPassword password.now) text) answer
+      → GivesLine (HoldsKey (IsPrivateKey version) (private_line version) (InForm version (UnderPassword version SecretPassword password.now)) text)
+      (HoldsNoKey (IsInForm version) (UnderPassword version SecretPassword password.now) (PasswordFaults version SecretPassword password.now) text) answer
       → GivesLine (OpensAs version SecretPassword openers text) (OpensAsNone version SecretPassword openers text) answer
   opens_by_password password is gives = gives_same _ _ _ _ (λ line h. rw is h) (λ line h. rw is at h) (λ error h. rw is h) answer gives
 
   pub opens_by_key : (opener : Bor (List ℕ)) → openers.key ≡ Some opener
-      → GivesLine (HoldsKey (IsPrivateKey version) (private_line version) (ByKey version Local IsLocalKey (Pies version SecretWrap) opener.now) text)
-      (ByNoKey version Local IsLocalKey (IsPrivateKey version) (Pies version SecretWrap) (PieFaults version SecretWrap) opener.now text) answer
+      → GivesLine (HoldsKey (IsPrivateKey version) (private_line version) (ByKey version Local IsLocalKey (λ (wk : List ℕ). InForm version (Pies version SecretWrap wk)) opener.now) text)
+      (ByNoKey version Local IsLocalKey (IsInForm version) (Pies version SecretWrap) (PieFaults version SecretWrap) opener.now text) answer
       → GivesLine (OpensAs version SecretWrap openers text) (OpensAsNone version SecretWrap openers text) answer
   opens_by_key opener is gives = gives_same _ _ _ _ (λ line h. rw is h) (λ line h. rw is at h) (λ error h. rw is h) answer gives
 
 module _ (openers : Openers) (text : List ℕ) (answer : Result (String Global) KeyFileError) where
-  pub unlocked_pem : BeginsPem text → GivesLine (PemLine text) (PemLineFault text) answer → GivesLine (Unlocks openers text) (UnlocksNone openers text) answer
+  pub unlocked_pem : HoldsPem text → GivesLine (PemLine text) (PemLineFault text) answer → GivesLine (Unlocks openers text) (UnlocksNone openers text) answer
   unlocked_pem begins gives = gives_same (PemLine text) (Unlocks openers text) (PemLineFault text) (UnlocksNone openers text) (λ line h. inl (begins, h))
       (λ line h. elim h [ inl is ↦ is.1 | inr is ↦ absurd (is.0 begins) ]) (λ error h. inl (begins, h)) answer gives
 
-  pub unlocked_line : (¬ BeginsPem text) → (line : List ℕ) → line ≡ without_line_end text → GivesLine (OpensLine openers line) (OpensNoLine openers line) answer
+  pub unlocked_line : (¬ HoldsPem text) → (line : List ℕ) → line ≡ without_line_end text → GivesLine (OpensLine openers line) (OpensNoLine openers line) answer
       → GivesLine (Unlocks openers text) (UnlocksNone openers text) answer
   unlocked_line none line same gives =
       let own : GivesLine (OpensLine openers (without_line_end text)) (OpensNoLine openers (without_line_end text)) answer =

@@ -1,10 +1,12 @@
 -- The text of a wrapped key is a line.
-use Rattle.std.proofs.Common.{◌≡◌, ◌≢◌, ℕ, ◌+◌, ◌-◌, ◌*◌, ◌/◌, ◌%◌, ◌==◌, ◌&&◌, Bool, true, false, not, List, [], ◌∷◌, ◌++◌, length, get_or, slice_index, refl, sym, ap, ◌∙◌, inl, inr}
-use Rattle.std.specs.List.{All, list_all}
+use Rattle.std.proofs.Common.{◌≡◌, ◌≢◌, ℕ, ◌+◌, ◌-◌, ◌*◌, ◌/◌, ◌%◌, ◌==◌, ◌&&◌, Bool, true, false, not, List, [], ◌∷◌, ◌++◌, length, get_or, slice_index, zero, suc, ◌<◌, refl, sym, ap, subst, ◌∙◌, arith, inl, inr}
+use Rattle.std.specs.List.{All, Any, list_all, slice_index_or}
+use Rattle.std.specs.Str.Lines.{lines, lines_of_parts}
 use Rattle.std.specs.Io.BufRead.{ends_with_byte}
 use Rattle.std.proofs.lemmas.Bool.{cases_lt, ne_eqb}
 use Rattle.std.proofs.lemmas.List.{get_or_past}
 use Rattle.std.proofs.lemmas.List.Elements.{All-append, All-cons, All-nil}
+use Rattle.std.proofs.lemmas.List.Splits.{slice_split_none}
 use Rattle.std.proofs.lemmas.List.Sums.{AllPass-from_list_all}
 use Rattle.base64.specs.Rfc4648.{encode_symbols}
 use Rattle.rusty_paseto_parts.specs.Section.{base64url}
@@ -16,7 +18,8 @@ use Rattle.paseto_wrapping.specs.declared.header.WrappedType.{WrappedType}
 use Rattle.paseto_wrapping.specs.declared.header.WrappedType.TheVariants.{LocalWrap, SecretWrap, LocalPassword, SecretPassword, Seal}
 use Rattle.paseto_wrapping.specs.Header.{word}
 use Rattle.paseto_wrapping.specs.Text.{writing}
-use Rattle.paseto_key_files.specs.Line.{BeginsPem, without_line_end}
+use Rattle.paseto_pem.specs.Text.{HoldsPem, IsBegin}
+use Rattle.paseto_key_files.specs.Line.{without_line_end}
 
 -- ---- no line feed
 
@@ -101,7 +104,30 @@ first_byte V2 kind payload = refl
 first_byte V3 kind payload = refl
 first_byte V4 kind payload = refl
 
-pub writing_no_pem : (version : PaserkVersion) (kind : WrappedType) (payload : List ℕ) → BeginsPem (writing version kind payload) → ⊥
-writing_no_pem version kind payload begins =
-    let other : 107 ≡ 45 = sym (first_byte version kind payload) ∙ ap (λ (l : List ℕ). get_or l 0 0) begins.1 in
+-- a text without a line feed is its one line
+not_empty : (text : List ℕ) → get_or text 0 0 ≡ 107 → (length text == 0) ≡ false
+not_empty [] first = absurd (cc first)
+not_empty (c ∷ rest) first = ne_eqb (length (c ∷ rest)) 0 (λ is. cc is)
+
+feed_tests : (text : List ℕ) → HasNoFeed text → All (λ (c : ℕ). (c == 10) ≡ false) text
+feed_tests text h k d within = ne_eqb _ 10 (h k d within)
+
+one_line : (text : List ℕ) → HasNoFeed text → get_or text 0 0 ≡ 107 → lines text ≡ text ∷ []
+one_line text h first =
+    ap lines_of_parts (slice_split_none (λ (c : ℕ). c == 10) text (feed_tests text h)) ∙ rw (not_empty text first) refl
+
+only_one : (text line : List ℕ) (k : ℕ) → k < 1 → slice_index_or (text ∷ []) k line ≡ line → text ≡ line
+only_one text line zero below is = is
+only_one text line (suc k) below is = absurd (omega (arith, below))
+
+no_block : (text : List ℕ) → get_or text 0 0 ≡ 107 → Any IsBegin (text ∷ []) → ⊥
+no_block text first h =
+    let line : text ≡ h.1 = only_one text h.1 h.0 h.2 h.3 in
+    let other : 107 ≡ 45 = sym first ∙ ap (λ (l : List ℕ). get_or l 0 0) (line ∙ h.4.1) in
     cc other
+
+pub writing_no_pem : (version : PaserkVersion) (kind : WrappedType) (payload : List ℕ) → HoldsPem (writing version kind payload) → ⊥
+writing_no_pem version kind payload h =
+    let text : List ℕ = writing version kind payload in
+    let first : get_or text 0 0 ≡ 107 = first_byte version kind payload in
+    no_block text first (subst (λ (l : List (List ℕ)). Any IsBegin l) (one_line text (feedless-writing version kind payload) first) h)

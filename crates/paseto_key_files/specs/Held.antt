@@ -22,8 +22,8 @@ pub record HoldsKey (IsKey : List ℕ → Type 0) (line_of : List ℕ → List �
   pub wrapped : IsWrapped text key
   pub line_is : line ≡ line_of key
 
--- why a text is not unwrapped as a key
+-- why a text is not unwrapped as a key that is wanted
 abbrev pub HoldsNoKey : (List ℕ → Type 0) → Wraps → Faults → List ℕ → KeyFileError → Type 0
-HoldsNoKey IsKey IsWrapped IsFault text (Wrap error) = KeyFaults IsKey IsWrapped IsFault text error
-HoldsNoKey IsKey IsWrapped IsFault text (Memory _) = ⊤
-HoldsNoKey IsKey IsWrapped IsFault text _ = ⊥
+HoldsNoKey IsWanted IsWrapped IsFault text (Wrap error) = KeyFaults IsWanted IsWrapped IsFault text error
+HoldsNoKey IsWanted IsWrapped IsFault text (Memory _) = ⊤
+HoldsNoKey IsWanted IsWrapped IsFault text _ = ⊥

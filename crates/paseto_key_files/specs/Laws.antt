@@ -19,7 +19,7 @@ use Rattle.paseto_key_files.specs.Password.{ProtectsAs}
 use Rattle.paseto_key_files.specs.Sealing.{SealsAs}
 use Rattle.paseto_key_files.specs.Wrapping.{WrapsAs}
 
--- the same line, or in version 1 the text of the same private key as `openssl pkey` writes it
+-- the same line, or in version 1 the one that is written of the same private key
 abbrev pub IsSameLine : List ℕ → List ℕ → Type 0
 IsSameLine line again = (again ≡ line) ⊎ ((key : List ℕ) × IsPrivateLine V1 key line × (again ≡ private_line V1 key))
 

@@ -1,14 +1,10 @@
--- The lines of keys: the text of a key as programs keep it. It is that of PASERK, but for the key pairs of version 1, which
--- have none here: their line is their text in PEM.
-use Rattle.std.specs.Prelude.{◌≡◌, ◌⊎◌, ⊤, ℕ, ◌==◌, ◌&&◌, List, ◌++◌, length, if◌then◌else◌, codes, IsTrue, Result, IfOk, IfErr, MatchResult, string_bytes}
+-- The lines of keys: the text of a key in PASERK, as programs keep it.
+use Rattle.std.specs.Prelude.{◌≡◌, ◌⊎◌, ⊤, ℕ, ◌==◌, ◌&&◌, List, length, if◌then◌else◌, IsTrue, Result, IfOk, IfErr, MatchResult, string_bytes}
 use Rattle.std.specs.Io.BufRead.{ends_with_byte, strip_last}
 use Rattle.std.specs.declared.alloc.Global.{Global}
 use Rattle.std.specs.declared.string.String.{String}
 use Rattle.base64.specs.GeneralPurpose.{IsBytes}
-use Rattle.paseto_pem.specs.Key.{Faults as PemFaults, IsKeyFault as IsPemKeyFault, IsText}
-use Rattle.paseto_pem.specs.Rsa.{IsPrivateFault as IsRsaPrivateFault, IsPrivateOf as IsRsaPrivateOf}
-use Rattle.paseto_pem.specs.Text.{pem}
-use Rattle.paseto_pem.specs.declared.label.Label.TheVariants.{PrivateKey}
+use Rattle.paseto_rsa.specs.Forms.{IsPublic as IsRsaPublic}
 use Rattle.paseto_rsa.specs.Keys.{IsPrivate as IsRsaPrivate}
 use Rattle.paseto_wrapping.specs.declared.error.WrapError.TheVariants.{InvalidKey}
 use Rattle.rusty_paseto_parts.specs.PublicKey.{is_compressed}
@@ -18,9 +14,10 @@ use Rattle.rusty_paseto_paserk.specs.declared.header.PaserkVersion.TheVariants.{
 use Rattle.rusty_paseto_paserk.specs.declared.header.PaserkType.{PaserkType}
 use Rattle.rusty_paseto_paserk.specs.declared.header.PaserkType.TheVariants.{Local, Secret, Public}
 use Rattle.rusty_paseto_paserk.specs.Header.{HasHeader, HasNoHeader}
+use Rattle.rusty_paseto_paserk.specs.Rsa.{IsPublicForm, IsSecretForm, secret_text}
 use Rattle.rusty_paseto_paserk.specs.Text.{IsKeyFault, writing}
 use Rattle.paseto_key_files.specs.declared.error.KeyFileError.{KeyFileError}
-use Rattle.paseto_key_files.specs.declared.error.KeyFileError.TheVariants.{Memory, Paserk, Pem, PublicKey, Wrap}
+use Rattle.paseto_key_files.specs.declared.error.KeyFileError.TheVariants.{Memory, Paserk, PublicKey, Wrap}
 use Rattle.paseto_key_files.specs.Error.{IsMemory}
 
 -- ---- keys
@@ -36,19 +33,19 @@ IsPrivateKey V2 = λ key. length key ≡ 64
 IsPrivateKey V3 = λ key. length key ≡ 48
 IsPrivateKey V4 = λ key. length key ≡ 64
 
--- bytes are a public key of a version: 32 of Ed25519, and of P-384 a point with compression. One of version 1 has no line
--- in PASERK
+-- bytes are a public key of a version: in version 1 an RSAPublicKey of 2048 bits, 32 bytes of Ed25519, and of P-384 a point
+-- with compression
 abbrev pub IsPublicKey : PaserkVersion → List ℕ → Type 0
-IsPublicKey V1 = λ key. ⊥
+IsPublicKey V1 = IsRsaPublic
 IsPublicKey V2 = λ key. IsTrue (length key == 32)
 IsPublicKey V3 = λ key. IsTrue (length key == 49 && is_compressed key)
 IsPublicKey V4 = λ key. IsTrue (length key == 32)
 
 -- ---- lines that are written
 
--- the line of a private key: in version 1 its text as `openssl pkey` writes it
+-- the line of a private key: in version 1 with its RSAPrivateKey
 abbrev pub private_line : PaserkVersion → List ℕ → List ℕ
-private_line V1 = pem PrivateKey
+private_line V1 = secret_text
 private_line V2 = writing V2 Secret
 private_line V3 = writing V3 Secret
 private_line V4 = writing V4 Secret
@@ -70,18 +67,27 @@ pub record IsWritingOf (version : PaserkVersion) (kind : PaserkType) (IsKey : Li
 abbrev pub IsLocalLine : PaserkVersion → List ℕ → List ℕ → Type 0
 IsLocalLine version = IsWritingOf version Local IsLocalKey
 
--- the line is that of a private key
+-- the line is the writing of octets in PASERK that are a form of a key of version 1
+pub record IsFormOf (kind : PaserkType) (IsForm : List ℕ → List ℕ → Type 0) (key line : List ℕ) : Type 0 where
+  pub octets : List ℕ
+  pub bytes : IsBytes octets
+  pub form : IsForm octets key
+  pub written : line ≡ writing V1 kind octets
+
+-- octets are a form of some key
+abbrev pub IsSomeForm : (List ℕ → List ℕ → Type 0) → List ℕ → Type 0
+IsSomeForm IsForm octets = (key : List ℕ) × IsForm octets key
+
+-- the line is that of a private key: in version 1 with its RSAPrivateKey or its PrivateKeyInfo
 abbrev pub IsPrivateLine : PaserkVersion → List ℕ → List ℕ → Type 0
-IsPrivateLine V1 = IsText IsRsaPrivateOf
+IsPrivateLine V1 = IsFormOf Secret IsSecretForm
 IsPrivateLine V2 = IsWritingOf V2 Secret (IsPrivateKey V2)
 IsPrivateLine V3 = IsWritingOf V3 Secret (IsPrivateKey V3)
 IsPrivateLine V4 = IsWritingOf V4 Secret (IsPrivateKey V4)
 
--- why a text in PEM is refused
-abbrev pub IsPemFault : PemFaults → List ℕ → KeyFileError → Type 0
-IsPemFault IsFault text (Pem error) = IsPemKeyFault IsFault text error
-IsPemFault IsFault text (Memory _) = ⊤
-IsPemFault IsFault text _ = ⊥
+-- the line is that of a public key of version 1, with its SubjectPublicKeyInfo
+abbrev pub IsRsaPublicLine : List ℕ → List ℕ → Type 0
+IsRsaPublicLine = IsFormOf Public IsPublicForm
 
 -- why a line in PASERK is refused
 abbrev pub IsPaserkFault : PaserkVersion → PaserkType → (List ℕ → Type 0) → List ℕ → KeyFileError → Type 0
@@ -89,9 +95,13 @@ IsPaserkFault version kind IsKey line (Paserk error) = IsKeyFault version kind I
 IsPaserkFault version kind IsKey line (Memory _) = ⊤
 IsPaserkFault version kind IsKey line _ = ⊥
 
+-- why the line of a public key of version 1 is refused
+abbrev pub IsRsaPublicFault : List ℕ → KeyFileError → Type 0
+IsRsaPublicFault = IsPaserkFault V1 Public (IsSomeForm IsPublicForm)
+
 -- why the line of a private key is refused
 abbrev pub IsPrivateFault : PaserkVersion → List ℕ → KeyFileError → Type 0
-IsPrivateFault V1 = IsPemFault IsRsaPrivateFault
+IsPrivateFault V1 = IsPaserkFault V1 Secret (IsSomeForm IsSecretForm)
 IsPrivateFault V2 = IsPaserkFault V2 Secret (IsPrivateKey V2)
 IsPrivateFault V3 = IsPaserkFault V3 Secret (IsPrivateKey V3)
 IsPrivateFault V4 = IsPaserkFault V4 Secret (IsPrivateKey V4)
@@ -104,28 +114,15 @@ pub record ReadsKey (IsLine : List ℕ → List ℕ → Type 0) (IsFault : List 
 
 -- ---- what a line begins as
 
--- a text begins as PEM does (RFC 7468, section 2)
-abbrev pub BeginsPem : List ℕ → Type 0
-BeginsPem text = (rest : List ℕ) × (text ≡ codes "-----BEGIN " ++ rest)
-
--- a line begins as that of a key of a version and a type: in PEM as a private key of version 1
-abbrev pub BeginsAs : PaserkVersion → PaserkType → List ℕ → Type 0
-BeginsAs version kind line =
-    (BeginsPem line × (version ≡ V1) × (kind ≡ Secret)) ⊎ ((¬ BeginsPem line) × HasHeader version kind line)
-
--- a line begins as that of no key
-abbrev pub BeginsAsNone : List ℕ → Type 0
-BeginsAsNone line = (¬ BeginsPem line) × HasNoHeader line
-
 -- why the line of a key that is to be kept secret is refused
 abbrev pub IsLineFault : PaserkVersion → PaserkType → List ℕ → KeyFileError → Type 0
 IsLineFault version Local line error = IsPaserkFault version Local IsLocalKey line error
 IsLineFault version Secret line error = IsPrivateFault version line error
 IsLineFault version Public line error = error ≡ PublicKey
 
--- the same of a line that begins as that of any key
+-- a line begins as that of no key
 abbrev pub IsBeginFault : List ℕ → KeyFileError → Type 0
-IsBeginFault line error = BeginsAsNone line × (error ≡ Paserk NoKey)
+IsBeginFault line error = HasNoHeader line × (error ≡ Paserk NoKey)
 
 -- ---- line ends
 

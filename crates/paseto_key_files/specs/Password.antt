@@ -5,17 +5,19 @@ use Rattle.paseto_wrapping.specs.declared.error.WrapError.TheVariants.{InvalidCo
 use Rattle.paseto_wrapping.specs.declared.header.WrappedType.{WrappedType}
 use Rattle.paseto_wrapping.specs.declared.header.WrappedType.TheVariants.{LocalPassword, SecretPassword}
 use Rattle.paseto_wrapping.specs.Family.{family_of}
+use Rattle.paseto_wrapping.specs.Keys.{wrapped_form}
 use Rattle.paseto_wrapping.specs.Password.{AreDrawn, IsAllowed, IsShort, protected}
+use Rattle.rusty_paseto_paserk.specs.Header.{HasHeader}
 use Rattle.rusty_paseto_paserk.specs.declared.header.PaserkVersion.{PaserkVersion}
 use Rattle.rusty_paseto_paserk.specs.declared.header.PaserkType.{PaserkType}
 use Rattle.rusty_paseto_paserk.specs.declared.header.PaserkType.TheVariants.{Local, Secret, Public}
 use Rattle.paseto_key_files.specs.declared.error.KeyFileError.{KeyFileError}
 use Rattle.paseto_key_files.specs.declared.error.KeyFileError.TheVariants.{Random, Wrap}
 use Rattle.paseto_key_files.specs.Error.{IsMemory}
-use Rattle.paseto_key_files.specs.Line.{BeginsAs, IsBeginFault, IsLineFault, IsLocalLine, IsPrivateLine}
+use Rattle.paseto_key_files.specs.Line.{IsBeginFault, IsLineFault, IsLocalLine, IsPrivateLine}
 
--- the text is that of the line's key under the password, by a salt and a nonce that were drawn
-pub record IsUnderPassword (version : PaserkVersion) (kind : WrappedType) (IsLine : List ℕ → List ℕ → Type 0)
+-- the text is that of a form of the line's key under the password, by a salt and a nonce that were drawn
+pub record IsUnderPassword (version : PaserkVersion) (kind : WrappedType) (IsLine : List ℕ → List ℕ → Type 0) (form_of : List ℕ → List ℕ)
     (password : List ℕ) (cost : PasswordCost) (IsDrawn : List ℕ → Type 0) (line text : List ℕ) : Type 0 where
   pub key : List ℕ
   pub is_line : IsLine key line
@@ -25,14 +27,14 @@ pub record IsUnderPassword (version : PaserkVersion) (kind : WrappedType) (IsLin
   pub is_drawn : IsDrawn (salt ++ nonce)
   pub short : IsShort password
   pub allowed : IsAllowed (family_of version) cost
-  pub text_is : text ≡ protected version kind password cost salt nonce key
+  pub text_is : text ≡ protected version kind password cost salt nonce (form_of key)
 
 -- the same by the type of the key
 abbrev pub ProtectsAs : PaserkVersion → PaserkType → List ℕ → PasswordCost → (List ℕ → Type 0) → List ℕ → List ℕ → Type 0
 ProtectsAs version Local password cost IsDrawn line text =
-    IsUnderPassword version LocalPassword (IsLocalLine version) password cost IsDrawn line text
+    IsUnderPassword version LocalPassword (IsLocalLine version) (λ key. key) password cost IsDrawn line text
 ProtectsAs version Secret password cost IsDrawn line text =
-    IsUnderPassword version SecretPassword (IsPrivateLine version) password cost IsDrawn line text
+    IsUnderPassword version SecretPassword (IsPrivateLine version) (wrapped_form version) password cost IsDrawn line text
 ProtectsAs version Public password cost IsDrawn line text = ⊥
 
 -- the text is that of a line under a password
@@ -61,5 +63,5 @@ ProtectsNoneAs version kind password cost Failure line error =
 abbrev pub ProtectsNone : List ℕ → PasswordCost → Type 0 → List ℕ → KeyFileError → Type 0
 ProtectsNone password cost Failure line error =
     IsBeginFault line error
-    ⊎ ((version : PaserkVersion) × (kind : PaserkType) × BeginsAs version kind line
+    ⊎ ((version : PaserkVersion) × (kind : PaserkType) × HasHeader version kind line
     × ProtectsNoneAs version kind password cost Failure line error)

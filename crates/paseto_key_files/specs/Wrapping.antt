@@ -2,18 +2,20 @@
 use Rattle.std.specs.Prelude.{◌≡◌, ◌⊎◌, ⊤, ℕ, List, length}
 use Rattle.paseto_wrapping.specs.declared.header.WrappedType.{WrappedType}
 use Rattle.paseto_wrapping.specs.declared.header.WrappedType.TheVariants.{LocalWrap, SecretWrap}
+use Rattle.paseto_wrapping.specs.Keys.{wrapped_form}
 use Rattle.paseto_wrapping.specs.Pie.{pie}
+use Rattle.rusty_paseto_paserk.specs.Header.{HasHeader}
 use Rattle.rusty_paseto_paserk.specs.declared.header.PaserkVersion.{PaserkVersion}
 use Rattle.rusty_paseto_paserk.specs.declared.header.PaserkType.{PaserkType}
 use Rattle.rusty_paseto_paserk.specs.declared.header.PaserkType.TheVariants.{Local, Secret, Public}
 use Rattle.rusty_paseto_paserk.specs.Text.{IsKeyFault}
 use Rattle.paseto_key_files.specs.declared.error.KeyFileError.{KeyFileError}
 use Rattle.paseto_key_files.specs.declared.error.KeyFileError.TheVariants.{Memory, OtherOpener}
-use Rattle.paseto_key_files.specs.Line.{BeginsAs, IsBeginFault, IsLineFault, IsLocalKey, IsLocalLine, IsPrivateLine}
+use Rattle.paseto_key_files.specs.Line.{IsBeginFault, IsLineFault, IsLocalKey, IsLocalLine, IsPrivateLine}
 use Rattle.paseto_key_files.specs.Password.{IsDrawFault}
 
--- the text is that of the line's key under the key of the wrapping line, by a nonce that was drawn
-pub record IsUnderKey (version : PaserkVersion) (kind : WrappedType) (IsLine : List ℕ → List ℕ → Type 0)
+-- the text is that of a form of the line's key under the key of the wrapping line, by a nonce that was drawn
+pub record IsUnderKey (version : PaserkVersion) (kind : WrappedType) (IsLine : List ℕ → List ℕ → Type 0) (form_of : List ℕ → List ℕ)
     (wrapping : List ℕ) (IsDrawn : List ℕ → Type 0) (line text : List ℕ) : Type 0 where
   pub key : List ℕ
   pub is_line : IsLine key line
@@ -22,12 +24,12 @@ pub record IsUnderKey (version : PaserkVersion) (kind : WrappedType) (IsLine : L
   pub nonce : List ℕ
   pub size : length nonce ≡ 32
   pub is_drawn : IsDrawn nonce
-  pub text_is : text ≡ pie version kind wk nonce key
+  pub text_is : text ≡ pie version kind wk nonce (form_of key)
 
 -- the same by the type of the key
 abbrev pub WrapsAs : PaserkVersion → PaserkType → List ℕ → (List ℕ → Type 0) → List ℕ → List ℕ → Type 0
-WrapsAs version Local wrapping IsDrawn line text = IsUnderKey version LocalWrap (IsLocalLine version) wrapping IsDrawn line text
-WrapsAs version Secret wrapping IsDrawn line text = IsUnderKey version SecretWrap (IsPrivateLine version) wrapping IsDrawn line text
+WrapsAs version Local wrapping IsDrawn line text = IsUnderKey version LocalWrap (IsLocalLine version) (λ key. key) wrapping IsDrawn line text
+WrapsAs version Secret wrapping IsDrawn line text = IsUnderKey version SecretWrap (IsPrivateLine version) (wrapped_form version) wrapping IsDrawn line text
 WrapsAs version Public wrapping IsDrawn line text = ⊥
 
 -- the text is that of a line under a wrapping key
@@ -52,4 +54,4 @@ WrapsNoneAs version kind wrapping Failure line error =
 abbrev pub WrapsNone : List ℕ → Type 0 → List ℕ → KeyFileError → Type 0
 WrapsNone wrapping Failure line error =
     IsBeginFault line error
-    ⊎ ((version : PaserkVersion) × (kind : PaserkType) × BeginsAs version kind line × WrapsNoneAs version kind wrapping Failure line error)
+    ⊎ ((version : PaserkVersion) × (kind : PaserkType) × HasHeader version kind line × WrapsNoneAs version kind wrapping Failure line error)

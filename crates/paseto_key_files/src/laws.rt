@@ -6,8 +6,8 @@ ghost use Rattle.paseto_key_files.specs.Laws.{ProtectedUnlock, SealedUnlock, Wra
 use paseto_wrapping::laws;
 
 /// `unlock` opens the text that `protect` writes for a line as this line, with the same password, if the cost is within
-/// `PasswordCost::most()`, and unless an allocation fails. The line of a private key of version 1, whose PEM may have
-/// other line ends, is returned as `openssl pkey` writes it.
+/// `PasswordCost::most()`, and unless an allocation fails. The line of a private key of version 1, which may have its
+/// PrivateKeyInfo, is returned with its RSAPrivateKey.
 pub fn protected_keys_unlock()
     ensures { ProtectedUnlock }
 {

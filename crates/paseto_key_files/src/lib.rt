@@ -1,5 +1,5 @@
 //! Converts between key files in all their forms and the line that a program stores for a key: its PASERK text, such as
-//! `k4.local...`, or PEM for key pairs of version 1, which have no PASERK text here.
+//! `k4.local...`.
 //!
 //! `unlock` reads a key file, in PEM, password-protected, wrapped or sealed, and returns the line of its key.
 //! `protect`, `wrap`, `seal` and `pem_of` write a line in these forms.

@@ -1,27 +1,30 @@
 //! The lines of keys, by their version and their type.
 
-ghost use Rattle.std.specs.Prelude.{◌≡◌, ◌≢◌, ◌++◌, ℕ, List, length, IfErr, IfOk, IsTrue, MatchBool, MatchOption, string_bytes};
+ghost use Rattle.std.specs.Prelude.{◌≡◌, ◌≢◌, ◌++◌, ℕ, List, length, IfErr, IfOk, IsTrue, MatchOption, string_bytes};
 ghost use Rattle.std.proofs.Common.{rules};
 ghost use Rattle.std.specs.Io.BufRead.{strip_last};
-ghost use Rattle.paseto_wrapping.specs.Reading.{HasPrivateLength};
+ghost use Rattle.paseto_rsa.specs.Forms.{IsPublic as IsRsaPublic};
+ghost use Rattle.paseto_wrapping.specs.Keys.{IsWrappedForm};
+ghost use Rattle.rusty_paseto_paserk.specs.Header.{HasHeader};
+ghost use Rattle.rusty_paseto_paserk.specs.Rsa.{public_text};
 ghost use Rattle.rusty_paseto_paserk.specs.Text.{writing};
 ghost use Rattle.rusty_paseto_paserk.specs.declared.header.PaserkType.TheVariants.{Local as LocalKey, Public as PublicKeys, Secret as SecretKey};
 ghost use Rattle.paseto_key_files.specs.Error.{IsMemory};
-ghost use Rattle.paseto_key_files.specs.Line.{BeginsAs, BeginsPem, IsBeginFault, IsLocalKey, IsLocalLine, IsPaserkFault, IsPrivateFault, IsPrivateKey, IsPrivateLine, IsWritingOf, ReadsKey, WritesLine, private_line, without_line_end};
+ghost use Rattle.paseto_key_files.specs.Line.{IsBeginFault, IsLocalKey, IsLocalLine, IsPaserkFault, IsPrivateFault, IsPrivateKey, IsPrivateLine, IsRsaPublicFault, IsRsaPublicLine, IsWritingOf, ReadsKey, WritesLine, private_line, without_line_end};
 
 use crate::error::KeyFileError;
-use paseto_pem::{PemError, PemVersion, private_key_from_pem, private_key_to_pem};
 use paseto_wrapping::WrapError;
 use rusty_paseto_parts::{Local, PasetoSymmetricKey, PrivateKey, PublicKey, V1, V2, V3, V4};
 use rusty_paseto_paserk::{
     KeyPairVersion, KeyVersion, PaserkError, PaserkType, PaserkVersion, header_of,
     local_from_paserk, local_to_paserk, private_key_from_paserk, public_to_paserk,
-    secret_to_paserk,
+    rsa_private_key_from_paserk, rsa_public_key_from_paserk, rsa_public_to_paserk,
+    rsa_secret_to_paserk, secret_to_paserk,
 };
 use std::alloc::Global;
 
-/// A version whose keys have lines: 1 to 4. The line of a private key is its text in PASERK, and in version 1 that in PEM.
-pub(crate) trait LineVersion: KeyVersion + PemVersion {
+/// A version whose private keys have lines: 1 to 4.
+pub(crate) trait LineVersion: KeyVersion {
     /// The line of a private key. `Wrap(InvalidKey)` is returned if its bytes are not a key of the version.
     fn private_line(alloc: Global, key: &PrivateKey<Self>) -> Result<String, KeyFileError>
         ensures { WritesLine (IsPrivateKey Self.paserk) (private_line Self.paserk) key.now result };
@@ -30,9 +33,9 @@ pub(crate) trait LineVersion: KeyVersion + PemVersion {
     fn private_of(alloc: Global, line: &str) -> Result<PrivateKey<Self>, KeyFileError>
         ensures { ReadsKey (IsPrivateLine Self.paserk) (IsPrivateFault Self.paserk) line.now result };
 
-    // A private key of the version is unwrapped as one.
-    ghost is_unwrapped: { (key : List ℕ) → IsPrivateKey Self.paserk key
-        → HasPrivateLength Self.paserk key × IsTrue (Self.is_private_key key) };
+    // What is wrapped of a private key of the version is unwrapped as one.
+    ghost is_unwrapped: { (octets key : List ℕ) → IsWrappedForm Self.paserk octets key
+        → IsTrue (Self.is_private_key key) };
 }
 
 impl LineVersion for V1 {
@@ -126,22 +129,43 @@ pub(crate) fn local_of<V: KeyVersion>(
     }
 }
 
-/// The text of a private key of version 1 in PEM. `Wrap(InvalidKey)` is returned if its bytes are not such a key.
+/// The line of a private key of version 1. `Wrap(InvalidKey)` is returned if its bytes are not such a key.
 pub(crate) fn rsa_private_line(alloc: Global, key: &PrivateKey<V1>) -> Result<String, KeyFileError>
     ensures { WritesLine (IsPrivateKey PaserkVersion.V1) (private_line PaserkVersion.V1) key.now result }
 {
-    match private_key_to_pem(alloc, &key.lend()) {
+    match rsa_secret_to_paserk(alloc, &key.lend()) {
         Ok(line) => Ok(line),
-        Err(PemError::Memory(source)) => Err(KeyFileError::Memory(source)),
+        Err(PaserkError::Memory(source)) => Err(KeyFileError::Memory(source)),
         Err(_) => Err(KeyFileError::Wrap(WrapError::InvalidKey)),
     }
 }
 
-// The private key of a text in PEM, of version 1.
-fn rsa_private_of(alloc: Global, line: &str) -> Result<PrivateKey<V1>, KeyFileError>
+/// The line of a public key of version 1. `Wrap(InvalidKey)` is returned if its bytes are not such a key.
+pub(crate) fn rsa_public_line(alloc: Global, key: &PublicKey<V1>) -> Result<String, KeyFileError>
+    ensures { WritesLine IsRsaPublic public_text key.now result }
+{
+    match rsa_public_to_paserk(alloc, &key.lend()) {
+        Ok(line) => Ok(line),
+        Err(PaserkError::Memory(source)) => Err(KeyFileError::Memory(source)),
+        Err(_) => Err(KeyFileError::Wrap(WrapError::InvalidKey)),
+    }
+}
+
+/// The private key of a line of version 1.
+pub(crate) fn rsa_private_of(alloc: Global, line: &str) -> Result<PrivateKey<V1>, KeyFileError>
     ensures { ReadsKey (IsPrivateLine PaserkVersion.V1) (IsPrivateFault PaserkVersion.V1) line.now result }
 {
-    match private_key_from_pem(alloc, line) {
+    match rsa_private_key_from_paserk(alloc, line) {
+        Ok(key) => Ok(key),
+        Err(error) => Err(KeyFileError::from(error)),
+    }
+}
+
+/// The public key of a line of version 1.
+pub(crate) fn rsa_public_of(alloc: Global, line: &str) -> Result<PublicKey<V1>, KeyFileError>
+    ensures { ReadsKey IsRsaPublicLine IsRsaPublicFault line.now result }
+{
+    match rsa_public_key_from_paserk(alloc, line) {
         Ok(key) => Ok(key),
         Err(error) => Err(KeyFileError::from(error)),
     }
@@ -178,34 +202,13 @@ fn private_from_paserk<V: KeyPairVersion>(
 
 /// The version and the type in the header of a line.
 pub(crate) fn begins_as(line: &str) -> Result<(PaserkVersion, PaserkType), KeyFileError>
-    ensures found { IfOk result (λ found. BeginsAs found.0 found.1 line.now) }
+    ensures found { IfOk result (λ found. HasHeader found.0 found.1 line.now) }
     ensures none { IfErr result (IsBeginFault line.now) }
 {
-    if is_pem(line) {
-        return Ok((PaserkVersion::V1, PaserkType::Secret));
-    }
     match header_of(line) {
         Some((version, kind, _)) => Ok((version, kind)),
         None => Err(KeyFileError::Paserk(PaserkError::NoKey)),
     }
-}
-
-/// Whether a text begins like PEM.
-pub(crate) fn is_pem(text: &str) -> bool
-    ensures { MatchBool result (BeginsPem text.now) (¬ BeginsPem text.now) }
-{
-    match after(text, "-----BEGIN ") {
-        Some(_) => true,
-        None => false,
-    }
-}
-
-// What stands after a front, where the text begins with it.
-fn after<'a>(text: &'a str, front: &str) -> Option<&'a str>
-    ensures { MatchOption result ((rest : List ℕ) → text.now ≢ front.now ++ rest)
-        (λ rest. text.now ≡ front.now ++ rest.now) }
-{
-    text.strip_prefix(front)
 }
 
 /// A text without its line end: LF, or CR and LF.

@@ -9,7 +9,7 @@ ghost use Rattle.rusty_paseto_paserk.specs.declared.header.PaserkType.TheVariant
 ghost use Rattle.paseto_key_files.specs.Held.{GivesLine, HoldsKey, HoldsNoKey};
 ghost use Rattle.paseto_key_files.specs.Line.{IsLocalKey, IsPrivateKey, private_line};
 ghost use Rattle.paseto_key_files.specs.Password.{Protects, ProtectsAs, ProtectsNone, ProtectsNoneAs};
-ghost use Rattle.paseto_key_files.specs.Opening.{OpensAs, OpensAsNone, PasswordFaults, UnderPassword, most};
+ghost use Rattle.paseto_key_files.specs.Opening.{InForm, IsInForm, OpensAs, OpensAsNone, PasswordFaults, UnderPassword, most};
 
 use crate::drawing::drawn;
 use crate::error::KeyFileError;
@@ -26,7 +26,7 @@ use std::alloc::Global;
 /// The text of a line's key under a password: `local-pw` for a key for local tokens, and `secret-pw` for a private key,
 /// of the line's version. Salt and nonce are drawn after the line was read.
 ///
-/// `PublicKey` is returned if the line begins like that of a public key, `Paserk` and `Pem` if it is not that of a key,
+/// `PublicKey` is returned if the line begins like that of a public key, `Paserk` if it is not that of a key,
 /// `Wrap(LongPassword)` if the password has 4 GiB or more, `Wrap(InvalidCost)` if PBKDF2 or Argon2id does not allow the
 /// cost, and `Random` if the generator fails. Otherwise it fails only with `Memory`.
 ///
@@ -218,8 +218,8 @@ fn private_under<V: LineVersion>(
     text: &str,
 ) -> Result<String, KeyFileError>
     ensures { GivesLine (HoldsKey (IsPrivateKey V.paserk) (private_line V.paserk)
-        (UnderPassword V.paserk UnderSecret password.now) text.now)
-        (HoldsNoKey (IsPrivateKey V.paserk) (UnderPassword V.paserk UnderSecret password.now)
+        (InForm V.paserk (UnderPassword V.paserk UnderSecret password.now)) text.now)
+        (HoldsNoKey (IsInForm V.paserk) (UnderPassword V.paserk UnderSecret password.now)
         (PasswordFaults V.paserk UnderSecret password.now) text.now) result }
 {
     match unprotect_secret::<V>(alloc, password, bound(), text) {

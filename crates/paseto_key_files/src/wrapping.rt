@@ -6,7 +6,7 @@ ghost use Rattle.rusty_paseto_paserk.specs.Text.{writing};
 ghost use Rattle.rusty_paseto_paserk.specs.declared.header.PaserkType.TheVariants.{Local as LocalKey, Secret as SecretKey};
 ghost use Rattle.paseto_key_files.specs.Held.{GivesLine, HoldsKey, HoldsNoKey};
 ghost use Rattle.paseto_key_files.specs.Line.{IsLocalKey, IsLocalLine, IsPrivateKey, private_line};
-ghost use Rattle.paseto_key_files.specs.Opening.{ByKey, ByNoKey, OpensAs, OpensAsNone, PieFaults, Pies};
+ghost use Rattle.paseto_key_files.specs.Opening.{ByKey, ByNoKey, InForm, IsInForm, OpensAs, OpensAsNone, PieFaults, Pies};
 ghost use Rattle.paseto_key_files.specs.Wrapping.{IsOpenerFault, WrapsAs, WrapsLine, WrapsNone, WrapsNoneAs};
 
 use crate::drawing::drawn_key;
@@ -23,7 +23,7 @@ use std::alloc::Global;
 /// version: `local-wrap.pie` for a key for local tokens, and `secret-wrap.pie` for a private key. The nonce is drawn
 /// after the lines were read.
 ///
-/// `PublicKey` is returned if the line begins like that of a public key, `Paserk` and `Pem` if it is not that of a key,
+/// `PublicKey` is returned if the line begins like that of a public key, `Paserk` if it is not that of a key,
 /// `OtherOpener` if the wrapping line is not that of such a key, and `Random` if the generator fails. Otherwise it
 /// fails only with `Memory`.
 ///
@@ -191,8 +191,9 @@ fn private_with<V: LineVersion>(
     text: &str,
 ) -> Result<String, KeyFileError>
     ensures { GivesLine (HoldsKey (IsPrivateKey V.paserk) (private_line V.paserk)
-        (ByKey V.paserk LocalKey IsLocalKey (Pies V.paserk UnderSecret) opener.now) text.now)
-        (ByNoKey V.paserk LocalKey IsLocalKey (IsPrivateKey V.paserk) (Pies V.paserk UnderSecret)
+        (ByKey V.paserk LocalKey IsLocalKey (λ wk. InForm V.paserk (Pies V.paserk UnderSecret wk)) opener.now)
+        text.now)
+        (ByNoKey V.paserk LocalKey IsLocalKey (IsInForm V.paserk) (Pies V.paserk UnderSecret)
         (PieFaults V.paserk UnderSecret) opener.now text.now) result }
 {
     match local_from_paserk::<V>(alloc, opener) {
@@ -225,8 +226,8 @@ fn private_under<V: LineVersion>(
     text: &str,
 ) -> Result<String, KeyFileError>
     ensures { GivesLine (HoldsKey (IsPrivateKey V.paserk) (private_line V.paserk)
-        (Pies V.paserk UnderSecret wrapping.now) text.now)
-        (HoldsNoKey (IsPrivateKey V.paserk) (Pies V.paserk UnderSecret wrapping.now)
+        (InForm V.paserk (Pies V.paserk UnderSecret wrapping.now)) text.now)
+        (HoldsNoKey (IsInForm V.paserk) (Pies V.paserk UnderSecret wrapping.now)
         (PieFaults V.paserk UnderSecret wrapping.now) text.now) result }
 {
     match unwrap_secret(alloc, wrapping, text) {

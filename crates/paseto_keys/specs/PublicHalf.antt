@@ -2,9 +2,11 @@
 use Rattle.std.specs.Prelude.{◌≡◌, ◌⊎◌, ℕ, List, length, Result, Err, IfOk, IfErr}
 use Rattle.paseto_ed25519.specs.Ed25519.{IsOwn, partner}
 use Rattle.paseto_p384.specs.P384.{IsPrivate, p384_public}
+use Rattle.paseto_rsa.specs.Forms.{IsPublic as IsRsaPublic}
+use Rattle.paseto_rsa.specs.Keys.{IsPrivate as IsRsaPrivate, rsa_public}
 use Rattle.rusty_paseto_paserk.specs.Error.{IsMemory}
 use Rattle.rusty_paseto_paserk.specs.declared.error.PaserkError.{PaserkError}
-use Rattle.rusty_paseto_paserk.specs.declared.error.PaserkError.TheVariants.{InvalidKey, OtherType, OtherVersion}
+use Rattle.rusty_paseto_paserk.specs.declared.error.PaserkError.TheVariants.{InvalidKey, OtherType}
 use Rattle.rusty_paseto_paserk.specs.declared.header.PaserkType.{PaserkType}
 use Rattle.rusty_paseto_paserk.specs.declared.header.PaserkType.TheVariants.{Local, Secret, Public}
 use Rattle.rusty_paseto_paserk.specs.declared.header.PaserkVersion.{PaserkVersion}
@@ -21,11 +23,17 @@ pub record IsHalf (version : PaserkVersion) (IsWhole : List ℕ → Type 0) (hal
   pub ok : IfOk answer (λ key. IsWhole private × (parts_of key ≡ key_parts Public version (half_of private)))
   pub refused : IfErr answer (λ error. IsMemory error ⊎ ((error ≡ InvalidKey) × ¬ IsWhole private))
 
--- the answer for a key: one of another type has no half, and one of version 1 none here
+-- the same of a private key of version 1, whose public half is a valid key
+pub record IsRsaHalf (private : List ℕ) (answer : Result AnyKey PaserkError) : Type 0 where
+  pub ok : IfOk answer (λ key. IsRsaPrivate private × IsRsaPublic (rsa_public private)
+      × (parts_of key ≡ key_parts Public V1 (rsa_public private)))
+  pub refused : IfErr answer (λ error. IsMemory error ⊎ ((error ≡ InvalidKey) × ¬ IsRsaPrivate private))
+
+-- the answer for a key: one of another type has no half
 abbrev pub GivesHalfIn : PaserkType → PaserkVersion → List ℕ → Result AnyKey PaserkError → Type 0
 GivesHalfIn Local version = λ bytes answer. answer ≡ Err (OtherType Local)
 GivesHalfIn Public version = λ bytes answer. answer ≡ Err (OtherType Public)
-GivesHalfIn Secret V1 = λ bytes answer. answer ≡ Err (OtherVersion V1)
+GivesHalfIn Secret V1 = IsRsaHalf
 GivesHalfIn Secret V2 = IsHalf V2 IsEd25519 partner
 GivesHalfIn Secret V3 = IsHalf V3 IsPrivate p384_public
 GivesHalfIn Secret V4 = IsHalf V4 IsEd25519 partner

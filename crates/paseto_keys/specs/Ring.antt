@@ -30,8 +30,8 @@ use Rattle.paseto_keys.specs.declared.ring_error.RingError.TheVariants.{NoAssert
 
 -- ---- the keys
 
--- the bytes of a key that reads tokens of this type and this version, where it has an id: the public keys of version 1 have
--- none
+-- the bytes of a key that reads tokens of this type and this version, where a ring takes it: it takes no public keys of
+-- version 1
 abbrev pub bytes_for : PaserkType → PaserkVersion → AnyKey → Option (List ℕ)
 bytes_for Local V1 (V1Local key) = Some key
 bytes_for Local V2 (V2Local key) = Some key

@@ -1,11 +1,9 @@
 -- The line of a key of any version and type, as it is written.
 use Rattle.std.specs.Prelude.{◌≡◌, ◌≢◌, ◌⊎◌, ℕ, List, length, Result, IfOk, IfErr, String, string_bytes}
 use Rattle.std.specs.Global.{Global}
-use Rattle.paseto_pem.specs.Key.{Contents, IsWritten}
-use Rattle.paseto_pem.specs.Rsa.{IsPrivateWritten as IsRsaPrivateWritten, IsPublicWritten as IsRsaPublicWritten}
-use Rattle.paseto_pem.specs.declared.error.PemError.TheVariants.{InvalidKey as NoPemKey}
-use Rattle.paseto_pem.specs.declared.label.Label.{Label}
-use Rattle.paseto_pem.specs.declared.label.Label.TheVariants.{PrivateKey, PublicKey}
+use Rattle.paseto_rsa.specs.Forms.{IsPublic as IsRsaPublic}
+use Rattle.paseto_rsa.specs.Keys.{IsPrivate as IsRsaPrivate}
+use Rattle.rusty_paseto_paserk.specs.Rsa.{public_text, secret_text}
 use Rattle.rusty_paseto_paserk.specs.Text.{writing}
 use Rattle.rusty_paseto_paserk.specs.declared.error.PaserkError.TheVariants.{InvalidKey}
 use Rattle.rusty_paseto_paserk.specs.declared.header.PaserkType.{PaserkType}
@@ -14,7 +12,7 @@ use Rattle.rusty_paseto_paserk.specs.declared.header.PaserkVersion.{PaserkVersio
 use Rattle.rusty_paseto_paserk.specs.declared.header.PaserkVersion.TheVariants.{V1, V2, V3, V4}
 use Rattle.paseto_key_files.specs.Error.{IsMemory}
 use Rattle.paseto_key_files.specs.declared.error.KeyFileError.{KeyFileError}
-use Rattle.paseto_key_files.specs.declared.error.KeyFileError.TheVariants.{Paserk, Pem}
+use Rattle.paseto_key_files.specs.declared.error.KeyFileError.TheVariants.{Paserk}
 use Rattle.paseto_keys.specs.AnyKey.{KeyParts}
 
 -- the answer for a key is a line of it, or else why there is none, or that memory was refused
@@ -26,18 +24,18 @@ pub record WritesIn (IsLine : List ℕ → Type 0) (HasNone : KeyFileError → T
 abbrev pub HasNoLength : ℕ → List ℕ → KeyFileError → Type 0
 HasNoLength n bytes error = (error ≡ Paserk InvalidKey) × (length bytes ≢ n)
 
--- a key has no text in PEM
-abbrev pub HasNoText : Contents → Label → List ℕ → KeyFileError → Type 0
-HasNoText IsKeyOf label bytes error = (error ≡ Pem NoPemKey) × ((contents : List ℕ) → ¬ IsKeyOf label contents bytes)
+-- bytes are no key of version 1
+abbrev pub IsNoKey : (List ℕ → Type 0) → List ℕ → KeyFileError → Type 0
+IsNoKey IsKey bytes error = (error ≡ Paserk InvalidKey) × ¬ IsKey bytes
 
 -- the line of these bytes, a key of a type and a version
 abbrev pub IsWrittenIn : PaserkType → PaserkVersion → List ℕ → List ℕ → Type 0
 IsWrittenIn Local version = λ bytes line. line ≡ writing version Local bytes
-IsWrittenIn Secret V1 = IsWritten IsRsaPrivateWritten PrivateKey
+IsWrittenIn Secret V1 = λ bytes line. IsRsaPrivate bytes × (line ≡ secret_text bytes)
 IsWrittenIn Secret V2 = λ bytes line. (length bytes ≡ 64) × (line ≡ writing V2 Secret bytes)
 IsWrittenIn Secret V3 = λ bytes line. (length bytes ≡ 48) × (line ≡ writing V3 Secret bytes)
 IsWrittenIn Secret V4 = λ bytes line. (length bytes ≡ 64) × (line ≡ writing V4 Secret bytes)
-IsWrittenIn Public V1 = IsWritten IsRsaPublicWritten PublicKey
+IsWrittenIn Public V1 = λ bytes line. IsRsaPublic bytes × (line ≡ public_text bytes)
 IsWrittenIn Public V2 = λ bytes line. line ≡ writing V2 Public bytes
 IsWrittenIn Public V3 = λ bytes line. line ≡ writing V3 Public bytes
 IsWrittenIn Public V4 = λ bytes line. line ≡ writing V4 Public bytes
@@ -45,11 +43,11 @@ IsWrittenIn Public V4 = λ bytes line. line ≡ writing V4 Public bytes
 -- why they have none
 abbrev pub HasNoLine : PaserkType → PaserkVersion → List ℕ → KeyFileError → Type 0
 HasNoLine Local version = λ bytes error. ⊥
-HasNoLine Secret V1 = HasNoText IsRsaPrivateWritten PrivateKey
+HasNoLine Secret V1 = IsNoKey IsRsaPrivate
 HasNoLine Secret V2 = HasNoLength 64
 HasNoLine Secret V3 = HasNoLength 48
 HasNoLine Secret V4 = HasNoLength 64
-HasNoLine Public V1 = HasNoText IsRsaPublicWritten PublicKey
+HasNoLine Public V1 = IsNoKey IsRsaPublic
 HasNoLine Public V2 = λ bytes error. ⊥
 HasNoLine Public V3 = λ bytes error. ⊥
 HasNoLine Public V4 = λ bytes error. ⊥

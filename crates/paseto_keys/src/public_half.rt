@@ -3,6 +3,8 @@
 ghost use Rattle.std.specs.Prelude.{◌≡◌, ◌⊎◌, IfErr, IfOk};
 ghost use Rattle.paseto_ed25519.specs.Ed25519.{IsOwn, partner};
 ghost use Rattle.paseto_p384.specs.P384.{IsPrivate, p384_public};
+ghost use Rattle.paseto_rsa.specs.Forms.{IsPublic as IsRsaPublic};
+ghost use Rattle.paseto_rsa.specs.Keys.{IsPrivate as IsRsaPrivate, rsa_public};
 ghost use Rattle.rusty_paseto_paserk.specs.Error.{IsMemory};
 ghost use Rattle.paseto_keys.specs.AnyKey.{parts_of};
 ghost use Rattle.paseto_keys.specs.PublicHalf.{GivesHalf, IsEd25519};
@@ -10,29 +12,46 @@ ghost use Rattle.paseto_keys.specs.PublicHalf.{GivesHalf, IsEd25519};
 use crate::any_key::AnyKey;
 use paseto_ed25519::Ed25519;
 use paseto_p384::P384;
+use paseto_rsa::public_key_of;
 use rusty_paseto_core::{
-    CompressedKey, Key, PasetoAsymmetricPublicKey, PrivateKey, PublicKey, V2orV4, V3,
+    CompressedKey, Key, PasetoAsymmetricPublicKey, PrivateKey, PublicKey, V1, V2orV4, V3,
 };
-use rusty_paseto_paserk::{PaserkError, PaserkVersion};
+use rusty_paseto_paserk::PaserkError;
 use std::alloc::Global;
 
 impl AnyKey {
     /// The public key of a private key, which verifies what this key signs.
     ///
-    /// `OtherType` is returned for a key of another type, `OtherVersion` for one of version 1, and `InvalidKey` for a
-    /// private key without a public half of its own: in versions 2 and 4 if it does not have 64 bytes or the last 32
-    /// belong to another seed, and in version 3 if it is 0 or not below the order of P-384. Otherwise it fails only
-    /// with `Memory`.
+    /// `OtherType` is returned for a key of another type, and `InvalidKey` for a private key without a public half of its
+    /// own: in versions 2 and 4 if it does not have 64 bytes or the last 32 belong to another seed, in version 3 if it
+    /// is 0 or not below the order of P-384, and in version 1 if it is not one of RSA of 2048 bits. Otherwise it fails
+    /// only with `Memory`.
     pub fn public_half(&self, alloc: Global) -> Result<AnyKey, PaserkError>
         ensures { GivesHalf (parts_of self.now) result }
     {
         match self {
-            AnyKey::V1Secret(_) => Err(PaserkError::OtherVersion(PaserkVersion::V1)),
+            AnyKey::V1Secret(key) => Ok(AnyKey::V1Public(rsa_half(alloc, key)?)),
             AnyKey::V2Secret(key) => Ok(AnyKey::V2Public(ed25519_half(alloc, key)?)),
             AnyKey::V3Secret(key) => Ok(AnyKey::V3Public(p384_half(alloc, key)?)),
             AnyKey::V4Secret(key) => Ok(AnyKey::V4Public(ed25519_half(alloc, key)?)),
             other => Err(PaserkError::OtherType(other.kind())),
         }
+    }
+}
+
+// The public key of a private key of version 1.
+fn rsa_half(alloc: Global, key: &PrivateKey<V1>) -> Result<PublicKey<V1>, PaserkError>
+    ensures ok { IfOk result (λ half. IsRsaPrivate key.now × IsRsaPublic (rsa_public key.now)
+        × (half ≡ rsa_public key.now)) }
+    ensures err { IfErr result (λ error. IsMemory error
+        ⊎ ((error ≡ PaserkError.InvalidKey) × ¬ IsRsaPrivate key.now)) }
+{
+    let Some(half) = public_key_of(key.lend().as_bytes()) else {
+        return Err(PaserkError::InvalidKey);
+    };
+    match PublicKey::<V1>::try_from(Vec::from_slice(alloc, &half)?) {
+        Ok(half) => Ok(half),
+        Err(_) => Err(PaserkError::InvalidKey),
     }
 }
 

@@ -39,8 +39,8 @@ struct Found<'k> {
 /// parser, the token's footer must be the same.
 ///
 /// The errors, of which the first is returned: `Ring` of `Untrusted` of `IncorrectSize` unless there are three or four
-/// sections, and of `WrongHeader` for a token of no kind that a ring has keys for, which are all but `v1.public`, whose
-/// keys have no id; `NoAssertion` if the parser has an implicit assertion and the token's version has none; `Ring` of
+/// sections, and of `WrongHeader` for a token of no kind that a ring has keys for, which are all but `v1.public`;
+/// `NoAssertion` if the parser has an implicit assertion and the token's version has none; `Ring` of
 /// `Untrusted` of `TooLong` for a token that is longer than the parser's limit, and of `PayloadBase64Decode` or
 /// `Utf8Error` for a fourth section that does not encode a text; `Ring` of `NoFooter`, of `NotAnObject`, of `NoKeyId`,
 /// and of `UnknownKey` with the id; `Ring` of `Token` with the error of `try_decrypt` or `try_verify` of `Paseto`; and

@@ -1,32 +1,31 @@
 //! The lines of keys.
 
 ghost use Rattle.std.specs.Prelude.{◌≡◌, length};
-ghost use Rattle.paseto_pem.specs.Key.{IsWritten};
-ghost use Rattle.paseto_pem.specs.Rsa.{IsPrivateWritten as IsRsaPrivateWritten, IsPublicWritten as IsRsaPublicWritten};
-ghost use Rattle.paseto_pem.specs.declared.label.Label.TheVariants.{PrivateKey as PrivateLabel, PublicKey as PublicLabel};
+ghost use Rattle.paseto_rsa.specs.Forms.{IsPublic as IsRsaPublic};
+ghost use Rattle.paseto_rsa.specs.Keys.{IsPrivate as IsRsaPrivate};
+ghost use Rattle.rusty_paseto_paserk.specs.Rsa.{public_text, secret_text};
 ghost use Rattle.rusty_paseto_paserk.specs.Text.{writing};
 ghost use Rattle.rusty_paseto_paserk.specs.declared.header.PaserkType.TheVariants.{Local as LocalKey, Public as PublicKeys, Secret};
 ghost use Rattle.paseto_keys.specs.AnyKey.{parts_of};
-ghost use Rattle.paseto_keys.specs.WrittenLine.{HasNoLength, HasNoText, WritesIn, WritesLine};
+ghost use Rattle.paseto_keys.specs.WrittenLine.{HasNoLength, IsNoKey, WritesIn, WritesLine};
 
 use crate::any_key::AnyKey;
 use paseto_key_files::KeyFileError;
-use paseto_pem::{private_key_to_pem, public_key_to_pem};
 use rusty_paseto_core::{Local, PasetoSymmetricKey, PrivateKey, PublicKey, V1};
 use rusty_paseto_paserk::{
-    KeyPairVersion, KeyVersion, local_to_paserk, public_to_paserk, secret_to_paserk,
+    KeyPairVersion, KeyVersion, local_to_paserk, public_to_paserk, rsa_public_to_paserk,
+    rsa_secret_to_paserk, secret_to_paserk,
 };
 use std::alloc::Global;
 
 impl AnyKey {
-    /// The line of the key, which `from_line` reads: its text in PASERK, such as `k4.local...`, or in PEM for a key
-    /// pair of version 1, as `openssl pkey` writes it. The line of a secret key is as secret as the key.
+    /// The line of the key, which `from_line` reads: its text in PASERK, such as `k4.local...`. The line of a secret key
+    /// is as secret as the key.
     ///
-    /// `Paserk(InvalidKey)` is returned for a private key that does not have the length of its version's, and
-    /// `Pem(InvalidKey)` for a key of version 1 that is not one of RSA of 2048 bits. Otherwise it fails only with
-    /// `Memory`.
+    /// `Paserk(InvalidKey)` is returned for a private key that does not have the length of its version's, and for a key
+    /// pair of version 1 that is not one of RSA of 2048 bits. Otherwise it fails only with `Memory`.
     ///
-    /// Source: PASERK specification, types `local`, `secret` and `public`; RFC 7468, sections 10 and 13.
+    /// Source: PASERK specification, types `local`, `secret` and `public`.
     pub fn to_line(&self, alloc: Global) -> Result<String, KeyFileError>
         ensures { WritesLine (parts_of self.now) result }
     {
@@ -60,7 +59,7 @@ fn local_line<V: KeyVersion>(
     }
 }
 
-// The line of a private key in PASERK.
+// The line of a private key.
 fn private_line<V: KeyPairVersion>(
     alloc: Global,
     key: &PrivateKey<V>,
@@ -75,7 +74,7 @@ fn private_line<V: KeyPairVersion>(
     }
 }
 
-// The line of a public key in PASERK.
+// The line of a public key.
 fn public_line<V: KeyPairVersion>(alloc: Global, key: &PublicKey<V>) -> Result<String, KeyFileError>
     ensures { WritesIn (λ line. line ≡ writing V.paserk PublicKeys key.now) (λ error. ⊥) result }
 {
@@ -87,10 +86,10 @@ fn public_line<V: KeyPairVersion>(alloc: Global, key: &PublicKey<V>) -> Result<S
 
 // The line of a private key of version 1.
 fn rsa_private_line(alloc: Global, key: &PrivateKey<V1>) -> Result<String, KeyFileError>
-    ensures { WritesIn (IsWritten IsRsaPrivateWritten PrivateLabel key.now)
-        (HasNoText IsRsaPrivateWritten PrivateLabel key.now) result }
+    ensures { WritesIn (λ line. IsRsaPrivate key.now × (line ≡ secret_text key.now))
+        (IsNoKey IsRsaPrivate key.now) result }
 {
-    match private_key_to_pem(alloc, &key.lend()) {
+    match rsa_secret_to_paserk(alloc, &key.lend()) {
         Ok(line) => Ok(line),
         Err(error) => Err(KeyFileError::from(error)),
     }
@@ -98,10 +97,10 @@ fn rsa_private_line(alloc: Global, key: &PrivateKey<V1>) -> Result<String, KeyFi
 
 // The line of a public key of version 1.
 fn rsa_public_line(alloc: Global, key: &PublicKey<V1>) -> Result<String, KeyFileError>
-    ensures { WritesIn (IsWritten IsRsaPublicWritten PublicLabel key.now)
-        (HasNoText IsRsaPublicWritten PublicLabel key.now) result }
+    ensures { WritesIn (λ line. IsRsaPublic key.now × (line ≡ public_text key.now))
+        (IsNoKey IsRsaPublic key.now) result }
 {
-    match public_key_to_pem(alloc, &key.lend()) {
+    match rsa_public_to_paserk(alloc, &key.lend()) {
         Ok(line) => Ok(line),
         Err(error) => Err(KeyFileError::from(error)),
     }

@@ -1,11 +1,13 @@
 -- Blocks of lines.
 use Rattle.std.proofs.Common.{◌≡◌, ◌≢◌, ◌<◌, ◌≤◌, ◌+◌, ◌-◌, ℕ, suc, List, [], ◌∷◌, ◌++◌, append_assoc, drop, get_or, length, length-append, refl, rules, sym, ap, subst, take, ◌∙◌, arith}
 use Rattle.std.proofs.Math.Seq.{take-suc}
-use Rattle.std.proofs.lemmas.List.{append-nil, get_or-map, length-map, map-append, take_all}
+use Rattle.std.proofs.lemmas.List.{append-nil, get_or_default, get_or-map, length-map, map-append, take_all}
 use Rattle.std.proofs.lemmas.List.Elements.{All-append, All-cons, All-more, All-nil}
 use Rattle.std.proofs.lemmas.List.Folds.{concat-append}
 use Rattle.std.specs.Borrow.{Bor}
-use Rattle.std.specs.Prelude.{All, Err, IfOk, IfSome, MatchOption, None, Ok, Option, Result, Some, codes}
+use Rattle.std.proofs.lemmas.Bool.{false≢true}
+use Rattle.std.specs.List.{AllWithin, HoldsAt}
+use Rattle.std.specs.Prelude.{◌↔◌, All, Any, Bool, Err, IfOk, IfSome, IsTrue, MatchBool, MatchOption, None, Ok, Option, Result, Some, codes, false, true}
 use Rattle.std.specs.declared.alloc.AllocError.{AllocError}
 use Rattle.std.specs.declared.alloc.Global.{Global}
 use Rattle.std.specs.declared.vec.Vec.{Vec}
@@ -75,6 +77,18 @@ one-base64 a b p q e =
     let both = sym (decode_of-encode_of standard a (search rules) p) ∙ ap (decode_of standard) e
     ∙ decode_of-encode_of standard b (search rules) q in
     cc both
+
+-- ---- some line
+
+-- the answer of a search, where a line was found or each was passed over
+pub any-line : (P : List ℕ → Type 0) (r : Bool) (lines : List (List ℕ))
+    → MatchBool r ((k : ℕ) × (k < length lines) × HoldsAt P lines k) (AllWithin (λ line. ¬ P line) lines 0 (length lines))
+    → IsTrue r ↔ Any P lines
+any-line P true lines h = (λ yes. (h.0, get_or lines h.0 [], h.1, get_or_default lines h.0 (get_or lines h.0 []) [] h.1, h.2 []), λ has. refl)
+any-line P false lines h = (
+  λ yes. absurd (false≢true yes),
+  λ has. absurd (h has.0 has.1 (omega arith) has.2 (subst P (sym has.3) has.4)),
+)
 
 -- ---- borrowed lines
 

@@ -9,14 +9,39 @@ use Rattle.paseto_pem.specs.declared.label.Label.{Label}
 use Rattle.paseto_pem.specs.declared.error.PemError.{PemError}
 use Rattle.paseto_pem.specs.declared.error.PemError.TheVariants.{Memory}
 use Rattle.paseto_pem.specs.Error.{IsMemory}
-use Rattle.paseto_pem.specs.Key.{Contents, Faults, IsKeyFault, IsText, IsTextFault, ReadsContents, ReadsKey, ReadsText, WritesKey}
+use Rattle.paseto_pem.specs.Key.{Contents, Faults, IsKeyFault, IsText, IsTextFault, ReadsContents, ReadsHeld, ReadsKey, ReadsText, WritesKey}
 use Rattle.paseto_pem.specs.Text.{IsPem, pem}
 
 memory-fault : (text : List ℕ) (error : PemError) → IsMemory error → IsTextFault text error
 memory-fault text (Memory source) h = h
 memory-fault text error h = absurd h
 
+-- why a text is refused whose contents are
+pub held-fault : (IsFaultOf : Faults) (text : List ℕ) (label : Label) (held : Vec ℕ Global) (octets : List ℕ) → ReadsText text (Ok (label, held))
+    → octets ≡ held.items → (error : PemError) → IsMemory error ⊎ IsFaultOf label octets error → IsKeyFault IsFaultOf text error
+held-fault IsFaultOf text label held octets h are error (inl memory) = inl (memory-fault text error memory)
+held-fault IsFaultOf text label held octets h are error (inr other) =
+    let bytes = subst (λ (o : List ℕ). IsBytes o) (sym are) h.bytes in
+    let written = subst (λ (o : List ℕ). IsPem label o text) (sym are) h.found in
+    inr (label, octets, bytes, written, other)
+
 module _ (IsKeyOf : Contents) (IsFaultOf : Faults) where
+  -- the answer for contents, where it is a key
+  pub refused-held : (label : Label) (contents : List ℕ) (error : PemError) (answer : Result (List ℕ) PemError) → IsErrAnd answer (λ e. e ≡ error)
+      → ReadsContents IsKeyOf IsFaultOf label contents (Err error) → ReadsHeld IsKeyOf IsFaultOf label contents answer
+  refused-held label contents error (Ok made) is r = absurd is
+  refused-held label contents error (Err e) is r =
+      subst (λ (x : PemError). ReadsHeld IsKeyOf IsFaultOf label contents (Err x)) (sym is)
+      (record { found = tt; read = r.read; refused = r.refused })
+
+  pub made-held : (label : Label) (contents : List ℕ) (made : Vec ℕ Global) (key : List ℕ) → ReadsContents IsKeyOf IsFaultOf label contents (Ok made)
+      → key ≡ made.items → ReadsHeld IsKeyOf IsFaultOf label contents (Ok key)
+  made-held label contents made key r is = record {
+    found = subst (λ (k : List ℕ). IsKeyOf label contents k) (sym is) r.found;
+    read = λ other p. is ∙ r.read other p;
+    refused = tt;
+  }
+
   -- contents that are no key
   pub refused-contents : (label : Label) (contents : List ℕ) (error : PemError) (answer : Result (Vec ℕ Global) PemError)
       → IsErrAnd answer (λ e. e ≡ error) → IsMemory error ⊎ IsFaultOf label contents error
@@ -47,42 +72,26 @@ module _ (IsKeyOf : Contents) (IsFaultOf : Faults) where
         (record { found = tt; read = λ key p. h.read p.label p.contents p.bytes p.written; refused = inl h.refused })
 
     module _ (label : Label) (held : Vec ℕ Global) (octets : List ℕ) (h : ReadsText text (Ok (label, held))) (are : octets ≡ held.items) where
-      at-octets : (key : List ℕ) → (p : IsText IsKeyOf key text) → IsKeyOf label octets key
+      pub at-octets : (key : List ℕ) → (p : IsText IsKeyOf key text) → IsKeyOf label octets key
       at-octets key p =
           let same = h.read p.label p.contents p.bytes p.written in
           subst (λ (l : Label). IsKeyOf l octets key) (sym same.0)
           (subst (λ (o : List ℕ). IsKeyOf p.label o key) (sym (are ∙ same.1)) p.held)
 
-      is-pem : IsPem label octets text
-      is-pem = subst (λ (o : List ℕ). IsPem label o text) (sym are) h.found
+      pub at-text : (key : List ℕ) → IsKeyOf label octets key → IsText IsKeyOf key text
+      at-text key p = record {
+        label = label;
+        contents = octets;
+        bytes = subst (λ (o : List ℕ). IsBytes o) (sym are) h.bytes;
+        written = subst (λ (o : List ℕ). IsPem label o text) (sym are) h.found;
+        held = p;
+      }
 
-      octets-are : IsBytes octets
-      octets-are = subst (λ (o : List ℕ). IsBytes o) (sym are) h.bytes
-
-      -- a text whose contents are no key
-      pub refused-key : (error : PemError) (answer : Result (List ℕ) PemError) → IsErrAnd answer (λ e. e ≡ error)
-          → ReadsContents IsKeyOf IsFaultOf label octets (Err error) → ReadsKey IsKeyOf IsFaultOf text answer
-      refused-key error (Ok made) is r = absurd is
-      refused-key error (Err e) is r =
-          let fault : IsKeyFault IsFaultOf text error = elim r.refused [
-            | inl memory ↦ inl (memory-fault text error memory)
-            | inr other ↦ inr (label, octets, octets-are, is-pem, other)
-          ] in
-          subst (λ (x : PemError). ReadsKey IsKeyOf IsFaultOf text (Err x)) (sym is)
-          (record { found = tt; read = λ key p. r.read key (at-octets key p); refused = fault })
-
-      -- a text whose contents are a key
-      pub made-key : (made : Vec ℕ Global) (key : List ℕ) → ReadsContents IsKeyOf IsFaultOf label octets (Ok made)
-          → key ≡ made.items → ReadsKey IsKeyOf IsFaultOf text (Ok key)
-      made-key made key r is =
-          record {
-            found = record {
-              label = label;
-              contents = octets;
-              bytes = octets-are;
-              written = is-pem;
-              held = subst (λ (k : List ℕ). IsKeyOf label octets k) (sym is) r.found;
-            };
-            read = λ other p. is ∙ r.read other (at-octets other p);
-            refused = tt;
-          }
+      -- the answer for a text is that for its contents
+      pub read-key : (answer : Result (List ℕ) PemError) → ReadsHeld IsKeyOf IsFaultOf label octets answer → ReadsKey IsKeyOf IsFaultOf text answer
+      read-key (Ok key) r = record { found = at-text key r.found; read = λ other p. r.read other (at-octets other p); refused = tt }
+      read-key (Err e) r = record {
+        found = tt;
+        read = λ key p. r.read key (at-octets key p);
+        refused = held-fault IsFaultOf text label held octets h are e r.refused;
+      }

@@ -11,3 +11,4 @@ pub mod RsaLaws
 pub mod P384Laws
 pub mod WrittenKeys
 pub mod RsaBytes
+pub mod PemKeyLaws

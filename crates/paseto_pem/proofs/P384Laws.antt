@@ -1,5 +1,5 @@
 -- Keys of P-384.
-use Rattle.std.proofs.Common.{◌≡◌, ◌≢◌, ℕ, ◌+◌, ◌<◌, ◌≤◌, inl, inr, List, [], ◌∷◌, ◌++◌, length, get_or, slice_index, ◌%◌, subst, take, drop, refl, sym, ap, ◌∙◌, append_assoc, length-append, arith}
+use Rattle.std.proofs.Common.{◌≡◌, ◌≢◌, ◌⊎◌, ℕ, ◌+◌, ◌<◌, ◌≤◌, inl, inr, List, [], ◌∷◌, ◌++◌, length, get_or, slice_index, ◌%◌, subst, take, drop, refl, sym, ap, ◌∙◌, append_assoc, length-append, arith}
 use Rattle.std.specs.Prelude.{IsTrue, Option, None, ◌==◌, ◌&&◌, ◌||◌}
 use Rattle.std.proofs.lemmas.Bool.Decides.{nat_tests}
 use Rattle.std.proofs.lemmas.List.{append-nil, append_cancel_left}
@@ -15,17 +15,13 @@ use Rattle.paseto_pem.specs.declared.error.PemError.{PemError}
 use Rattle.paseto_pem.specs.declared.error.PemError.TheVariants.{InvalidDer, OtherAlgorithm, OtherCurve, InvalidKey}
 use Rattle.paseto_pem.specs.Algorithm.{IsAlgorithm, ec_public_key, secp384r1}
 use Rattle.paseto_pem.specs.Info.{IsPrivateInfo, private_key_info, public_key_info}
-use Rattle.paseto_pem.specs.P384.{AreHalves, IsAlgorithmFault, IsAloneFault, IsBehindCurve, IsForm, IsFormFault, IsInfoFault, IsPoint, IsPointOf, IsPrivateOf, IsPublicOf, IsPublicRefusal, IsSpelled, compressed, ec_private_key, p384, parameters, public_part}
+use Rattle.paseto_pem.specs.P384.{AreHalves, IsAlgorithmFault, IsAloneFault, IsBehindCurve, IsCurveFault, IsForm, IsFormFault, IsInfoFault, IsNumber, IsPoint, IsPointOf, IsPrivateOf, IsPublicOf, IsPublicRefusal, IsSpelled, compressed, ec_private_key, p384, parameters, public_part}
 use Rattle.paseto_pem.proofs.AlgorithmLaws.{ed25519-octets, rsa-octets}
 use Rattle.paseto_pem.proofs.InfoLaws.{element-most, element-same, private-info, private-unique, public-unique}
 
 pub algorithm-octets : 0x06 ∷ 0x07 ∷ 0x2a ∷ 0x86 ∷ 0x48 ∷ 0xce ∷ 0x3d ∷ 0x02 ∷ 0x01 ∷ 0x06 ∷ 0x05 ∷ 0x2b ∷ 0x81 ∷ 0x04 ∷ 0x00 ∷ 0x22 ∷ [] ≡ p384
 unfolding ec_public_key secp384r1 element der_length
 algorithm-octets = refl
-
-pub parameters-octets : 0xa0 ∷ 0x07 ∷ 0x06 ∷ 0x05 ∷ 0x2b ∷ 0x81 ∷ 0x04 ∷ 0x00 ∷ 0x22 ∷ [] ≡ parameters secp384r1
-unfolding secp384r1 element der_length
-parameters-octets = refl
 
 pub version-octets : 0x02 ∷ 0x01 ∷ 0x01 ∷ [] ≡ element 0x02 (1 ∷ [])
 unfolding element der_length
@@ -68,8 +64,8 @@ ec-of number rest contents octets version behind read is split parts =
 -- what stands behind the parameters is one
 pub behind-unique : (behind a b : List ℕ) → IsBehindCurve behind a → IsBehindCurve behind b → a ≡ b
 behind-unique behind a b (inl e) (inl f) = append_cancel_left (parameters secp384r1) a b (sym e ∙ f)
-behind-unique behind a b (inl e) (inr f) = absurd (f.1 a e)
-behind-unique behind a b (inr e) (inl f) = absurd (e.1 b f)
+behind-unique behind a b (inl e) (inr f) = absurd (f.1 secp384r1 a e)
+behind-unique behind a b (inr e) (inl f) = absurd (e.1 secp384r1 b f)
 behind-unique behind a b (inr e) (inr f) = sym e.0 ∙ f.0
 
 -- an ECPrivateKey that tells its curve can be read in one way
@@ -115,14 +111,33 @@ info-fault : (contents algorithm key number behind : List ℕ) (public own : Opt
 info-fault contents algorithm key number behind public own error p h q =
     fault-algorithm algorithm error h (private-unique algorithm p384 key (ec_private_key number behind) contents public own p q).0
 
-no-info : (contents number behind : List ℕ) (own : Option (List ℕ)) (error : PemError) → IsInfoFault contents error
-    → IsPrivateInfo p384 (ec_private_key number behind) own contents → ⊥
-no-info contents number behind own InvalidDer h q = h p384 (ec_private_key number behind) own q
-no-info contents number behind own InvalidKey h q =
+-- the parameters are those of another curve
+curve-fault : (behind rest : List ℕ) (error : PemError) → IsCurveFault behind error → IsBehindCurve behind rest → ⊥
+curve-fault behind rest (OtherCurve other) h (inl e) = h.3 (element-unique 0xa0 h.0 secp384r1 h.1 rest (sym h.2 ∙ e)).0
+curve-fault behind rest (OtherCurve other) h (inr f) = f.1 h.0 h.1 h.2
+curve-fault behind rest error h b = absurd h
+
+module _ (contents number behind rest : List ℕ) (own : Option (List ℕ)) (error : PemError) where
+  inner-fault : (other found : List ℕ) (public : Option (List ℕ)) → IsPrivateInfo p384 (ec_private_key other found) public contents
+      → IsCurveFault found error → IsBehindCurve behind rest → IsPrivateInfo p384 (ec_private_key number behind) own contents → ⊥
+  inner-fault other found public p h b q =
+      let key = (private-unique p384 p384 (ec_private_key other found) (ec_private_key number behind) contents public own p q).1 in
+      let same = (ec-unique other number found behind (ec_private_key other found) refl key).1 in
+      curve-fault behind rest error (subst (λ (l : List ℕ). IsCurveFault l error) same h) b
+
+  either-fault : ((algorithm key : List ℕ) × (public : Option (List ℕ)) × IsPrivateInfo algorithm key public contents × IsAlgorithmFault algorithm error)
+      ⊎ ((number behind : List ℕ) × (public : Option (List ℕ)) × IsPrivateInfo p384 (ec_private_key number behind) public contents
+      × IsCurveFault behind error)
+      → IsBehindCurve behind rest → IsPrivateInfo p384 (ec_private_key number behind) own contents → ⊥
+  either-fault (inl h) b q = info-fault contents h.0 h.1 number behind h.2 own error h.3 h.4 q
+  either-fault (inr h) b q = inner-fault h.0 h.1 h.2 h.3 h.4 b q
+
+no-info : (contents number behind rest : List ℕ) (own : Option (List ℕ)) (error : PemError) → IsInfoFault contents error
+    → IsBehindCurve behind rest → IsPrivateInfo p384 (ec_private_key number behind) own contents → ⊥
+no-info contents number behind rest own InvalidDer h b q = h p384 (ec_private_key number behind) own q
+no-info contents number behind rest own InvalidKey h b q =
     h.3 number behind (private-unique p384 p384 h.0 (ec_private_key number behind) contents h.1 own h.2 q).1
-no-info contents number behind own (OtherAlgorithm other) h q = info-fault contents h.0 h.1 number behind h.2 own (OtherAlgorithm other) h.3 h.4 q
-no-info contents number behind own (OtherCurve other) h q = info-fault contents h.0 h.1 number behind h.2 own (OtherCurve other) h.3 h.4 q
-no-info contents number behind own error h q = absurd h.4
+no-info contents number behind rest own error h b q = either-fault contents number behind rest own error h b q
 
 no-alone : (contents number rest : List ℕ) (error : PemError) → IsAloneFault contents error
     → contents ≡ ec_private_key number (parameters secp384r1 ++ rest) → ⊥
@@ -133,7 +148,7 @@ no-alone contents number rest error h e = absurd h
 
 pub no-form : (label : Label) (contents number rest : List ℕ) (public : Option (List ℕ)) (error : PemError) → IsFormFault label contents error
     → IsForm label contents number rest public → ⊥
-no-form PrivateKey contents number rest public error h p = no-info contents number p.0 public error h p.2
+no-form PrivateKey contents number rest public error h p = no-info contents number p.0 rest public error h p.1 p.2
 no-form EcPrivateKey contents number rest public error h p = no-alone contents number rest error h p.0
 no-form label contents number rest public error h p = p
 
@@ -158,27 +173,40 @@ one-point a b xy zs same p q =
     let both = sym p.1 ∙ r.1 in
     cc both
 
+pub point-size : (key xy : List ℕ) → IsPointOf key xy → length key ≡ 48
+unfolding IsPrivate
+point-size key xy p = p.0.0
+
+-- a number is that of one private key
+pub number-one : (number a b : List ℕ) → length a ≡ 48 → length b ≡ 48 → IsNumber number a → IsNumber number b → a ≡ b
+number-one number a b n m (inl e) (inl f) = sym e ∙ f
+number-one number a b n m (inl e) (inr f) = let long = ap length (sym e ∙ f) in absurd (omega (arith, long, n, m))
+number-one number a b n m (inr e) (inl f) = let long = ap length (sym e ∙ f) in absurd (omega (arith, long, n, m))
+number-one number a b n m (inr e) (inr f) = ap (drop 1) (sym e ∙ f)
+
 -- what is found beside a number
-pub number-fault : (label : Label) (contents number rest key xy : List ℕ) (public : Option (List ℕ)) → IsForm label contents number rest public
-    → IsPointOf number xy → ¬ AreHalves rest public xy → IsPrivateOf label contents key → ⊥
-number-fault label contents number rest key xy public form point other p =
-    let same = form-unique label contents number key rest p.rest public p.public form p.form in
-    let coordinates = one-point number key xy p.xy same.0 point p.point in
+pub number-fault : (label : Label) (contents number made rest key xy : List ℕ) (public : Option (List ℕ)) → IsForm label contents number rest public
+    → IsNumber number made → IsPointOf made xy → ¬ AreHalves rest public xy → IsPrivateOf label contents key → ⊥
+number-fault label contents number made rest key xy public form told point other p =
+    let same = form-unique label contents number p.number rest p.rest public p.public form p.form in
+    let also : IsNumber number key = subst (λ (o : List ℕ). IsNumber o key) (sym same.0) p.told in
+    let one = number-one number made key (point-size made xy point) (point-size key p.xy p.point) told also in
+    let coordinates = one-point made key xy p.xy one point p.point in
     let halves : AreHalves rest public p.xy =
     subst (λ (o : Option (List ℕ)). AreHalves rest o p.xy) (sym same.2) (subst (λ (r : List ℕ). AreHalves r p.public p.xy) (sym same.1) p.halves) in
     other (subst (AreHalves rest public) (sym coordinates) halves)
 
 pub no-number : (label : Label) (contents number rest key : List ℕ) (public : Option (List ℕ)) → IsForm label contents number rest public
-    → ((xy : List ℕ) → ¬ IsPointOf number xy) → IsPrivateOf label contents key → ⊥
+    → ((made xy : List ℕ) → IsNumber number made → ¬ IsPointOf made xy) → IsPrivateOf label contents key → ⊥
 no-number label contents number rest key public form none p =
-    let same = form-unique label contents number key rest p.rest public p.public form p.form in
-    none p.xy (subst (λ (k : List ℕ). IsPointOf k p.xy) (sym same.0) p.point)
+    let same = form-unique label contents number p.number rest p.rest public p.public form p.form in
+    none key p.xy (subst (λ (o : List ℕ). IsNumber o key) (sym same.0) p.told) p.point
 
 -- what is written is an ECPrivateKey of the curve
-part-no-parameters : (xy other : List ℕ) → public_part xy ≢ parameters secp384r1 ++ other
-part-no-parameters xy other e =
+part-no-parameters : (xy curve other : List ℕ) → public_part xy ≢ parameters curve ++ other
+part-no-parameters xy curve other e =
     let first = (element-first 0xa1 (element 0x03 (0 ∷ 4 ∷ xy)) [] (public_part xy) (part-is xy ∙ sym (append-nil (element 0xa1 (element 0x03 (0 ∷ 4 ∷ xy)))))).1 in
-    let second = (element-first 0xa0 secp384r1 other (public_part xy) e).1 in
+    let second = (element-first 0xa0 curve other (public_part xy) e).1 in
     omega (arith, first, second)
 
 pub written-form : (contents number xy : List ℕ) → contents ≡ private_key_info p384 (ec_private_key number (public_part xy))

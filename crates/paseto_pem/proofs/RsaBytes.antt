@@ -1,5 +1,5 @@
 -- The octets of a private key of RSA are bytes.
-use Rattle.std.proofs.Common.{◌≡◌, ℕ, ◌/◌, ◌%◌, ◌<◌, ◌≤◌, ◌⊎◌, inl, inr, List, [], ◌∷◌, ◌++◌, length, length-append, refl, sym, ap, subst, arith}
+use Rattle.std.proofs.Common.{◌≡◌, ℕ, ◌/◌, ◌%◌, ◌<◌, ◌≤◌, ◌⊎◌, inl, inr, List, Option, [], ◌∷◌, ◌++◌, length, length-append, refl, sym, ap, subst, arith}
 use Rattle.std.proofs.lemmas.Bool.Decides.{nat_tests}
 use Rattle.std.proofs.lemmas.List.{drop_at, take_at}
 use Rattle.base64.specs.GeneralPurpose.{IsBytes}
@@ -11,7 +11,7 @@ use Rattle.rusty_paseto_primitives.proofs.ByteLists.{IsBytes_cons, IsBytes-appen
 use Rattle.paseto_pem.specs.declared.label.Label.{Label}
 use Rattle.paseto_pem.specs.declared.label.Label.TheVariants.{PrivateKey, RsaPrivateKey}
 use Rattle.paseto_pem.specs.Algorithm.{rsa}
-use Rattle.paseto_pem.specs.Info.{private_key_info}
+use Rattle.paseto_pem.specs.Info.{private_key_info, version_of}
 use Rattle.paseto_pem.specs.Rsa.{IsForm, IsPrivateOf}
 use Rattle.paseto_pem.proofs.AlgorithmLaws.{rsa-octets}
 use Rattle.paseto_pem.proofs.InfoLaws.{element-most, private-is}
@@ -50,13 +50,13 @@ unfolding element
 element-bytes tag contents low most h =
     IsBytes-append (tag ∷ der_length (length contents)) contents (IsBytes_cons tag (der_length (length contents)) low (length-bytes (length contents) most)) h
 
-inner-bytes : (label : Label) (contents inner : List ℕ) → IsBytes contents → IsForm label contents inner → IsBytes inner
-inner-bytes PrivateKey contents inner h form =
+inner-bytes : (label : Label) (contents inner : List ℕ) (public : Option (List ℕ)) → IsBytes contents → IsForm label contents inner public → IsBytes inner
+inner-bytes PrivateKey contents inner public h form =
     let whole = contents-bytes 0x30 _ (subst IsBytes form.written h) in
-    let rest = back-bytes (element 0x30 rsa) _ (back-bytes (element 0x02 (0 ∷ [])) _ whole) in
+    let rest = back-bytes (element 0x30 rsa) _ (back-bytes (element 0x02 (version_of public ∷ [])) _ whole) in
     contents-bytes 0x04 inner (front-bytes (element 0x04 inner) _ rest)
-inner-bytes RsaPrivateKey contents inner h form = subst IsBytes form h
-inner-bytes label contents inner h form = absurd form
+inner-bytes RsaPrivateKey contents inner public h form = subst IsBytes form.0 h
+inner-bytes label contents inner public h form = absurd form
 
 info-bytes : (inner : List ℕ) → length inner ≤ 2400 → IsBytes inner → IsBytes (private_key_info rsa inner)
 info-bytes inner few h =
@@ -80,4 +80,4 @@ info-bytes inner few h =
 pub key-bytes : (label : Label) (contents key : List ℕ) → IsBytes contents → IsPrivateOf label contents key → IsBytes key
 key-bytes label contents key h p =
     let few = inner-few p.inner (subst IsPrivate p.written p.is_key) in
-    subst IsBytes (sym p.written) (info-bytes p.inner few (inner-bytes label contents p.inner h p.form))
+    subst IsBytes (sym p.written) (info-bytes p.inner few (inner-bytes label contents p.inner p.public h p.form))

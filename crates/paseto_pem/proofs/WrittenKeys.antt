@@ -1,5 +1,5 @@
 -- The keys that are written are those that are read.
-use Rattle.std.proofs.Common.{inr, refl}
+use Rattle.std.proofs.Common.{inl, inr, refl}
 use Rattle.std.specs.Prelude.{None}
 use Rattle.paseto_der.specs.Element.{element}
 use Rattle.paseto_pem.specs.Algorithm.{ed25519}
@@ -32,6 +32,8 @@ pub curve_private_is_read : IsWithin IsCurvePrivateWritten IsCurvePrivateOf
 curve_private_is_read label contents key p = record {
   xy = p.xy;
   point = p.point;
+  number = key;
+  told = inl refl;
   rest = public_part p.xy;
   public = None;
   form = subst (λ (l : Label). IsForm l contents key (public_part p.xy) None) (sym p.is_private) (written-form contents key p.xy p.written);

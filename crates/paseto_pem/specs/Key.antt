@@ -57,6 +57,12 @@ pub record ReadsContents (IsKeyOf : Contents) (IsFaultOf : Faults) (label : Labe
   pub read : (key : List ℕ) → IsKeyOf label contents key → MatchResult answer (λ found. found.items ≡ key) IsMemory
   pub refused : IfErr answer (λ error. IsMemory error ⊎ IsFaultOf label contents error)
 
+-- the same, where the answer is a key
+pub record ReadsHeld (IsKeyOf : Contents) (IsFaultOf : Faults) (label : Label) (contents : List ℕ) (answer : Result (List ℕ) PemError) : Type 0 where
+  pub found : IfOk answer (λ key. IsKeyOf label contents key)
+  pub read : (key : List ℕ) → IsKeyOf label contents key → MatchResult answer (λ found. found ≡ key) IsMemory
+  pub refused : IfErr answer (λ error. IsMemory error ⊎ IsFaultOf label contents error)
+
 -- what stands under the label is none of the keys that were asked for
 abbrev pub IsOtherLabel : Label → PemError → Type 0
 IsOtherLabel label (OtherLabel other) = (other ≡ label) × (label ≢ EncryptedPrivateKey)

@@ -7,3 +7,4 @@ pub mod Key
 pub mod Ed25519
 pub mod P384
 pub mod Rsa
+pub mod PemKey

@@ -28,11 +28,17 @@ parameters curve = element 0xa0 curve
 unfoldable pub public_part : List ℕ → List ℕ
 public_part xy = element 0xa1 (element 0x03 (0 ∷ 4 ∷ xy))
 
--- what follows the number is the parameters of the curve and the rest, or it has none and is the rest
+-- what follows the number is the parameters of the curve and the rest, or it has no parameters and is the rest
 abbrev pub IsBehindCurve : List ℕ → List ℕ → Type 0
 IsBehindCurve behind rest =
     (behind ≡ parameters secp384r1 ++ rest)
-    ⊎ ((behind ≡ rest) × ((other : List ℕ) → behind ≢ parameters secp384r1 ++ other))
+    ⊎ ((behind ≡ rest) × ((curve other : List ℕ) → behind ≢ parameters curve ++ other))
+
+-- what follows the number begins with the parameters of another curve
+abbrev pub IsCurveFault : List ℕ → PemError → Type 0
+IsCurveFault behind (OtherCurve other) =
+    (curve rest : List ℕ) × (behind ≡ parameters curve ++ rest) × (curve ≢ secp384r1) × IsCurve other curve
+IsCurveFault behind _ = ⊥
 
 -- contents are an ECPrivateKey of the curve: in a OneAsymmetricKey, which tells the curve and may have the public key once
 -- more, and where the parameters need not tell it again; or alone, where they tell it (RFC 5915, section 3)
@@ -51,13 +57,20 @@ IsPointOf private xy = IsPrivate private × (coordinates_of (p384_public private
 abbrev pub AreHalves : List ℕ → Option (List ℕ) → List ℕ → Type 0
 AreHalves rest public xy = ((rest ≡ []) ⊎ (rest ≡ public_part xy)) × IsHalf public (4 ∷ xy)
 
+-- octets are the number of a private key of 48 octets: these (RFC 5915, section 3), or these with a 0 before them, as GnuTLS
+-- writes some
+abbrev pub IsNumber : List ℕ → List ℕ → Type 0
+IsNumber octets key = (octets ≡ key) ⊎ (octets ≡ 0 ∷ key)
+
 -- contents are a private key of 48 octets
 pub record IsPrivateOf (label : Label) (contents key : List ℕ) : Type 0 where
   pub xy : List ℕ
   pub point : IsPointOf key xy
+  pub number : List ℕ
+  pub told : IsNumber number key
   pub rest : List ℕ
   pub public : Option (List ℕ)
-  pub form : IsForm label contents key rest public
+  pub form : IsForm label contents number rest public
   pub halves : AreHalves rest public xy
 
 -- contents are those that are written of a private key: a PrivateKeyInfo, and in its ECPrivateKey the public key
@@ -111,14 +124,17 @@ IsAlgorithmFault algorithm (OtherCurve other) =
     (curve : List ℕ) × (algorithm ≡ ec_public_key ++ curve) × (curve ≢ secp384r1) × IsCurve other curve
 IsAlgorithmFault algorithm _ = ⊥
 
--- why no ECPrivateKey of the curve is found in a OneAsymmetricKey: each presupposes that none before it holds
+-- why no ECPrivateKey of the curve is found in a OneAsymmetricKey: each presupposes that none before it holds. The curve is
+-- another one by the algorithm, or by the parameters in the ECPrivateKey
 abbrev pub IsInfoFault : List ℕ → PemError → Type 0
 IsInfoFault contents InvalidDer = IsNoPrivateInfo contents
 IsInfoFault contents InvalidKey =
     (key : List ℕ) × (public : Option (List ℕ)) × IsPrivateInfo p384 key public contents
     × ((number rest : List ℕ) → key ≢ ec_private_key number rest)
 IsInfoFault contents error =
-    (algorithm key : List ℕ) × (public : Option (List ℕ)) × IsPrivateInfo algorithm key public contents × IsAlgorithmFault algorithm error
+    ((algorithm key : List ℕ) × (public : Option (List ℕ)) × IsPrivateInfo algorithm key public contents × IsAlgorithmFault algorithm error)
+    ⊎ ((number behind : List ℕ) × (public : Option (List ℕ)) × IsPrivateInfo p384 (ec_private_key number behind) public contents
+    × IsCurveFault behind error)
 
 -- why none is found that stands alone: it is none, or none that tells its curve, or one of another curve
 abbrev pub IsAloneFault : List ℕ → PemError → Type 0
@@ -136,11 +152,11 @@ IsFormFault label contents error = IsOtherLabel label error
 -- why an ECPrivateKey of the curve is refused: a public key beside the private one is not its own, or there is no private key
 abbrev pub IsNumberFault : Label → List ℕ → PemError → Type 0
 IsNumberFault label contents OtherHalf =
-    (number rest : List ℕ) × (public : Option (List ℕ)) × (xy : List ℕ) × IsForm label contents number rest public
-    × IsPointOf number xy × (¬ AreHalves rest public xy)
+    (number key rest : List ℕ) × (public : Option (List ℕ)) × (xy : List ℕ) × IsForm label contents number rest public
+    × IsNumber number key × IsPointOf key xy × (¬ AreHalves rest public xy)
 IsNumberFault label contents InvalidKey =
     (number rest : List ℕ) × (public : Option (List ℕ)) × IsForm label contents number rest public
-    × ((xy : List ℕ) → ¬ IsPointOf number xy)
+    × ((key xy : List ℕ) → IsNumber number key → ¬ IsPointOf key xy)
 IsNumberFault label contents _ = ⊥
 
 -- why contents are not read as a private key

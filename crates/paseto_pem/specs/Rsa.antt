@@ -1,14 +1,14 @@
 -- Keys of RSA of 2048 bits (RFC 8017, appendix A.1).
-use Rattle.std.specs.Prelude.{◌≡◌, ◌≢◌, ◌⊎◌, ℕ, ◌*◌, ◌-◌, ◌<◌, List, ◌++◌, length, nat_eq, slice_index, if◌then◌else◌, Option, None, Some}
+use Rattle.std.specs.Prelude.{◌≡◌, ◌≢◌, ◌⊎◌, ℕ, ◌*◌, ◌-◌, ◌<◌, List, ◌++◌, length, nat_eq, slice_index, if◌then◌else◌, Option, None}
 use Rattle.paseto_der.specs.Element.{element}
-use Rattle.paseto_rsa.specs.Keys.{IsInRange, IsPrivate, IsPublicKey}
+use Rattle.paseto_rsa.specs.Keys.{IsInRange, IsPrivate, IsPublicKey, rsa_public}
 use Rattle.paseto_pem.specs.declared.label.Label.{Label}
 use Rattle.paseto_pem.specs.declared.label.Label.TheVariants.{PrivateKey, PublicKey, RsaPrivateKey, RsaPublicKey}
 use Rattle.paseto_pem.specs.declared.found.Algorithm.TheVariants.{Rsa}
 use Rattle.paseto_pem.specs.declared.error.PemError.{PemError}
-use Rattle.paseto_pem.specs.declared.error.PemError.TheVariants.{InvalidDer, OtherAlgorithm, OtherSize, InvalidKey}
+use Rattle.paseto_pem.specs.declared.error.PemError.TheVariants.{InvalidDer, OtherAlgorithm, OtherSize, OtherHalf, InvalidKey}
 use Rattle.paseto_pem.specs.Algorithm.{IsAlgorithm, rsa}
-use Rattle.paseto_pem.specs.Info.{IsNoPrivateInfo, IsNoPublicInfo, IsPrivateInfo, private_key_info, public_key_info}
+use Rattle.paseto_pem.specs.Info.{IsHalf, IsNoPrivateInfo, IsNoPublicInfo, IsPrivateInfo, private_key_info, public_key_info}
 use Rattle.paseto_pem.specs.Key.{Faults, IsOtherLabel}
 
 -- octets are a public key, an RSAPublicKey, which has 270 octets: its modulus has 2048 bits, and its exponent is 65537
@@ -19,18 +19,20 @@ pub record IsPublic (key : List ℕ) : Type 0 where
   pub in_range : IsInRange n e
   pub read : IsPublicKey n e key
 
--- an RSAPrivateKey of this label: in a PrivateKeyInfo, or alone (A.1.2)
-abbrev pub IsForm : Label → List ℕ → List ℕ → Type 0
-IsForm PrivateKey contents inner = IsPrivateInfo rsa inner None contents
-IsForm RsaPrivateKey contents inner = contents ≡ inner
-IsForm _ contents inner = ⊥
+-- an RSAPrivateKey of this label: in a OneAsymmetricKey, which may have the public key, too; or alone (A.1.2)
+abbrev pub IsForm : Label → List ℕ → List ℕ → Option (List ℕ) → Type 0
+IsForm PrivateKey contents inner public = IsPrivateInfo rsa inner public contents
+IsForm RsaPrivateKey contents inner public = (contents ≡ inner) × (public ≡ None)
+IsForm _ contents inner public = ⊥
 
--- contents are a private key: the PrivateKeyInfo of their RSAPrivateKey
+-- contents are a private key: the PrivateKeyInfo of their RSAPrivateKey. A public key beside it is its own RSAPublicKey
 pub record IsPrivateOf (label : Label) (contents key : List ℕ) : Type 0 where
   pub inner : List ℕ
-  pub form : IsForm label contents inner
+  pub public : Option (List ℕ)
+  pub form : IsForm label contents inner public
   pub written : key ≡ private_key_info rsa inner
   pub is_key : IsPrivate key
+  pub half : IsHalf public (rsa_public key)
 
 -- contents are those that are written of a private key: a PrivateKeyInfo, which is the key itself
 pub record IsPrivateForm (label : Label) (contents key : List ℕ) : Type 0 where
@@ -76,13 +78,12 @@ abbrev pub HasOtherSize : ℕ → List ℕ → Type 0
 HasOtherSize size inner =
     (version integers : List ℕ) × (inner ≡ element 0x30 (element 0x02 version ++ integers)) × HasOtherModulus size integers
 
--- why no RSAPrivateKey is found: the last is that one stands beside its public key, in version v2 (RFC 5958, section 2)
+-- why no RSAPrivateKey is found
 abbrev pub IsFormFault : Faults
 IsFormFault PrivateKey contents InvalidDer = IsNoPrivateInfo contents
 IsFormFault PrivateKey contents (OtherAlgorithm other) =
     (algorithm key : List ℕ) × (public : Option (List ℕ)) × IsPrivateInfo algorithm key public contents
     × IsAlgorithm other algorithm × (other ≢ Rsa)
-IsFormFault PrivateKey contents InvalidKey = (inner public : List ℕ) × IsPrivateInfo rsa inner (Some public) contents
 IsFormFault PrivateKey contents _ = ⊥
 IsFormFault RsaPrivateKey contents error = ⊥
 IsFormFault label contents error = IsOtherLabel label error
@@ -93,10 +94,17 @@ IsInnerFault inner (OtherSize size) = (¬ IsPrivate (private_key_info rsa inner)
 IsInnerFault inner InvalidKey = (¬ IsPrivate (private_key_info rsa inner)) × ((size : ℕ) → ¬ HasOtherSize size inner)
 IsInnerFault inner _ = ⊥
 
+-- why an RSAPrivateKey and a public key beside it are refused
+abbrev pub IsPairFault : List ℕ → Option (List ℕ) → PemError → Type 0
+IsPairFault inner public OtherHalf =
+    IsPrivate (private_key_info rsa inner) × (¬ IsHalf public (rsa_public (private_key_info rsa inner)))
+IsPairFault inner public error = IsInnerFault inner error
+
 -- why contents are not read as a private key
 abbrev pub IsPrivateFault : Faults
 IsPrivateFault label contents error =
-    IsFormFault label contents error ⊎ ((inner : List ℕ) × IsForm label contents inner × IsInnerFault inner error)
+    IsFormFault label contents error
+    ⊎ ((inner : List ℕ) × (public : Option (List ℕ)) × IsForm label contents inner public × IsPairFault inner public error)
 
 -- why no RSAPublicKey is found
 abbrev pub IsHeldFault : Faults

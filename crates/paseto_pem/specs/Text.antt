@@ -1,6 +1,6 @@
 -- Texts of RFC 7468. What is written has the strict form (section 3, figure 3); what is read may have text before its block,
 -- lines of any length up to 76, and each line may end in LF or in CR and LF, the last one also in neither.
-use Rattle.std.specs.Prelude.{◌≡◌, ℕ, zero, suc, ◌≤◌, List, [], ◌∷◌, ◌++◌, All, codes, length, map}
+use Rattle.std.specs.Prelude.{◌≡◌, ℕ, zero, suc, ◌≤◌, List, [], ◌∷◌, ◌++◌, All, Any, codes, length, map}
 use Rattle.std.specs.Borrow.{Bor}
 use Rattle.std.specs.List.{concat}
 use Rattle.std.specs.Str.Lines.{lines as lines_of}
@@ -36,6 +36,10 @@ pem label contents =
 -- the line begins a block (section 3, preeb)
 abbrev pub IsBegin : List ℕ → Type 0
 IsBegin line = (rest : List ℕ) × (line ≡ codes "-----BEGIN " ++ rest)
+
+-- a line of the text begins a block, of whatever label
+abbrev pub HoldsPem : List ℕ → Type 0
+HoldsPem text = Any IsBegin (lines_of text)
 
 -- the line may stand before the block of a key: data before the encapsulation boundaries are permitted (section 2). So is a
 -- block of parameters, which names the curve of the key behind it (RFC 5480, section 2.1.1) and tells nothing more than it

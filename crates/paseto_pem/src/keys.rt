@@ -1,6 +1,6 @@
 //! Writing the keys of public tokens as PEM, and reading them.
 
-ghost use Rattle.paseto_pem.specs.Key.{ReadsKey, WritesKey};
+ghost use Rattle.paseto_pem.specs.Key.{ReadsHeld, ReadsKey, WritesKey};
 ghost use Rattle.paseto_pem.specs.declared.label.Label.TheVariants.{PrivateKey as PrivateLabel, PublicKey as PublicLabel};
 
 use crate::error::PemError;
@@ -17,7 +17,8 @@ use std::alloc::Global;
 /// The text has one block: lines of text may stand before it, and a block `EC PARAMETERS`, but nothing behind it. Its
 /// lines have 1 to 76 characters, and each ends in LF or in CR and LF. `PRIVATE KEY` is read, as a OneAsymmetricKey of
 /// version v1 or v2, whose attributes are passed over; in version 3 also `EC PRIVATE KEY`, and in version 1 also `RSA
-/// PRIVATE KEY`, but no key of version v2. A public key beside the private one must be its own.
+/// PRIVATE KEY`. A public key beside the private one must be its own. A private key of P-384 has 48 octets, before which
+/// an octet 0 may stand.
 ///
 /// The first fault is returned: `NotPem` if there is no such block; `TwoKeys` if there are several; `Encrypted` for an
 /// encrypted key, whose label or first header says so; `OtherLabel` for another label, for example that of a public
@@ -33,7 +34,18 @@ pub fn private_key_from_pem<V: PemVersion>(
     ensures { ReadsKey V.is_private_of V.is_private_fault text.now result }
 {
     let (label, contents) = read_text(alloc, text)?;
-    let bytes = V::read_private(alloc, label, &contents)?;
+    private_key_in(alloc, label, &contents)
+}
+
+/// The private key that contents under a label are.
+pub(crate) fn private_key_in<V: PemVersion>(
+    alloc: Global,
+    label: Label,
+    contents: &[u8],
+) -> Result<PrivateKey<V>, PemError>
+    ensures { ReadsHeld V.is_private_of V.is_private_fault label contents.now result }
+{
+    let bytes = V::read_private(alloc, label, contents)?;
     match PrivateKey::try_from(bytes) {
         Ok(key) => Ok(key),
         Err(_) => Err(PemError::InvalidKey),
@@ -52,7 +64,18 @@ pub fn public_key_from_pem<V: PemVersion>(
     ensures { ReadsKey V.is_public_of V.is_public_fault text.now result }
 {
     let (label, contents) = read_text(alloc, text)?;
-    let bytes = V::read_public(alloc, label, &contents)?;
+    public_key_in(alloc, label, &contents)
+}
+
+/// The public key that contents under a label are.
+pub(crate) fn public_key_in<V: PemVersion>(
+    alloc: Global,
+    label: Label,
+    contents: &[u8],
+) -> Result<PublicKey<V>, PemError>
+    ensures { ReadsHeld V.is_public_of V.is_public_fault label contents.now result }
+{
+    let bytes = V::read_public(alloc, label, contents)?;
     match PublicKey::try_from(bytes) {
         Ok(key) => Ok(key),
         Err(_) => Err(PemError::InvalidKey),

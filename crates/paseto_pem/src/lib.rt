@@ -15,6 +15,9 @@
 //!
 //! `EC PRIVATE KEY` (SEC 1), `RSA PRIVATE KEY` and `RSA PUBLIC KEY` (PKCS #1) are read, too, and keys of other programs
 //! than OpenSSL. Anything else is refused with an error that says what it is.
+//!
+//! `key_from_pem` reads a key of whatever algorithm, private or public, and says which it is; `holds_pem` says whether a
+//! text has a block of PEM at all.
 #![tactic(auto)]
 
 mod algorithm;
@@ -26,6 +29,7 @@ mod keys;
 mod label;
 pub mod laws;
 mod p384;
+mod pem_key;
 mod rsa;
 mod text;
 mod version;
@@ -34,4 +38,6 @@ pub use error::PemError;
 pub use found::{Algorithm, Curve};
 pub use keys::{private_key_from_pem, private_key_to_pem, public_key_from_pem, public_key_to_pem};
 pub use label::Label;
+pub use pem_key::{PemKey, key_from_pem};
+pub use text::holds_pem;
 pub use version::PemVersion;

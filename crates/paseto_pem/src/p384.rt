@@ -5,7 +5,7 @@ ghost use Rattle.paseto_der.specs.Element.{element};
 ghost use Rattle.paseto_pem.specs.Info.{lent, private_key_info, public_key_info};
 ghost use Rattle.paseto_pem.specs.Key.{ReadsContents, WritesContents};
 ghost use Rattle.paseto_pem.specs.Algorithm.{secp384r1};
-ghost use Rattle.paseto_pem.specs.P384.{AreHalves, IsAlgorithmFault, IsAloneFault, IsBehindCurve, IsForm, IsFormFault, IsInfoFault, IsPoint, IsPointOf, IsPrivateFault, IsPrivateOf, IsPrivateWritten, IsPublicFault, IsPublicOf, IsPublicWritten, IsPublicRefusal, IsSpelled, compressed, ec_private_key, p384, parameters, public_part};
+ghost use Rattle.paseto_pem.specs.P384.{AreHalves, IsAlgorithmFault, IsAloneFault, IsBehindCurve, IsCurveFault, IsForm, IsFormFault, IsInfoFault, IsNumber, IsPoint, IsPointOf, IsPrivateFault, IsPrivateOf, IsPrivateWritten, IsPublicFault, IsPublicOf, IsPublicWritten, IsPublicRefusal, IsSpelled, compressed, ec_private_key, p384, parameters, public_part};
 ghost use Rattle.paseto_pem.specs.declared.label.Label.TheVariants.{EcPrivateKey as EcLabel, PrivateKey as PrivateLabel, PublicKey as PublicLabel};
 
 use crate::algorithm::{algorithm_of, curve_of, ec_public_key, secp384r1};
@@ -32,7 +32,7 @@ const PARAMETERS: u8 = 0xa0;
 
 const PUBLIC_PART: u8 = 0xa1;
 
-// How many octets a coordinate has.
+// How many octets a coordinate and a private key have.
 const NUMBER: usize = 48;
 
 // The number of an ECPrivateKey, and what stands behind it.
@@ -58,13 +58,6 @@ fn algorithm() -> [u8; 16]
         0x06, 0x07, 0x2a, 0x86, 0x48, 0xce, 0x3d, 0x02, 0x01, 0x06, 0x05, 0x2b, 0x81, 0x04, 0x00,
         0x22,
     ]
-}
-
-// The parameters of the curve in an ECPrivateKey.
-fn curve_parameters() -> [u8; 9]
-    ensures { result ≡ parameters secp384r1 }
-{
-    [0xa0, 0x07, 0x06, 0x05, 0x2b, 0x81, 0x04, 0x00, 0x22]
 }
 
 // The INTEGER 1, which is the version of an ECPrivateKey.
@@ -100,14 +93,18 @@ fn read_ec(octets: &[u8]) -> Option<EcKey<'_>>
     })
 }
 
-// What stands behind the parameters of the curve, if it has them.
-fn behind_curve(behind: &[u8]) -> &[u8]
-    ensures { IsBehindCurve behind.now result.now }
+// What stands behind the parameters of the curve, if it has any.
+fn behind_curve(behind: &[u8]) -> Result<&[u8], PemError>
+    ensures found { IfOk result (λ rest. IsBehindCurve behind.now rest.now) }
+    ensures refused { IfErr result (IsCurveFault behind.now) }
 {
-    match behind.strip_prefix(&curve_parameters()) {
-        Some(rest) => rest,
-        None => behind,
+    let Some(named) = read_element(PARAMETERS, behind) else {
+        return Ok(behind);
+    };
+    if named.contents != secp384r1().as_slice() {
+        return Err(PemError::OtherCurve(curve_of(named.contents)));
     }
+    Ok(named.behind)
 }
 
 // The ECPrivateKey in a OneAsymmetricKey.
@@ -122,14 +119,15 @@ fn key_in_info(contents: &[u8]) -> Result<CurveKey<'_>, PemError>
     if info.algorithm != algorithm().as_slice() {
         return Err(algorithm_refusal(info.algorithm));
     }
-    match read_ec(info.key) {
-        Some(key) => Ok(CurveKey {
-            number: key.number,
-            rest: behind_curve(key.rest),
-            public: info.public,
-        }),
-        None => Err(PemError::InvalidKey),
-    }
+    let Some(key) = read_ec(info.key) else {
+        return Err(PemError::InvalidKey);
+    };
+    let rest = behind_curve(key.rest)?;
+    Ok(CurveKey {
+        number: key.number,
+        rest,
+        public: info.public,
+    })
 }
 
 // The ECPrivateKey that stands alone.
@@ -164,6 +162,17 @@ fn key_of(label: Label, contents: &[u8]) -> Result<CurveKey<'_>, PemError>
         Label::PrivateKey => key_in_info(contents),
         Label::EcPrivateKey => key_alone(contents),
         _ => Err(PemError::other_label(label)),
+    }
+}
+
+// The octets of a number, behind the 0 that may stand before those of a private key.
+fn without_zero(number: &[u8]) -> &[u8]
+    ensures told { IsNumber number.now result.now }
+    ensures only { (key : List ℕ) → length key ≡ 48 → IsNumber number.now key → key ≡ result.now }
+{
+    match number {
+        [0, key @ ..] if key.len() == NUMBER => key,
+        _ => number,
     }
 }
 
@@ -233,13 +242,14 @@ pub(crate) fn read_private(
     ensures { ReadsContents IsPrivateOf IsPrivateFault label contents.now result }
 {
     let key = key_of(label, contents)?;
-    let Some(xy) = point_of(alloc, key.number) else {
+    let number = without_zero(key.number);
+    let Some(xy) = point_of(alloc, number) else {
         return Err(PemError::InvalidKey);
     };
     if !are_halves(alloc, &key, &xy)? {
         return Err(PemError::OtherHalf);
     }
-    Ok(Vec::from_slice(alloc, key.number)?)
+    Ok(Vec::from_slice(alloc, number)?)
 }
 
 // The ECPrivateKey of a number of 48 octets, with its public key.

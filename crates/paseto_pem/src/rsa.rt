@@ -1,11 +1,12 @@
 //! Keys of RSA (RFC 8017), of version 1.
 
 ghost use Rattle.std.specs.Prelude.{◌≡◌, ◌↔◌, ℕ, ◌<◌, ◌≤◌, length, IfErr, IfOk, IsTrue, MatchOption};
-ghost use Rattle.paseto_rsa.specs.Keys.{IsPrivate};
+ghost use Rattle.paseto_der.specs.Element.{element};
+ghost use Rattle.paseto_rsa.specs.Keys.{IsPrivate, rsa_public};
 ghost use Rattle.paseto_pem.specs.Algorithm.{rsa};
 ghost use Rattle.paseto_pem.specs.Key.{ReadsContents, WritesContents};
 ghost use Rattle.paseto_pem.specs.Rsa.{HasOtherModulus, HasOtherPublicSize, HasOtherSize, IsForm, IsFormFault, IsHeld, IsHeldFault, IsInnerFault, IsPrivateFault, IsPrivateOf, IsPrivateWritten, IsPublic, IsPublicFault, IsPublicOf, IsPublicWritten, IsSizeFault, modulus_size};
-ghost use Rattle.paseto_pem.specs.Info.{private_key_info, public_key_info};
+ghost use Rattle.paseto_pem.specs.Info.{IsHalf, lent, private_key_info, public_key_info};
 ghost use Rattle.paseto_pem.specs.declared.label.Label.TheVariants.{PrivateKey as PrivateLabel, PublicKey as PublicLabel};
 
 use crate::algorithm::{algorithm_of, rsa};
@@ -31,6 +32,13 @@ const MOST_INNER: usize = 2400;
 
 // How many octets a public key has.
 const PUBLIC_KEY: usize = 270;
+
+// An RSAPrivateKey, and the public key beside it, if there is one.
+#[derive(Drop)]
+struct Pair<'a> {
+    inner: &'a [u8],
+    public: Option<&'a [u8]>,
+}
 
 // How many bits a modulus has, rounded up to whole octets, if it is not longer than any that is read.
 fn modulus_size(modulus: &[u8]) -> Option<usize>
@@ -69,30 +77,72 @@ fn other_size(inner: &[u8]) -> Option<usize>
     other_modulus(version.behind)
 }
 
-// The RSAPrivateKey in a PrivateKeyInfo.
-fn inner_in_info(contents: &[u8]) -> Result<&[u8], PemError>
-    ensures found { IfOk result (λ inner. IsForm PrivateLabel contents.now inner.now) }
+// The RSAPrivateKey in a OneAsymmetricKey.
+fn pair_in_info(contents: &[u8]) -> Result<Pair<'_>, PemError>
+    ensures found { IfOk result (λ pair.
+        IsForm PrivateLabel contents.now pair.inner.now (lent pair.public)) }
     ensures refused { IfErr result (IsFormFault PrivateLabel contents.now) }
 {
     let Some(info) = read_private_info(contents) else {
         return Err(PemError::InvalidDer);
     };
-    match (algorithm_of(info.algorithm), info.public) {
-        (Algorithm::Rsa, None) => Ok(info.key),
-        (Algorithm::Rsa, Some(_)) => Err(PemError::InvalidKey),
-        (other, _) => Err(PemError::OtherAlgorithm(other)),
+    match algorithm_of(info.algorithm) {
+        Algorithm::Rsa => Ok(Pair {
+            inner: info.key,
+            public: info.public,
+        }),
+        other => Err(PemError::OtherAlgorithm(other)),
     }
 }
 
 // The RSAPrivateKey that contents under a label are.
-fn inner_of(label: Label, contents: &[u8]) -> Result<&[u8], PemError>
-    ensures found { IfOk result (λ inner. IsForm label contents.now inner.now) }
+fn pair_of(label: Label, contents: &[u8]) -> Result<Pair<'_>, PemError>
+    ensures found { IfOk result (λ pair.
+        IsForm label contents.now pair.inner.now (lent pair.public)) }
     ensures refused { IfErr result (IsFormFault label contents.now) }
 {
     match label {
-        Label::PrivateKey => inner_in_info(contents),
-        Label::RsaPrivateKey => Ok(contents),
+        Label::PrivateKey => pair_in_info(contents),
+        Label::RsaPrivateKey => Ok(Pair {
+            inner: contents,
+            public: None,
+        }),
         _ => Err(PemError::other_label(label)),
+    }
+}
+
+// The contents of the RSAPublicKey of an RSAPrivateKey: the INTEGERs of its modulus and of its public exponent.
+fn public_integers(inner: &[u8]) -> Option<&[u8]>
+    ensures { MatchOption result (¬ IsPrivate (private_key_info rsa inner.now))
+        (λ integers. element 0x30 integers.now ≡ rsa_public (private_key_info rsa inner.now)) }
+{
+    let integers = whole_element(SEQUENCE, inner)?;
+    let version = read_element(INTEGER, integers)?;
+    let modulus = read_element(INTEGER, version.behind)?;
+    let exponent = read_element(INTEGER, modulus.behind)?;
+    Some(&version.behind[..version.behind.len() - exponent.behind.len()])
+}
+
+// Whether octets are the RSAPublicKey of an RSAPrivateKey.
+fn is_public_of(public: &[u8], inner: &[u8]) -> bool
+    requires { IsPrivate (private_key_info rsa inner.now) }
+    ensures { IsTrue result ↔ (public.now ≡ rsa_public (private_key_info rsa inner.now)) }
+{
+    match (whole_element(SEQUENCE, public), public_integers(inner)) {
+        (Some(integers), Some(own)) => integers == own,
+        _ => false,
+    }
+}
+
+// Whether the public key beside an RSAPrivateKey is its own, if there is one.
+fn is_own_half(pair: &Pair<'_>) -> bool
+    requires { IsPrivate (private_key_info rsa pair.now.inner.now) }
+    ensures { IsTrue result
+        ↔ IsHalf (lent pair.now.public) (rsa_public (private_key_info rsa pair.now.inner.now)) }
+{
+    match pair.public {
+        Some(public) => is_public_of(public, pair.inner),
+        None => true,
     }
 }
 
@@ -131,11 +181,14 @@ pub(crate) fn read_private(
 ) -> Result<Vec<u8>, PemError>
     ensures { ReadsContents IsPrivateOf IsPrivateFault label contents.now result }
 {
-    let inner = inner_of(label, contents)?;
-    match key_of_inner(alloc, inner)? {
-        Some(key) => Ok(key),
-        None => Err(inner_refusal(inner)),
+    let pair = pair_of(label, contents)?;
+    let Some(key) = key_of_inner(alloc, pair.inner)? else {
+        return Err(inner_refusal(pair.inner));
+    };
+    if !is_own_half(&pair) {
+        return Err(PemError::OtherHalf);
     }
+    Ok(key)
 }
 
 /// The contents of the text of a private key.
@@ -147,6 +200,7 @@ pub(crate) fn write_private(alloc: Global, key: &[u8]) -> Result<Vec<u8>, PemErr
     }
     Ok(Vec::from_slice(alloc, key)?)
 }
+
 // What stands for the key in a SubjectPublicKeyInfo.
 fn held_in_info(contents: &[u8]) -> Result<&[u8], PemError>
     ensures found { IfOk result (λ key. contents.now ≡ public_key_info rsa key.now) }

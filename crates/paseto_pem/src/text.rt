@@ -6,7 +6,7 @@ ghost use Rattle.std.specs.Str.Lines.{lines as lines_of};
 ghost use Rattle.base64.specs.GeneralPurpose.{IsBytes};
 ghost use Rattle.paseto_pem.specs.Error.{IsMemory};
 ghost use Rattle.paseto_pem.specs.Key.{IsBlockRefusal, ReadsText};
-ghost use Rattle.paseto_pem.specs.Text.{BeginsOldEncrypted, FirstBlock, HasSecond, IsBase64Line, IsBegin, IsBody, IsPassed, base64, lines, pem, texts};
+ghost use Rattle.paseto_pem.specs.Text.{BeginsOldEncrypted, FirstBlock, HasSecond, HoldsPem, IsBase64Line, IsBegin, IsBody, IsPassed, base64, lines, pem, texts};
 
 use crate::error::PemError;
 use crate::label::{Label, label_of};
@@ -65,6 +65,17 @@ fn begins_block(line: &str) -> bool
     ensures { IsTrue result ↔ IsBegin line.now }
 {
     line.as_bytes().starts_with(b"-----BEGIN ")
+}
+
+/// Whether a line of the text begins a block of PEM, `-----BEGIN `, whatever its label. Any text may stand before it.
+///
+/// Does not allocate.
+///
+/// Source: RFC 7468, sections 2 and 3.
+pub fn holds_pem(text: &str) -> bool
+    ensures { IsTrue result ↔ HoldsPem text.now }
+{
+    text.lines().any(|line| begins_block(line))
 }
 
 // Whether a line may stand before the block of a key.

@@ -10,7 +10,7 @@ use Rattle.paseto_rsa.proofs.IntegerLaws.{integers-parts}
 use Rattle.paseto_rsa.proofs.KeyLaws.{front-parts, front-size, inner-unique, integers_of}
 
 -- an element of contents whose length is known
-element-sized : (tag n : ℕ) (contents : List ℕ) → length contents ≡ n → element tag contents ≡ (tag ∷ der_length n) ++ contents
+pub element-sized : (tag n : ℕ) (contents : List ℕ) → length contents ≡ n → element tag contents ≡ (tag ∷ der_length n) ++ contents
 unfolding element
 element-sized tag n contents e = ap (λ k. (tag ∷ der_length k) ++ contents) e
 

@@ -2,11 +2,15 @@
 
 ghost use Rattle.std.specs.Prelude.{◌≡◌, ◌↔◌, ◌++◌, ◌∷◌, ◌<◌, ◌≤◌, List, ℕ, length, IfOk, IsTrue, MatchOption, OnOk};
 ghost use Rattle.paseto_der.specs.Element.{der_length};
+ghost use Rattle.paseto_montgomery.specs.Octets.{i2osp};
+ghost use Rattle.paseto_montgomery.specs.Words.{value};
 ghost use Rattle.paseto_rsa.specs.Forms.{IsPublic, IsRsaPrivateKey, private_key_info, public_key_info};
-ghost use Rattle.paseto_rsa.specs.Keys.{IsPrivate, rsa_private};
+ghost use Rattle.paseto_rsa.specs.Keys.{IsPrivate, rsa_private, rsa_public};
 
+use crate::private_key::PrivateKey;
 use crate::private_reading::{inner_key, is_private_key, key_front};
 use crate::public_key::PublicKey;
+use paseto_montgomery::to_octets;
 use std::alloc::{AllocError, Global};
 
 // The tag of a SEQUENCE.
@@ -30,6 +34,13 @@ const PUBLIC_KEY: usize = 270;
 
 // How many octets stand before it in a SubjectPublicKeyInfo.
 const PUBLIC_FRONT: usize = 24;
+
+// What stands before the octets of a modulus of 2048 bits in an RSAPublicKey: the tags and the lengths of the key and of
+// the modulus, and an octet for its sign.
+const PUBLIC_BEFORE: [u8; 9] = [0x30, 0x82, 0x01, 0x0a, 0x02, 0x82, 0x01, 0x01, 0x00];
+
+// What stands behind them: the exponent 65537.
+const PUBLIC_BEHIND: [u8; 5] = [0x02, 0x03, 0x01, 0x00, 0x01];
 
 /// The RSAPrivateKey of PKCS #1 in a private key of `RsaPss`, which is a PrivateKeyInfo of PKCS #8. `None` if and only if
 /// the octets are no private key. Does not allocate.
@@ -150,4 +161,29 @@ pub fn public_key_from_info(info: &[u8]) -> Option<&[u8]>
         return None;
     }
     Some(key)
+}
+
+// The RSAPublicKey of a modulus of 2048 bits and the exponent 65537.
+fn write_public(n: &[u64; 32]) -> [u8; 270]
+    ensures { result ≡ PUBLIC_BEFORE ++ (i2osp (value n.now 32) 256 ++ PUBLIC_BEHIND) }
+{
+    let mut key = [0; 270];
+    let (front, rest) = key.split_at_mut(PUBLIC_BEFORE.len());
+    let (modulus, exponent) = rest.split_at_mut(256);
+    front.copy_from_slice(&PUBLIC_BEFORE);
+    to_octets(n, modulus);
+    exponent.copy_from_slice(&PUBLIC_BEHIND);
+    key
+}
+
+/// The public key of a private key of `RsaPss`, which is a PrivateKeyInfo of PKCS #8: the RSAPublicKey of PKCS #1 of its
+/// modulus and its public exponent. `None` if and only if the octets are no private key. Does not allocate.
+///
+/// Source: RFC 8017, appendix A.1.1.
+pub fn public_key_of(key: &[u8]) -> Option<[u8; 270]>
+    ensures { MatchOption result (¬ IsPrivate key.now)
+        (λ public. IsPrivate key.now × IsPublic public × (public ≡ rsa_public key.now)) }
+{
+    let private = PrivateKey::from_der(key)?;
+    Some(write_public(&private.public.modulus.words))
 }

@@ -15,7 +15,7 @@ mod verifying;
 
 pub use forms::{
     is_public_key, private_key_from_pkcs1, private_key_to_pkcs1, public_key_from_info,
-    public_key_to_info,
+    public_key_of, public_key_to_info,
 };
 pub use private_reading::is_private_key;
 pub use public_key::PublicKey;

@@ -18,7 +18,7 @@ half_lined : (kind : PaserkType) (version : PaserkVersion) (bytes : List ℕ) (h
     → HasNoLine (parts_of half).kind (parts_of half).version (parts_of half).bytes error → ⊥
 half_lined Local version bytes half error is none = absurd (cc)
 half_lined Public version bytes half error is none = absurd (cc)
-half_lined Secret V1 bytes half error is none = absurd (cc)
+half_lined Secret V1 bytes half error is none = (subst (λ (k : KeyParts). HasNoLine k.kind k.version k.bytes error) is.ok.2 none).1 is.ok.1
 half_lined Secret V2 bytes half error is none = subst (λ (k : KeyParts). HasNoLine k.kind k.version k.bytes error) is.ok.1 none
 half_lined Secret V3 bytes half error is none = subst (λ (k : KeyParts). HasNoLine k.kind k.version k.bytes error) is.ok.1 none
 half_lined Secret V4 bytes half error is none = subst (λ (k : KeyParts). HasNoLine k.kind k.version k.bytes error) is.ok.1 none

@@ -5,7 +5,6 @@ pub mod Blames
 pub mod Comments
 pub mod Inputs
 pub mod Fronts
-pub mod KeyLines
 pub mod Uses
 pub mod Tasks
 pub mod Halves

@@ -3,11 +3,6 @@ use Rattle.std.specs.Prelude.{◌≡◌, ℕ, List, Ok, Err, String, string_byte
 use Rattle.std.specs.Global.{Global}
 use Rattle.rusty_paseto_paserk.specs.Error.{IsMemory}
 use Rattle.rusty_paseto_paserk.specs.declared.error.PaserkError.{PaserkError}
-use Rattle.rusty_paseto_paserk.specs.declared.error.PaserkError.TheVariants.{OtherVersion}
-use Rattle.rusty_paseto_paserk.specs.declared.header.PaserkType.{PaserkType}
-use Rattle.rusty_paseto_paserk.specs.declared.header.PaserkType.TheVariants.{Public}
-use Rattle.rusty_paseto_paserk.specs.declared.header.PaserkVersion.{PaserkVersion}
-use Rattle.rusty_paseto_paserk.specs.declared.header.PaserkVersion.TheVariants.{V1}
 use Rattle.paseto_keys.specs.AnyKey.{KeyParts, parts_of}
 use Rattle.paseto_keys.specs.PublicHalf.{GivesHalf}
 use Rattle.paseto_keys.specs.WrittenLine.{WritesLine}
@@ -25,14 +20,9 @@ pub record HasHalf (key : KeyParts) (line : List ℕ) : Type 0 where
   pub is_text : WritesLine (parts_of half) (Ok text)
   pub line_is : IsLineOf (string_bytes text) line
 
--- what is told of a key that has no half: of a public one of version 1, that it is one of this version
-abbrev pub half_error : PaserkType → PaserkVersion → PaserkError → PaserkError
-half_error Public V1 source = OtherVersion V1
-half_error _ _ source = source
-
 -- why the key has none
 pub record HasNoHalf (key : KeyParts) (error : ProgramError) : Type 0 where
   pub source : PaserkError
   pub no_half : GivesHalf key (Err source)
   pub no_memory : ¬ IsMemory source
-  pub told : error ≡ File (Key (half_error key.kind key.version source))
+  pub told : error ≡ File (Key source)

@@ -8,7 +8,6 @@ pub mod Keygen
 pub mod Inspect
 pub mod Half
 pub mod Id
-pub mod KeyLine
 pub mod Spelling
 pub mod Shown
 pub mod Explain

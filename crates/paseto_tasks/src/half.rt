@@ -5,25 +5,19 @@ ghost use Rattle.paseto_tasks.specs.Error.{Fails, nothing};
 ghost use Rattle.paseto_tasks.specs.Half.{HasHalf, HasNoHalf};
 ghost use Rattle.paseto_tasks.specs.Output.{Makes};
 
-use crate::error::{FileError, ProgramError};
+use crate::error::ProgramError;
 use crate::output::with_line_feed;
 use paseto_keys::AnyKey;
-use rusty_paseto_paserk::{PaserkError, PaserkVersion};
 use std::alloc::Global;
 
 /// Returns the line of the public half of a private key.
 ///
-/// A key that is not a private one of version 2, 3 or 4 is refused as `Key`. A private key without
-/// a public half of its own is refused as `Key(InvalidKey)`: one of version 2 or 4 whose last 32
-/// bytes belong to another seed, or one of version 3 that is 0 or not below the order of P-384.
+/// A key that is not a private one is refused as `Key(OtherType)`, and a private key without a
+/// public half of its own as `Key(InvalidKey)`: one of version 2 or 4 whose last 32 bytes belong to
+/// another seed, or one of version 3 that is 0 or not below the order of P-384.
 pub fn public(alloc: Global, key: &AnyKey) -> Result<String, ProgramError>
     ensures { Makes (HasHalf (parts_of key.now)) (HasNoHalf (parts_of key.now)) (Fails nothing) result }
 {
-    if let AnyKey::V1Public(_) = key {
-        return Err(ProgramError::File(FileError::Key(PaserkError::OtherVersion(
-            PaserkVersion::V1,
-        ))));
-    }
     let half = key.public_half(alloc)?;
     with_line_feed(half.to_line(alloc)?)
 }

@@ -10,7 +10,7 @@ ghost use Rattle.paseto_tasks.specs.Inspect.{Inspects, InspectsNoToken, Inspects
 mod key;
 
 use crate::error::{ProgramError, TokenError};
-use crate::key_line::after;
+use crate::front::after;
 use crate::token_kind::TokenKind;
 use key::key_line;
 use rusty_paseto_core::{PasetoError, UntrustedToken, from_section, split_token};

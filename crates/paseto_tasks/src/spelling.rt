@@ -5,7 +5,7 @@ ghost use Rattle.std.specs.Str.Lines.{lines};
 ghost use Rattle.paseto_tasks.specs.Arguments.{texts};
 ghost use Rattle.paseto_tasks.specs.Spelling.{IsFirst, IsNoSpelling, IsSpelled, issued_text, spelling_text};
 
-use crate::key_line::after;
+use crate::front::after;
 use std::alloc::{AllocError, Global};
 
 /// How a token is spelled, beside the line that it is.

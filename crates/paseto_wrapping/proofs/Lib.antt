@@ -4,3 +4,4 @@ pub mod Pies
 pub mod Protected
 pub mod Sealings
 pub mod SodiumSealings
+pub mod KeyLaws

@@ -11,7 +11,7 @@ use Rattle.paseto_wrapping.specs.declared.error.WrapError.{WrapError}
 use Rattle.paseto_wrapping.specs.declared.error.WrapError.TheVariants.{NoWrappedKey, OtherVersion, OtherType, InvalidText, InvalidNonce, LongPassword, InvalidCost, TooCostly, InvalidPrivateKey, InvalidPoint, SmallOrder, WrongKey, InvalidKey, Memory}
 use Rattle.paseto_wrapping.specs.Error.{IsMemory}
 use Rattle.paseto_wrapping.specs.Text.{IsTextFault, ReadsPayload}
-use Rattle.paseto_wrapping.specs.Reading.{Faults, InText, IsOfPayload, KeyFaults, TextFaults, Unwraps, UnwrapsKey, Wraps}
+use Rattle.paseto_wrapping.specs.Reading.{Faults, InText, IsOfPayload, KeyFaults, TextFaults, Unwraps, UnwrapsForm, UnwrapsKey, Wraps, WrapsForm}
 
 module _ (version : PaserkVersion) (kind : WrappedType) (IsWrapped : Wraps) (IsFault : Faults) (text : List ℕ) where
   -- a text whose header or whose encoding is refused
@@ -148,3 +148,51 @@ module _ (version : PaserkVersion) (kind : WrappedType) (IsWrapped : Wraps) (IsF
     refused = subst (KeyFaults IsKey (InText version kind IsWrapped) (TextFaults version kind IsFault) text) (sym err.0)
         (bytes.items, unwraps.bytes, unwraps.found, err.1);
   }
+
+-- ---- from texts to keys in a form
+
+module _ (version : PaserkVersion) (kind : WrappedType) (IsWrapped : Wraps) (IsFault : Faults) (IsForm : List ℕ → List ℕ → Type 0) (text : List ℕ) where
+  abbrev IsFormFault : WrapError → Type 0
+  IsFormFault = KeyFaults (λ octets. (key : List ℕ) × IsForm octets key) (InText version kind IsWrapped) (TextFaults version kind IsFault) text
+
+  -- a text that is not unwrapped gives no key
+  pub form_refused : (error : WrapError) → Unwraps (InText version kind IsWrapped) (TextFaults version kind IsFault) text (Err error)
+      → (answer : Result (List ℕ) WrapError) → IsErrAnd answer (λ told. told ≡ error)
+      → UnwrapsForm IsForm (InText version kind IsWrapped) (TextFaults version kind IsFault) text answer
+  form_refused error unwraps (Ok key) is = absurd is
+  form_refused error unwraps (Err told) is = record {
+    bytes = tt;
+    found = tt;
+    read = λ key wrapped. subst IsMemory (sym is) (unwraps.read wrapped.0 wrapped.1 wrapped.2);
+    refused = subst IsFormFault (sym is)
+        (key_fault version kind IsWrapped IsFault (λ octets. (key : List ℕ) × IsForm octets key) text error unwraps.refused);
+  }
+
+  module _ (octets : Vec ℕ Global) (unwraps : Unwraps (InText version kind IsWrapped) (TextFaults version kind IsFault) text (Ok octets)) where
+    form_of : (key : List ℕ) (wrapped : WrapsForm IsForm (InText version kind IsWrapped) text key) → IsForm octets.items key
+    form_of key wrapped = subst (λ (o : List ℕ). IsForm o key) (sym (unwraps.read wrapped.0 wrapped.1 wrapped.2)) wrapped.3
+
+    no_form : (error : WrapError) → IsMemory error ⊎ ((error ≡ InvalidKey) × ((key : List ℕ) → ¬ IsForm octets.items key))
+        → UnwrapsForm IsForm (InText version kind IsWrapped) (TextFaults version kind IsFault) text (Err error)
+    no_form (Memory source) refused = record { bytes = tt; found = tt; read = λ key wrapped. tt; refused = tt }
+    no_form error (inl memory) = absurd memory
+    no_form error (inr none) = record {
+      bytes = tt;
+      found = tt;
+      read = λ key wrapped. absurd (none.1 key (form_of key wrapped));
+      refused = subst IsFormFault (sym none.0) (octets.items, unwraps.bytes, unwraps.found, λ held. none.1 held.0 held.1);
+    }
+
+    -- what a text wraps is a form of the key, or of none
+    pub form_unwrapped : ((a b : List ℕ) → IsForm octets.items a → IsForm octets.items b → a ≡ b)
+        → ((key : List ℕ) → IsBytes octets.items → IsForm octets.items key → IsBytes key)
+        → (answer : Result (List ℕ) WrapError) → IfOk answer (λ key. IsForm octets.items key)
+        → IfErr answer (λ error. IsMemory error ⊎ ((error ≡ InvalidKey) × ((key : List ℕ) → ¬ IsForm octets.items key)))
+        → UnwrapsForm IsForm (InText version kind IsWrapped) (TextFaults version kind IsFault) text answer
+    form_unwrapped one bytes (Ok key) ok err = record {
+      bytes = bytes key unwraps.bytes ok;
+      found = (octets.items, unwraps.bytes, unwraps.found, ok);
+      read = λ other wrapped. one key other ok (form_of other wrapped);
+      refused = tt;
+    }
+    form_unwrapped one bytes (Err error) ok err = no_form error err

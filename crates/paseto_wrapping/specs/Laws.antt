@@ -10,19 +10,26 @@ use Rattle.paseto_x25519.specs.Laws.{IsSecretKey}
 use Rattle.paseto_wrapping.specs.declared.error.WrapError.{WrapError}
 use Rattle.paseto_wrapping.specs.declared.family.Family.TheVariants.{Nist}
 use Rattle.paseto_wrapping.specs.declared.header.WrappedType.{WrappedType}
-use Rattle.paseto_wrapping.specs.declared.header.WrappedType.TheVariants.{Seal}
+use Rattle.paseto_wrapping.specs.declared.header.WrappedType.TheVariants.{Seal, SecretPassword, SecretWrap}
 use Rattle.paseto_wrapping.specs.declared.cost.PasswordCost.{PasswordCost}
 use Rattle.paseto_wrapping.specs.Error.{IsMemory}
 use Rattle.paseto_wrapping.specs.Family.{family_of, nonce_length, tag_length}
+use Rattle.paseto_wrapping.specs.Keys.{IsPrivateKey, IsWrappedForm, wrapped_form}
 use Rattle.paseto_wrapping.specs.Password.{IsGranted, IsProtected, IsShort, protected, salt_length}
 use Rattle.paseto_wrapping.specs.Pie.{IsNonce, IsPie, pie, t}
-use Rattle.paseto_wrapping.specs.Reading.{InText}
+use Rattle.paseto_wrapping.specs.Reading.{InText, WrapsForm}
 use Rattle.paseto_wrapping.specs.Sealing.{IsSealFault, IsSealed, SealsFor}
 
 -- under a wrapping key, by any nonce
 abbrev pub WrappedUnwrap : Type 0
 WrappedUnwrap = (version : PaserkVersion) (kind : WrappedType) (wk n ptk : List ℕ) → IsNonce n → IsBytes ptk
     → InText version kind (IsPie version kind wk) (pie version kind wk n ptk) ptk
+
+-- a private key under a wrapping key, by any nonce
+abbrev pub PrivateWrappedUnwrap : Type 0
+PrivateWrappedUnwrap = (version : PaserkVersion) (wk n key : List ℕ) → IsNonce n → IsBytes key → IsPrivateKey version key
+    → WrapsForm (IsWrappedForm version) (InText version SecretWrap (IsPie version SecretWrap wk))
+    (pie version SecretWrap wk n (wrapped_form version key)) key
 
 -- one message has the same tag under the authentication keys that two wrapping keys derive from one nonce
 abbrev pub IsTagOfBoth : PaserkVersion → WrappedType → List ℕ → List ℕ → List ℕ → Type 0
@@ -46,6 +53,15 @@ ProtectedUnwrap = (version : PaserkVersion) (kind : WrappedType) (password : Lis
     → IsShort password → IsGranted (family_of version) most cost
     → IsBytes s × (length s ≡ salt_length (family_of version)) → IsBytes n × (length n ≡ nonce_length (family_of version)) → IsBytes ptk
     → InText version kind (IsProtected version kind password most) (protected version kind password cost s n ptk) ptk
+
+-- a private key under a password, by any salt, nonce, and cost that is granted
+abbrev pub PrivateProtectedUnwrap : Type 0
+PrivateProtectedUnwrap = (version : PaserkVersion) (password : List ℕ) (most cost : PasswordCost) (s n key : List ℕ)
+    → IsShort password → IsGranted (family_of version) most cost
+    → IsBytes s × (length s ≡ salt_length (family_of version)) → IsBytes n × (length n ≡ nonce_length (family_of version)) → IsBytes key
+    → IsPrivateKey version key
+    → WrapsForm (IsWrappedForm version) (InText version SecretPassword (IsProtected version SecretPassword password most))
+    (protected version SecretPassword password cost s n (wrapped_form version key)) key
 
 -- in version 3, sealed to the public key of a private key
 abbrev pub SealedUnseal : Type 0

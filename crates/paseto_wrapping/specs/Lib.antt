@@ -2,6 +2,7 @@ pub mod Header
 pub mod Error
 pub mod Text
 pub mod Reading
+pub mod Keys
 pub mod Family
 pub mod Pie
 pub mod Password

@@ -1,11 +1,10 @@
 -- How wrapped keys are read. A type of wrapped keys says which payload wraps which bytes (Wraps), and why a payload is
 -- not unwrapped (Faults); here is what follows of it for texts and for keys.
-use Rattle.std.specs.Prelude.{◌≡◌, ◌⊎◌, ⊤, ℕ, List, length, Result, IfOk, IfErr, MatchResult}
+use Rattle.std.specs.Prelude.{◌≡◌, ◌⊎◌, ⊤, ℕ, List, Result, IfOk, IfErr, MatchResult}
 use Rattle.std.specs.declared.alloc.Global.{Global}
 use Rattle.std.specs.declared.vec.Vec.{Vec}
 use Rattle.base64.specs.GeneralPurpose.{IsBytes}
 use Rattle.rusty_paseto_paserk.specs.declared.header.PaserkVersion.{PaserkVersion}
-use Rattle.rusty_paseto_paserk.specs.declared.header.PaserkVersion.TheVariants.{V1, V2, V3, V4}
 use Rattle.paseto_wrapping.specs.declared.header.WrappedType.{WrappedType}
 use Rattle.paseto_wrapping.specs.declared.error.WrapError.{WrapError}
 use Rattle.paseto_wrapping.specs.declared.error.WrapError.TheVariants.{NoWrappedKey, OtherVersion, OtherType, InvalidText, LongPassword, InvalidCost, TooCostly, InvalidPrivateKey, InvalidPoint, SmallOrder, WrongKey, InvalidKey, Memory}
@@ -70,13 +69,6 @@ TextFaults version kind IsFault text error = (payload : List ℕ) × IsTextOf ve
 
 -- ---- keys
 
--- a private key has the length of its version's; one of version 1 is an encoding of any length
-abbrev pub HasPrivateLength : PaserkVersion → List ℕ → Type 0
-HasPrivateLength V1 key = ⊤
-HasPrivateLength V2 key = length key ≡ 64
-HasPrivateLength V3 key = length key ≡ 48
-HasPrivateLength V4 key = length key ≡ 64
-
 -- why a text is not unwrapped as a key: what it wraps is none, or it is not unwrapped at all
 abbrev pub KeyFaults : (List ℕ → Type 0) → Wraps → Faults → List ℕ → WrapError → Type 0
 KeyFaults IsKey IsWrapped IsFault text InvalidKey = (key : List ℕ) × IsBytes key × IsWrapped text key × ¬ IsKey key
@@ -91,3 +83,17 @@ pub record UnwrapsKey (IsKey : List ℕ → Type 0) (IsWrapped : Wraps) (IsFault
   pub read : (key : List ℕ) → IsBytes key → IsKey key → IsWrapped text key
       → MatchResult answer (λ found. found ≡ key) IsMemory
   pub refused : IfErr answer (KeyFaults IsKey IsWrapped IsFault text)
+
+-- ---- keys in a form
+
+-- the text wraps octets that are a form of the key
+abbrev pub WrapsForm : (List ℕ → List ℕ → Type 0) → Wraps → List ℕ → List ℕ → Type 0
+WrapsForm IsForm IsWrapped text key = (octets : List ℕ) × IsBytes octets × IsWrapped text octets × IsForm octets key
+
+-- the answer for a text is the key of which it wraps a form, exactly where it wraps one. What is `InvalidKey` is the form of
+-- no key
+pub record UnwrapsForm (IsForm : List ℕ → List ℕ → Type 0) (IsWrapped : Wraps) (IsFault : Faults) (text : List ℕ) (answer : Result (List ℕ) WrapError) : Type 0 where
+  pub bytes : IfOk answer IsBytes
+  pub found : IfOk answer (λ key. WrapsForm IsForm IsWrapped text key)
+  pub read : (key : List ℕ) → WrapsForm IsForm IsWrapped text key → MatchResult answer (λ found. found ≡ key) IsMemory
+  pub refused : IfErr answer (KeyFaults (λ octets. (key : List ℕ) × IsForm octets key) IsWrapped IsFault text)

@@ -10,7 +10,8 @@ use std::alloc::AllocError;
 use std::fmt;
 use thiserror::Error;
 
-/// Why a key was not wrapped, or a text not unwrapped. Of several errors, the first in this order is returned.
+/// Why a key was not wrapped, or a text not unwrapped. Of several errors, the first in this order is returned, but where a
+/// private key is wrapped `InvalidKey` comes before all others.
 #[derive(Debug, Drop, Error)]
 pub enum WrapError {
     /// The text does not begin like a wrapped key: not with one of `k1.` to `k4.`, followed by one of
@@ -43,7 +44,7 @@ pub enum WrapError {
     SmallOrder,
     /// The tag is wrong.
     WrongKey,
-    /// The unwrapped bytes are not a key of the version and the type.
+    /// The unwrapped bytes are not a key of the version and the type. When wrapping: a private key of version 1 is none.
     InvalidKey,
     /// An allocation failed.
     Memory(AllocError),

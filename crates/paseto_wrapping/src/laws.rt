@@ -2,12 +2,14 @@
 //! the contracts use.
 
 ghost use Rattle.rusty_paseto_paserk.specs.declared.header.PaserkVersion.TheVariants.{V2, V4};
-ghost use Rattle.paseto_wrapping.specs.Laws.{OwnKeysSeal, ProtectedUnwrap, SealedUnseal, SodiumOwnKeysSeal, SodiumSealedUnseal, WrappedCommit, WrappedOnce, WrappedUnwrap};
+ghost use Rattle.paseto_wrapping.specs.Laws.{OwnKeysSeal, PrivateProtectedUnwrap, PrivateWrappedUnwrap, ProtectedUnwrap, SealedUnseal, SodiumOwnKeysSeal, SodiumSealedUnseal, WrappedCommit, WrappedOnce, WrappedUnwrap};
 
-/// The text that `wrap_local` or `wrap_secret` writes for a key contains that key, under the same wrapping key. So
-/// `unwrap_local` and `unwrap_secret` return it, unless an allocation fails.
+/// The text that `wrap_local` or `wrap_secret` writes for a key contains that key, under the same wrapping key, in the
+/// form in which a private key is wrapped. So `unwrap_local` and `unwrap_secret` return it, unless an allocation fails; a
+/// private key has to be one of the version.
 pub fn wrapped_keys_unwrap()
-    ensures { WrappedUnwrap }
+    ensures bytes { WrappedUnwrap }
+    ensures private { PrivateWrappedUnwrap }
 {}
 
 /// A wrapped key commits to its wrapping key, in version 2, too, whose local tokens commit to no key. If two wrapping keys
@@ -20,10 +22,11 @@ pub fn wrapped_keys_commit()
 {}
 
 /// The text that `protect_local` or `protect_secret` writes for a key contains that key, under the same password, for
-/// each bound that its cost does not exceed. So `unprotect_local` and `unprotect_secret` return it, unless an
-/// allocation fails.
+/// each bound that its cost does not exceed, in the form in which a private key is wrapped. So `unprotect_local` and
+/// `unprotect_secret` return it, unless an allocation fails; a private key has to be one of the version.
 pub fn protected_keys_unwrap()
-    ensures { ProtectedUnwrap }
+    ensures bytes { ProtectedUnwrap }
+    ensures private { PrivateProtectedUnwrap }
 {}
 
 /// The text that `seal` writes for a key, to the public key of a private key, contains that key for that private key; and

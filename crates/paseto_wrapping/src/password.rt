@@ -7,14 +7,15 @@ ghost use Rattle.paseto_wrapping.specs.declared.family.Family.TheVariants.{Nist,
 ghost use Rattle.paseto_wrapping.specs.declared.header.WrappedType.TheVariants.{LocalPassword as LocalKey, SecretPassword as SecretKey};
 ghost use Rattle.paseto_wrapping.specs.Error.{IsMemory};
 ghost use Rattle.paseto_wrapping.specs.Family.{digest_bytes, encrypted, family_of, nonce_length, tag_length};
+ghost use Rattle.paseto_wrapping.specs.Keys.{IsPrivateFault, IsWrappable, IsWrappedForm, wrapped_form};
 ghost use Rattle.paseto_wrapping.specs.Password.{AreDrawn, AreParts, IsAllowed, IsGranted, IsPasswordFault, IsProtected, IsShort, IsWritingFault, ak, cost_length, ek, k, payload, protected, salt_length, shortest, t, untagged};
-ghost use Rattle.paseto_wrapping.specs.Reading.{HasPrivateLength, InText, IsTagFault, TextFaults, Unwraps, UnwrapsKey};
+ghost use Rattle.paseto_wrapping.specs.Reading.{InText, IsTagFault, TextFaults, Unwraps, UnwrapsForm, UnwrapsKey};
 
 use crate::cost::PasswordCost;
 use crate::error::WrapError;
 use crate::family::{Digest, Family, array_of, encrypted, tag_of};
 use crate::header::WrappedType;
-use crate::keys::{local_key, private_key};
+use crate::keys::{local_key, private_key, wrapped_form};
 use crate::text::{read_payload, write_text};
 use paseto_argon2::{Argon2Error, Parameters, argon2id};
 use rusty_paseto_parts::{
@@ -69,9 +70,13 @@ pub fn protect_local<V: KeyVersion>(
     )
 }
 
-/// The text of a private key under a password. See `protect_local` for the salt, the nonce and the errors.
+/// The text of a private key under a password. See `protect_local` for the salt and the nonce. Of a private key of version
+/// 1, which is a PrivateKeyInfo of PKCS #8, the RSAPrivateKey of PKCS #1 is put under the password.
 ///
-/// Source: PASERK specification, type `secret-pw`.
+/// `InvalidKey` is returned if and only if the version is 1 and the key is no private key of `RsaPss`: the PrivateKeyInfo
+/// of an RSA key of 2048 bits, in DER. It comes first, and then the errors of `protect_local` in their order.
+///
+/// Source: PASERK specification, type `secret-pw`; RFC 8017, appendix A.1.2.
 pub fn protect_secret<V: KeyVersion>(
     alloc: Global,
     password: &[u8],
@@ -80,21 +85,27 @@ pub fn protect_secret<V: KeyVersion>(
     nonce: &[u8],
     key: &PasetoAsymmetricPrivateKey<'_, V, Public>,
 ) -> Result<String, WrapError>
-    ensures ok { IfOk result (λ text. AreDrawn (family_of V.paserk) salt.now nonce.now
+    ensures ok { IfOk result (λ text. IsWrappable V.paserk key.now
+        × AreDrawn (family_of V.paserk) salt.now nonce.now
         × IsShort password.now × IsAllowed (family_of V.paserk) cost × (string_bytes text
-        ≡ protected V.paserk SecretKey password.now cost salt.now nonce.now key.now)) }
-    ensures err { IfErr result
-        (IsWritingFault (family_of V.paserk) salt.now nonce.now password.now cost) }
+        ≡ protected V.paserk SecretKey password.now cost salt.now nonce.now
+        (wrapped_form V.paserk key.now))) }
+    ensures err { IfErr result (IsPrivateFault V.paserk key.now
+        (IsWritingFault (family_of V.paserk) salt.now nonce.now password.now cost)) }
 {
+    let version = V::paserk_version();
+    let Some(octets) = wrapped_form(version, key.as_bytes()) else {
+        return Err(WrapError::InvalidKey);
+    };
     protect(
         alloc,
-        V::paserk_version(),
+        version,
         WrappedType::SecretPassword,
         password,
         cost,
         salt,
         nonce,
-        key.as_bytes(),
+        octets,
     )
 }
 
@@ -132,17 +143,21 @@ pub fn unprotect_local<V: KeyVersion>(
     local_key(bytes)
 }
 
-/// The private key that a text contains under a password. The errors are those of `unprotect_local`; `InvalidKey` is
-/// returned if the unwrapped bytes cannot be a private key of the version.
+/// The private key that a text contains under a password: in version 1 a PrivateKeyInfo of PKCS #8.
 ///
-/// Source: PASERK specification, type `secret-pw`.
+/// The errors are those of `unprotect_local`; `InvalidKey` is returned if the unwrapped bytes are no private key of the
+/// version: in versions 2 and 4 if they are not 64, in version 3 if they are not 48, and in version 1 if they are neither
+/// the RSAPrivateKey of PKCS #1 nor the PrivateKeyInfo of a private key of `RsaPss`.
+///
+/// Source: PASERK specification, type `secret-pw`; RFC 8017, appendix A.1.2; RFC 5208, section 5.
 pub fn unprotect_secret<V: KeyVersion>(
     alloc: Global,
     password: &[u8],
     most: PasswordCost,
     text: &str,
 ) -> Result<PrivateKey<V>, WrapError>
-    ensures { UnwrapsKey (λ key. HasPrivateLength V.paserk key × IsTrue (V.is_private_key key))
+    ensures { UnwrapsForm
+        (λ octets key. IsWrappedForm V.paserk octets key × IsTrue (V.is_private_key key))
         (InText V.paserk SecretKey (IsProtected V.paserk SecretKey password.now most))
         (TextFaults V.paserk SecretKey (IsPasswordFault V.paserk SecretKey password.now most)) text.now result }
 {
@@ -154,7 +169,7 @@ pub fn unprotect_secret<V: KeyVersion>(
         most,
         text,
     )?;
-    private_key(bytes)
+    private_key(alloc, bytes)
 }
 
 // The text of the bytes of a key.

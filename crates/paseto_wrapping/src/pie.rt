@@ -6,13 +6,14 @@ ghost use Rattle.rusty_paseto_primitives.specs.Hmac.{hmac};
 ghost use Rattle.paseto_wrapping.specs.declared.header.WrappedType.TheVariants.{LocalWrap as LocalKey, SecretWrap as SecretKey};
 ghost use Rattle.paseto_wrapping.specs.Error.{IsMemory};
 ghost use Rattle.paseto_wrapping.specs.Family.{digest_bytes, family_of, nonce_length, tag_length};
+ghost use Rattle.paseto_wrapping.specs.Keys.{IsPrivateFault, IsWrappable, IsWrappedForm, wrapped_form};
 ghost use Rattle.paseto_wrapping.specs.Pie.{IsPie, IsPieFault, ak, c, payload, pie, t, x};
-ghost use Rattle.paseto_wrapping.specs.Reading.{HasPrivateLength, InText, IsTagFault, TextFaults, Unwraps, UnwrapsKey};
+ghost use Rattle.paseto_wrapping.specs.Reading.{InText, IsTagFault, TextFaults, Unwraps, UnwrapsForm, UnwrapsKey};
 
 use crate::error::WrapError;
 use crate::family::{Digest, Family, array_of, encrypted, tag_of};
 use crate::header::WrappedType;
-use crate::keys::{WrappingKey, local_key, private_key};
+use crate::keys::{WrappingKey, local_key, private_key, wrapped_form};
 use crate::text::{read_payload, write_text};
 use rusty_paseto_parts::{
     Key, Local, PasetoAsymmetricPrivateKey, PasetoSymmetricKey, PrivateKey, Public,
@@ -56,26 +57,34 @@ pub fn wrap_local<V: KeyVersion>(
     )
 }
 
-/// The text of a private key under a wrapping key. It fails only with `Memory`, and `nonce` is as for `wrap_local`.
+/// The text of a private key under a wrapping key. See `wrap_local` for the nonce. Of a private key of version 1, which is
+/// a PrivateKeyInfo of PKCS #8, the RSAPrivateKey of PKCS #1 is wrapped.
 ///
-/// Source: PASERK specification, type `secret-wrap`.
+/// `InvalidKey` is returned if and only if the version is 1 and the key is no private key of `RsaPss`: the PrivateKeyInfo
+/// of an RSA key of 2048 bits, in DER. Otherwise it fails only with `Memory`.
+///
+/// Source: PASERK specification, type `secret-wrap`; RFC 8017, appendix A.1.2.
 pub fn wrap_secret<V: KeyVersion>(
     alloc: Global,
     wrapping_key: &WrappingKey<V>,
     nonce: &Key<32>,
     key: &PasetoAsymmetricPrivateKey<'_, V, Public>,
 ) -> Result<String, WrapError>
-    ensures ok { IfOk result (λ text. string_bytes text
-        ≡ pie V.paserk SecretKey wrapping_key.now nonce.now key.now) }
-    ensures err { IfErr result IsMemory }
+    ensures ok { IfOk result (λ text. IsWrappable V.paserk key.now × (string_bytes text
+        ≡ pie V.paserk SecretKey wrapping_key.now nonce.now (wrapped_form V.paserk key.now))) }
+    ensures err { IfErr result (IsPrivateFault V.paserk key.now IsMemory) }
 {
+    let version = V::paserk_version();
+    let Some(octets) = wrapped_form(version, key.as_bytes()) else {
+        return Err(WrapError::InvalidKey);
+    };
     wrap(
         alloc,
-        V::paserk_version(),
+        version,
         WrappedType::SecretWrap,
         wrapping_key.as_bytes(),
         nonce.as_bytes(),
-        key.as_bytes(),
+        octets,
     )
 }
 
@@ -107,16 +116,20 @@ pub fn unwrap_local<V: KeyVersion>(
     local_key(bytes)
 }
 
-/// The private key that a text contains under a wrapping key. The errors are those of `unwrap_local`; `InvalidKey` is
-/// returned if the unwrapped bytes cannot be a private key of the version.
+/// The private key that a text contains under a wrapping key: in version 1 a PrivateKeyInfo of PKCS #8.
 ///
-/// Source: PASERK specification, type `secret-wrap`.
+/// The errors are those of `unwrap_local`; `InvalidKey` is returned if the unwrapped bytes are no private key of the
+/// version: in versions 2 and 4 if they are not 64, in version 3 if they are not 48, and in version 1 if they are neither
+/// the RSAPrivateKey of PKCS #1 nor the PrivateKeyInfo of a private key of `RsaPss`.
+///
+/// Source: PASERK specification, type `secret-wrap`; RFC 8017, appendix A.1.2; RFC 5208, section 5.
 pub fn unwrap_secret<V: KeyVersion>(
     alloc: Global,
     wrapping_key: &WrappingKey<V>,
     text: &str,
 ) -> Result<PrivateKey<V>, WrapError>
-    ensures { UnwrapsKey (λ key. HasPrivateLength V.paserk key × IsTrue (V.is_private_key key))
+    ensures { UnwrapsForm
+        (λ octets key. IsWrappedForm V.paserk octets key × IsTrue (V.is_private_key key))
         (InText V.paserk SecretKey (IsPie V.paserk SecretKey wrapping_key.now))
         (TextFaults V.paserk SecretKey (IsPieFault V.paserk SecretKey wrapping_key.now)) text.now result }
 {
@@ -127,7 +140,7 @@ pub fn unwrap_secret<V: KeyVersion>(
         wrapping_key.as_bytes(),
         text,
     )?;
-    private_key(bytes)
+    private_key(alloc, bytes)
 }
 
 // The text of the bytes of a key.

@@ -1,11 +1,14 @@
 -- Keys of RSA that stand in texts.
-use Rattle.std.proofs.Common.{◌≡◌, ◌⊎◌, ℕ, List, Result, Ok, Err, inl, inr, sym, ◌∙◌, subst}
+use Rattle.std.proofs.Common.{◌≡◌, ◌⊎◌, ℕ, List, Result, Ok, Err, inl, inr, refl, sym, ◌∙◌, subst}
 use Rattle.std.specs.Bool.{⊤}
 use Rattle.std.specs.Result.{IsErrAnd}
 use Rattle.std.specs.declared.alloc.Global.{Global}
 use Rattle.std.specs.declared.vec.Vec.{Vec}
 use Rattle.rusty_paseto_parts.specs.Section.{base64url}
+use Rattle.paseto_rsa.specs.Forms.{public_key_info}
+use Rattle.paseto_rsa.specs.Keys.{rsa_private}
 use Rattle.paseto_rsa.proofs.FormLaws.{one-form, public-unique}
+use Rattle.paseto_rsa.proofs.PublicLaws.{info-is, public_key_info-bytes, rsa_private-bytes, rsa_private-form}
 use Rattle.rusty_paseto_paserk.specs.declared.header.PaserkVersion.TheVariants.{V1}
 use Rattle.rusty_paseto_paserk.specs.declared.header.PaserkType.{PaserkType}
 use Rattle.rusty_paseto_paserk.specs.declared.error.PaserkError.{PaserkError}
@@ -13,6 +16,7 @@ use Rattle.rusty_paseto_paserk.specs.declared.error.PaserkError.TheVariants.{NoK
 use Rattle.rusty_paseto_paserk.specs.Error.{IsMemory}
 use Rattle.rusty_paseto_paserk.specs.Text.{ReadsBytes}
 use Rattle.rusty_paseto_paserk.specs.Rsa.{IsPublicForm, IsSecretForm, ReadsForm}
+use Rattle.rusty_paseto_paserk.specs.RsaLaws.{PrivateKeysRead, PublicKeysRead}
 
 -- octets are the form of one private key
 pub one-secret : (octets a b : List ℕ) → IsSecretForm octets a → IsSecretForm octets b → a ≡ b
@@ -75,3 +79,13 @@ module _ (kind : PaserkType) (IsForm : List ℕ → List ℕ → Type 0) (text :
     | inl memory ↦ no-memory e (subst IsMemory (sym is) memory)
     | inr none ↦ none-stands e (subst IsInvalid (sym (is ∙ none.0)) tt) none.1
   ]
+
+-- ---- what is written of a key is read as it
+
+pub private-read : PrivateKeysRead
+private-read key answer bytes is reads =
+    reads.read (rsa_private key) key (rsa_private-bytes key bytes) (inr (rsa_private-form key bytes is, info-is key is)) refl
+
+pub public-read : PublicKeysRead
+public-read key answer bytes is reads =
+    reads.read (public_key_info key) key (public_key_info-bytes key bytes is.size) (is, refl) refl

@@ -5,3 +5,4 @@ pub mod Id
 pub mod Rsa
 pub mod Kinds
 pub mod IdLaws
+pub mod RsaLaws

@@ -6,10 +6,11 @@
 
 ghost use Rattle.std.specs.Prelude.{◌≡◌, ◌≢◌, ◌^◌, ◌-◌};
 ghost use Rattle.paseto_wrapping.specs.declared.header.WrappedType.TheVariants.{SecretPassword as PasswordKey, SecretWrap as WrappedKey};
+ghost use Rattle.paseto_wrapping.specs.Keys.{wrapped_form};
 ghost use Rattle.paseto_wrapping.specs.Password.{protected};
 ghost use Rattle.paseto_wrapping.specs.Pie.{pie};
 ghost use Rattle.bench_calls.specs.Versions.{OfVersion};
-ghost use Rattle.bench_calls.specs.Wrapped.{IsUnder, IsWrapped, cost_of, most};
+ghost use Rattle.bench_calls.specs.Wrapped.{IsPrivateUnder, IsPrivateWrapped, cost_of, most};
 
 use std::alloc::Global;
 
@@ -24,7 +25,8 @@ pub extern "C" fn paseto_bench_wrap_secret(
     text: &mut [u8],
 ) -> u64
     ensures { result ≢ 2 ^ 64 - 1 → OfVersion version
-        (λ version. text.new ≡ pie version WrappedKey wrapping_key.now nonce.now key.now) }
+        (λ version. text.new ≡ pie version WrappedKey wrapping_key.now nonce.now
+        (wrapped_form version key.now)) }
 {
     bench_calls::bench_wrap_secret(alloc, version, wrapping_key, nonce, key, text)
 }
@@ -39,7 +41,7 @@ pub extern "C" fn paseto_bench_unwrap_secret(
     key: &mut [u8],
 ) -> u64
     ensures { result ≢ 2 ^ 64 - 1
-        → OfVersion version (IsWrapped WrappedKey wrapping_key.now text.now key.new) }
+        → OfVersion version (IsPrivateWrapped WrappedKey wrapping_key.now text.now key.new) }
 {
     bench_calls::bench_unwrap_secret(alloc, version, wrapping_key, text, key)
 }
@@ -59,7 +61,8 @@ pub extern "C" fn paseto_bench_protect_secret(
     text: &mut [u8],
 ) -> u64
     ensures { result ≢ 2 ^ 64 - 1 → OfVersion version (λ version. text.new ≡ protected version PasswordKey
-        password.now (cost_of iterations memory passes) salt.now nonce.now key.now) }
+        password.now (cost_of iterations memory passes) salt.now nonce.now
+        (wrapped_form version key.now)) }
 {
     bench_calls::bench_protect_secret(
         alloc, version, password, iterations, memory, passes, salt, nonce, key, text,
@@ -76,7 +79,7 @@ pub extern "C" fn paseto_bench_unprotect_secret(
     key: &mut [u8],
 ) -> u64
     ensures { result ≢ 2 ^ 64 - 1
-        → OfVersion version (IsUnder PasswordKey password.now most text.now key.new) }
+        → OfVersion version (IsPrivateUnder PasswordKey password.now most text.now key.new) }
 {
     bench_calls::bench_unprotect_secret(alloc, version, password, text, key)
 }

@@ -3,6 +3,7 @@
 
 use crate::builders::map_of;
 use crate::kinds::symmetric_key;
+use crate::rsa_key::PRIVATE;
 use crate::run::{Run, Snapshot, calls, edits, shown};
 use anyhow::Result;
 use paseto_key_files::{Openers, pem_of, protect, seal, unlock, wrap};
@@ -10,6 +11,7 @@ use paseto_keys::{
     AnyKey, ClaimsBuilder, ClaimsParser, TokenReader, TokenWriter, admit, admit_by_ring, decrypt,
     encrypt, issue, sign, verify,
 };
+use paseto_pem::private_key_to_pem;
 use paseto_wrapping::PasswordCost;
 use rusty_paseto::prelude::*;
 use rusty_paseto_paserk::{PaserkType, PaserkVersion};
@@ -39,7 +41,8 @@ pub fn ask(run: &mut Run<'_>) -> Result<()> {
     ask_builder(run)?;
     ask_keys(run)?;
     ask_texts(run)?;
-    ask_files(run)
+    ask_files(run)?;
+    ask_rsa(run)
 }
 
 // The key of all local tokens.
@@ -164,5 +167,27 @@ fn ask_files(run: &mut Run<'_>) -> Result<()> {
         "wrap of a line" => wrap(alloc, local.as_str(), &mut Zeros, line);
         "seal of a line" => seal(alloc, public.as_str(), &mut Zeros, local.as_str());
         "unlock of a wrapped key" => unlock(alloc, &opened, locked.as_str());
+    }
+}
+
+fn ask_rsa(run: &mut Run<'_>) -> Result<()> {
+    let (alloc, password) = (run.alloc, run.text);
+    let private = PrivateKey::<V1>::try_from(from_section(alloc, PRIVATE)?)?;
+    let text = private_key_to_pem(alloc, &private.lend())?;
+    let (key, local) = (AnyKey::V1Secret(private), AnyKey::V1Local(symmetric_key()));
+    let (line, wrapping) = (key.to_line(alloc)?, local.to_line(alloc)?);
+    let (text, line, wrapping) = (text.as_str(), line.as_str(), wrapping.as_str());
+    let opened = openers(password, wrapping);
+    let locked = key.wrap(alloc, wrapping, &mut Zeros)?;
+    calls! { run;
+        "AnyKey::from_line of a private key of RSA" => AnyKey::from_line(alloc, line).map(kind_of);
+        "AnyKey::to_line of a private key of RSA" => key.to_line(alloc);
+        "AnyKey::id of a private key of RSA" => key.id(alloc);
+        "AnyKey::public_half of a private key of RSA" => key.public_half(alloc).map(kind_of);
+        "AnyKey::to_pem of a private key of RSA" => key.to_pem(alloc);
+        "AnyKey::wrap of a private key of RSA" => key.wrap(alloc, wrapping, &mut Zeros);
+        "AnyKey::unlock of a private key of RSA" => AnyKey::unlock(alloc, &opened, locked.as_str()).map(kind_of);
+        "AnyKey::unlock of a key in PEM" => AnyKey::unlock(alloc, &opened, text).map(kind_of);
+        "unlock of a key in PEM" => unlock(alloc, &opened, text);
     }
 }

@@ -6,8 +6,8 @@ use anyhow::Result;
 use paseto_ed25519::Ed25519;
 use paseto_p384::P384;
 use paseto_pem::{
-    Label, PemVersion, private_key_from_pem, private_key_to_pem, public_key_from_pem,
-    public_key_to_pem,
+    Label, PemKey, PemVersion, key_from_pem, private_key_from_pem, private_key_to_pem,
+    public_key_from_pem, public_key_to_pem,
 };
 use rusty_paseto::prelude::*;
 use std::alloc::Global;
@@ -46,6 +46,18 @@ fn public_front<V: VersionTrait>(key: PublicKey<V>) -> Option<[u8; 32]> {
     key.lend().as_bytes().first_chunk::<32>().copied()
 }
 
+// The front of a key of whatever algorithm.
+fn front(key: PemKey) -> Option<[u8; 32]> {
+    match key {
+        PemKey::RsaPrivate(key) => key.lend().as_bytes().first_chunk::<32>().copied(),
+        PemKey::P384Private(key) => key.lend().as_bytes().first_chunk::<32>().copied(),
+        PemKey::Ed25519Private(key) => key.lend().as_bytes().first_chunk::<32>().copied(),
+        PemKey::RsaPublic(key) => public_front(key),
+        PemKey::P384Public(key) => public_front(key),
+        PemKey::Ed25519Public(key) => public_front(key),
+    }
+}
+
 fn ask_pair<V: PemVersion>(
     run: &mut Run<'_>,
     kind: &str,
@@ -67,6 +79,8 @@ fn ask_pair<V: PemVersion>(
         "private_key_from_pem of {}" => private_key_from_pem::<V>(alloc, text.as_str()).map(private_front);
         "public_key_to_pem of {}" => public_key_to_pem(alloc, &public);
         "public_key_from_pem of {}" => public_key_from_pem::<V>(alloc, public_text.as_str()).map(public_front);
+        "key_from_pem of {}" => key_from_pem(alloc, text.as_str()).map(front);
+        "key_from_pem of the public key in {}" => key_from_pem(alloc, public_text.as_str()).map(front);
         "PemVersion::write_private of {}" => V::write_private(alloc, private.as_bytes());
         "PemVersion::read_private of {}" => V::read_private(alloc, Label::PrivateKey, &contents);
         "PemVersion::write_public of {}" => V::write_public(alloc, public.as_bytes());
@@ -89,5 +103,6 @@ fn ask_others(run: &mut Run<'_>) -> Result<()> {
             => private_key_from_pem::<V4>(alloc, private.as_str()).map(private_front);
         "public_key_from_pem of another text, refused"
             => public_key_from_pem::<V4>(alloc, public.as_str()).map(public_front);
+        "key_from_pem of another text, refused" => key_from_pem(alloc, private.as_str()).map(front);
     }
 }

@@ -2,6 +2,7 @@
 //! are about, and so is the password.
 
 use crate::kinds::symmetric_key;
+use crate::rsa_key::PRIVATE;
 use crate::run::{Run, calls};
 use anyhow::Result;
 use paseto_ed25519::Ed25519;
@@ -28,6 +29,7 @@ pub fn ask(run: &mut Run<'_>) -> Result<()> {
     ask_version::<V4>(run, "k4")?;
     ask_passwords::<V3>(run, "k3", &[1; 32], &[2; 16])?;
     ask_passwords::<V4>(run, "k4", &[1; 16], &[2; 24])?;
+    ask_rsa(run)?;
     ask_sealing_of_v3(run)?;
     ask_sealing_of_v4(run)
 }
@@ -89,6 +91,25 @@ fn ask_passwords<V: ToyVersion + KeyVersion>(
             => unprotect_secret::<V>(alloc, password, COST, secret.as_str()).map(private_front);
         "unprotect_secret of another text of {}, refused"
             => unprotect_secret::<V>(alloc, password, COST, other_secret.as_str()).map(private_front);
+    }
+}
+
+fn ask_rsa(run: &mut Run<'_>) -> Result<()> {
+    let (alloc, password) = (run.alloc, run.text.as_bytes());
+    let (wrapping_key, nonce) = (
+        WrappingKey::<V1>::from(Key::from([3; 32])),
+        Key::from([4; 32]),
+    );
+    let private = PrivateKey::<V1>::try_from(from_section(alloc, PRIVATE)?)?;
+    let private = private.lend();
+    let wrapped = wrap_secret(alloc, &wrapping_key, &nonce, &private)?;
+    let protected = protect_secret(alloc, password, COST, &[1; 32], &[2; 16], &private)?;
+    calls! { run;
+        "wrap_secret of k1" => wrap_secret(alloc, &wrapping_key, &nonce, &private);
+        "unwrap_secret of k1" => unwrap_secret(alloc, &wrapping_key, wrapped.as_str()).map(private_front);
+        "protect_secret of k1" => protect_secret(alloc, password, COST, &[1; 32], &[2; 16], &private);
+        "unprotect_secret of k1"
+            => unprotect_secret::<V1>(alloc, password, COST, protected.as_str()).map(private_front);
     }
 }
 

@@ -7,7 +7,11 @@ mod rows;
 use crate::expect::{expect_same, expect_shown, expect_text};
 use crate::hexadecimal::bytes_of;
 use crate::paserk::rows::ROWS;
-use crate::pem::texts::{ED25519_PRIVATE, P384_PRIVATE, P384_PUBLIC, RSA_PRIVATE, RSA_PUBLIC};
+use crate::paserk::rsa::{INFO, PUBLIC_ID, PUBLIC_TEXT, SECRET, SECRET_ID};
+use crate::pem::texts::{
+    ED25519_PRIVATE, P384_PRIVATE, P384_PUBLIC, RSA_PRIVATE, RSA_PRIVATE_PKCS1, RSA_PUBLIC,
+    RSA_PUBLIC_PKCS1,
+};
 use paseto_key_files::Openers;
 use paseto_keys::{
     AnyKey, ClaimsBuilder, ClaimsParser, TokenWriter, admit, decrypt, encrypt, issue, sign, verify,
@@ -22,6 +26,8 @@ use std::process::Abort;
 use test_toys::generators::{Counting, Zeros};
 
 const ZEROS_LINE: &str = "k4.local.AAAAAAAAAAAAAAAAAAAAAAAAAAAAAAAAAAAAAAAAAAA";
+
+const FIRST_ZEROS: &str = "k1.local.AAAAAAAAAAAAAAAAAAAAAAAAAAAAAAAAAAAAAAAAAAA";
 
 const OPENERS: Openers<'static> = Openers {
     password: Some(b"a password"),
@@ -104,6 +110,10 @@ fn keys_of_files_sign_and_verify(rt: HostRuntime) {
         &file_key(&rt, alloc, RSA_PUBLIC),
         &[7u8; 48],
     );
+    let half = private.public_half(alloc).expect(&rt, "a public key");
+    signs_for(&rt, alloc, &private, &half, &[7u8; 48]);
+    let private = key_of(&rt, alloc, SECRET);
+    signs_for(&rt, alloc, &private, &half, &[7u8; 48]);
     expect_same(&rt, private.version(), PaserkVersion::V1, "RSA");
     let private = file_key(&rt, alloc, ED25519_PRIVATE);
     expect_same(&rt, private.kind(), PaserkType::Secret, "Ed25519");
@@ -115,10 +125,32 @@ fn keys_of_files_sign_and_verify(rt: HostRuntime) {
 #[test]
 fn lines_and_ids_are_those_of_the_rows(rt: HostRuntime) {
     'rows: for &(_, _, _, line, id) in ROWS {
-        let key = key_of(&rt, rt.alloc(), line);
-        expect_text(&rt, key.id(rt.alloc()).expect(&rt, "an id").as_str(), id);
-        let again = key.to_line(rt.alloc()).expect(&rt, "a line");
-        expect_text(&rt, again.as_str(), line);
+        has_line_and_id(&rt, rt.alloc(), &key_of(&rt, rt.alloc(), line), line, id);
+    }
+}
+
+// A key is written as this line, and has this id.
+fn has_line_and_id(rt: &impl Abort, alloc: Global, key: &AnyKey, line: &str, id: &str) {
+    expect_text(rt, key.id(alloc).expect(rt, "an id").as_str(), id);
+    expect_text(rt, key.to_line(alloc).expect(rt, "a line").as_str(), line);
+}
+
+#[test]
+fn lines_and_ids_of_rsa(rt: HostRuntime) {
+    let alloc = rt.alloc();
+    'lines: for line in [SECRET, INFO] {
+        let key = key_of(&rt, alloc, line);
+        has_line_and_id(&rt, alloc, &key, SECRET, SECRET_ID);
+    }
+    'files: for text in [RSA_PRIVATE, RSA_PRIVATE_PKCS1] {
+        let key = file_key(&rt, alloc, text);
+        has_line_and_id(&rt, alloc, &key, SECRET, SECRET_ID);
+    }
+    let key = key_of(&rt, alloc, PUBLIC_TEXT);
+    has_line_and_id(&rt, alloc, &key, PUBLIC_TEXT, PUBLIC_ID);
+    'halves: for text in [RSA_PUBLIC, RSA_PUBLIC_PKCS1] {
+        let key = file_key(&rt, alloc, text);
+        has_line_and_id(&rt, alloc, &key, PUBLIC_TEXT, PUBLIC_ID);
     }
 }
 
@@ -144,11 +176,18 @@ fn halves_and_texts_in_pem(rt: HostRuntime) {
         private.to_pem(alloc).expect(&rt, "a text").as_str(),
         ED25519_PRIVATE,
     );
-    let private = file_key(&rt, alloc, RSA_PRIVATE);
+    let private = key_of(&rt, alloc, SECRET);
+    expect_half(&rt, alloc, &private, PUBLIC_TEXT);
     expect_text(
         &rt,
-        private.to_line(alloc).expect(&rt, "a line").as_str(),
+        private.to_pem(alloc).expect(&rt, "a text").as_str(),
         RSA_PRIVATE,
+    );
+    let half = private.public_half(alloc).expect(&rt, "a public key");
+    expect_text(
+        &rt,
+        half.to_pem(alloc).expect(&rt, "a text").as_str(),
+        RSA_PUBLIC,
     );
 }
 
@@ -184,6 +223,32 @@ fn locked_keys_are_unlocked(rt: HostRuntime) {
         .seal(alloc, public, &mut generator)
         .expect(&rt, "a text");
     expect_unlocked(&rt, alloc, text.as_str(), private, line);
+}
+
+#[test]
+fn locked_keys_of_rsa_are_unlocked(rt: HostRuntime) {
+    let (alloc, opener) = (rt.alloc(), FIRST_ZEROS);
+    let (key, mut generator) = (file_key(&rt, alloc, RSA_PRIVATE), Zeros);
+    let cost = PasswordCost {
+        iterations: 2,
+        ..PasswordCost::default()
+    };
+    let text = key
+        .protect(alloc, b"a password", cost, &mut generator)
+        .expect(&rt, "a text");
+    assert!(rt;
+        text.as_str().starts_with("k1.secret-pw."),
+        "a key under a password"
+    );
+    expect_unlocked(&rt, alloc, text.as_str(), opener, SECRET);
+    let text = key
+        .wrap(alloc, opener, &mut generator)
+        .expect(&rt, "a text");
+    assert!(rt;
+        text.as_str().starts_with("k1.secret-wrap.pie."),
+        "a wrapped key"
+    );
+    expect_unlocked(&rt, alloc, text.as_str(), opener, SECRET);
 }
 
 // A token of a claim, and its parser.

@@ -5,6 +5,7 @@ mod refusals;
 
 use crate::expect::expect_text;
 use crate::hexadecimal::bytes_of;
+use crate::paserk::rsa::{INFO, PUBLIC_TEXT, SECRET};
 use crate::pem::texts::*;
 use crate::wrapping::rows::{PROTECTED, Protected, WRAPPED, Wrapped};
 use base64::engine::general_purpose::URL_SAFE_NO_PAD;
@@ -141,6 +142,13 @@ fn expect_answer(rt: &impl Abort, answer: Result<String, KeyFileError>, wanted: 
     expect_text(rt, answer.expect(rt, "a text").as_str(), wanted);
 }
 
+// The text behind lines such as GnuTLS writes.
+fn behind_a_text(rt: &impl Abort, alloc: Global, text: &str) -> String {
+    format!(in alloc; "Public Key Info:\n\tKey Security Level: High\n\nk4.local.\n{text}").expect(
+        rt, "a text",
+    )
+}
+
 #[test]
 fn keys_of_openssl_become_lines(rt: HostRuntime) {
     let alloc = rt.alloc();
@@ -152,12 +160,14 @@ fn keys_of_openssl_become_lines(rt: HostRuntime) {
         (P384_SEC1, CURVE_SECRET),
         (P384_PUBLIC, CURVE_PUBLIC),
         (P384_COMPRESSED, CURVE_PUBLIC),
-        (RSA_PRIVATE, RSA_PRIVATE),
-        (RSA_PRIVATE_PKCS1, RSA_PRIVATE),
-        (RSA_PUBLIC, RSA_PUBLIC),
-        (RSA_PUBLIC_PKCS1, RSA_PUBLIC),
+        (RSA_PRIVATE, SECRET),
+        (RSA_PRIVATE_PKCS1, SECRET),
+        (RSA_PUBLIC, PUBLIC_TEXT),
+        (RSA_PUBLIC_PKCS1, PUBLIC_TEXT),
     ] {
         expect_line(&rt, alloc, &NO_OPENERS, text, line);
+        let behind = behind_a_text(&rt, alloc, text);
+        expect_line(&rt, alloc, &NO_OPENERS, behind.as_str(), line);
     }
 }
 
@@ -169,9 +179,9 @@ fn lines_become_keys_of_openssl(rt: HostRuntime) {
         (EDWARDS_PUBLIC, ED25519_PUBLIC),
         (CURVE_SECRET, P384_PRIVATE),
         (CURVE_PUBLIC, P384_PUBLIC),
-        (RSA_PRIVATE, RSA_PRIVATE),
-        (RSA_PUBLIC, RSA_PUBLIC),
-        (RSA_PUBLIC_PKCS1, RSA_PUBLIC),
+        (SECRET, RSA_PRIVATE),
+        (INFO, RSA_PRIVATE),
+        (PUBLIC_TEXT, RSA_PUBLIC),
     ] {
         expect_answer(&rt, pem_of(alloc, line), text);
     }
@@ -231,9 +241,7 @@ fn check_protected(rt: &impl Abort, alloc: Global, row: &Protected) {
 #[test]
 fn keys_under_passwords_are_those_of_the_rows(rt: HostRuntime) {
     'rows: for row in PROTECTED {
-        if row.0 != 1 || row.1 == "local" {
-            check_protected(&rt, rt.alloc(), row);
-        }
+        check_protected(&rt, rt.alloc(), row);
     }
 }
 
@@ -256,30 +264,28 @@ fn check_wrapped(rt: &impl Abort, alloc: Global, row: &Wrapped) {
 #[test]
 fn keys_under_wrapping_keys_are_those_of_the_rows(rt: HostRuntime) {
     'rows: for row in WRAPPED {
-        if row.0 != 1 || row.1 == "local" {
-            check_wrapped(&rt, rt.alloc(), row);
-        }
+        check_wrapped(&rt, rt.alloc(), row);
     }
 }
 
-// A key pair of version 1 is locked as it stands, and opened as OpenSSL writes it.
+// A private key of version 1 whose line holds a PrivateKeyInfo is locked and opened as its RSAPrivateKey.
 #[test]
-fn keys_of_rsa_are_locked_and_opened(rt: HostRuntime) {
+fn keys_of_rsa_are_locked_in_one_form(rt: HostRuntime) {
     let alloc = rt.alloc();
     let cost = PasswordCost {
         iterations: 2,
         ..PasswordCost::default()
     };
     let mut generator = Given { bytes: &[7; 80] };
-    let locked = protect(alloc, b"word", cost, &mut generator, RSA_PRIVATE).expect(&rt, "a text");
+    let locked = protect(alloc, b"word", cost, &mut generator, INFO).expect(&rt, "a text");
     let wrapping = line_of(&rt, alloc, 1, "local", KEY);
-    let wrapped = wrap(alloc, wrapping.as_str(), &mut generator, RSA_PRIVATE).expect(&rt, "a text");
+    let wrapped = wrap(alloc, wrapping.as_str(), &mut generator, INFO).expect(&rt, "a text");
     let openers = Openers {
         password: Some(b"word"),
         key: Some(wrapping.as_str()),
     };
-    expect_line(&rt, alloc, &openers, locked.as_str(), RSA_PRIVATE);
-    expect_line(&rt, alloc, &openers, wrapped.as_str(), RSA_PRIVATE);
+    expect_line(&rt, alloc, &openers, locked.as_str(), SECRET);
+    expect_line(&rt, alloc, &openers, wrapped.as_str(), SECRET);
 }
 
 // The bytes of the key that is sealed.

@@ -2,7 +2,7 @@
 
 mod refusals;
 pub(crate) mod rows;
-mod rsa;
+pub(crate) mod rsa;
 
 use crate::expect::{expect_bytes, expect_digits, expect_text};
 use crate::hexadecimal::array_of;

@@ -7,16 +7,18 @@ ghost use Rattle.paseto_wrapping.specs.Password.{salt_length};
 
 mod refusals;
 pub(crate) mod rows;
+pub(crate) mod rsa;
 
 use crate::expect::{expect_bytes, expect_same, expect_text};
 use crate::hexadecimal::{array_of, bytes_of};
+use paseto_rsa::private_key_from_pkcs1;
 use paseto_wrapping::{
     PasswordCost, WrapError, WrappingKey, protect_local, protect_secret, unprotect_local,
     unprotect_secret, unwrap_local, unwrap_secret, wrap_local, wrap_secret,
 };
 use rows::{PROTECTED, Protected, WRAPPED, Wrapped};
 use rusty_paseto_parts::{Key, Local, PasetoSymmetricKey, PrivateKey, V1, V2, V3, V4};
-use rusty_paseto_paserk::KeyVersion;
+use rusty_paseto_paserk::{KeyVersion, PaserkVersion};
 use std::alloc::Global;
 use std::process::Abort;
 
@@ -28,8 +30,19 @@ fn local_of<V>(rt: &impl Abort, digits: &str) -> PasetoSymmetricKey<V, Local> {
     PasetoSymmetricKey::from(key_of(rt, digits))
 }
 
+// The private key of octets that are wrapped, which in version 1 are an RSAPrivateKey.
 fn private_of<V: KeyVersion>(rt: &impl Abort, alloc: Global, digits: &str) -> PrivateKey<V> {
-    PrivateKey::try_from(bytes_of(rt, alloc, digits)).expect(rt, "a private key")
+    let octets = bytes_of(rt, alloc, digits);
+    let bytes = match V::paserk_version() {
+        PaserkVersion::V1 => rsa_key_of(rt, alloc, &octets),
+        _ => octets,
+    };
+    PrivateKey::try_from(bytes).expect(rt, "a private key")
+}
+
+fn rsa_key_of(rt: &impl Abort, alloc: Global, octets: &[u8]) -> Vec<u8> {
+    let found = private_key_from_pkcs1(alloc, octets).expect(rt, "memory");
+    found.expect(rt, "a private key")
 }
 
 // The answer is the wanted text.

@@ -14,16 +14,14 @@ pub enum FileError {
     Key(PaserkError),
     /// The key file was not opened, or a key was not written to one.
     KeyFile(KeyFileError),
-    /// The key pair of version 1 is in PASERK, and is read from PEM alone.
-    InPaserk,
     /// The text of the key file is empty.
     EmptyKey,
     /// The key is to be unwrapped, but is bare.
     NotWrapped,
     /// The key is to be unsealed, but is not sealed.
     NotSealed,
-    /// The key is one of version 1, whose key pairs have no id.
-    NoId,
+    /// The key is one of a key pair of version 1, which a ring does not take.
+    NoRingKey,
     /// A folder has no private key.
     NoSigner,
     /// The key file has a second line, and is not PEM.
@@ -70,11 +68,10 @@ impl FileError {
             KeyFile(KeyFileError::NeedsPassword) =>
                 "the key is under a password: use --password-file FILE, or\n  read -rs PASETO_PASSWORD\n  export PASETO_PASSWORD",
             KeyFile(source) => source.text(),
-            InPaserk => "key pairs of version 1 are read from PEM, and not from PASERK",
             EmptyKey => "it is empty, and holds no key",
             NotWrapped => "the key is bare: it is under no password, not wrapped and not sealed",
             NotSealed => "the key is not sealed: use paseto unwrap",
-            NoId => "a key pair of version 1, which has no id by which a ring finds it",
+            NoRingKey => "a key pair of version 1, which a ring does not take",
             NoSigner => "no private key is in this folder",
             SecondLine => "line 2: a key file has one line of PASERK, or is PEM",
             TooLong => "too long for a key file",

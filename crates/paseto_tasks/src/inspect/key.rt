@@ -4,7 +4,7 @@ ghost use Rattle.std.specs.Prelude.{◌≡◌, IfOk, IfSome, IsNone, string_byte
 ghost use Rattle.rusty_paseto_paserk.specs.Header.{mark};
 ghost use Rattle.paseto_tasks.specs.Inspect.Key.{BeginsAsNone, InspectsKey, type_text, wrapped_type_text};
 
-use crate::key_line::after;
+use crate::front::after;
 use paseto_wrapping::{WrappedType, wrapped_header_of};
 use rusty_paseto_paserk::{PaserkType, PaserkVersion, header_of};
 use std::alloc::{AllocError, Global};

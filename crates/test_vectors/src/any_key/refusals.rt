@@ -3,15 +3,18 @@
 use super::key_of;
 use super::rows::WRITTEN;
 use crate::expect::expect_shown;
+use crate::paserk::rsa::{PUBLIC_TEXT, RSA_PUBLIC_KEY, SHORT_KEY};
 use crate::pem::texts::{RSA_1024_PUBLIC, RSA_PRIVATE};
+use paseto_key_files::{KeyFileError, Openers};
 use paseto_keys::{
     AdmitError, AnyKey, ClaimsBuilder, ClaimsParser, KeyError, TokenReader, TokenWriter, admit,
     decrypt, encrypt, issue, sign, verify,
 };
+use paseto_wrapping::PasswordCost;
 use rand_core::TryRng;
 use rusty_paseto_core::{ImplicitAssertion, Key, PasetoError, PasetoSymmetricKey};
 use rusty_paseto_generic::GenericParserError;
-use rusty_paseto_paserk::{PaserkType, PaserkVersion};
+use rusty_paseto_paserk::{PaserkError, PaserkType, PaserkVersion};
 use serde_json::Value;
 use std::alloc::Global;
 use std::fmt::Display;
@@ -156,15 +159,9 @@ fn drawn_bytes(rt: HostRuntime) {
 fn halves_and_texts(rt: HostRuntime) {
     let alloc = rt.alloc();
     let local = key_of(&rt, alloc, WRITTEN[3].0);
-    let first = key_of(&rt, alloc, RSA_PRIVATE);
+    let first = key_of(&rt, alloc, PUBLIC_TEXT);
     expect_refusal(&rt, alloc, local.public_half(alloc), LOCAL);
-    expect_refusal(
-        &rt,
-        alloc,
-        first.public_half(alloc),
-        "The key is one of version 1",
-    );
-    expect_refusal(&rt, alloc, first.id(alloc), "The key is one of version 1");
+    expect_refusal(&rt, alloc, first.public_half(alloc), PUBLIC);
     let wanted = "keys for local tokens have no PEM text";
     expect_refusal(&rt, alloc, local.to_pem(alloc), wanted);
     let odd = AnyKey::from_bytes(alloc, PaserkType::Secret, PaserkVersion::V4, &[7u8; 64]);
@@ -175,31 +172,69 @@ fn halves_and_texts(rt: HostRuntime) {
         odd.expect(&rt, "a key").public_half(alloc),
         wanted,
     );
-    let empty = AnyKey::from_bytes(alloc, PaserkType::Public, PaserkVersion::V1, &[]);
-    expect_refusal(
-        &rt,
-        alloc,
-        empty.expect(&rt, "a key").to_line(alloc),
-        wanted,
-    );
+}
+
+// The answer is refused as an invalid key of a line.
+fn expect_no_line(rt: &impl Abort, answer: Result<String, KeyFileError>) {
+    match answer {
+        Err(KeyFileError::Paserk(PaserkError::InvalidKey)) => {}
+        _ => assert!(rt; false, "no line"),
+    }
+}
+
+// What is no key of RSA may be held as one of version 1, and has no line, no id and no other half.
+#[test]
+fn bytes_of_no_rsa_key(rt: HostRuntime) {
+    let (alloc, first) = (rt.alloc(), PaserkVersion::V1);
+    let cost = PasswordCost::default();
+    let wanted = "The key was not in the correct format";
+    'kinds: for kind in [PaserkType::Secret, PaserkType::Public] {
+        let key = AnyKey::from_bytes(alloc, kind, first, &[7u8; 64]).expect(&rt, "a key");
+        expect_no_line(&rt, key.to_line(alloc));
+        expect_no_line(&rt, key.to_pem(alloc));
+        expect_no_line(&rt, key.protect(alloc, b"a", cost, &mut Zeros));
+        expect_no_line(&rt, key.wrap(alloc, FIRST, &mut Zeros));
+        expect_refusal(&rt, alloc, key.id(alloc), wanted);
+    }
+    let key = AnyKey::from_bytes(alloc, PaserkType::Secret, first, &[]).expect(&rt, "a key");
+    expect_refusal(&rt, alloc, key.public_half(alloc), wanted);
 }
 
 /// A line, and what is said of it.
 const LINES: &[(&str, &str)] = &[
     ("", "The text is no PASERK key"),
     ("k5.local.AAAA", "The text is no PASERK key"),
-    ("k1.secret.AAAA", "The key is one of version 1"),
-    ("k1.public.AAAA", "The key is one of version 1"),
+    ("k1.secret.AAAA", "The key was not in the correct format"),
+    ("k1.public.AAAA", "The key was not in the correct format"),
+    (SHORT_KEY, "The key was not in the correct format"),
+    (RSA_PUBLIC_KEY, "The key was not in the correct format"),
     ("k4.local.AAAA", "The key was not in the correct format"),
     ("k3.public.AAAA", "The key was not in the correct format"),
+    (RSA_PRIVATE, "The text is no PASERK key"),
+    (RSA_1024_PUBLIC, "The text is no PASERK key"),
+];
+
+/// A text of a key file, and what is said of it.
+const FILES: &[(&str, &str)] = &[
+    ("", "The text is no PASERK key"),
+    ("k1.secret.AAAA", "The key was not in the correct format"),
     ("-----BEGIN ", "The text is no PEM"),
+    ("a text\n-----BEGIN ", "The text is no PEM"),
     (RSA_1024_PUBLIC, "The key has another size"),
 ];
 
 #[test]
 fn lines_of_no_key(rt: HostRuntime) {
+    let alloc = rt.alloc();
     'lines: for &(line, wanted) in LINES {
-        expect_refusal(&rt, rt.alloc(), AnyKey::from_line(rt.alloc(), line), wanted);
+        expect_refusal(&rt, alloc, AnyKey::from_line(alloc, line), wanted);
+    }
+    let openers = Openers {
+        password: None,
+        key: None,
+    };
+    'files: for &(text, wanted) in FILES {
+        expect_refusal(&rt, alloc, AnyKey::unlock(alloc, &openers, text), wanted);
     }
 }
 

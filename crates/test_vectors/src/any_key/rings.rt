@@ -4,7 +4,7 @@ use super::key_of;
 use super::refusals::THIRD;
 use super::rows::{VERIFIED, WRITTEN};
 use crate::expect::{expect_shown, expect_text};
-use crate::pem::texts::RSA_PUBLIC;
+use crate::paserk::rsa::PUBLIC_TEXT;
 use paseto_keys::{
     AnyKey, ClaimsBuilder, ClaimsParser, RingError, TokenKey, TokenWriter, admit_by_ring, issue,
 };
@@ -38,10 +38,11 @@ fn reader_of(rt: &impl Abort, alloc: Global, key: AnyKey) -> AnyKey {
     }
 }
 
-// A ring of all keys that read what the lines' keys write, behind a public key of version 1, which has no id.
+// A ring of all keys that read what the lines' keys write, behind a public key of version 1, which no ring
+// takes.
 fn ring(rt: &impl Abort, alloc: Global) -> Vec<AnyKey> {
     let mut keys = Vec::new(alloc);
-    keys.push(key_of(rt, alloc, RSA_PUBLIC))
+    keys.push(key_of(rt, alloc, PUBLIC_TEXT))
         .expect(rt, "memory");
     'lines: for line in writing_lines() {
         let key = reader_of(rt, alloc, key_of(rt, alloc, line));

@@ -2,12 +2,12 @@
 
 use super::{
     CURVE_PUBLIC, EDWARDS_PUBLIC, EDWARDS_SECRET, Given, NO_OPENERS, SEALED4, SEALING_PUBLIC3,
-    SEALING_PUBLIC4,
+    SEALING_PUBLIC4, behind_a_text,
 };
 use crate::expect::expect_text;
-use crate::hexadecimal::bytes_of;
+use crate::paserk::rsa::{PUBLIC_TEXT, RSA_PUBLIC_KEY, SECRET, SHORT_KEY};
 use crate::pem::texts::*;
-use crate::wrapping::rows::PROTECTED;
+use crate::wrapping::rsa::OCTETS;
 use paseto_key_files::{KeyFileError, Openers, pem_of, protect, seal, unlock, wrap};
 use paseto_wrapping::PasswordCost;
 use std::process::Abort;
@@ -96,6 +96,11 @@ fn what_opens_is_another(rt: HostRuntime) {
         ),
         (RSA_PRIVATE, WRAPPED4, "this is no PASERK key"),
         (
+            SECRET,
+            "k1.local-wrap.pie.",
+            "this key is a private one, and another type is needed",
+        ),
+        (
             EDWARDS_SECRET,
             SEALED4,
             "wrong key or password, or the text was changed",
@@ -128,19 +133,20 @@ fn another_password(rt: HostRuntime) {
     expect_fault(&rt, unlock(rt.alloc(), &openers, text), wanted);
 }
 
-// The rows of version 1 hold private keys that are no encoding of a key.
+// What was locked as a private key of version 1 is one, in PKCS #8, or no key.
 #[test]
 fn what_was_locked_is_no_key(rt: HostRuntime) {
-    let alloc = rt.alloc();
-    let wanted = "what was wrapped is no key of the version";
-    'rows: for row in PROTECTED {
-        if row.0 == 1 && row.1 == "secret" {
-            let password = bytes_of(&rt, alloc, row.3);
-            let openers = Openers {
-                password: Some(&password),
-                key: None,
-            };
-            expect_fault(&rt, unlock(alloc, &openers, row.7), wanted);
+    let openers = Openers {
+        password: Some(b""),
+        key: None,
+    };
+    'rows: for &(_, _, text, wanted) in OCTETS {
+        match unlock(rt.alloc(), &openers, text) {
+            Ok(line) => {
+                expect_text(&rt, "a key", wanted);
+                expect_text(&rt, line.as_str(), SECRET);
+            }
+            Err(error) => expect_text(&rt, error.text(), wanted),
         }
     }
 }
@@ -166,6 +172,8 @@ fn texts_in_pem(rt: HostRuntime) {
         (P384_OFF_THE_CURVE, "The key was not in the correct format"),
     ] {
         expect_fault(&rt, unlock(alloc, &NO_OPENERS, text), wanted);
+        let behind = behind_a_text(&rt, alloc, text);
+        expect_fault(&rt, unlock(alloc, &NO_OPENERS, behind.as_str()), wanted);
     }
 }
 
@@ -183,12 +191,15 @@ fn lines_without_pem(rt: HostRuntime) {
         ("k1.local.", "keys for local tokens have no PEM text"),
         ("k2.secret.", second),
         ("k2.public.", second),
-        ("k1.secret.", "The key is one of version 1"),
-        ("k1.public.", "The key is one of version 1"),
+        ("k1.secret.", "The key was not in the correct format"),
+        ("k1.public.", "The key was not in the correct format"),
+        (SHORT_KEY, "The key was not in the correct format"),
+        (RSA_PUBLIC_KEY, "The key was not in the correct format"),
         ("k4.public.abc", "The key was not in the correct format"),
         (two_halves, "The key was not in the correct format"),
         ("", "The text is no PASERK key"),
-        (ED25519_PRIVATE, "The key is one of Ed25519"),
+        (ED25519_PRIVATE, "The text is no PASERK key"),
+        (RSA_PRIVATE, "The text is no PASERK key"),
     ] {
         expect_fault(&rt, pem_of(alloc, line), wanted);
     }
@@ -208,9 +219,18 @@ const LINES: &[(&str, &str)] = &[
     ("k4.secret", "The text is no PASERK key"),
     ("k4.local.abc", "The key was not in the correct format"),
     ("k3.secret.abcd", "The key was not in the correct format"),
-    ("k1.secret.abcd", "The text is no PEM"),
-    (RSA_PUBLIC, "The text is a public key"),
-    (P384_PRIVATE, "The key is one of a curve"),
+    ("k1.secret.abcd", "The key was not in the correct format"),
+    (SHORT_KEY, "The key was not in the correct format"),
+    (
+        PUBLIC_TEXT,
+        "the key is public: it needs no password and no wrapping key",
+    ),
+    (
+        "k1.public.",
+        "the key is public: it needs no password and no wrapping key",
+    ),
+    (RSA_PRIVATE, "The text is no PASERK key"),
+    (P384_PRIVATE, "The text is no PASERK key"),
     (LOCAL4, "the system returned no random bytes"),
     (EDWARDS_SECRET, "the system returned no random bytes"),
 ];
@@ -246,6 +266,17 @@ fn costs_and_wrapping_keys(rt: HostRuntime) {
     );
     let wanted = "this key is one of version 3, and the other one is not";
     expect_fault(&rt, wrap(alloc, LOCAL3, &mut generator, LOCAL4), wanted);
+    expect_fault(&rt, wrap(alloc, LOCAL3, &mut generator, SECRET), wanted);
+    let wanted = "this key is a private one, and another type is needed";
+    expect_fault(&rt, wrap(alloc, SECRET, &mut generator, SECRET), wanted);
+    let wanted = "the system returned no random bytes";
+    let mut generator = Given { bytes: &[] };
+    let cost = PasswordCost::default();
+    expect_fault(
+        &rt,
+        protect(alloc, b"word", cost, &mut generator, SECRET),
+        wanted,
+    );
 }
 
 #[test]

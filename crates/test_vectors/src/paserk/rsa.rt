@@ -1,5 +1,4 @@
-//! Key pairs of version 1 as text. The forms of the keys are those that OpenSSL writes (`openssl pkey -outform DER`, and
-//! with `-pubout`), and the ids are computed from the texts by Python's hashlib.
+//! Key pairs of version 1 as text. The forms of the keys are those that OpenSSL writes, and the ids are computed from the texts by Python's hashlib.
 
 use super::refusals::expect_fault;
 use crate::expect::{expect_bytes, expect_text};
@@ -14,7 +13,7 @@ use rusty_paseto_paserk::{
 };
 use std::process::Abort;
 
-// The private key, as `openssl pkey -outform DER` writes it.
+// The private key, as `openssl rsa -traditional -outform DER` writes it.
 pub(crate) const SECRET: &str = concat!(
     "k1.secret.MIIEpAIBAAKCAQEAp3G0w6iGCjGm6mKj653SGgr-8GW8--MQoqUcrB0xWgbef8gaSC36ppAtZjnQK6zD7VtROW5_3q",
     "x4UQMLPZSV2QduEBvAFQD4p1Gj_ir3nWPHDrFh7WTj7Zg4DXi0aRVMEENHEcgcuFvSfjiScIEcMh1E3bFRAyyhcTXKVz5Z0oGfm-",
@@ -34,8 +33,8 @@ pub(crate) const SECRET: &str = concat!(
     "wAzPALVotN88WyBBnuZcAjoAp7SdD69r3cyNVDd6ggZHq7IRqsah3GWN65TJLXvrhDwzyGZ4Jx2kPpUfdese4xyFNIdPkONJ2TRA",
 );
 
-// The same as a PrivateKeyInfo.
-const INFO: &str = concat!(
+// The same as a PrivateKeyInfo, as `openssl pkcs8 -topk8 -nocrypt -outform DER` writes it.
+pub(crate) const INFO: &str = concat!(
     "k1.secret.MIIEvgIBADANBgkqhkiG9w0BAQEFAASCBKgwggSkAgEAAoIBAQCncbTDqIYKMabqYqPrndIaCv7wZbz74xCipRysHT",
     "FaBt5_yBpILfqmkC1mOdArrMPtW1E5bn_erHhRAws9lJXZB24QG8AVAPinUaP-KvedY8cOsWHtZOPtmDgNeLRpFUwQQ0cRyBy4W9",
     "J-OJJwgRwyHUTdsVEDLKFxNcpXPlnSgZ-b5vJ4-eQiJhCKcgCijozWb7WCKbg9QR4pymnGJ44XE5FBjCRmi-fneE-W4qehZRo-PC",
@@ -64,9 +63,9 @@ pub(crate) const PUBLIC_TEXT: &str = concat!(
     "AB",
 );
 
-const SECRET_ID: &str = "k1.sid.SoyorXSNQ1jgBicmt8PNEJLqZFwtoeFuEFZ5AtKKRK4c";
+pub(crate) const SECRET_ID: &str = "k1.sid.SoyorXSNQ1jgBicmt8PNEJLqZFwtoeFuEFZ5AtKKRK4c";
 
-const PUBLIC_ID: &str = "k1.pid.X7atxVN-a6t9JX4nY1HcqKFW3CoAycBebX_8jB8bSGn6";
+pub(crate) const PUBLIC_ID: &str = "k1.pid.X7atxVN-a6t9JX4nY1HcqKFW3CoAycBebX_8jB8bSGn6";
 
 // The answer is the wanted text.
 fn expect_answer(rt: &impl Abort, answer: Result<String, PaserkError>, wanted: &str) {
@@ -116,6 +115,19 @@ fn what_is_no_key_is_not_written(rt: HostRuntime) {
     expect_fault(&rt, rsa_public_id(rt.alloc(), &key), WRONG);
 }
 
+// The RSAPrivateKey of a key of 1024 bits.
+pub(crate) const SHORT_KEY: &str = concat!(
+    "k1.secret.MIICXAIBAAKBgQCq0BVMP7VUW5fTx2zpPsZylfA-EHqzUkQ8jB5cr0lRKr4mfHvVSTR3j2G756FolrF7ywVfpSyVBP",
+    "eIPEHouJmNwW3VhUaJFbIhaUc3ZM4NA7Pd5uZfVqvbJwcqqmr1e-OpTgQivTx2C1z9ikAZNMBSz_XWtV-IN7116I0r-QJ2RQIDAQ",
+    "ABAoGAIeFKCCiux7-vGrN4l776z6mL0FOmcsEDhdro_stJyI6ozqtsSH7PqFNJOGMWMc-J_prjQvhZImmsy1ngXM-YrSFXRTJ3LP",
+    "-uLa3UeUZt0AtsNEsTikFq_PWjDkiek5B08U8TVeR2USM41RcTmcRBkYNBWoRC5SeDoBVjxn0knNUCQQDRjSIZ_OoigWeRblzIWk",
+    "AYPs8IzYj8O3p6z8XyZECoS0udK2Nog80fJrDRcq1eiqiYyzNlAw35qE7MRNdjJB67AkEA0KzB9VV8tIpxpTsfwhDZcL16VMuDSR",
+    "qGWrkZOBkOsFVQKSnJwMHsgFR26GiSf6EFPmqgrrnWdetAkwT10gLu_wJBAM9ZJ3UvnT2nbiOpYIWfR-y1uYasWe-7quX60ZOXP6",
+    "NHXfqXBDZWtJEuZ6fYIVR7P3hxGNnKu_ldYRsew0GGbCECQFHVfhbdGJOgu2Kl5hVwECXDWMcKLIktqsTHVBmI0hbazh3mcmVyZ3",
+    "IILb2EzPbaSbkpjawX2v_Razh8uH5MgjcCQEJTNF-8o0AHRMCIpeLUHcRP4DXI-vj3v3ukfLhTlX3DER7SSpGZSeuF1heu61urOw",
+    "vmWx57NJgd9uLRAyXJBSg",
+);
+
 // A text that is read as a private key, and what is said of it.
 const SECRETS: &[(&str, &str)] = &[
     ("", "The text is no PASERK key"),
@@ -123,6 +135,7 @@ const SECRETS: &[(&str, &str)] = &[
     (PUBLIC_TEXT, "The key is a public one, which verifies"),
     ("k1.secret.", WRONG),
     ("k1.secret.AAAA", WRONG),
+    (SHORT_KEY, WRONG),
 ];
 
 #[test]
@@ -141,7 +154,7 @@ const PUBLICS: &[(&str, &str)] = &[
     (RSA_PUBLIC_KEY, WRONG),
 ];
 
-const RSA_PUBLIC_KEY: &str = concat!(
+pub(crate) const RSA_PUBLIC_KEY: &str = concat!(
     "k1.public.MIIBCgKCAQEAp3G0w6iGCjGm6mKj653SGgr-8GW8--MQoqUcrB0xWgbef8gaSC36ppAtZjnQK6zD7VtROW5_3qx4UQ",
     "MLPZSV2QduEBvAFQD4p1Gj_ir3nWPHDrFh7WTj7Zg4DXi0aRVMEENHEcgcuFvSfjiScIEcMh1E3bFRAyyhcTXKVz5Z0oGfm-byeP",
     "nkIiYQinIAoo6M1m-1gim4PUEeKcppxieOFxORQYwkZovn53hPluKnoWUaPjwteFLKGusMnaScJm54VI_g5eBKAI_MCB-_7nEjDO",

@@ -3,7 +3,7 @@
 use super::Repeated;
 use crate::expect::{expect_digits, expect_text, expect_that};
 use crate::hexadecimal::{array_of, bytes_of};
-use paseto_rsa::{PublicKey, RsaPss, is_private_key};
+use paseto_rsa::{PublicKey, RsaPss, is_private_key, public_key_of};
 use rusty_paseto_core::{
     Footer, Paseto, PasetoAsymmetricPublicKey, PasetoError, Public, SignatureScheme, V1,
 };
@@ -125,6 +125,14 @@ fn what_is_not_valid_is_refused_by_its_name(rt: HostRuntime) {
         let is_named = matches!(&answer, Err(PasetoError::InvalidSignature));
         expect_that(&rt, is_named, message);
     }
+}
+
+#[test]
+fn the_public_key_of_a_private_key(rt: HostRuntime) {
+    let private = bytes_of(&rt, rt.alloc(), PRIVATE);
+    let public = public_key_of(&private).expect(&rt, "a public key");
+    expect_digits(&rt, rt.alloc(), &public, PUBLIC);
+    expect_that(&rt, public_key_of(&public).is_none(), "a public key");
 }
 
 #[test]

@@ -3,20 +3,19 @@ use Rattle.rusty_paseto_paserk.specs.declared.header.PaserkType.TheVariants.{Loc
 use Rattle.paseto_wrapping.specs.declared.header.WrappedType.TheVariants.{LocalPassword}
 use Rattle.paseto_key_files.specs.Line.{IsLocalKey}
 use Rattle.paseto_key_files.specs.Opening.{PasswordFaults, UnderPassword}
-use Rattle.paseto_key_files.proofs.HeldLaws.{not_unwrapped, unwrapped, writes_key}
+use Rattle.paseto_key_files.proofs.HeldLaws.{not_unwrapped, unwrapped}
 use Rattle.paseto_key_files.proofs.password.local_under.Goals as goal
 
 pub returns-in-Ok : goal.returns-in-Ok
 returns-in-Ok g c =
     let version = g.V.KeyVersion.paserk in
     let unwraps = rw c.bound.ensures at c.in-Ok.ensures in
-    unwrapped IsLocalKey IsLocalKey (writing version Local) (UnderPassword version LocalPassword c.args.password.now)
-    (PasswordFaults version LocalPassword c.args.password.now) c.args.text.now (λ key is. is) c.in-Ok.key unwraps c.local_line.result
-    (writes_key IsLocalKey (writing version Local) c.in-Ok.key c.local_line.result unwraps.form c.local_line.ensures.ok c.local_line.ensures.err)
+    unwrapped IsLocalKey (writing version Local) (UnderPassword version LocalPassword c.args.password.now) (PasswordFaults version LocalPassword c.args.password.now)
+    c.args.text.now c.in-Ok.key unwraps c.local_line.result c.local_line.ensures.ok c.local_line.ensures.err
 
 pub returns-in-Err : goal.returns-in-Err
 returns-in-Err g c =
     let version = g.V.KeyVersion.paserk in
     let unwraps = rw c.bound.ensures at c.in-Err.ensures in
-    rw c.from.ensures (not_unwrapped IsLocalKey IsLocalKey (writing version Local) (UnderPassword version LocalPassword c.args.password.now)
-    (PasswordFaults version LocalPassword c.args.password.now) c.args.text.now (λ key is. is) c.in-Err.error unwraps)
+    rw c.from.ensures (not_unwrapped IsLocalKey (writing version Local) (UnderPassword version LocalPassword c.args.password.now)
+    (PasswordFaults version LocalPassword c.args.password.now) c.args.text.now c.in-Err.error unwraps)

@@ -1,14 +1,17 @@
-use Rattle.paseto_pem.specs.Rsa.{IsPrivateFault, IsPrivateOf}
+use Rattle.std.proofs.lemmas.Result.{err_from_is_err_and}
+use Rattle.paseto_key_files.specs.Error.{pem_error_of}
+use Rattle.paseto_key_files.specs.Line.{IsSomeForm}
+use Rattle.rusty_paseto_paserk.specs.Rsa.{IsSecretForm}
+use Rattle.rusty_paseto_paserk.specs.declared.header.PaserkType.TheVariants.{Secret}
 use Rattle.rusty_paseto_paserk.specs.declared.header.PaserkVersion.TheVariants.{V1}
-use Rattle.paseto_key_files.specs.Line.{IsPrivateKey, private_line}
-use Rattle.paseto_key_files.proofs.PemLaws.{in_pem, not_in_pem, written_err, written_ok}
+use Rattle.paseto_key_files.proofs.FormLaws.{line_key}
+use Rattle.paseto_key_files.proofs.PemLaws.{memory_fault, rsa_private_memory}
 use Rattle.paseto_key_files.proofs.pem.rsa_private_pem.Goals as goal
 
-pub returns-in-Ok : goal.returns-in-Ok
-returns-in-Ok c =
-    in_pem IsPrivateOf IsPrivateFault (private_line V1) c.args.line.now c.in-Ok.key c.in-Ok.ensures c.rsa_private_line.result
-    (written_ok (IsPrivateKey V1) (private_line V1) c.in-Ok.key c.rsa_private_line.result c.rsa_private_line.ensures)
-    (written_err (IsPrivateKey V1) (private_line V1) c.in-Ok.key c.rsa_private_line.result c.in-Ok.ensures.found.held.is_key c.rsa_private_line.ensures)
-
-pub returns-in-Err : goal.returns-in-Err
-returns-in-Err c = rw c.from.ensures (not_in_pem IsPrivateOf IsPrivateFault (private_line V1) c.args.line.now c.in-Err.error c.in-Err.ensures)
+pub returns-in_err-private_key_to_pem-clause-err : goal.returns-in_err-private_key_to_pem-clause-err
+returns-in_err-private_key_to_pem-clause-err c =
+    let p = err_from_is_err_and c.from_residual-in_err-private_key_to_pem.result c.from_residual-in_err-private_key_to_pem.ensures.1 in
+    let key = c.in_ok-key.key in
+    let error = c.in_err-private_key_to_pem.field-0.0 in
+    let memory = rsa_private_memory key (line_key V1 key c.args.line.now c.in_ok-key.ensures.found) error (rw c.lend.ensures at c.in_err-private_key_to_pem.ensures.refused) in
+    rw (p.1, p.2) (memory_fault V1 Secret (IsSomeForm IsSecretForm) c.args.line.now (pem_error_of error) memory)

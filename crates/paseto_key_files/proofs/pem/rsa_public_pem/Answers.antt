@@ -1,13 +1,16 @@
-use Rattle.paseto_pem.specs.Rsa.{IsPublic, IsPublicFault, IsPublicOf}
-use Rattle.paseto_key_files.specs.Pem.{rsa_public_text}
-use Rattle.paseto_key_files.proofs.PemLaws.{in_pem, not_in_pem, written_err, written_ok}
+use Rattle.std.proofs.lemmas.Result.{err_from_is_err_and}
+use Rattle.paseto_key_files.specs.Error.{pem_error_of}
+use Rattle.paseto_key_files.specs.Line.{IsSomeForm}
+use Rattle.rusty_paseto_paserk.specs.Rsa.{IsPublicForm}
+use Rattle.rusty_paseto_paserk.specs.declared.header.PaserkType.TheVariants.{Public}
+use Rattle.rusty_paseto_paserk.specs.declared.header.PaserkVersion.TheVariants.{V1}
+use Rattle.paseto_key_files.proofs.PemLaws.{memory_fault, rsa_public_memory}
 use Rattle.paseto_key_files.proofs.pem.rsa_public_pem.Goals as goal
 
-pub returns-in-Ok : goal.returns-in-Ok
-returns-in-Ok c =
-    in_pem IsPublicOf IsPublicFault rsa_public_text c.args.line.now c.in-Ok.key c.in-Ok.ensures c.rsa_public_line.result
-    (written_ok IsPublic rsa_public_text c.in-Ok.key c.rsa_public_line.result c.rsa_public_line.ensures)
-    (written_err IsPublic rsa_public_text c.in-Ok.key c.rsa_public_line.result c.in-Ok.ensures.found.held.is_key c.rsa_public_line.ensures)
-
-pub returns-in-Err : goal.returns-in-Err
-returns-in-Err c = rw c.from.ensures (not_in_pem IsPublicOf IsPublicFault rsa_public_text c.args.line.now c.in-Err.error c.in-Err.ensures)
+pub returns-in_err-public_key_to_pem-clause-err : goal.returns-in_err-public_key_to_pem-clause-err
+returns-in_err-public_key_to_pem-clause-err c =
+    let p = err_from_is_err_and c.from_residual-in_err-public_key_to_pem.result c.from_residual-in_err-public_key_to_pem.ensures.1 in
+    let key = c.in_ok-key.key in
+    let error = c.in_err-public_key_to_pem.field-0.0 in
+    let memory = rsa_public_memory key (c.in_ok-key.ensures.found.form.0) error (rw c.lend.ensures at c.in_err-public_key_to_pem.ensures.refused) in
+    rw (p.1, p.2) (memory_fault V1 Public (IsSomeForm IsPublicForm) c.args.line.now (pem_error_of error) memory)

@@ -9,11 +9,11 @@ use Rattle.paseto_key_files.proofs.wrapping.local_with.Goals as goal
 pub returns-in-Ok : goal.returns-in-Ok
 returns-in-Ok g c =
     let version = g.V.KeyVersion.paserk in
-    opened_by_own version Local IsLocalKey IsLocalKey (writing version Local) (Pies version LocalWrap) (PieFaults version LocalWrap)
+    opened_by_own version Local IsLocalKey IsLocalKey (writing version Local) (Pies version LocalWrap) IsLocalKey (Pies version LocalWrap) (PieFaults version LocalWrap)
     c.args.opener.now c.args.text.now c.in-Ok.own c.in-Ok.ensures c.local_under.result (rw c.wrapping_key.ensures at c.local_under.ensures)
 
 pub returns-in-Err : goal.returns-in-Err
 returns-in-Err g c =
     let version = g.V.KeyVersion.paserk in
-    rw c.of_opener.ensures (no_opener version Local IsLocalKey IsLocalKey (writing version Local) (Pies version LocalWrap) (PieFaults version LocalWrap)
+    rw c.of_opener.ensures (no_opener version Local IsLocalKey IsLocalKey (writing version Local) (Pies version LocalWrap) IsLocalKey (Pies version LocalWrap) (PieFaults version LocalWrap)
     c.args.opener.now c.args.text.now c.in-Err.error c.in-Err.ensures)

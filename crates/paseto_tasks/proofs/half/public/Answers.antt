@@ -1,17 +1,11 @@
-use Rattle.std.proofs.Common.{inl, inr, refl}
+use Rattle.std.proofs.Common.{inr}
 use Rattle.std.proofs.lemmas.Result.{err_from_is_err_and}
-use Rattle.rusty_paseto_paserk.specs.declared.error.PaserkError.TheVariants.{OtherType}
-use Rattle.rusty_paseto_paserk.specs.declared.header.PaserkType.TheVariants.{Public}
 use Rattle.paseto_keys.specs.AnyKey.{parts_of}
 use Rattle.paseto_tasks.specs.Error.{nothing}
 use Rattle.paseto_tasks.specs.Half.{HasHalf, HasNoHalf}
 use Rattle.paseto_tasks.proofs.Halves.{half_unwritten}
 use Rattle.paseto_tasks.proofs.Outputs.{line_makes}
 use Rattle.paseto_tasks.proofs.half.public.Goals as goal
-
-pub returns-in-V1Public : goal.returns-in-V1Public
-returns-in-V1Public c =
-    rw c.in-V1Public.is (record { printed = tt; refused = inl (record { source = OtherType Public; no_half = refl; no_memory = λ memory. memory; told = refl }) })
 
 pub returns-in_err-to_line : goal.returns-in_err-to_line
 returns-in_err-to_line c =

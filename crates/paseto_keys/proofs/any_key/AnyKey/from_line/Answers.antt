@@ -4,8 +4,8 @@ use Rattle.paseto_keys.proofs.any_key.AnyKey.from_line.Goals as goal
 
 pub returns-in-Some : goal.returns-in-Some
 returns-in-Some c =
-    paserk_line c.args.line.now c.in-Some.kind c.in-Some.version _ c.in-Some.ensures.found (rw c.if-begins_pem.false at c.begins_pem.ensures)
+    paserk_line c.args.line.now c.in-Some.kind c.in-Some.version _ c.in-Some.ensures.found
     c.paserk_key.result c.paserk_key.ensures
 
 pub returns-in-None : goal.returns-in-None
-returns-in-None c = no_line c.args.line.now (rw c.if-begins_pem.false at c.begins_pem.ensures) (c.in-None.ensures.none refl)
+returns-in-None c = no_line c.args.line.now (c.in-None.ensures.none refl)
