@@ -184,6 +184,21 @@ is "a key of RSA on standard input" "$("$program" sign --key - in <rsa.secret | 
 "$program" issue --key rsa.secret --claim aud=customers --footer-kid "$(cat rsa.pid)" >token
 is "claims by a key of RSA in PASERK" \
     "$("$program" check --key rsa.public --footer-kid "$(cat rsa.pid)" <token | grep -o '"aud":"customers"')" '"aud":"customers"'
+# A ring of it: the public key in each form, and a ring that has the private key alone.
+for name in rsa.public.pem rsa.pkcs1.pem rsa.public; do
+    mkdir ring1 && "$program" keygen v4.local --out ring1/own.key --quiet && cp $name "ring1/$(tr . - <<<"${name%.pem}")"
+    is "claims by a ring with $name" "$("$program" check --ring ring1 token | grep -o '"aud":"customers"')" '"aud":"customers"'
+    is "a text by a ring with $name" "$("$program" verify --ring ring1 token | grep -o '"aud":"customers"')" '"aud":"customers"'
+    rm -r ring1
+done
+mkdir ring1 && cp rsa.pem ring1
+"$program" issue --ring ring1 --claim aud=customers >issued
+is "a token by a ring with a private key of RSA" "$("$program" check --key rsa.public --footer-kid "$(cat rsa.pid)" <issued | grep -o '"aud":"customers"')" \
+    '"aud":"customers"'
+refuses "a ring with the private key alone" 1 "token: The key '$(cat rsa.pid)' is not in the ring" check --ring ring1 token
+cp rsa.public ring1/its && echo "$(cat rsa.public)AAAA" >ring1/a
+is "a ring with another key that is broken" "$("$program" check --ring ring1 token 2>&1 | grep -o '"aud":"customers"')" '"aud":"customers"'
+rm -r ring1
 # What is no key of RSA of 2048 bits: fewer bytes, more, another size, a public key, and RSAPublicKey where the
 # SubjectPublicKeyInfo belongs.
 openssl genpkey -algorithm RSA -pkeyopt rsa_keygen_bits:3072 -out rsa3072.pem 2>err
@@ -519,9 +534,10 @@ is "a ring with another key that is not opened" "$("$program" check --ring ring 
 "$program" issue --key locked.v4.local --password-file password --footer-kid "$("$program" id --key locked.v4.local --password-file password)" >in
 refuses "a ring that is not opened" 3 "ring/one: $needs_password" check --ring ring
 rm ring/one
+kid=$("$program" id --key locked.v4.local --password-file password)
 for name in rsa.public.pem rsa.public rsa.pem rsa.secret; do
     cp $name ring/three
-    refuses "a ring with $name" 3 "ring/three: a key pair of version 1, which a ring does not take" check --ring ring
+    refuses "a ring with $name and without the key" 1 "standard input: The key '$kid' is not in the ring" check --ring ring
 done
 
 # -- the lines
@@ -547,9 +563,8 @@ printf '{"a":1.5}' | "$program" encrypt --key office >odd
 echo v4.local >part
 echo v9.local.AAAA >unknown
 echo 'v4.local.!' >spelled
-mkdir keys keys.rsa keys.none
+mkdir keys keys.none
 cp office keys
-cp rsa.public.pem keys.rsa/one
 cp nothing keys.none/one
 
 # STATUS|WORDS|LINE: the lines that the program has, word for word, and arguments for which it says each. Some are not here:
@@ -613,7 +628,6 @@ done <<'LIST'
 1|check --key office --at 2026-11-22T09:30:00Z --require jti claims|claims: The expected claim 'jti' was not found in the payload
 1|issue --key office --claim a=1 --claim a=2|The claim 'a' appears more than once in the top level payload json
 3|check --ring keys.none stranger|keys.none/one: it is empty, and holds no key
-3|check --ring keys.rsa stranger|keys.rsa/one: a key pair of version 1, which a ring does not take
 3|issue --ring keys|keys: no private key is in this folder
 2|issue --ring keys --footer id|--ring names its key in the footer: omit --footer and --footer-kid
 2|keygen v4.public --out new --public new|--out and --public name one file: name two

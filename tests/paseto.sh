@@ -512,7 +512,8 @@ refuses "a public key to issue" 3 "" "v4.public: The key is a public one, which 
 refuses "a truncated key to issue" 3 "" "cut: $bad_key" issue --key cut
 refuses "no token to check" 1 "" "$input: $bad_count" check --key v4.local
 refuses "no token for a ring" 1 "" "$input: $bad_count" check --ring ring
-refuses "a token of another kind for a ring" 1 v1.public.AAAA "$input: $bad_header" check --ring ring
+refuses "a token of another kind for a ring" 1 v5.public.AAAA "$input: $bad_header" check --ring ring
+refuses "a token of version 1 without a footer for a ring" 1 v1.public.AAAA "$input: the token has no footer, which names its key in a ring" check --ring ring
 refuses "no footer for a ring" 1 "$("$program" issue --key 4.issues)" "$input: the token has no footer, which names its key in a ring" check --ring ring
 refuses "a footer that names no key" 1 "$("$program" issue --key 4.issues --footer id)" "$input: the footer of the token is not a JSON object" check --ring ring
 refuses "a footer with no id of a key" 1 "$("$program" issue --key 4.issues --footer '{"kid":4}')" "$input: the footer of the token names no key: it has no string under kid" check --ring ring

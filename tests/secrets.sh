@@ -86,10 +86,10 @@ ask() {
     reports "$work/log" | sort | uniq -c >"$work/found"
 }
 
-# may CALL KIND FUNCTION: in how many places secrets.txt lets it be reported.
+# may VERSION CALL KIND FUNCTION: in how many places secrets.txt lets it be reported.
 may() {
-    awk -v call="$1" -v kind="$2" -v name="$3" \
-        -v build="$build" '($1 == "*" || $1 == build) && $2 == call && $3 == kind && $5 == name { most = $4 }
+    awk -v own="$1.$2" -v call="$2" -v kind="$3" -v name="$4" -v build="$build" '
+        ($1 == "*" || $1 == build) && ($2 == call || $2 == own) && $3 == kind && $5 == name && $4 > most { most = $4 }
         END { print most + 0 }' "$root/tests/secrets.txt"
 }
 
@@ -99,7 +99,7 @@ check() {
     ask "$1" "$2"
     [ "$status" -eq 0 ] || { fail "$1 $2: a call answers wrongly, or valgrind does not run (status $status)"; return; }
     while read -r count kind name; do
-        if [ "$count" -gt "$(may "$2" "$kind" "$name")" ]; then
+        if [ "$count" -gt "$(may "$1" "$2" "$kind" "$name")" ]; then
             fail "$1 $2: $count places with a secret $kind in $name"
             told=1
         fi
@@ -113,7 +113,7 @@ ask control control
 for kind in jump address; do
     if grep -qE "^ +1 $kind control$" "$work/found"; then pass; else fail "the control's $kind is not reported"; fi
 done
-if [ "$(may control jump control)" -eq 0 ]; then pass; else fail 'secrets.txt lets the control pass'; fi
+if [ "$(may control control jump control)" -eq 0 ]; then pass; else fail 'secrets.txt lets the control pass'; fi
 
 for version in v1 v2 v3 v4; do
     for call in text_write text_read text_refused; do
@@ -136,8 +136,6 @@ check rsa sign
 for version in v1 v2 v3 v4; do
     for call in wrap unwrap unwrap_secret unwrap_refused protect unprotect unprotect_secret unprotect_refused \
         pem_write pem_read pem_contents; do
-        # What is opened as a private key of version 1 is read as DER, and of that all is undefined: pem_contents asks it.
-        case "$version $call" in 'v1 unwrap_secret' | 'v1 unprotect_secret') continue ;; esac
         check "$version" "$call"
     done
 done

@@ -39,8 +39,8 @@ func hiddenOr(held *material, err error) (Key, error) {
 }
 
 // ParseKey reads a key from PASERK text, as in the files of `paseto keygen`, which may end in one newline, or from PEM, as
-// openssl writes it: an Ed25519 key is read as version 4, a P-384 key as version 3, and an RSA key as version 1. A key that is
-// locked is refused with ErrNeedsPassword or ErrNeedsKey.
+// openssl writes it: an Ed25519 key is read as version 4, a P-384 key as version 3, and an RSA key of 2048 bits as version 1. A
+// key that is locked is refused with ErrNeedsPassword or ErrNeedsKey.
 func ParseKey(text []byte) (Key, error) {
 	return hiddenOr(keyOf(text))
 }
@@ -126,7 +126,7 @@ func (k Key) Equal(other Key) bool {
 	return k.held().isSame(other.held())
 }
 
-// PASERK is the key as text, k4.local.., to store it. A key pair of version 1 has none here.
+// PASERK is the key as text, k4.local.., to store it.
 func (k Key) PASERK() (string, error) {
 	return k.told((*material).paserk)
 }
@@ -136,14 +136,14 @@ func (k Key) PEM() (string, error) {
 	return k.told((*material).pem)
 }
 
-// ID is the PASERK id, k4.lid.., which identifies the key without revealing it.
+// ID is the PASERK id, k4.lid.., which identifies the key without revealing it. A private key has another one than its public key.
 func (k Key) ID() (string, error) {
 	return k.told((*material).id)
 }
 
-// Public is the public key of a private one, of version 2, 3 or 4.
+// Public is the public key of a private one.
 func (k Key) Public() (Key, error) {
-	if k.Type() != Private || k.Version() == 1 {
+	if k.Type() != Private {
 		return Key{}, wrong("the public key of a %v", k)
 	}
 	return hiddenOr(k.held().public())

@@ -185,9 +185,6 @@ func unwrapped(text []byte, opener *material) (*material, error) {
 
 // paserk, id and pem write a key.
 func (key *material) paserk() ([]byte, error) {
-	if key.version() == 1 && key.kind() != Local {
-		return nil, &Error{Reason: ErrOtherVersion}
-	}
 	return answered(keyRoom, func(room, reason C.room) C.paseto_status { return C.key_text(&key.held, room, reason) })
 }
 
@@ -204,7 +201,7 @@ func (key *material) pem() ([]byte, error) {
 	return answered(keyRoom, func(room, reason C.room) C.paseto_status { return C.key_pem(&held, room, reason) })
 }
 
-// public returns the public key of a private one of version 2, 3 or 4.
+// public returns the public key of a private one.
 func (key *material) public() (*material, error) {
 	return made(func(public *C.key, reason C.room) C.paseto_status { return C.public_key(&key.held, public, reason) })
 }

@@ -36,9 +36,12 @@ type person struct {
 	Exp   string `json:"exp,omitempty"`
 }
 
-// key is a new key of a version.
+// key is a new key of a version, and of version 1 a private key of OpenSSL.
 func key(t testing.TB, kind KeyType, version int) Key {
 	t.Helper()
+	if kind == Private && version == 1 {
+		return got[Key](t)(ParseKey(tested(t, "keys_of_others/openssl_rsa.pem")))
+	}
 	made, err := GenerateKey(kind, version)
 	if err != nil {
 		t.Fatal(err)
@@ -79,10 +82,11 @@ func kinds(t testing.TB) map[string][2]Key {
 	for version := 1; version <= 4; version++ {
 		local := key(t, Local, version)
 		made[fmt.Sprintf("v%d.local", version)] = [2]Key{local, local}
-		if version > 1 {
-			private := key(t, Private, version)
-			made[fmt.Sprintf("v%d.public", version)] = [2]Key{private, got[Key](t)(private.Public())}
+		private := key(t, Private, version)
+		if version == 1 {
+			private = got[Key](t)(ParseKey([]byte(told(t, "RSA_SECRET_TEXT"))))
 		}
+		made[fmt.Sprintf("v%d.public", version)] = [2]Key{private, got[Key](t)(private.Public())}
 	}
 	return made
 }

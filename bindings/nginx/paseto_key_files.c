@@ -59,7 +59,10 @@ static paseto_status key_of(ngx_conf_t *cf, u_char *text, size_t length, paseto_
     paseto_status status;
 
     status = paseto_key_read(text, length, key->key, PASETO_NO_REASON);
-    if (status != PASETO_OK || paseto_key_id(key->key, id, sizeof id, &id_length, PASETO_NO_REASON) != PASETO_OK) {
+    if (status == PASETO_OK) {
+        status = paseto_key_id(key->key, id, sizeof id, &id_length, PASETO_NO_REASON);
+    }
+    if (status != PASETO_OK) {
         return status;
     }
     key->id.data = ngx_pnalloc(cf->pool, id_length);
@@ -99,10 +102,6 @@ static ngx_int_t add_file(ngx_conf_t *cf, ngx_str_t *path, paseto_keys_t *keys) 
     }
     if (key->key->type == PASETO_KEY_PRIVATE) {
         ngx_conf_log_error(NGX_LOG_EMERG, cf, 0, "\"paseto_keys\": %V is a private key: the gateway needs its public key alone", path);
-        return NGX_ERROR;
-    }
-    if (keys->is_ring && key->key->version == 1 && key->key->type == PASETO_KEY_PUBLIC) {
-        ngx_conf_log_error(NGX_LOG_EMERG, cf, 0, "\"paseto_keys\": %V is a public key of version 1, which a folder does not take", path);
         return NGX_ERROR;
     }
     return NGX_OK;

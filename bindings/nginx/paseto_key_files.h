@@ -8,7 +8,7 @@
 #include <paseto.h>
 
 typedef struct {
-    ngx_str_t id; /* the PASERK id; empty for a key of version 1 that has none */
+    ngx_str_t id; /* the PASERK id */
     struct paseto_key *key;
 } paseto_key_t;
 

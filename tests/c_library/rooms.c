@@ -187,15 +187,6 @@ struct sample {
     struct slice token, answer;
 };
 
-static struct paseto_key rsa_key(uint8_t type, const char *digits) {
-    struct paseto_key made = {1, type, 0, {0}};
-    for (; digits[0] != '\0'; digits += 2) {
-        char pair[3] = {digits[0], digits[1], '\0'};
-        made.bytes[made.length++] = (uint8_t)strtoul(pair, NULL, 16);
-    }
-    return made;
-}
-
 static void draw_keys(const struct kind *kind, struct paseto_key *key, struct paseto_key *read_key) {
     uint8_t seed[PASETO_DRAWN];
     fill(seed, sizeof seed);

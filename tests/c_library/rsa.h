@@ -3,6 +3,10 @@
 #ifndef RSA_H
 #define RSA_H
 
+#include <paseto.h>
+#include <stdint.h>
+#include <stdlib.h>
+
 static const char RSA_PRIVATE[] =
     "308204be020100300d06092a864886f70d0101010500048204a8308204a40201000282010100a771b4c3a8860a31a6ea62a3"
     "eb9dd21a0afef065bcfbe310a2a51cac1d315a06de7fc81a482dfaa6902d6639d02bacc3ed5b51396e7fdeac7851030b3d94"
@@ -44,5 +48,104 @@ static const char RSA_TOKEN[] =
     "yuvf8i5wqZCkfGMaKpzfVZKJrUK1nI4sdiQskmE79i3QPtcJ1Tj0s43p_LDAe8D1tgjL4l4gE7BMXfY33ZpWtKUnrHRXHWR-RZ84"
     "zDG5RYMdD2t7U_6mAAO6KcMFUU9iAFWu6csA8pu2CmyN53phMI3_-SrZPLcqnp1Xjgj8D6tPQPopxBprC0p8lp6YXNltQ1PG8f.Y"
     "SBmb290ZXI";
+
+/* The keys in PASERK: an RSAPrivateKey and a SubjectPublicKeyInfo, as OpenSSL writes them in DER; and their ids, by Python's
+   hashlib. */
+static const char RSA_SECRET_TEXT[] =
+    "k1.secret.MIIEpAIBAAKCAQEAp3G0w6iGCjGm6mKj653SGgr-8GW8--MQoqUcrB0xWgbef8gaSC36ppAtZjnQK6zD7VtROW5_3q"
+    "x4UQMLPZSV2QduEBvAFQD4p1Gj_ir3nWPHDrFh7WTj7Zg4DXi0aRVMEENHEcgcuFvSfjiScIEcMh1E3bFRAyyhcTXKVz5Z0oGfm-"
+    "byePnkIiYQinIAoo6M1m-1gim4PUEeKcppxieOFxORQYwkZovn53hPluKnoWUaPjwteFLKGusMnaScJm54VI_g5eBKAI_MCB-_7n"
+    "EjDOHgkVKUbzQnyK5T-8eSWAegTk5x8TGvEg6VRJ4FHK6fAD37m9NvR5ixoaHaT4l8JQIDAQABAoIBADWGaf-_f7WDgLVc-cRIK1"
+    "DK4grLotksEPXE7QDxxgRevMJBH3GiTQTwgqqyYWKMtAbMUY8XzQVLwZw36mBxfmMldl_s1v5_1Hx74v3NE2E683c1abXeseOR7J"
+    "0V0CnlNm7earn6639dTtCtWdZf1zkH1Ss-0sQ-gI71YGx6EHFzHMU5lVKuYHeOcAk1Nwvn2LCSWODfdSz_5aILmMK3ayIxOqVj9c"
+    "3myCyF4nBN1iR52C6kTzxMvemKihPIWxwJV_DdZk74aQvW3VwmA0ZvY5dV7S8y0_sfEQvfIyTv2p-BxbyDDEWVh1oEFcuiy2uPmW"
+    "mge4iXbem8cRHJBjFtcBMCgYEA0odDOibbVQXEzb_7k1nWISoP_PMH4qBpO1O59SRWR3Te01Q9eHdbvnM2zCcs4AZJmdK-9Rkl15"
+    "wIOBZZn3GKRDO1cRhK2MclbeH_yd9lRqpIuP5p7BJuSuginqqa994CMv39LAt5iVMnnvlsQioDMlKOLxNoJt2oW94-YX0jd3cCgY"
+    "EAy5wwrO9LfuoMJ5Awaouba_SUo8CKAIXy0SkuVFTIAkx90ZM3D3qgv6tOQMsFBrMHKOUxZb-4B_f2BrF1V62-TdL78QR5AzfQ11"
+    "InkaeofqfzrdgcGFC2GN19EASimQF_e2yYzGyXpkYPjXs0gqL1kBB932yD9fhy2HOu8S0GiEMCgYEAlTKw7QxOkjG1aI7vDl0zSG"
+    "uTyxK8-tnt2dKbTeTDlH55z9C6g54rEYx7QDFfNyCdlnrpQ6_fxq5YkM8eEsYXVABFTPIHURvJJddtPDaqgmr5gMkkbd4d9c4Pgt"
+    "yrWJAohNTFUCqNpkmdIafoFffKLiadhzU8sZaS0xBsqxBRSz8CgYBGVOeDdQ1RA6u7JtVymFLRkaSeg-2njJ15no4AV2DXWnDDqe"
+    "SFFkjcrGHVg8tyqvi4KaNMkFMTfZWgbkAoTz3DSDP65x6d-_PJzPkaGR3c0kscK-BYjdi48hk3JUK9M4VDrxmA06n2p5DLwFk9Hu"
+    "lQIEI6oRNcLbwOBLfTW0g8XQKBgQCdPuAoT4BpYtMYaclLsL7zq21Bv5ZAoM2qo7-CSF6_LPmLnScE2YslTAaZqEkoe9iYIAeBQ3"
+    "wAzPALVotN88WyBBnuZcAjoAp7SdD69r3cyNVDd6ggZHq7IRqsah3GWN65TJLXvrhDwzyGZ4Jx2kPpUfdese4xyFNIdPkONJ2TRA";
+
+static const char RSA_PUBLIC_TEXT[] =
+    "k1.public.MIIBIjANBgkqhkiG9w0BAQEFAAOCAQ8AMIIBCgKCAQEAp3G0w6iGCjGm6mKj653SGgr-8GW8--MQoqUcrB0xWgbef8"
+    "gaSC36ppAtZjnQK6zD7VtROW5_3qx4UQMLPZSV2QduEBvAFQD4p1Gj_ir3nWPHDrFh7WTj7Zg4DXi0aRVMEENHEcgcuFvSfjiScI"
+    "EcMh1E3bFRAyyhcTXKVz5Z0oGfm-byePnkIiYQinIAoo6M1m-1gim4PUEeKcppxieOFxORQYwkZovn53hPluKnoWUaPjwteFLKGu"
+    "sMnaScJm54VI_g5eBKAI_MCB-_7nEjDOHgkVKUbzQnyK5T-8eSWAegTk5x8TGvEg6VRJ4FHK6fAD37m9NvR5ixoaHaT4l8JQIDAQ"
+    "AB";
+
+static const char RSA_SECRET_ID[] =
+    "k1.sid.SoyorXSNQ1jgBicmt8PNEJLqZFwtoeFuEFZ5AtKKRK4c";
+
+static const char RSA_PUBLIC_ID[] =
+    "k1.pid.X7atxVN-a6t9JX4nY1HcqKFW3CoAycBebX_8jB8bSGn6";
+
+/* The private key under a wrapping key, which is in hexadecimal, and under the password paßwort: by tests/wrapping_rows.py. */
+static const char RSA_WRAPPING_KEY[] =
+    "fff94de681d06eb0935f7d89761d49c9813dff3ec335b86e31023dc061ce2d44";
+
+static const char RSA_WRAPPED[] =
+    "k1.secret-wrap.pie.6tIqynvhRb6pnc9Q01On-DsQetcCaGC0XOvrbBtSjSYQHBULJu8YYLCOiQavjj87CtWTMzLe-du4jYRH8"
+    "ofmW5CHaagbjeAMhX5xQr6FPQ81YhWATJ0fLL_w-mP81IMwuGLbkxAVm_QiYoNKMmCHNVkh-4grPOd6XQGjpqHaHb-CKigDUBH4Q"
+    "KyzeVURQhNu7Dhf4Rfe7UvTiyxVz_sTKRH9lBwVveINDGO6-dEOvr_yX5usGe9z1bugox8eDxzB0yWl9RypRtyjFbGPCq0hTIjeT"
+    "J92P7qJJH-vIRHWZ0Gi8yOTPzGqWeCBLE1v273qQ4OTgSP2a7zRGCZukJEV7XERKtyEu3_D3COgWp_gasmCiaOnauKAPTU6zXJs4"
+    "VhsOa8zVP1477aZFUf3FMiMiALPnlMn5P0A0FMDayIJQ66k9fzu3uN2uPJccE15w5nAeVC2UmPeIeBGrEhwJ_LAWdD0fsEFgAPEh"
+    "JBhGDVOXLiBvmCJk5m0MhefAIsOlRuphJXM_y-szyh8sCz7gQogkhwUDHFyxddis2De0HRgQKtvLfK3H8x8_QArCQHPBRMToZjSR"
+    "qbVKlyEBLbaNHWMJ_G4NVRoMCqHof8bRNLIPY0UYGMXmGfbHfU-hHQaC8AgXeXE_MIBDg8Guf-8cceWZ0yivzLbFgSjOvEsvW4jz"
+    "ONnIWpxEXXCjsDSaRe4yt7X_23q9QETYqz_VyyXBEg-E-w1gV5P8lobXCssdcyi2mg_jVBrvpo7Pxpw9yloI2G9w8VF8PyyatiwZ"
+    "mXuCbHQn40lZE12hp-NtZVUXAmuo2H9rfUt-KNzpaSHymBT01NavCkwGq5BCzHOuA_oV6edZYIZoZj4pXIfVCPWjTjEKuSk3S5Nb"
+    "QhmlJk2LAwT5gNHEAYr5g_fDcG-N4FbmS_83EiBN8EAcvsyHsnGxNUbAP-vtMLNOev9N-WBhRXMnsP880opOL-GmQ0Bb_lAnpybh"
+    "rsTwYaHq-yTc69_Geovl3nOQ2k3AoS7JIu4v3C7ltvNSR0isB3A1RHyX6faujmqmuMUkDeaRXC0D2Fxi3huzWTAkTBH-xtXQPUJc"
+    "GV1n-cxOLS0ejpnw0qQFc-YLIE77juPcqxiX6uN3OaRQ_b7fjKmAN3fxsOGrncGsnY9KIlPf9BzLoNV212CFN-JBcOPNa7Vy54SP"
+    "jfYdp16HVa111WtXuZvRZTuFHgYJQNuPEvcCCnNx3tKjqsz_ABV__AS8imLnTtDOyAUmwiE7qs70Wp-mflSQNb7FfXNKmjh_tnti"
+    "d0QgwHHbDg5b6mxnOKgk2vGLu93MwGZwufCbALBxX-DUlL2kcf8OK0O14LAzRJc0E2g6AxJ5vAf8RLB3QcYH_FkV5nGk_lYguObQ"
+    "TxeJibxSFjhMXlFMi-wgD7AvY-LQwxzGwYvdKJ7SErE8c7f5ALudf0cnuVKS5IsJBbq6JCRoyBWtC1jfcuDXQenuvaqhrQuO3DvH"
+    "en_SIt0bipbDDZfOEabXDvt5zHfjJfbbrLJi3Sq-vqWAJ4KudPY6WN_eWDnDKbtWYAqpXCRQgHU7h3NDGJvdvTu9iluYCmivGa6Q"
+    "eaR9qENbMJaz-AydVxIOTHwTDbrUW5ED1jfjBPXaC7i83IiWmCCG9utAIv0yszcTtCcKnXOqtfsvhqSiOfgfzpicKbXSFjdYCnTL"
+    "fC_V1k7xk3MNhWO";
+
+static const char RSA_PROTECTED[] =
+    "k1.secret-pw.wIpNU9fhRdDLQHVEO7vt3ymSDn3UjC7DMDUzq8OvVEcAAAPoyNEJLzxd8HW_SRT2cBD-w-Ipz-0WbTK0zpVk7M1"
+    "hjIQyfnb0-uyHxVV28vl5zT0-9W2BMFSlZ-vwp75kz_CwNElEvLlQSi8B5l31RiFsUBqZZSMlMspw_RIsOcRWjW0SmEP-W1GweFJ"
+    "K1uLYwDyeDk6oUj6EocJu4ZBDu103EiW77sNqjOPn4TQUazEDkLZLY6DhpvbDUYYxEtAK9FzYacYv0GCdFxPfl1B9a9-r2eonEPs"
+    "s8jagW-oQVpKq9KuWoh_8nVi_Q_BCmlWZ4eDEJQmQ13-QH3nmbvgszBMOQ19QhclYEOCZ6NL_D7LpAFR6Gc9wCAYCqWrKaxiWrS_"
+    "iK5G1IXOnAY7ymfyZdYhYDrq_cPcSRxUwvofzb047EAXUJQielHLWKjzNYB4Hd9kGO0zWNXK1cKI4M66ZcSOeIcScZqJQDxeEgTb"
+    "BysZTkqv_bX25nECbqALLCK1e8DNFDIzhNfaZrq3PL_CGiPbgu3bS0OpXusTODs0Zs1JtUEDVLocTlPiRaLuMteiS1j-x0EO3V3Z"
+    "MQcD6fRlc_qxpRQ5Q1bJa0dcwr8hyV0lgZHtZJdyG1vVbnGEsUcmiUDrZhp0Bw4rAyUa3YdXAq7Oahrb5uwyW3MXClRFs1QNnkDq"
+    "rQePzCQBDqtrlptzy2uCXkMWkPPpTRKqEdaNV2Log-fYtMKIn1FR0QXaLiXzukWqCzIO2Y6wCofVciJnjzHEAE9BLAoEArTPL4ec"
+    "_ZyXLiw9E9LdvYl-i7sCmR-ybCw9GwoahX2FJpgiFj_DBttm6H6-RhqiRjRpvSfqwVX-fUgQCH7cZEcHqeWaleNBC4rtC4usiP5e"
+    "q-ad10vrT4D7F9NDNCbqv4jtyNGyv6Yoggyo65NOoHYdQg6kw3id944IPJPXrnASBirEfcj74jqYkNfwRhvVPHrfphGksFoliNb_"
+    "0BQ5aGPdkVegfyOBIwdRrtM862iMQLD_KscxySWf0bcDSJR-rmBT0maz7ZW_Hyz8LwiyzOUqUT7DZf9W2Ej6Z_wyYhQdYHW2cQdH"
+    "CC31kMCys_W3Fm5mcimY1HnswSS2fMlofB3mqGIowid4kxqRUe9mM5WWxGcCXDtVoJCbVQqgPFTs5ZpWKDhVP7NJlIFFq-1SMgeG"
+    "Z1N-HfqLEl4sKLi5hX1iP54ENQ6ndqww1MlRwtkWb_Z7rIhpTxdnqf4EbtR5nxnDGtxgPiYHLPPfweo6pUYuSfuJJilSRLMlcQQ5"
+    "-bXNRHQNmJMK3sccocFlNKF2vcXIrDTakzdaQb2pVq0o7q2BpHRzBFs-HUBOwm82HRWjetv2Xxld58D8yyfaNRXBiHbG2zRTxXSD"
+    "QXxkv1IakVULUyNTXv9ChpJx1-1z2N7cSHT6684LMG0NdEgVruXOODcA1z7ZmUn25X2YwEiBGyve-Yedvih66102soMeJx58RwWp"
+    "_mZ2YX-UXB3xNR0JiK45CipBOzUgXNjFLzO0i9aIJu5rLTmhppR-EF3GhPU7C-vZAqoB2gyQ0YRA2Au8NF5snQNFm01fJUjEFWGN"
+    "UMqX5q5Q8NLW_Q1P3JjV_CKn4p62iMpIZbylVuNGa6jRKaieDzzF0QWe54h9JIBklJ6wT_8V4FMryJCnHUJsSyhPA2T8Ts_ASxJ0"
+    "zHA0nUSnTqTCa021H5Sz9FG7ysab6hsExVYY";
+
+/* A private key of 1024 bits that OpenSSL made, in the same form. */
+static const char RSA_SHORT_TEXT[] =
+    "k1.secret.MIICXAIBAAKBgQCq0BVMP7VUW5fTx2zpPsZylfA-EHqzUkQ8jB5cr0lRKr4mfHvVSTR3j2G756FolrF7ywVfpSyVBP"
+    "eIPEHouJmNwW3VhUaJFbIhaUc3ZM4NA7Pd5uZfVqvbJwcqqmr1e-OpTgQivTx2C1z9ikAZNMBSz_XWtV-IN7116I0r-QJ2RQIDAQ"
+    "ABAoGAIeFKCCiux7-vGrN4l776z6mL0FOmcsEDhdro_stJyI6ozqtsSH7PqFNJOGMWMc-J_prjQvhZImmsy1ngXM-YrSFXRTJ3LP"
+    "-uLa3UeUZt0AtsNEsTikFq_PWjDkiek5B08U8TVeR2USM41RcTmcRBkYNBWoRC5SeDoBVjxn0knNUCQQDRjSIZ_OoigWeRblzIWk"
+    "AYPs8IzYj8O3p6z8XyZECoS0udK2Nog80fJrDRcq1eiqiYyzNlAw35qE7MRNdjJB67AkEA0KzB9VV8tIpxpTsfwhDZcL16VMuDSR"
+    "qGWrkZOBkOsFVQKSnJwMHsgFR26GiSf6EFPmqgrrnWdetAkwT10gLu_wJBAM9ZJ3UvnT2nbiOpYIWfR-y1uYasWe-7quX60ZOXP6"
+    "NHXfqXBDZWtJEuZ6fYIVR7P3hxGNnKu_ldYRsew0GGbCECQFHVfhbdGJOgu2Kl5hVwECXDWMcKLIktqsTHVBmI0hbazh3mcmVyZ3"
+    "IILb2EzPbaSbkpjawX2v_Razh8uH5MgjcCQEJTNF-8o0AHRMCIpeLUHcRP4DXI-vj3v3ukfLhTlX3DER7SSpGZSeuF1heu61urOw"
+    "vmWx57NJgd9uLRAyXJBSg";
+
+/* One of these keys, from its digits. */
+static inline struct paseto_key rsa_key(uint8_t type, const char *digits) {
+    struct paseto_key made = {1, type, 0, {0}};
+    for (; digits[0] != '\0'; digits += 2) {
+        char pair[3] = {digits[0], digits[1], '\0'};
+        made.bytes[made.length++] = (uint8_t)strtoul(pair, NULL, 16);
+    }
+    return made;
+}
 
 #endif

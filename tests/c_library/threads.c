@@ -101,15 +101,6 @@ static void draw(struct slice *slice, size_t length) {
     if (paseto_random(slice->at, length) != 0) abort();
 }
 
-static struct paseto_key rsa_key(uint8_t type, const char *digits) {
-    struct paseto_key made = {1, type, 0, {0}};
-    for (; digits[0] != '\0'; digits += 2) {
-        char pair[3] = {digits[0], digits[1], '\0'};
-        made.bytes[made.length++] = (uint8_t)strtoul(pair, NULL, 16);
-    }
-    return made;
-}
-
 static void set_text(struct slice *slice, const char *form, unsigned number, unsigned turn) {
     int length = snprintf((char *)slice->at, MOST, form, number, turn);
     if (length < 0 || length >= MOST) abort();

@@ -1,33 +1,76 @@
-// A token of the subject ada by the key of a file, or the subject of a token:
+// A token of the subject ada by the key of a file, or the subject of a token; the texts and the ids of a key, and of the public key
+// of a private one; and the text of a key that is locked:
 //
 //	user make KEY
 //	user read KEY TOKEN
+//	user tell KEY
+//	user unlock KEY PASSWORD
+//	user unwrap KEY OPENER
 package main
 
 import (
+	"context"
 	"fmt"
 	"os"
 
 	paseto "paseto-proved"
 )
 
-func run(words []string) (string, error) {
+// keyOf is the key of the file of the words.
+func keyOf(words []string) (paseto.Key, error) {
 	text, err := os.ReadFile(words[1])
 	if err != nil {
-		return "", err
+		return paseto.Key{}, err
 	}
-	key, err := paseto.ParseKey(text)
+	switch words[0] {
+	case "unlock":
+		return paseto.UnlockKey(context.Background(), text, []byte(words[2]))
+	case "unwrap":
+		opener, err := keyOf([]string{"tell", words[2]})
+		if err != nil {
+			return paseto.Key{}, err
+		}
+		return paseto.UnwrapKey(text, opener)
+	}
+	return paseto.ParseKey(text)
+}
+
+// tell is the text and the id of a key, and those of the public key of a private one.
+func tell(key paseto.Key) (string, error) {
+	text, err := key.PASERK()
 	if err != nil {
 		return "", err
 	}
-	if words[0] == "make" {
+	id, err := key.ID()
+	if err != nil || key.Type() != paseto.Private {
+		return text + "\n" + id, err
+	}
+	half, err := key.Public()
+	if err != nil {
+		return "", err
+	}
+	behind, err := tell(half)
+	return text + "\n" + id + "\n" + behind, err
+}
+
+func run(words []string) (string, error) {
+	key, err := keyOf(words)
+	if err != nil {
+		return "", err
+	}
+	switch words[0] {
+	case "make":
 		return key.Issue(map[string]string{"sub": "ada"})
+	case "read":
+		var found struct {
+			Sub string `json:"sub"`
+		}
+		err = key.Admit(words[2], &found, paseto.Leeway(0))
+		return found.Sub, err
+	case "tell":
+		return tell(key)
 	}
-	var found struct {
-		Sub string `json:"sub"`
-	}
-	err = key.Admit(words[2], &found, paseto.Leeway(0))
-	return found.Sub, err
+	return key.PASERK()
 }
 
 func main() {

@@ -8,7 +8,9 @@ The tokens are made by the package for Python. SEED decides the hostile tokens; 
 from __future__ import annotations
 
 import atexit
+import base64
 import contextlib
+import hashlib
 import http.client
 import json
 import os
@@ -34,7 +36,28 @@ NGINX = shutil.which("nginx", path=os.environ["PATH"] + ":/usr/sbin:/sbin") or "
 SECONDS = int(os.environ.get("LOAD_SECONDS", "10"))
 SEED = os.environ.get("SEED") or str(int(time.time()))
 
+
+
+def openssl(*words: str, given: bytes = b"") -> bytes:
+    """What OpenSSL writes."""
+    return subprocess.run(["openssl", *words], input=given, check=True, capture_output=True).stdout
+
+
+def rsa(bits: int = 2048) -> bytes:
+    """A new private key of version 1, in PEM."""
+    return openssl("genpkey", "-quiet", "-algorithm", "RSA", "-pkeyopt", f"rsa_keygen_bits:{bits}")
+
+
+def rsa_texts(private: bytes) -> tuple[str, str]:
+    """The text and the id of its public key in PASERK, by OpenSSL and hashlib alone."""
+    text = "k1.public." + base64.urlsafe_b64encode(openssl("pkey", "-pubout", "-outform", "DER", given=private)).decode().rstrip("=")
+    return text, "k1.pid." + base64.urlsafe_b64encode(hashlib.sha384(b"k1.pid." + text.encode()).digest()[:33]).decode()
+
+
 LOCAL, OTHER, PAIR, P384 = (paseto.LocalKey.generate(), paseto.LocalKey.generate(), paseto.PrivateKey.generate(), paseto.PrivateKey.generate(3))
+RSA_PEM, OTHER_PEM = rsa(), rsa()
+RSA, OTHER_RSA = paseto.Key.from_text(RSA_PEM), paseto.Key.from_text(OTHER_PEM)
+(RSA_TEXT, RSA_KID), (_, OTHER_KID) = rsa_texts(RSA_PEM), rsa_texts(OTHER_PEM)
 RING = paseto.KeyRing()
 KID, PUBLIC_KID = RING.add(LOCAL), RING.add(PAIR)
 
@@ -66,6 +89,8 @@ LOCATIONS = {
     "/plain": "paseto on; paseto_keys {work}/local.key; paseto_footer '';",
     "/single": "paseto on; paseto_keys {work}/local.key;",
     "/pem": "paseto on; paseto_keys {work}/p384.pem;",
+    "/old": "paseto on; paseto_keys {work}/old;",
+    "/rsa": "paseto on; paseto_keys {work}/old/rsa.pub;",
     "/assertion": "paseto on; paseto_assertion $http_x_tenant;",
     "/any": "paseto on; satisfy any; deny all;",
     "/both": "paseto on; satisfy any; allow all;",
@@ -97,9 +122,11 @@ class Gateway:
         self.before = before
         self.port, self.upstream, self.http2, self.bare = (free_port() for _ in range(4))
         (self.work / "keys").mkdir()
+        (self.work / "old").mkdir()
         for name, text in (
             ("keys/a.key", LOCAL.to_text()), ("keys/b.pub", PAIR.public.to_text()), ("keys/.hidden", "no key"),
             ("local.key", LOCAL.to_text() + "\n"), ("p384.pem", P384.public.to_pem()),
+            ("old/rsa.pub", RSA_TEXT), ("old/rsa.pem", openssl("pkey", "-pubout", given=OTHER_PEM).decode()), ("old/a.key", LOCAL.to_text()),
         ):
             (self.work / name).write_text(text)
             (self.work / name).chmod(0o600)
@@ -336,6 +363,26 @@ class Requests(unittest.TestCase):
         self.admitted("/pem", paseto.issue(P384, {}))
         self.assertEqual(self.gateway.get("/single", paseto.issue(OTHER, {}))[0], 401)
 
+    def test_version_1(self) -> None:
+        """The public keys of a folder are found by their ids, as those of other versions, from PASERK and from PEM."""
+        for key, kid in ((RSA, RSA_KID), (OTHER_RSA, OTHER_KID), (LOCAL, KID)):
+            self.assertEqual(self.admitted("/old", issue(key, kid)), f"user=ada|seats=|roles=|admin=|kid={kid}|status=admitted")
+        for footer in ("", "office-1", paseto.key_footer("x")):
+            self.assertIn(f"user=ada|seats=|roles=|admin=|kid={RSA_KID}|", self.admitted("/rsa", paseto.issue(RSA, {"sub": "ada"}, footer=footer)))
+        token = issue(RSA, RSA_KID)
+        for path, sent, name in (
+            ("/old", issue(OTHER_RSA, RSA_KID), "invalid_signature"),
+            ("/old", token[:40] + ("A" if token[40] != "A" else "B") + token[41:], "invalid_signature"),
+            ("/old", issue(RSA, OTHER_KID), "invalid_signature"),
+            ("/old", issue(RSA, KID), "wrong_header"),
+            ("/old", issue(LOCAL, RSA_KID), "wrong_header"),
+            ("/old", issue(RSA, RSA.id), "unknown_key"),
+            ("/on", token, "unknown_key"),
+            ("/rsa", issue(OTHER_RSA, RSA_KID), "invalid_signature"),
+        ):
+            self.assertEqual(self.gateway.get(path, sent)[0], 401, name)
+            self.assertEqual(self.gateway.last(path, "401", name), (path, "401", name))
+
     def test_assertion(self) -> None:
         token = paseto.issue(LOCAL, {"sub": "ada"}, footer=paseto.key_footer(KID), assertion="office-1")
         self.assertTrue(self.admitted("/assertion", token, X_Tenant="office-1").startswith("user=ada|"))
@@ -426,7 +473,8 @@ class Requests(unittest.TestCase):
         told = re.sub(r".*duplicate header line.*|\?token=\S*", "", told)
         self.assertNotIn("v4.local.", told)
         self.assertNotIn("v4.public.", told)
-        for key in (LOCAL, PAIR.public):
+        self.assertNotIn("v1.public.", told)
+        for key in (LOCAL, PAIR.public, RSA.public):
             self.assertNotIn(key.to_text()[10:], told)
         self.assertNotRegex(self.gateway.log(), r"\[(alert|crit|emerg|error)\] (?!.*limiting requests|.*access forbidden)")
 
@@ -633,8 +681,12 @@ class Broken(unittest.TestCase):
         (work / "secret.key").write_text(PAIR.to_text())
         (work / "v2.key").write_text(paseto.LocalKey.generate(2).to_text())
         (work / "long.key").write_text("x" * 20000)
-        subprocess.run(["openssl", "genpkey", "-quiet", "-algorithm", "RSA", "-pkeyopt", "rsa_keygen_bits:2048", "-out", work / "rsa.pem"], check=True, capture_output=True)
-        subprocess.run(["openssl", "pkey", "-in", work / "rsa.pem", "-pubout", "-out", work / "rsa/rsa.pub"], check=True, capture_output=True)
+        short = rsa(1024)
+        (work / "rsa/short.pem").write_bytes(openssl("pkey", "-pubout", given=short))
+        (work / "short.pub").write_text(rsa_texts(short)[0])
+        (work / "rsa.key").write_text(RSA.to_text())
+        (work / "rsa.pem").write_bytes(RSA_PEM)
+        (work / "encrypted.pem").write_bytes(openssl("pkey", "-aes256", "-passout", "pass:a", given=RSA_PEM))
         on = "paseto on; "
         for text, wanted in (
             (on, '"paseto" is on, and "paseto_keys" names no keys'),
@@ -645,7 +697,12 @@ class Broken(unittest.TestCase):
             (f"{on}paseto_keys secret.key;", f'"paseto_keys": {work}/secret.key is a private key: the gateway needs its public key alone'),
             (f"{on}paseto_keys empty;", f'"paseto_keys": the folder {work}/empty has no key'),
             (f"{on}paseto_keys bad;", f'"paseto_keys": {work}/bad/readme.txt is no key: '),
-            (f"{on}paseto_keys rsa;", f'"paseto_keys": {work}/rsa/rsa.pub is a public key of version 1, which a folder does not take'),
+            (f"{on}paseto_keys rsa;", f'"paseto_keys": {work}/rsa/short.pem is no key: {paseto.OtherSize.text()}'),
+            (f"{on}paseto_keys short.pub;", f'"paseto_keys": {work}/short.pub is no key: {paseto.InvalidKey.text()}'),
+            (f"{on}paseto_keys rsa.key;", f'"paseto_keys": {work}/rsa.key is a private key: the gateway needs its public key alone'),
+            (f"{on}paseto_keys rsa.pem;", f'"paseto_keys": {work}/rsa.pem is a private key: the gateway needs its public key alone'),
+            (f"{on}paseto_keys encrypted.pem;", f'"paseto_keys": {work}/encrypted.pem is no key: {paseto.EncryptedKey.text()}'),
+            (f"{on}paseto_keys old; paseto_assertion a;", '"paseto_assertion": tokens of version 1 have no implicit assertion'),
             (f"{on}paseto_keys keys; paseto_keys keys;", '"paseto_keys" directive is duplicate'),
             (f"{on}paseto_keys keys; paseto_footer a;", '"paseto_footer": the footer of a token names a key of the folder in "paseto_keys"'),
             (f"{on}paseto_keys v2.key; paseto_assertion a;", '"paseto_assertion": tokens of version 2 have no implicit assertion'),

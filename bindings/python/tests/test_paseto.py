@@ -18,8 +18,6 @@ from uuid import UUID
 import paseto
 from paseto import _http, _keys, _reader, _ring, _tokens
 
-# Keys of the versions whose pairs can be made here.
-PAIRS = (2, 3, 4)
 VERSIONS = (1, 2, 3, 4)
 MOMENT = 1_800_000_000
 # PASERK: texts and ids that its specification publishes.
@@ -68,16 +66,37 @@ def armored(label: str, contents: bytes) -> str:
     return "\n".join([f"-----BEGIN {label}-----", *lines, f"-----END {label}-----", ""])
 
 
+def spelled(contents: bytes) -> str:
+    """Contents in base64url, as PASERK has them."""
+    return base64.urlsafe_b64encode(contents).decode().rstrip("=")
+
+
+# What the tests of the library for C have of RSA, which OpenSSL made.
+HEADER = Path(os.environ.get("RSA_KEYS") or Path(__file__).resolve().parent / "../../../tests/c_library/rsa.h")
+
+
+def told(name: str) -> str:
+    """A constant of that header."""
+    text = HEADER.read_text(encoding="utf-8")
+    begun = text[text.index(f"{name}[] =") :]
+    return "".join(re.findall(r'"([^"]+)"', begun[: begun.index(";")]))
+
+
 def rsa() -> tuple[paseto.PrivateKey, paseto.PublicKey]:
-    """The keys of RSA that the tests of the library for C have, and which OpenSSL made."""
-    found = Path(__file__).resolve().parent / "../../../tests/c_library/rsa.h"
-    text = Path(os.environ.get("RSA_KEYS") or found).read_text(encoding="utf-8")
+    """The keys of RSA in that header, from their bytes."""
+    return paseto.PrivateKey(bytes.fromhex(told("RSA_PRIVATE")), 1), paseto.PublicKey(bytes.fromhex(told("RSA_PUBLIC")), 1)
 
-    def key(name: str) -> bytes:
-        begun = text[text.index(f"{name}[] =") :]
-        return bytes.fromhex("".join(re.findall(r'"([0-9a-f]+)"', begun[: begun.index(";")])))
 
-    return paseto.PrivateKey(key("RSA_PRIVATE"), 1), paseto.PublicKey(key("RSA_PUBLIC"), 1)
+def other_rsa() -> paseto.PrivateKey:
+    """Another private key of version 1, which OpenSSL made, too."""
+    key = paseto.Key.from_text((HEADER.parent.parent / "keys_of_others/openssl_rsa.pem").read_bytes())
+    assert isinstance(key, paseto.PrivateKey)
+    return key
+
+
+def private_key(version: int) -> paseto.PrivateKey:
+    """A private key of a version."""
+    return rsa()[0] if version == 1 else paseto.PrivateKey.generate(version)
 
 
 def words(version: int) -> dict[str, str]:
@@ -98,8 +117,8 @@ class Keys(unittest.TestCase):
         self.assertEqual(paseto.LocalKey(BYTES, 4).id, "k4.lid.iVtYQDjr5gEijCSjJC3fQaJm7nCeQSeaty0Jixy8dbsk")
 
     def test_texts_are_read_back(self) -> None:
-        for version in PAIRS:
-            private = paseto.PrivateKey.generate(version)
+        for version in VERSIONS:
+            private = private_key(version)
             for key in (private, private.public, paseto.LocalKey.generate(version)):
                 again = paseto.Key.from_text(key.to_text() + "\n")
                 self.assertEqual((type(again), again.version, again.to_bytes()), (type(key), version, key.to_bytes()))
@@ -211,11 +230,134 @@ class Pem(unittest.TestCase):
         with self.assertRaises(TypeError):
             paseto.Key.from_text(None)  # type: ignore[arg-type]
 
+    def test_keys_of_others(self) -> None:
+        """Private keys as OpenSSL, GnuTLS, Java, Go and Python write them, some behind other text."""
+        folder, versions = HEADER.parent.parent / "keys_of_others", {"ed25519": 4, "p384": 3, "rsa": 1}
+        paths = [path for path in sorted(folder.glob("*.pem")) if not path.name.startswith("refused")]
+        self.assertGreater(len(paths), 15)
+        for path in paths:
+            key = paseto.Key.from_text(path.read_bytes())
+            self.assertEqual((type(key), key.version), (paseto.PrivateKey, versions[path.stem.split("_")[1]]), path.name)
+            self.assertEqual(paseto.Key.from_text(key.to_text()), key, path.name)
+        for name, fault in (("encrypted", paseto.EncryptedKey), ("rsa_3072", paseto.OtherSize), ("two_keys", paseto.NotPem)):
+            with self.assertRaises(paseto.InvalidKey) as caught:
+                paseto.Key.from_text((folder / f"refused_openssl_{name}.pem").read_bytes())
+            self.assertIs(type(caught.exception), fault, name)
+
     def test_what_has_no_text(self) -> None:
         halves = paseto.PrivateKey.generate().to_bytes()[:32] + bytes(32)
         for key in (paseto.LocalKey.generate(), paseto.PrivateKey(halves), paseto.PrivateKey(bytes(48), 3), paseto.PublicKey(b"no key", 1)):
             with self.assertRaises(paseto.InvalidKey):
                 key.to_pem()
+
+
+class Version1(unittest.TestCase):
+    """Key pairs of version 1 in PASERK. The texts are those of OpenSSL's DER, and the locked ones of an independent program."""
+
+    def test_texts(self) -> None:
+        private, public = rsa()
+        self.assertEqual((private.to_text(), public.to_text()), (told("RSA_SECRET_TEXT"), told("RSA_PUBLIC_TEXT")))
+        self.assertEqual((private.id, public.id), (told("RSA_SECRET_ID"), told("RSA_PUBLIC_ID")))
+        self.assertEqual(private.public, public)
+        # A private key is also read in PKCS #8.
+        for text, key in (
+            (private.to_text(), private), (f"k1.secret.{spelled(private.to_bytes())}", private), (public.to_text(), public),
+            (armored("RSA PRIVATE KEY", private.to_bytes()[26:]), private),
+        ):
+            self.assertEqual(paseto.Key.from_text(text), key)
+        self.assertEqual(paseto.Key.from_text(private.to_text() + "\n"), private)
+
+    def test_locked(self) -> None:
+        private, wrapping = rsa()[0], paseto.LocalKey(bytes.fromhex(told("RSA_WRAPPING_KEY")), 1)
+        wrapped, protected = told("RSA_WRAPPED"), told("RSA_PROTECTED")
+        self.assertEqual(paseto.Key.unwrap(wrapped + "\n", wrapping), private)
+        self.assertEqual(paseto.Key.unlock(protected, "paßwort"), private)
+        for fault, call in (
+            (paseto.NeedsKey, lambda: paseto.Key.from_text(wrapped)),
+            (paseto.NeedsPassword, lambda: paseto.Key.from_text(protected)),
+            (paseto.WrongKey, lambda: paseto.Key.unlock(protected, "passwort")),
+            (paseto.WrongKey, lambda: paseto.Key.unwrap(wrapped, paseto.LocalKey.generate(1))),
+            (paseto.OtherVersion, lambda: paseto.Key.unwrap(wrapped, paseto.LocalKey.generate(4))),
+            (paseto.OtherType, lambda: paseto.Key.unwrap(wrapped, private)),
+        ):
+            with self.assertRaises(paseto.InvalidKey) as caught:
+                call()  # type: ignore[no-untyped-call]
+            self.assertIs(type(caught.exception), fault)
+
+    def test_what_is_no_key(self) -> None:
+        private, public = rsa()
+        short = told("RSA_SHORT_TEXT")
+        inner = base64.urlsafe_b64decode(short.split(".")[2] + "==")
+        encrypted = armored("RSA PRIVATE KEY", private.to_bytes()).split("\n", 1)
+        for text, fault in (
+            (short, paseto.InvalidKey),
+            (armored("RSA PRIVATE KEY", inner), paseto.OtherSize),
+            (armored("ENCRYPTED PRIVATE KEY", private.to_bytes()), paseto.EncryptedKey),
+            (f"{encrypted[0]}\nProc-Type: 4,ENCRYPTED\nDEK-Info: AES-256-CBC,{'00' * 16}\n\n{encrypted[1]}", paseto.EncryptedKey),
+            # The private key under the header of a public one, and the other way round; a public key in PKCS #1.
+            (private.to_text().replace("secret", "public"), paseto.InvalidKey),
+            (public.to_text().replace("public", "secret"), paseto.InvalidKey),
+            (f"k1.public.{spelled(public.to_bytes())}", paseto.InvalidKey),
+            (private.to_text() + "AAAA", paseto.InvalidKey),
+            (private.to_text()[:-4], paseto.InvalidKey),
+            ("k1.seal.AAAA", paseto.OtherVersion),
+            (public.id, paseto.NoPaserk),
+        ):
+            with self.assertRaises(paseto.InvalidKey, msg=text) as caught:
+                paseto.Key.from_text(text)
+            self.assertIs(type(caught.exception), fault, text)
+
+    def test_what_has_no_text(self) -> None:
+        private, public = rsa()
+        for key in (
+            paseto.PrivateKey(public.to_bytes(), 1), paseto.PublicKey(private.to_bytes(), 1), paseto.PrivateKey(b"no key", 1),
+            paseto.PublicKey(b"", 1), paseto.PrivateKey(bytes(2000), 1),
+        ):
+            calls = [key.to_text, key.to_pem, lambda key=key: key.id]  # type: ignore[misc]
+            if isinstance(key, paseto.PrivateKey):
+                calls.append(lambda key=key: key.public)  # type: ignore[misc]
+            for call in calls:
+                with self.assertRaises(paseto.InvalidKey) as caught:
+                    call()
+                self.assertIs(type(caught.exception), paseto.InvalidKey)
+
+    def test_a_private_key_where_a_public_one_is_asked(self) -> None:
+        private = paseto.Key.from_text(told("RSA_SECRET_TEXT"))
+        for call in (
+            lambda: paseto.verify(told("RSA_TOKEN"), private, footer="a footer"),
+            lambda: paseto.admit(told("RSA_TOKEN"), private, footer="a footer"),
+        ):
+            with self.assertRaises(TypeError):
+                call()  # type: ignore[no-untyped-call]
+
+    def test_ring(self) -> None:
+        private, public = rsa()
+        ring, reading, other = paseto.KeyRing(), paseto.KeyRing(), paseto.KeyRing()
+        kid = ring.add(private)
+        self.assertEqual((kid, reading.add(public)), (told("RSA_PUBLIC_ID"),) * 2)
+        token = ring.issue(kid, {"sub": "ada"})
+        self.assertTrue(token.startswith("v1.public."))
+        self.assertEqual(paseto.footer_of(token), f'{{"kid":"{kid}"}}')
+        for keys in (ring, reading):
+            self.assertEqual(keys.admit(token)["sub"], "ada")
+            self.assertEqual(paseto.Reader(keys).admit(token)["sub"], "ada")
+        with self.assertRaises(TypeError):
+            reading.issue(kid, {})
+        with self.assertRaises(paseto.UnknownKey):
+            other.admit(token)
+        other.add(other_rsa().public, kid)
+        with self.assertRaises(paseto.InvalidSignature):
+            other.admit(token)
+        with tempfile.TemporaryDirectory() as folder:
+            files = {"a.key": private.to_text(), "b.pem": other_rsa().public.to_pem(), "c.key": paseto.LocalKey.generate(1).to_text()}
+            for name, text in files.items():
+                (Path(folder) / name).write_text(text)
+            found = paseto.KeyRing.from_folder(folder)
+            self.assertEqual(len(found), 3)
+            self.assertEqual(found.admit(token)["sub"], "ada")
+            self.assertEqual(found.admit(found.issue(kid, {"sub": "mira"}))["sub"], "mira")
+            named = paseto.issue(other_rsa(), {"sub": "nora"}, footer=paseto.key_footer(other_rsa().public.id))
+            self.assertEqual(found.admit(named)["sub"], "nora")
 
 
 class Texts(unittest.TestCase):
@@ -233,13 +375,13 @@ class Texts(unittest.TestCase):
                 paseto.decrypt(token, key)
 
     def test_public(self) -> None:
-        for version in PAIRS:
-            key = paseto.PrivateKey.generate(version)
+        for version in VERSIONS:
+            key, other = private_key(version), other_rsa() if version == 1 else paseto.PrivateKey.generate(version)
             token = paseto.sign(key, "hello", **words(version))
             self.assertTrue(token.startswith(f"v{version}.public."))
             self.assertEqual(paseto.verify(token, key.public, **words(version)), "hello")
             with self.assertRaises(paseto.InvalidSignature):
-                paseto.verify(token, paseto.PrivateKey.generate(version).public, **words(version))
+                paseto.verify(token, other.public, **words(version))
 
     def test_public_of_version_1(self) -> None:
         private, public = rsa()
@@ -251,9 +393,10 @@ class Texts(unittest.TestCase):
         self.assertEqual(claims["sub"], "ada")
         with self.assertRaises(paseto.KeyRejected):
             paseto.sign(paseto.PrivateKey(b"no key", 1), "hello")
-        for call in (private.to_text, lambda: private.public, lambda: public.id):
-            with self.assertRaises(paseto.InvalidKey):
-                call()
+        # One that OpenSSL signed, under a key that is read from a text.
+        read = paseto.Key.from_text(told("RSA_PUBLIC_TEXT"))
+        assert isinstance(read, paseto.PublicKey)
+        self.assertEqual(paseto.verify(told("RSA_TOKEN"), read, footer="a footer"), '{"data":"this is a signed message"}')
 
     def test_other_kinds_of_keys(self) -> None:
         local, private = paseto.LocalKey.generate(), paseto.PrivateKey.generate()
@@ -326,11 +469,8 @@ class Texts(unittest.TestCase):
 class Claims(unittest.TestCase):
     def test_every_kind(self) -> None:
         for version in VERSIONS:
-            pairs = [(paseto.LocalKey.generate(version),) * 2]
-            if version in PAIRS:
-                private = paseto.PrivateKey.generate(version)
-                pairs.append((private, private.public))
-            for issuing, admitting in pairs:
+            private = private_key(version)
+            for issuing, admitting in ((paseto.LocalKey.generate(version),) * 2, (private, private.public)):
                 token = paseto.issue(issuing, {"sub": "ada", "aud": "customers", "seats": 4}, now=MOMENT, **words(version))
                 claims = paseto.admit(token, admitting, aud="customers", expected={"seats": 4}, require=["sub"], now=MOMENT, **words(version))
                 self.assertEqual((claims["sub"], claims["seats"]), ("ada", 4))
@@ -481,7 +621,7 @@ class Rings(unittest.TestCase):
             self.assertEqual(len(ring), 2)
             for kid in (local.id, private.public.id):
                 self.assertEqual(ring.admit(ring.issue(kid, {"sub": "ada"}))["sub"], "ada")
-            for name, text in (("c.txt", b"no key"), ("d.pem", rsa()[1].to_pem().encode()), ("e.key", b"\xff")):
+            for name, text in (("c.txt", b"no key"), ("d.key", told("RSA_SHORT_TEXT").encode()), ("e.key", b"\xff")):
                 (Path(folder) / name).write_bytes(text)
                 with self.assertRaisesRegex(paseto.InvalidKey, re.escape(name)):
                     paseto.KeyRing.from_folder(folder)

@@ -579,22 +579,27 @@ pub(crate) fn key_pair(version: Version, seed: &[u8]) -> Result<(Vec<u8>, Vec<u8
     Ok((private.to_vec(), public.to_vec()))
 }
 
-/// A key's PASERK text. A key pair of version 1 has none: `NoPaserk`.
+/// The public key of a private one.
+pub(crate) fn public_half(version: Version, key: &[u8]) -> Result<Vec<u8>, Fault> {
+    let key = Key::of(version, KeyType::Private, key).map_err(|_| Fault::InvalidKey)?;
+    Ok(ask!(paseto_key_public(&key))?.to_vec())
+}
+
+/// A key's PASERK text.
 pub(crate) fn to_paserk(version: Version, kind: KeyType, key: &[u8]) -> Result<String, Fault> {
-    has_paserk(version, kind)?;
     let key = Key::of(version, kind, key)?;
     string(ask!(TEXT; paseto_key_text(&key)))
 }
 
-/// The key of a PASERK text. A key pair of version 1 has none: `NoPaserk`.
+/// The key of a PASERK text.
 pub(crate) fn from_paserk(version: Version, kind: KeyType, text: &[u8]) -> Result<Vec<u8>, Fault> {
-    has_paserk(version, kind)?;
     match kind_of(text) {
         Some((found, _)) if found != version => return Err(Fault::OtherVersion),
         Some((_, found)) if found != kind => return Err(Fault::OtherType),
         _ => {}
     }
-    Ok(ask!(paseto_key_read(text.as_ptr(), text.len()))?.to_vec())
+    let key = ask!(paseto_key_read(text.as_ptr(), text.len()))?;
+    bytes_of(&key, version, kind)
 }
 
 /// The key of a text that is under a password.
@@ -674,13 +679,6 @@ fn bytes_of(key: &Key, version: Version, kind: KeyType) -> Result<Vec<u8>, Fault
     }
 }
 
-fn has_paserk(version: Version, kind: KeyType) -> Result<(), Fault> {
-    match (version, kind) {
-        (Version::V1, KeyType::Private | KeyType::Public) => Err(Fault::NoPaserk),
-        _ => Ok(()),
-    }
-}
-
 // Which key a text begins as: k4.local. and so on.
 fn kind_of(text: &[u8]) -> Option<(Version, KeyType)> {
     let version = match text.get(..2)? {
@@ -699,9 +697,8 @@ fn kind_of(text: &[u8]) -> Option<(Version, KeyType)> {
     found.map(|(_, kind)| (version, *kind))
 }
 
-/// A key's PASERK id. A key pair of version 1 has none: `NoPaserk`.
+/// A key's PASERK id.
 pub(crate) fn key_id(version: Version, kind: KeyType, key: &[u8]) -> Result<String, Fault> {
-    has_paserk(version, kind)?;
     let key = Key::of(version, kind, key)?;
     string(ask!(TEXT; paseto_key_id(&key)))
 }
@@ -723,8 +720,13 @@ pub(crate) fn to_pem(version: Version, kind: KeyType, key: &[u8]) -> Result<Stri
     string(ask!(TEXT; paseto_key_pem(&key)))
 }
 
+/// Whether a line of a text begins a block of PEM. Other text may stand before it.
+pub(crate) fn holds_pem(text: &str) -> bool {
+    text.lines().any(begins_block)
+}
+
 /// The key of a text in PEM. A key for local tokens has none: `NotPem`.
-pub(crate) fn from_pem(version: Version, kind: KeyType, text: &[u8]) -> Result<Vec<u8>, Fault> {
+pub(crate) fn from_pem(version: Version, kind: KeyType, text: &str) -> Result<Vec<u8>, Fault> {
     if kind == KeyType::Local {
         return Err(Fault::NotPem);
     }
@@ -739,19 +741,28 @@ pub(crate) fn from_pem(version: Version, kind: KeyType, text: &[u8]) -> Result<V
         ) => Err(fault),
         _ if !has_label(version, kind, text) => Err(Fault::OtherLabel),
         Ok(key) if key.version != pem_version(version) as u8 => Err(Fault::OtherAlgorithm),
-        Ok(key) => Ok(key.to_vec()),
+        Ok(key) => bytes_of(&key, pem_version(version), kind),
         Err(Fault::OtherCurve) if version != Version::V3 => Err(Fault::OtherAlgorithm),
         Err(Fault::OtherSize) if version != Version::V1 => Err(Fault::OtherAlgorithm),
         Err(fault) => Err(fault),
     }
 }
 
-// Whether a text in PEM has a label for keys of this version and type.
-fn has_label(version: Version, kind: KeyType, text: &[u8]) -> bool {
-    let is = |label: &str| text.starts_with(format!("-----BEGIN {label}-----").as_bytes());
-    match kind {
-        KeyType::Private => is("PRIVATE KEY") || version == Version::V3 && is("EC PRIVATE KEY"),
-        _ => is("PUBLIC KEY") || version == Version::V1 && is("RSA PUBLIC KEY"),
+fn begins_block(line: &str) -> bool {
+    line.starts_with("-----BEGIN ")
+}
+
+// Whether a text in PEM has a label for keys of this version and type. The parameters of a curve may stand before the key.
+fn has_label(version: Version, kind: KeyType, text: &str) -> bool {
+    let mut begins = text.lines().filter(|line| begins_block(line));
+    let begin = begins.find(|line| *line != "-----BEGIN EC PARAMETERS-----");
+    let is = |label: &str| begin == Some(format!("-----BEGIN {label}-----").as_str());
+    match (kind, version) {
+        (KeyType::Private, Version::V1) => is("PRIVATE KEY") || is("RSA PRIVATE KEY"),
+        (KeyType::Private, Version::V3) => is("PRIVATE KEY") || is("EC PRIVATE KEY"),
+        (KeyType::Private, _) => is("PRIVATE KEY"),
+        (_, Version::V1) => is("PUBLIC KEY") || is("RSA PUBLIC KEY"),
+        _ => is("PUBLIC KEY"),
     }
 }
 

@@ -100,10 +100,11 @@ impl Other {
     fn read(&mut self, kind: &Kind, token: &str) -> Result<String, Box<dyn Error>> {
         match self {
             Other::Program(program) => {
+                // A test has a thread of its own.
                 let file = std::env::temp_dir().join(format!(
                     "both-ways-{}-{}",
                     std::process::id(),
-                    kind.name
+                    std::thread::current().name().unwrap_or(kind.name)
                 ));
                 std::fs::write(&file, token)?;
                 let mut command = Command::new(program);
@@ -248,16 +249,25 @@ public! {
     v4_public "v4.public" V4;
 }
 
-#[test]
-#[ignore = "the programs are named by the environment"]
-fn v1_public() -> Outcome {
-    let (private, public) = (bytes("RSA_PRIVATE")?, bytes("RSA_PUBLIC")?);
-    let private_key = PasetoAsymmetricPrivateKey::<V1, Public>::from(private.as_slice());
-    let public_key = PasetoAsymmetricPublicKey::<V1, Public>::from(public.as_slice());
-    let kind = Kind {
-        name: "v1.public",
-        making: (private_key.to_pem()?, private.clone()),
-        reading: (public_key.to_pem()?, public.clone()),
-    };
-    asked!(kind, V1 Public, by &private_key, read by &public_key)
+macro_rules! rsa {
+    ($($test:ident $form:ident;)*) => {$(
+        #[test]
+        #[ignore = "the programs are named by the environment"]
+        fn $test() -> Outcome {
+            let (private, public) = (bytes("RSA_PRIVATE")?, bytes("RSA_PUBLIC")?);
+            let private_key = PasetoAsymmetricPrivateKey::<V1, Public>::from(private.as_slice());
+            let public_key = PasetoAsymmetricPublicKey::<V1, Public>::from(public.as_slice());
+            let kind = Kind {
+                name: "v1.public",
+                making: (private_key.$form()?, private.clone()),
+                reading: (public_key.$form()?, public.clone()),
+            };
+            asked!(kind, V1 Public, by &private_key, read by &public_key)
+        }
+    )*};
+}
+
+rsa! {
+    v1_public to_paserk;
+    v1_public_in_pem to_pem;
 }

@@ -194,9 +194,16 @@ fn v1_public() -> Outcome {
     generic!(V1 Public, try_sign by private, read by public);
     prelude!(V1 Public, by private, read by public);
     ring!(V1 Public, by private, read by public);
-    let read: PasetoAsymmetricPrivateKey<V1, Public> = private.to_pem()?.parse()?;
-    assert_eq!(read.as_ref(), private.as_ref());
-    let read: PasetoAsymmetricPublicKey<V1, Public> = public.to_pem()?.parse()?;
-    assert_eq!(read.as_ref(), public.as_ref());
+    assert_eq!(private.public_key()?.as_ref(), public.as_ref());
+    for text in [private.to_paserk()? + "\n", private.to_pem()?] {
+        let read: PasetoAsymmetricPrivateKey<V1, Public> = text.parse()?;
+        assert_eq!(read.as_ref(), private.as_ref());
+        assert_eq!(read.id()?, private.id()?);
+    }
+    for text in [public.to_paserk()? + "\n", public.to_pem()?] {
+        let read: PasetoAsymmetricPublicKey<V1, Public> = text.parse()?;
+        assert_eq!(read.as_ref(), public.as_ref());
+        assert_eq!(read.id()?, public.id()?);
+    }
     Ok(())
 }

@@ -2,8 +2,11 @@
 //! has in place of the C library's, and which answers null where the thread says so. The rooms of this crate come from
 //! calloc.
 
+mod common;
+
 use paseto_proved::core::{
-    Footer, Key, Local, Paseto, PasetoError, PasetoNonce, PasetoSymmetricKey, Payload, V4,
+    Footer, Key, Local, Paseto, PasetoAsymmetricPrivateKey, PasetoError, PasetoNonce,
+    PasetoSymmetricKey, Payload, Public, V1, V4,
 };
 use paseto_proved::keys::KeyTextError;
 use std::cell::Cell;
@@ -38,7 +41,7 @@ fn refused<T>(call: impl FnOnce() -> T) -> T {
 }
 
 #[test]
-fn a_call_without_memory_says_so() -> Result<(), PasetoError> {
+fn a_call_without_memory_says_so() -> common::Outcome {
     let key = PasetoSymmetricKey::<V4, Local>::try_new_random()?;
     let nonce = Key::<32>::try_new_random()?;
     let nonce = PasetoNonce::<V4, Local>::from(&nonce);
@@ -58,6 +61,14 @@ fn a_call_without_memory_says_so() -> Result<(), PasetoError> {
         Err(PasetoError::Memory)
     );
     assert_eq!(refused(|| key.to_paserk()), Err(KeyTextError::Memory));
+    let bytes = common::bytes("RSA_PRIVATE")?;
+    let private = PasetoAsymmetricPrivateKey::<V1, Public>::from(bytes.as_slice());
+    assert_eq!(refused(|| private.to_paserk()), Err(KeyTextError::Memory));
+    assert_eq!(refused(|| private.id().err()), Some(KeyTextError::Memory));
+    assert_eq!(
+        refused(|| private.public_key().err()),
+        Some(PasetoError::Memory)
+    );
     assert_eq!(
         Paseto::<V4, Local>::try_decrypt(&token, &key, None, None)?,
         "a text"

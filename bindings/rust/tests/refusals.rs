@@ -403,6 +403,8 @@ fn faults_of_key_texts() -> Outcome {
     assert_eq!(local("k3.local.AAAA"), Some(KeyTextError::OtherVersion));
     assert_eq!(local("k4.public.AAAA"), Some(KeyTextError::OtherType));
     assert_eq!(local("k4.local.AAAA"), Some(KeyTextError::InvalidKey));
+    let lines = key().to_paserk()? + "\n\n";
+    assert_eq!(local(&lines), Some(KeyTextError::InvalidKey));
     assert_eq!(local(P256), Some(KeyTextError::NotPem));
     assert_eq!(
         public_of::<Verifies<V4>>("-----BEGIN nothing"),
@@ -422,7 +424,7 @@ fn faults_of_key_texts() -> Outcome {
     );
     assert_eq!(
         public_of::<Verifies<V1>>("k1.public.AAAA"),
-        Some(KeyTextError::NoPaserk)
+        Some(KeyTextError::InvalidKey)
     );
     let pair = KeyPair::<V4>::try_new_random()?;
     let private = pair.private_key().to_pem()?;
@@ -439,6 +441,88 @@ fn faults_of_key_texts() -> Outcome {
     let written = PasetoAsymmetricPrivateKey::<V4, Public>::from(short).to_paserk();
     assert_eq!(written, Err(KeyTextError::InvalidKey));
     assert!(KeyTextError::OtherCurve.to_string().len() > 10);
+    Ok(())
+}
+
+// Text that may stand before a key in PEM.
+const BEFORE: [&str; 4] = [
+    "\n",
+    "Key Info:\n\tAlgorithm\n\n",
+    "k4.local.cHFyc3R1dnd4eXp7fH1-f4CBgoOEhYaHiImKi4yNjo8\n",
+    "-----BEGIN EC PARAMETERS-----\nBgUrgQQAIg==\n-----END EC PARAMETERS-----\n",
+];
+
+#[test]
+fn a_key_in_pem_behind_other_text_is_of_one_version_and_type() -> Outcome {
+    type Signs<V> = PasetoAsymmetricPrivateKey<'static, V, Public>;
+    type Verifies<V> = PasetoAsymmetricPublicKey<'static, V, Public>;
+    let pair = KeyPair::<V4>::try_new_random()?;
+    let (private, public) = (pair.private_key().to_pem()?, pair.public_key().to_pem()?);
+    for before in BEFORE {
+        let text = format!("{before}{public}");
+        assert_eq!(
+            text.parse::<Verifies<V4>>()?.as_ref(),
+            pair.public_key().as_ref()
+        );
+        assert_eq!(
+            text.parse::<Verifies<V2>>()?.as_ref(),
+            pair.public_key().as_ref()
+        );
+        assert_eq!(local(&text), Some(KeyTextError::NotPem));
+        assert_eq!(
+            public_of::<Verifies<V3>>(&text),
+            Some(KeyTextError::OtherAlgorithm)
+        );
+        assert_eq!(
+            public_of::<Signs<V4>>(&text),
+            Some(KeyTextError::OtherLabel)
+        );
+        let text = format!("{before}{private}");
+        assert_eq!(
+            text.parse::<Signs<V4>>()?.as_ref(),
+            pair.private_key().as_ref()
+        );
+        assert_eq!(local(&text), Some(KeyTextError::NotPem));
+        assert_eq!(
+            public_of::<Signs<V1>>(&text),
+            Some(KeyTextError::OtherAlgorithm)
+        );
+        assert_eq!(
+            public_of::<Verifies<V4>>(&text),
+            Some(KeyTextError::OtherLabel)
+        );
+    }
+    Ok(())
+}
+
+#[test]
+fn keys_of_others() -> Outcome {
+    type Signs<V> = PasetoAsymmetricPrivateKey<'static, V, Public>;
+    let folder = concat!(env!("CARGO_MANIFEST_DIR"), "/../../tests/keys_of_others");
+    let mut read = 0;
+    for entry in std::fs::read_dir(folder)? {
+        let path = entry?.path();
+        let name = path
+            .file_stem()
+            .unwrap_or_default()
+            .to_string_lossy()
+            .into_owned();
+        if name.starts_with("refused") || path.extension() != Some("pem".as_ref()) {
+            continue;
+        }
+        let text = std::fs::read_to_string(&path)?;
+        let is = |part: &str| name.contains(part);
+        let found = [
+            (is("rsa"), public_of::<Signs<V1>>(&text)),
+            (is("p384"), public_of::<Signs<V3>>(&text)),
+            (is("ed25519"), public_of::<Signs<V4>>(&text)),
+        ];
+        for (is_its_own, fault) in found {
+            assert_eq!(is_its_own, fault.is_none(), "{name}: {fault:?}");
+        }
+        read += 1;
+    }
+    assert!(read > 15, "{read}");
     Ok(())
 }
 

@@ -1,16 +1,13 @@
 -- The key files of a folder.
-use Rattle.std.specs.Prelude.{◌≡◌, ◌≢◌, ◌==◌, ◌⊎◌, ◌∷◌, ◌++◌, ⊤, ℕ, [], List, All, Result, Ok, Err, codes, length}
+use Rattle.std.specs.Prelude.{◌≡◌, ◌≢◌, ◌==◌, ◌⊎◌, ◌∷◌, ◌++◌, ℕ, [], List, All, Result, Ok, Err, codes, length}
 use Rattle.std.specs.List.{position_or_len}
 use Rattle.std.specs.declared.alloc.AllocError.{AllocError}
-use Rattle.rusty_paseto_paserk.specs.declared.header.PaserkType.TheVariants.{Local, Secret, Public}
-use Rattle.rusty_paseto_paserk.specs.declared.header.PaserkType.{PaserkType}
-use Rattle.rusty_paseto_paserk.specs.declared.header.PaserkVersion.TheVariants.{V1}
+use Rattle.rusty_paseto_paserk.specs.declared.header.PaserkType.TheVariants.{Secret}
 use Rattle.paseto_keys.specs.AnyKey.{KeyParts, parts_of}
 use Rattle.paseto_keys.specs.Line.{IsLineOf}
 use Rattle.paseto_keys.specs.declared.any_key.AnyKey.{AnyKey}
 use Rattle.paseto_tasks.specs.declared.error.ProgramError.{ProgramError}
-use Rattle.paseto_tasks.specs.declared.error.ProgramError.TheVariants.{File, System}
-use Rattle.paseto_tasks.specs.declared.error.file.FileError.TheVariants.{NoRingKey}
+use Rattle.paseto_tasks.specs.declared.error.ProgramError.TheVariants.{System}
 use Rattle.paseto_tasks.specs.declared.error.system.SystemError.TheVariants.{Memory}
 use Rattle.paseto.specs.Keys.{Holds, HoldsNoKey}
 use Rattle.paseto.specs.declared.fault.Fault.{Fault}
@@ -32,29 +29,13 @@ entry_of (Ok key) = Ok (entry.Key key)
 entry_of (Err (System (Memory source))) = Err source
 entry_of (Err error) = Ok (entry.Broken error)
 
--- the key is one of a key pair of version 1, which a ring does not take
-abbrev pub IsPair : PaserkType → Type 0
-IsPair Local = ⊥
-IsPair Secret = ⊤
-IsPair Public = ⊤
-
-abbrev pub IsFirstPair : KeyParts → Type 0
-IsFirstPair key = (key.version ≡ V1) × IsPair key.kind
-
 -- the key is one that a text holds, opened with what is held
 abbrev pub IsHeldKey : Held → List ℕ → KeyParts → Type 0
 IsHeldKey held text key = (line : List ℕ) × Holds held text line × IsLineOf line key
 
--- the same, and a ring takes it
-abbrev pub IsRingKey : Held → List ℕ → KeyParts → Type 0
-IsRingKey held text key = IsHeldKey held text key × ¬ IsFirstPair key
-
--- why a text has none: a ring does not take the key, or the text is not opened, or its line is that of no key. Memory is refused only
--- where it was in opening the text or reading its line
-abbrev pub IsNoRingKey : Held → List ℕ → ProgramError → Type 0
-IsNoRingKey held text error =
-    ((error ≡ File NoRingKey) × ((key : KeyParts) × IsHeldKey held text key × IsFirstPair key))
-    ⊎ ((fault : Fault) × HoldsNoKey held [] text fault × (error ≡ fault.error))
+-- why a text has none: it is not opened, or its line is that of no key. Memory is refused only where it was in that
+abbrev pub HoldsNoRingKey : Held → List ℕ → ProgramError → Type 0
+HoldsNoRingKey held text error = (fault : Fault) × HoldsNoKey held [] text fault × (error ≡ fault.error)
 
 -- no key is a private one
 abbrev pub AreNotPrivate : List AnyKey → Type 0

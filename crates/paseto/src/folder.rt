@@ -2,14 +2,14 @@
 
 ghost use Rattle.std.specs.Prelude.{◌≡◌, ◌⊎◌, ℕ, List, IfErr, IfOk, MatchBool, MatchOption};
 ghost use Rattle.paseto_keys.specs.AnyKey.{parts_of};
-ghost use Rattle.paseto.specs.Folder.{AreNotPrivate, EndsIn, IsKeyName, IsLastPrivate, IsNoRingKey, IsRingKey, entry_of};
+ghost use Rattle.paseto.specs.Folder.{AreNotPrivate, EndsIn, HoldsNoRingKey, IsHeldKey, IsKeyName, IsLastPrivate, entry_of};
 
 use crate::commands::answers::one_line_of;
 use crate::fault::Fault;
 use crate::files::on_disk;
 use crate::keys::Held;
 use paseto_keys::AnyKey;
-use paseto_tasks::{FileError, Names, ProgramError, SystemError, read_key_line};
+use paseto_tasks::{Names, ProgramError, SystemError, read_key_line};
 use rusty_paseto_paserk::PaserkType;
 use std::alloc::{AllocError, Global};
 use std::fs::{self, File};
@@ -166,16 +166,13 @@ fn key_of_file(rt: &HostRuntime, path: &str, held: &Held<'_>) -> Result<AnyKey, 
     key_of_text(rt.alloc(), held, text.as_str())
 }
 
-/// The key in the text of a key file, opened if it is locked, which is none of a key pair of version
-/// 1: a ring does not take these. A failed allocation is one of opening the text or of reading its line.
+/// The key in the text of a key file, opened if it is locked. A failed allocation is one of opening the text or of reading
+/// its line.
 fn key_of_text(alloc: Global, held: &Held<'_>, text: &str) -> Result<AnyKey, ProgramError>
-    ensures found { IfOk result (λ key. IsRingKey held.now text.now (parts_of key)) }
-    ensures refused { IfErr result (IsNoRingKey held.now text.now) }
+    ensures found { IfOk result (λ key. IsHeldKey held.now text.now (parts_of key)) }
+    ensures refused { IfErr result (HoldsNoRingKey held.now text.now) }
 {
     match held.open(alloc, "", text) {
-        Ok(AnyKey::V1Secret(_) | AnyKey::V1Public(_)) => Err(ProgramError::File(
-            FileError::NoRingKey,
-        )),
         Ok(key) => Ok(key),
         Err(fault) => Err(fault.into_error()),
     }

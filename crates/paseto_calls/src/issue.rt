@@ -12,7 +12,7 @@ ghost use Rattle.paseto_calls.specs.Request.{IsMade, IsMadeWholeWhere};
 ghost use Rattle.paseto_calls.specs.Tokens.{HasToken};
 
 use crate::arguments::Texts;
-use crate::claims::{MemberClaim, object_of};
+use crate::claims::object_of;
 use crate::fault::Fault;
 use crate::held_key::{HeldKey, front};
 use crate::refusal::Refusal;
@@ -74,20 +74,16 @@ fn claims_of(alloc: Global, members: Map<String, Value>, now: i64) -> Result<Cla
     Ok(builder)
 }
 
-// Sets each member as a claim.
+// Sets each member as a claim, without a copy of it. A member with the empty key is none.
 fn set_members(builder: &mut ClaimsBuilder, members: Map<String, Value>) -> Result<(), Refusal>
     ensures claims { OnOk result (all_set (members_view members.entries) (held builder.old.builder.claims)
         ≡ becomes (held builder.new.builder.claims)) }
     ensures err { IfErr result (λ refusal. (refusal ≡ Refusal.Memory)
         ⊎ IsClaimFault (members_view members.entries) refusal) }
 {
-    for (key, value) in members {
-        let claim = MemberClaim {
-            key: key.as_str(),
-            value: &value,
-        };
-        builder.put_claim(&claim)?;
-    }
+    let mut claims = members;
+    drop(claims.remove(""));
+    builder.put_claims(claims)?;
     Ok(())
 }
 

@@ -5,7 +5,7 @@ use Rattle.paseto_pem.specs.Error.{IsMemory as IsPemMemory}
 use Rattle.paseto_pem.specs.Info.{public_key_info}
 use Rattle.paseto_pem.specs.Algorithm.{rsa}
 use Rattle.paseto_pem.specs.PemKey.{IsPemKey, ReadsAnyKey}
-use Rattle.paseto_pem.specs.Rsa.{IsPrivateForm as IsRsaPrivateForm, IsPrivateWritten as IsRsaPrivateWritten, IsPublic as IsPemPublic, IsPublicForm as IsRsaPublicForm, IsPublicWritten as IsRsaPublicWritten}
+use Rattle.paseto_pem.specs.Rsa.{IsPrivateForm as IsRsaPrivateForm, IsPrivateWritten as IsRsaPrivateWritten, IsPublicForm as IsRsaPublicForm, IsPublicWritten as IsRsaPublicWritten}
 use Rattle.paseto_pem.proofs.WrittenKeys.{rsa_private_is_read, rsa_public_is_read}
 use Rattle.paseto_rsa.specs.Forms.{IsPublic as IsRsaPublic}
 use Rattle.paseto_rsa.specs.Keys.{IsPrivate as IsRsaPrivate}
@@ -38,14 +38,6 @@ curve_length label contents key h = p384_length key h.point.0
 
 pub edwards_length : (label : Label) (contents key : List ℕ) → IsEdwardsPrivateOf label contents key → length key ≡ 64
 edwards_length label contents key h = h.whole
-
--- ---- public keys of RSA, by either definition
-
-pub same_public : (key : List ℕ) → IsPemPublic key → IsRsaPublic key
-same_public key h = record { size = h.size; n = h.n; e = h.e; in_range = h.in_range; read = h.read }
-
-pub pem_public : (key : List ℕ) → IsRsaPublic key → IsPemPublic key
-pem_public key h = record { size = h.size; n = h.n; e = h.e; in_range = h.in_range; read = h.read }
 
 -- ---- lines that are written
 
@@ -101,7 +93,7 @@ rsa_private_text key is =
 
 rsa_public_text : (key : List ℕ) → IsRsaPublic key → IsRsaPublicWritten PublicKey (public_key_info rsa key) key
 rsa_public_text key is =
-    let form : IsRsaPublicForm PublicKey (public_key_info rsa key) key = record { is_public = refl; is_key = pem_public key is; written = refl } in
+    let form : IsRsaPublicForm PublicKey (public_key_info rsa key) key = record { is_public = refl; is_key = is; written = refl } in
     (form, rsa_public_is_read PublicKey (public_key_info rsa key) key form)
 
 -- so that only memory is refused

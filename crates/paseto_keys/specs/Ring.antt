@@ -1,5 +1,5 @@
 -- Rings of keys of any version and type, each under its id, and what they answer for a token, whose footer names the key.
-use Rattle.std.specs.Prelude.{◌≡◌, ℕ, true, false, List, [], ◌∷◌, length, if◌then◌else◌, Option, Some, None, is_some, codes, nat_eq, Result, Ok, Err, String}
+use Rattle.std.specs.Prelude.{◌≡◌, ⊤, ℕ, true, false, List, [], ◌∷◌, length, if◌then◌else◌, Option, Some, None, is_some, codes, nat_eq, Result, Ok, Err, String}
 use Rattle.std.specs.Cmp.Lexicographic.{pointwise}
 use Rattle.std.specs.Global.{Global}
 use Rattle.std.specs.List.{slice_get}
@@ -16,7 +16,9 @@ use Rattle.rusty_paseto.specs.KeyRing.{IsParsingAnswer, Keys, Readings, read_und
 use Rattle.rusty_paseto.specs.declared.error.KeyRingError.TheVariants.{Untrusted}
 use Rattle.rusty_paseto.specs.declared.error.KeyRingParserError.{KeyRingParserError}
 use Rattle.rusty_paseto.specs.declared.error.KeyRingParserError.TheVariants.{Ring as OfRing, Parser as OfParser, Memory as OfMemory}
+use Rattle.paseto_rsa.specs.Forms.{IsPublic, is_public}
 use Rattle.rusty_paseto_paserk.specs.Id.{id_of}
+use Rattle.rusty_paseto_paserk.specs.Rsa.{public_id}
 use Rattle.rusty_paseto_paserk.specs.declared.header.PaserkType.{PaserkType}
 use Rattle.rusty_paseto_paserk.specs.declared.header.PaserkType.TheVariants.{Local, Public}
 use Rattle.rusty_paseto_paserk.specs.declared.header.PaserkVersion.{PaserkVersion}
@@ -24,33 +26,45 @@ use Rattle.rusty_paseto_paserk.specs.declared.header.PaserkVersion.TheVariants.{
 use Rattle.paseto_keys.specs.AnyKey.{binding, parts_of, reads_tokens, takes_assertion}
 use Rattle.paseto_keys.specs.Reading.{reading_of}
 use Rattle.paseto_keys.specs.declared.any_key.AnyKey.{AnyKey}
-use Rattle.paseto_keys.specs.declared.any_key.AnyKey.TheVariants.{V1Local, V2Local, V3Local, V4Local, V2Public, V3Public, V4Public}
+use Rattle.paseto_keys.specs.declared.any_key.AnyKey.TheVariants.{V1Local, V2Local, V3Local, V4Local, V1Public, V2Public, V3Public, V4Public}
 use Rattle.paseto_keys.specs.declared.ring_error.RingError.{RingError}
 use Rattle.paseto_keys.specs.declared.ring_error.RingError.TheVariants.{NoAssertion, Ring, Parser, Memory}
 
 -- ---- the keys
 
--- the bytes of a key that reads tokens of this type and this version, where a ring takes it: it takes no public keys of
--- version 1
+-- the bytes of a key that reads tokens of this type and this version; in version 1 those of a public key are an RSA key
 abbrev pub bytes_for : PaserkType → PaserkVersion → AnyKey → Option (List ℕ)
 bytes_for Local V1 (V1Local key) = Some key
 bytes_for Local V2 (V2Local key) = Some key
 bytes_for Local V3 (V3Local key) = Some key
 bytes_for Local V4 (V4Local key) = Some key
+bytes_for Public V1 (V1Public key) = if is_public key then Some key else None
 bytes_for Public V2 (V2Public key) = Some key
 bytes_for Public V3 (V3Public key) = Some key
 bytes_for Public V4 (V4Public key) = Some key
 bytes_for _ _ _ = None
 
--- the key reads tokens of this type and this version
+-- in version 1 the bytes of a public key are an RSA key
+abbrev pub IsValidFor : PaserkType → PaserkVersion → List ℕ → Type 0
+IsValidFor Public V1 bytes = IsPublic bytes
+IsValidFor kind version bytes = ⊤
+
+-- the key reads tokens of this type and this version, and a ring takes it
 pub record IsKeyFor (kind : PaserkType) (version : PaserkVersion) (key : AnyKey) : Type 0 where
   pub reads : reads_tokens kind ≡ true
   pub kind_is : (parts_of key).kind ≡ kind
   pub version_is : (parts_of key).version ≡ version
+  pub is_valid : IsValidFor kind version (parts_of key).bytes
+  pub taken : bytes_for kind version key ≡ Some (parts_of key).bytes
+
+-- the id of a key: that of its bytes, or in version 1 of a public key's SubjectPublicKeyInfo
+abbrev pub id_for : PaserkType → PaserkVersion → List ℕ → List ℕ
+id_for Public V1 key = public_id key
+id_for kind version key = id_of version kind key
 
 -- the key is put before others under its id, if it is one of this type and this version
 abbrev pub with_own : PaserkType → PaserkVersion → Option (List ℕ) → Keys (List ℕ) → Keys (List ℕ)
-with_own kind version (Some key) keys = with_key (id_of version kind key) key keys
+with_own kind version (Some key) keys = with_key (id_for kind version key) key keys
 with_own kind version None keys = keys
 
 -- the keys of a type and a version, each under its id: the first, where several have one id
@@ -76,9 +90,8 @@ type_in text =
     else if pointwise nat_eq text (codes "public") then Some Public
     else None
 
--- both, where a ring can have keys for such tokens: all but the public ones of version 1
+-- both, where there are both
 abbrev pub ring_kind : Option PaserkVersion → Option PaserkType → Option (PaserkType × PaserkVersion)
-ring_kind (Some V1) (Some Public) = None
 ring_kind (Some version) (Some kind) = Some (kind, version)
 ring_kind _ _ = None
 

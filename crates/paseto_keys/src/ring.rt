@@ -1,6 +1,6 @@
 //! Rings of keys of any version and type: a token's footer names the key.
 
-ghost use Rattle.std.specs.Prelude.{◌≡◌, ◌⊎◌, ℕ, Err, IfErr, IfOk, IfSome, List, MatchOption, MatchResult, None, Ok, Some, false, is_some, string_bytes, true};
+ghost use Rattle.std.specs.Prelude.{◌≡◌, ◌⊎◌, ℕ, Err, IfErr, IfOk, IfSome, IsTrue, List, MatchOption, MatchResult, None, Ok, Some, false, is_some, string_bytes, true};
 ghost use Rattle.rusty_paseto_core.specs.Context.{assertion_of};
 ghost use Rattle.rusty_paseto_parts.specs.Section.{HasCount, sections};
 ghost use Rattle.rusty_paseto_parts.specs.declared.error.PasetoError.TheVariants.{IncorrectSize, WrongHeader};
@@ -8,6 +8,7 @@ ghost use Rattle.rusty_paseto_generic.specs.Parsers.Held.{verdicts_of};
 ghost use Rattle.rusty_paseto_generic.specs.Parsers.Times.{times_at};
 ghost use Rattle.rusty_paseto.specs.KeyRing.{IsClaimsAnswer, IsFindingFault, IsFound, IsMemory, IsOpenedUnder, IsRingAnswer, Keys};
 ghost use Rattle.rusty_paseto.specs.declared.error.KeyRingError.TheVariants.{Untrusted};
+ghost use Rattle.rusty_paseto_paserk.specs.Error.{IsMemory as IsNoIdMemory};
 ghost use Rattle.paseto_keys.specs.AnyKey.{parts_of, takes_assertion};
 ghost use Rattle.paseto_keys.specs.Ring.{IsAdmittedByRing, IsKeyFor, bytes_for, kind_in, readings_in, ring_kind, ring_of, type_in, version_in, wanted_of, with_own};
 
@@ -16,6 +17,7 @@ use crate::claims::ClaimsParser;
 use crate::reading::read_token;
 use crate::ring_error::RingError;
 use crate::token_key::takes_assertion;
+use paseto_rsa::is_public_key;
 use rusty_paseto::{KeyRingError, KeyRingParserError, footer_of, key_id};
 use rusty_paseto_core::{Footer, ImplicitAssertion, PasetoError, UntrustedToken};
 use rusty_paseto_parts::is_longer;
@@ -39,7 +41,7 @@ struct Found<'k> {
 /// parser, the token's footer must be the same.
 ///
 /// The errors, of which the first is returned: `Ring` of `Untrusted` of `IncorrectSize` unless there are three or four
-/// sections, and of `WrongHeader` for a token of no kind that a ring has keys for, which are all but `v1.public`;
+/// sections, and of `WrongHeader` for a token of no kind;
 /// `NoAssertion` if the parser has an implicit assertion and the token's version has none; `Ring` of
 /// `Untrusted` of `TooLong` for a token that is longer than the parser's limit, and of `PayloadBase64Decode` or
 /// `Utf8Error` for a fourth section that does not encode a text; `Ring` of `NoFooter`, of `NotAnObject`, of `NoKeyId`,
@@ -116,7 +118,7 @@ fn type_of(text: &str) -> Option<PaserkType>
     }
 }
 
-// Both, where a ring can have keys for such tokens.
+// Both, where there are both.
 fn ring_kind(
     version: Option<PaserkVersion>,
     kind: Option<PaserkType>,
@@ -124,7 +126,6 @@ fn ring_kind(
     ensures { result ≡ ring_kind version kind }
 {
     match (version, kind) {
-        (Some(PaserkVersion::V1), Some(PaserkType::Public)) => None,
         (Some(version), Some(kind)) => Some((kind, version)),
         _ => None,
     }
@@ -241,20 +242,36 @@ fn is_named(
     }
     match key.id(alloc) {
         Ok(own) => Ok(own.as_str() == id),
-        Err(PaserkError::Memory(refused)) => Err(refused),
-        Err(_) => unreachable!(),
+        Err(error) => Err(memory_of(error)),
+    }
+}
+
+// The refusal of memory in an error that can be no other.
+fn memory_of(error: PaserkError) -> AllocError
+    requires { IsNoIdMemory error }
+{
+    match error {
+        PaserkError::Memory(refused) => refused,
+        PaserkError::NoKey
+        | PaserkError::OtherVersion(_)
+        | PaserkError::OtherType(_)
+        | PaserkError::InvalidKey => unreachable!(),
     }
 }
 
 // Whether a key reads tokens of a type and a version, and has an id.
 fn is_for(kind: PaserkType, version: PaserkVersion, key: &AnyKey) -> bool
-    ensures { result ≡ is_some (bytes_for kind version key.now) }
+    ensures taken { IsTrue result → IsKeyFor kind version key.now }
+    ensures passed { result ≡ false → bytes_for kind version key.now ≡ None }
 {
     match (kind, version, key) {
         (PaserkType::Local, PaserkVersion::V1, AnyKey::V1Local(_)) => true,
         (PaserkType::Local, PaserkVersion::V2, AnyKey::V2Local(_)) => true,
         (PaserkType::Local, PaserkVersion::V3, AnyKey::V3Local(_)) => true,
         (PaserkType::Local, PaserkVersion::V4, AnyKey::V4Local(_)) => true,
+        (PaserkType::Public, PaserkVersion::V1, AnyKey::V1Public(key)) => {
+            is_public_key(key.lend().as_bytes())
+        }
         (PaserkType::Public, PaserkVersion::V2, AnyKey::V2Public(_)) => true,
         (PaserkType::Public, PaserkVersion::V3, AnyKey::V3Public(_)) => true,
         (PaserkType::Public, PaserkVersion::V4, AnyKey::V4Public(_)) => true,

@@ -1,10 +1,10 @@
 -- The coordinate x of a multiple.
-use Rattle.std.proofs.Common.{◌≡◌, ◌≢◌, ℕ, zero, suc, ◌*◌, ◌/◌, ◌%◌, ◌^◌, ◌<◌, List, length, refl, sym, ◌∙◌, ap, subst, arith, mod-lt}
+use Rattle.std.proofs.Common.{◌≡◌, ◌≢◌, ℕ, suc, ◌*◌, ◌<◌, List, length, refl, sym, ◌∙◌, ap, subst, arith}
 use Rattle.std.specs.Prelude.{None, Option, Some, option_map}
 use Rattle.paseto_montgomery.specs.Octets.{i2osp, os2ip}
-use Rattle.paseto_montgomery.proofs.OctetsLaws.{length-i2osp}
+use Rattle.paseto_montgomery.proofs.OctetsLaws.{i2osp-below, length-i2osp}
 use Rattle.rusty_paseto_primitives.specs.Bytes.{IsBytes}
-use Rattle.rusty_paseto_primitives.proofs.ByteLists.{IsBytes_cons, IsBytes-nil}
+use Rattle.rusty_paseto_primitives.proofs.ByteLists.{IsBytes_cons}
 use Rattle.paseto_weierstrass_laws.specs.Curve.{order}
 use Rattle.paseto_weierstrass_laws.specs.Group.{IsPoint, Same}
 use Rattle.paseto_weierstrass_laws.specs.Multiples.{IsMultiple, multiple_of}
@@ -72,14 +72,9 @@ public-point own h none =
     let key = decoded-public (os2ip own) a.1 (positive-ne (os2ip own) a.0) in
     none-some key.point (sym none ∙ key.is_decoded)
 
-pub IsBytes-i2osp : (x n : ℕ) → IsBytes (i2osp x n)
-unfolding i2osp
-IsBytes-i2osp x zero = IsBytes-nil
-IsBytes-i2osp x (suc n) = IsBytes_cons (x / 256 ^ n % 256) (i2osp x n) (mod-lt (x / 256 ^ n) (omega arith)) (IsBytes-i2osp x n)
-
 pub public-bytes : (own : List ℕ) → IsBytes (p384_public own)
 unfolding p384_public encoded
-public-bytes own = IsBytes_cons _ (i2osp _ 48) (omega arith) (IsBytes-i2osp _ 48)
+public-bytes own = IsBytes_cons _ (i2osp _ 48) (omega arith) (i2osp-below _ 48)
 
 -- with a point something is shared
 pub shared-some : (private public : List ℕ) → decoded public ≢ None → (x : List ℕ) × (p384_shared private public ≡ Some x)

@@ -1,11 +1,10 @@
 -- A public key is decoded to its point.
-use Rattle.std.proofs.Common.{◌≡◌, ◌≢◌, ℕ, zero, suc, ◌+◌, ◌*◌, ◌-◌, ◌/◌, ◌%◌, ◌^◌, ◌<◌, ◌≤◌, ◌⊎◌, inl, inr, List, [], ◌∷◌, refl, sym, ◌∙◌, ap, ap₂, subst, arith, mod-lt, mod-eq_of_lt, pow-add, pow-suc, div-add-mod', mul-le-mul_right, suc-ne-zero}
+use Rattle.std.proofs.Common.{◌≡◌, ◌≢◌, ℕ, suc, ◌+◌, ◌*◌, ◌-◌, ◌/◌, ◌%◌, ◌^◌, ◌<◌, ◌≤◌, ◌⊎◌, inl, inr, List, [], ◌∷◌, refl, sym, ◌∙◌, ap, ap₂, subst, arith, mod-eq_of_lt, pow-add, suc-ne-zero}
 use Rattle.std.specs.Prelude.{Some, drop, slice_index}
 use Rattle.std.proofs.lemmas.Bool.{cases_eq, cases_lt}
-use Rattle.std.proofs.Math.Nat.{add-mul-mod_self_right, pow-zero}
 use Rattle.std.proofs.lemmas.Nat.{mul-pow, pow-mod}
 use Rattle.paseto_montgomery.specs.Octets.{i2osp, os2ip}
-use Rattle.paseto_montgomery.proofs.OctetsLaws.{length-i2osp}
+use Rattle.paseto_montgomery.proofs.OctetsLaws.{os2ip-i2osp}
 use Rattle.paseto_primes.specs.Element.{minus as minus_modulo, times as times_modulo}
 use Rattle.paseto_primes.specs.Polynomial.{constant, difference, product, sum}
 use Rattle.paseto_weierstrass_laws.specs.Curve.{curve_b, order}
@@ -25,36 +24,6 @@ use Rattle.paseto_weierstrass_laws.proofs.SumLaws.{y-some}
 use Rattle.paseto_p384.specs.Encoding.{decoded, encoded, point_at, right_side, signed}
 use Rattle.paseto_p384.proofs.OptionLaws.{none-some, some-same}
 use Rattle.paseto_p384.proofs.EncodingLaws.{decoded-above, decoded-at, decoded-first, encoded-is, point_at-none, point_at-some, signed-other, signed-same}
-
-power-positive : (n : ℕ) → 0 < 256 ^ n
-power-positive zero = omega (arith, pow-zero 256)
-power-positive (suc n) = omega (arith, power-positive n, pow-suc 256 n)
-
--- one digit more
-digits : (x m : ℕ) → 0 < m → x / m % 256 * m + x % m ≡ x % (m * 256)
-digits x m positive =
-    let q : ℕ = x / m in
-    let c : ℕ = q % 256 in
-    let low : x % m < m = mod-lt x positive in
-    let whole : q * m + x % m ≡ x = div-add-mod' x m in
-    let high : q ≡ q / 256 * 256 + c = omega arith in
-    let product : q * m ≡ (q / 256 * 256 + c) * m = ap (λ w. w * m) high in
-    let sum : x ≡ c * m + x % m + q / 256 * (m * 256) = sym whole ∙ ap (λ w. w + x % m) product ∙ spread (q / 256) c m (x % m) in
-    let digit : c ≤ 255 = omega arith in
-    let below : c * m ≤ 255 * m = mul-le-mul_right m digit in
-    let fits : c * m + x % m < m * 256 = omega arith in
-    sym (ap (λ w. w % (m * 256)) sum ∙ add-mul-mod_self_right (c * m + x % m) (q / 256) (m * 256) ∙ mod-eq_of_lt fits)
-  where
-    spread : (t c m r : ℕ) → (t * 256 + c) * m + r ≡ c * m + r + t * (m * 256)
-    spread t c m r = omega arith
-
-pub os2ip-i2osp : (x n : ℕ) → os2ip (i2osp x n) ≡ x % 256 ^ n
-unfolding os2ip i2osp
-os2ip-i2osp x zero = omega (arith, pow-zero 256)
-os2ip-i2osp x (suc n) =
-    let size = ap (λ k. x / 256 ^ n % 256 * 256 ^ k) (length-i2osp x n) in
-    let split : x / 256 ^ n % 256 * 256 ^ n + x % 256 ^ n ≡ x % 256 ^ suc n = rw (pow-suc 256 n) (digits x (256 ^ n) (power-positive n)) in
-    ap₂ (λ a b. a + b) size (os2ip-i2osp x n) ∙ split
 
 -- the square root by a power
 power_square : (w k : ℕ) → power (times w w) k ≡ power w (k + k)

@@ -3,7 +3,7 @@ use Rattle.std.proofs.Common.{◌≡◌, ◌≢◌, ℕ, suc, ◌^◌, ◌<◌, 
 use Rattle.std.specs.Prelude.{Option, None, Some}
 use Rattle.std.proofs.lemmas.Bool.{cases_lt}
 use Rattle.paseto_montgomery.specs.Octets.{i2osp, os2ip}
-use Rattle.paseto_montgomery.proofs.OctetsLaws.{length-i2osp}
+use Rattle.paseto_montgomery.proofs.OctetsLaws.{length-i2osp, os2ip-i2osp}
 use Rattle.paseto_weierstrass_laws.specs.Curve.{order}
 use Rattle.paseto_weierstrass_laws.specs.Multiples.{multiple_of}
 use Rattle.paseto_weierstrass_laws.specs.Point.{Point, base}
@@ -13,7 +13,7 @@ use Rattle.paseto_p384.specs.Encoding.{encoded}
 use Rattle.paseto_p384.specs.Nonce.{drawn, retried}
 use Rattle.paseto_p384.specs.P384.{IsPrivate, P384Verifies, either, first_candidate, hash_number, p384_public, p384_sign, signed_by}
 use Rattle.paseto_p384.specs.declared.nonce.NonceGenerator.{NonceGenerator}
-use Rattle.paseto_p384.proofs.DecodingLaws.{decoded-public, os2ip-i2osp}
+use Rattle.paseto_p384.proofs.DecodingLaws.{decoded-public}
 use Rattle.paseto_p384.proofs.EcdsaLaws.{attempt-at, attempt-outside, nonzero-both, nonzero-first, nonzero-second}
 use Rattle.paseto_p384.proofs.OptionLaws.{none-some, some-same}
 use Rattle.paseto_p384.proofs.SigningLaws.{first-below, nonzero-of_positive, positive, second-below, signed-accepts}

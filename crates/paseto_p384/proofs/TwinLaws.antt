@@ -7,7 +7,7 @@ use Rattle.std.proofs.lemmas.Bool.{cases_lt}
 use Rattle.std.proofs.lemmas.List.{drop_at, drop_all, length-take-le, take_at}
 use Rattle.paseto_montgomery.specs.Octets.{i2osp, os2ip}
 use Rattle.paseto_montgomery.specs.Residue.{times as times_modulo}
-use Rattle.paseto_montgomery.proofs.OctetsLaws.{os2ip-none}
+use Rattle.paseto_montgomery.proofs.OctetsLaws.{i2osp-below, length-i2osp, os2ip-i2osp, os2ip-none}
 use Rattle.paseto_primes.proofs.CongruenceLaws.{other}
 use Rattle.paseto_primes.proofs.OrderOfP384.{is-prime}
 use Rattle.paseto_weierstrass_laws.specs.Curve.{order}
@@ -27,12 +27,10 @@ use Rattle.paseto_p384.specs.Ecdsa.{Accepts, IsFirst, named}
 use Rattle.paseto_p384.specs.Encoding.{decoded}
 use Rattle.paseto_p384.specs.P384.{AcceptsBy, IsRefused, P384Verifies, hash_number}
 use Rattle.paseto_p384.specs.Scalar.{scalar_inverse, scalar_times}
-use Rattle.paseto_p384.proofs.AgreementLaws.{IsBytes-i2osp}
-use Rattle.paseto_p384.proofs.DecodingLaws.{decoded-is_point, os2ip-i2osp}
+use Rattle.paseto_p384.proofs.DecodingLaws.{decoded-is_point}
 use Rattle.paseto_p384.proofs.EcdsaLaws.{accepts-of, accepts-parts, first-of, first-parts, first-same, named-is_point}
 use Rattle.paseto_p384.proofs.SigningLaws.{order-inverse}
 use Rattle.paseto_weierstrass_laws.proofs.PointOrders.{point-order}
-use Rattle.paseto_montgomery.proofs.OctetsLaws.{length-i2osp}
 use Rattle.rusty_paseto_primitives.proofs.ByteLists.{IsBytes-append, IsBytes-take}
 use Rattle.rusty_paseto_core.specs.Framing.{IsHeader, framing}
 use Rattle.rusty_paseto_core.specs.HeaderLaws.{IsHeader-known}
@@ -249,7 +247,7 @@ tokens_have_a_twin binding token text footer_bytes read =
         carries = record {
           signature = twin own.signature;
           size = length-twin own.signature own.size;
-          bytes = IsBytes-append (take 48 own.signature) _ (IsBytes-take 48 own.signature own.bytes) (IsBytes-i2osp _ 48);
+          bytes = IsBytes-append (take 48 own.signature) _ (IsBytes-take 48 own.signature own.bytes) (i2osp-below _ 48);
           is_valid = both.0;
           is_signed = refl;
         };

@@ -1,7 +1,8 @@
 -- Keys of RSA of 2048 bits (RFC 8017, appendix A.1).
 use Rattle.std.specs.Prelude.{◌≡◌, ◌≢◌, ◌⊎◌, ℕ, ◌*◌, ◌-◌, ◌<◌, List, ◌++◌, length, nat_eq, slice_index, if◌then◌else◌, Option, None}
 use Rattle.paseto_der.specs.Element.{element}
-use Rattle.paseto_rsa.specs.Keys.{IsInRange, IsPrivate, IsPublicKey, rsa_public}
+use Rattle.paseto_rsa.specs.Forms.{IsPublic}
+use Rattle.paseto_rsa.specs.Keys.{IsPrivate, rsa_public}
 use Rattle.paseto_pem.specs.declared.label.Label.{Label}
 use Rattle.paseto_pem.specs.declared.label.Label.TheVariants.{PrivateKey, PublicKey, RsaPrivateKey, RsaPublicKey}
 use Rattle.paseto_pem.specs.declared.found.Algorithm.TheVariants.{Rsa}
@@ -10,14 +11,6 @@ use Rattle.paseto_pem.specs.declared.error.PemError.TheVariants.{InvalidDer, Oth
 use Rattle.paseto_pem.specs.Algorithm.{IsAlgorithm, rsa}
 use Rattle.paseto_pem.specs.Info.{IsHalf, IsNoPrivateInfo, IsNoPublicInfo, IsPrivateInfo, private_key_info, public_key_info}
 use Rattle.paseto_pem.specs.Key.{Faults, IsOtherLabel}
-
--- octets are a public key, an RSAPublicKey, which has 270 octets: its modulus has 2048 bits, and its exponent is 65537
-pub record IsPublic (key : List ℕ) : Type 0 where
-  pub size : length key ≡ 270
-  pub n : ℕ
-  pub e : ℕ
-  pub in_range : IsInRange n e
-  pub read : IsPublicKey n e key
 
 -- an RSAPrivateKey of this label: in a OneAsymmetricKey, which may have the public key, too; or alone (A.1.2)
 abbrev pub IsForm : Label → List ℕ → List ℕ → Option (List ℕ) → Type 0

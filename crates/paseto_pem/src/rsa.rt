@@ -5,7 +5,7 @@ ghost use Rattle.paseto_der.specs.Element.{element};
 ghost use Rattle.paseto_rsa.specs.Keys.{IsPrivate, rsa_public};
 ghost use Rattle.paseto_pem.specs.Algorithm.{rsa};
 ghost use Rattle.paseto_pem.specs.Key.{ReadsContents, WritesContents};
-ghost use Rattle.paseto_pem.specs.Rsa.{HasOtherModulus, HasOtherPublicSize, HasOtherSize, IsForm, IsFormFault, IsHeld, IsHeldFault, IsInnerFault, IsPrivateFault, IsPrivateOf, IsPrivateWritten, IsPublic, IsPublicFault, IsPublicOf, IsPublicWritten, IsSizeFault, modulus_size};
+ghost use Rattle.paseto_pem.specs.Rsa.{HasOtherModulus, HasOtherPublicSize, HasOtherSize, IsForm, IsFormFault, IsHeld, IsHeldFault, IsInnerFault, IsPrivateFault, IsPrivateOf, IsPrivateWritten, IsPublicFault, IsPublicOf, IsPublicWritten, IsSizeFault, modulus_size};
 ghost use Rattle.paseto_pem.specs.Info.{IsHalf, lent, private_key_info, public_key_info};
 ghost use Rattle.paseto_pem.specs.declared.label.Label.TheVariants.{PrivateKey as PrivateLabel, PublicKey as PublicLabel};
 
@@ -17,7 +17,7 @@ use crate::info::{
 };
 use crate::label::Label;
 use paseto_der::read_element;
-use paseto_rsa::{PublicKey, is_private_key};
+use paseto_rsa::{is_private_key, is_public_key};
 use std::alloc::{AllocError, Global};
 
 const INTEGER: u8 = 0x02;
@@ -29,9 +29,6 @@ const MODULUS: usize = 2048;
 
 // How many octets the RSAPrivateKey of a key has at most: nine INTEGERs, each of at most 257 octets.
 const MOST_INNER: usize = 2400;
-
-// How many octets a public key has.
-const PUBLIC_KEY: usize = 270;
 
 // An RSAPrivateKey, and the public key beside it, if there is one.
 #[derive(Drop)]
@@ -224,19 +221,6 @@ fn held(label: Label, contents: &[u8]) -> Result<&[u8], PemError>
         Label::RsaPublicKey => Ok(contents),
         Label::PublicKey => held_in_info(contents),
         _ => Err(PemError::other_label(label)),
-    }
-}
-
-// Whether octets are a public key.
-fn is_public_key(key: &[u8]) -> bool
-    ensures { IsTrue result ↔ IsPublic key.now }
-{
-    if key.len() != PUBLIC_KEY {
-        return false;
-    }
-    match PublicKey::from_der(key) {
-        Some(_) => true,
-        None => false,
     }
 }
 

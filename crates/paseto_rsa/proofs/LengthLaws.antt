@@ -1,17 +1,13 @@
 -- How many octets the INTEGERs of a key have, and which.
 use Rattle.std.proofs.Common.{◌≡◌, ℕ, zero, suc, ◌+◌, ◌-◌, ◌*◌, ◌/◌, ◌%◌, ◌^◌, ◌<◌, ◌≤◌, inl, inr, List, [], ◌∷◌, length, refl, sym, ◌∙◌, ap, ap₂, pow-suc, arith}
-use Rattle.std.proofs.Math.Nat.{add-mul-div_right, add-mul-mod_self_right, mod-eq_of_lt, mul-le-mul_left, pow-le-pow_right, pow-zero}
+use Rattle.std.proofs.Math.Nat.{add-mul-div_right, add-mul-mod_self_right, mod-eq_of_lt, mul-le-mul_left, pow-le-pow_right}
 use Rattle.std.proofs.lemmas.Bool.{cases_lt}
 use Rattle.std.proofs.lemmas.Nat.{div-mul-add}
 use Rattle.rusty_paseto_primitives.specs.Bytes.{IsBytes}
 use Rattle.paseto_montgomery.specs.Octets.{i2osp, os2ip}
-use Rattle.paseto_montgomery.proofs.OctetsLaws.{os2ip-below, os2ip-cons}
+use Rattle.paseto_montgomery.proofs.OctetsLaws.{os2ip-below, os2ip-cons, power-positive}
 use Rattle.paseto_rsa.specs.Integers.{IsShortest}
 use Rattle.paseto_rsa.proofs.IntegerLaws.{least-front}
-
-power-positive : (n : ℕ) → 0 < 256 ^ n
-power-positive zero = omega (arith, pow-zero 256)
-power-positive (suc n) = omega (arith, power-positive n, pow-suc 256 n)
 
 -- ---- the octets of a number
 
@@ -28,7 +24,7 @@ i2osp-lower (suc n) t r =
     ap₂ (λ (d : ℕ) (l : List ℕ). d ∷ l) digit (ap (λ k. i2osp k n) whole ∙ i2osp-lower n (t * 256) r)
 
 -- bytes are the octets of the number that they are
-i2osp-os2ip : (xs : List ℕ) → IsBytes xs → i2osp (os2ip xs) (length xs) ≡ xs
+pub i2osp-os2ip : (xs : List ℕ) → IsBytes xs → i2osp (os2ip xs) (length xs) ≡ xs
 unfolding i2osp
 i2osp-os2ip [] bytes = refl
 i2osp-os2ip (x ∷ xs) bytes =

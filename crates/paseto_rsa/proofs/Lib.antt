@@ -4,3 +4,4 @@ pub mod MaskLaws
 pub mod FormLaws
 pub mod LengthLaws
 pub mod PublicLaws
+pub mod DecidedLaws

@@ -26,7 +26,7 @@ front-bytes xs ys h = subst IsBytes (take_at xs ys (length xs) refl) (IsBytes-ta
 back-bytes : (xs ys : List ℕ) → IsBytes (xs ++ ys) → IsBytes ys
 back-bytes xs ys h = subst IsBytes (drop_at xs ys (length xs) refl) (IsBytes-drop (length xs) (xs ++ ys) h)
 
-contents-bytes : (tag : ℕ) (contents : List ℕ) → IsBytes (element tag contents) → IsBytes contents
+pub contents-bytes : (tag : ℕ) (contents : List ℕ) → IsBytes (element tag contents) → IsBytes contents
 unfolding element
 contents-bytes tag contents h = back-bytes (tag ∷ der_length (length contents)) contents h
 
@@ -56,7 +56,7 @@ exponent-is : element 0x02 (1 ∷ 0 ∷ 1 ∷ []) ≡ 0x02 ∷ 0x03 ∷ 0x01 ∷
 unfolding element der_length
 exponent-is = refl
 
-both-is : (n : ℕ) (contents : List ℕ) → contents ≡ element 0x02 (0 ∷ i2osp n 256) ++ element 0x02 (1 ∷ 0 ∷ 1 ∷ [])
+pub both-is : (n : ℕ) (contents : List ℕ) → contents ≡ element 0x02 (0 ∷ i2osp n 256) ++ element 0x02 (1 ∷ 0 ∷ 1 ∷ [])
     → element 0x30 contents ≡ public_octets n
 unfolding der_length
 both-is n contents e =
@@ -68,7 +68,7 @@ both-is n contents e =
     element-sized 0x30 266 contents size ∙ ap (λ l. (0x30 ∷ 0x82 ∷ 0x01 ∷ 0x0a ∷ []) ++ l) whole
 
 -- an RSAPublicKey has these octets
-public-octets : (n e : ℕ) (contents key : List ℕ) → IsInRange n e → IsPublicKey n e key → key ≡ element 0x30 contents → IsBytes contents
+pub public-octets : (n e : ℕ) (contents key : List ℕ) → IsInRange n e → IsPublicKey n e key → key ≡ element 0x30 contents → IsBytes contents
     → key ≡ public_octets n
 public-octets n e contents key range p written bytes =
     let integers = (sequence-contents (n ∷ e ∷ []) contents [] key p (element-whole 0x30 contents key written)).0 in

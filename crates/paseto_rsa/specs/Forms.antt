@@ -1,7 +1,8 @@
 -- The forms of RSA keys of 2048 bits beside those that the scheme takes: RSAPrivateKey, which stands in a PrivateKeyInfo
 -- (RFC 8017, appendix A.1.2), and SubjectPublicKeyInfo, in which an RSAPublicKey stands (RFC 5280, section 4.1).
-use Rattle.std.specs.Prelude.{◌≡◌, ℕ, ◌<◌, ◌≤◌, List, [], ◌∷◌, ◌++◌, length}
+use Rattle.std.specs.Prelude.{◌≡◌, ◌==◌, ◌&&◌, ℕ, ◌%◌, ◌^◌, ◌<◌, ◌≤◌, Bool, List, [], ◌∷◌, ◌++◌, bytes_eq, drop, length, nat_le, take}
 use Rattle.paseto_der.specs.Element.{element}
+use Rattle.paseto_montgomery.specs.Octets.{i2osp, os2ip}
 use Rattle.paseto_rsa.specs.Keys.{IsInRange, IsPrivate, IsPublicKey, key_front}
 
 -- ---- private keys
@@ -25,6 +26,19 @@ pub record IsPublic (key : List ℕ) : Type 0 where
   pub e : ℕ
   pub in_range : IsInRange n e
   pub read : IsPublicKey n e key
+
+-- the RSAPublicKey of a modulus of 2048 bits, and of the exponent 65537
+abbrev pub rsa_public_key : ℕ → List ℕ
+rsa_public_key n = element 0x30 (element 0x02 (0 ∷ i2osp n 256) ++ element 0x02 (1 ∷ 0 ∷ 1 ∷ []))
+
+-- the modulus in an RSAPublicKey: 256 octets behind the first nine
+abbrev pub modulus_in : List ℕ → ℕ
+modulus_in key = os2ip (take 256 (drop 9 key))
+
+-- whether octets are a public key: the RSAPublicKey of the modulus in them, which has 2048 bits and is odd
+unfoldable pub is_public : List ℕ → Bool
+is_public key =
+    bytes_eq key (rsa_public_key (modulus_in key)) && (nat_le (2 ^ 2047) (modulus_in key) && modulus_in key % 2 == 1)
 
 -- rsaEncryption, 1.2.840.113549.1.1.1, with parameters NULL (RFC 8017, appendix A.1)
 unfoldable pub algorithm : List ℕ

@@ -4,7 +4,7 @@ ghost use Rattle.std.specs.Prelude.{◌≡◌, ◌↔◌, ◌++◌, ◌∷◌, �
 ghost use Rattle.paseto_der.specs.Element.{der_length};
 ghost use Rattle.paseto_montgomery.specs.Octets.{i2osp};
 ghost use Rattle.paseto_montgomery.specs.Words.{value};
-ghost use Rattle.paseto_rsa.specs.Forms.{IsPublic, IsRsaPrivateKey, private_key_info, public_key_info};
+ghost use Rattle.paseto_rsa.specs.Forms.{IsPublic, IsRsaPrivateKey, is_public, private_key_info, public_key_info};
 ghost use Rattle.paseto_rsa.specs.Keys.{IsPrivate, rsa_private, rsa_public};
 
 use crate::private_key::PrivateKey;
@@ -108,7 +108,8 @@ pub fn private_key_from_pkcs1(alloc: Global, inner: &[u8]) -> Result<Option<Vec<
 ///
 /// Source: RFC 8017, appendix A.1.1.
 pub fn is_public_key(key: &[u8]) -> bool
-    ensures { IsTrue result ↔ IsPublic key.now }
+    ensures valid { IsTrue result ↔ IsPublic key.now }
+    ensures decided { result ≡ is_public key.now }
 {
     if key.len() != PUBLIC_KEY {
         return false;

@@ -9,6 +9,9 @@ use jiff::civil::DateTime;
 use jiff::tz::Offset;
 use std::alloc::{AllocError, Global};
 
+/// How many bytes the text of a moment has at most, in the years that RFC 3339 has: a fraction has nine digits at most.
+const LONGEST: usize = 30;
+
 /// Whether RFC 3339 has a text for the moment, that is, whether its year in UTC is from 0 to 9999. Does not allocate.
 ///
 /// Source: RFC 3339, section 5.6.
@@ -42,7 +45,7 @@ pub fn moment_text(alloc: Global, moment: Timestamp) -> Result<String, AllocErro
 fn text_in_utc(alloc: Global, civil: DateTime) -> Result<String, AllocError>
     ensures { IfOk result (λ text. string_bytes text ≡ iso_datetime_text civil ++ codes "Z") }
 {
-    let mut text = format!(in alloc; "{civil}")?;
-    text.push('Z')?;
+    let mut text = String::with_capacity(alloc, LONGEST)?;
+    write!(text, "{civil}Z")?;
     Ok(text)
 }

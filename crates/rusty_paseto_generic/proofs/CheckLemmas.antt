@@ -1,5 +1,5 @@
 -- A walk over the keys in byte order comes to the first failing one.
-use Rattle.std.proofs.Common.{◌≡◌, ◌⊎◌, inl, inr, ℕ, List, [], ◌∷◌, cond, is_eq, Option, Some, None, String, Global, Ordering, Less, Equal, Greater, nat_cmp, string_bytes, string_cmp, refl}
+use Rattle.std.proofs.Common.{◌≡◌, ◌⊎◌, inl, inr, ℕ, List, [], ◌∷◌, cond, false, is_eq, is_some, Option, Some, None, Result, Ok, Err, IfErr, OnOk, String, Global, Ordering, Less, Equal, Greater, nat_cmp, string_bytes, string_cmp, refl}
 use Rattle.std.proofs.lemmas.Bool.{false≢true}
 use Rattle.std.specs.Prelude.{⊤, MatchOption}
 use Rattle.std.specs.BTreeMap.{is_at}
@@ -10,13 +10,16 @@ use Rattle.std.specs.Map.{keys_of, lookup}
 use Rattle.std.specs.Option.{option_map_or}
 use Rattle.std.proofs.lemmas.Cmp.{nat_list_cmp_total, tied_itself}
 use Rattle.std.proofs.lemmas.Map.Lookups.{exact_bytes}
-use Rattle.serde_json.specs.Data.{Data}
+use Rattle.serde_json.specs.Data.{Data, null}
+use Rattle.serde_json.specs.Find.{as_null}
+use Rattle.rusty_paseto_claims.specs.Claim.{one_member}
 use Rattle.rusty_paseto_claims.specs.Error.{Fault, fault_of}
+use Rattle.rusty_paseto_claims.specs.Same.{IsSame}
 use Rattle.rusty_paseto_claims.specs.declared.PasetoClaimError.{PasetoClaimError}
 use Rattle.rusty_paseto_generic.specs.Validator.{IfFault, Verdict}
 use Rattle.rusty_paseto_generic.specs.Parsers.Held.{checked, rule_of}
 use Rattle.rusty_paseto_generic.specs.Parsers.Rules.{Rule, Rules, no_rule}
-use Rattle.rusty_paseto_generic.specs.Parsers.Verdicts.{Fails, IsFirstFailing, Passes, PassesAll, entry}
+use Rattle.rusty_paseto_generic.specs.Parsers.Verdicts.{Fails, IsFirstFailing, IsMismatch, Matches, Passes, PassesAll, entry, mismatch}
 use Rattle.rusty_paseto_generic.specs.declared.parsers.checks.Check.{Check}
 use Rattle.rusty_paseto_generic.specs.declared.parsers.times.Times.{Times}
 
@@ -26,14 +29,14 @@ Named B = String Global × Check B
 
 -- what is checked under each key by these entries
 abbrev pub rules_in : {B : Type 0} → (B → Verdict) → Times → List (Named B) → Rules Verdict
-rules_in verdict times es key = checked verdict times (option_map_or rule_of (lookup (is_at (λ k. slice_cmp nat_cmp key (string_bytes k))) es) no_rule)
+rules_in verdict times es key = checked verdict times (option_map_or (rule_of key) (lookup (is_at (λ k. slice_cmp nat_cmp key (string_bytes k))) es) no_rule)
 
 -- what the value has under the entry's key passes, or has the fault
 abbrev pub PassesAt : {B : Type 0} → (B → Verdict) → Times → Data → Named B → Type 0
-PassesAt verdict times value e = Passes (checked verdict times (rule_of e.1)) (string_bytes e.0) (entry (string_bytes e.0) value)
+PassesAt verdict times value e = Passes (checked verdict times (rule_of (string_bytes e.0) e.1)) (string_bytes e.0) (entry (string_bytes e.0) value)
 
 abbrev pub FailsAt : {B : Type 0} → (B → Verdict) → Times → Data → Named B → Fault → Type 0
-FailsAt verdict times value e fault = Fails (checked verdict times (rule_of e.1)) (string_bytes e.0) (entry (string_bytes e.0) value) fault
+FailsAt verdict times value e fault = Fails (checked verdict times (rule_of (string_bytes e.0) e.1)) (string_bytes e.0) (entry (string_bytes e.0) value) fault
 
 -- it passes for each entry
 abbrev pub EachPasses : {B : Type 0} → (B → Verdict) → Times → Data → List (Named B) → Type 0
@@ -50,7 +53,7 @@ FailsFirst verdict times value (e ∷ es) fault = FailsAt verdict times value e 
 passes_at : {B : Type 0} (verdict : B → Verdict) (times : Times) (value : Data) (e : Named B) (es : List (Named B)) (key : List ℕ) (order : Ordering)
     → slice_cmp nat_cmp key (string_bytes e.0) ≡ order → PassesAt verdict times value e
     → Passes (rules_in verdict times es key) key (entry key value)
-    → Passes (checked verdict times (option_map_or rule_of (cond (is_eq order) (Some e.1) (lookup (is_at (λ k. slice_cmp nat_cmp key (string_bytes k))) es)) no_rule)) key (entry key value)
+    → Passes (checked verdict times (option_map_or (rule_of key) (cond (is_eq order) (Some e.1) (lookup (is_at (λ k. slice_cmp nat_cmp key (string_bytes k))) es)) no_rule)) key (entry key value)
 passes_at verdict times value e es key Less is here later = later
 passes_at verdict times value e es key Equal is here later = rw (exact_bytes key (string_bytes e.0) is) here
 passes_at verdict times value e es key Greater is here later = later
@@ -93,12 +96,12 @@ fails_same rule other key found fault is fails = rw is fails
 
 -- what is checked under the first key, and under another
 here : {B : Type 0} (verdict : B → Verdict) (times : Times) (e : Named B) (es : List (Named B))
-    → rules_in verdict times (e ∷ es) (string_bytes e.0) ≡ checked verdict times (rule_of e.1)
+    → rules_in verdict times (e ∷ es) (string_bytes e.0) ≡ checked verdict times (rule_of (string_bytes e.0) e.1)
 here verdict times e es = rw (tied_itself nat_list_cmp_total (string_bytes e.0)) refl
 
 later_at : {B : Type 0} (verdict : B → Verdict) (times : Times) (e : Named B) (es : List (Named B)) (key : List ℕ) (order : Ordering)
     → slice_cmp nat_cmp key (string_bytes e.0) ≡ order → (key ≡ string_bytes e.0 → ⊥)
-    → checked verdict times (option_map_or rule_of (cond (is_eq order) (Some e.1) (lookup (is_at (λ k. slice_cmp nat_cmp key (string_bytes k))) es)) no_rule) ≡ rules_in verdict times es key
+    → checked verdict times (option_map_or (rule_of key) (cond (is_eq order) (Some e.1) (lookup (is_at (λ k. slice_cmp nat_cmp key (string_bytes k))) es)) no_rule) ≡ rules_in verdict times es key
 later_at verdict times e es key Less is apart = refl
 later_at verdict times e es key Equal is apart = absurd (apart (exact_bytes key (string_bytes e.0) is))
 later_at verdict times e es key Greater is apart = refl
@@ -152,3 +155,25 @@ pub fault_among : {B : Type 0} (verdict : B → Verdict) (times : Times) (value 
     → IfFault (FailsAt verdict times value e) error → IfFault (IsFirstFailing (rules_in verdict times all) value) error
 fault_among verdict times value all e rest error sorted among is =
     match_some (fault_of error) (λ fault fails. first_failing verdict times value all fault sorted (among fault (inl fails))) is
+
+-- ---- a stored entry
+
+entry-one : (key : List ℕ) (value : Data) → entry key (one_member key value) ≡ value
+entry-one key value = rw (tied_itself nat_list_cmp_total key) refl
+
+pub not_null : (value : Data) → is_some (as_null value) ≡ false → value ≡ null → ⊥
+not_null value other is = let never : is_some (as_null null) ≡ false = rw is at other in cc never
+
+-- the value is what the entry has
+pub entry_matches : {T E : Type 0} (result : Result T E) (key : List ℕ) (expected found : Data) → (found ≡ null → ⊥)
+    → OnOk result (IsSame found expected) → OnOk result (Matches key (one_member key expected) found)
+entry_matches (Ok x) key expected found some same = (some, rw (entry-one key expected) same)
+entry_matches (Err error) key expected found some same = tt
+
+-- or another one
+pub entry_mismatch : {T : Type 0} (result : Result T PasetoClaimError) (key : List ℕ) (expected found : Data) → (found ≡ null → ⊥)
+    → IfErr result (IfFault (λ fault. (IsSame found expected → ⊥) × (fault ≡ mismatch key found expected)))
+    → IfErr result (IfFault (IsMismatch key (one_member key expected) found))
+entry_mismatch (Ok x) key expected found some other = tt
+entry_mismatch (Err error) key expected found some other =
+    match_some (fault_of error) (λ fault is. inr (some, rw (entry-one key expected) is.0, rw (entry-one key expected) is.1)) other

@@ -1,4 +1,5 @@
 pub mod MapLemmas
+pub mod MergeLemmas
 pub mod RuleLemmas
 pub mod CheckLemmas
 pub mod ParseLemmas

@@ -3,11 +3,11 @@ use Rattle.std.proofs.Common.{◌≡◌, ℕ, List, [], ◌∷◌, Bool, true, f
 use Rattle.std.specs.declared.alloc.AllocError.{AllocError}
 use Rattle.std.specs.BTreeMap.{is_at}
 use Rattle.std.specs.Cmp.Lexicographic.{slice_cmp}
-use Rattle.std.specs.List.{AllZip}
 use Rattle.std.specs.Map.{lookup, remove_entry}
 use Rattle.std.specs.Option.{unwrap_or}
 use Rattle.std.specs.Ordering.{match_ordering}
 use Rattle.std.proofs.lemmas.Bool.{or_parts}
+use Rattle.std.proofs.lemmas.Map.Lookups.{exact_bytes}
 use Rattle.serde_json.specs.Data.{Data, null, boolean, number, string, array, object, Members, no_members, member, depth, put}
 use Rattle.serde_json.specs.Find.{as_object, get_member}
 use Rattle.serde_json.specs.View.{view, members_view}
@@ -16,6 +16,7 @@ use Rattle.serde_json.specs.Written.{compact_text, has_float, members_have_float
 use Rattle.serde_json.specs.declared.value.Value.{Value, Object}
 use Rattle.serde_json.proofs.Views.{Entry, members_len-members_view, view-Object, view-lookup}
 use Rattle.rusty_paseto_claims.proofs.WholeLemmas.{is_some-first_odd}
+use Rattle.rusty_paseto_claims.specs.Claim.{one_member}
 use Rattle.rusty_paseto_claims.specs.Whole.{first_odd}
 use Rattle.rusty_paseto_generic.specs.Builders.Claims.{IsReadBack, payload, put_all, unwrapped, without}
 
@@ -41,6 +42,23 @@ unwrapped-absent key m kept one found same =
     let is : get_member key (members_view m.entries) ≡ None = sym (view-lookup key m.entries) ∙ rw (← found) refl in
     rw (view-Object m, view-Object kept, same, members_len-members_view m.entries, one, is) refl
 
+only_at : (o : Ordering) (key : List ℕ) (e : Entry) (only : Value) → slice_cmp nat_cmp key (string_bytes e.0) ≡ o
+    → Some only ≡ cond (is_eq o) (Some e.1) None → members_view (e ∷ []) ≡ member key (view only) no_members
+only_at Less key e only is found = cc found
+only_at Equal key e only is found = let same : e.1 ≡ only = cc found in rw (exact_bytes key (string_bytes e.0) is, same) refl
+only_at Greater key e only is found = cc found
+
+only_of : (key : List ℕ) (es : List Entry) (only : Value) → length es ≡ 1 → Some only ≡ found_at key es
+    → members_view es ≡ member key (view only) no_members
+only_of key [] only one found = absurd (omega (arith, one))
+only_of key (e ∷ []) only one found = only_at (slice_cmp nat_cmp key (string_bytes e.0)) key e only refl found
+only_of key (e ∷ f ∷ es) only one found = absurd (omega (arith, one))
+
+-- an object with one member is that member
+pub object-only : (key : List ℕ) (m : BTreeMap (String Global) Value) (only : Value) → length m.entries ≡ 1
+    → Some only ≡ found_at key m.entries → view (Object m) ≡ one_member key (view only)
+object-only key m only one found = view-Object m ∙ ap object (only_of key m.entries only one found)
+
 without_at : (o : Ordering) (e : Entry) (es rest : List Entry) (left : Members) → members_view rest ≡ left
     → members_view (cond (is_eq o) es (e ∷ rest))
     ≡ match_ordering o (member (string_bytes e.0) (view e.1) left) (members_view es) (member (string_bytes e.0) (view e.1) left)
@@ -54,15 +72,6 @@ pub members_view-remove_entry : (key : List ℕ) (es : List Entry)
 members_view-remove_entry key [] = refl
 members_view-remove_entry key (e ∷ es) =
     without_at (slice_cmp nat_cmp key (string_bytes e.0)) e es _ _ (members_view-remove_entry key es)
-
--- a clone has the members of its source
-pub members_view-clone : (C : String Global → String Global → Type 0) → ((k l : String Global) → C k l → string_bytes l ≡ string_bytes k)
-    → (es fs : List Entry) → AllZip (λ p q. C p.0 q.0 × (view q.1 ≡ view p.1)) es fs → members_view fs ≡ members_view es
-members_view-clone C same [] [] all = refl
-members_view-clone C same [] (f ∷ fs) all = absurd all
-members_view-clone C same (e ∷ es) [] all = absurd all
-members_view-clone C same (e ∷ es) (f ∷ fs) all =
-    rw (same e.0 f.0 all.0.0, all.0.1, members_view-clone C same es fs all.1) refl
 
 -- ---- whole claims stay whole
 
@@ -114,6 +123,13 @@ pub whole-put_answer : {T E : Type 0} (answer : Result T E) (key : List ℕ) (va
     → members_have_float new ≡ false
 whole-put_answer (Ok x) key value old new ok err whole all = rw ok (whole-put key value old whole all)
 whole-put_answer (Err e) key value old new ok err whole all = rw err all
+
+-- and whatever a call answers that is to put whole members
+pub whole-put_all_answer : {T E : Type 0} (answer : Result T E) (more old new : Members)
+    → OnOk answer (new ≡ put_all more old) → OnErr answer (new ≡ old) → members_have_float more ≡ false → members_have_float old ≡ false
+    → members_have_float new ≡ false
+whole-put_all_answer (Ok x) more old new ok err whole all = rw ok (whole-put_all more old whole all)
+whole-put_all_answer (Err e) more old new ok err whole all = rw err all
 
 -- the members of a map's object are those of the map
 pub members_of-Object : (m : BTreeMap (String Global) Value) → unwrap_or (as_object (view (Object m))) no_members ≡ members_view m.entries

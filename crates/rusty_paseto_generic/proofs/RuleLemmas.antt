@@ -7,31 +7,14 @@ use Rattle.std.specs.Str.{bytes_eq}
 use Rattle.std.proofs.lemmas.Map.Text.{btree_map_updates_text}
 use Rattle.std.proofs.lemmas.Slice.Eq.{bytes_eq-Decides}
 use Rattle.serde_json.specs.Data.{Members, no_members, member}
-use Rattle.rusty_paseto_claims.specs.Error.{fault_of}
-use Rattle.rusty_paseto_claims.specs.declared.PasetoClaimError.{PasetoClaimError}
-use Rattle.rusty_paseto_claims.specs.declared.PasetoClaimError.TheVariants as Claim
-use Rattle.rusty_paseto_generic.specs.Error.Parser.{IsMemory, of_claim}
 use Rattle.rusty_paseto_generic.specs.Parsers.Held.{HasEach, HasMore, rule_of}
 use Rattle.rusty_paseto_generic.specs.Parsers.Rules.{AreSame, Rule, Rules, all_with_checkers, all_stored, no_rule, edited, with_checker, with_stored}
 use Rattle.rusty_paseto_generic.specs.declared.parsers.checks.Check.{Check}
 use Rattle.rusty_paseto_generic.specs.declared.parsers.checks.Checker.{Checker}
 
--- a failed allocation of a claim is that of a parser
-pub memory_of_claim : (error : PasetoClaimError) → fault_of error ≡ None → IsMemory (of_claim error)
-memory_of_claim Claim.Expired none = cc none
-memory_of_claim (Claim.UseBeforeAvailable t) none = cc none
-memory_of_claim (Claim.RFC3339Date t) none = cc none
-memory_of_claim (Claim.Missing k) none = cc none
-memory_of_claim (Claim.Unexpected k) none = cc none
-memory_of_claim (Claim.CustomValidation k) none = cc none
-memory_of_claim (Claim.Invalid k found wanted) none = cc none
-memory_of_claim (Claim.Reserved k) none = cc none
-memory_of_claim (Claim.DuplicateTopLevelPayloadClaim k) none = cc none
-memory_of_claim (Claim.Memory refused) none = tt
-
 -- what is checked under a key, of a map of checks
 abbrev pub rule_at : {B : Type 0} → BTreeMap (String Global) (Check B) → List ℕ → Rule (Checker B)
-rule_at m key = option_map_or rule_of (get_by_text m key) no_rule
+rule_at m key = option_map_or (rule_of key) (get_by_text m key) no_rule
 
 -- the map has this entry at the bytes of a text, and its others as they were
 abbrev pub Puts : {B : Type 0} → List ℕ → BTreeMap (String Global) (Check B) → BTreeMap (String Global) (Check B) → Check B → Type 0
@@ -43,27 +26,27 @@ none_from_test (Some x) h = cc h
 
 changed_at : {B : Type 0} (same : Bool) (bs key : List ℕ) (m : BTreeMap (String Global) (Check B)) (old new : Check B)
     (change : Rule (Checker B) → Rule (Checker B)) → bytes_eq bs key ≡ same → get_by_text m bs ≡ Some old
-    → rule_of new ≡ change (rule_of old)
-    → option_map_or rule_of (cond same (Some new) (get_by_text m key)) no_rule ≡ cond same (change (rule_at m key)) (rule_at m key)
+    → rule_of bs new ≡ change (rule_of bs old)
+    → option_map_or (rule_of key) (cond same (Some new) (get_by_text m key)) no_rule ≡ cond same (change (rule_at m key)) (rule_at m key)
 changed_at true bs key m old new change is found made = rw (← (bytes_eq-Decides bs key).0 is, found) made
 changed_at false bs key m old new change is found made = refl
 
 -- an entry that was there is changed
 pub changed : {B : Type 0} (bs : List ℕ) (m n : BTreeMap (String Global) (Check B)) (old new : Check B)
     (change : Rule (Checker B) → Rule (Checker B)) → Puts bs m n new → get_by_text m bs ≡ Some old
-    → rule_of new ≡ change (rule_of old) → (key : List ℕ) → rule_at n key ≡ edited bs change (rule_at m) key
+    → rule_of bs new ≡ change (rule_of bs old) → (key : List ℕ) → rule_at n key ≡ edited bs change (rule_at m) key
 changed bs m n old new change puts found made key =
     rw (btree_map_updates_text bs m n (Some new) puts key) (changed_at (bytes_eq bs key) bs key m old new change refl found made)
 
 reserved_at : {B : Type 0} (same : Bool) (bs key : List ℕ) (m : BTreeMap (String Global) (Check B)) (nothing : Check B)
-    → bytes_eq bs key ≡ same → get_by_text m bs ≡ None → rule_of nothing ≡ no_rule
-    → option_map_or rule_of (cond same (Some nothing) (get_by_text m key)) no_rule ≡ rule_at m key
+    → bytes_eq bs key ≡ same → get_by_text m bs ≡ None → rule_of bs nothing ≡ no_rule
+    → option_map_or (rule_of key) (cond same (Some nothing) (get_by_text m key)) no_rule ≡ rule_at m key
 reserved_at true bs key m nothing is absent empty = rw (← (bytes_eq-Decides bs key).0 is, absent) empty
 reserved_at false bs key m nothing is absent empty = refl
 
 -- an entry that checks nothing, where there was none, changes nothing
 pub reserved : {B : Type 0} (bs : List ℕ) (m n : BTreeMap (String Global) (Check B)) (nothing : Check B)
-    → Puts bs m n nothing → get_by_text m bs ≡ None → rule_of nothing ≡ no_rule → (key : List ℕ) → rule_at n key ≡ rule_at m key
+    → Puts bs m n nothing → get_by_text m bs ≡ None → rule_of bs nothing ≡ no_rule → (key : List ℕ) → rule_at n key ≡ rule_at m key
 reserved bs m n nothing puts absent empty key =
     rw (btree_map_updates_text bs m n (Some nothing) puts key) (reserved_at (bytes_eq bs key) bs key m nothing refl absent empty)
 

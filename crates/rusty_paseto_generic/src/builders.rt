@@ -2,6 +2,7 @@
 
 mod claims;
 mod generic_builder;
+mod merging;
 mod setter;
 
 pub use generic_builder::{GenericBuilder, GenericLocalVersion};

@@ -30,6 +30,7 @@
 
 mod blame;
 mod builders;
+mod entry;
 mod error;
 mod explained;
 mod itself;

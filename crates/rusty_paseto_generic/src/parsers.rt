@@ -6,6 +6,7 @@ mod checks;
 mod generic_parser;
 mod parsing;
 mod setter;
+mod stored;
 mod times;
 
 pub use generic_parser::{GenericParser, TokenParser};

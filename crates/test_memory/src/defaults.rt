@@ -167,8 +167,8 @@ fn ask_validators(run: &mut Run<'_>) -> Result<()> {
             => parser.validate_key("aud", given).map(drop);
         "put_required of a claim" => parser.put_required("sub");
         "require_claim of a claim" => parser.require_claim("sub").map(drop);
-        "put_times of a moment" => parser.put_times(late);
-        "check_times of a moment" => parser.check_times(late).map(drop);
+        "put_times of a moment, with no memory" => parser.put_times(late);
+        "check_times of a moment, with no memory" => parser.check_times(late).map(drop);
     }
 }
 

@@ -61,11 +61,8 @@ class Key:
         return self._bytes
 
     def to_text(self) -> str:
-        """The key as PASERK text, ``k4.local..``, as in the key files of the program ``paseto``.
-
-        Not available for key pairs of version 1.
-        """
-        return self._told("text")
+        """The key as PASERK text, ``k4.local..``, as in the key files of the program ``paseto``."""
+        return _library.key_text(self._held(), "text")
 
     def to_pem(self) -> str:
         """A private or a public key in PEM, byte for byte as ``openssl pkey`` writes it. A key for local tokens has no PEM
@@ -80,14 +77,9 @@ class Key:
 
     @property
     def id(self) -> str:
-        """The PASERK id, ``k4.lid..``, which identifies the key without revealing it."""
-        return self._told("id")
-
-    def _told(self, form: str) -> str:
-        """The text that the library makes from the key."""
-        if self._version == 1 and not isinstance(self, LocalKey):
-            raise InvalidKey("a key pair of version 1 has no PASERK text here")
-        return _library.key_text(self._held(), form)
+        """The PASERK id, ``k4.lid..``, which identifies the key without revealing it. A private key has another one than its
+        public key."""
+        return _library.key_text(self._held(), "id")
 
     def _held(self) -> Held:
         """The key as the library takes it."""
@@ -97,8 +89,8 @@ class Key:
     def from_text(text: Text) -> LocalKey | PrivateKey | PublicKey:
         """Reads a key from PASERK text, which may end in one newline, or a key pair's key from PEM, as ``openssl`` writes it.
 
-        In PEM, an Ed25519 key is read as version 4, a P-384 key as version 3, and an RSA key as version 1. For version 2, make
-        the key from its bytes: ``PrivateKey(key.to_bytes(), 2)``.
+        In PEM, an Ed25519 key is read as version 4, a P-384 key as version 3, and an RSA key of 2048 bits as version 1. For
+        version 2, make the key from its bytes: ``PrivateKey(key.to_bytes(), 2)``.
 
         >>> key = LocalKey.generate()
         >>> Key.from_text(key.to_text()) == key
@@ -173,9 +165,7 @@ class PrivateKey(Key):
 
     @property
     def public(self) -> PublicKey:
-        """The public key of this private key. Not available in version 1: keep the public key with the private one."""
-        if self._version == 1:
-            raise InvalidKey("the public key of version 1 is made elsewhere, as by openssl")
+        """The public key of this private key."""
         return PublicKey(_library.public_half(self._held()).bytes, self._version)
 
 

@@ -8,7 +8,7 @@ from collections.abc import Callable
 from pathlib import Path
 from typing import Any, NamedTuple
 
-from ._errors import FAULTS, InvalidKey, OtherVersion
+from ._errors import FAULTS, InvalidKey
 
 # The versions whose tokens are bound to an implicit assertion.
 ASSERTING = (3, 4)
@@ -172,8 +172,6 @@ def public_half(key: Held) -> Held:
 
 def key_text(key: Held, form: str) -> str:
     """What a key is in a form: ``text``, ``id`` or ``pem``."""
-    if form == "text" and key.version == 1 and key.type != "local":
-        raise OtherVersion
     # In PEM the keys of version 2 are those of version 4.
     told = key._replace(version=4) if form == "pem" and key.version == 2 else key
     return _ask(f"paseto_key_{form}", (_held(told),), 2048).decode()

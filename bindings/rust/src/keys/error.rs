@@ -18,7 +18,7 @@ use std::fmt;
 pub enum KeyTextError {
     /// The key has the wrong length or form, or its halves do not belong together.
     InvalidKey,
-    /// The text does not begin as a PASERK key, or such a key has no PASERK text: a key pair of version 1.
+    /// The text does not begin as a PASERK key.
     NoPaserk,
     /// The text is a key of another version.
     OtherVersion,

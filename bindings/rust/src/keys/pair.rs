@@ -1,7 +1,7 @@
 //! Key pairs.
 
 use crate::core::{
-    Key, PasetoAsymmetricPrivateKey, PasetoAsymmetricPublicKey, PasetoError, Public, V2, V3, V4,
+    Key, PasetoAsymmetricPrivateKey, PasetoAsymmetricPublicKey, PasetoError, Public, V1, V2, V3, V4,
 };
 use crate::library::{self, Version};
 use std::fmt;
@@ -145,6 +145,24 @@ macro_rules! pair {
             }
         }
     };
+}
+
+#[cfg(feature = "v1_public")]
+impl PasetoAsymmetricPrivateKey<'_, V1, Public> {
+    /// The public key of this private key. Fails with `InvalidKey` for DER that is not such a key, and with `Memory`.
+    ///
+    /// ```rust
+    /// use paseto_proved::core::{PasetoAsymmetricPrivateKey, PasetoError, Public, V1};
+    ///
+    /// let no_key = PasetoAsymmetricPrivateKey::<V1, Public>::from(&b"no DER"[..]);
+    /// assert_eq!(no_key.public_key().err(), Some(PasetoError::InvalidKey));
+    /// ```
+    pub fn public_key(
+        &self,
+    ) -> Result<PasetoAsymmetricPublicKey<'static, V1, Public>, PasetoError> {
+        let bytes = library::public_half(Version::V1, self.as_ref())?;
+        Ok(PasetoAsymmetricPublicKey::owning(bytes))
+    }
 }
 
 pair!("v2_public" V2, 32 of 64);

@@ -8,11 +8,11 @@ use std::str::FromStr;
 
 // The bytes of a key in PEM, or in PASERK, where one newline may follow, as in the key files of the program `paseto`.
 fn bytes_of(version: Version, kind: KeyType, text: &str) -> Result<Vec<u8>, Fault> {
-    if text.starts_with("-----BEGIN") {
-        return library::from_pem(version, kind, text.as_bytes());
+    if library::holds_pem(text) {
+        library::from_pem(version, kind, text)
+    } else {
+        library::from_paserk(version, kind, text.as_bytes())
     }
-    let line = text.strip_suffix('\n').unwrap_or(text);
-    library::from_paserk(version, kind, line.as_bytes())
 }
 
 // An example of a method of keys of a version.
@@ -170,8 +170,7 @@ macro_rules! half {
         impl FromStr for $name<'static, $version, Public> {
             type Err = KeyTextError;
 
-            /// The key of a text in PEM, as `openssl` writes it, or of PASERK text, behind which one newline may follow
-            /// and which a key pair of version 1 has not.
+            /// The key of a text in PEM, as `openssl` writes it, or of PASERK text, behind which one newline may follow.
             ///
             /// Fails with `NoPaserk`, `OtherVersion`, `OtherType`, `NeedsPassword`, `NeedsKey`, `NotPem`, `EncryptedKey`,
             /// `OtherLabel`, `OtherAlgorithm`, `OtherCurve`, `OtherSize` or `InvalidKey`, and with `Memory`.
@@ -221,7 +220,7 @@ macro_rules! paserk {
         impl $name<'_, $version, Public> {
             /// The key as PASERK text, as in the key files of the program `paseto`. That of a private key is a secret.
             ///
-            /// Fails with `InvalidKey` for a key of another length, and with `Memory`.
+            /// Fails with `InvalidKey` for a key of another length, or DER that is not such a key, and with `Memory`.
             ///
             #[doc = $written]
             pub fn to_paserk(&self) -> Result<String, KeyTextError> {
@@ -269,23 +268,32 @@ paserks! {
     "v3_public" V3
     "v4_public" V4
 }
+paserk!("v1_public" V1 PasetoAsymmetricPrivateKey Private, example!(V1:
+    "let no_key = PasetoAsymmetricPrivateKey::<Version, Public>::from(&b\"no DER\"[..]);"
+    "assert_eq!(no_key.to_paserk(), Err(KeyTextError::InvalidKey));"
+), example!(V1:
+    "let no_key = PasetoAsymmetricPrivateKey::<Version, Public>::from(&b\"no DER\"[..]);"
+    "assert_eq!(no_key.id(), Err(KeyTextError::InvalidKey));"
+));
+paserk!("v1_public" V1 PasetoAsymmetricPublicKey Public, example!(V1:
+    "let no_key = PasetoAsymmetricPublicKey::<Version, Public>::from(&b\"no DER\"[..]);"
+    "assert_eq!(no_key.to_paserk(), Err(KeyTextError::InvalidKey));"
+), example!(V1:
+    "let no_key = PasetoAsymmetricPublicKey::<Version, Public>::from(&b\"no DER\"[..]);"
+    "assert_eq!(no_key.id(), Err(KeyTextError::InvalidKey));"
+));
 
 macro_rules! locked {
-    ($feature:tt $local:tt $version:ident) => {
+    ($feature:tt $local:tt $version:ident, $protected:expr, $wrapped:expr, $unlocked:expr, $unwrapped:expr) => {
         #[cfg(feature = $feature)]
         impl PasetoAsymmetricPrivateKey<'_, $version, Public> {
-            /// The key as text under a password, `k4.secret-pw..`: in version 3 by 100,000 iterations of PBKDF2, in 2 and
-            /// 4 by two passes of Argon2id over 64 MiB. `try_unlock` reads it.
+            /// The key as text under a password, `k4.secret-pw..`: in versions 1 and 3 by 100,000 iterations of PBKDF2, in
+            /// 2 and 4 by two passes of Argon2id over 64 MiB. `try_unlock` reads it.
             ///
-            /// Fails with `InvalidKey` for a key of another length, `LongPassword` for a password of 4 GiB, `NoRandom` if
-            /// the system gives no random bytes, and `Memory`.
+            /// Fails with `InvalidKey` for a key of another length, or DER that is not such a key, `LongPassword` for a
+            /// password of 4 GiB, `NoRandom` if the system gives no random bytes, and `Memory`.
             ///
-            #[doc = example!($version:
-                "let pair = KeyPair::<Version>::try_new_random()?;"
-                "let text = pair.private_key().to_protected(b\"a password\")?;"
-                "let same = PasetoAsymmetricPrivateKey::<Version, Public>::try_unlock(&text, b\"a password\")?;"
-                "assert_eq!(same.as_ref(), pair.private_key().as_ref());"
-            )]
+            #[doc = $protected]
             pub fn to_protected(&self, password: &[u8]) -> Result<String, KeyTextError> {
                 let (version, kind) = (Version::$version, KeyType::Private);
                 Ok(library::protected(version, kind, self.as_ref(), password)?)
@@ -296,21 +304,21 @@ macro_rules! locked {
         impl PasetoAsymmetricPrivateKey<'_, $version, Public> {
             /// The key as text that is wrapped under a key for local tokens, `k4.secret-wrap..`. `try_unwrap` reads it.
             ///
-            /// Fails with `InvalidKey` for a key of another length, `NoRandom` if the system gives no random bytes, and
-            /// `Memory`.
+            /// Fails with `InvalidKey` for a key of another length, or DER that is not such a key, `NoRandom` if the system
+            /// gives no random bytes, and `Memory`.
             ///
-            #[doc = example!($version:
-                "let (pair, wrapping) = (KeyPair::<Version>::try_new_random()?, PasetoSymmetricKey::try_new_random()?);"
-                "let text = pair.private_key().to_wrapped(&wrapping)?;"
-                "let same = PasetoAsymmetricPrivateKey::<Version, Public>::try_unwrap(&text, &wrapping)?;"
-                "assert_eq!(same.as_ref(), pair.private_key().as_ref());"
-            )]
+            #[doc = $wrapped]
             pub fn to_wrapped(
                 &self,
                 wrapping: &PasetoSymmetricKey<$version, Local>,
             ) -> Result<String, KeyTextError> {
                 let (version, kind) = (Version::$version, KeyType::Private);
-                Ok(library::wrapped(version, kind, self.as_ref(), wrapping.as_ref())?)
+                Ok(library::wrapped(
+                    version,
+                    kind,
+                    self.as_ref(),
+                    wrapping.as_ref(),
+                )?)
             }
         }
 
@@ -319,11 +327,7 @@ macro_rules! locked {
             /// The key of a text that is under a password, `k4.secret-pw..`. Fails with `WrongKey` for a wrong one,
             /// `TooCostly`, `LongPassword`, and as `from_str` does.
             ///
-            #[doc = example!($version:
-                "let text = KeyPair::<Version>::try_new_random()?.private_key().to_protected(b\"a password\")?;"
-                "let refused = PasetoAsymmetricPrivateKey::<Version, Public>::try_unlock(&text, b\"another\");"
-                "assert_eq!(refused.err(), Some(KeyTextError::WrongKey));"
-            )]
+            #[doc = $unlocked]
             pub fn try_unlock(text: &str, password: &[u8]) -> Result<Self, KeyTextError> {
                 let (version, text) = (Version::$version, text.as_bytes());
                 let bytes = library::unlocked(version, KeyType::Private, text, password)?;
@@ -336,12 +340,7 @@ macro_rules! locked {
             /// The key of a text that is wrapped under a key for local tokens, `k4.secret-wrap..`. Fails with `WrongKey`
             /// for another wrapping key, and as `from_str` does.
             ///
-            #[doc = example!($version:
-                "let (pair, wrapping) = (KeyPair::<Version>::try_new_random()?, PasetoSymmetricKey::try_new_random()?);"
-                "let text = pair.private_key().to_wrapped(&wrapping)?;"
-                "let refused = PasetoAsymmetricPrivateKey::<Version, Public>::try_unwrap(&text, &Key::from([7; 32]).into());"
-                "assert_eq!(refused.err(), Some(KeyTextError::WrongKey));"
-            )]
+            #[doc = $unwrapped]
             pub fn try_unwrap(
                 text: &str,
                 wrapping: &PasetoSymmetricKey<$version, Local>,
@@ -352,7 +351,58 @@ macro_rules! locked {
                 Ok(PasetoAsymmetricPrivateKey::owning(bytes))
             }
         }
+    };
+}
 
+macro_rules! lockeds {
+    ($($feature:tt $local:tt $version:ident)*) => {$(
+        locked!($feature $local $version, example!($version:
+            "let pair = KeyPair::<Version>::try_new_random()?;"
+            "let text = pair.private_key().to_protected(b\"a password\")?;"
+            "let same = PasetoAsymmetricPrivateKey::<Version, Public>::try_unlock(&text, b\"a password\")?;"
+            "assert_eq!(same.as_ref(), pair.private_key().as_ref());"
+        ), example!($version:
+            "let (pair, wrapping) = (KeyPair::<Version>::try_new_random()?, PasetoSymmetricKey::try_new_random()?);"
+            "let text = pair.private_key().to_wrapped(&wrapping)?;"
+            "let same = PasetoAsymmetricPrivateKey::<Version, Public>::try_unwrap(&text, &wrapping)?;"
+            "assert_eq!(same.as_ref(), pair.private_key().as_ref());"
+        ), example!($version:
+            "let text = KeyPair::<Version>::try_new_random()?.private_key().to_protected(b\"a password\")?;"
+            "let refused = PasetoAsymmetricPrivateKey::<Version, Public>::try_unlock(&text, b\"another\");"
+            "assert_eq!(refused.err(), Some(KeyTextError::WrongKey));"
+        ), example!($version:
+            "let (pair, wrapping) = (KeyPair::<Version>::try_new_random()?, PasetoSymmetricKey::try_new_random()?);"
+            "let text = pair.private_key().to_wrapped(&wrapping)?;"
+            "let refused = PasetoAsymmetricPrivateKey::<Version, Public>::try_unwrap(&text, &Key::from([7; 32]).into());"
+            "assert_eq!(refused.err(), Some(KeyTextError::WrongKey));"
+        ));
+    )*};
+}
+
+lockeds! {
+    "v2_public" "v2_local" V2
+    "v3_public" "v3_local" V3
+    "v4_public" "v4_local" V4
+}
+locked!("v1_public" "v1_local" V1, example!(V1:
+    "let no_key = PasetoAsymmetricPrivateKey::<Version, Public>::from(&b\"no DER\"[..]);"
+    "assert_eq!(no_key.to_protected(b\"a password\"), Err(KeyTextError::InvalidKey));"
+), example!(V1:
+    "let no_key = PasetoAsymmetricPrivateKey::<Version, Public>::from(&b\"no DER\"[..]);"
+    "let wrapping = PasetoSymmetricKey::try_new_random()?;"
+    "assert_eq!(no_key.to_wrapped(&wrapping), Err(KeyTextError::InvalidKey));"
+), example!(V1:
+    "let text = PasetoSymmetricKey::<Version, Local>::try_new_random()?.to_protected(b\"a password\")?;"
+    "let refused = PasetoAsymmetricPrivateKey::<Version, Public>::try_unlock(&text, b\"a password\");"
+    "assert_eq!(refused.err(), Some(KeyTextError::OtherType));"
+), example!(V1:
+    "let key = PasetoSymmetricKey::<Version, Local>::try_new_random()?;"
+    "let refused = PasetoAsymmetricPrivateKey::<Version, Public>::try_unwrap(&key.to_wrapped(&key)?, &key);"
+    "assert_eq!(refused.err(), Some(KeyTextError::OtherType));"
+));
+
+macro_rules! sealed {
+    ($feature:tt $local:tt $version:ident) => {
         #[cfg(all(feature = $feature, feature = $local))]
         impl PasetoSymmetricKey<$version, Local> {
             /// The key as text that is sealed to a public key, `k4.seal..`. `try_unseal` reads it, by the private key.
@@ -400,6 +450,7 @@ macro_rules! locked {
     };
 }
 
-locked!("v2_public" "v2_local" V2);
-locked!("v3_public" "v3_local" V3);
-locked!("v4_public" "v4_local" V4);
+// Keys of version 1 are not sealed.
+sealed!("v2_public" "v2_local" V2);
+sealed!("v3_public" "v3_local" V3);
+sealed!("v4_public" "v4_local" V4);

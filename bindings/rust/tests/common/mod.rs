@@ -1,4 +1,4 @@
-//! The RSA keys of version 1, which OpenSSL made (`tests/c_library/rsa.h`).
+//! The RSA keys of version 1, which OpenSSL made, and their texts (`tests/c_library/rsa.h`).
 #![allow(dead_code)]
 
 use std::error::Error;
@@ -23,4 +23,22 @@ pub fn bytes(name: &str) -> Result<Vec<u8>, Box<dyn Error>> {
         .step_by(2)
         .map(|at| u8::from_str_radix(&digits[at..at + 2], 16));
     Ok(bytes.collect::<Result<_, _>>()?)
+}
+
+/// The text in PEM of contents in base64url.
+pub fn armored(label: &str, contents: &str) -> String {
+    let mut letters = contents.replace('-', "+").replace('_', "/");
+    while letters.len() % 4 != 0 {
+        letters.push('=');
+    }
+    let lines = letters.as_bytes().chunks(64).map(String::from_utf8_lossy);
+    let body: String = lines.map(|line| format!("{line}\n")).collect();
+    format!("-----BEGIN {label}-----\n{body}-----END {label}-----\n")
+}
+
+/// The contents of a text in PEM, in base64url.
+pub fn contents(pem: &str) -> String {
+    let lines = pem.lines().filter(|line| !line.starts_with("-----"));
+    let letters = lines.collect::<String>().replace('+', "-");
+    letters.replace('/', "_").trim_end_matches('=').to_owned()
 }

@@ -10,7 +10,7 @@ use Rattle.paseto_pem.specs.declared.label.Label.TheVariants.{EncryptedPrivateKe
 use Rattle.rusty_paseto_paserk.specs.Error.{error_text as key_error_text}
 use Rattle.rusty_paseto_paserk.specs.declared.error.PaserkError.TheVariants.{Memory as NoKeyMemory}
 use Rattle.paseto_tasks.specs.declared.error.file.FileError.{FileError}
-use Rattle.paseto_tasks.specs.declared.error.file.FileError.TheVariants.{Key, KeyFile, EmptyKey, NotWrapped, NotSealed, NoRingKey, NoSigner, SecondLine, TooLong, OtherHalves, NotPrivate, NoAssertion, OddPassword, NoFile, NoPermission, IsFolder, NotFolder, NoAccess, FileExists, Unwritten, NoLink, FileLeft}
+use Rattle.paseto_tasks.specs.declared.error.file.FileError.TheVariants.{Key, KeyFile, EmptyKey, NotWrapped, NotSealed, NoSigner, SecondLine, TooLong, OtherHalves, NotPrivate, NoAssertion, OddPassword, NoFile, NoPermission, IsFolder, NotFolder, NoAccess, FileExists, Unwritten, NoLink, FileLeft}
 
 -- what is said of a key that was refused as PEM: the text of the error, but where that leaves open what to do
 abbrev pub pem_text : PemError → List ℕ
@@ -35,7 +35,6 @@ file_text (KeyFile error) = key_file_error_text error
 file_text EmptyKey = codes "it is empty, and holds no key"
 file_text NotWrapped = codes "the key is bare: it is under no password, not wrapped and not sealed"
 file_text NotSealed = codes "the key is not sealed: use paseto unwrap"
-file_text NoRingKey = codes "a key pair of version 1, which a ring does not take"
 file_text NoSigner = codes "no private key is in this folder"
 file_text SecondLine = codes "line 2: a key file has one line of PASERK, or is PEM"
 file_text TooLong = codes "too long for a key file"

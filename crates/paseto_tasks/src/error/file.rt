@@ -20,8 +20,6 @@ pub enum FileError {
     NotWrapped,
     /// The key is to be unsealed, but is not sealed.
     NotSealed,
-    /// The key is one of a key pair of version 1, which a ring does not take.
-    NoRingKey,
     /// A folder has no private key.
     NoSigner,
     /// The key file has a second line, and is not PEM.
@@ -71,7 +69,6 @@ impl FileError {
             EmptyKey => "it is empty, and holds no key",
             NotWrapped => "the key is bare: it is under no password, not wrapped and not sealed",
             NotSealed => "the key is not sealed: use paseto unwrap",
-            NoRingKey => "a key pair of version 1, which a ring does not take",
             NoSigner => "no private key is in this folder",
             SecondLine => "line 2: a key file has one line of PASERK, or is PEM",
             TooLong => "too long for a key file",

@@ -24,7 +24,7 @@ impl OneOf {
         ensures { IfOk result (λ made. map string_bytes made.texts.items
             ≡ map (λ text. text.now) texts.now) }
     {
-        let mut copies = Vec::new(alloc);
+        let mut copies = Vec::with_capacity(alloc, texts.len())?;
         for text in texts {
             copies.push(String::from_str(alloc, text)?)?;
         }

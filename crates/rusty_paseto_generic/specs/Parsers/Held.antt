@@ -13,15 +13,27 @@ use Rattle.rusty_paseto_generic.specs.declared.parsers.checks.Check.{Check}
 use Rattle.rusty_paseto_generic.specs.declared.parsers.checks.Checks.{Checks}
 use Rattle.rusty_paseto_generic.specs.declared.parsers.checks.Checker.{Checker}
 use Rattle.rusty_paseto_generic.specs.declared.parsers.checks.Checker.TheVariants.{Boxed, Expiry, NotBefore}
+use Rattle.rusty_paseto_generic.specs.declared.parsers.stored.Stored.{Stored}
+use Rattle.rusty_paseto_generic.specs.declared.parsers.stored.Stored.TheVariants.{DefaultDate, Entry, Whole}
 use Rattle.rusty_paseto_generic.specs.declared.parsers.times.Times.{Times}
 
--- a check, its stored value as JSON
-abbrev pub rule_of : {B : Type 0} → Check B → Rule (Checker B)
-rule_of check = record { required = check.required; stored = option_map view check.stored; checker = check.checker }
+-- the JSON of the claim of a date and time that stands under a key by default
+abbrev pub default_date : List ℕ → Data
+default_date key = one_member key (string (codes "2019-01-01T00:00:00+00:00"))
+
+-- what is stored under a key, as JSON
+abbrev pub stored_json : List ℕ → Stored → Data
+stored_json key (Entry value) = one_member key (view value)
+stored_json key (Whole value) = view value
+stored_json key DefaultDate = default_date key
+
+-- the check under a key, its stored value as JSON
+abbrev pub rule_of : {B : Type 0} → List ℕ → Check B → Rule (Checker B)
+rule_of key check = record { required = check.required; stored = option_map (stored_json key) check.stored; checker = check.checker }
 
 -- what is checked under each key
 abbrev pub rules_of : {B : Type 0} → Checks B → Rules (Checker B)
-rules_of checks key = option_map_or rule_of (get_by_text checks.entries key) no_rule
+rules_of checks key = option_map_or (rule_of key) (get_by_text checks.entries key) no_rule
 
 -- what a checker finds, where a validator finds this, when the times are checked
 abbrev pub verdict_of : {B : Type 0} → (B → Verdict) → Times → Checker B → Verdict
@@ -40,10 +52,6 @@ verdicts_of verdict times checks key = checked verdict times (rules_of checks ke
 -- what is to check each key, by its bytes
 abbrev pub checkers_of : {B : Type 0} → List (String Global × B) → List (List ℕ × Checker B)
 checkers_of entries = map (λ named. (string_bytes named.0, Boxed named.1)) entries
-
--- the JSON of the claim of a date and time that stands under a key by default
-abbrev pub default_date : List ℕ → Data
-default_date key = one_member key (string (codes "2019-01-01T00:00:00+00:00"))
 
 -- `exp` and `nbf` are checked by the moment, and get their claims by default
 abbrev pub with_times : {B : Type 0} → Rules (Checker B) → Rules (Checker B)

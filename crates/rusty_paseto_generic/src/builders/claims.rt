@@ -8,8 +8,10 @@ ghost use Rattle.serde_json.specs.Written.{has_float};
 ghost use Rattle.rusty_paseto_claims.specs.Error.{IsFault, unexpected};
 ghost use Rattle.rusty_paseto_claims.specs.Whole.{first_odd};
 ghost use Rattle.rusty_paseto_generic.specs.Error.{IsMemory, IsUnexpected};
-ghost use Rattle.rusty_paseto_generic.specs.Builders.Claims.{IsReadBack, IsRefusal, becomes, claim_set, extended, payload, put_all, stored, unwrapped as unwrapped_data, without};
+ghost use Rattle.rusty_paseto_generic.specs.Builders.Claims.{IsReadBack, IsRefusal, becomes, claim_set, extended, payload, stored, unwrapped, without};
 
+use crate::builders::merging::{put_entry, put_members};
+use crate::entry::only_entry;
 use crate::error::GenericBuilderError;
 use crate::whole::check_whole;
 use rusty_paseto_claims::{PasetoClaim, PasetoClaimError, is_whole};
@@ -64,24 +66,25 @@ impl Claims {
         if key.is_empty() {
             return Ok(());
         }
-        let value = unwrapped(key, claim.to_json(self.alloc)?);
+        let (key, value) = entry_of(self.alloc, key, claim.to_json(self.alloc)?)?;
         self.store(key, value)
     }
 
     // Stores a value under a key, as it is.
-    fn store(&mut self, key: &str, value: Value) -> Result<(), GenericBuilderError>
-        ensures ok { OnOk result (stored key.now (view value) (held self.old)
+    fn store(&mut self, key: String, value: Value) -> Result<(), GenericBuilderError>
+        ensures ok { OnOk result (stored (string_bytes key) (view value) (held self.old)
             ≡ becomes (held self.new)) }
         ensures err { OnErr result (held self.new ≡ held self.old) }
-        ensures fault { IfErr result (IsRefusal (stored key.now (view value) (held self.old))) }
+        ensures fault { IfErr result (IsRefusal (stored (string_bytes key) (view value)
+            (held self.old))) }
     {
         if !is_whole(&value) {
-            return Err(unexpected(String::from_str(self.alloc, key)?));
+            return Err(unexpected(key));
         }
         let Some(members) = self.object.as_object_mut() else {
             unreachable!();
         };
-        serde_json::put(members, self.alloc, key, value)?;
+        put_entry(members, key, value)?;
         Ok(())
     }
 
@@ -97,10 +100,10 @@ impl Claims {
             (held self.old))) }
     {
         check_whole(&more)?;
-        let Some(members) = self.object.as_object() else {
+        let Some(members) = self.object.as_object_mut() else {
             unreachable!();
         };
-        self.object = Value::Object(merged(members, more)?);
+        put_members(members, more)?;
         Ok(())
     }
 
@@ -134,41 +137,13 @@ fn unexpected(key: String) -> GenericBuilderError
     }
 }
 
-// The value of an object whose only key is this one, or the value as it is.
-fn unwrapped(key: &str, value: Value) -> Value
-    ensures { view result ≡ unwrapped_data key.now (view value) }
+// A claim's key, and what is stored under it of the claim's JSON. Only a key that is not in the JSON is copied.
+fn entry_of(alloc: Global, key: &str, json: Value) -> Result<(String, Value), AllocError>
+    ensures { IfOk result (λ entry. (string_bytes entry.0 ≡ key.now)
+        × (view entry.1 ≡ unwrapped key.now (view json))) }
 {
-    match value {
-        Value::Object(members) => only_member_or_all(key, members),
-        other => other,
+    match only_entry(key, json) {
+        Ok(entry) => Ok(entry),
+        Err(json) => Ok((String::from_str(alloc, key)?, json)),
     }
-}
-
-// The value under the key, where there is no other key, or the whole object.
-fn only_member_or_all(key: &str, members: Map<String, Value>) -> Value
-    ensures { view result ≡ unwrapped_data key.now (view (Value.Object members)) }
-{
-    let mut members = members;
-    if members.len() != 1 {
-        return Value::Object(members);
-    }
-    match members.remove(key) {
-        Some(only) => only,
-        None => Value::Object(members),
-    }
-}
-
-// A copy of the members with more of them put in.
-fn merged(
-    members: &Map<String, Value>,
-    more: Map<String, Value>,
-) -> Result<Map<String, Value>, AllocError>
-    ensures { IfOk result (λ all. members_view all.entries
-        ≡ put_all (members_view more.entries) (members_view members.now.entries)) }
-{
-    let mut all = members.clone()?;
-    for (key, value) in more {
-        drop(all.insert(key, value)?);
-    }
-    Ok(all)
 }

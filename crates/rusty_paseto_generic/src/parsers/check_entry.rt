@@ -4,11 +4,13 @@ ghost use Rattle.std.specs.Prelude.{◌≡◌, None, IfOk, IfErr, OnOk};
 ghost use Rattle.serde_json.specs.Data.{null};
 ghost use Rattle.serde_json.specs.View.{view};
 ghost use Rattle.rusty_paseto_claims.specs.Error.{IsFault};
+ghost use Rattle.rusty_paseto_claims.specs.Same.{IsSame};
 ghost use Rattle.rusty_paseto_generic.specs.Validator.{IfFault, IsFound};
 ghost use Rattle.rusty_paseto_generic.specs.Parsers.Verdicts.{Fails, IsMismatch, Matches, Meets, Misses, Passes, entry, mismatch as mismatch_fault};
-ghost use Rattle.rusty_paseto_generic.specs.Parsers.Held.{rule_of, checked, verdict_of};
+ghost use Rattle.rusty_paseto_generic.specs.Parsers.Held.{rule_of, checked, stored_json, verdict_of};
 
 use crate::parsers::checks::{Check, Checker};
+use crate::parsers::stored::Stored;
 use crate::parsers::times::{Times, check_expiry, check_not_before};
 use crate::validator::ValidatorFn;
 use rusty_paseto_claims::{PasetoClaimError, same_value};
@@ -24,10 +26,10 @@ pub(crate) fn check_entry(
     check: &Check<ValidatorFn>,
     value: &Value,
 ) -> Result<(), PasetoClaimError>
-    ensures ok { OnOk result (Passes (checked (λ b. verdict b) times.now (rule_of check.now))
+    ensures ok { OnOk result (Passes (checked (λ b. verdict b) times.now (rule_of key.now check.now))
         key.now (entry key.now (view value.now))) }
     ensures err { IfErr result (IfFault (Fails
-        (checked (λ b. verdict b) times.now (rule_of check.now)) key.now
+        (checked (λ b. verdict b) times.now (rule_of key.now check.now)) key.now
         (entry key.now (view value.now)))) }
 {
     let null = Value::Null;
@@ -46,10 +48,10 @@ fn check_found(
     check: &Check<ValidatorFn>,
     found: &Value,
 ) -> Result<(), PasetoClaimError>
-    ensures ok { OnOk result (Meets (checked (λ b. verdict b) times.now (rule_of check.now)) key.now
+    ensures ok { OnOk result (Meets (checked (λ b. verdict b) times.now (rule_of key.now check.now)) key.now
         (view found.now)) }
     ensures err { IfErr result (IfFault (Misses
-        (checked (λ b. verdict b) times.now (rule_of check.now)) key.now (view found.now))) }
+        (checked (λ b. verdict b) times.now (rule_of key.now check.now)) key.now (view found.now))) }
 {
     if let Some(checker) = &check.checker {
         return decide(alloc, times, key, checker, found);
@@ -80,16 +82,32 @@ fn decide(
     }
 }
 
-// Whether the value is there, and is what the stored one has under the key.
-fn compare(alloc: Global, key: &str, stored: &Value, found: &Value) -> Result<(), PasetoClaimError>
-    ensures ok { OnOk result (Matches key.now (view stored.now) (view found.now)) }
-    ensures err { IfErr result (IfFault (IsMismatch key.now (view stored.now) (view found.now))) }
+// Whether the value is there, and is what is stored under the key.
+fn compare(alloc: Global, key: &str, stored: &Stored, found: &Value) -> Result<(), PasetoClaimError>
+    ensures ok { OnOk result (Matches key.now (stored_json key.now stored.now) (view found.now)) }
+    ensures err { IfErr result (IfFault
+        (IsMismatch key.now (stored_json key.now stored.now) (view found.now))) }
 {
     if found.is_null() {
         return Err(PasetoClaimError::Missing(String::from_str(alloc, key)?));
     }
     let null = Value::Null;
-    let expected = entry_or(stored, key, &null);
+    match stored {
+        Stored::Entry(expected) => expect(alloc, key, found, expected),
+        Stored::Whole(json) => expect(alloc, key, found, entry_or(json, key, &null)),
+        Stored::DefaultDate => {
+            let date = Value::try_from_str(alloc, "2019-01-01T00:00:00+00:00")?;
+            expect(alloc, key, found, &date)
+        }
+    }
+}
+
+// Whether the value is the expected one.
+fn expect(alloc: Global, key: &str, found: &Value, expected: &Value) -> Result<(), PasetoClaimError>
+    ensures ok { OnOk result (IsSame (view found.now) (view expected.now)) }
+    ensures err { IfErr result (IfFault (λ fault. (¬ IsSame (view found.now) (view expected.now))
+        × (fault ≡ mismatch_fault key.now (view found.now) (view expected.now)))) }
+{
     if same_value(found, expected) {
         return Ok(());
     }

@@ -1,19 +1,18 @@
 //! What a parser checks under each key.
 
-ghost use Rattle.std.specs.Prelude.{◌≡◌, ℕ, List, None, IfOk, IfErr, OnOk, OnErr, IsSome};
+ghost use Rattle.std.specs.Prelude.{◌≡◌, ℕ, List, None, IfOk, IfErr, OnOk, OnErr, IsSome, string_bytes};
 ghost use Rattle.std.specs.BTreeMap.{get_by_text};
 ghost use Rattle.serde_json.specs.View.{view, members_view};
 ghost use Rattle.rusty_paseto_claims.specs.Claim.{IsRefusal, gives};
 ghost use Rattle.rusty_paseto_claims.specs.Whole.{first_odd};
 ghost use Rattle.rusty_paseto_generic.specs.Error.Parser.{IsMemory, IsRefusal as IsParserRefusal};
 ghost use Rattle.rusty_paseto_generic.specs.Parsers.Rules.{AreSame, IsStored, all_with_checkers, all_stored, edited, fault_in, no_rule, odd_fault, whole_answer, with_both, with_checker, with_required, with_stored};
-ghost use Rattle.rusty_paseto_generic.specs.Parsers.Held.{HasEach, HasMore, default_date, checkers_of, rules_of, with_times};
+ghost use Rattle.rusty_paseto_generic.specs.Parsers.Held.{HasEach, HasMore, checkers_of, rules_of, stored_json, with_times};
 
 use crate::error::GenericParserError;
+use crate::parsers::stored::Stored;
 use crate::whole::check_whole;
-use rusty_paseto_claims::{
-    DateClaim, Expiration, NotBefore, PasetoClaim, PasetoClaimError, ReservedKey, is_whole,
-};
+use rusty_paseto_claims::{PasetoClaim, PasetoClaimError, is_whole};
 use serde_json::{Map, Value};
 use std::alloc::{AllocError, Global};
 use std::collections::BTreeMap;
@@ -34,7 +33,7 @@ pub(crate) enum Checker<B> {
 pub(crate) struct Check<B> {
     // Whether a value has to be there that is not null.
     pub(crate) required: bool,
-    pub(crate) stored: Option<Value>,
+    pub(crate) stored: Option<Stored>,
     pub(crate) checker: Option<Checker<B>>,
 }
 
@@ -75,9 +74,9 @@ impl<B: Drop> Checks<B> {
             (fault_in (whole_answer (C.key claim.now) (C.json claim.now)))) }
     {
         let key = claim.get_key();
-        let value = whole_json(self.alloc, claim)?;
-        self.reserve(key)?;
-        self.set_stored(key, value);
+        let (name, stored) = Stored::of(self.alloc, key, whole_json(self.alloc, claim)?)?;
+        self.reserve_named(name)?;
+        self.set_stored(key, stored);
         Ok(())
     }
 
@@ -95,10 +94,9 @@ impl<B: Drop> Checks<B> {
             (fault_in (whole_answer (C.key claim.now) (C.json claim.now)))) }
     {
         let key = claim.get_key();
-        let value = whole_json(self.alloc, claim)?;
-        self.reserve(key)?;
-        self.set_stored(key, value);
-        self.set_checker(key, Checker::Boxed(checker));
+        let (name, stored) = Stored::of(self.alloc, key, whole_json(self.alloc, claim)?)?;
+        self.reserve_named(name)?;
+        self.set_both(key, stored, Checker::Boxed(checker));
         Ok(())
     }
 
@@ -150,12 +148,10 @@ impl<B: Drop> Checks<B> {
         ensures err { OnErr result (AreSame (rules_of self.new) (rules_of self.old)) }
         ensures fault { IfErr result IsMemory }
     {
-        let expiration = default_json::<Expiration>(self.alloc)?;
-        let not_before = default_json::<NotBefore>(self.alloc)?;
         self.reserve("exp")?;
         self.reserve("nbf")?;
-        self.set_both("exp", expiration, Checker::Expiry);
-        self.set_both("nbf", not_before, Checker::NotBefore);
+        self.set_both("exp", Stored::DefaultDate, Checker::Expiry);
+        self.set_both("nbf", Stored::DefaultDate, Checker::NotBefore);
         Ok(())
     }
 
@@ -181,15 +177,34 @@ impl<B: Drop> Checks<B> {
         if self.entries.contains_key(key) {
             return Ok(());
         }
+        self.reserve_new(String::from_str(self.alloc, key)?)
+    }
+
+    // The same for a key that is handed in.
+    fn reserve_named(&mut self, key: String) -> Result<(), AllocError>
+        ensures rules { AreSame (rules_of self.new) (rules_of self.old) }
+        ensures ok { OnOk result (IsSome (get_by_text self.new.entries (string_bytes key))) }
+        ensures kept { HasMore (get_by_text self.new.entries) (get_by_text self.old.entries) }
+    {
+        if self.entries.contains_key(key.as_str()) {
+            return Ok(());
+        }
+        self.reserve_new(key)
+    }
+
+    // Makes an entry under a key that has none.
+    fn reserve_new(&mut self, key: String) -> Result<(), AllocError>
+        requires { get_by_text self.old.entries (string_bytes key) ≡ None }
+        ensures rules { AreSame (rules_of self.new) (rules_of self.old) }
+        ensures ok { OnOk result (IsSome (get_by_text self.new.entries (string_bytes key))) }
+        ensures kept { HasMore (get_by_text self.new.entries) (get_by_text self.old.entries) }
+    {
         let nothing = Check {
             required: false,
             stored: None,
             checker: None,
         };
-        drop(
-            self.entries
-                .insert(String::from_str(self.alloc, key)?, nothing)?,
-        );
+        drop(self.entries.insert(key, nothing)?);
         Ok(())
     }
 
@@ -216,15 +231,15 @@ impl<B: Drop> Checks<B> {
         }
     }
 
-    // Stores a value under a key that has an entry.
-    fn set_stored(&mut self, key: &str, value: Value)
+    // Sets what is stored under a key that has an entry.
+    fn set_stored(&mut self, key: &str, stored: Stored)
         requires { IsSome (get_by_text self.old.entries key.now) }
         ensures rules { AreSame (rules_of self.new)
-            (edited key.now (with_stored (view value)) (rules_of self.old)) }
+            (edited key.now (with_stored (stored_json key.now stored)) (rules_of self.old)) }
         ensures kept { HasMore (get_by_text self.new.entries) (get_by_text self.old.entries) }
     {
         if let Some(check) = self.entries.get_mut(key) {
-            check.stored = Some(value);
+            check.stored = Some(stored);
         }
     }
 
@@ -240,14 +255,15 @@ impl<B: Drop> Checks<B> {
         }
     }
 
-    // Stores a value and sets what checks, under a key that has an entry.
-    fn set_both(&mut self, key: &str, value: Value, checker: Checker<B>)
+    // Sets what is stored and what checks, under a key that has an entry.
+    fn set_both(&mut self, key: &str, stored: Stored, checker: Checker<B>)
         requires { IsSome (get_by_text self.old.entries key.now) }
         ensures rules { AreSame (rules_of self.new)
-            (edited key.now (with_both checker (view value)) (rules_of self.old)) }
+            (edited key.now (with_both checker (stored_json key.now stored))
+            (rules_of self.old)) }
         ensures kept { HasMore (get_by_text self.new.entries) (get_by_text self.old.entries) }
     {
-        self.set_stored(key, value);
+        self.set_stored(key, stored);
         self.set_checker(key, checker);
     }
 
@@ -258,7 +274,7 @@ impl<B: Drop> Checks<B> {
             (all_stored (members_view more.entries) (rules_of self.old)) }
     {
         for (key, value) in more {
-            self.set_stored(key.as_str(), value);
+            self.set_stored(key.as_str(), Stored::Whole(value));
         }
     }
 
@@ -285,14 +301,4 @@ fn whole_json<C: PasetoClaim>(alloc: Global, claim: &C) -> Result<Value, PasetoC
         return Err(PasetoClaimError::Unexpected(String::from_str(alloc, claim.get_key())?));
     }
     Ok(value)
-}
-
-// The JSON of the claim of a date and time by default.
-#[tactic(auto, using(crate::proofs::RuleLemmas::memory_of_claim))]
-fn default_json<K: ReservedKey>(alloc: Global) -> Result<Value, GenericParserError>
-    ensures ok { IfOk result (λ value. view value ≡ default_date K.key) }
-    ensures err { IfErr result IsMemory }
-{
-    let claim = DateClaim::<K>::default(alloc)?;
-    Ok(claim.to_json(alloc)?)
 }

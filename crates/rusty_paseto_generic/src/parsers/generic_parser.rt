@@ -1,6 +1,6 @@
 //! The parser of tokens of every version and purpose.
 
-ghost use Rattle.std.specs.Prelude.{◌≡◌, ℕ, List, if◌then◌else◌, None, Some, IfOk, IfErr, OnOk, OnErr};
+ghost use Rattle.std.specs.Prelude.{◌≡◌, ℕ, List, length, if◌then◌else◌, true, false, None, Some, IfOk, IfErr, OnOk, OnErr};
 ghost use Rattle.serde_json.specs.View.{members_view, view};
 ghost use Rattle.rusty_paseto_claims.specs.Whole.{first_odd};
 ghost use Rattle.rusty_paseto_core.specs.Context.{assertion_of, binding_of, footer_of};
@@ -9,6 +9,9 @@ ghost use Rattle.rusty_paseto_core.specs.ImplicitAssertion.{assertion_text};
 ghost use Rattle.rusty_paseto_core.specs.Local.Boxed.{box_opening};
 ghost use Rattle.rusty_paseto_core.specs.Local.Opening.{opening};
 ghost use Rattle.rusty_paseto_core.specs.Public.Verifying.{verification};
+ghost use Rattle.rusty_paseto_core.specs.declared.PasetoError.TheVariants.{TooLong};
+ghost use Rattle.rusty_paseto_parts.specs.Limit.{is_beyond};
+ghost use Rattle.rusty_paseto_generic.specs.declared.error.GenericParserError.TheVariants.{CipherError};
 ghost use Rattle.rusty_paseto_generic.specs.Error.Parser.{IsMemory, IsRefusal};
 ghost use Rattle.rusty_paseto_generic.specs.Parsers.Held.{checkers_of, rules_of, verdicts_of, with_times};
 ghost use Rattle.rusty_paseto_generic.specs.Parsers.Times.{times_at};
@@ -198,6 +201,20 @@ impl<'a, V: VersionTrait, P: PurposeTrait, B: Drop> TokenParser<'a, V, P, B> {
         }
     }
 
+    // Refuses a token that is beyond the limit, if one was set.
+    fn check_length(&self, token: &str) -> Result<(), GenericParserError>
+        ensures ok { OnOk result (is_beyond self.now.longest (length token.now) ≡ false) }
+        ensures err { IfErr result (λ error. (error ≡ CipherError TooLong)
+            × (is_beyond self.now.longest (length token.now) ≡ true)) }
+    {
+        if is_longer(token, self.longest) {
+            return Err(GenericParserError::CipherError {
+                source: PasetoError::TooLong,
+            });
+        }
+        Ok(())
+    }
+
     /// The expected footer: the one that was set last, or the empty one. Does not allocate.
     pub fn get_footer(&self) -> Footer<'_>
         ensures { footer_text result ≡ footer_of self.now.footer }
@@ -350,11 +367,7 @@ impl<V: GenericLocalVersion> TokenParser<'_, V, Local, ValidatorFn> {
             (verdicts_of (λ b. verdict b) (times_at self.now.moment self.now.leeway)
             self.now.checks) token.now result }
     {
-        if is_longer(token, self.longest) {
-            return Err(GenericParserError::CipherError {
-                source: PasetoError::TooLong,
-            });
-        }
+        self.check_length(token)?;
         let assertion = V::bound_assertion(self.implicit_assertion);
         let alloc = self.checks.allocator();
         let opened = V::open(alloc, token, key, self.footer, assertion);
@@ -378,11 +391,7 @@ impl TokenParser<'_, V2, Local, ValidatorFn> {
             (verdicts_of (λ b. verdict b) (times_at self.now.moment self.now.leeway)
             self.now.checks) token.now result }
     {
-        if is_longer(token, self.longest) {
-            return Err(GenericParserError::CipherError {
-                source: PasetoError::TooLong,
-            });
-        }
+        self.check_length(token)?;
         let alloc = self.checks.allocator();
         let opened = Paseto::<V2, Local>::try_decrypt(alloc, sealed_box, token, key, self.footer);
         parse_opened(&self.checks, &self.times(), opened)
@@ -411,11 +420,7 @@ impl<V> TokenParser<'_, V, Public, ValidatorFn> {
             (verdicts_of (λ b. verdict b) (times_at self.now.moment self.now.leeway)
             self.now.checks) token.now result }
     {
-        if is_longer(token, self.longest) {
-            return Err(GenericParserError::CipherError {
-                source: PasetoError::TooLong,
-            });
-        }
+        self.check_length(token)?;
         let assertion = V::signed_assertion(self.implicit_assertion);
         let alloc = self.checks.allocator();
         let opened = V::verify(alloc, scheme, token, key, self.footer, assertion);

@@ -4,26 +4,26 @@ use super::key_of;
 use super::refusals::THIRD;
 use super::rows::{VERIFIED, WRITTEN};
 use crate::expect::{expect_shown, expect_text};
-use crate::paserk::rsa::PUBLIC_TEXT;
+use crate::paserk::rsa::SECRET;
 use paseto_keys::{
     AnyKey, ClaimsBuilder, ClaimsParser, RingError, TokenKey, TokenWriter, admit_by_ring, issue,
 };
 use rusty_paseto_core::{Footer, ImplicitAssertion};
 use rusty_paseto_generic::{AudienceClaim, CheckSetter, ClaimSetter};
-use rusty_paseto_paserk::PaserkType;
+use rusty_paseto_paserk::{PaserkType, PaserkVersion};
 use serde_json::Value;
 use std::alloc::Global;
 use std::process::Abort;
 use test_toys::generators::Counting;
 
-// The lines of the keys that write the tokens of these tests: four for local tokens, and private ones of the other
-// versions than the first.
-fn writing_lines() -> [&'static str; 7] {
+// The lines of the keys that write the tokens of these tests: four for local tokens, and four private ones.
+fn writing_lines() -> [&'static str; 8] {
     [
         WRITTEN[0].0,
         WRITTEN[1].0,
         WRITTEN[2].0,
         WRITTEN[3].0,
+        SECRET,
         WRITTEN[4].0,
         WRITTEN[5].0,
         THIRD,
@@ -38,12 +38,11 @@ fn reader_of(rt: &impl Abort, alloc: Global, key: AnyKey) -> AnyKey {
     }
 }
 
-// A ring of all keys that read what the lines' keys write, behind a public key of version 1, which no ring
-// takes.
+// A ring of all keys that read what the lines' keys write, behind bytes of version 1 that are no RSA key.
 fn ring(rt: &impl Abort, alloc: Global) -> Vec<AnyKey> {
+    let other = AnyKey::from_bytes(alloc, PaserkType::Public, PaserkVersion::V1, b"no key");
     let mut keys = Vec::new(alloc);
-    keys.push(key_of(rt, alloc, PUBLIC_TEXT))
-        .expect(rt, "memory");
+    keys.push(other.expect(rt, "a key")).expect(rt, "memory");
     'lines: for line in writing_lines() {
         let key = reader_of(rt, alloc, key_of(rt, alloc, line));
         keys.push(key).expect(rt, "memory");
@@ -128,7 +127,8 @@ const TOKENS: &[(&str, &str)] = &[
     ),
     ("v5.local.AAAA", "The token header is invalid"),
     ("v4.secret.AAAA", "The token header is invalid"),
-    ("v1.public.AAAA", "The token header is invalid"),
+    ("v5.public.AAAA", "The token header is invalid"),
+    ("v1.public.AAAA", "The token has no footer"),
     ("v4.local.AAAA", "The token has no footer"),
     ("v4.local.AAAA.A", "A base64 decode error occurred"),
     ("v4.local.AAAA._w", "A Utf8 parsing error occurred"),

@@ -5,7 +5,7 @@ use Rattle.rusty_paseto_paserk.specs.Rsa.{public_text, secret_text}
 use Rattle.rusty_paseto_paserk.specs.Text.{writing}
 use Rattle.rusty_paseto_paserk.specs.declared.header.PaserkType.TheVariants.{Secret}
 use Rattle.rusty_paseto_paserk.specs.declared.header.PaserkVersion.TheVariants.{V3, V4}
-use Rattle.paseto_key_files.proofs.PemLaws.{curve_length, edwards_length, same_public, written_err, written_ok}
+use Rattle.paseto_key_files.proofs.PemLaws.{curve_length, edwards_length, written_err, written_ok}
 use Rattle.paseto_key_files.proofs.pem.line_of_key.Goals as goal
 
 pub returns-in-RsaPrivate-clause-ok : goal.returns-in-RsaPrivate-clause-ok
@@ -22,7 +22,7 @@ returns-in-RsaPublic-clause-ok c = rw c.in-RsaPublic.is (written_ok IsPublic pub
 pub returns-in-RsaPublic-clause-err : goal.returns-in-RsaPublic-clause-err
 returns-in-RsaPublic-clause-err c =
     let held = rw c.in-RsaPublic.is at c.requires.1 in
-    written_err IsPublic public_text c.in-RsaPublic.key c.rsa_public_line.result (same_public c.in-RsaPublic.key held.held.is_key) c.rsa_public_line.ensures
+    written_err IsPublic public_text c.in-RsaPublic.key c.rsa_public_line.result held.held.is_key c.rsa_public_line.ensures
 
 pub returns-in-P384Private-clause-ok : goal.returns-in-P384Private-clause-ok
 returns-in-P384Private-clause-ok c =

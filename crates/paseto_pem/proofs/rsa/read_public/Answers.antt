@@ -1,6 +1,7 @@
 use Rattle.std.proofs.Common.{inl, inr, refl, sym, subst, ◌∙◌}
 use Rattle.std.proofs.lemmas.Bool.{false≢true}
-use Rattle.paseto_pem.specs.Rsa.{IsHeld, IsPublic, IsPublicFault, IsPublicOf}
+use Rattle.paseto_rsa.specs.Forms.{IsPublic}
+use Rattle.paseto_pem.specs.Rsa.{IsHeld, IsPublicFault, IsPublicOf}
 use Rattle.paseto_pem.proofs.KeyLaws.{refused-contents}
 use Rattle.paseto_pem.proofs.RsaLaws.{held-fault, held-one}
 use Rattle.paseto_pem.proofs.rsa.read_public.Goals as goal
@@ -20,8 +21,8 @@ returns-then-not-is_public_key c =
       found = tt;
       read = λ key p.
           let same = held-one c.args.label c.args.contents.now held key found p.held in
-          absurd (false≢true (c.if-not-is_public_key.ensures.1 (subst IsPublic (sym same) p.is_key)));
-      refused = inr (inr (held, found, (λ q. false≢true (c.if-not-is_public_key.ensures.1 q)), c.public_refusal.ensures));
+          absurd (false≢true (c.if-not-is_public_key.ensures.valid.1 (subst IsPublic (sym same) p.is_key)));
+      refused = inr (inr (held, found, (λ q. false≢true (c.if-not-is_public_key.ensures.valid.1 q)), c.public_refusal.ensures));
     }
 
 pub returns : goal.returns
@@ -32,7 +33,7 @@ returns c =
     record {
       found = record {
         held = subst (IsHeld c.args.label c.args.contents.now) (sym items) found;
-        is_key = subst IsPublic (sym items) (c.if-not-is_public_key.ensures.0 refl);
+        is_key = subst IsPublic (sym items) (c.if-not-is_public_key.ensures.valid.0 refl);
       };
       read = λ key p. items ∙ held-one c.args.label c.args.contents.now held key found p.held;
       refused = tt;

@@ -11,5 +11,5 @@ returns-in_err-key c =
 
 pub returns : goal.returns
 returns c =
-    let key = c.if-not-is_public_key.ensures.0 refl in
+    let key = c.if-not-is_public_key.ensures.valid.0 refl in
     (key, strip_prefix_is Decides-eqb c.args.info.now c.public_front.result (Some c.in_ok-key.key) c.in_ok-key.ensures.cases ∙ sym (c.public_front.ensures c.in_ok-key.key.now key.size))
