@@ -1,7 +1,8 @@
 /* Measures the library beside libsodium and OpenSSL, in turn in one process, the best of many rounds,
-   and first checks that both make the same bytes.
+   and first checks that both make the same bytes. It also counts how often each side asks for memory.
 
    bench [--quick] [NAME..]: those whose names begin with one of the words, else all. */
+#include <inttypes.h>
 #include <openssl/crypto.h>
 #include <sodium.h>
 #include <stdio.h>
@@ -11,6 +12,7 @@
 
 #include "paseto.h"
 #include "test_bench.h"
+#include "allocations.h"
 #include "peer.h"
 #include "peer_claims.h"
 
@@ -1197,6 +1199,17 @@ static void best_of_rounds(const struct subject *subject, double *ours, double *
     }
 }
 
+/* How often a repetition asks for memory: what a second one adds. */
+static uint64_t allocated(const struct subject *subject, bool is_ours)
+{
+    uint64_t before = allocations();
+    measure(subject, is_ours, 1);
+    uint64_t once = allocations() - before;
+    before = allocations();
+    measure(subject, is_ours, 2);
+    return allocations() - before - once;
+}
+
 static int rows(const struct subject *subject)
 {
     return subject->has_one_row ? 1 : SIZES;
@@ -1216,8 +1229,10 @@ static bool run(const struct subject *subject, double ratios[SIZES])
         printf("%-14s %6s %13.0f %13.0f %8.2f", subject->name, size_names[i], ours, peer, ratios[i]);
         if (sizes[i] >= 10000) {
             printf(" %9.1f %9.1f", (double)sizes[i] * 1e3 / ours, (double)sizes[i] * 1e3 / peer);
+        } else {
+            printf(" %9s %9s", "", "");
         }
-        printf("\n");
+        printf(" %6" PRIu64 " %6" PRIu64 "\n", allocated(subject, true), allocated(subject, false));
         fflush(stdout);
     }
     return true;
@@ -1279,9 +1294,10 @@ int main(int count, char **words)
     for (size_t i = 0; i < sizeof plain; i++) {
         plain[i] = (uint8_t)(' ' + i % 95);
     }
-    printf("peers: libsodium %s, %s\n\n", sodium_version_string(), OpenSSL_version(OPENSSL_VERSION));
-    printf("%-14s %6s %13s %13s %8s %9s %9s\n", "", "", "ours, ns", "peer, ns", "ratio", "MB/s",
-           "peer's");
+    printf("peers: libsodium %s, %s, jansson %s, cJSON %s\n\n", sodium_version_string(),
+           OpenSSL_version(OPENSSL_VERSION), peer_jansson_version(), peer_cjson_version());
+    printf("%-14s %6s %13s %13s %8s %9s %9s %6s %6s\n", "", "", "ours, ns", "peer, ns", "ratio", "MB/s", "peer's",
+           "allocs", "peer's");
     bool is_measured[SUBJECTS];
     static double ratios[SUBJECTS][SIZES];
     for (int s = 0; s < SUBJECTS; s++) {

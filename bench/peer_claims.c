@@ -195,3 +195,13 @@ size_t peer_cjson_read(const uint8_t *text, size_t length)
     cJSON_Delete(object);
     return members;
 }
+
+const char *peer_jansson_version(void)
+{
+    return jansson_version_str();
+}
+
+const char *peer_cjson_version(void)
+{
+    return cJSON_Version();
+}

@@ -26,4 +26,7 @@ peer_build peer_jansson_build, peer_cjson_build;
 peer_parse peer_jansson_parse, peer_cjson_parse;
 peer_json_read peer_jansson_read, peer_cjson_read;
 
+const char *peer_jansson_version(void);
+const char *peer_cjson_version(void);
+
 #endif

@@ -39,7 +39,7 @@ bash ../c/build.sh out/c --built
 
 kit=$(dirname "$(rt doc)")
 cc -O2 -std=c11 -D_POSIX_C_SOURCE=200809L -Wall -Wextra -Iout/c/include -o out/bench \
-    bench.c base64url.c peer_common.c peer_v2.c peer_v4.c peer_public.c peer_nist.c peer_p384.c peer_rsa.c \
+    bench.c allocations.c base64url.c peer_common.c peer_v2.c peer_v4.c peer_public.c peer_nist.c peer_p384.c peer_rsa.c \
     peer_claims.c peer_wrapping.c out/c/lib/libpaseto.a \
     ../crates/test_bench/out/libtest_bench.a "$kit/c/liblibc_c.a" "$kit/c/libos_c.a" \
     -lsodium -lcrypto -ljansson -lcjson

@@ -398,13 +398,19 @@ static void name_in_footer(const struct paseto_key *named) {
     footer.length = (size_t)sprintf((char *)footer.at, "{\"kid\":\"%.*s\"}", (int)n, id);
 }
 
+/* A new key of the version and the type, or, since RSA keys are not made here, the one that is at hand. */
+static struct paseto_key new_key(void) {
+    if (new_version == 1 && new_type == PASETO_KEY_PRIVATE) return key_of(1, PASETO_KEY_PRIVATE, RSA_PRIVATE);
+    return made_by(key_generate_with);
+}
+
 /* A ring of four keys, and a token that the third one reads. */
 static void set_ring(unsigned version, unsigned type) {
     reset();
     if (version <= 2) assertion.length = 0;
     new_version = (uint8_t)version;
     new_type = (uint8_t)type;
-    key = made_by(key_generate_with);
+    key = new_key();
     ring[0] = key_of(3, PASETO_KEY_LOCAL, K4);
     ring[1] = key;
     ring[2] = type == PASETO_KEY_PRIVATE ? made_by(key_public) : key;
@@ -466,9 +472,11 @@ static void ring_faults(void) {
         footer.length = 0;
         check(is_refused(admit_by, rows[i].status), "a ring refuses", rows[i].footer);
     }
-    set(&text, "v1.public.AAAA.AAAA");
     assertion.length = 0;
+    set(&text, "v5.public.AAAA.AAAA");
     REFUSES(admit_by, PASETO_WRONG_HEADER);
+    set(&text, "v1.public.AAAA");
+    REFUSES(admit_by, PASETO_NO_FOOTER);
     set(&text, "v4.local");
     REFUSES(admit_by, PASETO_INCORRECT_SIZE);
     set(&text, "v4.local.AAAA.*");
@@ -487,7 +495,7 @@ static void ring_faults(void) {
 static void rings(void) {
     for (unsigned version = 1; version <= 4; version++) {
         ask_ring(version, PASETO_KEY_LOCAL);
-        if (version > 1) ask_ring(version, PASETO_KEY_PRIVATE);
+        ask_ring(version, PASETO_KEY_PRIVATE);
     }
     ring_faults();
 }
