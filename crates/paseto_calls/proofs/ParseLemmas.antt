@@ -14,7 +14,7 @@ use Rattle.rusty_paseto_core.specs.Reading.{Reading}
 use Rattle.rusty_paseto_generic.specs.Error.Parser.{IsMemory, IsRefusal}
 use Rattle.rusty_paseto_generic.specs.Parsers.Held.{default_date, checked, rules_of, verdicts_of, with_times}
 use Rattle.rusty_paseto_generic.specs.Parsers.Parsing.{IsAnswerWithin, IsCheckFault, IsFirstFault, IsParseAnswer, IsParsed, IsTextFault, IsValueOf}
-use Rattle.rusty_paseto_generic.specs.Parsers.Rules.{AreSame, IsStored, Rule, Rules, edited, fault_in, no_rule, whole_answer, with_both, with_required, with_stored}
+use Rattle.rusty_paseto_generic.specs.Parsers.Rules.{AreSame, Rule, Rules, edited, fault_in, no_rule, whole_answer, with_both, with_required, with_stored}
 use Rattle.rusty_paseto_generic.specs.Parsers.Verdicts.{IsFirstFailing, PassesAll}
 use Rattle.rusty_paseto_generic.specs.Parsers.Times.{expiry, not_before, time_fault, times_at}
 use Rattle.rusty_paseto_generic.specs.Validator.{Verdict}
@@ -29,25 +29,6 @@ use Rattle.paseto_calls.specs.Refusal.{fault_refusal, parser_refusal}
 use Rattle.paseto_calls.specs.declared.refusal.Refusal.TheVariants.{Memory, Unexpected}
 
 -- ---- a member that is expected
-
-or_false : (b : Bool) → (b || false) ≡ b
-or_false true = refl
-or_false false = refl
-
-whole_member : (key : List ℕ) (value : Data) → is_whole (one_member key value) ≡ is_whole value
-whole_member key value = rw (or_false (has_float value)) refl
-
-given_whole : (whole : Bool) (key : List ℕ) (value other : Data) → (if whole then gives value else refuses (unexpected key)) ≡ gives other
-    → (whole ≡ true) × (value ≡ other)
-given_whole true key value other is = (refl, cc)
-given_whole false key value other is = absurd (let e : refuses (unexpected key) ≡ gives other = is in cc)
-
--- what is stored of a member
-pub stored_member : {J : Type 0} (key : List ℕ) (value : Data) (old new : Rules J) → IsStored key (gives (one_member key value)) with_stored old new
-    → (is_whole value ≡ true) × AreSame new (edited key (with_stored (one_member key value)) old)
-stored_member key value old new stored =
-    let both = given_whole (is_whole (one_member key value)) key (one_member key value) stored.value stored.given in
-    (sym (whole_member key value) ∙ both.0, rw (← both.1) at stored.rules)
 
 -- the first member that is odd is among the rest where this one is whole
 pub odd_later : (key : List ℕ) (value : Data) (more : Members) → is_whole value ≡ true → first_odd (member key value more) ≡ first_odd more
@@ -72,12 +53,12 @@ odd_here key value more odd = rw odd refl
 
 -- a member that is refused is one that is not whole
 pub member_refuses : (error : GenericParserError) (key : List ℕ) (value : Data) (more all : Members)
-    → first_odd all ≡ first_odd (member key value more) → IsRefusal (fault_in (whole_answer key (gives (one_member key value)))) error
+    → first_odd all ≡ first_odd (member key value more) → IsRefusal (fault_in (whole_answer key (gives value))) error
     → (parser_refusal error ≡ Memory) ⊎ IsMemberFault all (parser_refusal error)
 member_refuses (Parser.Memory source) key value more all same is = inl refl
 member_refuses (Parser.ClaimError source) key value more all same is =
-    let both = refused_member (is_whole (one_member key value)) (fault_of source) key (one_member key value) is in
-    let odd = odd_here key value more (sym (whole_member key value) ∙ both.0) in
+    let both = refused_member (is_whole value) (fault_of source) key value is in
+    let odd = odd_here key value more both.0 in
     inr (rw (same, odd) refl, both.1)
 member_refuses error key value more all same is = absurd is
 

@@ -16,7 +16,7 @@ ghost use Rattle.rusty_paseto_parts.specs.declared.error.PasetoError.TheVariants
 
 use crate::admit::options::{AdmitOptions, limit_of};
 use crate::arguments::{Texts, str_of};
-use crate::claims::{MemberClaim, names_of, object_of};
+use crate::claims::{names_of, object_of};
 use crate::fault::Fault;
 use crate::held_key::HeldKey;
 use crate::refusal::Refusal;
@@ -67,11 +67,7 @@ fn expect_members(parser: &mut ClaimsParser<'_>, members: Map<String, Value>) ->
         ⊎ IsMemberFault (members_view members.entries) refusal) }
 {
     for (key, value) in members {
-        let claim = MemberClaim {
-            key: key.as_str(),
-            value: &value,
-        };
-        parser.put_check(&claim)?;
+        parser.put_expected(key, value)?;
     }
     Ok(())
 }

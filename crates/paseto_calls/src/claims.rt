@@ -5,37 +5,12 @@ ghost use Rattle.serde_json.specs.Data.{array, object};
 ghost use Rattle.serde_json.specs.Find.{as_object};
 ghost use Rattle.serde_json.specs.Read.{read};
 ghost use Rattle.serde_json.specs.View.{items_view, members_view, view};
-ghost use Rattle.rusty_paseto_claims.specs.Claim.{gives, one_member};
 ghost use Rattle.paseto_calls.specs.Claims.{IsNoObject};
 ghost use Rattle.paseto_calls.specs.Parse.{IsNoArray, read_names};
 
 use crate::refusal::Refusal;
-use rusty_paseto_claims::{PasetoClaim, PasetoClaimError};
 use serde_json::{Map, Value};
 use std::alloc::Global;
-
-/// A member of a JSON object as a claim, whatever its key is.
-#[derive(Drop)]
-pub struct MemberClaim<'a> {
-    pub key: &'a str,
-    pub value: &'a Value,
-}
-
-impl PasetoClaim for MemberClaim<'_> {
-    ghost key = { λ claim. claim.key.now };
-
-    ghost json = { λ claim. gives (one_member claim.key.now (view claim.value.now)) };
-
-    fn get_key(&self) -> &str {
-        self.key
-    }
-
-    fn to_json(&self, alloc: Global) -> Result<Value, PasetoClaimError> {
-        let mut members = Map::new(alloc);
-        serde_json::put(&mut members, alloc, self.key, self.value.clone()?)?;
-        Ok(Value::Object(members))
-    }
-}
 
 /// The members of the object that a text is, or `NotObject`.
 pub(crate) fn object_of(alloc: Global, text: &str) -> Result<Map<String, Value>, Refusal>

@@ -24,17 +24,17 @@ pub none_from_test : {A : Type 0} (found : Option A) → is_some found ≡ false
 none_from_test None h = refl
 none_from_test (Some x) h = cc h
 
-changed_at : {B : Type 0} (same : Bool) (bs key : List ℕ) (m : BTreeMap (String Global) (Check B)) (old new : Check B)
-    (change : Rule (Checker B) → Rule (Checker B)) → bytes_eq bs key ≡ same → get_by_text m bs ≡ Some old
-    → rule_of bs new ≡ change (rule_of bs old)
+changed_at : {B : Type 0} (same : Bool) (bs key : List ℕ) (m : BTreeMap (String Global) (Check B)) (old : Option (Check B)) (new : Check B)
+    (change : Rule (Checker B) → Rule (Checker B)) → bytes_eq bs key ≡ same → get_by_text m bs ≡ old
+    → rule_of bs new ≡ change (option_map_or (rule_of bs) old no_rule)
     → option_map_or (rule_of key) (cond same (Some new) (get_by_text m key)) no_rule ≡ cond same (change (rule_at m key)) (rule_at m key)
 changed_at true bs key m old new change is found made = rw (← (bytes_eq-Decides bs key).0 is, found) made
 changed_at false bs key m old new change is found made = refl
 
--- an entry that was there is changed
-pub changed : {B : Type 0} (bs : List ℕ) (m n : BTreeMap (String Global) (Check B)) (old new : Check B)
-    (change : Rule (Checker B) → Rule (Checker B)) → Puts bs m n new → get_by_text m bs ≡ Some old
-    → rule_of bs new ≡ change (rule_of bs old) → (key : List ℕ) → rule_at n key ≡ edited bs change (rule_at m) key
+-- an entry is put in the place of one that was there, or of none
+pub changed : {B : Type 0} (bs : List ℕ) (m n : BTreeMap (String Global) (Check B)) (old : Option (Check B)) (new : Check B)
+    (change : Rule (Checker B) → Rule (Checker B)) → Puts bs m n new → get_by_text m bs ≡ old
+    → rule_of bs new ≡ change (option_map_or (rule_of bs) old no_rule) → (key : List ℕ) → rule_at n key ≡ edited bs change (rule_at m) key
 changed bs m n old new change puts found made key =
     rw (btree_map_updates_text bs m n (Some new) puts key) (changed_at (bytes_eq bs key) bs key m old new change refl found made)
 

@@ -1,10 +1,10 @@
 //! What a parser checks under each key.
 
-ghost use Rattle.std.specs.Prelude.{◌≡◌, ℕ, List, None, IfOk, IfErr, OnOk, OnErr, IsSome, string_bytes};
+ghost use Rattle.std.specs.Prelude.{◌≡◌, ℕ, List, None, true, IfOk, IfErr, OnOk, OnErr, IsSome, string_bytes};
 ghost use Rattle.std.specs.BTreeMap.{get_by_text};
 ghost use Rattle.serde_json.specs.View.{view, members_view};
-ghost use Rattle.rusty_paseto_claims.specs.Claim.{IsRefusal, gives};
-ghost use Rattle.rusty_paseto_claims.specs.Whole.{first_odd};
+ghost use Rattle.rusty_paseto_claims.specs.Claim.{IsRefusal, gives, one_member};
+ghost use Rattle.rusty_paseto_claims.specs.Whole.{first_odd, is_whole};
 ghost use Rattle.rusty_paseto_generic.specs.Error.Parser.{IsMemory, IsRefusal as IsParserRefusal};
 ghost use Rattle.rusty_paseto_generic.specs.Parsers.Rules.{AreSame, IsStored, all_with_checkers, all_stored, edited, fault_in, no_rule, odd_fault, whole_answer, with_both, with_checker, with_required, with_stored};
 ghost use Rattle.rusty_paseto_generic.specs.Parsers.Held.{HasEach, HasMore, checkers_of, rules_of, stored_json, with_times};
@@ -117,6 +117,34 @@ impl<B: Drop> Checks<B> {
         Ok(())
     }
 
+    /// Stores a value under a key, as `store` does for the claim of this key and value, and copies neither.
+    ///
+    /// `ClaimError` of `Unexpected` with the key is returned for a value that contains a number that is not a 64-bit
+    /// integer. The checks are then unchanged.
+    pub(crate) fn store_expected(
+        &mut self,
+        key: String,
+        value: Value,
+    ) -> Result<(), GenericParserError>
+        ensures ok { OnOk result (AreSame (rules_of self.new) (edited (string_bytes key)
+            (with_stored (one_member (string_bytes key) (view value))) (rules_of self.old))) }
+        ensures whole { OnOk result (is_whole (view value) ≡ true) }
+        ensures err { OnErr result (AreSame (rules_of self.new) (rules_of self.old)) }
+        ensures fault { IfErr result (IsParserRefusal
+            (fault_in (whole_answer (string_bytes key) (gives (view value))))) }
+    {
+        if !is_whole(&value) {
+            return Err(GenericParserError::from(PasetoClaimError::Unexpected(key)));
+        }
+        let stored = Stored::Entry(value);
+        if self.entries.contains_key(key.as_str()) {
+            self.set_stored(key.as_str(), stored);
+            return Ok(());
+        }
+        self.store_new(key, stored)?;
+        Ok(())
+    }
+
     /// Stores what is to check each of the keys from now on, and keeps the keys' stored values. It fails only if an
     /// allocation fails, and the checks are then unchanged.
     pub(crate) fn store_validators(&mut self, more: BTreeMap<String, B>) -> Result<(), AllocError>
@@ -205,6 +233,22 @@ impl<B: Drop> Checks<B> {
             checker: None,
         };
         drop(self.entries.insert(key, nothing)?);
+        Ok(())
+    }
+
+    // Stores a value under a key that has no entry.
+    fn store_new(&mut self, key: String, stored: Stored) -> Result<(), AllocError>
+        requires { get_by_text self.old.entries (string_bytes key) ≡ None }
+        ensures ok { OnOk result (AreSame (rules_of self.new) (edited (string_bytes key)
+            (with_stored (stored_json (string_bytes key) stored)) (rules_of self.old))) }
+        ensures err { OnErr result (AreSame (rules_of self.new) (rules_of self.old)) }
+    {
+        let check = Check {
+            required: false,
+            stored: Some(stored),
+            checker: None,
+        };
+        drop(self.entries.insert(key, check)?);
         Ok(())
     }
 

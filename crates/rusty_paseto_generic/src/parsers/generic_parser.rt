@@ -1,8 +1,9 @@
 //! The parser of tokens of every version and purpose.
 
-ghost use Rattle.std.specs.Prelude.{◌≡◌, ℕ, List, length, if◌then◌else◌, true, false, None, Some, IfOk, IfErr, OnOk, OnErr};
+ghost use Rattle.std.specs.Prelude.{◌≡◌, ℕ, List, length, if◌then◌else◌, true, false, None, Some, IfOk, IfErr, OnOk, OnErr, string_bytes};
 ghost use Rattle.serde_json.specs.View.{members_view, view};
-ghost use Rattle.rusty_paseto_claims.specs.Whole.{first_odd};
+ghost use Rattle.rusty_paseto_claims.specs.Claim.{gives, one_member};
+ghost use Rattle.rusty_paseto_claims.specs.Whole.{first_odd, is_whole};
 ghost use Rattle.rusty_paseto_core.specs.Context.{assertion_of, binding_of, footer_of};
 ghost use Rattle.rusty_paseto_core.specs.Footer.{footer_text};
 ghost use Rattle.rusty_paseto_core.specs.ImplicitAssertion.{assertion_text};
@@ -189,6 +190,25 @@ impl<'a, V: VersionTrait, P: PurposeTrait, B: Drop> TokenParser<'a, V, P, B> {
         ensures { result ≡ self.now.longest }
     {
         self.longest
+    }
+
+    /// Stores a value under a key, as `put_check` does for the claim of this key and value, and copies neither.
+    ///
+    /// `ClaimError` of `Unexpected` with the key is returned for a value that contains a number that is not a 64-bit
+    /// integer, and `Memory` if an allocation fails. The parser is then unchanged.
+    pub fn put_expected(&mut self, key: String, value: Value) -> Result<(), GenericParserError>
+        ensures ok { OnOk result (AreSame (rules_of self.new.checks) (edited (string_bytes key)
+            (with_stored (one_member (string_bytes key) (view value))) (rules_of self.old.checks))) }
+        ensures whole { OnOk result (is_whole (view value) ≡ true) }
+        ensures moment { self.new.moment ≡ self.old.moment }
+        ensures rest { (self.new.footer ≡ self.old.footer)
+            × (self.new.implicit_assertion ≡ self.old.implicit_assertion)
+            × (self.new.leeway ≡ self.old.leeway) × (self.new.longest ≡ self.old.longest) }
+        ensures err { OnErr result (AreSame (rules_of self.new.checks) (rules_of self.old.checks)) }
+        ensures fault { IfErr result (IsRefusal
+            (fault_in (whole_answer (string_bytes key) (gives (view value))))) }
+    {
+        self.checks.store_expected(key, value)
     }
 
     // When the times are checked.

@@ -12,6 +12,6 @@ returns-in-Some g c =
     let puts : Puts c.args.key.now old new check =
     written c.args.key.now old new c.in-Some.check.now check (c.get_mut.follows.holds check) c.in-Some.ensures.value in
     record {
-      rules = changed c.args.key.now old new c.in-Some.check.now check (with_checker c.args.checker) puts (sym c.in-Some.ensures.value) refl;
+      rules = changed c.args.key.now old new (Some c.in-Some.check.now) check (with_checker c.args.checker) puts (sym c.in-Some.ensures.value) refl;
       kept = kept c.args.key.now old new check puts;
     }
