@@ -46,6 +46,7 @@ impl Snapshot for GenericParser<'_, V4, Local> {
 /// Asks them.
 pub fn ask(run: &mut Run<'_>) -> Result<()> {
     ask_checks(run)?;
+    ask_expected(run)?;
     ask_maps(run)?;
     ask_value(run)?;
     ask_kinds::<Kinds>(run)?;
@@ -94,6 +95,24 @@ fn ask_checks(run: &mut Run<'_>) -> Result<()> {
         "put_validator of a claim", given = Box::new(alloc, Refuses)? => parser.put_validator(&own, given);
         "validate_claim of a claim", given = Box::new(alloc, Refuses)?
             => parser.validate_claim(&own, given).map(drop);
+    }
+}
+
+// An entry of an audience.
+fn audience(alloc: Global, json: &str) -> Result<(String, Value)> {
+    Ok((
+        String::from_str(alloc, "aud")?,
+        Value::from_str(alloc, json)?,
+    ))
+}
+
+fn ask_expected(run: &mut Run<'_>) -> Result<()> {
+    let alloc = run.alloc;
+    edits! { run, "TokenParser::", parser = parser_of::<V4, Local>(alloc);
+        "put_expected of a value", entry = audience(alloc, "\"others\"")?
+            => parser.put_expected(entry.0, entry.1);
+        "put_expected of a fraction, refused", entry = audience(alloc, "3.5")?
+            => parser.put_expected(entry.0, entry.1);
     }
 }
 

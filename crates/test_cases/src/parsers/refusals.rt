@@ -56,6 +56,8 @@ fn other_numbers(rt: HostRuntime) {
         Step::Checker("n", odd, Rule::Tells),
     );
     expect_unexpected(&rt, alloc, validated, "n");
+    let expected = add(&rt, &mut parser, alloc, Step::Expected("n", odd));
+    expect_unexpected(&rt, alloc, expected, "n");
     expect_parsed(&rt, alloc, &parser, "{\"n\":4}");
 }
 

@@ -119,6 +119,16 @@ const ROWS: &[Row] = &[
         steps: &[Step::Check("a", "5")],
         told: NOT_CONVERTED_A,
     },
+    Row {
+        payload: "{\"a\":4}",
+        steps: &[Step::Expected("a", "5")],
+        told: NOT_CONVERTED_A,
+    },
+    Row {
+        payload: "{\"a\":4}",
+        steps: &[Step::Check("a", "5"), Step::Expected("a", "4")],
+        told: "{\"a\":4}",
+    },
     // Values are compared as trees.
     Row {
         payload: "{\"o\":{\"b\":1,\"a\":2}}",

@@ -36,6 +36,8 @@ pub(crate) enum Step<'a> {
     Audience(&'a str),
     /// A claim of a key and JSON is checked.
     Check(&'a str, &'a str),
+    /// JSON is expected under a key, without a claim.
+    Expected(&'a str, &'a str),
     /// A key and JSON are stored as they are.
     Store(&'a str, &'a str),
     /// A claim of a key and JSON is checked by a validator.
@@ -87,6 +89,17 @@ fn put_check<V: VersionTrait, P: PurposeTrait, C: PasetoClaim + Drop>(
     parser.put_check(&claim)
 }
 
+fn put_expected<V: VersionTrait, P: PurposeTrait>(
+    rt: &impl Abort,
+    parser: &mut GenericParser<'_, V, P>,
+    alloc: Global,
+    key: &str,
+    json: &str,
+) -> Result<(), GenericParserError> {
+    let key = String::from_str(alloc, key).expect(rt, "memory");
+    parser.put_expected(key, value_of(rt, alloc, json))
+}
+
 fn put_validator<V: VersionTrait, P: PurposeTrait>(
     parser: &mut GenericParser<'_, V, P>,
     claim: CustomClaim<Value>,
@@ -105,6 +118,7 @@ pub(crate) fn add<V: VersionTrait, P: PurposeTrait>(
     match step {
         Step::Audience(text) => put_check(parser, AudienceClaim::from(text)),
         Step::Check(key, json) => put_check(parser, custom(rt, alloc, key, json)),
+        Step::Expected(key, json) => put_expected(rt, parser, alloc, key, json),
         Step::Store(key, json) => {
             let value = value_of(rt, alloc, json);
             parser.put_checks(map_of(rt, alloc, key, value))
