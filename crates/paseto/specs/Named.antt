@@ -1,9 +1,10 @@
 -- Keys by their ids.
-use Rattle.std.specs.Prelude.{◌≡◌, ◌⊎◌, ⊤, ℕ, Bool, false, List, [], ◌∷◌, MatchBool, Ok, Some, IsUtf8, String, string_bytes}
+use Rattle.std.specs.Prelude.{◌≡◌, ◌⊎◌, ⊤, ℕ, Bool, false, List, [], ◌∷◌, MatchBool, Err, Ok, Some, IsUtf8, String, string_bytes}
 use Rattle.std.specs.Global.{Global}
 use Rattle.rusty_paseto.specs.KeyRing.{HasFooter, IsMemory, IsNamingFault, IsUntrustedFault, Names}
 use Rattle.rusty_paseto.specs.declared.error.KeyRingError.{KeyRingError}
 use Rattle.rusty_paseto.specs.declared.error.KeyRingError.TheVariants.{UnknownKey}
+use Rattle.rusty_paseto_paserk.specs.declared.error.PaserkError.{PaserkError}
 use Rattle.paseto_keys.specs.AnyKey.{KeyParts, parts_of}
 use Rattle.paseto_keys.specs.Id.{Identifies}
 use Rattle.paseto_keys.specs.PublicHalf.{GivesHalf}
@@ -19,6 +20,11 @@ IsIdOf key id = (text : String Global) × (string_bytes text ≡ id) × Identifi
 -- the id is that of the public half of the key
 abbrev pub IsIdOfHalf : KeyParts → List ℕ → Type 0
 IsIdOfHalf key id = (half : AnyKey) × GivesHalf key (Ok half) × IsIdOf (parts_of half) id
+
+-- the key has no public half, or its half no id, for this reason
+abbrev pub IsWithoutHalfId : KeyParts → PaserkError → Type 0
+IsWithoutHalfId key error = GivesHalf key (Err error)
+    ⊎ ((half : AnyKey) × GivesHalf key (Ok half) × Identifies (parts_of half) (Err error))
 
 -- none of the keys has the id
 abbrev pub AreWithout : List ℕ → List AnyKey → Type 0

@@ -4,7 +4,7 @@ ghost use Rattle.std.specs.Prelude.{◌≡◌, ℕ, List, IfErr, IfOk, MatchBool
 ghost use Rattle.rusty_paseto.specs.KeyRing.{IsMemory};
 ghost use Rattle.rusty_paseto_paserk.specs.Error.{IsMemory as IsNoIdMemory};
 ghost use Rattle.paseto_keys.specs.AnyKey.{parts_of};
-ghost use Rattle.paseto.specs.Named.{AreWithout, IsFirstWith, IsIdOf, IsIdOfHalf, IsNoUnknown, IsUnknown, NamesNone, NamesUnknown, SaysUnknown, TokenNames};
+ghost use Rattle.paseto.specs.Named.{AreWithout, IsFirstWith, IsIdOf, IsIdOfHalf, IsNoUnknown, IsUnknown, IsWithoutHalfId, NamesNone, NamesUnknown, SaysUnknown, TokenNames};
 
 use paseto_keys::AnyKey;
 use rusty_paseto::{KeyRingError, footer_of, key_id};
@@ -108,7 +108,8 @@ fn without_id(error: PaserkError) -> Result<bool, AllocError>
 
 /// The id of the public half of a private key.
 pub fn public_id(alloc: Global, key: &AnyKey) -> Result<String, PaserkError>
-    ensures { IfOk result (λ id. IsIdOfHalf (parts_of key.now) (string_bytes id)) }
+    ensures id { IfOk result (λ id. IsIdOfHalf (parts_of key.now) (string_bytes id)) }
+    ensures fault { IfErr result (IsWithoutHalfId (parts_of key.now)) }
 {
     let half = key.public_half(alloc)?;
     half.id(alloc)
