@@ -16,3 +16,4 @@ pub mod Progress
 pub mod Passes
 pub mod Faults
 pub mod NamedKeys
+pub mod SecondLine

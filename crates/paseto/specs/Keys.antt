@@ -1,11 +1,18 @@
 -- What is said of a key that the arguments name.
-use Rattle.std.specs.Prelude.{◌≡◌, ◌≢◌, ◌⊎◌, ◌++◌, ℕ, List, Option, None, Some, Result, String, codes, option_map, string_bytes}
+use Rattle.std.specs.Prelude.{◌≡◌, ◌≢◌, ◌==◌, ◌⊎◌, ◌++◌, ℕ, true, List, Option, None, Some, Result, String, codes, option_map, string_bytes}
 use Rattle.std.specs.Global.{Global}
+use Rattle.std.specs.List.{list_any}
 use Rattle.paseto_key_files.specs.Held.{GivesLine}
 use Rattle.paseto_key_files.specs.Opening.{Unlocks, UnlocksNone}
 use Rattle.paseto_key_files.specs.declared.error.KeyFileError.{KeyFileError}
 use Rattle.paseto_key_files.specs.declared.error.KeyFileError.TheVariants.{OtherOpener, Wrap}
 use Rattle.paseto_wrapping.specs.declared.error.WrapError.TheVariants.{InvalidPoint, InvalidPrivateKey, SmallOrder}
+use Rattle.rusty_paseto_paserk.specs.Header.{HasHeader}
+use Rattle.rusty_paseto_paserk.specs.declared.header.PaserkType.{PaserkType}
+use Rattle.rusty_paseto_paserk.specs.declared.header.PaserkVersion.{PaserkVersion}
+use Rattle.paseto_wrapping.specs.Header as locked
+use Rattle.paseto_wrapping.specs.declared.header.WrappedType.{WrappedType}
+use Rattle.paseto_pem.specs.Text.{HoldsPem}
 use Rattle.paseto_keys.specs.Line.{IsLineFault}
 use Rattle.paseto_tasks.specs.declared.error.ProgramError.{ProgramError}
 use Rattle.paseto_tasks.specs.declared.error.ProgramError.TheVariants.{File}
@@ -62,15 +69,28 @@ IsNoKeyLine name line = IsKeyFault name (IsLineFault line)
 
 -- ---- texts
 
--- the line is the one that a text holds, opened with what is held
-abbrev pub Holds : Held → List ℕ → List ℕ → Type 0
-Holds held text line =
+-- a text begins like a key in PASERK, bare or locked
+abbrev pub IsLikePaserk : List ℕ → Type 0
+IsLikePaserk text = ((version : PaserkVersion) × (kind : PaserkType) × HasHeader version kind text)
+    ⊎ ((version : PaserkVersion) × (kind : WrappedType) × locked.HasHeader version kind text)
+
+-- more stands behind a key in PASERK: in its line, or PEM in the text that holds it
+abbrev pub HasSecondLine : List ℕ → List ℕ → Type 0
+HasSecondLine text line = (list_any (λ byte. byte == 10) line ≡ true) ⊎ (HoldsPem text × IsLikePaserk text)
+
+-- the line is the one of a text that is opened with what is held
+abbrev pub Opens : Held → List ℕ → List ℕ → Type 0
+Opens held text line =
     (openers : Openers) × (rest : List ℕ) × AreOpeners held openers × IsWithoutReturn text rest × Unlocks openers rest line
+
+-- the line is the one that a text holds, with nothing behind it
+abbrev pub Holds : Held → List ℕ → List ℕ → Type 0
+Holds held text line = Opens held text line × ¬ HasSecondLine text line
 
 -- why a text of this name is not opened: what it holds has a second line, or there is nothing
 abbrev pub HoldsNone : Held → List ℕ → List ℕ → Fault → Type 0
 HoldsNone held name text fault =
-    ((fault.about.now ≡ name) × (fault.error ≡ File SecondLine))
+    ((line : List ℕ) × Opens held text line × HasSecondLine text line × (fault.about.now ≡ name) × (fault.error ≡ File SecondLine))
     ⊎ ((openers : Openers) × (rest : List ℕ) × (source : KeyFileError) × AreOpeners held openers × IsWithoutReturn text rest
     × UnlocksNone openers rest source × (fault.about.now ≡ about_of source held.key_name.now name) × (fault.error ≡ key_file_error_of source))
 

@@ -1,11 +1,11 @@
 //! The keys that the arguments name: in a file, on standard input or in the environment, opened if
 //! they are locked.
 
-ghost use Rattle.std.specs.Prelude.{◌≡◌, ℕ, List, [], None, IfErr, IfOk, option_map, string_bytes};
+ghost use Rattle.std.specs.Prelude.{◌≡◌, ℕ, List, [], MatchBool, None, IfErr, IfOk, option_map, string_bytes};
 ghost use Rattle.paseto_keys.specs.AnyKey.{parts_of};
 ghost use Rattle.paseto_keys.specs.Line.{IsLineOf};
 ghost use Rattle.paseto_tasks.specs.Error.{key_file_error_of};
-ghost use Rattle.paseto.specs.Keys.{AreOpeners, Holds, HoldsNoKey, HoldsNone, IsNoKeyLine, IsWithoutReturn, OpensHeld, about_of, key_name};
+ghost use Rattle.paseto.specs.Keys.{AreOpeners, HasSecondLine, Holds, HoldsNoKey, HoldsNone, IsLikePaserk, IsNoKeyLine, IsWithoutReturn, OpensHeld, about_of, key_name};
 
 use crate::fault::Fault;
 use crate::files::{name_of, once, opened};
@@ -158,13 +158,24 @@ pub fn key_file_fault<'a>(opener: &'a str, name: &'a str, error: KeyFileError) -
 }
 
 /// Whether more stands behind a key in PASERK: in its line, or PEM in the text of its file.
-fn has_second_line(text: &str, line: &str) -> bool {
-    line.contains('\n') || (holds_pem(text) && is_paserk(text))
+fn has_second_line(text: &str, line: &str) -> bool
+    ensures { MatchBool result (HasSecondLine text.now line.now)
+        (¬ HasSecondLine text.now line.now) }
+{
+    if line.as_bytes().contains(&b'\n') {
+        return true;
+    }
+    holds_pem(text) && is_paserk(text)
 }
 
 /// Whether a text begins like a key in PASERK, bare or locked.
-fn is_paserk(text: &str) -> bool {
-    header_of(text).is_some() || wrapped_header_of(text).is_some()
+fn is_paserk(text: &str) -> bool
+    ensures { MatchBool result (IsLikePaserk text.now) (¬ IsLikePaserk text.now) }
+{
+    if header_of(text).is_some() {
+        return true;
+    }
+    wrapped_header_of(text).is_some()
 }
 
 /// The name of a key in lines on standard error.
