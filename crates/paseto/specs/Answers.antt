@@ -16,8 +16,13 @@ use Rattle.paseto_keys.specs.declared.ring_error.RingError.TheVariants.{Memory a
 use Rattle.paseto_tasks.specs.declared.error.ProgramError.{ProgramError}
 use Rattle.paseto_tasks.specs.declared.error.ProgramError.TheVariants.{System, Token}
 use Rattle.paseto_tasks.specs.declared.error.system.SystemError.TheVariants.{Memory}
-use Rattle.paseto_tasks.specs.declared.error.token.TokenError.TheVariants.{NotJson, OddNumber, OtherFooter}
-use Rattle.paseto_tasks.specs.Error.{IsFixed, Says, token_error_of, use_error_of}
+use Rattle.paseto_tasks.specs.declared.error.token.TokenError.TheVariants.{NotJson, OddNumber, OtherFooter, Unfit}
+use Rattle.paseto_tasks.specs.Error.{IsFixed, IsMemory, Says, token_error_of, use_error_of}
+
+-- the error is a line of its own, or that memory was refused
+abbrev pub IsToldLine : ProgramError → Type 0
+IsToldLine (Token (Unfit _)) = ⊤
+IsToldLine error = IsMemory error
 
 -- ---- lengths of time
 

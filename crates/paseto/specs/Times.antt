@@ -1,5 +1,5 @@
 -- Moments and lengths of time, as words say them.
-use Rattle.std.specs.Prelude.{◌≡◌, ◌⊎◌, ◌<◌, ◌*◌, ◌^◌, ◌==◌, ◌+ℤ◌, ◌-ℤ◌, ℕ, pos, List, [], ◌∷◌, ◌++◌, if◌then◌else◌, Option, None, Some, MatchResult}
+use Rattle.std.specs.Prelude.{◌≡◌, ◌⊎◌, ⊤, false, int_le, ◌<◌, ◌*◌, ◌^◌, ◌==◌, ◌+ℤ◌, ◌-ℤ◌, ℕ, pos, List, [], ◌∷◌, ◌++◌, if◌then◌else◌, Option, None, Some, MatchResult}
 use Rattle.std.specs.Str.Parse.{IsNumeral, digits_value, without_leading_plus}
 use Rattle.jiff.specs.Types.{Timestamp}
 use Rattle.jiff.specs.Words.{IsTimestampNanos, parse_timestamp}
@@ -70,6 +70,12 @@ abbrev pub SaysTime : Option (List ℕ) → Timestamp → Option Timestamp → T
 SaysTime None now moment = moment ≡ None
 SaysTime (Some word) now None = ⊥
 SaysTime (Some word) now (Some moment) = SaysMoment word now moment
+
+-- no word says that a token has ended: there is none, or it says no moment, or one to come
+abbrev pub IsOpenEnd : Option (List ℕ) → Timestamp → Type 0
+IsOpenEnd None now = ⊤
+IsOpenEnd (Some word) now = SaysNone word now
+    ⊎ ((moment : Timestamp) × SaysMoment word now moment × (int_le moment.nanosecond now.nanosecond ≡ false))
 
 -- the moment is a second before the present one, where that is one
 abbrev pub IsSecondBefore : Timestamp → Option Timestamp → Type 0

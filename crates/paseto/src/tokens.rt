@@ -1,13 +1,13 @@
 //! The commands `issue` and `check`.
 
-ghost use Rattle.std.specs.Prelude.{◌≡◌, ◌*ℤ◌, IfErr, IfOk, IsErr, IsTrue, Ok, Some, int_le, option_map, pos, true};
+ghost use Rattle.std.specs.Prelude.{◌≡◌, ◌*ℤ◌, IfErr, IfOk, IsErr, IsTrue, Ok, Some, false, int_le, option_map, pos, true};
 ghost use Rattle.jiff.specs.Words.{IsTimestampNanos};
 ghost use Rattle.jiff.specs.Types.{Timestamp as Moment};
 ghost use Rattle.paseto.specs.Answers.{second_of};
 ghost use Rattle.paseto.specs.Issue.{IsSignedBy};
 ghost use Rattle.paseto.specs.Named.{AsksUnknown};
-ghost use Rattle.paseto.specs.Times.{SaysTime};
-ghost use Rattle.paseto_tasks.specs.Error.{IsOutside};
+ghost use Rattle.paseto.specs.Times.{IsOpenEnd, SaysTime};
+ghost use Rattle.paseto_tasks.specs.Error.{IsMemory, IsOutside};
 
 use crate::commands::check::Keys;
 use crate::commands::run::{run_check, run_each, run_issue};
@@ -126,9 +126,10 @@ fn warn_of_end(rt: &HostRuntime, word: Option<&str>, now: Timestamp) -> Result<(
 
 /// Whether an option says a moment that has passed.
 fn has_ended(word: Option<&str>, now: Timestamp) -> bool
-    ensures { IsTrue result → (moment : Moment)
+    ensures ended { IsTrue result → (moment : Moment)
         × SaysTime (option_map (λ text. text.now) word.entry) now (Some moment)
         × (int_le moment.nanosecond now.nanosecond ≡ true) }
+    ensures open { result ≡ false → IsOpenEnd (option_map (λ text. text.now) word.entry) now }
 {
     let Some(word) = word else {
         return false;
@@ -237,7 +238,8 @@ fn keys_of<'a>(
 
 /// Whether the footer of a token names a key that is not in the ring. One key needs no name.
 fn asks_unknown(alloc: Global, keys: &Keys, input: &[u8]) -> Result<bool, ProgramError>
-    ensures { IfOk result (AsksUnknown keys.now input.now) }
+    ensures asks { IfOk result (AsksUnknown keys.now input.now) }
+    ensures fault { IfErr result IsMemory }
 {
     match keys {
         Keys::One(_) => Ok(false),

@@ -5,7 +5,7 @@ ghost use Rattle.serde_json.specs.View.{view};
 ghost use Rattle.rusty_paseto_generic.specs.Error.{IsMemory as IsMemoryOfBuilder};
 ghost use Rattle.rusty_paseto_generic.specs.Error.Parser.{IsMemory};
 ghost use Rattle.paseto_tasks.specs.Error.{BlamesNone, Fails, IsNoUsage, IsOutside, IsPlain, Says, nothing};
-ghost use Rattle.paseto.specs.Answers.{IsNoMemoryOfRing, SaysOfBuilder, SaysOfRing, admitted, one_line, parser_error_of, repeated_text, shown_letter, text_error_of, unknown_text};
+ghost use Rattle.paseto.specs.Answers.{IsNoMemoryOfRing, IsToldLine, SaysOfBuilder, SaysOfRing, admitted, one_line, parser_error_of, repeated_text, shown_letter, text_error_of, unknown_text};
 ghost use Rattle.paseto.specs.ClaimLine.{SaysOfCheck};
 ghost use Rattle.paseto.specs.Claims.{all_named};
 ghost use Rattle.paseto.specs.Times.{claim_error_of};
@@ -48,6 +48,7 @@ pub fn built<T: Drop>(
 fn repeated(alloc: Global, key: &str) -> ProgramError
     ensures no_usage { IsNoUsage result }
     ensures blames { BlamesNone result }
+    ensures tells { IsToldLine result }
     ensures said { Says (λ line. line ≡ one_line (repeated_text key.now)) result }
 {
     told(one_line_of(
@@ -187,6 +188,7 @@ pub fn ring_error(alloc: Global, source: KeyRingError) -> ProgramError
 fn unknown(alloc: Global, id: &str) -> ProgramError
     ensures no_usage { IsNoUsage result }
     ensures blames { BlamesNone result }
+    ensures tells { IsToldLine result }
     ensures said { Says (λ line. line ≡ one_line (unknown_text id.now)) result }
 {
     told(one_line_of(
@@ -199,6 +201,7 @@ fn unknown(alloc: Global, id: &str) -> ProgramError
 pub fn told(line: Result<String, AllocError>) -> ProgramError
     ensures no_usage { IsNoUsage result }
     ensures blames { BlamesNone result }
+    ensures tells { IsToldLine result }
     ensures said { Says (λ text. IsOkAnd line (λ line. text ≡ string_bytes line)) result }
 {
     match line {

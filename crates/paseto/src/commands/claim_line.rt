@@ -5,7 +5,7 @@ ghost use Rattle.serde_json.specs.Data.{null};
 ghost use Rattle.serde_json.specs.View.{view};
 ghost use Rattle.rusty_paseto_generic.specs.Parsers.Verdicts.{entry};
 ghost use Rattle.paseto_tasks.specs.Error.{BlamesNone, IsNoUsage, Says};
-ghost use Rattle.paseto.specs.Answers.{one_line};
+ghost use Rattle.paseto.specs.Answers.{IsToldLine, one_line};
 ghost use Rattle.paseto.specs.ClaimLine.{IsLineOf, IsUnlikeLine, early_line, expired_line, mismatch_text, text_under};
 ghost use Rattle.paseto.specs.Claims.{all_named};
 
@@ -28,6 +28,7 @@ pub fn by_claim(
 ) -> ProgramError
     ensures no_usage { IsNoUsage result }
     ensures blames { BlamesNone result }
+    ensures tells { IsToldLine result }
     ensures said { Says (IsLineOf (all_named demands.now) (view claims.now) at source) result }
 {
     match source {
@@ -54,6 +55,7 @@ fn unexpected(
 ) -> ProgramError
     ensures no_usage { IsNoUsage result }
     ensures blames { BlamesNone result }
+    ensures tells { IsToldLine result }
     ensures said { Says (IsLineOf (all_named demands.now) (view claims.now) at
         (PasetoClaimError.Unexpected key)) result }
 {
@@ -104,6 +106,7 @@ fn unlike_line(
 fn mismatch(alloc: Global, key: &str, found: &str, wanted: &str) -> ProgramError
     ensures no_usage { IsNoUsage result }
     ensures blames { BlamesNone result }
+    ensures tells { IsToldLine result }
     ensures said { Says (λ line. line ≡ one_line (mismatch_text key.now found.now wanted.now)) result }
 {
     told(one_line_of(
