@@ -459,38 +459,33 @@ fn a_key_in_pem_behind_other_text_is_of_one_version_and_type() -> Outcome {
     let pair = KeyPair::<V4>::try_new_random()?;
     let (private, public) = (pair.private_key().to_pem()?, pair.public_key().to_pem()?);
     for before in BEFORE {
-        let text = format!("{before}{public}");
+        let (half, own) = (format!("{before}{public}"), format!("{before}{private}"));
         assert_eq!(
-            text.parse::<Verifies<V4>>()?.as_ref(),
+            half.parse::<Verifies<V4>>()?.as_ref(),
             pair.public_key().as_ref()
         );
         assert_eq!(
-            text.parse::<Verifies<V2>>()?.as_ref(),
+            half.parse::<Verifies<V2>>()?.as_ref(),
             pair.public_key().as_ref()
         );
-        assert_eq!(local(&text), Some(KeyTextError::NotPem));
         assert_eq!(
-            public_of::<Verifies<V3>>(&text),
-            Some(KeyTextError::OtherAlgorithm)
-        );
-        assert_eq!(
-            public_of::<Signs<V4>>(&text),
-            Some(KeyTextError::OtherLabel)
-        );
-        let text = format!("{before}{private}");
-        assert_eq!(
-            text.parse::<Signs<V4>>()?.as_ref(),
+            own.parse::<Signs<V4>>()?.as_ref(),
             pair.private_key().as_ref()
         );
-        assert_eq!(local(&text), Some(KeyTextError::NotPem));
-        assert_eq!(
-            public_of::<Signs<V1>>(&text),
-            Some(KeyTextError::OtherAlgorithm)
-        );
-        assert_eq!(
-            public_of::<Verifies<V4>>(&text),
-            Some(KeyTextError::OtherLabel)
-        );
+        let refused = [
+            (local(&half), KeyTextError::NotPem),
+            (
+                public_of::<Verifies<V3>>(&half),
+                KeyTextError::OtherAlgorithm,
+            ),
+            (public_of::<Signs<V4>>(&half), KeyTextError::OtherLabel),
+            (local(&own), KeyTextError::NotPem),
+            (public_of::<Signs<V1>>(&own), KeyTextError::OtherAlgorithm),
+            (public_of::<Verifies<V4>>(&own), KeyTextError::OtherLabel),
+        ];
+        for (found, wanted) in refused {
+            assert_eq!(found, Some(wanted), "behind {before:?}");
+        }
     }
     Ok(())
 }
