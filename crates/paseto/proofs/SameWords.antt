@@ -1,5 +1,5 @@
 -- What words say is one thing.
-use Rattle.std.proofs.Common.{◌≡◌, ℕ, ℤ, pos, ◌^◌, ◌≤◌, ◌*◌, ◌+ℤ◌, ◌≤ℤ◌, List, [], ◌∷◌, ◌++◌, length, length-append, drop, get_or, Option, None, Some, Result, Ok, Err, MatchOption, MatchResult, codes, inl, inr, refl, sym, ap, ap₂, subst, ◌∙◌, arith}
+use Rattle.std.proofs.Common.{◌≡◌, ℕ, ℤ, pos, ◌^◌, ◌≤◌, ◌*◌, ◌+ℤ◌, ◌≤ℤ◌, List, [], ◌∷◌, ◌++◌, length, length-append, drop, get_or, Option, None, Some, Result, Ok, Err, MatchOption, MatchResult, codes, inl, inr, refl, sym, ap, ap₂, subst, ◌∙◌, true, false, true≢false, arith}
 use Rattle.std.proofs.Math.Dec.{T_prop}
 use Rattle.std.specs.Option.{unwrap_or}
 use Rattle.std.proofs.lemmas.List.{append_cancel_right}
@@ -11,7 +11,7 @@ use Rattle.paseto_tasks.specs.declared.arguments.Options.{Options}
 use Rattle.paseto.specs.Check.{AreDemands, Demanded, IsCheckedAt}
 use Rattle.paseto.specs.Claims.{AreClaims, IsClaimOf, IsNamed, Named, front}
 use Rattle.paseto.specs.Issue.{IsOrder, Ordered}
-use Rattle.paseto.specs.Times.{BeginsAt, HasUnit, IsAfter, IsLeeway, IsLength, IsNumber, IsSecondBefore, SaysMoment, SaysNone, SaysTime, unit_of}
+use Rattle.paseto.specs.Times.{BeginsAt, HasUnit, IsAfter, IsLeeway, IsLength, IsLikeLength, IsNumber, IsSecondBefore, SaysMoment, SaysNone, SaysTime, are_digits, unit_of}
 
 -- ---- moments
 
@@ -56,6 +56,12 @@ no_length word none seconds is = none is.front is.unit is.has_unit
 pub no_number : (word front : List ℕ) (unit : ℕ) → HasUnit word front unit → ((number : ℕ) → ¬ IsNumber front number) → (seconds : ℕ) → ¬ IsLength word seconds
 no_number word front unit has none seconds is =
     none is.number (subst (λ (f : List ℕ). IsNumber f is.number) (same_unit word is.front front is.unit unit is.has_unit has).0 is.is_number)
+
+-- a word that has no digits in front of its unit
+pub no_like_length : (word front : List ℕ) (unit : ℕ) → HasUnit word front unit → are_digits front ≡ false → ¬ IsLikeLength word
+no_like_length word front unit has none like =
+    let digits = subst (λ (f : List ℕ). are_digits f ≡ true) (same_unit word like.0 front like.1 unit like.2 has).0 like.3 in
+    true≢false (sym digits ∙ none)
 
 -- a word that is no moment of RFC 3339
 pub says_none : (word : List ℕ) (now : Timestamp) (error : Error) → Err error ≡ parse_timestamp word → ((seconds : ℕ) → ¬ IsLength word seconds) → SaysNone word now

@@ -7,14 +7,18 @@ use Rattle.serde_json.specs.Written.{compact_text, has_float}
 use Rattle.paseto_tasks.specs.declared.arguments.Options.{Options}
 use Rattle.paseto.specs.declared.commands.check.Keys.{Keys}
 use Rattle.paseto.specs.declared.commands.check.Keys.TheVariants.{One, Ring}
-use Rattle.paseto_keys.specs.AnyKey.{parts_of}
+use Rattle.paseto_keys.specs.AnyKey.{KeyParts, parts_of}
 use Rattle.rusty_paseto_claims.specs.declared.error.PasetoClaimError.{PasetoClaimError}
 use Rattle.rusty_paseto_generic.specs.Parsers.Parsing.{IsCheckFault}
 use Rattle.rusty_paseto_generic.specs.declared.error.GenericParserError.TheVariants.{ClaimError}
 use Rattle.paseto.specs.ClaimLine.{IsLineOf}
 use Rattle.paseto_tasks.specs.Error.{BlamesOnly, IsNoUsage, IsOfWords, IsOutside, Says, nothing}
 use Rattle.paseto_tasks.specs.Input.{IsNoText, OfInput, token_of_input}
+use Rattle.paseto_tasks.specs.TokenKind.{NamesKind, kind_read_by}
 use Rattle.paseto_tasks.specs.declared.error.ProgramError.{ProgramError}
+use Rattle.paseto_tasks.specs.declared.error.ProgramError.TheVariants.{Token}
+use Rattle.paseto_tasks.specs.declared.error.token.TokenError.TheVariants.{OtherKind}
+use Rattle.paseto_tasks.specs.declared.token_kind.TokenKind.{TokenKind}
 use Rattle.paseto.specs.Check.{AreDemands, Demanded, IsDemanded, IsOtherFooter, ParsesByKey, demanded_rules}
 use Rattle.paseto.specs.Ring.{IsRingLine, ParsesByRing}
 
@@ -89,3 +93,7 @@ RefusesCheck claims options now keys known error =
     (((demands : Demanded) → ¬ AreDemands claims options now demands) × IsOfWords error × ¬ IsOutside error)
     ⊎ ((demands : Demanded) × AreDemands claims options now demands
     × OfInput known (λ bytes. IsNoText bytes error ⊎ RefusesDemands keys demands (token_of_input bytes) error))
+
+-- the error names the kind that a token begins with, and the one that a key reads
+abbrev pub NamesKinds : List ℕ → KeyParts → ProgramError → Type 0
+NamesKinds token key error = (kind : TokenKind) × NamesKind kind token × (error ≡ Token (OtherKind kind (kind_read_by key.version key.kind)))

@@ -1,5 +1,7 @@
 -- Moments and lengths of time, as words say them.
-use Rattle.std.specs.Prelude.{◌≡◌, ◌⊎◌, ⊤, false, int_le, ◌<◌, ◌*◌, ◌^◌, ◌==◌, ◌+ℤ◌, ◌-ℤ◌, ℕ, pos, List, [], ◌∷◌, ◌++◌, if◌then◌else◌, Option, None, Some, MatchResult}
+use Rattle.std.specs.Prelude.{◌≡◌, ◌⊎◌, ⊤, true, false, Bool, not, ◌&&◌, int_le, get_or, length, ◌<◌, ◌*◌, ◌^◌, ◌==◌, ◌+ℤ◌, ◌-ℤ◌, ℕ, pos, List, [], ◌∷◌, ◌++◌, if◌then◌else◌, Option, None, Some, MatchResult}
+use Rattle.std.specs.Char.{is_ascii_digit}
+use Rattle.std.specs.List.{list_all}
 use Rattle.std.specs.Str.Parse.{IsNumeral, digits_value, without_leading_plus}
 use Rattle.jiff.specs.Types.{Timestamp}
 use Rattle.jiff.specs.Words.{IsTimestampNanos, parse_timestamp}
@@ -103,9 +105,29 @@ abbrev pub time_counted : List ℕ → Option Timestamp → Counting → Countin
 time_counted key None old = old
 time_counted key (Some moment) old = counted key old
 
--- an error on what an option says that is no time
-abbrev pub IsTimeError : TimeOption → UsageError → Type 0
-IsTimeError option error = (error ≡ Time option) ⊎ ((error ≡ Negative option) ⊎ (error ≡ TooLong option))
+-- the word begins with a minus
+abbrev pub is_negative : List ℕ → Bool
+is_negative word = get_or word 0 0 == 45
+
+-- the word is one or more decimal digits
+abbrev pub are_digits : List ℕ → Bool
+are_digits word = not (length word == 0) && list_all is_ascii_digit word
+
+-- the word is digits and a unit, and so a length of time, of whatever size
+abbrev pub IsLikeLength : List ℕ → Type 0
+IsLikeLength word = (front : List ℕ) × (unit : ℕ) × HasUnit word front unit × (are_digits front ≡ true)
+
+-- the error on what an option says that is no time: a negative length, one that is too large, or nothing like one
+abbrev pub IsTimeError : TimeOption → List ℕ → UsageError → Type 0
+IsTimeError option word error =
+    ((error ≡ Negative option) × (is_negative word ≡ true))
+    ⊎ (((error ≡ TooLong option) × (is_negative word ≡ false) × IsLikeLength word)
+    ⊎ ((error ≡ Time option) × (is_negative word ≡ false) × ¬ IsLikeLength word))
+
+-- the error on what an option says, where that is a word that is no time
+abbrev pub IsTimeFault : TimeOption → Option (List ℕ) → ProgramError → Type 0
+IsTimeFault option None error = ⊥
+IsTimeFault option (Some word) error = (source : UsageError) × (error ≡ Usage source) × IsTimeError option word source
 
 -- why the text of a moment that an option says makes no claim: memory was refused, or the text is no date
 abbrev pub claim_error_of : TimeOption → PasetoClaimError → ProgramError

@@ -11,7 +11,7 @@ ghost use Rattle.paseto_keys.specs.AnyKey.{parts_of};
 ghost use Rattle.paseto_tasks.specs.Arguments.{texts};
 ghost use Rattle.paseto_tasks.specs.Error.{Fails, IsMemory, IsOfWords, IsOutside, IsPlain, Lacks, nothing, token_error_of};
 ghost use Rattle.paseto.specs.Check.{AreDemands, IsCheckedAt, IsTheValueOf, RefusesKey, demanded, demanded_rules};
-ghost use Rattle.paseto.specs.Checked.{Admits, IsJsonLine, IsTheValueBy, RefusesDemands, RefusesKeys};
+ghost use Rattle.paseto.specs.Checked.{Admits, IsJsonLine, IsTheValueBy, NamesKinds, RefusesDemands, RefusesKeys};
 ghost use Rattle.paseto.specs.Claims.{all_demanded, all_named, all_required, are_whole};
 ghost use Rattle.paseto.specs.Gives.{Gives};
 
@@ -265,6 +265,8 @@ fn with_kinds(
     ensures value { IfOk result (λ value. answer ≡ Ok value) }
     ensures refused { IfErr result (λ error. IsErrAnd answer (λ source. (source ≡ error)
         ⊎ ((source ≡ token_error_of PasetoError.WrongHeader) × IsPlain error))) }
+    ensures told { IfErr result (λ error. IsErrAnd answer (λ source. (source ≡ error)
+        ⊎ NamesKinds token.now (parts_of key.now) error)) }
 {
     match answer {
         Err(ProgramError::Token(TokenError::Refused(PasetoError::WrongHeader))) => Err(

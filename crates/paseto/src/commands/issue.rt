@@ -12,7 +12,7 @@ ghost use Rattle.paseto.specs.Claims.{AreNeverSet, AreSet, all_counted, all_name
 ghost use Rattle.paseto_tasks.specs.Error.{BlamesNone, BlamesOnly, Fails, IsNoUsage, IsOfWords, IsOutside, Lacks, Says, nothing};
 ghost use Rattle.paseto_tasks.specs.Output.{Makes};
 ghost use Rattle.paseto.specs.Issue.{AreNever, AreOrdered, IsOrder, IsPayload, Issues, RefusesOrder, RefusesPayload, draws, issuing, keys_set, ordered};
-ghost use Rattle.paseto.specs.Times.{BeginsAt, IsNeverSet, IsTimeSet, SaysTime, time_counted};
+ghost use Rattle.paseto.specs.Times.{BeginsAt, IsNeverSet, IsTimeFault, IsTimeSet, SaysTime, time_counted};
 
 use crate::commands::answers::{built, dated};
 use crate::commands::claims::{NamedClaim, claims_of};
@@ -76,6 +76,8 @@ fn time_of(
     ensures none { IfErr result (Lacks (λ moment. SaysTime
         (option_map (λ text. text.now) word.entry) now moment)) }
     ensures of_words { IfErr result IsOfWords }
+    ensures told { IfErr result (IsTimeFault option
+        (option_map (λ text. text.now) word.entry)) }
 {
     let Some(word) = word else {
         return Ok(None);

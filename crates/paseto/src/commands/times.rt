@@ -1,9 +1,11 @@
 //! Moments and lengths of time, as the arguments give them.
 
 ghost use Rattle.std.specs.Prelude.{◌≡◌, ◌≢◌, ◌≤◌, ◌*◌, ◌++◌, ◌+ℤ◌, ◌-ℤ◌, ℕ, List, pos, IfErr, IfOk, IfSome, MatchOption, option_map, string_bytes, unsigned_abs};
+ghost use Rattle.std.specs.Char.{is_ascii_digit};
+ghost use Rattle.std.specs.List.{list_all};
 ghost use Rattle.jiff.specs.Words.{IsTimestampNanos};
 ghost use Rattle.paseto.specs.Answers.{between_text, count_text, length_text, second_of};
-ghost use Rattle.paseto.specs.Times.{HasUnit, IsLeeway, IsLength, IsNumber, IsSecondBefore, IsTimeError, SaysMoment, SaysNone};
+ghost use Rattle.paseto.specs.Times.{HasUnit, IsLeeway, IsLength, IsNumber, IsSecondBefore, IsTimeError, SaysMoment, SaysNone, are_digits};
 ghost use Rattle.paseto_tasks.specs.Error.{IsOfWords, Lacks};
 
 use jiff::Timestamp;
@@ -50,21 +52,35 @@ pub fn leeway_of(word: Option<&str>) -> Result<u32, ProgramError>
 
 /// Why an argument is neither a moment nor a length of time: it is a negative length, one that is too
 /// large, or nothing like one.
+#[tactic(auto, using(crate::proofs::SameWords::no_like_length))]
 pub fn time_error(option: TimeOption, word: &str) -> UsageError
-    ensures { IsTimeError option result }
+    ensures { IsTimeError option word.now result }
 {
     if word.starts_with('-') {
         return UsageError::Negative(option);
     }
-    match unit_of(word) {
-        Some((front, _)) if is_number(front) => UsageError::TooLong(option),
-        _ => UsageError::Time(option),
+    let Some((front, _)) = unit_of(word) else {
+        return UsageError::Time(option);
+    };
+    if are_digits(front.as_bytes()) {
+        UsageError::TooLong(option)
+    } else {
+        UsageError::Time(option)
     }
 }
 
-/// Whether a text has digits alone.
-fn is_number(text: &str) -> bool {
-    !text.is_empty() && text.bytes().all(|byte| byte.is_ascii_digit())
+/// Whether bytes are decimal digits, at least one.
+fn are_digits(bytes: &[u8]) -> bool
+    ensures { result ≡ are_digits bytes.now }
+{
+    !bytes.is_empty() && all_digits(bytes)
+}
+
+/// Whether all bytes are decimal digits.
+fn all_digits(bytes: &[u8]) -> bool
+    ensures { result ≡ list_all is_ascii_digit bytes.now }
+{
+    bytes.iter().all(|byte| byte.is_ascii_digit())
 }
 
 /// The moment that many seconds later.
