@@ -62,6 +62,7 @@ use rand::rngs::SysRng;
 use rusty_paseto::prelude::*;
 use rusty_paseto_paserk::{public_to_paserk, secret_to_paserk};
 use std::alloc::Global;
+use std::fmt::{Debug, Display};
 
 fn main(rt: HostRuntime) -> Result<()> {
     show_primitives(&rt)?;
@@ -75,24 +76,34 @@ fn main(rt: HostRuntime) -> Result<()> {
     show_everyday_rings(&rt)
 }
 
+/// Prints what a call answered.
+fn say<A: Display>(rt: &HostRuntime, name: &str, answer: &A) -> Result<()> {
+    println!(rt; "{name}: {answer}")?;
+    Ok(())
+}
+
+/// The same as `Debug` shows it.
+fn tell<A: Debug>(rt: &HostRuntime, name: &str, answer: &A) -> Result<()> {
+    println!(rt; "{name}: {answer:?}")?;
+    Ok(())
+}
+
 fn show_primitives(rt: &HostRuntime) -> Result<()> {
     let key = [7u8; 32];
     let (digest, code) = digests::digests(&key, b"a message");
-    println!(rt; "digest and code: {} and {}", digest[0], code[0])?;
+    say(rt, "a digest begins with", &digest[0])?;
+    say(rt, "a code begins with", &code[0])?;
     let mut text = *b"a message";
     let one_time_key = from_block_one::encrypt(&key, &[9u8; 24], &mut text);
     let whole = poly1305_tag::tag(&one_time_key, b"a message");
     let pieces = poly1305_pieces::tag_of_pieces(&one_time_key, b"a mess", b"age");
-    println!(rt; "tag in pieces: {}", whole == pieces)?;
+    say(rt, "tag in pieces", &(whole == pieces))?;
     let password_key = password_key::key_of("a password", &[7u8; 32]);
-    println!(rt;
-        "key of a password: {} and {}",
-        password_key[0], password_key[47]
-    )?;
+    say(rt, "a key of a password ends with", &password_key[47])?;
     let argon2_key = argon2_key::key_of(rt.alloc(), "a password", &[7u8; 16])?;
-    println!(rt; "key by Argon2id: {} and {}", argon2_key[0], argon2_key[31])?;
+    say(rt, "a key by Argon2id ends with", &argon2_key[31])?;
     let contents = der_sequence::sequence(&[0x30, 3, 2, 1, 4]);
-    println!(rt; "contents of a SEQUENCE: {contents:?}")?;
+    tell(rt, "contents of a SEQUENCE", &contents)?;
     Ok(())
 }
 
@@ -108,23 +119,24 @@ fn show_core(rt: &HostRuntime) -> Result<()> {
     let key = PasetoSymmetricKey::<V4, Local>::from(Key::<32>::try_new_random(&mut rng)?);
     let nonce = Key::<32>::try_new_random(&mut rng)?;
     let text = local_tokens::round_trip(alloc, &key, &PasetoNonce::from(&nonce))?;
-    println!(rt; "decrypted: {text}")?;
+    say(rt, "decrypted", &text)?;
     show_sections(rt, &key, &nonce)?;
     let id_length = keys_as_text::write_and_read(alloc, &key)?.len();
-    println!(rt; "id of {id_length} bytes")?;
+    say(rt, "bytes of an id", &id_length)?;
     let pem_length = keys_in_pem::read_and_write(alloc, PRIVATE_KEY)?.len();
-    println!(rt; "text of {pem_length} bytes")?;
+    say(rt, "bytes of a text in PEM", &pem_length)?;
     let line = key_file::line_of(alloc, b"a password", PRIVATE_KEY)?;
-    println!(rt; "line of {} bytes", line.len())?;
+    say(rt, "bytes of a line", &line.len())?;
     let wrapping_key = WrappingKey::from(Key::<32>::try_new_random(&mut rng)?);
     let again = wrapped_keys::wrap_and_unwrap(alloc, &wrapping_key, &nonce, &key)?;
-    println!(rt;
-        "wrapped and unwrapped: {}",
-        again.as_bytes() == key.as_bytes()
+    say(
+        rt,
+        "wrapped and unwrapped",
+        &(again.as_bytes() == key.as_bytes()),
     )?;
     let any_key = AnyKey::V4Local(key.clone());
     let text = any_key::there_and_back(alloc, &any_key, &mut rng, "a message")?;
-    println!(rt; "by a key of any version: {text}")?;
+    say(rt, "by a key of any version", &text)?;
     show_collision(rt, &key, &nonce)
 }
 
@@ -133,14 +145,19 @@ fn show_sections(
     key: &PasetoSymmetricKey<V4, Local>,
     nonce: &Key<32>,
 ) -> Result<()> {
-    let alloc = rt.alloc();
-    let token = encrypting::encrypt(alloc, key, &PasetoNonce::from(nonce), "a message")?;
-    if let Some(footer) = footer_text::footer_of(alloc, token.as_str())? {
-        println!(rt; "footer: {footer}")?;
+    let nonce = PasetoNonce::from(nonce);
+    let token = encrypting::encrypt(rt.alloc(), key, &nonce, "a message")?;
+    show_footer(rt, token.as_str())?;
+    say(rt, "v4.local", &sections::is_v4_local(token.as_str())?)?;
+    Ok(())
+}
+
+fn show_footer(rt: &HostRuntime, token: &str) -> Result<()> {
+    if let Some(footer) = footer_text::footer_of(rt.alloc(), token)? {
+        say(rt, "footer", &footer)?;
     }
-    let footer = short_footer::short_footer(alloc, token.as_str())?;
-    println!(rt; "short footer: {}", footer.is_some())?;
-    println!(rt; "v4.local: {}", sections::is_v4_local(token.as_str())?)?;
+    let footer = short_footer::short_footer(rt.alloc(), token)?;
+    say(rt, "short footer", &footer.is_some())?;
     Ok(())
 }
 
@@ -152,7 +169,7 @@ fn show_collision(
     let alloc = rt.alloc();
     let token = local_token(alloc, key, nonce)?;
     let found = collisions::find_collision(alloc, key, token.as_str(), token.as_str())?;
-    println!(rt; "no collision: {}", found.is_none())?;
+    say(rt, "no collision", &found.is_none())?;
     Ok(())
 }
 
@@ -170,9 +187,9 @@ fn show_boxed(rt: &HostRuntime) -> Result<()> {
     let key = PasetoSymmetricKey::<V2, Local>::from(Key::<32>::try_new_random(&mut rng)?);
     let nonce = Key::<32>::try_new_random(&mut rng)?;
     let text = boxed_tokens::round_trip(alloc, &key, &PasetoNonce::from(&nonce))?;
-    println!(rt; "decrypted in version 2: {text}")?;
+    say(rt, "decrypted in version 2", &text)?;
     if let Err(error) = boxed_decrypting::decrypt(alloc, "v2.local.AAAA", &key) {
-        println!(rt; "refused in version 2: {error}")?;
+        say(rt, "refused in version 2", &error)?;
     }
     Ok(())
 }
@@ -180,14 +197,15 @@ fn show_boxed(rt: &HostRuntime) -> Result<()> {
 fn show_generic(rt: &HostRuntime) -> Result<()> {
     let (alloc, mut rng) = (rt.alloc(), SysRng::new(rt));
     let key = PasetoSymmetricKey::<V4, Local>::from(Key::<32>::try_new_random(&mut rng)?);
-    println!(rt;
-        "claims: {}",
-        generic_tokens::round_trip(alloc, &mut rng, &key)?
+    say(
+        rt,
+        "claims",
+        &generic_tokens::round_trip(alloc, &mut rng, &key)?,
     )?;
-    println!(rt; "claim: {}", custom_claims::seats(alloc)?)?;
+    say(rt, "claim", &custom_claims::seats(alloc)?)?;
     let token = generic_builder::build(alloc, &mut rng, &key)?;
     let value = generic_parser::parse(alloc, token.as_str(), &key)?;
-    println!(rt; "parsed: {value}")?;
+    say(rt, "parsed", &value)?;
     show_another_footer(rt, token.as_str(), &key)?;
     show_demands(rt, token.as_str(), &key)
 }
@@ -200,21 +218,27 @@ fn show_another_footer(
     let alloc = rt.alloc();
     let mut parser = leeway::lenient_parser(alloc, Timestamp::now(rt)?)?;
     if let Err(error) = parser.parse(token, key) {
-        println!(rt; "another footer: {}", causes::has_another_footer(&error))?;
-        println!(rt; "its status: {}", blame::status(&error))?;
+        show_causes(rt, &error)?;
     }
     parser.put_key_validator("seats", Box::new(alloc, Even)?)?;
+    Ok(())
+}
+
+fn show_causes(rt: &HostRuntime, error: &GenericParserError) -> Result<()> {
+    say(rt, "another footer", &causes::has_another_footer(error))?;
+    say(rt, "its status", &blame::status(error))?;
     Ok(())
 }
 
 fn show_demands(rt: &HostRuntime, token: &str, key: &PasetoSymmetricKey<V4, Local>) -> Result<()> {
     let parser = required_claims::demanding_parser(rt.alloc())?;
     if let Err(error) = parser.parse(token, key) {
-        println!(rt; "demanding: {error}")?;
+        say(rt, "demanding", &error)?;
     }
-    println!(rt;
-        "too long: {}",
-        longest::is_too_long(rt.alloc(), token, key)
+    say(
+        rt,
+        "too long",
+        &longest::is_too_long(rt.alloc(), token, key),
     )?;
     Ok(())
 }
@@ -225,17 +249,14 @@ fn show_default(rt: &HostRuntime) -> Result<()> {
     let soon = Timestamp::from_second(now.as_second().saturating_add(60))?;
     let key = PasetoSymmetricKey::<V4, Local>::from(Key::<32>::try_new_random(&mut rng)?);
     let claims = default_tokens::round_trip(alloc, now, soon, &mut rng, &key)?;
-    println!(rt; "expires: {}", claims.get("exp").is_some())?;
+    say(rt, "expires", &claims.get("exp").is_some())?;
     let end = moment_claims::end_of_session(alloc, now)?;
-    println!(rt; "a session ends by: {}", end.as_pair().0)?;
+    say(rt, "a session ends by", &(end.as_pair().0))?;
     let named = named_key::issue_under(alloc, now, &mut rng, "2026-\"11\"", &key)?;
-    println!(rt;
-        "named: {:?}",
-        Footer::try_from_token(alloc, named.as_str())?
-    )?;
+    tell(rt, "named", &Footer::try_from_token(alloc, named.as_str())?)?;
     let token = paseto_builder::issue(alloc, now, &mut rng, &key)?;
     let claims = paseto_parser::admit(alloc, soon, token.as_str(), &key)?;
-    println!(rt; "for customers: {}", claims.get("aud").is_some())?;
+    say(rt, "for customers", &claims.get("aud").is_some())?;
     show_rings(rt, soon, token.as_str(), key)
 }
 
@@ -247,16 +268,22 @@ fn show_rings(
 ) -> Result<()> {
     let alloc = rt.alloc();
     let (id, _claims) = key_ring::admit(alloc, soon, token, key)?;
-    println!(rt; "by a ring: {id}")?;
-    println!(rt; "keys with limits: {}", ring_limits::open_ring(alloc).len())?;
-    let parser = PasetoParser::<V4, Local>::default(alloc, soon)?;
-    if let Err(error) = KeyRing::<V4>::new(alloc).parse(&parser, token) {
-        println!(rt; "by an empty ring: {}", ring_blame::status(&error))?;
-        println!(rt;
-            "with another tag: {}",
-            ring_causes::has_another_tag(&error)
-        )?;
+    say(rt, "by a ring", &id)?;
+    say(rt, "keys with limits", &ring_limits::open_ring(alloc).len())?;
+    show_empty_ring(rt, soon, token)
+}
+
+fn show_empty_ring(rt: &HostRuntime, soon: Timestamp, token: &str) -> Result<()> {
+    let parser = PasetoParser::<V4, Local>::default(rt.alloc(), soon)?;
+    if let Err(error) = KeyRing::<V4>::new(rt.alloc()).parse(&parser, token) {
+        show_ring_causes(rt, &error)?;
     }
+    Ok(())
+}
+
+fn show_ring_causes(rt: &HostRuntime, error: &KeyRingParserError) -> Result<()> {
+    say(rt, "by an empty ring", &ring_blame::status(error))?;
+    say(rt, "with another tag", &ring_causes::has_another_tag(error))?;
     Ok(())
 }
 
@@ -268,7 +295,7 @@ fn show_lifetime(rt: &HostRuntime) -> Result<()> {
     let token = lifetime::issue_for_ten_minutes(alloc, now, &mut rng, &key)?;
     let parser = PasetoParser::<V4, Local>::default(alloc, later)?;
     if let Err(error) = parser.parse(token.as_str(), &key) {
-        println!(rt; "after ten minutes: {error}")?;
+        say(rt, "after ten minutes", &error)?;
     }
     Ok(())
 }
@@ -280,76 +307,129 @@ fn show_signed(rt: &HostRuntime) -> Result<()> {
     let key = PasetoAsymmetricPrivateKey::<V4, Public>::from(&private);
     let token = Paseto::<V4, Public>::builder().try_sign(alloc, &mut Ed25519, &key)?;
     if let Err(error) = public_key_ring::admit(alloc, now, token.as_str(), &public) {
-        println!(rt; "by a public ring: {error}")?;
+        say(rt, "by a public ring", &error)?;
     }
     p384_signature::sign_and_verify(alloc, &mut rng, b"a message")?;
-    println!(rt; "signed by P-384")?;
-    let (token, public) = new_pair::sign(alloc, &mut rng)?;
-    let text = Paseto::<V4, Public>::try_verify(
-        alloc,
-        &Ed25519,
-        token.as_str(),
-        &public.lend(),
-        None,
-        None,
-    )?;
-    println!(rt; "under a new pair: '{text}'")?;
+    say(rt, "signed by", &"P-384")?;
+    show_new_pair(rt)?;
     show_owned_ring(rt, now)
+}
+
+fn show_new_pair(rt: &HostRuntime) -> Result<()> {
+    let (alloc, mut rng) = (rt.alloc(), SysRng::new(rt));
+    let (token, public) = new_pair::sign(alloc, &mut rng)?;
+    let (token, key) = (token.as_str(), public.lend());
+    let text = Paseto::<V4, Public>::try_verify(alloc, &Ed25519, token, &key, None, None)?;
+    say(rt, "under a new pair", &text.len())?;
+    Ok(())
 }
 
 fn show_owned_ring(rt: &HostRuntime, now: Timestamp) -> Result<()> {
     let (alloc, mut rng) = (rt.alloc(), SysRng::new(rt));
-    let soon = Timestamp::from_second(now.as_second().saturating_add(60))?;
     let pair: KeyPair<V4> = Ed25519::try_new_pair(alloc, &mut rng)?;
-    let line = public_to_paserk(alloc, &pair.public())?;
+    let token = named_token(alloc, now, &pair.private())?;
+    show_named_token(rt, now, &pair.public(), token.as_str())
+}
+
+/// A token whose footer names its key.
+fn named_token(
+    alloc: Global,
+    now: Timestamp,
+    key: &PasetoAsymmetricPrivateKey<'_, V4, Public>,
+) -> Result<String> {
     let footer = key_footer(alloc, "2026-11")?;
     let mut builder = PasetoBuilder::<V4, Public>::try_default(alloc, now)?;
     builder.set_footer(Footer::from(footer.as_str()));
-    let token = builder.build(&mut Ed25519, &pair.private())?;
+    Ok(builder.build(&mut Ed25519, key)?)
+}
+
+fn show_named_token(
+    rt: &HostRuntime,
+    now: Timestamp,
+    key: &PasetoAsymmetricPublicKey<'_, V4, Public>,
+    token: &str,
+) -> Result<()> {
+    let alloc = rt.alloc();
+    let soon = Timestamp::from_second(now.as_second().saturating_add(60))?;
+    let line = public_to_paserk(alloc, key)?;
     let ring = owned_key_ring::ring_of(alloc, &[("2026-11", line.as_str())])?;
-    let (id, _claims) = owned_key_ring::admit(alloc, soon, &ring, token.as_str())?;
-    println!(rt; "by a ring that owns its keys: {id}")?;
+    let (id, _claims) = owned_key_ring::admit(alloc, soon, &ring, token)?;
+    say(rt, "by a ring that owns its keys", &id)?;
     Ok(())
 }
 
 fn show_everyday(rt: &HostRuntime) -> Result<()> {
-    let (alloc, mut rng) = (rt.alloc(), SysRng::new(rt));
     let now = Timestamp::now(rt)?;
     let soon = Timestamp::from_second(now.as_second().saturating_add(60))?;
     let late = Timestamp::from_second(now.as_second().saturating_add(604_801))?;
+    let mut rng = SysRng::new(rt);
     let key = everyday::new_key(&mut rng)?;
-    let plain = everyday::default_token(alloc, now, &mut rng, &key)?;
-    let token = everyday::token_for_a_week(alloc, now, &mut rng, &key)?;
-    let seats = everyday::with_seats(alloc, soon, 8, token.as_str(), &key)?;
-    println!(rt; "seats: {:?}", seats.get("seats"))?;
-    let admitted = everyday::for_customers(alloc, soon, token.as_str(), &key);
-    println!(rt; "for customers: {}", everyday::status(&admitted))?;
-    let unfit = everyday::for_customers(alloc, soon, plain.as_str(), &key);
-    println!(rt; "for nobody: {}", everyday::status(&unfit))?;
-    let expired = everyday::for_customers(alloc, late, token.as_str(), &key);
-    println!(rt; "a week later: {}", everyday::status(&expired))?;
+    let token = everyday::token_for_a_week(rt.alloc(), now, &mut rng, &key)?;
+    show_everyday_seats(rt, soon, token.as_str(), &key)?;
+    say(
+        rt,
+        "for customers",
+        &status_at(rt, soon, token.as_str(), &key),
+    )?;
+    let plain = everyday::default_token(rt.alloc(), now, &mut rng, &key)?;
+    say(rt, "for nobody", &status_at(rt, soon, plain.as_str(), &key))?;
+    say(
+        rt,
+        "a week later",
+        &status_at(rt, late, token.as_str(), &key),
+    )?;
+    show_everyday_signed(rt, now, soon)
+}
+
+fn show_everyday_seats(
+    rt: &HostRuntime,
+    soon: Timestamp,
+    token: &str,
+    key: &PasetoSymmetricKey<V4, Local>,
+) -> Result<()> {
+    let seats = everyday::with_seats(rt.alloc(), soon, 8, token, key)?;
+    tell(rt, "seats", &seats.get("seats"))?;
+    Ok(())
+}
+
+/// The status of the answer to a customer's token.
+fn status_at(
+    rt: &HostRuntime,
+    moment: Timestamp,
+    token: &str,
+    key: &PasetoSymmetricKey<V4, Local>,
+) -> u16 {
+    everyday::status(&everyday::for_customers(rt.alloc(), moment, token, key))
+}
+
+fn show_everyday_signed(rt: &HostRuntime, now: Timestamp, soon: Timestamp) -> Result<()> {
+    let (alloc, mut rng) = (rt.alloc(), SysRng::new(rt));
     let pair: KeyPair<V4> = Ed25519::try_new_pair(alloc, &mut rng)?;
     let secret = secret_to_paserk(alloc, &pair.private())?;
     let public = public_to_paserk(alloc, &pair.public())?;
     let signed = everyday::sign(alloc, now, secret.as_str())?;
     let claims = everyday::verify(alloc, soon, public.as_str(), signed.as_str())?;
-    println!(rt; "verified: {}", claims.get("exp").is_some())?;
+    say(rt, "verified", &claims.get("exp").is_some())?;
     Ok(())
 }
 
 fn show_everyday_rings(rt: &HostRuntime) -> Result<()> {
-    let (alloc, mut rng) = (rt.alloc(), SysRng::new(rt));
     let now = Timestamp::now(rt)?;
     let soon = Timestamp::from_second(now.as_second().saturating_add(60))?;
-    let mut ring = KeyRing::<V4>::new(alloc);
+    let mut rng = SysRng::new(rt);
+    let mut ring = KeyRing::<V4>::new(rt.alloc());
     ring.add("2026-10", everyday::new_key(&mut rng)?)?;
     ring.add("2026-11", everyday::new_key(&mut rng)?)?;
-    let token = everyday::issue_by_ring(alloc, now, &mut rng, &ring, "2026-10")?;
-    let (id, _claims) = everyday::admit_by_ring(alloc, soon, &ring, token.as_str())?;
-    println!(rt; "by the old key: {id}")?;
-    println!(rt; "retired: {}", ring.remove("2026-10"))?;
-    if let Err(refusal) = everyday::admit_by_ring(alloc, soon, &ring, token.as_str()) {
-        println!(rt; "under a retired key: {:?}", refusal.blame())?;
+    let token = everyday::issue_by_ring(rt.alloc(), now, &mut rng, &ring, "2026-10")?;
+    show_admitted(rt, soon, &ring, token.as_str())?;
+    say(rt, "retired", &ring.remove("2026-10"))?;
+    show_admitted(rt, soon, &ring, token.as_str())
+}
+
+fn show_admitted(rt: &HostRuntime, soon: Timestamp, ring: &KeyRing<V4>, token: &str) -> Result<()> {
+    match everyday::admit_by_ring(rt.alloc(), soon, ring, token) {
+        Ok((id, _claims)) => say(rt, "by the old key", &id)?,
+        Err(refusal) => tell(rt, "under a retired key", &refusal.blame())?,
     }
     Ok(())
 }
