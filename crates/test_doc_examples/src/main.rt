@@ -115,29 +115,40 @@ const PRIVATE_KEY: &str = concat!(
 );
 
 fn show_core(rt: &HostRuntime) -> Result<()> {
-    let (alloc, mut rng) = (rt.alloc(), SysRng::new(rt));
+    let mut rng = SysRng::new(rt);
     let key = PasetoSymmetricKey::<V4, Local>::from(Key::<32>::try_new_random(&mut rng)?);
     let nonce = Key::<32>::try_new_random(&mut rng)?;
-    let text = local_tokens::round_trip(alloc, &key, &PasetoNonce::from(&nonce))?;
+    let text = local_tokens::round_trip(rt.alloc(), &key, &PasetoNonce::from(&nonce))?;
     say(rt, "decrypted", &text)?;
     show_sections(rt, &key, &nonce)?;
-    let id_length = keys_as_text::write_and_read(alloc, &key)?.len();
+    show_key_texts(rt, &key)?;
+    show_wrapping(rt, &key, &nonce)?;
+    show_collision(rt, &key, &nonce)
+}
+
+fn show_key_texts(rt: &HostRuntime, key: &PasetoSymmetricKey<V4, Local>) -> Result<()> {
+    let alloc = rt.alloc();
+    let id_length = keys_as_text::write_and_read(alloc, key)?.len();
     say(rt, "bytes of an id", &id_length)?;
     let pem_length = keys_in_pem::read_and_write(alloc, PRIVATE_KEY)?.len();
     say(rt, "bytes of a text in PEM", &pem_length)?;
     let line = key_file::line_of(alloc, b"a password", PRIVATE_KEY)?;
-    say(rt, "bytes of a line", &line.len())?;
+    say(rt, "bytes of a line", &line.len())
+}
+
+fn show_wrapping(
+    rt: &HostRuntime,
+    key: &PasetoSymmetricKey<V4, Local>,
+    nonce: &Key<32>,
+) -> Result<()> {
+    let (alloc, mut rng) = (rt.alloc(), SysRng::new(rt));
     let wrapping_key = WrappingKey::from(Key::<32>::try_new_random(&mut rng)?);
-    let again = wrapped_keys::wrap_and_unwrap(alloc, &wrapping_key, &nonce, &key)?;
-    say(
-        rt,
-        "wrapped and unwrapped",
-        &(again.as_bytes() == key.as_bytes()),
-    )?;
+    let again = wrapped_keys::wrap_and_unwrap(alloc, &wrapping_key, nonce, key)?;
+    let is_same = again.as_bytes() == key.as_bytes();
+    say(rt, "wrapped and unwrapped", &is_same)?;
     let any_key = AnyKey::V4Local(key.clone());
     let text = any_key::there_and_back(alloc, &any_key, &mut rng, "a message")?;
-    say(rt, "by a key of any version", &text)?;
-    show_collision(rt, &key, &nonce)
+    say(rt, "by a key of any version", &text)
 }
 
 fn show_sections(
@@ -197,17 +208,18 @@ fn show_boxed(rt: &HostRuntime) -> Result<()> {
 fn show_generic(rt: &HostRuntime) -> Result<()> {
     let (alloc, mut rng) = (rt.alloc(), SysRng::new(rt));
     let key = PasetoSymmetricKey::<V4, Local>::from(Key::<32>::try_new_random(&mut rng)?);
-    say(
-        rt,
-        "claims",
-        &generic_tokens::round_trip(alloc, &mut rng, &key)?,
-    )?;
+    let claims = generic_tokens::round_trip(alloc, &mut rng, &key)?;
+    say(rt, "claims", &claims)?;
     say(rt, "claim", &custom_claims::seats(alloc)?)?;
     let token = generic_builder::build(alloc, &mut rng, &key)?;
-    let value = generic_parser::parse(alloc, token.as_str(), &key)?;
-    say(rt, "parsed", &value)?;
+    show_parsed(rt, token.as_str(), &key)?;
     show_another_footer(rt, token.as_str(), &key)?;
     show_demands(rt, token.as_str(), &key)
+}
+
+fn show_parsed(rt: &HostRuntime, token: &str, key: &PasetoSymmetricKey<V4, Local>) -> Result<()> {
+    let value = generic_parser::parse(rt.alloc(), token, key)?;
+    say(rt, "parsed", &value)
 }
 
 fn show_another_footer(
@@ -406,11 +418,19 @@ fn show_everyday_signed(rt: &HostRuntime, now: Timestamp, soon: Timestamp) -> Re
     let (alloc, mut rng) = (rt.alloc(), SysRng::new(rt));
     let pair: KeyPair<V4> = Ed25519::try_new_pair(alloc, &mut rng)?;
     let secret = secret_to_paserk(alloc, &pair.private())?;
-    let public = public_to_paserk(alloc, &pair.public())?;
-    let signed = everyday::sign(alloc, now, secret.as_str())?;
-    let claims = everyday::verify(alloc, soon, public.as_str(), signed.as_str())?;
-    say(rt, "verified", &claims.get("exp").is_some())?;
-    Ok(())
+    let token = everyday::sign(alloc, now, secret.as_str())?;
+    show_verified(rt, soon, &pair.public(), token.as_str())
+}
+
+fn show_verified(
+    rt: &HostRuntime,
+    soon: Timestamp,
+    key: &PasetoAsymmetricPublicKey<'_, V4, Public>,
+    token: &str,
+) -> Result<()> {
+    let public = public_to_paserk(rt.alloc(), key)?;
+    let claims = everyday::verify(rt.alloc(), soon, public.as_str(), token)?;
+    say(rt, "verified", &claims.get("exp").is_some())
 }
 
 fn show_everyday_rings(rt: &HostRuntime) -> Result<()> {
