@@ -99,8 +99,10 @@ fn show_primitives(rt: &HostRuntime) -> Result<()> {
     let pieces = poly1305_pieces::tag_of_pieces(&one_time_key, b"a mess", b"age");
     say(rt, "tag in pieces", &(whole == pieces))?;
     let password_key = password_key::key_of("a password", &[7u8; 32]);
+    say(rt, "a key of a password begins with", &password_key[0])?;
     say(rt, "a key of a password ends with", &password_key[47])?;
     let argon2_key = argon2_key::key_of(rt.alloc(), "a password", &[7u8; 16])?;
+    say(rt, "a key by Argon2id begins with", &argon2_key[0])?;
     say(rt, "a key by Argon2id ends with", &argon2_key[31])?;
     let contents = der_sequence::sequence(&[0x30, 3, 2, 1, 4]);
     tell(rt, "contents of a SEQUENCE", &contents)?;
@@ -332,7 +334,7 @@ fn show_new_pair(rt: &HostRuntime) -> Result<()> {
     let (token, public) = new_pair::sign(alloc, &mut rng)?;
     let (token, key) = (token.as_str(), public.lend());
     let text = Paseto::<V4, Public>::try_verify(alloc, &Ed25519, token, &key, None, None)?;
-    say(rt, "under a new pair", &text.len())?;
+    tell(rt, "under a new pair", &text)?;
     Ok(())
 }
 
