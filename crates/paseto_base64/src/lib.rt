@@ -7,8 +7,6 @@ mod comparing;
 mod decoding;
 mod encoding;
 mod masks;
-#[cfg(test)]
-mod tests;
 
 pub use alphabet::Alphabet;
 pub use decoding::decode;

@@ -10,6 +10,8 @@ mod any_key;
 #[cfg(test)]
 mod argon2;
 #[cfg(test)]
+mod base64_of_secrets;
+#[cfg(test)]
 mod boxes;
 #[cfg(test)]
 mod counted;

@@ -1,6 +1,6 @@
 //! The rows of RFC 4648, section 10, and texts that are refused.
 
-use crate::{Alphabet, decode, encode, encode_string};
+use paseto_base64::{Alphabet, decode, encode, encode_string};
 use std::alloc::Global;
 use std::process::Abort;
 
