@@ -4,9 +4,9 @@
 use crate::builders::map_of;
 use crate::kinds::symmetric_key;
 use crate::rsa_key::PRIVATE;
-use crate::run::{Run, Snapshot, calls, edits, shown};
+use crate::run::{Run, Snapshot, calls, edits, shown, with};
 use anyhow::Result;
-use paseto_key_files::{Openers, pem_of, protect, seal, unlock, wrap};
+use paseto_key_files::{KeyFileError, Openers, pem_of, protect, seal, unlock, wrap};
 use paseto_keys::{
     AnyKey, ClaimsBuilder, ClaimsParser, TokenReader, TokenWriter, admit, admit_by_ring, decrypt,
     encrypt, issue, sign, verify,
@@ -35,14 +35,18 @@ impl Snapshot for ClaimsBuilder {
 
 /// Asks them.
 pub fn ask(run: &mut Run<'_>) -> Result<()> {
-    ask_local(run)?;
-    ask_public(run)?;
+    with(local_key(), |key| ask_local(run, key))?;
+    with(private_key(run.alloc)?, |key| ask_public(run, key))?;
     ask_claims(run)?;
     ask_builder(run)?;
-    ask_keys(run)?;
-    ask_texts(run)?;
-    ask_files(run)?;
+    with(private_key(run.alloc)?, |key| ask_private(run, key))?;
     ask_rsa(run)
+}
+
+fn ask_private(run: &mut Run<'_>, key: &AnyKey) -> Result<()> {
+    ask_keys(run, key)?;
+    ask_texts(run, key)?;
+    ask_files(run, key)
 }
 
 // The key of all local tokens.
@@ -56,27 +60,43 @@ fn private_key(alloc: Global) -> Result<AnyKey> {
     Ok(AnyKey::generate(alloc, PaserkType::Secret, version, &mut Zeros)?)
 }
 
-fn ask_local(run: &mut Run<'_>) -> Result<()> {
-    let (alloc, text, key, drawn) = (run.alloc, run.text, local_key(), [7u8; 32]);
-    let token = encrypt(alloc, &key, &drawn, text, None, None)?;
+fn line_of(alloc: Global, key: AnyKey) -> Result<String> {
+    let line = key.to_line(alloc);
+    drop(key);
+    Ok(line?)
+}
+
+fn public_line(alloc: Global, key: &AnyKey) -> Result<String> {
+    line_of(alloc, key.public_half(alloc)?)
+}
+
+fn ask_local(run: &mut Run<'_>, key: &AnyKey) -> Result<()> {
+    let (alloc, text, drawn) = (run.alloc, run.text, [7u8; 32]);
+    let token = encrypt(alloc, key, &drawn, text, None, None)?;
     let token = token.as_str();
     calls! { run;
-        "encrypt of any version" => encrypt(alloc, &key, &drawn, text, None, None);
-        "decrypt of any version" => decrypt(alloc, &key, token, None, None);
+        "encrypt of any version" => encrypt(alloc, key, &drawn, text, None, None);
+        "decrypt of any version" => decrypt(alloc, key, token, None, None);
         "TokenWriter::draw of a nonce" => key.draw(alloc, &mut Zeros).map(drop);
         "TokenWriter::write of AnyKey" => key.write(alloc, &drawn, text, None, None);
         "TokenReader::read of AnyKey" => key.read(alloc, token, None, None);
     }
 }
 
-fn ask_public(run: &mut Run<'_>) -> Result<()> {
-    let (alloc, text, private) = (run.alloc, run.text, private_key(run.alloc)?);
-    let public = private.public_half(alloc)?;
-    let token = sign(alloc, &private, &[], text, None, None)?;
+fn ask_public(run: &mut Run<'_>, private: &AnyKey) -> Result<()> {
+    with(
+        private.public_half(run.alloc)?,
+        |public| ask_pair(run, private, public),
+    )
+}
+
+fn ask_pair(run: &mut Run<'_>, private: &AnyKey, public: &AnyKey) -> Result<()> {
+    let (alloc, text) = (run.alloc, run.text);
+    let token = sign(alloc, private, &[], text, None, None)?;
     let token = token.as_str();
     calls! { run;
-        "sign of any version" => sign(alloc, &private, &[], text, None, None);
-        "verify of any version" => verify(alloc, &public, token, None, None);
+        "sign of any version" => sign(alloc, private, &[], text, None, None);
+        "verify of any version" => verify(alloc, public, token, None, None);
     }
 }
 
@@ -88,19 +108,32 @@ fn builder_of(alloc: Global, text: &str) -> Result<ClaimsBuilder> {
 }
 
 fn ask_claims(run: &mut Run<'_>) -> Result<()> {
-    let (alloc, keys, drawn) = (run.alloc, [local_key()], [7u8; 32]);
-    let [key] = &keys;
-    let (claims, parser) = (builder_of(alloc, run.text)?, ClaimsParser::new(alloc));
-    let token = issue(alloc, key, &drawn, &claims, None, None)?;
+    let claims = builder_of(run.alloc, run.text)?;
+    let (keys, parser) = ([local_key()], ClaimsParser::new(run.alloc));
+    let asked = ask_tokens(run, &keys, &claims, &parser);
+    drop(keys);
+    drop(claims);
+    drop(parser);
+    asked
+}
+
+fn ask_tokens(
+    run: &mut Run<'_>,
+    keys: &[AnyKey; 1],
+    claims: &ClaimsBuilder,
+    parser: &ClaimsParser,
+) -> Result<()> {
+    let (alloc, [key], drawn) = (run.alloc, keys, [7u8; 32]);
+    let token = issue(alloc, key, &drawn, claims, None, None)?;
     let footer = key_footer(alloc, key.id(alloc)?.as_str())?;
     let footer = Some(Footer::from(footer.as_str()));
-    let named = issue(alloc, key, &drawn, &claims, footer, None)?;
+    let named = issue(alloc, key, &drawn, claims, footer, None)?;
     calls! { run;
-        "issue of any version" => issue(alloc, key, &drawn, &claims, None, None);
-        "admit of any version" => admit(alloc, key, &parser, token.as_str());
-        "admit_by_ring of any version" => admit_by_ring(alloc, &keys, &parser, named.as_str());
+        "issue of any version" => issue(alloc, key, &drawn, claims, None, None);
+        "admit of any version" => admit(alloc, key, parser, token.as_str());
+        "admit_by_ring of any version" => admit_by_ring(alloc, keys, parser, named.as_str());
         "admit_by_ring of any version and no key, refused"
-            => admit_by_ring(alloc, &[], &parser, named.as_str());
+            => admit_by_ring(alloc, &[], parser, named.as_str());
     }
 }
 
@@ -117,12 +150,13 @@ fn ask_builder(run: &mut Run<'_>) -> Result<()> {
 
 // The type of a key.
 fn kind_of(key: AnyKey) -> PaserkType {
-    key.kind()
+    let kind = key.kind();
+    drop(key);
+    kind
 }
 
-fn ask_keys(run: &mut Run<'_>) -> Result<()> {
-    let (alloc, private, version) = (run.alloc, private_key(run.alloc)?, PaserkVersion::V4);
-    let kind = PaserkType::Secret;
+fn ask_keys(run: &mut Run<'_>, private: &AnyKey) -> Result<()> {
+    let (alloc, kind, version) = (run.alloc, PaserkType::Secret, PaserkVersion::V4);
     calls! { run;
         "AnyKey::generate of a private key" => AnyKey::generate(alloc, kind, version, &mut Zeros).map(kind_of);
         "AnyKey::from_bytes of a private key" => AnyKey::from_bytes(alloc, kind, version, &[7u8; 64]).map(kind_of);
@@ -138,10 +172,18 @@ fn openers<'o>(password: &'o str, key: &'o str) -> Openers<'o> {
     }
 }
 
-fn ask_texts(run: &mut Run<'_>) -> Result<()> {
-    let (alloc, password, key) = (run.alloc, run.text, private_key(run.alloc)?);
-    let (line, public) = (key.to_line(alloc)?, key.public_half(alloc)?.to_line(alloc)?);
-    let wrapping = local_key().to_line(alloc)?;
+// A local key that is sealed.
+fn seal_local(alloc: Global, public: &str) -> Result<String, KeyFileError> {
+    let key = local_key();
+    let sealed = key.seal(alloc, public, &mut Zeros);
+    drop(key);
+    sealed
+}
+
+fn ask_texts(run: &mut Run<'_>, key: &AnyKey) -> Result<()> {
+    let (alloc, password) = (run.alloc, run.text);
+    let (line, public) = (key.to_line(alloc)?, public_line(alloc, key)?);
+    let wrapping = line_of(alloc, local_key())?;
     let locked = key.protect(alloc, password.as_bytes(), COST, &mut Zeros)?;
     let (wrapping, opened) = (wrapping.as_str(), openers(password, wrapping.as_str()));
     calls! { run;
@@ -150,15 +192,15 @@ fn ask_texts(run: &mut Run<'_>) -> Result<()> {
         "AnyKey::to_pem of a private key" => key.to_pem(alloc);
         "AnyKey::protect of a private key" => key.protect(alloc, password.as_bytes(), COST, &mut Zeros);
         "AnyKey::wrap of a private key" => key.wrap(alloc, wrapping, &mut Zeros);
-        "AnyKey::seal of a local key" => local_key().seal(alloc, public.as_str(), &mut Zeros);
+        "AnyKey::seal of a local key" => seal_local(alloc, public.as_str());
         "AnyKey::unlock of a private key" => AnyKey::unlock(alloc, &opened, locked.as_str()).map(kind_of);
     }
 }
 
-fn ask_files(run: &mut Run<'_>) -> Result<()> {
-    let (alloc, password, key) = (run.alloc, run.text, private_key(run.alloc)?);
-    let (line, public) = (key.to_line(alloc)?, key.public_half(alloc)?.to_line(alloc)?);
-    let (line, local) = (line.as_str(), local_key().to_line(alloc)?);
+fn ask_files(run: &mut Run<'_>, key: &AnyKey) -> Result<()> {
+    let (alloc, password) = (run.alloc, run.text);
+    let (line, public) = (key.to_line(alloc)?, public_line(alloc, key)?);
+    let (line, local) = (line.as_str(), line_of(alloc, local_key())?);
     let opened = openers(password, local.as_str());
     let locked = wrap(alloc, local.as_str(), &mut Zeros, line)?;
     calls! { run;
@@ -171,12 +213,19 @@ fn ask_files(run: &mut Run<'_>) -> Result<()> {
 }
 
 fn ask_rsa(run: &mut Run<'_>) -> Result<()> {
+    let private = PrivateKey::<V1>::try_from(from_section(run.alloc, PRIVATE)?)?;
+    let text = private_key_to_pem(run.alloc, &private.lend())?;
+    with(
+        AnyKey::V1Secret(private),
+        |key| ask_rsa_key(run, key, text.as_str()),
+    )
+}
+
+fn ask_rsa_key(run: &mut Run<'_>, key: &AnyKey, text: &str) -> Result<()> {
     let (alloc, password) = (run.alloc, run.text);
-    let private = PrivateKey::<V1>::try_from(from_section(alloc, PRIVATE)?)?;
-    let text = private_key_to_pem(alloc, &private.lend())?;
-    let (key, local) = (AnyKey::V1Secret(private), AnyKey::V1Local(symmetric_key()));
-    let (line, wrapping) = (key.to_line(alloc)?, local.to_line(alloc)?);
-    let (text, line, wrapping) = (text.as_str(), line.as_str(), wrapping.as_str());
+    let line = key.to_line(alloc)?;
+    let wrapping = line_of(alloc, AnyKey::V1Local(symmetric_key()))?;
+    let (line, wrapping) = (line.as_str(), wrapping.as_str());
     let opened = openers(password, wrapping);
     let locked = key.wrap(alloc, wrapping, &mut Zeros)?;
     calls! { run;

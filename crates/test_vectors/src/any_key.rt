@@ -53,6 +53,7 @@ fn reads(rt: &impl Abort, alloc: Global, token: &Token) {
         PaserkType::Local => decrypt(alloc, &key, token, footer, assertion),
         _ => verify(alloc, &key, token, footer, assertion),
     };
+    drop(key);
     expect_text(rt, read.expect(rt, "a text").as_str(), text);
 }
 
@@ -81,6 +82,7 @@ fn writes(rt: &impl Abort, alloc: Global, token: &Token) {
         PaserkType::Local => encrypt(alloc, &key, &drawn, text, footer, assertion),
         _ => sign(alloc, &key, &drawn, text, footer, assertion),
     };
+    drop(key);
     expect_text(rt, written.expect(rt, "a token").as_str(), token);
 }
 
@@ -99,40 +101,75 @@ fn signs_for(rt: &impl Abort, alloc: Global, private: &AnyKey, public: &AnyKey, 
     expect_text(rt, text.as_str(), "text");
 }
 
+// What a key signs, the second verifies.
+fn signs_for_half(rt: &impl Abort, alloc: Global, private: AnyKey, half: &AnyKey, drawn: &[u8]) {
+    signs_for(rt, alloc, &private, half, drawn);
+    drop(private);
+}
+
+// The key is of this type and version.
+fn expect_key(rt: &impl Abort, key: AnyKey, kind: PaserkType, version: PaserkVersion) {
+    expect_same(rt, key.kind(), kind, version);
+    expect_same(rt, key.version(), version, kind);
+    drop(key);
+}
+
 #[test]
 fn keys_of_files_sign_and_verify(rt: HostRuntime) {
-    let alloc = rt.alloc();
-    let private = file_key(&rt, alloc, RSA_PRIVATE);
-    signs_for(
+    let (alloc, drawn) = (rt.alloc(), [7u8; 48]);
+    let half = file_key(&rt, alloc, RSA_PUBLIC);
+    signs_for_half(&rt, alloc, file_key(&rt, alloc, RSA_PRIVATE), &half, &drawn);
+    drop(half);
+    let half = half_of(&rt, alloc, file_key(&rt, alloc, RSA_PRIVATE));
+    signs_for_half(&rt, alloc, file_key(&rt, alloc, RSA_PRIVATE), &half, &drawn);
+    signs_for_half(&rt, alloc, key_of(&rt, alloc, SECRET), &half, &drawn);
+    drop(half);
+    let (first, third, fourth) = (PaserkVersion::V1, PaserkVersion::V3, PaserkVersion::V4);
+    expect_key(&rt, key_of(&rt, alloc, SECRET), PaserkType::Secret, first);
+    expect_key(
         &rt,
-        alloc,
-        &private,
-        &file_key(&rt, alloc, RSA_PUBLIC),
-        &[7u8; 48],
+        file_key(&rt, alloc, ED25519_PRIVATE),
+        PaserkType::Secret,
+        fourth,
     );
-    let half = private.public_half(alloc).expect(&rt, "a public key");
-    signs_for(&rt, alloc, &private, &half, &[7u8; 48]);
-    let private = key_of(&rt, alloc, SECRET);
-    signs_for(&rt, alloc, &private, &half, &[7u8; 48]);
-    expect_same(&rt, private.version(), PaserkVersion::V1, "RSA");
-    let private = file_key(&rt, alloc, ED25519_PRIVATE);
-    expect_same(&rt, private.kind(), PaserkType::Secret, "Ed25519");
-    let public = file_key(&rt, alloc, P384_PUBLIC);
-    expect_same(&rt, public.version(), PaserkVersion::V3, "P-384");
-    expect_same(&rt, public.kind(), PaserkType::Public, "P-384");
+    expect_key(
+        &rt,
+        file_key(&rt, alloc, P384_PUBLIC),
+        PaserkType::Public,
+        third,
+    );
 }
 
 #[test]
 fn lines_and_ids_are_those_of_the_rows(rt: HostRuntime) {
     'rows: for &(_, _, _, line, id) in ROWS {
-        has_line_and_id(&rt, rt.alloc(), &key_of(&rt, rt.alloc(), line), line, id);
+        has_line_and_id(&rt, rt.alloc(), key_of(&rt, rt.alloc(), line), line, id);
     }
 }
 
 // A key is written as this line, and has this id.
-fn has_line_and_id(rt: &impl Abort, alloc: Global, key: &AnyKey, line: &str, id: &str) {
+fn has_line_and_id(rt: &impl Abort, alloc: Global, key: AnyKey, line: &str, id: &str) {
     expect_text(rt, key.id(alloc).expect(rt, "an id").as_str(), id);
+    expect_line(rt, alloc, key, line);
+}
+
+// A key is written as this line.
+fn expect_line(rt: &impl Abort, alloc: Global, key: AnyKey, line: &str) {
     expect_text(rt, key.to_line(alloc).expect(rt, "a line").as_str(), line);
+    drop(key);
+}
+
+// A key is written as this text in PEM.
+fn expect_pem(rt: &impl Abort, alloc: Global, key: AnyKey, text: &str) {
+    expect_text(rt, key.to_pem(alloc).expect(rt, "a text").as_str(), text);
+    drop(key);
+}
+
+// The public half of a key.
+fn half_of(rt: &impl Abort, alloc: Global, private: AnyKey) -> AnyKey {
+    let half = private.public_half(alloc).expect(rt, "a public key");
+    drop(private);
+    half
 }
 
 #[test]
@@ -140,55 +177,42 @@ fn lines_and_ids_of_rsa(rt: HostRuntime) {
     let alloc = rt.alloc();
     'lines: for line in [SECRET, INFO] {
         let key = key_of(&rt, alloc, line);
-        has_line_and_id(&rt, alloc, &key, SECRET, SECRET_ID);
+        has_line_and_id(&rt, alloc, key, SECRET, SECRET_ID);
     }
     'files: for text in [RSA_PRIVATE, RSA_PRIVATE_PKCS1] {
         let key = file_key(&rt, alloc, text);
-        has_line_and_id(&rt, alloc, &key, SECRET, SECRET_ID);
+        has_line_and_id(&rt, alloc, key, SECRET, SECRET_ID);
     }
     let key = key_of(&rt, alloc, PUBLIC_TEXT);
-    has_line_and_id(&rt, alloc, &key, PUBLIC_TEXT, PUBLIC_ID);
+    has_line_and_id(&rt, alloc, key, PUBLIC_TEXT, PUBLIC_ID);
     'halves: for text in [RSA_PUBLIC, RSA_PUBLIC_PKCS1] {
         let key = file_key(&rt, alloc, text);
-        has_line_and_id(&rt, alloc, &key, PUBLIC_TEXT, PUBLIC_ID);
+        has_line_and_id(&rt, alloc, key, PUBLIC_TEXT, PUBLIC_ID);
     }
-}
-
-fn expect_half(rt: &impl Abort, alloc: Global, private: &AnyKey, line: &str) {
-    let half = private.public_half(alloc).expect(rt, "a public key");
-    expect_text(rt, half.to_line(alloc).expect(rt, "a line").as_str(), line);
 }
 
 #[test]
 fn halves_and_texts_in_pem(rt: HostRuntime) {
     let alloc = rt.alloc();
-    expect_half(&rt, alloc, &key_of(&rt, alloc, WRITTEN[4].0), VERIFIED[0].0);
-    let private = file_key(&rt, alloc, P384_PRIVATE);
-    let half = private.public_half(alloc).expect(&rt, "a public key");
-    expect_text(
+    'lines: for (line, half) in [(WRITTEN[4].0, VERIFIED[0].0), (SECRET, PUBLIC_TEXT)] {
+        expect_line(
+            &rt,
+            alloc,
+            half_of(&rt, alloc, key_of(&rt, alloc, line)),
+            half,
+        );
+    }
+    let half = half_of(&rt, alloc, file_key(&rt, alloc, P384_PRIVATE));
+    expect_pem(&rt, alloc, half, P384_PUBLIC);
+    expect_pem(
         &rt,
-        half.to_pem(alloc).expect(&rt, "a text").as_str(),
-        P384_PUBLIC,
-    );
-    let private = file_key(&rt, alloc, ED25519_PRIVATE);
-    expect_text(
-        &rt,
-        private.to_pem(alloc).expect(&rt, "a text").as_str(),
+        alloc,
+        file_key(&rt, alloc, ED25519_PRIVATE),
         ED25519_PRIVATE,
     );
-    let private = key_of(&rt, alloc, SECRET);
-    expect_half(&rt, alloc, &private, PUBLIC_TEXT);
-    expect_text(
-        &rt,
-        private.to_pem(alloc).expect(&rt, "a text").as_str(),
-        RSA_PRIVATE,
-    );
-    let half = private.public_half(alloc).expect(&rt, "a public key");
-    expect_text(
-        &rt,
-        half.to_pem(alloc).expect(&rt, "a text").as_str(),
-        RSA_PUBLIC,
-    );
+    expect_pem(&rt, alloc, key_of(&rt, alloc, SECRET), RSA_PRIVATE);
+    let half = half_of(&rt, alloc, key_of(&rt, alloc, SECRET));
+    expect_pem(&rt, alloc, half, RSA_PUBLIC);
 }
 
 // The key that a text opens as, under the test's password or the key of a line, is that of the line.
@@ -198,7 +222,7 @@ fn expect_unlocked(rt: &impl Abort, alloc: Global, text: &str, opener: &str, lin
         ..OPENERS
     };
     let key = AnyKey::unlock(alloc, &openers, text).expect(rt, "a key");
-    expect_text(rt, key.to_line(alloc).expect(rt, "a line").as_str(), line);
+    expect_line(rt, alloc, key, line);
 }
 
 #[test]
@@ -222,6 +246,7 @@ fn locked_keys_are_unlocked(rt: HostRuntime) {
     let text = key
         .seal(alloc, public, &mut generator)
         .expect(&rt, "a text");
+    drop(key);
     expect_unlocked(&rt, alloc, text.as_str(), private, line);
 }
 
@@ -248,6 +273,7 @@ fn locked_keys_of_rsa_are_unlocked(rt: HostRuntime) {
         text.as_str().starts_with("k1.secret-wrap.pie."),
         "a wrapped key"
     );
+    drop(key);
     expect_unlocked(&rt, alloc, text.as_str(), opener, SECRET);
 }
 
@@ -265,10 +291,14 @@ fn claims_are_issued_and_admitted(rt: HostRuntime) {
         .draw(alloc, &mut Counting::new())
         .expect(&rt, "random bytes");
     let token = issue(alloc, &key, &drawn, &claims, footer, None).expect(&rt, "a token");
+    drop(claims);
     let mut parser = ClaimsParser::new(alloc);
     parser.set_footer(Footer::from("{\"kid\":\"2026-11\"}"));
     let value = admit(alloc, &key, &parser, token.as_str()).expect(&rt, "claims");
+    drop(key);
+    drop(parser);
     expect_shown(&rt, alloc, &value, "{\"aud\":\"customers\"}");
+    drop(value);
 }
 
 // A new key of a type and a version, from a generator that counts.
@@ -285,14 +315,13 @@ const COUNTED_SECRET: &str =
 fn new_keys_are_made_of_drawn_bytes(rt: HostRuntime) {
     let alloc = rt.alloc();
     let local = new_key(&rt, alloc, PaserkType::Local, PaserkVersion::V3);
-    let line = local.to_line(alloc).expect(&rt, "a line");
-    expect_text(&rt, line.as_str(), COUNTED_LOCAL);
+    expect_line(&rt, alloc, local, COUNTED_LOCAL);
     let private = new_key(&rt, alloc, PaserkType::Secret, PaserkVersion::V3);
-    let line = private.to_line(alloc).expect(&rt, "a line");
-    expect_text(&rt, line.as_str(), COUNTED_SECRET);
+    expect_line(&rt, alloc, private, COUNTED_SECRET);
     'pairs: for version in [PaserkVersion::V2, PaserkVersion::V3, PaserkVersion::V4] {
         let private = new_key(&rt, alloc, PaserkType::Secret, version);
         let public = private.public_half(alloc).expect(&rt, "a public key");
-        signs_for(&rt, alloc, &private, &public, &[]);
+        signs_for_half(&rt, alloc, private, &public, &[]);
+        drop(public);
     }
 }

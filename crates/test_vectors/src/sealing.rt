@@ -167,8 +167,14 @@ fn name_of(error: &WrapError) -> &'static str {
 
 fn expect_fault<T: Drop>(rt: &impl Abort, answer: Result<T, WrapError>, wanted: &str) {
     match answer {
-        Ok(_) => expect_text(rt, "an answer", wanted),
-        Err(error) => expect_text(rt, name_of(&error), wanted),
+        Ok(found) => {
+            drop(found);
+            expect_text(rt, "an answer", wanted);
+        }
+        Err(error) => {
+            expect_text(rt, name_of(&error), wanted);
+            drop(error);
+        }
     }
 }
 

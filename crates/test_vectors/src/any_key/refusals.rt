@@ -29,8 +29,14 @@ fn expect_refusal<T: Drop, E: Display + Drop>(
     wanted: &str,
 ) {
     match answer {
-        Ok(_) => assert!(rt; false, "{wanted:?}"),
-        Err(error) => expect_shown(rt, alloc, &error, wanted),
+        Ok(found) => {
+            drop(found);
+            assert!(rt; false, "{wanted:?}");
+        }
+        Err(error) => {
+            expect_shown(rt, alloc, &error, wanted);
+            drop(error);
+        }
     }
 }
 
@@ -85,7 +91,7 @@ const REFUSED: &[(&str, &str, bool, &str)] = &[
 fn answer(alloc: Global, call: &str, key: &AnyKey, is_bound: bool) -> Result<String, KeyError> {
     let assertion = is_bound.then(|| ImplicitAssertion::from("an assertion"));
     let (text, claims, drawn) = ("v4.local.AAAA", ClaimsBuilder::new(alloc), [7u8; 31]);
-    match call {
+    let answer = match call {
         "decrypt" => decrypt(alloc, key, text, None, assertion),
         "verify" => verify(alloc, key, text, None, assertion),
         "read" => key.read(alloc, text, None, assertion),
@@ -93,7 +99,9 @@ fn answer(alloc: Global, call: &str, key: &AnyKey, is_bound: bool) -> Result<Str
         "sign" => sign(alloc, key, &drawn, text, None, assertion),
         "write" => key.write(alloc, &drawn, text, None, assertion),
         _ => issue(alloc, key, &drawn, &claims, None, assertion),
-    }
+    };
+    drop(claims);
+    answer
 }
 
 // What `admit` answers for the token `v4.local.AAAA`. Its parser has an assertion that it is given as one of version 4.
@@ -102,7 +110,9 @@ fn admitted(alloc: Global, key: &AnyKey, is_bound: bool) -> Result<Value, AdmitE
     if is_bound {
         parser.set_implicit_assertion(ImplicitAssertion::from("an assertion"));
     }
-    admit(alloc, key, &parser, "v4.local.AAAA")
+    let answer = admit(alloc, key, &parser, "v4.local.AAAA");
+    drop(parser);
+    answer
 }
 
 #[test]
@@ -116,6 +126,7 @@ fn types_assertions_and_tokens(rt: HostRuntime) {
             let answer = answer(rt.alloc(), call, &key, is_bound);
             expect_refusal(&rt, rt.alloc(), answer, wanted);
         }
+        drop(key);
     }
 }
 
@@ -125,16 +136,17 @@ fn tokens_beyond_the_limit(rt: HostRuntime) {
     let key = AnyKey::V4Local(PasetoSymmetricKey::from(Key::from([7u8; 32])));
     let mut parser = ClaimsParser::new(alloc);
     parser.set_longest(100);
-    match admit(alloc, &key, &parser, WRITTEN[0].5) {
-        Err(
-            AdmitError::Parser(
-                GenericParserError::CipherError {
-                    source: PasetoError::TooLong,
-                },
-            ),
-        ) => {}
-        _ => assert!(rt; false, "a token that is too long"),
-    }
+    let answer = admit(alloc, &key, &parser, WRITTEN[0].5);
+    drop(key);
+    drop(parser);
+    let is_too_long = matches!(
+        &answer,
+        Err(AdmitError::Parser(GenericParserError::CipherError {
+            source: PasetoError::TooLong
+        }))
+    );
+    drop(answer);
+    assert!(rt; is_too_long, "a token that is too long");
 }
 
 // How many bytes are taken is told, and a generator that fails.
@@ -142,16 +154,18 @@ fn tokens_beyond_the_limit(rt: HostRuntime) {
 fn drawn_bytes(rt: HostRuntime) {
     let alloc = rt.alloc();
     let key = key_of(&rt, alloc, FIRST);
-    match encrypt(alloc, &key, &[7u8; 33], "text", None, None) {
-        Err(KeyError::OtherLength(32)) => {}
-        _ => assert!(rt; false, "another number of bytes"),
-    }
+    let answer = encrypt(alloc, &key, &[7u8; 33], "text", None, None);
+    let is_told = matches!(&answer, Err(KeyError::OtherLength(32)));
+    drop(answer);
+    assert!(rt; is_told, "another number of bytes");
     let mut failing = Failing { asked: 0 };
     let wanted = "The generator of random bytes failed";
     expect_refusal(&rt, alloc, key.draw(alloc, &mut failing), wanted);
     assert!(rt; failing.asked == 1, "asked once");
+    drop(key);
     let key = key_of(&rt, alloc, THIRD);
     let none = key.draw(alloc, &mut failing).expect(&rt, "no bytes");
+    drop(key);
     assert!(rt; none.is_empty() && failing.asked == 1, "no bytes");
 }
 
@@ -164,22 +178,20 @@ fn halves_and_texts(rt: HostRuntime) {
     expect_refusal(&rt, alloc, first.public_half(alloc), PUBLIC);
     let wanted = "keys for local tokens have no PEM text";
     expect_refusal(&rt, alloc, local.to_pem(alloc), wanted);
+    drop(local);
+    drop(first);
     let odd = AnyKey::from_bytes(alloc, PaserkType::Secret, PaserkVersion::V4, &[7u8; 64]);
+    let odd = odd.expect(&rt, "a key");
     let wanted = "The key was not in the correct format";
-    expect_refusal(
-        &rt,
-        alloc,
-        odd.expect(&rt, "a key").public_half(alloc),
-        wanted,
-    );
+    expect_refusal(&rt, alloc, odd.public_half(alloc), wanted);
+    drop(odd);
 }
 
 // The answer is refused as an invalid key of a line.
 fn expect_no_line(rt: &impl Abort, answer: Result<String, KeyFileError>) {
-    match answer {
-        Err(KeyFileError::Paserk(PaserkError::InvalidKey)) => {}
-        _ => assert!(rt; false, "no line"),
-    }
+    let is_told = matches!(&answer, Err(KeyFileError::Paserk(PaserkError::InvalidKey)));
+    drop(answer);
+    assert!(rt; is_told, "no line");
 }
 
 // What is no key of RSA may be held as one of version 1, and has no line, no id and no other half.
@@ -195,9 +207,11 @@ fn bytes_of_no_rsa_key(rt: HostRuntime) {
         expect_no_line(&rt, key.protect(alloc, b"a", cost, &mut Zeros));
         expect_no_line(&rt, key.wrap(alloc, FIRST, &mut Zeros));
         expect_refusal(&rt, alloc, key.id(alloc), wanted);
+        drop(key);
     }
     let key = AnyKey::from_bytes(alloc, PaserkType::Secret, first, &[]).expect(&rt, "a key");
     expect_refusal(&rt, alloc, key.public_half(alloc), wanted);
+    drop(key);
 }
 
 /// A line, and what is said of it.
@@ -276,8 +290,7 @@ fn new_keys(rt: HostRuntime) {
         expect_no_new_key(&rt, alloc, secret, version, &mut failing, wanted);
     }
     let answer = AnyKey::generate(alloc, secret, PaserkVersion::V3, &mut Zeros);
-    match answer {
-        Err(KeyError::Refused(PasetoError::KeyRejected)) => {}
-        _ => assert!(rt; false, "no private key"),
-    }
+    let is_told = matches!(&answer, Err(KeyError::Refused(PasetoError::KeyRejected)));
+    drop(answer);
+    assert!(rt; is_told, "no private key");
 }

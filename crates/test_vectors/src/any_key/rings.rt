@@ -1,8 +1,8 @@
 //! Rings of keys of any version and type.
 
-use super::key_of;
 use super::refusals::THIRD;
 use super::rows::{VERIFIED, WRITTEN};
+use super::{half_of, key_of};
 use crate::expect::{expect_shown, expect_text};
 use crate::paserk::rsa::SECRET;
 use paseto_keys::{
@@ -33,7 +33,7 @@ fn writing_lines() -> [&'static str; 8] {
 // The key that reads what a key writes.
 fn reader_of(rt: &impl Abort, alloc: Global, key: AnyKey) -> AnyKey {
     match key.kind() {
-        PaserkType::Secret => key.public_half(alloc).expect(rt, "a public key"),
+        PaserkType::Secret => half_of(rt, alloc, key),
         _ => key,
     }
 }
@@ -65,15 +65,10 @@ fn issued(rt: &impl Abort, alloc: Global, key: &AnyKey, footer: &str) -> String 
         .draw(alloc, &mut Counting::new())
         .expect(rt, "random bytes");
     let assertion = key.binds().then(|| ImplicitAssertion::from("bound"));
-    issue(
-        alloc,
-        key,
-        &drawn,
-        &claims,
-        Some(Footer::from(footer)),
-        assertion,
-    )
-    .expect(rt, "a token")
+    let footer = Some(Footer::from(footer));
+    let token = issue(alloc, key, &drawn, &claims, footer, assertion);
+    drop(claims);
+    token.expect(rt, "a token")
 }
 
 // What a ring answers for a token, whose footer names an id, that the line's key writes.
@@ -89,15 +84,24 @@ fn answer_for(
     if key.binds() {
         parser.set_implicit_assertion(ImplicitAssertion::from("bound"));
     }
-    admit_by_ring(alloc, &ring(rt, alloc), &parser, token.as_str())
+    drop(key);
+    let answer = admit_by_ring(alloc, &ring(rt, alloc), &parser, token.as_str());
+    drop(parser);
+    answer
+}
+
+fn id_of(rt: &impl Abort, alloc: Global, key: AnyKey) -> String {
+    let id = key.id(alloc).expect(rt, "an id");
+    drop(key);
+    id
 }
 
 fn expect_found(rt: &impl Abort, alloc: Global, line: &str) {
-    let reader = reader_of(rt, alloc, key_of(rt, alloc, line));
-    let id = reader.id(alloc).expect(rt, "an id");
+    let id = id_of(rt, alloc, reader_of(rt, alloc, key_of(rt, alloc, line)));
     let (found, value) = answer_for(rt, alloc, line, id.as_str()).expect(rt, "claims");
     expect_text(rt, found.as_str(), id.as_str());
     expect_shown(rt, alloc, &value, "{\"aud\":\"customers\"}");
+    drop(value);
 }
 
 #[test]
@@ -114,8 +118,14 @@ fn expect_refused(
     wanted: &str,
 ) {
     match answer {
-        Ok(_) => assert!(rt; false, "{wanted:?}"),
-        Err(error) => expect_shown(rt, alloc, &error, wanted),
+        Ok(found) => {
+            drop(found);
+            assert!(rt; false, "{wanted:?}");
+        }
+        Err(error) => {
+            expect_shown(rt, alloc, &error, wanted);
+            drop(error);
+        }
     }
 }
 
@@ -146,6 +156,7 @@ fn rings_refuse_tokens(rt: HostRuntime) {
     'tokens: for &(token, wanted) in TOKENS {
         let parser = ClaimsParser::new(alloc);
         let answer = admit_by_ring(alloc, &ring(&rt, alloc), &parser, token);
+        drop(parser);
         expect_refused(&rt, alloc, answer, wanted);
     }
 }
@@ -154,15 +165,11 @@ fn rings_refuse_tokens(rt: HostRuntime) {
 #[test]
 fn rings_try_no_other_key(rt: HostRuntime) {
     let alloc = rt.alloc();
-    let id = key_of(&rt, alloc, VERIFIED[2].0)
-        .id(alloc)
-        .expect(&rt, "an id");
+    let id = id_of(&rt, alloc, key_of(&rt, alloc, VERIFIED[2].0));
     let answer = answer_for(&rt, alloc, WRITTEN[3].0, id.as_str());
     let wanted = format!(in alloc; "The key '{}' is not in the ring", id.as_str());
     expect_refused(&rt, alloc, answer, wanted.expect(&rt, "a text").as_str());
-    let id = key_of(&rt, alloc, WRITTEN[3].0)
-        .id(alloc)
-        .expect(&rt, "an id");
+    let id = id_of(&rt, alloc, key_of(&rt, alloc, WRITTEN[3].0));
     let other = "k4.local.AAAAAAAAAAAAAAAAAAAAAAAAAAAAAAAAAAAAAAAAAAA";
     let answer = answer_for(&rt, alloc, other, id.as_str());
     expect_refused(&rt, alloc, answer, "An unspecified cryption error occured");
@@ -177,25 +184,38 @@ fn answer_by(
     let key = key_of(rt, alloc, WRITTEN[1].0);
     let id = key.id(alloc).expect(rt, "an id");
     let token = issued(rt, alloc, &key, naming(rt, alloc, id.as_str()).as_str());
+    drop(key);
     admit_by_ring(alloc, &ring(rt, alloc), parser, token.as_str())
+}
+
+// What is said of a token of version 2 by a parser.
+fn expect_refused_by(rt: &impl Abort, alloc: Global, parser: ClaimsParser<'_>, wanted: &str) {
+    let answer = answer_by(rt, alloc, &parser);
+    drop(parser);
+    expect_refused(rt, alloc, answer, wanted);
+}
+
+// A parser of short tokens.
+fn short_parser<'a>(alloc: Global) -> ClaimsParser<'a> {
+    let mut parser = ClaimsParser::new(alloc);
+    parser.set_longest(100);
+    parser
 }
 
 #[test]
 fn rings_refuse_by_parsers(rt: HostRuntime) {
     let alloc = rt.alloc();
-    let mut parser = ClaimsParser::new(alloc);
-    parser.set_longest(100);
     let wanted = "The token or its footer is longer than allowed";
-    expect_refused(&rt, alloc, answer_by(&rt, alloc, &parser), wanted);
+    expect_refused_by(&rt, alloc, short_parser(alloc), wanted);
+    let mut parser = short_parser(alloc);
     parser.set_implicit_assertion(ImplicitAssertion::from("bound"));
     let wanted = "Keys of versions 1 and 2 take no implicit assertion";
-    expect_refused(&rt, alloc, answer_by(&rt, alloc, &parser), wanted);
+    expect_refused_by(&rt, alloc, parser, wanted);
     let mut parser = ClaimsParser::new(alloc);
     parser.set_footer(Footer::from("{}"));
-    let wanted = "The provided footer is invalid";
-    expect_refused(&rt, alloc, answer_by(&rt, alloc, &parser), wanted);
+    expect_refused_by(&rt, alloc, parser, "The provided footer is invalid");
     let mut parser = ClaimsParser::new(alloc);
     parser.put_required("sub").expect(&rt, "a check");
     let wanted = "The expected claim 'sub' was not found in the payload";
-    expect_refused(&rt, alloc, answer_by(&rt, alloc, &parser), wanted);
+    expect_refused_by(&rt, alloc, parser, wanted);
 }

@@ -26,7 +26,10 @@ const PROTECTED4: &str =
 fn expect_fault(rt: &impl Abort, answer: Result<String, KeyFileError>, wanted: &str) {
     match answer {
         Ok(_) => expect_text(rt, "a text", wanted),
-        Err(error) => expect_text(rt, error.text(), wanted),
+        Err(error) => {
+            expect_text(rt, error.text(), wanted);
+            drop(error);
+        }
     }
 }
 

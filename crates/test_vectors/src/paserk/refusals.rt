@@ -13,8 +13,14 @@ const LOCAL: &str = "k4.local.AAAAAAAAAAAAAAAAAAAAAAAAAAAAAAAAAAAAAAAAAAA";
 // What the error says is the wanted text, which is `a key` where there is none.
 pub(crate) fn expect_fault<T: Drop>(rt: &impl Abort, answer: Result<T, PaserkError>, wanted: &str) {
     match answer {
-        Ok(_) => expect_text(rt, "a key", wanted),
-        Err(error) => expect_text(rt, error.text(), wanted),
+        Ok(key) => {
+            drop(key);
+            expect_text(rt, "a key", wanted);
+        }
+        Err(error) => {
+            expect_text(rt, error.text(), wanted);
+            drop(error);
+        }
     }
 }
 

@@ -15,8 +15,14 @@ use std::process::Abort;
 // What the error says is the wanted text, which is `a key` where there is none.
 fn expect_fault<T: Drop>(rt: &impl Abort, answer: Result<T, PemError>, wanted: &str) {
     match answer {
-        Ok(_) => expect_text(rt, "a key", wanted),
-        Err(error) => expect_text(rt, error.text(), wanted),
+        Ok(key) => {
+            drop(key);
+            expect_text(rt, "a key", wanted);
+        }
+        Err(error) => {
+            expect_text(rt, error.text(), wanted);
+            drop(error);
+        }
     }
 }
 

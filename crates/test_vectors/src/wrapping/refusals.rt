@@ -30,8 +30,14 @@ fn expect_fault<T: Drop>(
     wanted: &str,
 ) {
     match answer {
-        Ok(_) => expect_text(rt, "a key", wanted),
-        Err(error) => expect_shown(rt, alloc, &error, wanted),
+        Ok(key) => {
+            drop(key);
+            expect_text(rt, "a key", wanted);
+        }
+        Err(error) => {
+            expect_shown(rt, alloc, &error, wanted);
+            drop(error);
+        }
     }
 }
 
