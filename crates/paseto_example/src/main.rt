@@ -43,12 +43,29 @@ fn show_local(rt: &HostRuntime, now: Timestamp, soon: Timestamp) -> Result<()> {
     let key = PasetoSymmetricKey::<V4, Local>::try_new_random(&mut rng)?;
     let token = ticket::issue(alloc, now, &mut rng, &key)?;
 
-    let claims = ticket::admit(alloc, soon, token.as_str(), &key)?;
-    println!(rt; "admitted: {} seats", ticket::seats(&claims))?;
-    match ticket::admit(alloc, a_day_after(now)?, token.as_str(), &key) {
+    let seats = ticket::seats(&ticket::admit(alloc, soon, token.as_str(), &key)?);
+    println!(rt; "admitted: {seats} seats")?;
+    let tomorrow = a_day_after(now)?;
+    show_tomorrow(rt, ticket::admit(alloc, tomorrow, token.as_str(), &key))
+}
+
+/// The error for a ticket that has expired.
+fn show_tomorrow(rt: &HostRuntime, answer: Result<Value, GenericParserError>) -> Result<()> {
+    match answer {
         Ok(_) => println!(rt; "admitted tomorrow")?,
         Err(refusal) => println!(rt; "refused tomorrow: {refusal}")?,
     }
+    Ok(())
+}
+
+/// Whom the claims of a ticket that is admitted are about.
+fn show_admitted(
+    rt: &HostRuntime,
+    admitted: &str,
+    answer: Result<Value, GenericParserError>,
+) -> Result<()> {
+    let claims = answer?;
+    println!(rt; "{admitted}: {}", signed::subject(&claims))?;
     Ok(())
 }
 
@@ -66,17 +83,28 @@ fn show_sessions(rt: &HostRuntime, now: Timestamp) -> Result<()> {
     sessions.rotate("2026-11", november)?;
     let new = sessions.issue(now, &mut rng, "Grace", 4)?;
     let crowded = sessions.issue(now, &mut rng, "Alan", 9)?;
+    let tokens = [old.as_str(), new.as_str(), crowded.as_str()];
+    show_service(rt, &mut sessions, now, tokens)
+}
 
-    show_session(rt, &sessions, now, old.as_str())?;
-    show_session(rt, &sessions, now, new.as_str())?;
-    show_session(rt, &sessions, now, crowded.as_str())?;
-    show_session(rt, &sessions, a_day_after(now)?, new.as_str())?;
-    end_session(&mut sessions, now, new.as_str())?;
-    show_session(rt, &sessions, now, new.as_str())?;
+/// The sessions of a service, under an old key and a new one: the second is ended, and the old key is retired.
+fn show_service(
+    rt: &HostRuntime,
+    sessions: &mut Sessions,
+    now: Timestamp,
+    tokens: [&str; 3],
+) -> Result<()> {
+    let [old, new, crowded] = tokens;
+    show_session(rt, sessions, now, old)?;
+    show_session(rt, sessions, now, new)?;
+    show_session(rt, sessions, now, crowded)?;
+    show_session(rt, sessions, a_day_after(now)?, new)?;
+    end_session(sessions, now, new)?;
+    show_session(rt, sessions, now, new)?;
     println!(rt; "retired: {}", sessions.retire("2026-10"))?;
-    show_session(rt, &sessions, now, old.as_str())?;
-    show_session(rt, &sessions, now, "v4.local.AAAA.e30")?;
-    show_session(rt, &sessions, now, LONG_FOOTER)
+    show_session(rt, sessions, now, old)?;
+    show_session(rt, sessions, now, "v4.local.AAAA.e30")?;
+    show_session(rt, sessions, now, LONG_FOOTER)
 }
 
 /// Ends the session of a token, as its user asks.
@@ -103,8 +131,8 @@ fn show_boxed(rt: &HostRuntime, now: Timestamp, soon: Timestamp) -> Result<()> {
     let key = PasetoSymmetricKey::<V2, Local>::try_new_random(&mut rng)?;
     let token = boxed::issue(alloc, now, &mut rng, &key, "Ada")?;
 
-    let claims = boxed::admit(alloc, soon, token.as_str(), &key)?;
-    println!(rt; "admitted in version 2: {}", signed::subject(&claims))?;
+    let answer = boxed::admit(alloc, soon, token.as_str(), &key);
+    show_admitted(rt, "admitted in version 2", answer)?;
 
     let other = PasetoSymmetricKey::<V2, Local>::from(Key::<32>::default());
     show_refusal(rt, boxed::admit(alloc, soon, token.as_str(), &other))
@@ -126,8 +154,8 @@ fn show_signed(rt: &HostRuntime, now: Timestamp, soon: Timestamp) -> Result<()> 
     let pair: KeyPair<V4> = Ed25519::try_new_pair(alloc, &mut rng)?;
     let token = signed::issue(alloc, now, &mut Ed25519, &pair.private(), "Ada")?;
 
-    let claims = signed::admit(alloc, soon, &Ed25519, token.as_str(), &pair.public())?;
-    println!(rt; "admitted: {}", signed::subject(&claims))?;
+    let answer = signed::admit(alloc, soon, &Ed25519, token.as_str(), &pair.public());
+    show_admitted(rt, "admitted", answer)?;
 
     let other: KeyPair<V4> = Ed25519::try_new_pair(alloc, &mut rng)?;
     show_refusal(
@@ -175,10 +203,6 @@ fn show_own_scheme(rt: &HostRuntime, now: Timestamp, soon: Timestamp) -> Result<
 
     let public = Key::<32>::from_slice(&private.as_bytes()[32..]);
     let public_key = PasetoAsymmetricPublicKey::<V4, Public>::from(&public);
-    let claims = signed::admit(alloc, soon, &scheme, token.as_str(), &public_key)?;
-    println!(rt;
-        "admitted under a scheme of our own: {}",
-        signed::subject(&claims)
-    )?;
-    Ok(())
+    let answer = signed::admit(alloc, soon, &scheme, token.as_str(), &public_key);
+    show_admitted(rt, "admitted under a scheme of our own", answer)
 }
